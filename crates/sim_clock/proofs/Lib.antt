@@ -1,0 +1,3 @@
+pub mod Inserted
+pub mod Least
+pub mod Places

@@ -1,0 +1,52 @@
+-- Insertion by place, and the least of a list in order.
+use Rattle.std.proofs.Common.{◌≡◌, ℕ, ◌+◌, Bool, true, false, not, cond, List, [], ◌∷◌, Some, None, nat_lt, slice_get, slice_index_or, ◌<◌, ◌∙◌, unwrap_or, refl, ap, sym, if◌then◌else◌, length, ◌≤◌, arith}
+use Rattle.std.specs.List.{position, position_or_len, insert}
+use Rattle.std.specs.declared.cmp.Ordering.{Ordering}
+use Rattle.std.specs.Ordering.{is_lt}
+use Rattle.std.proofs.lemmas.Bool.{ltb-false}
+use Rattle.std.proofs.lemmas.List.Sums.{prefix_len-le-length}
+use Rattle.std.proofs.Math.Numerals.{one-add}
+use Rattle.sim_clock.specs.Order.{inserted_by, least_by, lesser_by, IsInOrder, IsBefore}
+
+unwrapped_by : {A : Type 0} (p : A → Bool) (xs : List A) (b : Bool) → nat_lt (position_or_len p xs) (length xs) ≡ b → unwrap_or (cond b (Some (position_or_len p xs)) None) (length xs) ≡ position_or_len p xs
+unwrapped_by p xs true e = refl
+unwrapped_by p xs false e =
+    let past : length xs ≤ position_or_len p xs = ltb-false _ _ e in
+    let within : position_or_len p xs ≤ length xs = prefix_len-le-length (λ x. not (p x)) xs in
+    omega arith
+
+-- the first that a test picks, or else the end
+pub position_unwrapped : {A : Type 0} (p : A → Bool) (xs : List A) → unwrap_or (position p xs) (length xs) ≡ position_or_len p xs
+position_unwrapped p xs = unwrapped_by p xs _ refl
+
+pub place_within : {A : Type 0} (p : A → Bool) (xs : List A) (i : ℕ) → i ≡ position_or_len p xs → i ≤ length xs
+place_within p xs i e = rw e (prefix_len-le-length (λ x. not (p x)) xs)
+
+module _ {A : Type 0} (R : A → A → Ordering) where
+  -- one more stands at the place of the first that comes after it
+  pub insert_inserted : (x : A) (ys : List A) → insert ys (position_or_len (λ y. is_lt (R x y)) ys) x ≡ inserted_by R x ys
+  insert_inserted x [] = refl
+  insert_inserted x (y ∷ ys) =
+      elim (is_lt (R x y)) as (λ b. insert (y ∷ ys) (cond (not b) (1 + position_or_len (λ y. is_lt (R x y)) ys) 0) x ≡ (if b then x ∷ (y ∷ ys) else y ∷ inserted_by R x ys)) [
+        | true ↦ refl
+        | false ↦ rw one-add (ap (λ w. y ∷ w) (insert_inserted x ys))
+      ]
+
+  pub insert_at_place : (x : A) (ys : List A) (i : ℕ) → i ≡ position_or_len (λ y. is_lt (R x y)) ys → insert ys i x ≡ inserted_by R x ys
+  insert_at_place x ys i e = rw e (insert_inserted x ys)
+
+  least_first : (x : A) (ys : List A) → IsBefore R x ys → IsInOrder R ys → lesser_by R (Some x) (least_by R ys) ≡ Some x
+  least_first x [] b o = refl
+  least_first x (y ∷ ys) b o = rw (least_first y ys o.0 o.1, b) refl
+
+  -- the least of a list in order is its first
+  pub least_in_order : (x : A) (ys : List A) → IsInOrder R (x ∷ ys) → least_by R (x ∷ ys) ≡ Some x
+  least_in_order x ys o = least_first x ys o.0 o.1
+
+  pub first_least : (xs : List A) → IsInOrder R xs → slice_get xs 0 ≡ least_by R xs
+  first_least [] o = refl
+  first_least (x ∷ xs) o = sym (least_in_order x xs o)
+
+  pub removed_least : (xs : List A) (x : A) → x ≡ slice_index_or xs 0 x → IsInOrder R xs → 0 < length xs → Some x ≡ least_by R xs
+  removed_least [] x e o some = absurd (omega (arith, some))
+  removed_least (y ∷ ys) x e o some = ap (λ z. Some z) e ∙ sym (least_in_order y ys o)

@@ -1,0 +1,13 @@
+//! Simulated time: the keys that order due entries, the agenda that holds them, and the numbered
+//! refusals that every other crate answers with.
+#![tactic(auto)]
+
+mod agenda;
+mod key;
+mod refusal;
+#[cfg(test)]
+mod tests;
+
+pub use agenda::Agenda;
+pub use key::{Class, Key, lesser};
+pub use refusal::Refusal;

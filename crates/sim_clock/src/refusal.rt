@@ -1,0 +1,187 @@
+//! The numbered refusals.
+ghost use Rattle.std.specs.Prelude.{◌≡◌};
+ghost use Rattle.sim_clock.specs.Refusals.{refusal_code, refusal_name};
+ghost use Rattle.sim_clock.specs.declared.refusal.Refusal.TheVariants.{Memory};
+
+use std::alloc::{AllocError, AllocFailed};
+use thiserror::Error;
+
+/// Why a call is refused. 1 to 9 are answers of queues and tasks, which stand in the log; 10 to 21
+/// are faults of a scenario; 30 to 36 end a run. Displayed as its name and its values.
+#[derive(Clone, Copy, Debug, PartialEq, Eq, Error)]
+pub enum Refusal {
+    /// A short poll of a standard queue found the in-flight limit reached (SQS: `OverLimit`).
+    #[error("OverLimit")]
+    OverLimit,
+    /// A change of visibility of a message that is not in flight (SQS: `MessageNotInflight`).
+    #[error("MessageNotInflight")]
+    MessageNotInflight,
+    /// A delete or change with a receipt that names no message here (SQS: `ReceiptHandleIsInvalid`).
+    #[error("ReceiptHandleIsInvalid")]
+    ReceiptHandleIsInvalid,
+    /// A visibility timeout over 43,200 seconds, or a change past 12 hours from the receive.
+    #[error("BadTimeout")]
+    BadTimeout,
+    /// A send to a FIFO queue without a message group (SQS: `MissingParameter`).
+    #[error("MissingGroup")]
+    MissingGroup,
+    /// A send to a FIFO queue without a deduplication id where bodies are not compared.
+    #[error("MissingDeduplication")]
+    MissingDeduplication,
+    /// A delay over 900 seconds, or any delay of its own for a message of a FIFO queue.
+    #[error("BadDelay")]
+    BadDelay,
+    /// A move task of this queue is running already.
+    #[error("TaskRunning")]
+    TaskRunning,
+    /// The move task to be cancelled is not running.
+    #[error("NoTask")]
+    NoTask,
+    /// The scenario is not a TOML document.
+    #[error("NotToml")]
+    NotToml,
+    /// A key that its table does not have.
+    #[error("UnknownKey")]
+    UnknownKey,
+    /// A required key is absent.
+    #[error("MissingKey")]
+    MissingKey,
+    /// A value is not of its key's type.
+    #[error("WrongType")]
+    WrongType,
+    /// A number, a text or a length outside its range.
+    #[error("OutOfRange")]
+    OutOfRange,
+    /// A name that is not well-formed.
+    #[error("BadName")]
+    BadName,
+    /// A name that stands earlier among queues, actors and tasks.
+    #[error("NameTwice")]
+    NameTwice,
+    /// A queue that is not there, or may not stand here.
+    #[error("UnknownQueue")]
+    UnknownQueue,
+    /// A queue of the other kind than the one that names it.
+    #[error("KindMismatch")]
+    KindMismatch,
+    /// A list, script or text over its limit.
+    #[error("TooMany")]
+    TooMany,
+    /// A script that is missing or has a bad call.
+    #[error("BadScript")]
+    BadScript,
+    /// The scenario uses what this version does not carry out yet.
+    #[error("NotYet")]
+    NotYet,
+    /// The window is longer than the least latency; both are milliseconds.
+    #[error("WindowTooLong {window} {least}")]
+    WindowTooLong { window: u64, least: u64 },
+    /// The map does not give every queue one of 1 to 256 partitions.
+    #[error("BadMap")]
+    BadMap,
+    /// The number of workers is not 1 to 64.
+    #[error("BadWorkers")]
+    BadWorkers,
+    /// A count would pass 2^62 - 1.
+    #[error("CountLimit")]
+    CountLimit,
+    /// A growth was refused.
+    #[error("Memory")]
+    Memory,
+    /// A thread's start was refused.
+    #[error("NoWorker")]
+    NoWorker,
+    /// A writer failed.
+    #[error("Write")]
+    Write,
+}
+
+impl Refusal {
+    /// The number of the refusal, by which users and scripts know it.
+    pub fn code(&self) -> u8
+        ensures { result ≡ refusal_code self.now }
+    {
+        match self {
+            Refusal::OverLimit => 1,
+            Refusal::MessageNotInflight => 2,
+            Refusal::ReceiptHandleIsInvalid => 3,
+            Refusal::BadTimeout => 4,
+            Refusal::MissingGroup => 5,
+            Refusal::MissingDeduplication => 6,
+            Refusal::BadDelay => 7,
+            Refusal::TaskRunning => 8,
+            Refusal::NoTask => 9,
+            Refusal::NotToml => 10,
+            Refusal::UnknownKey => 11,
+            Refusal::MissingKey => 12,
+            Refusal::WrongType => 13,
+            Refusal::OutOfRange => 14,
+            Refusal::BadName => 15,
+            Refusal::NameTwice => 16,
+            Refusal::UnknownQueue => 17,
+            Refusal::KindMismatch => 18,
+            Refusal::TooMany => 19,
+            Refusal::BadScript => 20,
+            Refusal::NotYet => 21,
+            Refusal::WindowTooLong { .. } => 30,
+            Refusal::BadMap => 31,
+            Refusal::BadWorkers => 32,
+            Refusal::CountLimit => 33,
+            Refusal::Memory => 34,
+            Refusal::NoWorker => 35,
+            Refusal::Write => 36,
+        }
+    }
+
+    /// The name of the refusal, as it stands in the log and on standard error.
+    pub fn name(&self) -> &'static str
+        ensures { result.now ≡ refusal_name self.now }
+    {
+        match self {
+            Refusal::OverLimit => "OverLimit",
+            Refusal::MessageNotInflight => "MessageNotInflight",
+            Refusal::ReceiptHandleIsInvalid => "ReceiptHandleIsInvalid",
+            Refusal::BadTimeout => "BadTimeout",
+            Refusal::MissingGroup => "MissingGroup",
+            Refusal::MissingDeduplication => "MissingDeduplication",
+            Refusal::BadDelay => "BadDelay",
+            Refusal::TaskRunning => "TaskRunning",
+            Refusal::NoTask => "NoTask",
+            Refusal::NotToml => "NotToml",
+            Refusal::UnknownKey => "UnknownKey",
+            Refusal::MissingKey => "MissingKey",
+            Refusal::WrongType => "WrongType",
+            Refusal::OutOfRange => "OutOfRange",
+            Refusal::BadName => "BadName",
+            Refusal::NameTwice => "NameTwice",
+            Refusal::UnknownQueue => "UnknownQueue",
+            Refusal::KindMismatch => "KindMismatch",
+            Refusal::TooMany => "TooMany",
+            Refusal::BadScript => "BadScript",
+            Refusal::NotYet => "NotYet",
+            Refusal::WindowTooLong { .. } => "WindowTooLong",
+            Refusal::BadMap => "BadMap",
+            Refusal::BadWorkers => "BadWorkers",
+            Refusal::CountLimit => "CountLimit",
+            Refusal::Memory => "Memory",
+            Refusal::NoWorker => "NoWorker",
+            Refusal::Write => "Write",
+        }
+    }
+}
+
+impl From<AllocError> for Refusal {
+    ghost from_gives = { λ _ r. r ≡ Memory };
+
+    fn from(_refused: AllocError) -> Self {
+        Refusal::Memory
+    }
+}
+
+impl<T: Drop> From<AllocFailed<T>> for Refusal {
+    ghost from_gives = { λ _ r. r ≡ Memory };
+
+    fn from(_refused: AllocFailed<T>) -> Self {
+        Refusal::Memory
+    }
+}

@@ -1,0 +1,6 @@
+pub mod Shown
+pub mod Worked
+pub mod ByHand
+pub mod Faults
+pub mod Vectors
+pub mod Texts

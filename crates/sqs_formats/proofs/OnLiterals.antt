@@ -1,0 +1,26 @@
+-- What a lemma opens to compute these definitions on a literal text.
+use Rattle.std.specs.Prelude.{⊤}
+use Rattle.std.specs.Str.{is_utf8, chars}
+use Rattle.std.specs.Fmt.{digits}
+use Rattle.toml.proofs.OnLiterals.{toml_on_literals}
+use Rattle.csv.proofs.OnLiterals.{csv_on_literals}
+use Rattle.csv.specs.Writing.{escaped, fields_text, is_blank}
+use Rattle.hex.specs.Hex.{encode_with}
+use Rattle.sqs_formats.specs.Reading.{◌>>=◌, answer}
+use Rattle.sqs_formats.specs.Queues.{queue, dead_letter}
+use Rattle.sqs_formats.specs.Script.{script, call_of}
+use Rattle.sqs_formats.specs.Actors.{actor}
+use Rattle.sqs_formats.specs.Tasks.{task}
+use Rattle.sqs_formats.specs.Scenario.{scenario_of, scenario_in, agents, top, script_names}
+use Rattle.sqs_formats.specs.Report.{columns_of}
+use Rattle.sqs_formats.specs.Comparison.{comparison_records}
+
+-- the reading of a scenario and its scripts
+unfoldable pub reading_on_literals : ⊤
+unfolding ◌>>=◌ answer is_utf8 chars digits toml_on_literals csv_on_literals scenario_of scenario_in agents top script_names queue dead_letter actor task script call_of
+reading_on_literals = tt
+
+-- the writing of log, finals, report and comparison
+unfoldable pub writing_on_literals : ⊤
+unfolding digits encode_with escaped fields_text is_blank columns_of comparison_records
+writing_on_literals = tt

@@ -1,0 +1,14 @@
+pub mod Reading
+pub mod Keys
+pub mod Names
+pub mod Outline
+pub mod Queues
+pub mod Script
+pub mod Actors
+pub mod Tasks
+pub mod Scenario
+pub mod Rows
+pub mod Finals
+pub mod Report
+pub mod Comparison
+pub mod Output

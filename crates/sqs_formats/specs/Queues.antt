@@ -1,0 +1,102 @@
+-- A queue of a scenario's text.
+use Rattle.std.specs.Prelude.{ℕ, ◌*◌, ◌==◌, Bool, true, false, codes, if◌then◌else◌, List, [], ◌∷◌, ◌++◌, Option, Some, None, unwrap_or}
+use Rattle.sqs_redrive.specs.declared.settings.Kind.{Kind}
+use Rattle.sqs_redrive.specs.declared.settings.Kind.TheVariants.{Standard, Fifo}
+use Rattle.sqs_redrive.specs.declared.settings.Scope.{Scope}
+use Rattle.sqs_redrive.specs.declared.settings.Scope.TheVariants as scopes
+use Rattle.sqs_redrive.specs.declared.settings.Latency.{Latency}
+use Rattle.sqs_redrive.specs.declared.settings.Policy.{Policy}
+use Rattle.sqs_redrive.specs.declared.settings.QueueSettings.{QueueSettings}
+use Rattle.sqs_formats.specs.Reading.{reads, ◌>>=◌}
+use Rattle.sqs_formats.specs.Keys.{Says, Table, has, only, text, boolean, integer, one_of, required, optional, maybe}
+use Rattle.sqs_formats.specs.Names.{is_queue_name, is_fifo}
+use Rattle.sqs_formats.specs.Outline.{Outline, name_of, queue_number, other_kin_named}
+
+-- a latency: one number in version 1, two bounds in version 2
+abbrev pub latency_keys : ℕ → List (List ℕ)
+latency_keys version =
+    if version == 2 then codes "latency_min_ms" ∷ codes "latency_max_ms" ∷ [] else codes "latency_ms" ∷ []
+
+-- the one latency of version 1, which is both bounds
+abbrev pub one_latency : Table → Says Latency
+one_latency t = do
+  both ← required (integer 1 900000) t (codes "latency_ms")
+  reads (record { least = both; greatest = both })
+
+-- the two bounds of version 2
+abbrev pub two_bounds : Table → Says Latency
+two_bounds t = do
+  least ← required (integer 1 900000) t (codes "latency_min_ms")
+  greatest ← required (integer least 900000) t (codes "latency_max_ms")
+  reads (record { least = least; greatest = greatest })
+
+-- the latency of a version
+abbrev pub latency : ℕ → Table → Says Latency
+latency version t = if version == 2 then two_bounds t else one_latency t
+
+-- what only one kind of queue has
+abbrev pub kind_keys : Bool → List (List ℕ)
+kind_keys true = codes "content_dedup" ∷ codes "dedup_scope" ∷ []
+kind_keys false = codes "hosts" ∷ codes "sampled" ∷ []
+
+-- the names of scopes
+abbrev pub scopes_named : List (List ℕ × Scope)
+scopes_named = (codes "queue", scopes.Queue) ∷ (codes "group", scopes.Group) ∷ []
+
+-- the kind of a queue
+abbrev pub kind : Bool → Table → Says Kind
+kind true t = do
+  content ← optional false boolean t (codes "content_dedup")
+  scope ← optional scopes.Queue (one_of scopes.Queue scopes_named) t (codes "dedup_scope")
+  reads (Fifo content scope)
+kind false t = do
+  hosts ← optional 1 (integer 1 16) t (codes "hosts")
+  sampled ← optional hosts (integer 1 hosts) t (codes "sampled")
+  reads (Standard hosts sampled)
+
+-- the policy goes with the dead-letter queue, which is judged when all queues are read
+abbrev pub policy_keys : ℕ → Bool → List (List ℕ)
+policy_keys version true = codes "max_receives" ∷ latency_keys version
+policy_keys version false = []
+
+-- the policy of a queue that has a dead-letter queue
+abbrev pub policy : Outline → Bool → Table → Says (Option Policy)
+policy o false t = reads None
+policy o true t = do
+  dead_letter ← required text t (codes "dead_letter")
+  max_receives ← required (integer 1 1000) t (codes "max_receives")
+  within ← latency o.version t
+  reads (Some (record { dead_letter = unwrap_or (queue_number o dead_letter) 0; max_receives = max_receives; latency = within }))
+
+-- the keys of a queue
+abbrev pub queue_keys : ℕ → Bool → Bool → List (List ℕ)
+queue_keys version fifo leads =
+    codes "name" ∷ codes "visibility_s" ∷ codes "delay_s" ∷ codes "retention_s" ∷ codes "in_flight" ∷ codes "dead_letter"
+    ∷ kind_keys fifo ++ policy_keys version leads
+
+-- a queue: its name and its settings, times in milliseconds
+unfoldable pub queue : Outline → ℕ → Table → Says (List ℕ × QueueSettings)
+queue o number t = do
+  name ← required (name_of is_queue_name o number) t (codes "name")
+  known ← only (queue_keys o.version (is_fifo name) (has t (codes "dead_letter"))) t
+  visibility ← optional 30 (integer 0 43200) t (codes "visibility_s")
+  delay ← optional 0 (integer 0 900) t (codes "delay_s")
+  retention ← optional 345600 (integer 60 1209600) t (codes "retention_s")
+  in_flight_limit ← optional 120000 (integer 1 120000) t (codes "in_flight")
+  kind ← kind (is_fifo name) t
+  policy ← policy o (has t (codes "dead_letter")) t
+  reads (
+    name,
+    record {
+      kind = kind;
+      visibility = 1000 * visibility;
+      delay = 1000 * delay;
+      retention = 1000 * retention;
+      in_flight_limit = in_flight_limit;
+      policy = policy;
+    },
+  )
+
+-- its dead-letter queue is another queue of its kind
+unfoldable pub dead_letter : Outline → ℕ → Table → Says (Option ℕ)
+dead_letter o number t = maybe (other_kin_named o number) t (codes "dead_letter")

@@ -1,0 +1,129 @@
+-- The scenario of a text, or the first fault in it.
+use Rattle.std.specs.Prelude.{map, ◌++◌, ℕ, ◌+◌, ◌==◌, ◌||◌, nat_le, Bool, true, false, codes, if◌then◌else◌, List, [], ◌∷◌, length, filter_map, Option, Some, None, Result, Err}
+use Rattle.std.specs.Str.{is_utf8}
+use Rattle.toml.specs.Data.{Data, Items, Members, get_member, as_array}
+use Rattle.toml.specs.Parse.{parse_document}
+use Rattle.sim_clock.specs.declared.refusal.Refusal.TheVariants.{NotToml, OutOfRange, TooMany}
+use Rattle.sqs_formats.specs.declared.faults.ScenarioFault.{ScenarioFault}
+use Rattle.sqs_model.specs.Scenario.{Scenario}
+use Rattle.sqs_formats.specs.Reading.{reads, needs, answer, ◌>>=◌}
+use Rattle.sqs_formats.specs.Keys.{Says, Table, KeyType, fault_at, only, integer, list_of, in_order, required, optional, each, text_in}
+use Rattle.sqs_formats.specs.Names.{is_script_name}
+use Rattle.sqs_formats.specs.Outline.{Outline, outline_of}
+use Rattle.sqs_formats.specs.Queues.{queue, dead_letter}
+use Rattle.sqs_formats.specs.Actors.{Files, actor}
+use Rattle.sqs_formats.specs.Tasks.{task}
+
+-- the top table
+pub record Top : Type 0 where
+  pub version : ℕ
+  pub horizon : ℕ
+  pub seed : ℕ
+  pub sample : ℕ
+  pub queues : List Data
+  pub actors : List Data
+  pub tasks : List Data
+
+-- the keys of the top table
+abbrev pub top_keys : List (List ℕ)
+top_keys = codes "version" ∷ codes "horizon" ∷ codes "seed" ∷ codes "sample" ∷ codes "queue" ∷ codes "actor" ∷ codes "task" ∷ []
+
+-- queues are 1 to 1,000; actors and tasks together, so many that stand before the list, are at most 10,000
+abbrev pub queue_list : KeyType (List Data)
+queue_list =
+    list_of (λ place ds. needs (nat_le 1 (length ds)) (fault_at OutOfRange place) ds
+    >>= (λ ds. needs (nat_le (length ds) 1000) (fault_at TooMany place) ds))
+
+-- the list of actors, and that of tasks after so many actors
+abbrev pub agent_list : ℕ → KeyType (List Data)
+agent_list before = list_of (λ place ds. needs (nat_le (before + length ds) 10000) (fault_at TooMany place) ds)
+
+-- what the top table says
+unfoldable pub top : Members → Says Top
+top ms = do
+  let t : Table = record { prefix = []; members = ms }
+  known ← only top_keys t
+  version ← required (integer 1 2) t (codes "version")
+  horizon ← required (integer 1 2592000000) t (codes "horizon")
+  seed ← optional 0 (integer 0 9223372036854775807) t (codes "seed")
+  sample ← optional 0 (integer 0 2592000000) t (codes "sample")
+  queues ← required queue_list t (codes "queue")
+  actors ← optional [] (agent_list 0) t (codes "actor")
+  tasks ← optional [] (agent_list (length actors)) t (codes "task")
+  reads (record { version = version; horizon = horizon; seed = seed; sample = sample; queues = queues; actors = actors; tasks = tasks })
+
+-- all queues, then their dead-letter queues, then all actors, then all tasks
+unfoldable pub agents : Files → Top → Outline → Says Scenario
+agents files top o = do
+  queues ← each (codes "queue") (queue o) 0 top.queues
+  judged ← each (codes "queue") (dead_letter o) 0 top.queues
+  actors ← each (codes "actor") (actor files o) 0 top.actors
+  tasks ← each (codes "task") (task o) 0 top.tasks
+  reads (record {
+    horizon = top.horizon;
+    seed = top.seed;
+    sample = top.sample;
+    queues = map (λ x. x.1) queues;
+    actors = map (λ x. x.1) actors;
+    tasks = map (λ x. x.1) tasks;
+    names = map (λ x. x.0) queues ++ (map (λ x. x.0) actors ++ map (λ x. x.0) tasks);
+  })
+
+-- of a version that can't be read nothing more is asked
+abbrev pub by_version : Bool → Files → Top → Says Scenario
+by_version true files top = agents files top (outline_of top.version top.queues top.actors top.tasks)
+by_version false files top = reads (record { horizon = top.horizon; seed = top.seed; sample = top.sample; queues = []; actors = []; tasks = []; names = [] })
+
+-- what the whole document says
+unfoldable pub scenario_in : Files → Members → Says Scenario
+scenario_in files ms = top ms >>= (λ t. by_version (t.version == 1 || t.version == 2) files t)
+
+-- the document of a text that isn't too long
+abbrev pub document_when : Bool → List ℕ → Option Members
+document_when false text = None
+document_when true text = parse_document text
+
+-- the document of a text, if it is one
+abbrev pub document : List ℕ → Option Members
+document text = document_when (is_utf8 text) text
+
+-- whether a text has at most 16 MiB
+abbrev pub is_small : List ℕ → Bool
+is_small text = nat_le (length text) 16777216
+
+-- the scenario of a document, or its first fault
+abbrev pub document_reads : Files → Option Members → Result Scenario ScenarioFault
+document_reads files None = Err (fault_at NotToml [])
+document_reads files (Some ms) = answer (scenario_in files ms)
+
+-- the same of a text, where it is not too long
+abbrev pub scenario_when : Bool → Files → List ℕ → Result Scenario ScenarioFault
+scenario_when false files text = Err (fault_at TooMany [])
+scenario_when true files text = document_reads files (document text)
+
+-- the scenario of a text with its script files, or its first fault
+unfoldable pub scenario_of : Files → List ℕ → Result Scenario ScenarioFault
+scenario_of files text = scenario_when (is_small text) files text
+
+-- the names of script files that a text asks for
+abbrev pub list_or_none : Option Items → List Data
+list_or_none None = []
+list_or_none (Some ds) = in_order ds
+
+-- the items at `actor`
+abbrev pub actors_in : Option Data → List Data
+actors_in None = []
+actors_in (Some d) = list_or_none (as_array d)
+
+-- the name of the script file that an actor asks for
+abbrev pub script_name : Data → Option (List ℕ)
+script_name d = let s = text_in (codes "script") d in if is_script_name s then Some s else None
+
+-- the names in a document
+abbrev pub names_when : Option Members → List (List ℕ)
+names_when None = []
+names_when (Some ms) = filter_map script_name (actors_in (get_member (codes "actor") ms))
+
+-- the names of the script files that a text asks for, in order
+unfoldable pub script_names : List ℕ → List (List ℕ)
+script_names text = if is_small text then names_when (document text) else []

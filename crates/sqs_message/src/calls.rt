@@ -1,0 +1,86 @@
+//! The calls that an actor makes.
+use crate::text::Text;
+use std::alloc::Global;
+use std::marker::Model;
+
+/// A call of an actor at its queue. Times are seconds.
+#[derive(Drop)]
+pub enum Call {
+    /// `SendMessage`. Group and id are for a FIFO queue; the delay is a message timer.
+    Send {
+        body: Text,
+        delay: Option<u64>,
+        group: Option<Text>,
+        id: Option<Text>,
+    },
+    /// `ReceiveMessage`. A wait of 0 is a short poll; without a timeout the queue's holds.
+    Receive {
+        max: u64,
+        wait: u64,
+        timeout: Option<u64>,
+    },
+    /// `DeleteMessage`.
+    Delete {
+        receipt: Text,
+    },
+    /// `ChangeMessageVisibility`.
+    Change {
+        receipt: Text,
+        timeout: u64,
+    },
+    /// `StartMessageMoveTask`, by the task's agent number.
+    Start {
+        task: u32,
+    },
+    /// `CancelMessageMoveTask`, by the task's agent number.
+    Cancel {
+        task: u32,
+    },
+}
+
+/// A call of a script and when it is made, in milliseconds.
+#[derive(Drop)]
+pub struct ScriptCall {
+    pub at: u64,
+    pub call: Call,
+}
+
+/// The calls of a script, in their order. Contracts see it as the list of them.
+#[derive(Drop)]
+pub struct Script {
+    calls: Vec<ScriptCall>,
+}
+
+impl Model for Script {
+    ghost use Rattle.std.specs.Prelude.{List};
+    ghost use Rattle.sqs_message.specs.declared.calls.ScriptCall.{ScriptCall};
+
+    ghost Value = { List ScriptCall };
+
+    ghost view = { λ s. s.calls.items };
+}
+
+impl Script {
+    ghost use Rattle.std.specs.Prelude.{◌≡◌};
+
+    /// The script of these calls.
+    pub fn new(calls: Vec<ScriptCall>) -> Script
+        ensures { result ≡ calls.items }
+    {
+        Script { calls }
+    }
+
+    /// Its calls.
+    pub fn as_slice(&self) -> &[ScriptCall]
+        ensures { result.now ≡ self.now }
+    {
+        self.calls.as_slice()
+    }
+
+    /// Its calls, given back.
+    pub fn into_calls(self) -> Vec<ScriptCall>
+        ensures { result.items ≡ self }
+    {
+        self.calls
+    }
+}

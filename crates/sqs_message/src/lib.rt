@@ -1,0 +1,18 @@
+//! Messages, their ids and receipts, the calls that actors make, and the rows of the log.
+#![tactic(auto)]
+
+mod calls;
+mod digest;
+mod ids;
+mod message;
+mod row;
+#[cfg(test)]
+mod tests;
+mod text;
+
+pub use calls::{Call, Script, ScriptCall};
+pub use digest::{body_md5, body_sha256};
+pub use ids::{MessageId, Origin, Receipt};
+pub use message::{Message, Place};
+pub use row::{Detail, Row, RowAnswer, RowKind, RowReceipt};
+pub use text::Text;

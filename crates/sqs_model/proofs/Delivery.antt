@@ -1,0 +1,83 @@
+-- Delivery of a transfer, beside other deliveries and beside handlings.
+use Rattle.std.proofs.Common.{◌≡◌, ℕ, ◌≤◌, Some, Bool, true, false, List, [], ◌∷◌, refl, ap, map, if◌then◌else◌, ◌∙◌}
+use Rattle.std.specs.Prelude.{◌==◌}
+use Rattle.std.specs.Cmp.{IsTotalOrder}
+use Rattle.std.specs.Ordering.{on}
+use Rattle.std.proofs.lemmas.Cmp.{on_total}
+use Rattle.sim_clock.specs.declared.key.Key.{Key}
+use Rattle.sim_clock.specs.Order.{key_cmp, key_cmp_total, same_key, IsInOrder, lesser, due_before}
+use Rattle.sim_clock.proofs.Inserted.{inserted_swap, find_inserted, without_inserted, ordered_inserted, ordered_without}
+use Rattle.sim_clock.proofs.Least.{least_inserted, key_tied, due_before_lesser}
+use Rattle.sqs_redrive.specs.declared.transfers.Outbound.{Outbound}
+use Rattle.sqs_redrive.specs.Transfers.{transfer_key}
+use Rattle.sqs_model.specs.Site.{Site, accepted, has_key, number_of}
+use Rattle.sqs_model.specs.Dues.{dues, core_dues, least_due}
+use Rattle.sqs_model.specs.Step.{Handled, handled, handled_when}
+use Rattle.sqs_model.specs.Run.{delivered, delivered_one}
+
+by_key_total : IsTotalOrder (on transfer_key key_cmp)
+by_key_total = on_total transfer_key key_cmp_total
+
+-- whether the transfers on their way to a site stand in the order of their keys
+abbrev pub IsSorted : Site → Type 0
+IsSorted s = IsInOrder (on transfer_key key_cmp) s.arriving
+
+pub accepted_sorted : (o : Outbound) (s : Site) → IsSorted s → IsSorted (accepted o s)
+accepted_sorted o s w = ordered_inserted by_key_total o s.arriving w
+
+-- two deliveries in either order
+pub accepted_swap : (o p : Outbound) (s : Site) → same_key (transfer_key o) (transfer_key p) ≡ false → accepted o (accepted p s) ≡ accepted p (accepted o s)
+accepted_swap o p s n = ap (λ w. record s { arriving = w }) (inserted_swap by_key_total o p s.arriving n)
+
+swap_when :
+    (o p : Outbound) (s : Site) (a b : Bool) → same_key (transfer_key o) (transfer_key p) ≡ false
+    → (o.to == number_of s.core) ≡ a → (p.to == number_of s.core) ≡ b
+    → delivered_one o (if b then accepted p s else s) ≡ delivered_one p (if a then accepted o s else s)
+swap_when o p s true true n h k = rw (h, k) (accepted_swap o p s n)
+swap_when o p s true false n h k = rw (h, k) refl
+swap_when o p s false true n h k = rw (h, k) refl
+swap_when o p s false false n h k = rw (h, k) refl
+
+pub delivered_one_swap : (o p : Outbound) (s : Site) → same_key (transfer_key o) (transfer_key p) ≡ false → delivered_one o (delivered_one p s) ≡ delivered_one p (delivered_one o s)
+delivered_one_swap o p s n = swap_when o p s _ _ n refl refl
+
+pub sites_swap : (o p : Outbound) (sites : List Site) → same_key (transfer_key o) (transfer_key p) ≡ false → map (delivered_one o) (map (delivered_one p) sites) ≡ map (delivered_one p) (map (delivered_one o) sites)
+sites_swap o p [] n = refl
+sites_swap o p (s ∷ ss) n = rw (delivered_one_swap o p s n, sites_swap o p ss n) refl
+
+pub delivered_swap : (o p : Outbound) (os : List Outbound) (sites : List Site) → same_key (transfer_key p) (transfer_key o) ≡ false → delivered (o ∷ (p ∷ os)) sites ≡ delivered (p ∷ (o ∷ os)) sites
+delivered_swap o p os sites n = ap (delivered os) (sites_swap p o sites n)
+
+-- a handling and the delivery of a transfer that isn't handled by it, in either order
+abbrev pub with_accepted : Outbound → Handled → Handled
+with_accepted o h = record h { site = accepted o h.site }
+
+handled_accepted_when :
+    (key : Key) (o : Outbound) (s : Site) (b : Bool) → has_key key o ≡ false → IsSorted s
+    → handled_when b key (accepted o s) ≡ with_accepted o (handled_when b key s)
+handled_accepted_when key o s true n w =
+    rw (find_inserted by_key_total (has_key key) o s.arriving n, without_inserted by_key_total (has_key key) o s.arriving n w) refl
+handled_accepted_when key o s false n w = refl
+
+pub handled_accepted :
+    (key : Key) (o : Outbound) (s : Site) → has_key key o ≡ false → IsSorted s
+    → handled key (accepted o s) ≡ with_accepted o (handled key s)
+unfolding handled
+handled_accepted key o s n w = handled_accepted_when key o s _ n w
+
+sorted_when : (key : Key) (s : Site) (b : Bool) → IsSorted s → IsSorted (handled_when b key s).site
+sorted_when key s true w = ordered_without by_key_total (has_key key) s.arriving w
+sorted_when key s false w = w
+
+pub handled_sorted : (key : Key) (s : Site) → IsSorted s → IsSorted (handled key s).site
+unfolding handled
+handled_sorted key s w = sorted_when key s _ w
+
+-- what a site tells as its least due, with one more transfer on its way
+pub least_due_accepted : (o : Outbound) (s : Site) → least_due (accepted o s) ≡ lesser (Some (transfer_key o)) (least_due s)
+unfolding dues
+least_due_accepted o s = least_inserted key_cmp_total key_tied transfer_key o s.arriving (core_dues s.core)
+
+-- a transfer that arrives at a moment or later changes nothing of what is due before it
+pub due_before_accepted : (e : ℕ) (o : Outbound) (s : Site) → e ≤ o.at → due_before e (least_due (accepted o s)) ≡ due_before e (least_due s)
+due_before_accepted e o s l = ap (due_before e) (least_due_accepted o s) ∙ due_before_lesser e (transfer_key o) (least_due s) l

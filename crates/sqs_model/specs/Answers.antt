@@ -1,0 +1,16 @@
+-- How a call that may be refused meets the definitions.
+use Rattle.std.specs.Prelude.{Err, IsOk, Ok, Result, ℕ, ◌-◌, ◌^◌, ◌≡◌}
+use Rattle.sim_clock.specs.declared.refusal.Refusal.{Refusal}
+use Rattle.sqs_model.specs.Queue.{Queue}
+use Rattle.sim_clock.specs.declared.refusal.Refusal.TheVariants as refusals
+
+-- no count may pass this
+abbrev pub most_count : ℕ
+most_count = 2 ^ 62 - 1
+
+-- the answer and the queue after it are the definition's; of want of memory nothing is said, and a count at its limit is told only where the definition would count on
+abbrev pub Meets : {A : Type 0} → Type 0 → Result A Refusal → Queue → Result A Refusal × Queue → Type 0
+Meets AtLimit (Ok a) new model = model ≡ (Ok a, new)
+Meets AtLimit (Err refusals.CountLimit) new model = AtLimit × IsOk model.0
+Meets AtLimit (Err refusals.Memory) new model = Unit {0}
+Meets AtLimit (Err e) new model = model ≡ (Err e, new)

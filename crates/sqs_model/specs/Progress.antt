@@ -1,0 +1,100 @@
+-- Time moves on: what a sound site is, and that a handling makes nothing due at its own moment or before.
+use Rattle.std.specs.Prelude.{All, Contains, List, None, Option, Some, [], drop, filter, length, nat_le, ℕ, ◌+◌, ◌<◌, ◌∷◌, ◌≡◌, ◌≤◌}
+use Rattle.sim_clock.specs.declared.key.Key.{Key}
+use Rattle.sqs_model.specs.declared.agents.Forwarding.{Forwarding}
+use Rattle.sqs_model.specs.declared.agents.Role.{Role}
+use Rattle.sqs_model.specs.declared.agents.Role.TheVariants.{Consumer, Producer, Script}
+use Rattle.sqs_redrive.specs.declared.settings.Latency.{Latency}
+use Rattle.sqs_redrive.specs.declared.settings.Policy.{Policy}
+use Rattle.sqs_redrive.specs.declared.settings.QueueSettings.{QueueSettings}
+use Rattle.sqs_model.specs.Actor.{Actor, first_at}
+use Rattle.sqs_model.specs.Dues.{dues}
+use Rattle.sqs_model.specs.Queue.{Queue}
+use Rattle.sqs_model.specs.Run.{IsRunOf, Run}
+use Rattle.sqs_model.specs.Scenario.{Scenario, opening}
+use Rattle.sqs_model.specs.Site.{Core, Site}
+use Rattle.sqs_model.specs.Step.{Handled, handled}
+
+-- whether each has a number that is at least this and past the one before it
+abbrev pub Ascends : {A : Type 0} → (A → ℕ) → ℕ → List A → Type 0
+Ascends number from [] = Unit {0}
+Ascends number from (x ∷ xs) = (from ≤ number x) × Ascends number (number x + 1) xs
+
+-- a transfer takes at least a millisecond
+abbrev pub TakesTime : Latency → Type 0
+TakesTime l = 1 ≤ l.least
+
+-- so does one to the dead-letter queue
+abbrev pub IsSoundPolicy : Option Policy → Type 0
+IsSoundPolicy None = Unit {0}
+IsSoundPolicy (Some p) = TakesTime p.latency
+
+-- so does a forward
+abbrev pub IsSoundForward : Option Forwarding → Type 0
+IsSoundForward None = Unit {0}
+IsSoundForward (Some f) = TakesTime f.latency
+
+-- a queue keeps messages for a millisecond at least
+pub record IsSoundSettings (s : QueueSettings) : Type 0 where
+  pub retention : 1 ≤ s.retention
+  pub policy : IsSoundPolicy s.policy
+
+-- a script's calls have ascending times, and an actor that wakes by a draw or after a rest does so later
+abbrev pub IsSoundRole : Role → Type 0
+IsSoundRole (Script script) = Ascends (λ c. c.at) 0 script
+IsSoundRole (Producer p) = 1 ≤ p.gap_min
+IsSoundRole (Consumer c) = (1 ≤ c.service_min) × (1 ≤ c.idle) × IsSoundForward c.forward
+
+-- a scenario in which time moves on
+pub record IsSoundScenario (s : Scenario) : Type 0 where
+  pub queues : All IsSoundSettings s.queues
+  pub actors : All (λ a. IsSoundRole a.role) s.actors
+  pub tasks : All (λ t. TakesTime t.latency) s.tasks
+
+-- messages stand in the order of their numbers, which were all given out
+pub record IsSoundQueue (q : Queue) : Type 0 where
+  pub settings : IsSoundSettings q.settings
+  pub ordered : Ascends (λ m. m.number) 0 q.records
+  pub given_out : All (λ m. m.number < q.arrivals) q.records
+
+-- a script wakes for its next call
+abbrev pub WakesFor : Role → Actor → Type 0
+WakesFor (Script script) a = a.wake ≡ first_at (drop a.wakes script)
+WakesFor (Producer p) a = Unit {0}
+WakesFor (Consumer c) a = Unit {0}
+
+-- an actor of a sound role
+pub record IsSoundActor (a : Actor) : Type 0 where
+  pub role : IsSoundRole a.settings.role
+  pub wakes : WakesFor a.settings.role a
+
+-- a site in which time moves on: its parts are sound, and its actors and tasks stand in the order of their numbers
+pub record IsSound (c : Core) : Type 0 where
+  pub queue : IsSoundQueue c.queue
+  pub actors : All IsSoundActor c.actors
+  pub actors_ordered : Ascends (λ a. a.number) 0 c.actors
+  pub tasks : All (λ t. TakesTime t.move.settings.latency) c.tasks
+  pub tasks_ordered : Ascends (λ t. t.number) 0 c.tasks
+
+-- how many of some keys are due by a moment
+abbrev pub count_due : ℕ → List Key → ℕ
+count_due moment keys = length (filter (λ k. nat_le k.at moment) keys)
+
+-- what a handling of a key does that is due at a sound site: the site stays sound, nothing is made due at that moment or before, the key is due no more, and what is sent arrives later
+pub record MovesOn (key : Key) (s : Site) (h : Handled) : Type 0 where
+  pub sound : IsSound h.site.core
+  pub before : (moment : ℕ) → moment < key.at → count_due moment (dues h.site) ≤ count_due moment (dues s)
+  pub falls : count_due key.at (dues h.site) < count_due key.at (dues s)
+  pub sent_later : All (λ o. key.at < o.at) h.sent
+
+-- a handling makes nothing due at its own moment or before
+abbrev pub HandlingMovesOn : Type 0
+HandlingMovesOn = (key : Key) (s : Site) → IsSound s.core → Contains (dues s) key → MovesOn key s (handled key s)
+
+-- a run of a sound scenario begins with sound sites
+abbrev pub OpeningIsSound : Type 0
+OpeningIsSound = (s : Scenario) → IsSoundScenario s → All (λ site. IsSound site.core) (opening s)
+
+-- every sound scenario has a whole run
+abbrev pub RunEnds : Type 0
+RunEnds = (s : Scenario) → IsSoundScenario s → (r : Run) × IsRunOf s r

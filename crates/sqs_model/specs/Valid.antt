@@ -1,0 +1,81 @@
+-- The ranges of settings. Times are milliseconds.
+use Rattle.std.specs.Prelude.{None, Option, Some, ℕ, ◌≤◌}
+use Rattle.sqs_model.specs.declared.agents.ConsumerSettings.{ConsumerSettings}
+use Rattle.sqs_model.specs.declared.agents.Forwarding.{Forwarding}
+use Rattle.sqs_model.specs.declared.agents.ProducerSettings.{ProducerSettings}
+use Rattle.sqs_redrive.specs.declared.settings.Kind.{Kind}
+use Rattle.sqs_redrive.specs.declared.settings.Kind.TheVariants.{Fifo, Standard}
+use Rattle.sqs_redrive.specs.declared.settings.Latency.{Latency}
+use Rattle.sqs_redrive.specs.declared.settings.Policy.{Policy}
+use Rattle.sqs_redrive.specs.declared.settings.QueueSettings.{QueueSettings}
+use Rattle.sqs_redrive.specs.declared.settings.TaskSettings.{TaskSettings}
+
+-- whether a number lies between two
+abbrev pub Between : ℕ → ℕ → ℕ → Type 0
+Between low high n = (low ≤ n) × (n ≤ high)
+
+-- a latency of 1 ms to 15 minutes
+pub record IsLatency (l : Latency) : Type 0 where
+  pub least : 1 ≤ l.least
+  pub ordered : l.least ≤ l.greatest
+  pub greatest : l.greatest ≤ 900000
+
+-- a policy after 1 to 1,000 receives
+pub record IsPolicy (p : Policy) : Type 0 where
+  pub receives : Between 1 1000 p.max_receives
+  pub latency : IsLatency p.latency
+
+-- a policy, if there is one
+abbrev pub MayBePolicy : Option Policy → Type 0
+MayBePolicy None = Unit {0}
+MayBePolicy (Some p) = IsPolicy p
+
+-- 1 to 16 hosts, of which 1 to all are sampled
+abbrev pub IsKind : Kind → Type 0
+IsKind (Standard hosts sampled) = Between 1 16 hosts × Between 1 hosts sampled
+IsKind (Fifo content_dedup scope) = Unit {0}
+
+-- a queue: a visibility timeout to 12 hours, a delay to 15 minutes, a retention period of 1 minute to 14 days, 1 to 120,000 messages in flight
+pub record IsQueueSettings (s : QueueSettings) : Type 0 where
+  pub kind : IsKind s.kind
+  pub visibility : s.visibility ≤ 43200000
+  pub delay : s.delay ≤ 900000
+  pub retention : Between 60000 1209600000 s.retention
+  pub limit : Between 1 120000 s.in_flight_limit
+  pub policy : MayBePolicy s.policy
+
+-- a producer of 1 to 1,000,000 messages
+pub record IsProducer (p : ProducerSettings) : Type 0 where
+  pub count : Between 1 1000000 p.count
+  pub start : p.start ≤ 2592000000
+  pub gap_min : 1 ≤ p.gap_min
+  pub ordered : p.gap_min ≤ p.gap_max
+  pub gap_max : p.gap_max ≤ 86400000
+
+-- a forward, if there is one
+abbrev pub MayBeForward : Option Forwarding → Type 0
+MayBeForward None = Unit {0}
+MayBeForward (Some f) = IsLatency f.latency
+
+-- a timeout in seconds, if there is one
+abbrev pub MayBeTimeout : Option ℕ → Type 0
+MayBeTimeout None = Unit {0}
+MayBeTimeout (Some s) = s ≤ 43200
+
+-- a consumer that asks for 1 to 10 messages and waits for at most 20 seconds
+pub record IsConsumer (c : ConsumerSettings) : Type 0 where
+  pub start : c.start ≤ 2592000000
+  pub batch : Between 1 10 c.batch
+  pub wait : c.wait ≤ 20
+  pub timeout : MayBeTimeout c.timeout
+  pub service_min : 1 ≤ c.service_min
+  pub ordered : c.service_min ≤ c.service_max
+  pub service_max : c.service_max ≤ 86400000
+  pub failures : c.fail_permille ≤ 1000
+  pub idle : Between 1 86400000 c.idle
+  pub forward : MayBeForward c.forward
+
+-- a move task of 1 to 500 messages a second
+pub record IsTaskSettings (t : TaskSettings) : Type 0 where
+  pub per_second : Between 1 500 t.per_second
+  pub latency : IsLatency t.latency

@@ -1,0 +1,83 @@
+//! What an actor is told, and what it then does.
+use sqs_message::{Call, MessageId, Receipt, Text};
+use sqs_redrive::{Batch, Outbound};
+
+/// What an actor is told.
+#[derive(Drop)]
+pub enum Answer {
+    /// Its wake has come.
+    Wake,
+    /// What its receive gave; empty too at the end of a long poll.
+    Got(Batch),
+    /// Its receive waits.
+    Waiting,
+    /// Any other answer, and each refusal.
+    Other,
+}
+
+/// What an actor does: a call with its values, the end of a service, or nothing. Times are
+/// seconds.
+#[derive(Drop)]
+pub enum Act {
+    Send {
+        body: Text,
+        delay: Option<u64>,
+        group: Option<Text>,
+        id: Option<Text>,
+    },
+    Receive {
+        max: u64,
+        wait: u64,
+        timeout: Option<u64>,
+    },
+    Delete {
+        receipt: Text,
+    },
+    Change {
+        receipt: Text,
+        timeout: u64,
+    },
+    Start {
+        task: u32,
+    },
+    Cancel {
+        task: u32,
+    },
+    /// The service of a message ended: the message, the receipt that it was got with, whether the
+    /// service failed, and what goes to another queue if it did not.
+    Serve {
+        id: MessageId,
+        receipt: Receipt,
+        failed: bool,
+        forward: Option<Outbound>,
+    },
+    Nothing,
+}
+
+impl From<Call> for Act {
+    ghost use Rattle.std.specs.Prelude.{◌≡◌};
+    ghost use Rattle.sqs_model.specs.Actor.{act_of};
+
+    ghost from_gives = { λ call act. act ≡ act_of call };
+
+    fn from(call: Call) -> Act {
+        match call {
+            Call::Send {
+                body,
+                delay,
+                group,
+                id,
+            } => Act::Send {
+                body,
+                delay,
+                group,
+                id,
+            },
+            Call::Receive { max, wait, timeout } => Act::Receive { max, wait, timeout },
+            Call::Delete { receipt } => Act::Delete { receipt },
+            Call::Change { receipt, timeout } => Act::Change { receipt, timeout },
+            Call::Start { task } => Act::Start { task },
+            Call::Cancel { task } => Act::Cancel { task },
+        }
+    }
+}

@@ -1,0 +1,17 @@
+//! The definitions: queues and their calls, actors, move tasks, sites, and the one-list run of a
+//! scenario. They stand in `specs/`; here are the types that they and several crates share, and
+//! the laws about the definitions that crates rely on.
+#![tactic(auto)]
+
+mod acts;
+mod agents;
+mod finals;
+#[cfg(test)]
+mod tests;
+
+pub use acts::{Act, Answer};
+pub use agents::{ActorSettings, ConsumerSettings, Forwarding, ProducerSettings, Role};
+pub use finals::{
+    FinalMessage, FinalMessages, FinalTask, FinalTasks, FinalTransfer, FinalTransfers, Finals,
+    TransferKind,
+};

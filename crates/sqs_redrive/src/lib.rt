@@ -1,0 +1,12 @@
+//! Settings of queues and tasks, what a queue answers, and what goes from one queue to another.
+#![tactic(auto)]
+
+mod answers;
+mod settings;
+#[cfg(test)]
+mod tests;
+mod transfers;
+
+pub use answers::{Batch, Deleted, Got, Rest, Returned, Sent};
+pub use settings::{Edge, Kind, Latency, Policy, QueueSettings, Scope, TaskSettings, TaskStatus};
+pub use transfers::{Load, Outbound, Transfer};

@@ -1,0 +1,82 @@
+//! Settings of queues and move tasks.
+
+/// Where two sends with one deduplication id are duplicates (`DeduplicationScope`).
+#[derive(Clone, Copy, Debug, PartialEq, Eq)]
+pub enum Scope {
+    /// In the whole queue.
+    Queue,
+    /// In one message group.
+    Group,
+}
+
+/// The two kinds of queue, each with what it alone has.
+#[derive(Clone, Copy, Debug, PartialEq, Eq)]
+pub enum Kind {
+    /// A standard queue: on how many servers its messages lie, and how many a short poll samples.
+    Standard { hosts: u64, sampled: u64 },
+    /// A FIFO queue: whether the body stands for an absent deduplication id
+    /// (`ContentBasedDeduplication`), and the scope of ids.
+    Fifo { content_dedup: bool, scope: Scope },
+}
+
+/// How long a transfer takes, in milliseconds: between these, both included.
+#[derive(Clone, Copy, Debug, PartialEq, Eq)]
+pub struct Latency {
+    pub least: u64,
+    pub greatest: u64,
+}
+
+/// When and how a message leaves for the dead-letter queue (`RedrivePolicy`).
+#[derive(Clone, Copy, Debug, PartialEq, Eq)]
+pub struct Policy {
+    /// The number of the dead-letter queue.
+    pub dead_letter: u32,
+    /// A message that comes back with so many receives leaves (`maxReceiveCount`).
+    pub max_receives: u64,
+    pub latency: Latency,
+}
+
+/// Settings of a queue. Times are milliseconds.
+#[derive(Clone, Copy, Debug, PartialEq, Eq)]
+pub struct QueueSettings {
+    pub kind: Kind,
+    /// How long a received message stays invisible (`VisibilityTimeout`).
+    pub visibility: u64,
+    /// How long a sent message is delayed (`DelaySeconds`).
+    pub delay: u64,
+    /// How long a message is kept (`MessageRetentionPeriod`).
+    pub retention: u64,
+    /// How many messages may be in flight.
+    pub in_flight_limit: u64,
+    pub policy: Option<Policy>,
+}
+
+/// Settings of a move task (`StartMessageMoveTask`).
+#[derive(Clone, Copy, Debug, PartialEq, Eq)]
+pub struct TaskSettings {
+    /// The number of the queue that it moves messages out of.
+    pub home: u32,
+    /// Where it moves them; without one each goes back to the queue that it came from.
+    pub to: Option<u32>,
+    /// How many it moves a second, at most (`MaxNumberOfMessagesPerSecond`).
+    pub per_second: u64,
+    pub latency: Latency,
+}
+
+/// The states of a move task.
+#[derive(Clone, Copy, Debug, PartialEq, Eq)]
+pub enum TaskStatus {
+    Idle,
+    Running,
+    Completed,
+    Cancelled,
+    Failed,
+}
+
+/// Messages may go from one queue to another, and take at least so many milliseconds.
+#[derive(Clone, Copy, Debug, PartialEq, Eq)]
+pub struct Edge {
+    pub from: u32,
+    pub to: u32,
+    pub least: u64,
+}
