@@ -6,6 +6,7 @@
 mod acts;
 mod agents;
 mod finals;
+mod laws;
 #[cfg(test)]
 mod tests;
 
@@ -15,3 +16,4 @@ pub use finals::{
     FinalMessage, FinalMessages, FinalTask, FinalTasks, FinalTransfer, FinalTransfers, Finals,
     TransferKind,
 };
+pub use laws::{handling_moves_on, opening_is_sound, run_ends};

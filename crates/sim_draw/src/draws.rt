@@ -1,0 +1,105 @@
+//! The draws of one agent.
+ghost use Rattle.std.specs.Prelude.{◌≡◌, ◌+◌, ◌<◌, ◌≤◌, ◌^◌};
+ghost use Rattle.sqs_model.specs.Answers.{most_count};
+ghost use Rattle.sqs_model.specs.Draw.{moved_on, next_word, uniform as the_uniform, chance as the_chance, drawn_between};
+
+use rand_chacha::ChaCha20Rng;
+use rand_core::SeedableRng;
+use rand_core::utils::NextWord;
+use std::marker::Model;
+
+/// The random words of one agent under a seed, and how many of them it took. Contracts see it as
+/// seed, agent and that number: what was drawn before decides nothing else.
+#[derive(Drop)]
+pub struct Draws {
+    words: ChaCha20Rng,
+    seed: u64,
+    agent: u32,
+    taken: u64,
+}
+
+impl Model for Draws {
+    ghost use Rattle.std.specs.Prelude.{◌≡◌};
+    ghost use Rattle.rand_chacha.specs.ChaCha.{key_of};
+    ghost use Rattle.sqs_model.specs.Draw.{Draws, seed_bytes};
+
+    ghost Value = { Draws };
+
+    ghost view = { λ d. record { seed = d.seed; agent = d.agent; taken = d.taken } };
+
+    ghost invariant = { λ d. d.words ≡ record { key = key_of (seed_bytes d.seed); stream = d.agent; word_pos = d.taken } };
+}
+
+impl Draws {
+    /// The draws of an agent, none of them taken.
+    pub fn new(seed: u64, agent: u32) -> Draws
+        ensures { result ≡ record { seed = seed; agent = agent; taken = 0 } }
+    {
+        let mut key = [0; 32];
+        key[..8].copy_from_slice(&seed.to_le_bytes());
+        let mut words = ChaCha20Rng::from_seed(key);
+        words.set_stream(u64::from(agent));
+        Draws {
+            words,
+            seed,
+            agent,
+            taken: 0,
+        }
+    }
+
+    /// How many words were taken.
+    pub fn taken(&self) -> u64
+        ensures { result ≡ self.now.taken }
+    {
+        self.taken
+    }
+
+    /// The next word, of 32 bits.
+    #[tactic(auto, unfolding(sqs_model::specs::Draw::word))]
+    pub fn word(&mut self) -> u32
+        requires { self.old.taken < most_count }
+        ensures word { result ≡ next_word self.old }
+        ensures after { self.new ≡ moved_on self.old }
+    {
+        let word = self.words.next_word();
+        self.taken += 1;
+        word
+    }
+
+    /// A number from `low` to `high`, both included. It takes a word always.
+    pub fn uniform(&mut self, low: u64, high: u64) -> u64
+        requires words { self.old.taken < most_count }
+        requires order { low ≤ high }
+        requires span { high < low + 2 ^ 32 }
+        ensures number { result ≡ the_uniform low high (next_word self.old) }
+        ensures after { self.new ≡ moved_on self.old }
+    {
+        let span = high - low + 1;
+        let word = self.word();
+        low + ((u128::from(word) * u128::from(span)) >> 32) as u64
+    }
+
+    /// Whether an event comes that has so many chances in a thousand. It takes a word always.
+    pub fn chance(&mut self, permille: u64) -> bool
+        requires words { self.old.taken < most_count }
+        ensures event { result ≡ the_chance permille (next_word self.old) }
+        ensures after { self.new ≡ moved_on self.old }
+    {
+        let word = self.word();
+        (u64::from(word) * 1000) >> 32 < permille
+    }
+
+    /// A number from `low` to `high`, both included. Where they are equal it takes no word.
+    pub fn between(&mut self, low: u64, high: u64) -> u64
+        requires words { self.old.taken < most_count }
+        requires order { low ≤ high }
+        requires span { high < low + 2 ^ 32 }
+        ensures { drawn_between low high self.old ≡ (result, self.new) }
+    {
+        if low < high {
+            self.uniform(low, high)
+        } else {
+            low
+        }
+    }
+}

@@ -1,0 +1,222 @@
+-- What an actor does next leaves it sound, makes it wake later or as before, and sends only what arrives later.
+use Rattle.std.specs.Prelude.{Bool, List, None, Option, Some, [], drop, false, nat_lt, suc, true, zero, ℕ, ◌+◌, ◌<◌, ◌∷◌, ◌≡◌, ◌≤◌, ◌⊎◌}
+use Rattle.std.proofs.Common.{add-one, ap, arith, inl, inr, refl, subst, sym, ◌∙◌}
+use Rattle.sqs_message.specs.declared.calls.Call.{Call}
+use Rattle.sqs_message.specs.declared.calls.Call.TheVariants as calls
+use Rattle.sqs_message.specs.declared.calls.ScriptCall.{ScriptCall}
+use Rattle.sqs_model.specs.declared.acts.Act.{Act}
+use Rattle.sqs_model.specs.declared.acts.Act.TheVariants as acts
+use Rattle.sqs_model.specs.declared.acts.Answer.{Answer}
+use Rattle.sqs_model.specs.declared.acts.Answer.TheVariants as told_by
+use Rattle.sqs_model.specs.declared.agents.ActorSettings.{ActorSettings}
+use Rattle.sqs_model.specs.declared.agents.ConsumerSettings.{ConsumerSettings}
+use Rattle.sqs_model.specs.declared.agents.Forwarding.{Forwarding}
+use Rattle.sqs_model.specs.declared.agents.ProducerSettings.{ProducerSettings}
+use Rattle.sqs_model.specs.declared.agents.Role.{Role}
+use Rattle.sqs_model.specs.declared.agents.Role.TheVariants.{Consumer, Producer, Script}
+use Rattle.sqs_redrive.specs.declared.answers.Got.{Got}
+use Rattle.sqs_redrive.specs.declared.transfers.Outbound.{Outbound}
+use Rattle.sqs_model.specs.Actor.{Actor, Asked, Ended, Served, Stage, act_of, consumer_got, consumer_told, consumer_wake, ends_service, first_at, idle, next, next_as, producer_sent, producer_wake, script_wake, serves, serving, wakes_after, woken}
+use Rattle.sqs_model.specs.Draw.{Draws, drawn_chance, drawn_latency, drawn_uniform}
+use Rattle.sqs_model.specs.Progress.{Ascends, IsSoundActor, IsSoundForward, IsSoundRole, WakesFor}
+use Rattle.sqs_model.proofs.Counts.{ascends_lower, tick, tick_if, tick_less, tick_past}
+use Rattle.sqs_model.proofs.Effects.{latency_least, uniform_least}
+use Rattle.sqs_model.proofs.Branches.{either}
+
+-- the rest of a list in order is in order
+drop_ascends : (n k : ℕ) (xs : List ScriptCall) → Ascends (λ c. c.at) n xs → Ascends (λ c. c.at) 0 (drop k xs)
+drop_ascends n zero xs a = ascends_lower (λ c. c.at) 0 n xs (omega arith) a
+drop_ascends n (suc k) [] a = tt
+drop_ascends n (suc k) (c ∷ cs) a = drop_ascends (c.at + 1) k cs a.1
+
+drop_suc : (k : ℕ) (xs : List ScriptCall) (c : ScriptCall) (cs : List ScriptCall) → drop k xs ≡ c ∷ cs → drop (suc k) xs ≡ cs
+drop_suc zero [] c cs h = cc
+drop_suc zero (x ∷ xs) c cs h = cc
+drop_suc (suc k) [] c cs h = cc
+drop_suc (suc k) (x ∷ xs) c cs h = drop_suc k xs c cs h
+
+drop_next : (k : ℕ) (xs : List ScriptCall) (c : ScriptCall) (cs : List ScriptCall) → drop k xs ≡ c ∷ cs → drop (k + 1) xs ≡ cs
+drop_next k xs c cs h = rw add-one (drop_suc k xs c cs h)
+
+-- whether a transfer, if any, arrives later
+abbrev pub IsLater : ℕ → Option Outbound → Type 0
+IsLater now None = Unit {0}
+IsLater now (Some o) = now < o.at
+
+-- whether what an act sends arrives later
+abbrev pub SendsLater : ℕ → Act → Type 0
+SendsLater now (acts.Send body delay group id) = Unit {0}
+SendsLater now (acts.Receive max wait timeout) = Unit {0}
+SendsLater now (acts.Delete text) = Unit {0}
+SendsLater now (acts.Change text timeout) = Unit {0}
+SendsLater now (acts.Start task) = Unit {0}
+SendsLater now (acts.Cancel task) = Unit {0}
+SendsLater now (acts.Serve id receipt failed forward) = IsLater now forward
+SendsLater now acts.Nothing = Unit {0}
+
+-- an act of an actor of a role, and the actor after it, with so many dues gone
+pub record Steps (now e gone : ℕ) (r : Role) (a : Actor) (x : Act × Actor) : Type 0 where
+  pub number : x.1.number ≡ a.number
+  pub settings : x.1.settings ≡ a.settings
+  pub wakes : WakesFor r x.1
+  pub wake : tick_if e x.1.wake + gone ≤ tick_if e a.wake
+  pub sends : SendsLater now x.0
+
+-- whether nothing is gone, or a wake at the present
+abbrev pub IsGone : ℕ → ℕ → ℕ → Actor → Type 0
+IsGone now e gone a = (gone ≡ 0) ⊎ ((a.wake ≡ Some now) × (gone ≡ tick e now))
+
+-- whether an answer is a wake, where dues are gone
+abbrev pub IsWakeWhere : ℕ → ℕ → ℕ → Actor → Answer → Type 0
+IsWakeWhere now e gone a told_by.Wake = IsGone now e gone a
+IsWakeWhere now e gone a (told_by.Got gots) = gone ≡ 0
+IsWakeWhere now e gone a told_by.Waiting = gone ≡ 0
+IsWakeWhere now e gone a told_by.Other = gone ≡ 0
+
+-- the next act of a sound actor, which stays sound
+pub record Acts (now e gone : ℕ) (a : Actor) (x : Act × Actor) : Type 0 where
+  pub number : x.1.number ≡ a.number
+  pub sound : IsSoundActor x.1
+  pub wake : tick_if e x.1.wake + gone ≤ tick_if e a.wake
+  pub sends : SendsLater now x.0
+
+module _ (now e : ℕ) (l : e ≤ now) where
+  gone_at_most : (gone : ℕ) (a : Actor) → IsGone now e gone a → gone ≤ tick_if e a.wake
+  gone_at_most gone a (inl z) = omega arith
+  gone_at_most gone a (inr h) = let t : tick_if e a.wake ≡ tick e now = ap (tick_if e) h.0 in let u : gone ≡ tick e now = h.1 in omega arith
+
+  call_sends : (c : Call) → SendsLater now (act_of c)
+  call_sends (calls.Send body delay group id) = tt
+  call_sends (calls.Receive max wait timeout) = tt
+  call_sends (calls.Delete receipt) = tt
+  call_sends (calls.Change receipt timeout) = tt
+  call_sends (calls.Start task) = tt
+  call_sends (calls.Cancel task) = tt
+
+  -- scripts
+  script_later : (gone at : ℕ) (a : Actor) (cs : List ScriptCall) → a.wake ≡ Some at → Ascends (λ c. c.at) (at + 1) cs → IsGone now e gone a → tick_if e (first_at cs) + gone ≤ tick_if e a.wake
+  script_later gone at a [] w h g = omega (arith, gone_at_most gone a g)
+  script_later gone at a (c ∷ cs) w h (inl z) =
+      let m : at + 1 ≤ c.at = h.0 in
+      let t : tick e c.at ≤ tick e at = tick_less e at c.at (omega arith) in
+      let u : tick_if e a.wake ≡ tick e at = ap (tick_if e) w in omega arith
+  script_later gone at a (c ∷ cs) w h (inr k) =
+      let m : at + 1 ≤ c.at = h.0 in
+      let n : Some at ≡ Some now = sym w ∙ k.0 in
+      let o : at ≡ now = cc in
+      let t : tick e c.at ≡ 0 = tick_past e c.at (omega arith) in
+      let u : tick_if e a.wake ≡ tick e now = ap (tick_if e) k.0 in
+      let v : gone ≡ tick e now = k.1 in omega arith
+
+  script_steps :
+      (gone : ℕ) (script : List ScriptCall) (a : Actor) (cs : List ScriptCall) → drop a.wakes script ≡ cs → Ascends (λ c. c.at) 0 cs
+      → a.wake ≡ first_at cs → IsGone now e gone a → Steps now e gone (Script script) a (script_wake a cs)
+  script_steps gone script a [] h s w g =
+      record { number = refl; settings = refl; wakes = rw h refl; wake = omega (arith, gone_at_most gone a g); sends = tt }
+  script_steps gone script a (c ∷ cs) h s w g =
+      record {
+        number = refl;
+        settings = refl;
+        wakes = rw (drop_next a.wakes script c cs h) refl;
+        wake = script_later gone c.at a cs w s.1 g;
+        sends = call_sends c.call;
+      }
+
+  -- an actor as it was
+  same_steps : (r : Role) (a : Actor) → WakesFor r a → Steps now e 0 r a (acts.Nothing, a)
+  same_steps r a w = record { number = refl; settings = refl; wakes = w; wake = omega arith; sends = tt }
+
+  -- producers
+  producer_wake_steps : (gone : ℕ) (p : ProducerSettings) (a : Actor) → IsGone now e gone a → Steps now e gone (Producer p) a (producer_wake a p)
+  producer_wake_steps gone p a g = record { number = refl; settings = refl; wakes = tt; wake = omega (arith, gone_at_most gone a g); sends = tt }
+
+  late_wake : (at gap : ℕ) → 1 ≤ gap → tick e (now + gap) + 0 ≤ at
+  late_wake at gap h = let t : tick e (now + gap) ≡ 0 = tick_past e (now + gap) (omega arith) in omega arith
+
+  producer_sent_steps : (p : ProducerSettings) (a : Actor) → 1 ≤ p.gap_min → Steps now e 0 (Producer p) a (producer_sent a p now)
+  producer_sent_steps p a h =
+      let t : p.gap_min ≤ (drawn_uniform p.gap_min p.gap_max a.draws).0 = uniform_least p.gap_min p.gap_max a.draws in
+      either (λ (x : Act × Actor). Steps now e 0 (Producer p) a x) (nat_lt a.wakes p.count)
+      (acts.Nothing, wakes_after a now (drawn_uniform p.gap_min p.gap_max a.draws)) (acts.Nothing, a)
+      (record { number = refl; settings = refl; wakes = tt; wake = late_wake (tick_if e a.wake) (drawn_uniform p.gap_min p.gap_max a.draws).0 (omega arith); sends = tt })
+      (same_steps (Producer p) a tt)
+
+  -- consumers
+  serves_steps :
+      (gone : ℕ) (c : ConsumerSettings) (a b : Actor) (g : Got) (f : Option Forwarding) → IsSoundForward f
+      → b.number ≡ a.number → b.settings ≡ a.settings → b.wake ≡ None → gone ≤ tick_if e a.wake → Steps now e gone (Consumer c) a (serves b now g f)
+  serves_steps gone c a b g None s n t w m =
+      let u : tick_if e b.wake ≡ 0 = ap (tick_if e) w in
+      record { number = n; settings = t; wakes = tt; wake = omega arith; sends = tt }
+  serves_steps gone c a b g (Some f) s n t w m =
+      let u : tick_if e b.wake ≡ 0 = ap (tick_if e) w in
+      let v : f.latency.least ≤ (drawn_latency f.latency b.draws).0 = latency_least f.latency b.draws in
+      let one : 1 ≤ f.latency.least = s in
+      record { number = n; settings = t; wakes = tt; wake = omega arith; sends = omega arith }
+
+  ends_steps :
+      (gone : ℕ) (c : ConsumerSettings) (a b : Actor) (g : Got) (x : Bool × Draws) → IsSoundForward c.forward
+      → b.number ≡ a.number → b.settings ≡ a.settings → b.wake ≡ None → gone ≤ tick_if e a.wake → Steps now e gone (Consumer c) a (ends_service b c now g x)
+  ends_steps gone c a b g (true, draws) s n t w m =
+      let u : tick_if e b.wake ≡ 0 = ap (tick_if e) w in
+      record { number = n; settings = t; wakes = tt; wake = omega arith; sends = tt }
+  ends_steps gone c a b g (false, draws) s n t w m =
+      serves_steps gone c a (record b { stage = Served g.receipt; draws = draws }) g c.forward s n t w m
+
+  consumer_wake_steps :
+      (gone : ℕ) (c : ConsumerSettings) (a : Actor) (gs : List Got) → IsSoundForward c.forward → IsGone now e gone a
+      → Steps now e gone (Consumer c) a (consumer_wake (woken a) c now gs)
+  consumer_wake_steps gone c a [] s g = record { number = refl; settings = refl; wakes = tt; wake = omega (arith, gone_at_most gone a g); sends = tt }
+  consumer_wake_steps gone c a (x ∷ xs) s g =
+      ends_steps gone c a (record (woken a) { held = xs }) x (drawn_chance c.fail_permille a.draws) s refl refl refl (gone_at_most gone a g)
+
+  serving_steps : (c : ConsumerSettings) (a : Actor) (gs : List Got) → 1 ≤ c.service_min → Steps now e 0 (Consumer c) a (acts.Nothing, serving a c now gs)
+  serving_steps c a [] h = record { number = refl; settings = refl; wakes = tt; wake = late_wake (tick_if e a.wake) 1 (omega arith); sends = tt }
+  serving_steps c a (g ∷ gs) h =
+      let t : c.service_min ≤ (drawn_uniform c.service_min c.service_max a.draws).0 = uniform_least c.service_min c.service_max a.draws in
+      record {
+        number = refl;
+        settings = refl;
+        wakes = tt;
+        wake = late_wake (tick_if e a.wake) (drawn_uniform c.service_min c.service_max a.draws).0 (omega arith);
+        sends = tt;
+      }
+
+  idle_steps : (c : ConsumerSettings) (a : Actor) → 1 ≤ c.idle → Steps now e 0 (Consumer c) a (idle a c now)
+  idle_steps c a h = record { number = refl; settings = refl; wakes = tt; wake = late_wake (tick_if e a.wake) c.idle h; sends = tt }
+
+  consumer_got_steps : (c : ConsumerSettings) (a : Actor) (gs : List Got) → IsSoundRole (Consumer c) → Steps now e 0 (Consumer c) a (consumer_got a c now gs)
+  consumer_got_steps c a [] s = idle_steps c a s.1
+  consumer_got_steps c a (g ∷ gs) s = serving_steps c a (g ∷ gs) s.0
+
+  consumer_told_steps : (c : ConsumerSettings) (a : Actor) (stage : Stage) → IsSoundRole (Consumer c) → Steps now e 0 (Consumer c) a (consumer_told a c now stage)
+  consumer_told_steps c a Asked s = idle_steps c a s.1
+  consumer_told_steps c a (Served receipt) s = record { number = refl; settings = refl; wakes = tt; wake = omega arith; sends = tt }
+  consumer_told_steps c a Ended s = serving_steps c a a.held s.0
+
+  role_steps : (gone : ℕ) (r : Role) (a : Actor) (answer : Answer) → IsSoundRole r → WakesFor r a → IsWakeWhere now e gone a answer → Steps now e gone r a (next_as r a now answer)
+  role_steps gone (Script script) a told_by.Wake s w g = script_steps gone script a (drop a.wakes script) refl (drop_ascends 0 a.wakes script s) w g
+  role_steps gone (Script script) a (told_by.Got gots) s w g = rw g (same_steps (Script script) a w)
+  role_steps gone (Script script) a told_by.Waiting s w g = rw g (same_steps (Script script) a w)
+  role_steps gone (Script script) a told_by.Other s w g = rw g (same_steps (Script script) a w)
+  role_steps gone (Producer p) a told_by.Wake s w g = producer_wake_steps gone p a g
+  role_steps gone (Producer p) a (told_by.Got gots) s w g = rw g (same_steps (Producer p) a w)
+  role_steps gone (Producer p) a told_by.Waiting s w g = rw g (same_steps (Producer p) a w)
+  role_steps gone (Producer p) a told_by.Other s w g = rw g (producer_sent_steps p a s)
+  role_steps gone (Consumer c) a told_by.Wake s w g = consumer_wake_steps gone c a a.held s.2 g
+  role_steps gone (Consumer c) a (told_by.Got gots) s w g = rw g (consumer_got_steps c a gots s)
+  role_steps gone (Consumer c) a told_by.Waiting s w g = rw g (same_steps (Consumer c) a w)
+  role_steps gone (Consumer c) a told_by.Other s w g = rw g (consumer_told_steps c a a.stage s)
+
+  acts_from : (gone : ℕ) (a : Actor) (x : Act × Actor) → IsSoundActor a → Steps now e gone a.settings.role a x → Acts now e gone a x
+  acts_from gone a x s h =
+      record {
+        number = h.number;
+        sound = record { role = rw h.settings s.role; wakes = subst (λ (t : ActorSettings). WakesFor t.role x.1) (sym h.settings) h.wakes };
+        wake = h.wake;
+        sends = h.sends;
+      }
+
+  pub next_acts : (gone : ℕ) (a : Actor) (answer : Answer) → IsSoundActor a → IsWakeWhere now e gone a answer → Acts now e gone a (next a now answer)
+  unfolding next
+  next_acts gone a answer s g = acts_from gone a (next_as a.settings.role a now answer) s (role_steps gone a.settings.role a answer s.role s.wakes g)

@@ -1,0 +1,145 @@
+-- What happens at a sound site leaves it sound, makes nothing due by the present, and sends only what arrives later.
+use Rattle.std.specs.Prelude.{All, List, None, Option, Some, [], nat_lt, ℕ, ◌+◌, ◌<◌, ◌∷◌, ◌≡◌, ◌≤◌}
+use Rattle.std.proofs.Common.{arith, sym}
+use Rattle.std.proofs.lemmas.Bool.{eqb-true}
+use Rattle.std.proofs.lemmas.List.Elements.{All-append, All-cons, All-nil}
+use Rattle.sim_clock.specs.declared.key.Key.{Key}
+use Rattle.sqs_message.specs.declared.row.Row.{Row}
+use Rattle.sqs_redrive.specs.declared.answers.Got.{Got}
+use Rattle.sqs_redrive.specs.declared.settings.Latency.{Latency}
+use Rattle.sqs_redrive.specs.declared.settings.Policy.{Policy}
+use Rattle.sqs_redrive.specs.declared.transfers.Load.{Load}
+use Rattle.sqs_redrive.specs.declared.transfers.Outbound.{Outbound}
+use Rattle.sqs_model.specs.Actor.{Actor}
+use Rattle.sqs_model.specs.Acts.{all_came_back, came_back, redrive_by}
+use Rattle.sqs_model.specs.Draw.{Draws, drawn_latency, drawn_uniform}
+use Rattle.sqs_model.specs.Progress.{IsSound, IsSoundActor, IsSoundPolicy, TakesTime}
+use Rattle.sqs_model.specs.Queue.{Queue}
+use Rattle.sqs_model.specs.Site.{Core, Effect, Poll, actor_numbered, and_then, is_actor, is_task, no_effect, says, task_numbered, with_actor, with_queue, with_task}
+use Rattle.sqs_model.specs.Task.{Task}
+use Rattle.sqs_model.proofs.Counts.{all_changed, ascends_changed, tick_if, total, total_changed}
+use Rattle.sqs_model.proofs.Early.{actor_early, early, poll_early, task_early}
+use Rattle.sqs_model.proofs.Branches.{either}
+use Rattle.sqs_model.proofs.QueueMoves.{Keeps}
+
+-- what is drawn between two bounds is the least at least
+pub uniform_least : (low high : ℕ) (d : Draws) → low ≤ (drawn_uniform low high d).0
+uniform_least low high d = omega arith
+
+pub latency_least : (t : Latency) (d : Draws) → t.least ≤ (drawn_latency t d).0
+latency_least t d =
+    either (λ (x : ℕ × Draws). t.least ≤ x.0) (nat_lt t.least t.greatest) (drawn_uniform t.least t.greatest d) (t.least, d) (uniform_least t.least t.greatest d) (omega arith)
+
+-- soundness of a site with another queue, and with more drawn and sent
+sound_with : (c : Core) (sent : ℕ) (draws : Draws) → IsSound c → IsSound (record c { sent = sent; draws = draws })
+sound_with c sent draws s = record { queue = s.queue; actors = s.actors; actors_ordered = s.actors_ordered; tasks = s.tasks; tasks_ordered = s.tasks_ordered }
+
+pub sound_drawn : (c : Core) (draws : Draws) → IsSound c → IsSound (record c { draws = draws })
+sound_drawn c draws s = sound_with c c.sent draws s
+
+-- a site that came of another is sound, and so many dues by a moment are gone
+pub record KeepsCore (e gone : ℕ) (c d : Core) : Type 0 where
+  pub sound : IsSound d
+  pub fewer : early e d + gone ≤ early e c
+
+-- and what was sent arrives later
+pub record KeepsEffect (key : Key) (e gone : ℕ) (c : Core) (f : Effect) : Type 0 where
+  pub sound : IsSound f.core
+  pub fewer : early e f.core + gone ≤ early e c
+  pub later : All (λ o. key.at < o.at) f.sent
+
+module _ (e : ℕ) where
+  same_core : (c : Core) → IsSound c → KeepsCore e 0 c c
+  same_core c s = record { sound = s; fewer = omega arith }
+
+  -- a site with another queue, actor, task or other polls
+  pub queue_keeps : (gone : ℕ) (c : Core) (q : Queue) → IsSound c → Keeps e gone c.queue q → KeepsCore e gone c (with_queue c q)
+  queue_keeps gone c q s k =
+      record {
+        sound = record { queue = k.sound; actors = s.actors; actors_ordered = s.actors_ordered; tasks = s.tasks; tasks_ordered = s.tasks_ordered };
+        fewer = omega arith;
+      }
+
+  pub actor_keeps :
+      (gone : ℕ) (c : Core) (a b : Actor) → IsSound c → actor_numbered a.number c ≡ Some b → IsSoundActor a
+      → tick_if e a.wake + gone ≤ tick_if e b.wake → KeepsCore e gone c (with_actor c a)
+  actor_keeps gone c a b s h k m =
+      record {
+        sound = record {
+          queue = s.queue;
+          actors = all_changed (is_actor a.number) IsSoundActor (λ _. a) (λ _ _. k) c.actors s.actors;
+          actors_ordered = ascends_changed (λ x. x.number) (is_actor a.number) (λ _. a) (λ x p. sym (eqb-true x.number a.number p)) 0 c.actors s.actors_ordered;
+          tasks = s.tasks;
+          tasks_ordered = s.tasks_ordered;
+        };
+        fewer = omega (arith, total_changed (is_actor a.number) (actor_early e) (λ _. a) c.actors b h);
+      }
+
+  pub task_keeps :
+      (gone : ℕ) (c : Core) (t u : Task) → IsSound c → task_numbered t.number c ≡ Some u → TakesTime t.move.settings.latency
+      → task_early e t + gone ≤ task_early e u → KeepsCore e gone c (with_task c t)
+  task_keeps gone c t u s h k m =
+      record {
+        sound = record {
+          queue = s.queue;
+          actors = s.actors;
+          actors_ordered = s.actors_ordered;
+          tasks = all_changed (is_task t.number) (λ x. TakesTime x.move.settings.latency) (λ _. t) (λ _ _. k) c.tasks s.tasks;
+          tasks_ordered = ascends_changed (λ x. x.number) (is_task t.number) (λ _. t) (λ x p. sym (eqb-true x.number t.number p)) 0 c.tasks s.tasks_ordered;
+        };
+        fewer = omega (arith, total_changed (is_task t.number) (task_early e) (λ _. t) c.tasks u h);
+      }
+
+  pub polls_keep : (gone : ℕ) (c : Core) (ps : List Poll) → IsSound c → total (poll_early e) ps + gone ≤ total (poll_early e) c.polls → KeepsCore e gone c (record c { polls = ps })
+  polls_keep gone c ps s m =
+      record {
+        sound = record { queue = s.queue; actors = s.actors; actors_ordered = s.actors_ordered; tasks = s.tasks; tasks_ordered = s.tasks_ordered };
+        fewer = omega arith;
+      }
+
+module _ (key : Key) (e : ℕ) where
+  pub with_rows : (gone : ℕ) (c d : Core) (rows : List Row) → KeepsCore e gone c d → KeepsEffect key e gone c (record { core = d; rows = rows; sent = [] })
+  with_rows gone c d rows k = record { sound = k.sound; fewer = k.fewer; later = All-nil (λ (o : Outbound). key.at < o.at) }
+
+  pub no_effect_keeps : (c : Core) → IsSound c → KeepsEffect key e 0 c (no_effect c)
+  no_effect_keeps c s = with_rows 0 c c [] (same_core e c s)
+
+  pub says_keeps : (c : Core) (r : Row) → IsSound c → KeepsEffect key e 0 c (says c r)
+  says_keeps c r s = with_rows 0 c c (r ∷ []) (same_core e c s)
+
+  pub and_then_keeps :
+      (gone : ℕ) (c : Core) (f : Effect) (g : Core → Effect) → KeepsEffect key e gone c f → ((d : Core) → IsSound d → KeepsEffect key e 0 d (g d))
+      → KeepsEffect key e gone c (and_then f g)
+  and_then_keeps gone c f g h k =
+      let next : KeepsEffect key e 0 f.core (g f.core) = k f.core h.sound in
+      record {
+        sound = next.sound;
+        fewer = omega arith;
+        later = All-append (λ o. key.at < o.at) f.sent (g f.core).sent h.later next.later;
+      }
+
+  -- an effect of a site that came of another
+  pub after_core : (gone : ℕ) (c d : Core) (f : Effect) → KeepsCore e gone c d → KeepsEffect key e 0 d f → KeepsEffect key e gone c f
+  after_core gone c d f h k = record { sound = k.sound; fewer = omega arith; later = k.later }
+
+module _ (key : Key) (e : ℕ) (l : e ≤ key.at) where
+  -- messages that come back, or leave for the dead-letter queue
+  redrive_keeps : (c : Core) (p : Option Policy) (n : ℕ) (x : Load) → IsSound c → IsSoundPolicy p → KeepsEffect key e 0 c (redrive_by p key c n x)
+  redrive_keeps c None n x s k = no_effect_keeps key e c s
+  redrive_keeps c (Some p) n x s k =
+      let t : p.latency.least ≤ (drawn_latency p.latency c.draws).0 = latency_least p.latency c.draws in
+      let one : 1 ≤ p.latency.least = k in
+      record {
+        sound = sound_with c (c.sent + 1) (drawn_latency p.latency c.draws).1 s;
+        fewer = omega arith;
+        later = All-cons (λ o. key.at < o.at) _ [] (omega arith) (All-nil (λ (o : Outbound). key.at < o.at));
+      }
+
+  pub came_back_keeps : (c : Core) (n : ℕ) (o : Option Load) → IsSound c → KeepsEffect key e 0 c (came_back key c n o)
+  came_back_keeps c n None s = says_keeps key e c _ s
+  came_back_keeps c n (Some x) s = redrive_keeps c c.queue.settings.policy n x s s.queue.settings.policy
+
+  pub all_came_back_keeps : (gs : List Got) (c : Core) → IsSound c → KeepsEffect key e 0 c (all_came_back key gs c)
+  all_came_back_keeps [] c s = no_effect_keeps key e c s
+  all_came_back_keeps (g ∷ gs) c s =
+      and_then_keeps key e 0 c (came_back key c g.id.number g.left) (all_came_back key gs) (came_back_keeps c g.id.number g.left s) (all_came_back_keeps gs)

@@ -1,0 +1,299 @@
+-- Nothing that happens to a sound queue makes anything due by the present, and the queue stays sound.
+use Rattle.std.specs.Prelude.{All, Bool, Err, List, None, Ok, Option, Result, Some, [], false, if◌then◌else◌, nat_le, nat_lt, not, min, take, true, ℕ, ◌&&◌, ◌||◌, ◌*◌, ◌+◌, ◌-◌, ◌<◌, ◌==◌, ◌∷◌, ◌≡◌, ◌≤◌}
+use Rattle.std.proofs.Common.{ap, arith, refl}
+use Rattle.std.proofs.lemmas.Bool.{eqb-false, eqb-true, leb-false}
+use Rattle.std.proofs.lemmas.List.Elements.{All-append, All-cons, All-nil, All-weaker}
+use Rattle.sim_clock.specs.declared.refusal.Refusal.{Refusal}
+use Rattle.sqs_message.specs.declared.ids.MessageId.{MessageId}
+use Rattle.sqs_message.specs.declared.ids.Receipt.{Receipt}
+use Rattle.sqs_message.specs.declared.message.Message.{Message}
+use Rattle.sqs_redrive.specs.declared.answers.Deleted.{Deleted}
+use Rattle.sqs_redrive.specs.declared.answers.Got.{Got}
+use Rattle.sqs_redrive.specs.declared.answers.Sent.{Sent}
+use Rattle.sqs_redrive.specs.declared.settings.Kind.{Kind}
+use Rattle.sqs_redrive.specs.declared.settings.Kind.TheVariants.{Fifo, Standard}
+use Rattle.sqs_redrive.specs.declared.settings.Scope.{Scope}
+use Rattle.sqs_redrive.specs.declared.transfers.Load.{Load}
+use Rattle.sqs_redrive.specs.declared.transfers.Load.TheVariants.{Forward, Move, Redrive}
+use Rattle.sqs_model.specs.Arrive.{arrived, forwarded, is_too_old, sent_of, settled_when}
+use Rattle.sqs_model.specs.Calls.{change, change_done, change_found, change_here, delete_as, delete_fifo_here, delete_gone, delete_standard_here, in_flight_until, new_message, removed, returned, send_fifo, send_standard, send_unless, send_with, with_entry, with_message}
+use Rattle.sqs_model.specs.Progress.{IsSoundQueue}
+use Rattle.sqs_model.specs.Queue.{Entry, Queue, has_number, in_flight, is_in_flight, numbered, room, taken_out, with_change}
+use Rattle.sqs_model.specs.Available.{available}
+use Rattle.sqs_model.specs.Receive.{answered, give, give_most, given_one, is_bad_timeout, received, receive, timeout_of}
+use Rattle.sim_clock.specs.declared.refusal.Refusal.TheVariants as refusals
+use Rattle.sqs_redrive.specs.declared.answers.Deleted.TheVariants.{Kept}
+use Rattle.sqs_model.specs.Return.{leaves, released, released_found, released_when, visible_again}
+use Rattle.sqs_model.specs.Task.{Taken, destination, take_each, taken_one}
+use Rattle.sqs_model.proofs.Branches.{either}
+use Rattle.sqs_model.proofs.Counts.{all_changed, all_without, ascends_changed, ascends_push, ascends_without, changed_none, changed_twice, find_changed, find_picked, less_changed, less_without, tick, tick_if, tick_past, total_changed, total_push, total_without, without_changed}
+use Rattle.sqs_model.proofs.Early.{message_early, queue_early}
+
+-- a queue that came of another is sound, and so many dues by a moment are gone
+pub record Keeps (e gone : ℕ) (q r : Queue) : Type 0 where
+  pub sound : IsSoundQueue r
+  pub fewer : queue_early e r + gone ≤ queue_early e q
+
+module _ (e : ℕ) where
+  pub stays : (q : Queue) → IsSoundQueue q → Keeps e 0 q q
+  stays q s = record { sound = s; fewer = omega arith }
+
+  keeps_on : (gone : ℕ) (q r u : Queue) → Keeps e gone q r → Keeps e 0 r u → Keeps e gone q u
+  keeps_on gone q r u h k = record { sound = k.sound; fewer = omega arith }
+
+  pub keeps_less : (gone less : ℕ) (q r : Queue) → less ≤ gone → Keeps e gone q r → Keeps e less q r
+  keeps_less gone less q r m h = record { sound = h.sound; fewer = omega arith }
+
+  sound_without : (q : Queue) (n : ℕ) → IsSoundQueue q → IsSoundQueue (taken_out q n)
+  sound_without q n s =
+      record {
+        settings = s.settings;
+        ordered = ascends_without (λ m. m.number) (has_number n) 0 q.records s.ordered;
+        given_out = all_without (has_number n) (λ m. m.number < q.arrivals) q.records s.given_out;
+      }
+
+  sound_changed : (q : Queue) (n : ℕ) (f : Message → Message) → ((m : Message) → (f m).number ≡ m.number) → IsSoundQueue q → IsSoundQueue (with_change q n f)
+  sound_changed q n f h s =
+      record {
+        settings = s.settings;
+        ordered = ascends_changed (λ m. m.number) (has_number n) f (λ m _. h m) 0 q.records s.ordered;
+        given_out = all_changed (has_number n) (λ m. m.number < q.arrivals) f (λ m k. rw (h m) k) q.records s.given_out;
+      }
+
+  taken_keeps : (q : Queue) (n : ℕ) → IsSoundQueue q → Keeps e 0 q (taken_out q n)
+  taken_keeps q n s =
+      record { sound = sound_without q n s; fewer = omega (arith, less_without (has_number n) (message_early e q.settings.retention) q.records) }
+
+  -- a message that leaves takes its dues with it
+  pub taken_found : (q : Queue) (n : ℕ) (m : Message) → IsSoundQueue q → numbered n q.records ≡ Some m → Keeps e (message_early e q.settings.retention m) q (taken_out q n)
+  taken_found q n m s h =
+      record { sound = sound_without q n s; fewer = omega (arith, total_without (has_number n) (message_early e q.settings.retention) q.records m h) }
+
+  changed_keeps :
+      (q : Queue) (n : ℕ) (f : Message → Message) → IsSoundQueue q → ((m : Message) → (f m).number ≡ m.number)
+      → ((m : Message) → message_early e q.settings.retention (f m) ≤ message_early e q.settings.retention m)
+      → Keeps e 0 q (with_change q n f)
+  changed_keeps q n f s h less =
+      record { sound = sound_changed q n f h s; fewer = omega (arith, less_changed (has_number n) (message_early e q.settings.retention) f less q.records) }
+
+  visible_found : (q : Queue) (n : ℕ) (m : Message) → IsSoundQueue q → numbered n q.records ≡ Some m → Keeps e (tick_if e m.release) q (with_change q n visible_again)
+  visible_found q n m s h =
+      record {
+        sound = sound_changed q n visible_again (λ m. refl) s;
+        fewer = omega (arith, total_changed (has_number n) (message_early e q.settings.retention) visible_again q.records m h);
+      }
+
+  -- a message that comes in with nothing due by the moment
+  pushed_keeps : (q : Queue) (m : Message) → IsSoundQueue q → m.number ≡ q.arrivals → message_early e q.settings.retention m ≡ 0 → Keeps e 0 q (with_message q m)
+  pushed_keeps q m s h k =
+      let before : All (λ x. x.number < m.number) q.records = rw h s.given_out in
+      let after : All (λ x. x.number < q.arrivals + 1) q.records = All-weaker (λ x. x.number < q.arrivals) (λ x. x.number < q.arrivals + 1) (λ x b. omega arith) q.records s.given_out in
+      let own : m.number < q.arrivals + 1 = omega arith in
+      record {
+        sound = record {
+          settings = s.settings;
+          ordered = ascends_push (λ m. m.number) 0 q.records m s.ordered (omega arith) before;
+          given_out = All-append (λ x. x.number < q.arrivals + 1) q.records (m ∷ []) after (All-cons (λ x. x.number < q.arrivals + 1) m [] own (All-nil (λ (x : Message). x.number < q.arrivals + 1)));
+        };
+        fewer = omega (arith, total_push (message_early e q.settings.retention) q.records m);
+      }
+
+  spent_keeps : (q : Queue) → IsSoundQueue q → Keeps e 0 q (record q { arrivals = q.arrivals + 1 })
+  spent_keeps q s =
+      record {
+        sound = record {
+          settings = s.settings;
+          ordered = s.ordered;
+          given_out = All-weaker (λ x. x.number < q.arrivals) (λ x. x.number < q.arrivals + 1) (λ x b. omega arith) q.records s.given_out;
+        };
+        fewer = omega arith;
+      }
+
+  entry_sound : (now : ℕ) (q : Queue) (scope : Option (List ℕ)) (id : List ℕ) → IsSoundQueue q → IsSoundQueue (with_entry q now scope id)
+  entry_sound now q scope id s = record { settings = s.settings; ordered = s.ordered; given_out = s.given_out }
+
+  -- a message comes back or leaves
+  pub released_one : (q : Queue) (n : ℕ) (m : Message) (b : Bool) → IsSoundQueue q → numbered n q.records ≡ Some m → Keeps e (tick_if e m.release) q (released_when b q n m).0
+  released_one q n m true s h = keeps_less (message_early e q.settings.retention m) (tick_if e m.release) q (taken_out q n) (omega arith) (taken_found q n m s h)
+  released_one q n m false s h = visible_found q n m s h
+
+  released_keeps_found : (q : Queue) (n : ℕ) (o : Option Message) → IsSoundQueue q → numbered n q.records ≡ o → Keeps e 0 q (released_found q n o).0
+  released_keeps_found q n None s h = stays q s
+  released_keeps_found q n (Some m) s h =
+      keeps_less (tick_if e m.release) 0 q (released_found q n (Some m)).0 (omega arith) (released_one q n m (leaves q.settings.policy m) s h)
+
+  released_keeps : (q : Queue) (n : ℕ) → IsSoundQueue q → Keeps e 0 q (released q n).0
+  released_keeps q n s = released_keeps_found q n _ s refl
+
+  -- steps of a task
+  pub take_keeps : (to : Option ℕ) (ms : List Message) (q : Queue) → IsSoundQueue q → Keeps e 0 q (take_each q to ms).queue
+  take_keeps to [] q s = stays q s
+  take_keeps to (m ∷ ms) q s =
+      elim (destination to m) as
+      (λ o. Keeps e 0 q (elim o as (λ _. Taken) [ None ↦ record { queue = q; loads = []; stuck = true } | Some d ↦ taken_one q m d (take_each (taken_out q m.number) to ms) ]).queue) [
+        | None ↦ stays q s
+        | Some d ↦
+            let one : Keeps e 0 q (taken_out q m.number) = taken_keeps q m.number s in
+            keeps_on 0 q (taken_out q m.number) (take_each (taken_out q m.number) to ms).queue one (take_keeps to ms (taken_out q m.number) one.sound)
+      ]
+
+module _ (now e : ℕ) (l : e ≤ now) where
+  -- a message is given: it comes back later, or at once
+  received_later : (retention timeout : ℕ) (m : Message) → 0 < timeout → message_early e retention (received now timeout m) ≤ message_early e retention m
+  received_later retention timeout m h = let t : tick e (now + timeout) ≡ 0 = tick_past e (now + timeout) (omega arith) in omega arith
+
+  back_when : (q : Queue) (m y : Message) (b : Bool) → IsSoundQueue q → Keeps e 0 q (released_when b (with_change q m.number (received now 0)) m.number y).0
+  back_when q m y true s =
+      rw (without_changed (has_number m.number) (received now 0) (λ x. refl) q.records) (taken_keeps e q m.number s)
+  back_when q m y false s =
+      rw (changed_twice (has_number m.number) (received now 0) visible_again (λ x. refl) q.records)
+      (changed_keeps e q m.number (λ x. visible_again (received now 0 x)) s (λ x. refl) (λ x. omega arith))
+
+  back_found :
+      (q : Queue) (m : Message) (o : Option Message) → IsSoundQueue q → numbered m.number q.records ≡ o
+      → Keeps e 0 q (released (with_change q m.number (received now 0)) m.number).0
+  back_found q m None s h = rw (changed_none (has_number m.number) (received now 0) q.records h) (released_keeps e q m.number s)
+  back_found q m (Some y) s h =
+      let t : (y.number == m.number) ≡ true = find_picked (has_number m.number) q.records y h in
+      rw (find_changed (has_number m.number) (received now 0) q.records y h t) (back_when q m (received now 0 y) (leaves q.settings.policy (received now 0 y)) s)
+
+  given_when : (q : Queue) (timeout : ℕ) (m : Message) (b : Bool) → IsSoundQueue q → (timeout == 0) ≡ b → Keeps e 0 q (if b then released (with_change q m.number (received now timeout)) m.number else (with_change q m.number (received now timeout), None)).0
+  given_when q timeout m true s h = let z : timeout ≡ 0 = eqb-true timeout 0 h in rw z (back_found q m _ s refl)
+  given_when q timeout m false s h =
+      let z : 0 < timeout = grind (arith, eqb-false timeout 0 h) in
+      changed_keeps e q m.number (received now timeout) s (λ x. refl) (λ x. received_later q.settings.retention timeout x z)
+
+  pub give_keeps : (timeout : ℕ) (ms : List Message) (q : Queue) → IsSoundQueue q → Keeps e 0 q (give now timeout ms q).0
+  give_keeps timeout [] q s = stays e q s
+  give_keeps timeout (m ∷ ms) q s =
+      let one : Keeps e 0 q (given_one q now timeout m).0 = given_when q timeout m _ s refl in
+      keeps_on e 0 q (given_one q now timeout m).0 (give now timeout ms (given_one q now timeout m).0).0 one (give_keeps timeout ms (given_one q now timeout m).0 one.sound)
+
+  pub receive_keeps : (q : Queue) (max : ℕ) (timeout : Option ℕ) (set : ℕ) (short : Bool) → IsSoundQueue q → Keeps e 0 q (receive q now max timeout set short).1
+  receive_keeps q max timeout set short s =
+      either (λ (r : Result (List Got) Refusal × Queue). Keeps e 0 q r.1) (is_bad_timeout timeout) (Err refusals.BadTimeout, q)
+      (if short && nat_le q.settings.in_flight_limit (in_flight q) then (Err refusals.OverLimit, q) else answered (give_most q now max timeout set))
+      (stays e q s)
+      (either (λ (r : Result (List Got) Refusal × Queue). Keeps e 0 q r.1) (short && nat_le q.settings.in_flight_limit (in_flight q)) (Err refusals.OverLimit, q)
+      (answered (give_most q now max timeout set)) (stays e q s)
+      (give_keeps (timeout_of q timeout) (take (min max (room q)) (available q set)) q s))
+
+  -- sends
+  delayed_when : (delay : ℕ) (b : Bool) → (delay == 0) ≡ b → tick_if e (if b then None else Some (now + delay)) ≡ 0
+  delayed_when delay true h = refl
+  delayed_when delay false h = let z : 0 < delay = grind (arith, eqb-false delay 0 h) in tick_past e (now + delay) (omega arith)
+
+  new_early : (q : Queue) (body : List ℕ) (group : Option (List ℕ)) (delay : ℕ) → IsSoundQueue q → message_early e q.settings.retention (new_message q now body group delay) ≡ 0
+  new_early q body group delay s =
+      let r : 1 ≤ q.settings.retention = s.settings.retention in
+      let t : tick e (now + q.settings.retention) ≡ 0 = tick_past e (now + q.settings.retention) (omega arith) in
+      omega (arith, delayed_when delay (delay == 0) refl)
+
+  pub send_standard_keeps : (q : Queue) (body : List ℕ) (delay : Option ℕ) → IsSoundQueue q → Keeps e 0 q (send_standard q now body delay).1
+  send_standard_keeps q body delay s =
+      either (λ (r : Result Sent Refusal × Queue). Keeps e 0 q r.1) _ _ _ (stays e q s) (pushed_keeps e q _ s refl (new_early q body None _ s))
+
+  send_unless_keeps :
+      (q : Queue) (body group : List ℕ) (scope : Option (List ℕ)) (id : List ℕ) (o : Option Entry) → IsSoundQueue q
+      → Keeps e 0 q (send_unless q now body group scope id o).1
+  send_unless_keeps q body group scope id (Some x) s = stays e q s
+  send_unless_keeps q body group scope id None s =
+      let k : Keeps e 0 (with_entry q now scope id) (with_message (with_entry q now scope id) (new_message q now body (Some group) q.settings.delay)) =
+      pushed_keeps e (with_entry q now scope id) (new_message q now body (Some group) q.settings.delay) (entry_sound e now q scope id s) refl (new_early q body (Some group) q.settings.delay s) in
+      record { sound = k.sound; fewer = k.fewer }
+
+  send_with_keeps : (q : Queue) (scope : Scope) (body : List ℕ) (group id : Option (List ℕ)) → IsSoundQueue q → Keeps e 0 q (send_with q scope now body group id).1
+  send_with_keeps q scope body None id s = stays e q s
+  send_with_keeps q scope body (Some group) None s = stays e q s
+  send_with_keeps q scope body (Some group) (Some id) s = send_unless_keeps q body group _ id _ s
+
+  pub send_fifo_keeps :
+      (q : Queue) (content : Bool) (scope : Scope) (body : List ℕ) (group id : Option (List ℕ)) (delay : Option ℕ) → IsSoundQueue q
+      → Keeps e 0 q (send_fifo q content scope now body group id delay).1
+  send_fifo_keeps q content scope body group id delay s =
+      either (λ (r : Result Sent Refusal × Queue). Keeps e 0 q r.1) _ _ _ (stays e q s) (send_with_keeps q scope body group _ s)
+
+  -- deletes
+  gone_keeps : (q : Queue) (r : Receipt) → IsSoundQueue q → Keeps e 0 q (delete_gone q r).1
+  gone_keeps q r s = either (λ (x : Result Deleted Refusal × Queue). Keeps e 0 q x.1) _ _ _ (stays e q s) (stays e q s)
+
+  standard_here_keeps : (q : Queue) (r : Receipt) (m : Message) → IsSoundQueue q → Keeps e 0 q (delete_standard_here q now r m).1
+  standard_here_keeps q r m s =
+      either (λ (x : Result Deleted Refusal × Queue). Keeps e 0 q x.1) (nat_lt m.receives r.count) (Err refusals.ReceiptHandleIsInvalid, q)
+      (if nat_lt r.count m.receives then (Ok Kept, q) else removed q now r m) (stays e q s)
+      (either (λ (x : Result Deleted Refusal × Queue). Keeps e 0 q x.1) (nat_lt r.count m.receives) (Ok Kept, q) (removed q now r m) (stays e q s) (taken_keeps e q r.number s))
+
+  fifo_here_keeps : (q : Queue) (r : Receipt) (m : Message) → IsSoundQueue q → Keeps e 0 q (delete_fifo_here q now r m).1
+  fifo_here_keeps q r m s = either (λ (x : Result Deleted Refusal × Queue). Keeps e 0 q x.1) _ _ _ (taken_keeps e q r.number s) (stays e q s)
+
+  pub delete_keeps : (q : Queue) (k : Kind) (r : Receipt) → IsSoundQueue q → Keeps e 0 q (delete_as k q now r).1
+  delete_keeps q (Standard hosts sampled) r s =
+      either (λ (x : Result Deleted Refusal × Queue). Keeps e 0 q x.1) _ _ _
+      (elim (numbered r.number q.records) as
+      (λ o. Keeps e 0 q (elim o as (λ _. Result Deleted Refusal × Queue) [ None ↦ delete_gone q r | Some m ↦ delete_standard_here q now r m ]).1) [
+        | None ↦ gone_keeps q r s
+        | Some m ↦ standard_here_keeps q r m s
+      ])
+      (stays e q s)
+  delete_keeps q (Fifo content scope) r s =
+      either (λ (x : Result Deleted Refusal × Queue). Keeps e 0 q x.1) _ _ _
+      (elim (numbered r.number q.records) as
+      (λ o. Keeps e 0 q (elim o as (λ _. Result Deleted Refusal × Queue) [ None ↦ delete_gone q r | Some m ↦ delete_fifo_here q now r m ]).1) [
+        | None ↦ gone_keeps q r s
+        | Some m ↦ fifo_here_keeps q r m s
+      ])
+      (stays e q s)
+
+  -- changes
+  change_done_when :
+      (q : Queue) (n timeout : ℕ) (b : Bool) → IsSoundQueue q → (timeout == 0) ≡ b
+      → let x : Result (Option Load) Refusal × Queue = if b then returned (released q n) else (Ok None, with_change q n (in_flight_until (now + 1000 * timeout))) in Keeps e 0 q x.1
+  change_done_when q n timeout true s h = released_keeps e q n s
+  change_done_when q n timeout false s h =
+      let z : 0 < timeout = grind (arith, eqb-false timeout 0 h) in
+      let t : tick e (now + 1000 * timeout) ≡ 0 = tick_past e (now + 1000 * timeout) (omega arith) in
+      changed_keeps e q n (in_flight_until (now + 1000 * timeout)) s (λ x. refl) (λ x. omega arith)
+
+  change_here_keeps : (q : Queue) (r : Receipt) (timeout : ℕ) (m : Message) → IsSoundQueue q → Keeps e 0 q (change_here q now r timeout m).1
+  change_here_keeps q r timeout m s =
+      let done : Result (Option Load) Refusal × Queue = change_done q now r.number timeout in
+      let short : Result (Option Load) Refusal × Queue = if nat_lt (m.received + 43200000) (now + 1000 * timeout) then (Err refusals.BadTimeout, q) else done in
+      either (λ (x : Result (Option Load) Refusal × Queue). Keeps e 0 q x.1) (nat_lt m.receives r.count) (Err refusals.ReceiptHandleIsInvalid, q)
+      (if not (is_in_flight m) || nat_lt r.count m.receives then (Err refusals.MessageNotInflight, q) else short) (stays e q s)
+      (either (λ (x : Result (Option Load) Refusal × Queue). Keeps e 0 q x.1) (not (is_in_flight m) || nat_lt r.count m.receives) (Err refusals.MessageNotInflight, q) short (stays e q s)
+      (either (λ (x : Result (Option Load) Refusal × Queue). Keeps e 0 q x.1) (nat_lt (m.received + 43200000) (now + 1000 * timeout)) (Err refusals.BadTimeout, q) done (stays e q s)
+      (change_done_when q r.number timeout (timeout == 0) s refl)))
+
+  change_found_keeps : (q : Queue) (r : Receipt) (timeout : ℕ) (o : Option Message) → IsSoundQueue q → Keeps e 0 q (change_found q now r timeout o).1
+  change_found_keeps q r timeout None s = either (λ (x : Result (Option Load) Refusal × Queue). Keeps e 0 q x.1) _ _ _ (stays e q s) (stays e q s)
+  change_found_keeps q r timeout (Some m) s = change_here_keeps q r timeout m s
+
+  pub change_keeps : (q : Queue) (r : Receipt) (timeout : ℕ) → IsSoundQueue q → Keeps e 0 q (change q now r timeout).1
+  change_keeps q r timeout s =
+      let found : Result (Option Load) Refusal × Queue = change_found q now r timeout (numbered r.number q.records) in
+      either (λ (x : Result (Option Load) Refusal × Queue). Keeps e 0 q x.1) (nat_lt 43200 timeout) (Err refusals.BadTimeout, q)
+      (if r.site == q.site then found else (Err refusals.ReceiptHandleIsInvalid, q)) (stays e q s)
+      (either (λ (x : Result (Option Load) Refusal × Queue). Keeps e 0 q x.1) (r.site == q.site) found (Err refusals.ReceiptHandleIsInvalid, q)
+      (change_found_keeps q r timeout (numbered r.number q.records) s) (stays e q s))
+
+  -- arrivals
+  settled_keeps : (q : Queue) (m : Message) (b : Bool) → IsSoundQueue q → m.number ≡ q.arrivals → m.release ≡ None → is_too_old q now m ≡ b → Keeps e 0 q (settled_when b q m).1
+  settled_keeps q m true s h k o = spent_keeps e q s
+  settled_keeps q m false s h k o =
+      let young : now - m.enqueued < q.settings.retention = leb-false q.settings.retention (now - m.enqueued) o in
+      let t : tick e (m.enqueued + q.settings.retention) ≡ 0 = tick_past e (m.enqueued + q.settings.retention) (omega arith) in
+      let u : tick_if e m.release ≡ 0 = ap (tick_if e) k in
+      pushed_keeps e q m s h (omega arith)
+
+  sent_of_keeps : (q before : Queue) (x : Result Sent Refusal × Queue) → Keeps e 0 q x.1 → Keeps e 0 q (sent_of before x).1
+  sent_of_keeps q before (Ok a, r) h = h
+  sent_of_keeps q before (Err a, r) h = h
+
+  forwarded_keeps : (q : Queue) (k : Kind) (id : MessageId) (body : List ℕ) (group : Option (List ℕ)) → IsSoundQueue q → Keeps e 0 q (forwarded k q now id body group).1
+  forwarded_keeps q (Standard hosts sampled) id body group s = sent_of_keeps q q (send_standard q now body None) (send_standard_keeps q body None s)
+  forwarded_keeps q (Fifo content scope) id body group s = sent_of_keeps q q _ (send_unless_keeps q body _ _ _ _ s)
+
+  pub arrived_keeps : (q : Queue) (x : Load) → IsSoundQueue q → Keeps e 0 q (arrived q now x).1
+  arrived_keeps q (Redrive id origin body group enqueued) s = settled_keeps q _ _ s refl refl refl
+  arrived_keeps q (Move id origin body group) s = settled_keeps q _ _ s refl refl refl
+  arrived_keeps q (Forward id body group) s = forwarded_keeps q q.settings.kind id body group s
