@@ -34,7 +34,8 @@ use Rattle.sqs_message.specs.declared.row.Row.{Row}
 use Rattle.sqs_model.specs.Queue.{Queue, id_of}
 use Rattle.sqs_model.specs.Receive.{receive, timeout_of}
 use Rattle.sqs_model.specs.Site.{Core, Effect, Poll, actor_numbered, and_then, is_task, says, task_numbered, with_actor, with_queue, with_task}
-use Rattle.sqs_model.specs.Task.{MoveTask, Task, is_running, task_started}
+use Rattle.sqs_redrive.specs.MoveTasks.{MoveTask, is_running, task_started}
+use Rattle.sqs_model.specs.Task.{Task}
 use Rattle.sqs_model.proofs.ActorMoves.{IsLater, SendsLater}
 use Rattle.sqs_model.proofs.Counts.{find_all, find_picked, tick, tick_past, total, total_push}
 use Rattle.sqs_model.proofs.Early.{poll_early}

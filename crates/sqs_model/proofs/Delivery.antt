@@ -14,13 +14,10 @@ use Rattle.sqs_model.specs.Site.{Site, accepted, has_key, number_of}
 use Rattle.sqs_model.specs.Dues.{dues, core_dues, least_due}
 use Rattle.sqs_model.specs.Step.{Handled, handled, handled_when}
 use Rattle.sqs_model.specs.Run.{delivered, delivered_one}
+use Rattle.sqs_model.specs.Delivery.{IsSorted, with_accepted}
 
 by_key_total : IsTotalOrder (on transfer_key key_cmp)
 by_key_total = on_total transfer_key key_cmp_total
-
--- whether the transfers on their way to a site stand in the order of their keys
-abbrev pub IsSorted : Site → Type 0
-IsSorted s = IsInOrder (on transfer_key key_cmp) s.arriving
 
 pub accepted_sorted : (o : Outbound) (s : Site) → IsSorted s → IsSorted (accepted o s)
 accepted_sorted o s w = ordered_inserted by_key_total o s.arriving w
@@ -49,9 +46,6 @@ pub delivered_swap : (o p : Outbound) (os : List Outbound) (sites : List Site) �
 delivered_swap o p os sites n = ap (delivered os) (sites_swap p o sites n)
 
 -- a handling and the delivery of a transfer that isn't handled by it, in either order
-abbrev pub with_accepted : Outbound → Handled → Handled
-with_accepted o h = record h { site = accepted o h.site }
-
 handled_accepted_when :
     (key : Key) (o : Outbound) (s : Site) (b : Bool) → has_key key o ≡ false → IsSorted s
     → handled_when b key (accepted o s) ≡ with_accepted o (handled_when b key s)

@@ -9,7 +9,8 @@ use Rattle.sqs_model.specs.Dues.{actor_dues, core_dues, message_dues, poll_key, 
 use Rattle.sqs_model.specs.Progress.{count_due}
 use Rattle.sqs_model.specs.Queue.{Queue}
 use Rattle.sqs_model.specs.Site.{Core, Poll, number_of}
-use Rattle.sqs_model.specs.Task.{Task, is_running}
+use Rattle.sqs_redrive.specs.MoveTasks.{is_running}
+use Rattle.sqs_model.specs.Task.{Task}
 use Rattle.sqs_model.proofs.Counts.{count_is, tick, tick_if, total, total_append, total_flat, total_map, total_same}
 
 module _ (e : ℕ) where

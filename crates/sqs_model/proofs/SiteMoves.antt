@@ -13,7 +13,8 @@ use Rattle.sqs_model.specs.Dues.{actor_dues, core_dues, dues, expiry_key, messag
 use Rattle.sqs_model.specs.Progress.{HandlingMovesOn, IsSound, count_due}
 use Rattle.sqs_model.specs.Site.{Effect, Poll, Site, has_key, number_of, task_numbered}
 use Rattle.sqs_model.specs.Step.{Handled, handle_arrival, handle_class, handle_expiry, handle_poll_end, handle_release, handle_sample, handle_step, handle_wake, handled, left_with, with_polls}
-use Rattle.sqs_model.specs.Task.{Task, is_running}
+use Rattle.sqs_redrive.specs.MoveTasks.{is_running}
+use Rattle.sqs_model.specs.Task.{Task}
 use Rattle.sqs_model.proofs.Counts.{count_is, find_picked, tick, tick_now, total, total_append, total_map, total_without}
 use Rattle.sqs_model.proofs.Members.{From, In, in_append, in_contains, in_flat, in_found, in_map}
 use Rattle.sqs_model.proofs.Early.{by, early, early_is}

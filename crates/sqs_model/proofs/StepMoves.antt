@@ -29,7 +29,8 @@ use Rattle.sqs_model.specs.Queue.{Queue, numbered, taken_out}
 use Rattle.sqs_model.specs.Return.{leaves, released_found, released_when}
 use Rattle.sqs_model.specs.Site.{Core, Effect, Poll, actor_numbered, task_numbered, with_queue, with_task}
 use Rattle.sqs_model.specs.Step.{Moved, ends_at, expiry_done, handle_arrival, handle_expiry, handle_poll_end, handle_release, handle_sample, handle_step, handle_taken, handle_wake, move_out, moves, one_sent, release_done, with_polls}
-use Rattle.sqs_model.specs.Task.{MoveTask, Task, is_running, take_movable, task_status, task_stepped}
+use Rattle.sqs_redrive.specs.MoveTasks.{MoveTask, is_running, task_status, task_stepped}
+use Rattle.sqs_model.specs.Task.{Task, take_movable}
 use Rattle.sqs_model.proofs.ActMoves.{task_time}
 use Rattle.sqs_model.proofs.Counts.{find_picked, tick, tick_if, tick_past, total, total_without}
 use Rattle.sqs_model.proofs.Members.{From, In, found_by_number, in_found}

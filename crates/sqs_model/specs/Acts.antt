@@ -31,7 +31,8 @@ use Rattle.sqs_model.specs.Draw.{Draws, drawn_latency, drawn_uniform}
 use Rattle.sqs_model.specs.Queue.{Queue, id_of}
 use Rattle.sqs_model.specs.Receive.{receive, timeout_of}
 use Rattle.sqs_model.specs.Site.{Core, Effect, and_then, no_effect, number_of, says, task_numbered, with_actor, with_queue, with_task}
-use Rattle.sqs_model.specs.Task.{MoveTask, Task, is_running, task_cancelled, task_started}
+use Rattle.sqs_model.specs.Task.{Task}
+use Rattle.sqs_redrive.specs.MoveTasks.{MoveTask, is_running, task_cancelled, task_started}
 use Rattle.sqs_model.specs.declared.acts.Act.TheVariants as acts
 use Rattle.sqs_message.specs.declared.row.RowAnswer.TheVariants as answers
 use Rattle.sqs_message.specs.declared.row.Detail.TheVariants as details

@@ -7,7 +7,8 @@ use Rattle.sim_clock.specs.Order.{least, lesser}
 use Rattle.sqs_model.specs.Actor.{Actor}
 use Rattle.sqs_model.specs.Queue.{Queue}
 use Rattle.sqs_model.specs.Site.{Core, Poll, Site, number_of}
-use Rattle.sqs_model.specs.Task.{Task, is_running}
+use Rattle.sqs_model.specs.Task.{Task}
+use Rattle.sqs_redrive.specs.MoveTasks.{is_running}
 use Rattle.sqs_redrive.specs.Transfers.{transfer_key}
 
 -- the end of a message's delay or visibility timeout

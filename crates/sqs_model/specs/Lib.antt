@@ -16,6 +16,7 @@ pub mod Step
 pub mod Scenario
 pub mod Run
 pub mod Finals
+pub mod Delivery
 pub mod Accounts
 pub mod Answers
 pub mod Progress

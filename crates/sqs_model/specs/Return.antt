@@ -1,16 +1,17 @@
 -- What becomes of a message at the end of its delay or visibility timeout.
-use Rattle.std.specs.Prelude.{Bool, None, Option, Some, false, nat_le, true, ℕ}
+use Rattle.std.specs.Prelude.{Bool, None, Option, Some, false, true, ℕ}
 use Rattle.sqs_message.specs.declared.message.Message.{Message}
 use Rattle.sqs_redrive.specs.declared.settings.Policy.{Policy}
 use Rattle.sqs_redrive.specs.declared.transfers.Load.{Load}
 use Rattle.sqs_model.specs.Queue.{Queue, id_of, numbered, taken_out, with_change}
+use Rattle.sqs_redrive.specs.MoveTasks.{is_worn}
 use Rattle.sqs_redrive.specs.declared.transfers.Load.TheVariants as loads
 use Rattle.sqs_message.specs.declared.message.Place.TheVariants as places
 
 -- whether it has been received as often as the policy allows
 abbrev pub leaves : Option Policy → Message → Bool
 leaves None m = false
-leaves (Some p) m = nat_le p.max_receives m.receives
+leaves (Some p) m = is_worn p m
 
 -- a message that may be received again
 abbrev pub visible_again : Message → Message

@@ -10,12 +10,13 @@ use Rattle.sqs_redrive.specs.declared.settings.Latency.{Latency}
 use Rattle.sqs_redrive.specs.declared.settings.Policy.{Policy}
 use Rattle.sqs_redrive.specs.declared.settings.QueueSettings.{QueueSettings}
 use Rattle.sqs_redrive.specs.declared.settings.TaskSettings.{TaskSettings}
-use Rattle.sqs_redrive.specs.declared.settings.TaskStatus.TheVariants.{Idle}
+use Rattle.sim_clock.specs.Order.{least}
 use Rattle.sqs_model.specs.Actor.{Actor, Asked, first_at}
 use Rattle.sqs_model.specs.Draw.{Draws}
 use Rattle.sqs_model.specs.Queue.{Queue}
 use Rattle.sqs_model.specs.Site.{Core, Site}
-use Rattle.sqs_model.specs.Task.{MoveTask, Task}
+use Rattle.sqs_model.specs.Task.{Task}
+use Rattle.sqs_redrive.specs.MoveTasks.{opening_move}
 
 -- a scenario: agents are numbered queues first, then actors, then tasks, and the names are theirs
 pub record Scenario : Type 0 where
@@ -56,11 +57,7 @@ opening_actor s (n, settings) =
       draws = opening_draws s n;
     }
 
--- a task that was never started
-abbrev pub opening_move : TaskSettings → MoveTask
-opening_move settings = record { settings = settings; status = Idle; moved = 0; step_at = 0; steps = 0 }
-
--- the same as an agent
+-- a task that was never started, as an agent
 abbrev pub opening_task : Scenario → ℕ × TaskSettings → Task
 opening_task s (n, settings) = record { number = n; move = opening_move settings; sent = 0; draws = opening_draws s n }
 

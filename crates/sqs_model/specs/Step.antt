@@ -23,7 +23,8 @@ use Rattle.sqs_model.specs.Polls.{answer_polls, told}
 use Rattle.sqs_model.specs.Queue.{Queue, id_of, in_flight, is_delayed, is_visible}
 use Rattle.sqs_model.specs.Return.{released}
 use Rattle.sqs_model.specs.Site.{Core, Effect, Poll, Site, and_then, has_key, no_effect, number_of, says, task_numbered, with_queue, with_task}
-use Rattle.sqs_model.specs.Task.{Task, take_movable, task_stepped}
+use Rattle.sqs_model.specs.Task.{Task, take_movable}
+use Rattle.sqs_redrive.specs.MoveTasks.{task_stepped}
 use Rattle.sqs_message.specs.declared.row.RowAnswer.TheVariants as answers
 use Rattle.sim_clock.specs.declared.key.Class.TheVariants as classes
 use Rattle.sqs_message.specs.declared.row.Detail.TheVariants as details

@@ -16,4 +16,7 @@ pub use finals::{
     FinalMessage, FinalMessages, FinalTask, FinalTasks, FinalTransfer, FinalTransfers, Finals,
     TransferKind,
 };
-pub use laws::{handling_moves_on, opening_is_sound, run_ends};
+pub use laws::{
+    delivery_in_any_order, handling_apart_from_delivery, handling_moves_on, opening_is_sound,
+    run_ends, sorted_sites_stay_sorted,
+};

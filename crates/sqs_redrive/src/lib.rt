@@ -2,11 +2,13 @@
 #![tactic(auto)]
 
 mod answers;
+mod redrive;
 mod settings;
 #[cfg(test)]
 mod tests;
 mod transfers;
 
 pub use answers::{Batch, Deleted, Got, Rest, Returned, Sent};
+pub use redrive::{MoveTask, on_return};
 pub use settings::{Edge, Kind, Latency, Policy, QueueSettings, Scope, TaskSettings, TaskStatus};
 pub use transfers::{Load, Outbound, Transfer};

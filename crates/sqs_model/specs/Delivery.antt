@@ -1,0 +1,40 @@
+-- Delivery of transfers: in which order they are delivered, and whether before or after a handling, makes no difference.
+use Rattle.std.specs.Ordering.{on}
+use Rattle.std.specs.Prelude.{List, false, ◌∷◌, ◌≡◌}
+use Rattle.sim_clock.specs.declared.key.Key.{Key}
+use Rattle.sqs_redrive.specs.declared.transfers.Outbound.{Outbound}
+use Rattle.sim_clock.specs.Order.{IsInOrder, key_cmp, same_key}
+use Rattle.sqs_model.specs.Run.{delivered}
+use Rattle.sqs_model.specs.Site.{Site, accepted, has_key}
+use Rattle.sqs_model.specs.Step.{Handled, handled}
+use Rattle.sqs_redrive.specs.Transfers.{transfer_key}
+
+-- whether the transfers on their way to a site stand in the order of their keys
+abbrev pub IsSorted : Site → Type 0
+IsSorted s = IsInOrder (on transfer_key key_cmp) s.arriving
+
+-- a handling at a site that has one more transfer on its way to it afterwards
+abbrev pub with_accepted : Outbound → Handled → Handled
+with_accepted o h = record h { site = accepted o h.site }
+
+-- two transfers of different keys are delivered in either order
+abbrev pub DeliveryInAnyOrder : Type 0
+DeliveryInAnyOrder =
+    (o p : Outbound) (os : List Outbound) (sites : List Site)
+    → same_key (transfer_key p) (transfer_key o) ≡ false
+    → delivered (o ∷ (p ∷ os)) sites ≡ delivered (p ∷ (o ∷ os)) sites
+
+-- a site stays sorted when a transfer is accepted, and when a due is handled
+pub record StaysSorted (s : Site) : Type 0 where
+  pub accepting : (o : Outbound) → IsSorted (accepted o s)
+  pub handling : (key : Key) → IsSorted (handled key s).site
+
+-- a transfer may be delivered before the handling of another key or after it: site, rows and what is sent are the same
+abbrev pub HandlingApartFromDelivery : Type 0
+HandlingApartFromDelivery =
+    (key : Key) (o : Outbound) (s : Site) → has_key key o ≡ false → IsSorted s
+    → handled key (accepted o s) ≡ with_accepted o (handled key s)
+
+-- sorted sites stay sorted
+abbrev pub SortedSitesStaySorted : Type 0
+SortedSitesStaySorted = (s : Site) → IsSorted s → StaysSorted s
