@@ -1,0 +1,117 @@
+-- Writes in turn.
+use Rattle.std.proofs.Common.{◌≡◌, ℕ, ◌+◌, ◌<◌, ◌≤◌, List, ◌∷◌, ◌++◌, Option, Bool, Result, Ok, Err, length, take, drop, get_or, map, arith, refl, sym, ap, ◌∙◌, subst, append-nil, take-append-drop}
+use Rattle.std.proofs.lemmas.Grind.{common_steps, flat_map-append}
+use Rattle.std.proofs.lemmas.List.{map-append, take_more}
+use Rattle.std.proofs.Math.Seq.{take-append-add}
+use Rattle.std.specs.Result.{IsErrAnd}
+use Rattle.std.specs.Io.KnownBytes.{Appends}
+use Rattle.csv.proofs.WriteFacts.{appends-none, appends-more}
+use Rattle.sim_clock.specs.declared.refusal.Refusal.{Refusal}
+use Rattle.sim_clock.specs.declared.refusal.Refusal.TheVariants as refusal
+use Rattle.sqs_message.specs.declared.row.Row.{Row}
+use Rattle.sqs_formats.specs.Rows.{line, lines, log_header, log_text, row_fields}
+use Rattle.sim_records.specs.Writes.{AppendsFront, Wrote, WroteSeveral}
+
+-- nothing is a front of anything
+pub front_none : (a : Option (List ℕ)) (xs : List ℕ) → AppendsFront a a xs
+front_none a xs = (0, omega arith, appends-none a)
+
+-- a front of the first of two
+pub front_of_first : (a b : Option (List ℕ)) (xs ys : List ℕ) → AppendsFront a b xs → AppendsFront a b (xs ++ ys)
+front_of_first a b xs ys p =
+    let within : p.0 ≤ length xs = p.1 in
+    let same : take p.0 (xs ++ ys) ≡ take p.0 xs = grind (arith, common_steps) in
+    (p.0, grind (arith, common_steps), rw same p.2)
+
+-- the first of two, and a front of the second
+pub front_of_second : (a b c : Option (List ℕ)) (xs ys : List ℕ) → Appends a b xs → AppendsFront b c ys → AppendsFront a c (xs ++ ys)
+front_of_second a b c xs ys p q =
+    let within : q.0 ≤ length ys = q.1 in
+    (length xs + q.0, grind (arith, common_steps), rw (take-append-add xs ys q.0) (appends-more a b c xs (take q.0 ys) p q.2))
+
+-- one record is several
+pub several-one : (a b : Option (List ℕ)) (f : Bool) (xs : List ℕ) (r : Result (Unit {0}) Refusal) → Wrote a b f xs r → WroteSeveral a b f xs r
+several-one a b f xs (Ok u) p = p
+several-one a b f xs (Err refusal.Memory) p = (rw p.0 (front_none a xs), p.1)
+several-one a b f xs (Err refusal.Write) p = p
+several-one a b f xs (Err r) p = absurd p
+
+-- some bytes, and then several records
+pub several_after : (a b c : Option (List ℕ)) (f : Bool) (xs ys : List ℕ) (r : Result (Unit {0}) Refusal)
+    → Appends a b xs → WroteSeveral b c f ys r → WroteSeveral a c f (xs ++ ys) r
+several_after a b c f xs ys (Ok u) p q = (appends-more a b c xs ys p q.0, q.1)
+several_after a b c f xs ys (Err refusal.Memory) p q = (front_of_second a b c xs ys p q.0, q.1)
+several_after a b c f xs ys (Err refusal.Write) p q = (front_of_second a b c xs ys p q.0, q.1)
+several_after a b c f xs ys (Err r) p q = absurd q
+
+-- what stopped before the end stopped before the end of more
+pub several_stopped : (a b : Option (List ℕ)) (f : Bool) (xs ys : List ℕ) (e : Refusal) → WroteSeveral a b f xs (Err e) → WroteSeveral a b f (xs ++ ys) (Err e)
+several_stopped a b f xs ys refusal.Memory p = (front_of_first a b xs ys p.0, p.1)
+several_stopped a b f xs ys refusal.Write p = (front_of_first a b xs ys p.0, p.1)
+several_stopped a b f xs ys e p = absurd p
+
+-- the lines of one more
+lines-take : {X : Type 0} (f : X → List (List ℕ)) (xs : List X) (i : ℕ) (d : X) → i < length xs
+    → lines (map f (take (i + 1) xs)) ≡ lines (map f (take i xs)) ++ line (f (get_or xs i d))
+lines-take f xs i d h = rw (take_more xs i d h, map-append, flat_map-append line, append-nil) refl
+
+-- the lines of those before, and the others
+lines-split : {X : Type 0} (f : X → List (List ℕ)) (xs : List X) (i : ℕ) → lines (map f xs) ≡ lines (map f (take i xs)) ++ lines (map f (drop i xs))
+lines-split f xs i =
+    let parts : take i xs ++ drop i xs ≡ xs = take-append-drop i xs in
+    rw (← flat_map-append line (map f (take i xs)) (map f (drop i xs)), ← map-append f (take i xs) (drop i xs), parts) refl
+
+-- one more of several records is written
+pub records_more : {X : Type 0} (f : X → List (List ℕ)) (xs : List X) (i : ℕ) (d x : X) (a b c : Option (List ℕ)) (fl : Bool) (u : Unit {0})
+    → i < length xs → x ≡ get_or xs i d → Appends a b (lines (map f (take i xs))) → Wrote b c fl (line (f x)) (Ok u) → Appends a c (lines (map f (take (i + 1) xs)))
+records_more {X} f xs i d x a b c fl u h is p q =
+    let before = lines (map f (take i xs)) in
+    let through : lines (map f (take (i + 1) xs)) ≡ before ++ line (f x) = lines-take f xs i d h ∙ ap (λ (y : X). before ++ line (f y)) (sym is) in
+    subst (λ (t : List ℕ). Appends a c t) (sym through) (appends-more a b c before (line (f x)) p q.0)
+
+-- one of several records is not written, so the others are not either
+pub records_stopped : {X : Type 0} (f : X → List (List ℕ)) (xs : List X) (i : ℕ) (d x : X) (a b c : Option (List ℕ)) (fl : Bool) (e : Refusal)
+    → i < length xs → x ≡ get_or xs i d → Appends a b (lines (map f (take i xs))) → Wrote b c fl (line (f x)) (Err e) → WroteSeveral a c fl (lines (map f xs)) (Err e)
+records_stopped {X} f xs i d x a b c fl e h is p q =
+    let before = lines (map f (take i xs)) in
+    let this = line (f x) in
+    let others = lines (map f (drop (i + 1) xs)) in
+    let stopped = several_after a b c fl before this (Err e) p (several-one b c fl this (Err e) q) in
+    let through : lines (map f (take (i + 1) xs)) ≡ before ++ this = lines-take f xs i d h ∙ ap (λ (y : X). before ++ line (f y)) (sym is) in
+    let whole : lines (map f xs) ≡ (before ++ this) ++ others = lines-split f xs (i + 1) ∙ ap (λ (t : List ℕ). t ++ others) through in
+    subst (λ (t : List ℕ). WroteSeveral a c fl t (Err e)) (sym whole) (several_stopped a c fl (before ++ this) others e stopped)
+
+-- the error that a `?` hands on is the one that it met
+pub several_handed_on : (a b : Option (List ℕ)) (f : Bool) (xs : List ℕ) (e : Refusal) (r : Result (Unit {0}) Refusal)
+    → IsErrAnd r (λ met. met ≡ e) → WroteSeveral a b f xs (Err e) → WroteSeveral a b f xs r
+several_handed_on a b f xs e (Ok u) p q = absurd p
+several_handed_on a b f xs e (Err met) p q = rw p q
+
+-- a header is not written, so neither is what follows
+pub header_stopped : (a b : Option (List ℕ)) (f : Bool) (header : List (List ℕ)) (rows : List (List (List ℕ))) (e : Refusal) (r : Result (Unit {0}) Refusal)
+    → IsErrAnd r (λ met. met ≡ e) → Wrote a b f (line header) (Err e) → WroteSeveral a b f (lines (header ∷ rows)) r
+header_stopped a b f header rows e r p q =
+    let stopped = several_stopped a b f (line header) (lines rows) e (several-one a b f (line header) (Err e) q) in
+    several_handed_on a b f (lines (header ∷ rows)) e r p stopped
+
+-- a header, and then what follows
+pub header_and_more : (a b c : Option (List ℕ)) (f g : Bool) (header : List (List ℕ)) (rows : List (List (List ℕ))) (u : Unit {0}) (r : Result (Unit {0}) Refusal)
+    → Wrote a b f (line header) (Ok u) → WroteSeveral b c g (lines rows) r → WroteSeveral a c g (lines (header ∷ rows)) r
+header_and_more a b c f g header rows u r p q = several_after a b c g (line header) (lines rows) r p.0 q
+
+-- the first of two parts is not written, so neither is the second
+pub part_stopped : (a b : Option (List ℕ)) (f : Bool) (first second : List (List (List ℕ))) (e : Refusal) (r : Result (Unit {0}) Refusal)
+    → IsErrAnd r (λ met. met ≡ e) → WroteSeveral a b f (lines first) (Err e) → WroteSeveral a b f (lines (first ++ second)) r
+part_stopped a b f first second e r p q =
+    let stopped = several_stopped a b f (lines first) (lines second) e q in
+    subst (λ (t : List ℕ). WroteSeveral a b f t r) (sym (flat_map-append line first second)) (several_handed_on a b f (lines first ++ lines second) e r p stopped)
+
+-- one part, and then another
+pub part_and_more : (a b c : Option (List ℕ)) (f g : Bool) (first second : List (List (List ℕ))) (u : Unit {0}) (r : Result (Unit {0}) Refusal)
+    → WroteSeveral a b f (lines first) (Ok u) → WroteSeveral b c g (lines second) r → WroteSeveral a c g (lines (first ++ second)) r
+part_and_more a b c f g first second u r p q =
+    subst (λ (t : List ℕ). WroteSeveral a c g t r) (sym (flat_map-append line first second)) (several_after a b c g (lines first) (lines second) r p.0 q)
+
+-- the log is its header, and then the lines of its rows
+pub log_text-parts : (names : List (List ℕ)) (rows : List Row) → log_text names rows ≡ line log_header ++ lines (map (row_fields names) rows)
+log_text-parts names rows = refl

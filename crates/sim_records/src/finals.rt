@@ -1,0 +1,321 @@
+//! What is left at the end of a run: messages, transfers and tasks, each part under its header.
+ghost use Rattle.std.specs.Prelude.{◌≡◌, ◌∷◌, false, IfOk, map, string_bytes};
+ghost use Rattle.std.specs.Fmt.{decimal};
+ghost use Rattle.sqs_message.specs.Ids.{origin_text};
+ghost use Rattle.sqs_formats.specs.Rows.{line, lines, text_if};
+ghost use Rattle.sqs_formats.specs.Finals.{finals_text, message_fields, message_header, place_text, status_text, task_fields, task_header, transfer_fields, transfer_header, transfer_kind_text};
+ghost use Rattle.sim_records.specs.Writes.{Wrote, WroteSeveral};
+
+use crate::{Names, Out, write_record};
+use sim_clock::Refusal;
+use sqs_message::{Origin, Place, Text};
+use sqs_model::{FinalMessage, FinalTask, FinalTransfer, Finals, TransferKind};
+use sqs_redrive::TaskStatus;
+use std::alloc::{AllocError, Global};
+
+// The name of a place.
+fn place_name(place: Place) -> &'static str
+    ensures { result.now ≡ place_text place }
+{
+    match place {
+        Place::Delayed => "delayed",
+        Place::Visible => "visible",
+        Place::InFlight => "inflight",
+    }
+}
+
+// The name of a kind of transfer.
+fn transfer_kind_name(kind: TransferKind) -> &'static str
+    ensures { result.now ≡ transfer_kind_text kind }
+{
+    match kind {
+        TransferKind::Redrive => "redrive",
+        TransferKind::Move => "move",
+        TransferKind::Forward => "forward",
+    }
+}
+
+// The name of a task's state.
+fn status_name(status: TaskStatus) -> &'static str
+    ensures { result.now ≡ status_text status }
+{
+    match status {
+        TaskStatus::Idle => "Idle",
+        TaskStatus::Running => "Running",
+        TaskStatus::Completed => "Completed",
+        TaskStatus::Cancelled => "Cancelled",
+        TaskStatus::Failed => "Failed",
+    }
+}
+
+// A number in decimal, where there is one.
+fn number_column(alloc: Global, number: Option<u64>) -> Result<String, AllocError>
+    ensures { IfOk result (λ s. string_bytes s ≡ text_if decimal number) }
+{
+    match number {
+        Some(number) => format!(in alloc; "{number}"),
+        None => Ok(String::new(alloc)),
+    }
+}
+
+// The text of an origin, where there is one.
+fn origin_column(alloc: Global, origin: Option<Origin>) -> Result<String, AllocError>
+    ensures { IfOk result (λ s. string_bytes s ≡ text_if origin_text origin) }
+{
+    match origin {
+        Some(origin) => origin.text(alloc),
+        None => Ok(String::new(alloc)),
+    }
+}
+
+// A group, where there is one.
+fn group_column(group: &Option<Text>) -> &[u8]
+    ensures { result.now ≡ text_if (λ g. g) group.now }
+{
+    match group {
+        Some(group) => group.as_bytes(),
+        None => b"",
+    }
+}
+
+// Writes the header of the messages.
+fn write_message_header<W: Out>(alloc: Global, out: &mut W) -> Result<(), Refusal>
+    requires { W.failed out.old ≡ false }
+    ensures { Wrote (W.held out.old) (W.held out.new) (W.failed out.new) (line message_header) result }
+{
+    let fields: [&[u8]; 10] = [
+        b"final",
+        b"queue",
+        b"message",
+        b"origin",
+        b"place",
+        b"due",
+        b"enqueued",
+        b"receives",
+        b"group",
+        b"md5",
+    ];
+    write_record(alloc, out, &fields)
+}
+
+// Writes the line of a message.
+fn write_message<'a, W: Out>(
+    alloc: Global,
+    out: &mut W,
+    message: &'a FinalMessage,
+    names: &'a Names,
+) -> Result<(), Refusal>
+    requires { W.failed out.old ≡ false }
+    ensures { Wrote (W.held out.old) (W.held out.new) (W.failed out.new) (line (message_fields names.now message.now)) result }
+{
+    let place: &'a [u8] = place_name(message.place).as_bytes();
+    let id = message.id.text(alloc)?;
+    let origin = message.origin.text(alloc)?;
+    let due = number_column(alloc, message.due)?;
+    let enqueued = format!(in alloc; "{}", message.enqueued)?;
+    let receives = format!(in alloc; "{}", message.receives)?;
+    let md5 = hex::encode(alloc, &message.md5)?;
+    let fields = [
+        "final".as_bytes(),
+        names.name(message.id.site),
+        id.as_bytes(),
+        origin.as_bytes(),
+        place,
+        due.as_bytes(),
+        enqueued.as_bytes(),
+        receives.as_bytes(),
+        group_column(&message.group),
+        md5.as_bytes(),
+    ];
+    write_record(alloc, out, &fields)
+}
+
+// Writes the lines of messages, in order.
+fn write_messages<W: Out>(
+    alloc: Global,
+    out: &mut W,
+    messages: &[FinalMessage],
+    names: &Names,
+) -> Result<(), Refusal>
+    requires { W.failed out.old ≡ false }
+    ensures { WroteSeveral (W.held out.old) (W.held out.new) (W.failed out.new) (lines (map (message_fields names.now) messages.now)) result }
+{
+    for message in messages {
+        write_message(alloc, out, message, names)?;
+    }
+    Ok(())
+}
+
+// Writes the header of the transfers.
+fn write_transfer_header<W: Out>(alloc: Global, out: &mut W) -> Result<(), Refusal>
+    requires { W.failed out.old ≡ false }
+    ensures { Wrote (W.held out.old) (W.held out.new) (W.failed out.new) (line transfer_header) result }
+{
+    let fields: [&[u8]; 9] = [
+        b"transfer",
+        b"from",
+        b"to",
+        b"kind",
+        b"due",
+        b"number",
+        b"message",
+        b"origin",
+        b"md5",
+    ];
+    write_record(alloc, out, &fields)
+}
+
+// Writes the line of a transfer.
+fn write_transfer<'a, W: Out>(
+    alloc: Global,
+    out: &mut W,
+    transfer: &'a FinalTransfer,
+    names: &'a Names,
+) -> Result<(), Refusal>
+    requires { W.failed out.old ≡ false }
+    ensures { Wrote (W.held out.old) (W.held out.new) (W.failed out.new) (line (transfer_fields names.now transfer.now)) result }
+{
+    let kind: &'a [u8] = transfer_kind_name(transfer.kind).as_bytes();
+    let due = format!(in alloc; "{}", transfer.due)?;
+    let number = format!(in alloc; "{}", transfer.number)?;
+    let message = transfer.message.text(alloc)?;
+    let origin = origin_column(alloc, transfer.origin)?;
+    let md5 = hex::encode(alloc, &transfer.md5)?;
+    let fields = [
+        "transfer".as_bytes(),
+        names.name(transfer.from),
+        names.name(transfer.to),
+        kind,
+        due.as_bytes(),
+        number.as_bytes(),
+        message.as_bytes(),
+        origin.as_bytes(),
+        md5.as_bytes(),
+    ];
+    write_record(alloc, out, &fields)
+}
+
+// Writes the lines of transfers, in order.
+fn write_transfers<W: Out>(
+    alloc: Global,
+    out: &mut W,
+    transfers: &[FinalTransfer],
+    names: &Names,
+) -> Result<(), Refusal>
+    requires { W.failed out.old ≡ false }
+    ensures { WroteSeveral (W.held out.old) (W.held out.new) (W.failed out.new) (lines (map (transfer_fields names.now) transfers.now)) result }
+{
+    for transfer in transfers {
+        write_transfer(alloc, out, transfer, names)?;
+    }
+    Ok(())
+}
+
+// Writes the header of the tasks.
+fn write_task_header<W: Out>(alloc: Global, out: &mut W) -> Result<(), Refusal>
+    requires { W.failed out.old ≡ false }
+    ensures { Wrote (W.held out.old) (W.held out.new) (W.failed out.new) (line task_header) result }
+{
+    let fields: [&[u8]; 4] = [b"task", b"name", b"status", b"moved"];
+    write_record(alloc, out, &fields)
+}
+
+// Writes the line of a task.
+fn write_task<'a, W: Out>(
+    alloc: Global,
+    out: &mut W,
+    task: &'a FinalTask,
+    names: &'a Names,
+) -> Result<(), Refusal>
+    requires { W.failed out.old ≡ false }
+    ensures { Wrote (W.held out.old) (W.held out.new) (W.failed out.new) (line (task_fields names.now task.now)) result }
+{
+    let status: &'a [u8] = status_name(task.status).as_bytes();
+    let moved = format!(in alloc; "{}", task.moved)?;
+    let fields = [
+        "task".as_bytes(),
+        names.name(task.task),
+        status,
+        moved.as_bytes(),
+    ];
+    write_record(alloc, out, &fields)
+}
+
+// Writes the lines of tasks, in order.
+fn write_tasks<W: Out>(
+    alloc: Global,
+    out: &mut W,
+    tasks: &[FinalTask],
+    names: &Names,
+) -> Result<(), Refusal>
+    requires { W.failed out.old ≡ false }
+    ensures { WroteSeveral (W.held out.old) (W.held out.new) (W.failed out.new) (lines (map (task_fields names.now) tasks.now)) result }
+{
+    for task in tasks {
+        write_task(alloc, out, task, names)?;
+    }
+    Ok(())
+}
+
+// Writes the messages under their header.
+fn write_message_part<W: Out>(
+    alloc: Global,
+    out: &mut W,
+    messages: &[FinalMessage],
+    names: &Names,
+) -> Result<(), Refusal>
+    requires { W.failed out.old ≡ false }
+    ensures { WroteSeveral (W.held out.old) (W.held out.new) (W.failed out.new) (lines (message_header ∷ map (message_fields names.now) messages.now)) result }
+{
+    write_message_header(alloc, out)?;
+    write_messages(alloc, out, messages, names)
+}
+
+// Writes the transfers under their header.
+fn write_transfer_part<W: Out>(
+    alloc: Global,
+    out: &mut W,
+    transfers: &[FinalTransfer],
+    names: &Names,
+) -> Result<(), Refusal>
+    requires { W.failed out.old ≡ false }
+    ensures { WroteSeveral (W.held out.old) (W.held out.new) (W.failed out.new) (lines (transfer_header ∷ map (transfer_fields names.now) transfers.now)) result }
+{
+    write_transfer_header(alloc, out)?;
+    write_transfers(alloc, out, transfers, names)
+}
+
+// Writes the tasks under their header.
+fn write_task_part<W: Out>(
+    alloc: Global,
+    out: &mut W,
+    tasks: &[FinalTask],
+    names: &Names,
+) -> Result<(), Refusal>
+    requires { W.failed out.old ≡ false }
+    ensures { WroteSeveral (W.held out.old) (W.held out.new) (W.failed out.new) (lines (task_header ∷ map (task_fields names.now) tasks.now)) result }
+{
+    write_task_header(alloc, out)?;
+    write_tasks(alloc, out, tasks, names)
+}
+
+/// Writes what is left at the end of a run: the messages, the transfers and the tasks, each part
+/// under its header.
+///
+/// # Errors
+///
+/// `Memory` where a growth is refused: the lines before are written. `Write` where the writer
+/// fails: a front of the lines is written.
+pub fn write_finals<W: Out>(
+    alloc: Global,
+    out: &mut W,
+    finals: &Finals,
+    names: &Names,
+) -> Result<(), Refusal>
+    requires { W.failed out.old ≡ false }
+    ensures { WroteSeveral (W.held out.old) (W.held out.new) (W.failed out.new) (finals_text names.now finals.now) result }
+{
+    write_message_part(alloc, out, finals.messages.as_slice(), names)?;
+    write_transfer_part(alloc, out, finals.transfers.as_slice(), names)?;
+    write_task_part(alloc, out, finals.tasks.as_slice(), names)
+}

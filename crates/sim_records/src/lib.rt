@@ -1,0 +1,19 @@
+//! The records of a run, as bytes to any writer: the lines of the log and of the finals.
+#![tactic(auto)]
+
+mod columns;
+mod finals;
+mod line;
+mod names;
+mod out;
+mod rows;
+#[cfg(test)]
+mod tests;
+mod to_writer;
+
+pub use finals::write_finals;
+pub use line::write_record;
+pub use names::Names;
+pub use out::{Failed, Out, write_all};
+pub use rows::{write_header, write_row, write_rows};
+pub use to_writer::ToWriter;

@@ -1,0 +1,5 @@
+pub mod Stored
+pub mod Writes
+pub mod Batches
+pub mod Giving
+pub mod Parted
