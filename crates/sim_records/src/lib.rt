@@ -5,8 +5,8 @@ mod columns;
 mod finals;
 mod line;
 mod names;
-mod out;
 mod rows;
+mod sink;
 #[cfg(test)]
 mod tests;
 mod to_writer;
@@ -14,6 +14,6 @@ mod to_writer;
 pub use finals::write_finals;
 pub use line::write_record;
 pub use names::Names;
-pub use out::{Failed, Out, write_all};
 pub use rows::{write_header, write_row, write_rows};
+pub use sink::{Failed, Out, write_all};
 pub use to_writer::ToWriter;

@@ -3,7 +3,7 @@ ghost use Rattle.std.specs.Prelude.{◌≡◌, false, IfOk, map};
 ghost use Rattle.sqs_formats.specs.Rows.{line};
 ghost use Rattle.sim_records.specs.Writes.{Wrote};
 
-use crate::out::{Out, write_all};
+use crate::sink::{Out, write_all};
 use csv::WriterBuilder;
 use sim_clock::Refusal;
 use std::alloc::{AllocError, Global};

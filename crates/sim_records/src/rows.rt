@@ -6,7 +6,7 @@ ghost use Rattle.sim_records.specs.Writes.{Wrote, WroteSeveral};
 use crate::columns::{answer_name, detail_column, kind_name, message_column, receipt_column};
 use crate::line::{record_line, write_record};
 use crate::names::Names;
-use crate::out::{Out, write_all};
+use crate::sink::{Out, write_all};
 use sim_clock::Refusal;
 use sqs_message::Row;
 use std::alloc::{AllocError, Global};

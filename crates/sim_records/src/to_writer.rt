@@ -1,7 +1,7 @@
 //! Writers of std.
 ghost use Rattle.std.specs.Prelude.{◌≡◌, false};
 
-use crate::out::{Failed, Out};
+use crate::sink::{Failed, Out};
 use std::io::Write;
 
 /// Any writer of std. It fails where that one answers an error, an interruption among them, or
