@@ -67,11 +67,14 @@ impl Draws {
     }
 
     /// A number from `low` to `high`, both included. It takes a word always.
+    #[tactic(auto, using(crate::proofs::Words::share_within))]
     pub fn uniform(&mut self, low: u64, high: u64) -> u64
         requires words { self.old.taken < most_count }
         requires order { low ≤ high }
         requires span { high < low + 2 ^ 32 }
         ensures number { result ≡ the_uniform low high (next_word self.old) }
+        ensures least { low ≤ result }
+        ensures greatest { result ≤ high }
         ensures after { self.new ≡ moved_on self.old }
     {
         let span = high - low + 1;
@@ -91,10 +94,12 @@ impl Draws {
 
     /// A number from `low` to `high`, both included. Where they are equal it takes no word.
     pub fn between(&mut self, low: u64, high: u64) -> u64
-        requires words { self.old.taken < most_count }
+        requires words { low < high → self.old.taken < most_count }
         requires order { low ≤ high }
         requires span { high < low + 2 ^ 32 }
-        ensures { drawn_between low high self.old ≡ (result, self.new) }
+        ensures least { low ≤ result }
+        ensures greatest { result ≤ high }
+        ensures drawn { drawn_between low high self.old ≡ (result, self.new) }
     {
         if low < high {
             self.uniform(low, high)

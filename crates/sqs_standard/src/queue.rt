@@ -1,19 +1,17 @@
 //! The queue and its calls.
-ghost use Rattle.std.specs.Prelude.{◌≡◌, ◌-◌, ◌⊎◌, ◌&&◌, false, true, nat_le, ◌+◌, ◌<◌, ◌≤◌, ◌^◌, [], All, Any, count_by, filter, map, IfErr, IfOk, IfSome, IsOkUnless, List, OnOk, OnErr, ℕ};
-ghost use Rattle.std.specs.Result.{result_map_both};
+ghost use Rattle.std.specs.Prelude.{◌≡◌, ◌-◌, false, ◌+◌, ◌<◌, ◌≤◌, ◌^◌, [], count_by, filter, IsOkUnless, List, OnOk, OnErr, ℕ};
 ghost use Rattle.sim_clock.specs.Order.{least};
 ghost use Rattle.sqs_model.specs.Answers.{Meets, most_count};
-ghost use Rattle.sqs_model.specs.Arrive.{arrived, brought, expired, settle};
+ghost use Rattle.sqs_model.specs.Arrive.{expired};
 ghost use Rattle.sqs_model.specs.Available.{all_hosts, available_at};
 ghost use Rattle.sqs_model.specs.Calls.{change, delete_standard, new_message, returned, send_standard, with_message};
 ghost use Rattle.sqs_model.specs.Dues.{queue_dues};
 ghost use Rattle.sqs_model.specs.Queue.{IsFramed, Queue, in_flight, is_delayed, is_in_flight, is_visible, numbered};
-ghost use Rattle.sqs_model.specs.Receive.{is_bad_timeout, receive, timeout_of};
+ghost use Rattle.sqs_model.specs.Receive.{receive};
 ghost use Rattle.sqs_model.specs.Return.{leaves, released};
-ghost use Rattle.sqs_model.specs.Task.{take_movable};
 ghost use Rattle.sqs_model.specs.Valid.{IsKind};
-ghost use Rattle.sqs_standard.specs.Batch.{CanBeGiven, gives, gives_all, is_seen, to_give, told_of};
-ghost use Rattle.sqs_standard.specs.Standard.{IsCounted, IsStandard, IsStandardSettings, WasEnqueuedBy, never_refused};
+ghost use Rattle.sqs_standard.specs.Batch.{gives, is_seen};
+ghost use Rattle.sqs_standard.specs.Standard.{IsCounted, IsStandard, IsStandardSettings};
 ghost use Rattle.sqs_message.specs.declared.message.Message.{Message};
 
 use crate::dues::{expiry_of, release_key};
@@ -23,7 +21,7 @@ use crate::places::{
 };
 use sim_clock::{Key, Refusal, lesser};
 use sqs_message::{Message, MessageId, Origin, Place, Receipt, Text};
-use sqs_redrive::{Deleted, Kind, Load, QueueSettings, Sent};
+use sqs_redrive::{Deleted, Kind, Load, QueueSettings, Returned, Sent, on_return};
 use std::alloc::Global;
 use std::marker::Model;
 
@@ -51,7 +49,7 @@ fn is_spent(settings: &QueueSettings, message: &Message) -> bool
 {
     match settings.policy {
         None => false,
-        Some(policy) => policy.max_receives <= message.receives,
+        Some(policy) => on_return(&policy, message) == Returned::Leaves,
     }
 }
 

@@ -1,20 +1,7 @@
 //! The steps of move tasks.
-ghost use Rattle.std.specs.Prelude.{◌≡◌, ◌-◌, ◌⊎◌, ◌&&◌, false, true, nat_le, ◌+◌, ◌<◌, ◌≤◌, ◌^◌, [], All, Any, count_by, filter, map, IfErr, IfOk, IfSome, IsOkUnless, List, OnOk, OnErr, ℕ};
-ghost use Rattle.std.specs.Result.{result_map_both};
-ghost use Rattle.sim_clock.specs.Order.{least};
-ghost use Rattle.sqs_model.specs.Answers.{Meets, most_count};
-ghost use Rattle.sqs_model.specs.Arrive.{arrived, brought, expired, settle};
-ghost use Rattle.sqs_model.specs.Available.{all_hosts, available_at};
-ghost use Rattle.sqs_model.specs.Calls.{change, delete_standard, new_message, returned, send_standard, with_message};
-ghost use Rattle.sqs_model.specs.Dues.{queue_dues};
-ghost use Rattle.sqs_model.specs.Queue.{IsFramed, Queue, in_flight, is_delayed, is_in_flight, is_visible, numbered};
-ghost use Rattle.sqs_model.specs.Receive.{is_bad_timeout, receive, timeout_of};
-ghost use Rattle.sqs_model.specs.Return.{leaves, released};
+ghost use Rattle.std.specs.Prelude.{◌≡◌, ◌-◌, ◌<◌, IfOk, IsOkUnless, OnErr};
+ghost use Rattle.sqs_model.specs.Queue.{IsFramed};
 ghost use Rattle.sqs_model.specs.Task.{take_movable};
-ghost use Rattle.sqs_model.specs.Valid.{IsKind};
-ghost use Rattle.sqs_standard.specs.Batch.{CanBeGiven, gives, gives_all, is_seen, to_give, told_of};
-ghost use Rattle.sqs_standard.specs.Standard.{IsCounted, IsStandard, IsStandardSettings, WasEnqueuedBy, never_refused};
-ghost use Rattle.sqs_message.specs.declared.message.Message.{Message};
 
 use super::{StandardQueue, host_count};
 use crate::parting::{any_seen, part};

@@ -1,0 +1,58 @@
+-- What an actor keeps true of itself, and how a decision that may be refused meets the definitions.
+use Rattle.std.specs.Prelude.{Err, List, None, Ok, Option, Result, Some, [], length, max, ℕ, ◌<◌, ◌≡◌, ◌≤◌, ◌∷◌}
+use Rattle.sim_actor.specs.declared.actor.Stage.{Stage as OwnStage}
+use Rattle.sim_actor.specs.declared.actor.Stage.TheVariants as own
+use Rattle.sim_clock.specs.declared.refusal.Refusal.{Refusal}
+use Rattle.sim_clock.specs.declared.refusal.Refusal.TheVariants as refusals
+use Rattle.sqs_message.specs.declared.calls.ScriptCall.{ScriptCall}
+use Rattle.sqs_model.specs.declared.acts.Act.{Act}
+use Rattle.sqs_model.specs.declared.agents.Role.{Role}
+use Rattle.sqs_model.specs.declared.agents.Role.TheVariants.{Consumer, Producer, Script}
+use Rattle.sqs_model.specs.Actor.{Actor, Asked, Ended, Served, Stage, act_of, first_at}
+use Rattle.sqs_model.specs.Answers.{most_count}
+use Rattle.sqs_model.specs.Valid.{IsConsumer, IsProducer}
+
+-- a role whose settings are in range; a script has at most 100,000 calls
+abbrev pub IsRole : Role → Type 0
+IsRole (Script script) = length script ≤ 100000
+IsRole (Producer p) = IsProducer p
+IsRole (Consumer c) = IsConsumer c
+
+-- the definitions' word for what a consumer did last
+abbrev pub stage_of : OwnStage → Stage
+stage_of own.Asked = Asked
+stage_of (own.Served receipt) = Served receipt
+stage_of own.Ended = Ended
+
+-- the greatest of the counts that a decision may move: wakes, transfers and words
+abbrev pub greatest_count : Actor → ℕ
+greatest_count a = max a.wakes (max a.sent a.draws.taken)
+
+-- what no decision changes, also where it is refused
+pub record IsFramed (old new : Actor) : Type 0 where
+  pub number : new.number ≡ old.number
+  pub settings : new.settings ≡ old.settings
+
+-- an act and the actor after it are the definition's, and a count at its limit is told where the definition would count past it
+abbrev pub Decides : Result Act Refusal → Actor → Act × Actor → Type 0
+Decides (Ok act) new model = model ≡ (act, new)
+Decides (Err refusals.CountLimit) new model = most_count < greatest_count model.1
+Decides (Err e) new model = ⊥
+
+-- the same where the definition tells the actor alone
+abbrev pub Becomes : Result (Unit {0}) Refusal → Actor → Actor → Type 0
+Becomes (Ok u) new model = model ≡ new
+Becomes (Err refusals.CountLimit) new model = most_count < greatest_count model
+Becomes (Err e) new model = ⊥
+
+-- the same of a decision that may also want memory: it then counts past no limit, and the actor is as it was
+abbrev pub Meets : Result Act Refusal → Actor → Actor → Act × Actor → Type 0
+Meets (Ok act) old new model = model ≡ (act, new)
+Meets (Err refusals.CountLimit) old new model = most_count < greatest_count model.1
+Meets (Err refusals.Memory) old new model = (new ≡ old) × (greatest_count model.1 ≤ most_count)
+Meets (Err e) old new model = ⊥
+
+-- the act that makes the first of some calls, and when the next is made
+abbrev pub made_of : List ScriptCall → Option (Act × Option ℕ)
+made_of [] = None
+made_of (c ∷ cs) = Some (act_of c.call, first_at cs)

@@ -1,0 +1,133 @@
+//! Actors.
+ghost use Rattle.std.specs.Prelude.{◌≡◌, ◌↔◌, ◌+◌, OnOk, OnErr, IsOkUnless};
+ghost use Rattle.sqs_model.specs.Answers.{most_count};
+ghost use Rattle.sim_actor.specs.Lives.{IsFramed, IsRole};
+ghost use Rattle.sqs_model.specs.Scenario.{first_wake as the_first_wake};
+
+mod consumer;
+mod counts;
+mod decision;
+mod producer;
+mod script;
+
+use sim_clock::Refusal;
+use sim_draw::Draws;
+use sqs_message::Receipt;
+use sqs_model::{ActorSettings, Role};
+use sqs_redrive::Got;
+use std::alloc::Global;
+use std::marker::Model;
+
+/// No count may pass this.
+const MOST_COUNT: u64 = 4_611_686_018_427_387_903;
+
+/// What a consumer did last.
+#[derive(Clone, Copy, Debug, PartialEq, Eq)]
+enum Stage {
+    /// It asked for messages.
+    Asked,
+    /// It served the message of this receipt, and the service ended well.
+    Served(Receipt),
+    /// It ended a service, and what follows one.
+    Ended,
+}
+
+/// A script, a producer or a consumer: what it holds and counts, when it wakes, and its draws.
+/// Contracts see it as the definitions' record of these.
+#[derive(Drop)]
+pub struct Actor {
+    alloc: Global,
+    number: u32,
+    settings: ActorSettings,
+    held: Vec<Got>,
+    stage: Stage,
+    wake: Option<u64>,
+    wakes: u64,
+    polls: u64,
+    sent: u64,
+    draws: Draws,
+}
+
+impl Model for Actor {
+    ghost use Rattle.std.specs.Prelude.{◌≤◌};
+    ghost use Rattle.sqs_model.specs.Actor.{Actor};
+    ghost use Rattle.sqs_model.specs.Answers.{most_count};
+    ghost use Rattle.sim_actor.specs.Lives.{IsRole, stage_of};
+
+    ghost Value = { Actor };
+
+    ghost view = { λ a. record { number = a.number; settings = a.settings; held = a.held.items; stage = stage_of a.stage; wake = a.wake; wakes = a.wakes; polls = a.polls; sent = a.sent; draws = a.draws } };
+
+    ghost invariant = { λ a. IsRole a.settings.role × (a.wakes ≤ most_count) × (a.polls ≤ most_count) × (a.sent ≤ most_count) × (a.draws.taken ≤ most_count) };
+}
+
+// When an actor of a role first wakes.
+fn first_wake(role: &Role) -> Option<u64>
+    ensures { result ≡ the_first_wake role.now }
+{
+    match role {
+        Role::Script(script) => script.as_slice().first().map(|call| call.at),
+        Role::Producer(producer) => Some(producer.start),
+        Role::Consumer(consumer) => Some(consumer.start),
+    }
+}
+
+impl Actor {
+    ghost use Rattle.sqs_model.specs.Scenario.{Scenario, opening_actor};
+
+    /// An actor that has done nothing.
+    pub fn new(alloc: Global, number: u32, settings: ActorSettings, seed: u64) -> Actor
+        requires { IsRole settings.role }
+        ensures { (s : Scenario) → s.seed ≡ seed → result ≡ opening_actor s (number, settings) }
+    {
+        let wake = first_wake(&settings.role);
+        Actor {
+            alloc,
+            number,
+            settings,
+            held: Vec::new(alloc),
+            stage: Stage::Asked,
+            wake,
+            wakes: 0,
+            polls: 0,
+            sent: 0,
+            draws: Draws::new(seed, number),
+        }
+    }
+
+    /// When it wakes next, in milliseconds.
+    pub fn wake(&self) -> Option<u64>
+        ensures { result ≡ self.now.wake }
+    {
+        self.wake
+    }
+
+    /// Its number among the agents.
+    pub fn number(&self) -> u32
+        ensures { result ≡ self.now.number }
+    {
+        self.number
+    }
+
+    /// Its settings.
+    pub fn settings(&self) -> &ActorSettings
+        ensures { result.now ≡ self.now.settings }
+    {
+        &self.settings
+    }
+
+    /// Counts a poll that waits. At the limit of counts the actor stays as it was.
+    pub fn polled(&mut self) -> Result<(), Refusal>
+        ensures counted { OnOk result (self.new ≡ record self.old { polls = self.old.polls + 1 }) }
+        ensures limit { (result ≡ Err Refusal.CountLimit) ↔ (self.old.polls ≡ most_count) }
+        ensures limit_only { IsOkUnless result Refusal.CountLimit }
+        ensures unchanged { OnErr result (self.new ≡ self.old) }
+        ensures framed { IsFramed self.old self.new }
+    {
+        if self.polls == MOST_COUNT {
+            return Err(Refusal::CountLimit);
+        }
+        self.polls += 1;
+        Ok(())
+    }
+}

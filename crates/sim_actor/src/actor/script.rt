@@ -1,0 +1,75 @@
+//! The calls that a script makes.
+ghost use Rattle.std.specs.Prelude.{◌≡◌, ◌<◌, IfOk, OnSome, drop, length};
+ghost use Rattle.sqs_model.specs.Actor.{first_at};
+ghost use Rattle.sim_actor.specs.Lives.{made_of};
+
+use sqs_message::{Call, ScriptCall, Text};
+use sqs_model::Act;
+use std::alloc::{AllocError, Global};
+
+// Another text of the same bytes, if there is one.
+fn copied_text(alloc: Global, text: &Option<Text>) -> Result<Option<Text>, AllocError>
+    ensures { IfOk result (λ copy. copy ≡ text.now) }
+{
+    match text {
+        None => Ok(None),
+        Some(text) => Ok(Some(text.copy(alloc)?)),
+    }
+}
+
+// Another call with the same values.
+fn copied(alloc: Global, call: &Call) -> Result<Call, AllocError>
+    ensures { IfOk result (λ copy. copy ≡ call.now) }
+{
+    Ok(match call {
+        Call::Send {
+            body,
+            delay,
+            group,
+            id,
+        } => Call::Send {
+            body: body.copy(alloc)?,
+            delay: *delay,
+            group: copied_text(alloc, group)?,
+            id: copied_text(alloc, id)?,
+        },
+        Call::Receive { max, wait, timeout } => Call::Receive {
+            max: *max,
+            wait: *wait,
+            timeout: *timeout,
+        },
+        Call::Delete { receipt } => Call::Delete {
+            receipt: receipt.copy(alloc)?,
+        },
+        Call::Change { receipt, timeout } => Call::Change {
+            receipt: receipt.copy(alloc)?,
+            timeout: *timeout,
+        },
+        Call::Start { task } => Call::Start { task: *task },
+        Call::Cancel { task } => Call::Cancel { task: *task },
+    })
+}
+
+// When the call at an index is made, if there is one.
+fn time_at(calls: &[ScriptCall], n: usize) -> Option<u64>
+    ensures { result ≡ first_at (drop n calls.now) }
+{
+    calls.get(n).map(|call| call.at)
+}
+
+// The act that makes call n of a script, and when the one after it is made; nothing past its end.
+pub fn call_made(
+    alloc: Global,
+    calls: &[ScriptCall],
+    n: u64,
+) -> Result<Option<(Act, Option<u64>)>, AllocError>
+    ensures made { IfOk result (λ made. made ≡ made_of (drop n calls.now)) }
+    ensures within { IfOk result (λ made. OnSome made (n < length calls.now)) }
+{
+    let n = n as usize;
+    if n >= calls.len() {
+        return Ok(None);
+    }
+    let act = Act::from(copied(alloc, &calls[n].call)?);
+    Ok(Some((act, time_at(calls, n + 1))))
+}

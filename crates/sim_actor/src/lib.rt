@@ -1,0 +1,10 @@
+//! What an actor does next: a pure decision of a script, a producer or a consumer that is told
+//! that its wake has come, or what its last act got.
+#![tactic(auto)]
+
+mod actor;
+mod bodies;
+#[cfg(test)]
+mod tests;
+
+pub use actor::Actor;
