@@ -1,0 +1,223 @@
+-- Lists that are counted by the number of their group.
+use Rattle.std.proofs.Common.{◌≡◌, ◌==◌, ℕ, zero, suc, ◌+◌, ◌<◌, ◌≤◌, Bool, true, false, cond, Option, List, [], ◌∷◌, ◌++◌, length, map, filter, set, take, drop, get_or, replicate, refl, sym, ap, ◌∙◌, arith}
+use Rattle.std.specs.List.{enumerate_from}
+use Rattle.std.specs.Prelude.{Result, Ok, Err, IfErr}
+use Rattle.std.specs.Result.{IsErrAnd}
+use Rattle.std.proofs.lemmas.Grind.{common_steps}
+use Rattle.std.proofs.lemmas.List.{append-nil, append_assoc, length-map}
+use Rattle.std.proofs.lemmas.List.FromFn.{length-enumerate_from}
+use Rattle.std.proofs.lemmas.List.Sums.{count_by-le-length, length-filter}
+use Rattle.std.proofs.lemmas.List.Elements.{All-contains, All-map, filter-append}
+use Rattle.sim_clock.specs.declared.refusal.Refusal.{Refusal}
+use Rattle.sim_clock.specs.declared.refusal.Refusal.TheVariants as refusals
+use Rattle.sqs_model.specs.Answers.{most_count}
+use Rattle.std.proofs.lemmas.Bool.Decides.{nat_tests}
+use Rattle.sqs_message.specs.declared.row.Row.{Row}
+use Rattle.sqs_message.specs.declared.message.Place.{Place}
+use Rattle.sqs_message.specs.declared.message.Place.TheVariants.{Delayed, Visible, InFlight}
+use Rattle.sqs_model.specs.declared.finals.Finals.{Finals}
+use Rattle.sqs_model.specs.declared.finals.FinalMessage.{FinalMessage}
+use Rattle.sqs_formats.specs.Report.{Column, columns_of, count, counted_columns, counts_in, is_delayed, is_in_flight, is_visible, left, messages_of, numbers, queue_report, report, rows_of}
+use Rattle.sim_report.specs.declared.left.Left.{Left}
+use Rattle.sim_report.specs.declared.queue.QueueCounts.{QueueCounts}
+use Rattle.sim_report.specs.Left.{left_of, left_with, lefts}
+use Rattle.sim_report.specs.Running.{HasFull, changed, columns_by, columns_of_all, fresh, queue_column, queue_counts, row_added, rows_added, running, with_row}
+use Rattle.sim_report.specs.Tally.{IsStop, tally_of}
+use Rattle.sim_report.proofs.Tallies.{tallied-is}
+
+-- of each group, what its members make
+grouped : {X Y A : Type 0} → (X → ℕ) → (Y → List X → A) → ℕ → List Y → List X → List A
+grouped key make m ys xs = map (λ q. make q.1 (filter (λ x. key x == q.0) xs)) (enumerate_from m ys)
+
+filter-push : {X : Type 0} (p : X → Bool) (xs : List X) (x : X) → filter p (xs ++ x ∷ []) ≡ cond (p x) (filter p xs ++ x ∷ []) (filter p xs)
+filter-push {X} p xs x =
+    filter-append p xs (x ∷ []) ∙ elim (p x) as (λ b. filter p xs ++ cond b (x ∷ []) [] ≡ cond b (filter p xs ++ x ∷ []) (filter p xs)) [ true ↦ refl | false ↦ append-nil (filter p xs) ]
+
+filter-other : {X : Type 0} (key : X → ℕ) (n : ℕ) (xs : List X) (x : X) → (key x == n) ≡ false → filter (λ y. key y == n) (xs ++ x ∷ []) ≡ filter (λ y. key y == n) xs
+filter-other {X} key n xs x e = filter-push (λ y. key y == n) xs x ∙ ap (λ b. cond b (filter (λ y. key y == n) xs ++ x ∷ []) (filter (λ y. key y == n) xs)) e
+
+filter-own : {X : Type 0} (key : X → ℕ) (n : ℕ) (xs : List X) (x : X) → (key x == n) ≡ true → filter (λ y. key y == n) (xs ++ x ∷ []) ≡ filter (λ y. key y == n) xs ++ x ∷ []
+filter-own {X} key n xs x e = filter-push (λ y. key y == n) xs x ∙ ap (λ b. cond b (filter (λ y. key y == n) xs ++ x ∷ []) (filter (λ y. key y == n) xs)) e
+
+-- a member of an earlier group changes nothing
+grouped-later : {X Y A : Type 0} (key : X → ℕ) (make : Y → List X → A) (m : ℕ) (ys : List Y) (xs : List X) (x : X)
+    → key x < m → grouped key make m ys (xs ++ x ∷ []) ≡ grouped key make m ys xs
+unfolding grouped
+grouped-later key make m [] xs x h = refl
+grouped-later key make m (y ∷ ys) xs x h =
+    let here = ap (make y) (filter-other key m xs x (grind (arith, nat_tests))) in
+    let rest = grouped-later key make (m + 1) ys xs x (omega arith) in
+    cc
+
+-- a member changes what its own group makes
+grouped-at : {X Y A : Type 0} (key : X → ℕ) (make : Y → List X → A) (step : A → A) (i m : ℕ) (ys : List Y) (xs : List X) (x : X)
+    → ((y : Y) (zs : List X) → make y (zs ++ x ∷ []) ≡ step (make y zs)) → key x ≡ m + i → grouped key make m ys (xs ++ x ∷ []) ≡ changed step i (grouped key make m ys xs)
+unfolding grouped
+grouped-at key make step i m [] xs x one h = refl
+grouped-at key make step zero m (y ∷ ys) xs x one h =
+    let here = ap (make y) (filter-own key m xs x (grind (arith, nat_tests))) ∙ one y (filter (λ z. key z == m) xs) in
+    let rest = grouped-later key make (m + 1) ys xs x (omega arith) in
+    cc
+grouped-at key make step (suc i) m (y ∷ ys) xs x one h =
+    let here = ap (make y) (filter-other key m xs x (grind (arith, nat_tests))) in
+    let rest = grouped-at key make step i (m + 1) ys xs x one (omega arith) in
+    cc
+
+-- one more row
+pub running-push : (queues : List (List ℕ)) (rows : List Row) (row : Row) → row_added (running queues rows) row ≡ running queues (rows ++ row ∷ [])
+unfolding grouped running
+running-push queues rows row =
+    sym (grouped-at (λ (r : Row). r.queue) (λ (name : List ℕ) (rs : List Row). record { name = name; tally = tally_of rs }) (with_row row) row.queue 0 queues rows row
+    (λ name rs. ap (λ t. record { name = name; tally = t }) (sym (tallied-is rs row))) (omega arith))
+
+-- more rows
+pub running-append : (queues : List (List ℕ)) (before rows : List Row) → rows_added (running queues before) rows ≡ running queues (before ++ rows)
+running-append queues before [] = ap (running queues) (sym (append-nil before))
+running-append queues before (row ∷ rows) =
+    ap (λ (qs : List QueueCounts). rows_added qs rows) (running-push queues before row)
+    ∙ running-append queues (before ++ row ∷ []) rows
+    ∙ ap (running queues) (append_assoc before (row ∷ []) rows)
+
+length-more : (p : FinalMessage → Bool) (ms : List FinalMessage) (m : FinalMessage) (b : Bool) → b ≡ p m → length (filter p (ms ++ m ∷ [])) ≡ cond b (length (filter p ms) + 1) (length (filter p ms))
+length-more p ms m true e = ap length (filter-push p ms m ∙ ap (λ b. cond b (filter p ms ++ m ∷ []) (filter p ms)) (sym e)) ∙ grind (arith, common_steps)
+length-more p ms m false e = ap length (filter-push p ms m ∙ ap (λ b. cond b (filter p ms ++ m ∷ []) (filter p ms)) (sym e))
+
+-- one more at a place
+placed : (place : Place) (l : Left)
+    → record { visible = cond (is_visible place) (l.visible + 1) l.visible; in_flight = cond (is_in_flight place) (l.in_flight + 1) l.in_flight; delayed = cond (is_delayed place) (l.delayed + 1) l.delayed } ≡ left_with place l
+placed Delayed l = refl
+placed Visible l = refl
+placed InFlight l = refl
+
+-- one more message that is left
+left-push : (ms : List FinalMessage) (m : FinalMessage) → left_of (ms ++ m ∷ []) ≡ left_with m.place (left_of ms)
+left-push ms m =
+    let one = length-more (λ m. is_visible m.place) ms m (is_visible m.place) refl in
+    let two = length-more (λ m. is_in_flight m.place) ms m (is_in_flight m.place) refl in
+    let three = length-more (λ m. is_delayed m.place) ms m (is_delayed m.place) refl in
+    rw (one, two, three) (placed m.place (left_of ms))
+
+-- one more message
+pub lefts-push : {Q : Type 0} (queues : List Q) (ms : List FinalMessage) (m : FinalMessage)
+    → changed (left_with m.place) m.id.site (lefts queues ms) ≡ lefts queues (ms ++ m ∷ [])
+unfolding grouped
+lefts-push {Q} queues ms m =
+    sym (grouped-at (λ (m : FinalMessage). m.id.site) (λ (q : Q) (ms : List FinalMessage). left_of ms) (left_with m.place) m.id.site 0 queues ms m (λ q zs. left-push zs m) (omega arith))
+
+-- the columns of a queue are those of the definitions
+columns_by-is : (rows : List Row) (messages : List FinalMessage) → columns_by (tally_of rows) (left_of messages) ≡ columns_of rows messages
+unfolding columns_of
+columns_by-is rows messages = refl
+
+columns-from : (n : ℕ) (queues : List (List ℕ)) (rows : List Row) (f : Finals)
+    → map (queue_column f.messages) (enumerate_from n (map (queue_counts rows) (enumerate_from n queues))) ≡ map (queue_report rows f) (enumerate_from n queues)
+columns-from n [] rows f = refl
+columns-from n (queue ∷ queues) rows f =
+    let here : queue_column f.messages (n, queue_counts rows (n, queue)) ≡ queue_report rows f (n, queue) = ap (λ (cs : List (Option ℕ)). (queue, cs)) (columns_by-is (rows_of n rows) (messages_of n f.messages)) in
+    let rest = columns-from (n + 1) queues rows f in
+    cc
+
+-- the columns of all queues are the report
+pub columns-report : (queues : List (List ℕ)) (rows : List Row) (f : Finals) → columns_of_all (running queues rows) f.messages ≡ report queues rows f
+unfolding running
+columns-report queues rows f = columns-from 0 queues rows f
+
+-- a change at a place
+pub changed-set : {X : Type 0} (f : X → X) (i : ℕ) (xs : List X) (d : X) → i < length xs → changed f i xs ≡ set xs i (f (get_or xs i d))
+changed-set f i [] d h = refl
+changed-set f zero (x ∷ xs) d h = refl
+changed-set {X} f (suc i) (x ∷ xs) d h = ap (λ (ys : List X). x ∷ ys) (changed-set f i xs d (omega arith))
+
+-- a change past the end
+pub changed-past : {X : Type 0} (f : X → X) (i : ℕ) (xs : List X) → length xs ≤ i → changed f i xs ≡ xs
+changed-past f i [] h = refl
+changed-past f zero (x ∷ xs) h = absurd (omega arith)
+changed-past {X} f (suc i) (x ∷ xs) h = ap (λ (ys : List X). x ∷ ys) (changed-past f i xs (omega arith))
+
+lefts-none_from : {Q : Type 0} (n : ℕ) (queues : List Q)
+    → replicate (length queues) (left_of []) ≡ map (λ q. left_of (messages_of q.0 [])) (enumerate_from n queues)
+lefts-none_from n [] = refl
+lefts-none_from n (q ∷ qs) = ap (λ (ls : List Left). left_of [] ∷ ls) (lefts-none_from (n + 1) qs)
+
+-- nothing is left of no messages
+pub lefts-none : {Q : Type 0} (queues : List Q) → replicate (length queues) (left_of []) ≡ lefts queues []
+lefts-none queues = lefts-none_from 0 queues
+
+-- a slice of a whole list is written back
+pub written_back : {X : Type 0} (n : ℕ) (xs ys : List X) → length xs ≡ n → length ys ≡ n → take n (xs ++ drop (length xs) ys) ≡ xs
+written_back n xs ys e f = grind (arith, common_steps)
+
+running-none_from : (n : ℕ) (names : List (List ℕ)) → map fresh names ≡ map (queue_counts []) (enumerate_from n names)
+running-none_from n [] = refl
+running-none_from n (name ∷ names) = ap (λ (qs : List QueueCounts). fresh name ∷ qs) (running-none_from (n + 1) names)
+
+-- the queues with no rows
+pub running-none : (names : List (List ℕ)) → map fresh names ≡ running names []
+unfolding running
+running-none names = running-none_from 0 names
+
+-- there is one for each queue
+pub length-lefts : {Q : Type 0} (queues : List Q) (messages : List FinalMessage) → length (lefts queues messages) ≡ length queues
+length-lefts queues messages = simp (length-map, length-enumerate_from)
+
+-- there is one column for each queue
+pub length-columns : (queues : List QueueCounts) (messages : List FinalMessage) → length (columns_of_all queues messages) ≡ length queues
+length-columns queues messages = simp (length-map, length-enumerate_from)
+
+column-at_from : (n : ℕ) (queues : List QueueCounts) (messages : List FinalMessage) (i : ℕ) (d : Column) (q : QueueCounts) (l : Left) → i < length queues
+    → get_or (map (queue_column messages) (enumerate_from n queues)) i d
+    ≡ ((get_or queues i q).name, columns_by (get_or queues i q).tally (get_or (map (λ q. left_of (messages_of q.0 messages)) (enumerate_from n queues)) i l))
+column-at_from n [] messages i d q l h = absurd (omega arith)
+column-at_from n (x ∷ xs) messages zero d q l h = refl
+column-at_from n (x ∷ xs) messages (suc i) d q l h = column-at_from (n + 1) xs messages i d q l (omega arith)
+
+-- a queue's columns are of its own counts and of what is left of it
+pub column-at : (queues : List QueueCounts) (messages : List FinalMessage) (i : ℕ) (d : Column) (q : QueueCounts) (l : Left) → i < length queues
+    → get_or (columns_of_all queues messages) i d ≡ ((get_or queues i q).name, columns_by (get_or queues i q).tally (get_or (lefts queues messages) i l))
+column-at queues messages i d q l h = column-at_from 0 queues messages i d q l h
+
+-- the columns that are written for a queue, from its counts and what is left of it
+pub column-is : (queues : List QueueCounts) (messages : List FinalMessage) (left : List Left) (i : ℕ) (q : QueueCounts) (l : Left)
+    → i < length queues → q ≡ get_or queues i q → left ≡ lefts queues messages → l ≡ get_or left i l
+    → (q.name, columns_by q.tally l) ≡ get_or (columns_of_all queues messages) i (q.name, columns_by q.tally l)
+column-is queues messages left i q l h here all there =
+    let own : l ≡ get_or (lefts queues messages) i l = there ∙ ap (λ (ls : List Left). get_or ls i l) all in
+    ap (λ (x : QueueCounts). (x.name, columns_by x.tally l)) here
+    ∙ ap (λ (x : Left). ((get_or queues i q).name, columns_by (get_or queues i q).tally x)) own
+    ∙ sym (column-at queues messages i (q.name, columns_by q.tally l) q l h)
+
+get_or-up_to : (g : ℕ → ℕ) (most : ℕ) → ((n : ℕ) → g n ≤ most) → (ns : List ℕ) (c : ℕ) → get_or (map g ns) c 0 ≤ most
+get_or-up_to g most h [] c = omega arith
+get_or-up_to g most h (n ∷ ns) zero = h n
+get_or-up_to g most h (n ∷ ns) (suc c) = get_or-up_to g most h ns c
+
+filter-up_to : {X : Type 0} (p : X → Bool) (xs : List X) → length (filter p xs) ≤ length xs
+filter-up_to p xs = omega (arith, length-filter p xs, count_by-le-length p xs)
+
+-- no count is above the number of rows
+counts-up_to : (rows : List Row) (queue : ℕ × List ℕ) (c : ℕ) → get_or (queue_counts rows queue).tally.counts c 0 ≤ length rows
+counts-up_to rows queue c =
+    let own = rows_of queue.0 rows in
+    get_or-up_to (λ n. count n own) (length rows) (λ n. omega (arith, filter-up_to (counts_in n) own, filter-up_to (λ row. row.queue == queue.0) rows)) (numbers 0 counted_columns) c
+
+-- a count at the limit is of as many rows
+pub full-rows : (names : List (List ℕ)) (rows : List Row) → HasFull (running names rows) → most_count ≤ length rows
+unfolding running
+full-rows names rows h =
+    let few : QueueCounts → Type 0 = λ q. (c : ℕ) → get_or q.tally.counts c 0 ≤ length rows in
+    let all = All-map few (queue_counts rows) (enumerate_from 0 names) (λ k d _. counts-up_to rows (get_or (enumerate_from 0 names) k d)) in
+    let this = All-contains few (running names rows) h.0 all h.1 h.2.0 in
+    let here = h.2.1 in
+    omega arith
+
+-- a weaker reason
+pub IsStop-weaker : (full : Type 0) (other : Type 0) (e : Refusal) → (full → other) → IsStop full e → IsStop other e
+IsStop-weaker full other refusals.Memory h s = tt
+IsStop-weaker full other refusals.CountLimit h s = h s
+IsStop-weaker full other e h s = absurd s
+
+-- the refusal that a `?` hands on is the one that it met
+pub stop_handed_on : (full : Type 0) (other : Type 0) (e : Refusal) (r : Result (Unit {0}) Refusal)
+    → IsErrAnd r (λ met. met ≡ e) → (full → other) → IsStop full e → IfErr r (λ met. IsStop other met)
+stop_handed_on full other e (Ok u) p h s = tt
+stop_handed_on full other e (Err met) p h s = IsStop-weaker full other met h (rw p s)

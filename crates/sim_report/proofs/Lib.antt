@@ -1,0 +1,4 @@
+pub mod Ascending
+pub mod Tallies
+pub mod Groups
+pub mod Comparing

@@ -1,0 +1,4 @@
+pub mod Tally
+pub mod Left
+pub mod Running
+pub mod Compared

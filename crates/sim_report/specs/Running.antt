@@ -1,0 +1,59 @@
+-- The running counts of all queues, and the columns that they become.
+use Rattle.std.specs.Prelude.{ℕ, zero, suc, List, [], ◌∷◌, ◌++◌, map, sum, fold, Option, Some}
+use Rattle.std.specs.List.{Contains, enumerate_from}
+use Rattle.sqs_message.specs.declared.row.Row.{Row}
+use Rattle.sqs_model.specs.declared.finals.FinalMessage.{FinalMessage}
+use Rattle.sqs_formats.specs.Report.{Column, messages_of, rank, rows_of}
+use Rattle.sim_report.specs.declared.left.Left.{Left}
+use Rattle.sim_report.specs.declared.queue.QueueCounts.{QueueCounts}
+use Rattle.sim_report.specs.Left.{left_of}
+use Rattle.sim_report.specs.Tally.{IsFull, TallyState, tallied, tally_of}
+
+-- one element of a list changed, where there is such a place
+abbrev pub changed : {X : Type 0} → (X → X) → ℕ → List X → List X
+changed f n [] = []
+changed f zero (x ∷ xs) = f x ∷ xs
+changed f (suc n) (x ∷ xs) = x ∷ changed f n xs
+
+-- a queue with no rows
+abbrev pub fresh : List ℕ → QueueCounts
+fresh name = record { name = name; tally = tally_of [] }
+
+-- a queue's counts with one more row
+abbrev pub with_row : Row → QueueCounts → QueueCounts
+with_row row q = record q { tally = tallied row q.tally }
+
+-- the counts of all queues with one more row, which counts at its own queue alone
+abbrev pub row_added : List QueueCounts → Row → List QueueCounts
+row_added queues row = changed (with_row row) row.queue queues
+
+-- the counts of all queues with more rows
+abbrev pub rows_added : List QueueCounts → List Row → List QueueCounts
+rows_added queues rows = fold row_added queues rows
+
+-- of a queue with its number and name: the name, and the counts over its rows among these
+abbrev pub queue_counts : List Row → ℕ × List ℕ → QueueCounts
+queue_counts rows queue = record { name = queue.1; tally = tally_of (rows_of queue.0 rows) }
+
+-- the report after these rows: of each queue, by its name, the counts over its rows among them
+unfoldable pub running : List (List ℕ) → List Row → List QueueCounts
+running queues rows = map (queue_counts rows) (enumerate_from 0 queues)
+
+-- a count of a queue has reached the limit
+abbrev pub HasFull : List QueueCounts → Type 0
+HasFull queues = (q : QueueCounts) × Contains queues q × IsFull q.tally.counts
+
+-- the columns that a queue's counts become with what is left of it
+abbrev pub columns_by : TallyState → Left → List (Option ℕ)
+columns_by t l =
+    map (λ n. Some n) t.counts
+    ++ (Some t.depth_max ∷ Some l.visible ∷ Some l.in_flight ∷ Some l.delayed ∷ Some (sum t.ages)
+    ∷ rank 100 t.ages ∷ rank 50 t.ages ∷ rank 95 t.ages ∷ rank 99 t.ages ∷ [])
+
+-- the columns of a queue with its number
+abbrev pub queue_column : List FinalMessage → ℕ × QueueCounts → Column
+queue_column messages q = (q.1.name, columns_by q.1.tally (left_of (messages_of q.0 messages)))
+
+-- the columns of all queues
+abbrev pub columns_of_all : List QueueCounts → List FinalMessage → List Column
+columns_of_all queues messages = map (queue_column messages) (enumerate_from 0 queues)

@@ -1,0 +1,69 @@
+-- The running counts of one queue.
+use Rattle.std.specs.Prelude.{◌≡◌, ℕ, ◌+◌, ◌-◌, ◌*◌, ◌/◌, ◌≤◌, max, List, [], ◌∷◌, ◌++◌, length, map, set, get_or, slice_get, Option, Some, None}
+use Rattle.sim_clock.specs.declared.refusal.Refusal.{Refusal}
+use Rattle.sim_clock.specs.declared.refusal.Refusal.TheVariants as refusals
+use Rattle.sqs_model.specs.Answers.{most_count}
+use Rattle.sqs_message.specs.declared.row.Row.{Row}
+use Rattle.sqs_formats.specs.Report.{age_when, ages, column, count, counted_columns, depth_max, is_column, numbers}
+
+-- how many rows each counting column has, how many messages there were at once at most, and the
+-- ages at which messages were deleted
+pub record TallyState : Type 0 where
+  pub counts : List ℕ
+  pub depth_max : ℕ
+  pub ages : List ℕ
+
+-- the running counts after these rows of the queue
+abbrev pub tally_of : List Row → TallyState
+tally_of rows =
+    record { counts = map (λ n. count n rows) (numbers 0 counted_columns); depth_max = depth_max rows; ages = ages rows }
+
+-- a count has reached the limit
+abbrev pub IsFull : List ℕ → Type 0
+IsFull counts = (c : ℕ) × (get_or counts c 0 ≡ most_count)
+
+-- why rows are not counted: want of memory, or a count that would pass the limit, and then this holds
+abbrev pub IsStop : Type 0 → Refusal → Type 0
+IsStop full refusals.Memory = Unit {0}
+IsStop full refusals.CountLimit = full
+IsStop full r = ⊥
+
+-- a count that may be kept
+abbrev pub IsCount : ℕ → Type 0
+IsCount n = n ≤ most_count
+
+-- the counts with one more row in a column, where the row has one of these columns
+abbrev pub counted : Option ℕ → List ℕ → List ℕ
+counted None counts = counts
+counted (Some c) counts = set counts c (get_or counts c 0 + 1)
+
+-- how many messages came in by these counts, less those that went out
+abbrev pub depth_by : List ℕ → ℕ
+depth_by counts =
+    get_or counts 0 0 + get_or counts 8 0 - (get_or counts 4 0 + get_or counts 5 0 + get_or counts 6 0 + get_or counts 7 0)
+
+-- the age at which a row in this column deleted a message
+abbrev pub age_in : Option ℕ → Row → Option ℕ
+age_in c row = age_when (is_column 4 c) row.detail
+
+-- the ages with one more, where there is one
+abbrev pub with_age : Option ℕ → List ℕ → List ℕ
+with_age None ages = ages
+with_age (Some age) ages = ages ++ age ∷ []
+
+-- the running counts with a row whose column is known
+abbrev pub tallied_in : Option ℕ → Row → TallyState → TallyState
+tallied_in c row t =
+    record {
+      counts = counted c t.counts;
+      depth_max = max t.depth_max (depth_by (counted c t.counts));
+      ages = with_age (age_in c row) t.ages;
+    }
+
+-- the running counts with one more row
+abbrev pub tallied : Row → TallyState → TallyState
+tallied row t = tallied_in (column row.kind row.answer) row t
+
+-- the nearest rank of numbers in ascending order: the least with so many of 100 at or below it
+abbrev pub rank_in : ℕ → List ℕ → Option ℕ
+rank_in percent sorted = slice_get sorted ((percent * length sorted + 99) / 100 - 1)

@@ -1,0 +1,37 @@
+//! The column that counts a row.
+ghost use Rattle.std.specs.Prelude.{◌≡◌};
+ghost use Rattle.sqs_formats.specs.Report.{age_when, column, is_column};
+
+use sqs_message::{Detail, RowAnswer, RowKind};
+
+// The place of the column that counts rows of deletion.
+const DELETES: usize = 4;
+
+// The column that counts a row, by its place; a refusal's own stands after the first nine.
+pub(crate) fn column_of(kind: RowKind, answer: RowAnswer) -> Option<usize>
+    ensures { result ≡ column kind answer }
+{
+    match (kind, answer) {
+        (_, RowAnswer::Refused(refusal)) => Some(usize::from(refusal.code()) + 8),
+        (RowKind::Send, RowAnswer::New) => Some(0),
+        (RowKind::Send | RowKind::Arrive, RowAnswer::Repeat) => Some(1),
+        (RowKind::Receive, RowAnswer::Ok) => Some(2),
+        (RowKind::Receive, RowAnswer::Empty) => Some(3),
+        (RowKind::Delete, RowAnswer::Deleted) => Some(DELETES),
+        (RowKind::Expire, RowAnswer::Expired) => Some(5),
+        (RowKind::Redrive, RowAnswer::Out) => Some(6),
+        (RowKind::Move, RowAnswer::Out) => Some(7),
+        (RowKind::Arrive, RowAnswer::New) => Some(8),
+        _ => None,
+    }
+}
+
+// The age at which a row in this column deleted a message, in milliseconds.
+pub(crate) fn age_of(column: Option<usize>, detail: Detail) -> Option<u64>
+    ensures { result ≡ age_when (is_column 4 column) detail }
+{
+    match (column, detail) {
+        (Some(DELETES), Detail::Age(ms)) => Some(ms),
+        _ => None,
+    }
+}

@@ -1,0 +1,93 @@
+//! The columns of queues.
+ghost use Rattle.std.specs.Prelude.{◌≡◌, IfOk, find, map};
+ghost use Rattle.std.specs.Option.{option_map};
+ghost use Rattle.sqs_formats.specs.Report.{columns};
+ghost use Rattle.sqs_formats.specs.Comparison.{named};
+ghost use Rattle.sim_report.specs.Running.{columns_of_all};
+
+use crate::left::left_by_queue;
+use crate::queue::QueueCounts;
+use sqs_model::FinalMessage;
+use std::alloc::{AllocError, Global};
+use std::marker::Model;
+
+/// How many columns there are.
+pub(crate) const COLUMNS: usize = 27;
+
+/// A queue's name and its columns, of which some are empty.
+#[derive(Drop)]
+pub(crate) struct QueueColumns<'a> {
+    pub(crate) name: &'a [u8],
+    pub(crate) columns: Vec<Option<u128>>,
+}
+
+impl<'a> Model for QueueColumns<'a> {
+    ghost use Rattle.sqs_formats.specs.Report.{Column};
+
+    ghost Value = { Column };
+
+    ghost view = { λ q. (q.name.now, q.columns.items) };
+}
+
+// The names of the columns.
+pub(crate) fn column_names() -> [&'static [u8]; COLUMNS]
+    ensures { map (λ n. n.now) result ≡ columns }
+{
+    [
+        b"sends",
+        b"repeats",
+        b"receives",
+        b"empties",
+        b"deletes",
+        b"expiries",
+        b"redrives",
+        b"moves",
+        b"arrivals",
+        b"OverLimit",
+        b"MessageNotInflight",
+        b"ReceiptHandleIsInvalid",
+        b"BadTimeout",
+        b"MissingGroup",
+        b"MissingDeduplication",
+        b"BadDelay",
+        b"TaskRunning",
+        b"NoTask",
+        b"depth_max",
+        b"visible",
+        b"in_flight",
+        b"delayed",
+        b"age_sum",
+        b"age_max",
+        b"age_p50",
+        b"age_p95",
+        b"age_p99",
+    ]
+}
+
+// The columns of queues, with what is left of each.
+pub(crate) fn columns_of<'a>(
+    alloc: Global,
+    queues: &'a [QueueCounts],
+    messages: &[FinalMessage],
+) -> Result<Vec<QueueColumns<'a>>, AllocError>
+    ensures { IfOk result (λ v. v.items ≡ columns_of_all queues.now messages.now) }
+{
+    let left = left_by_queue(alloc, queues, messages)?;
+    let mut all = Vec::with_capacity(alloc, queues.len())?;
+    for (place, queue) in queues.iter().enumerate() {
+        let columns = queue.tally.columns(alloc, left[place])?;
+        let name = queue.name.as_bytes();
+        all.push(QueueColumns { name, columns })?;
+    }
+    Ok(all)
+}
+
+// The first of these queues that has a name.
+pub(crate) fn named<'a, 'b>(
+    name: &[u8],
+    report: &'b [QueueColumns<'a>],
+) -> Option<&'b QueueColumns<'a>>
+    ensures { option_map (λ q. q.now) result ≡ named name.now report.now }
+{
+    report.iter().find(|queue| queue.name == name)
+}

@@ -1,0 +1,16 @@
+//! The report of a run: running counts of each queue, which become its columns at the end.
+#![tactic(auto)]
+
+mod ages;
+mod column;
+mod columns;
+mod comparison;
+mod left;
+mod queue;
+mod report;
+mod tally;
+#[cfg(test)]
+mod tests;
+mod writing;
+
+pub use report::{Report, compare};

@@ -1,0 +1,125 @@
+//! The report of a run.
+ghost use Rattle.std.specs.Prelude.{◌≡◌, ◌<◌, ◌++◌, ℕ, List, [], false, length, IfErr, IfOk, IsOkUnless};
+ghost use Rattle.sim_report.specs.Running.{running};
+ghost use Rattle.sim_report.specs.Tally.{IsStop};
+ghost use Rattle.sqs_model.specs.Answers.{most_count};
+ghost use Rattle.sim_records.specs.Writes.{WroteSeveral};
+ghost use Rattle.sqs_message.specs.declared.row.Row.{Row};
+ghost use Rattle.sqs_formats.specs.Comparison.{comparison};
+ghost use Rattle.sqs_formats.specs.Report.{report, report_text};
+
+use crate::columns::{QueueColumns, columns_of};
+use crate::comparison::write_comparison;
+use crate::queue::{QueueCounts, add_rows, fresh_queues};
+use crate::writing::write_columns;
+use sim_clock::Refusal;
+use sim_records::Out;
+use sqs_message::{Row, Text};
+use sqs_model::Finals;
+use std::alloc::{AllocError, Global};
+use std::marker::Model;
+
+/// The counts of each queue over the rows so far, from which the report is written. The rows
+/// themselves are not kept.
+#[derive(Drop)]
+pub struct Report {
+    queues: Vec<QueueCounts>,
+}
+
+impl Model for Report {
+    ghost use Rattle.std.specs.Prelude.{List};
+    ghost use Rattle.sim_report.specs.declared.queue.QueueCounts.{QueueCounts};
+
+    ghost Value = { List QueueCounts };
+
+    ghost view = { λ r. r.queues.items };
+}
+
+impl Report {
+    /// The report of no rows, over the queues of these names, by number.
+    ///
+    /// # Errors
+    ///
+    /// `Memory` where a growth is refused.
+    pub fn new(alloc: Global, names: Vec<Text>) -> Result<Report, Refusal>
+        ensures opened { IfOk result (λ r. r ≡ running names.items []) }
+        ensures memory_only { IsOkUnless result Refusal.Memory }
+    {
+        Ok(Report {
+            queues: fresh_queues(alloc, names)?,
+        })
+    }
+
+    /// Adds rows to those before. A row of a queue whose number is past the last counts nowhere.
+    ///
+    /// # Errors
+    ///
+    /// `CountLimit` where a count would pass 2^62 - 1, `Memory` where an age could not be kept.
+    /// The report may then have some of the rows, and is not to be used again.
+    pub fn add(&mut self, rows: &[Row]) -> Result<(), Refusal>
+        ensures added { (names : List (List ℕ)) (before : List Row) → self.old ≡ running names before
+            → IfOk result (λ _. self.new ≡ running names (before ++ rows.now)) }
+        ensures stopped { (names : List (List ℕ)) (before : List Row) → self.old ≡ running names before
+            → IfErr result (λ e. IsStop (most_count < length (before ++ rows.now)) e) }
+    {
+        add_rows(self.queues.as_mut_slice(), rows)
+    }
+
+    /// Writes the report, with what is left at the end of the run.
+    ///
+    /// # Errors
+    ///
+    /// `Memory` where a growth is refused: a front of the lines is written. `Write` where the
+    /// writer fails: a front of the lines is written.
+    pub fn write_report<W: Out>(
+        &self,
+        alloc: Global,
+        out: &mut W,
+        finals: &Finals,
+    ) -> Result<(), Refusal>
+        requires { W.failed out.old ≡ false }
+        ensures { (names : List (List ℕ)) (rows : List Row) → self.now ≡ running names rows
+            → WroteSeveral (W.held out.old) (W.held out.new) (W.failed out.new) (report_text (report names rows finals.now)) result }
+    {
+        let columns = self.columns(alloc, finals)?;
+        write_columns(alloc, out, columns.as_slice())
+    }
+
+    // The columns of its queues, with what is left at the end of the run.
+    pub(crate) fn columns<'a>(
+        &'a self,
+        alloc: Global,
+        finals: &Finals,
+    ) -> Result<Vec<QueueColumns<'a>>, AllocError>
+        ensures { (names : List (List ℕ)) (rows : List Row) → self.now ≡ running names rows
+            → IfOk result (λ v. v.items ≡ report names rows finals.now) }
+    {
+        columns_of(alloc, self.queues.as_slice(), finals.messages.as_slice())
+    }
+}
+
+/// Writes the comparison of two reports, each with what was left at the end of its run: for each
+/// queue of the first a line for each column, and a line for each queue that stands in one only.
+///
+/// # Errors
+///
+/// `Memory` where a growth is refused, `Write` where the writer fails: a front of the lines is
+/// written.
+pub fn compare<W: Out>(
+    alloc: Global,
+    out: &mut W,
+    first: &Report,
+    first_finals: &Finals,
+    second: &Report,
+    second_finals: &Finals,
+) -> Result<(), Refusal>
+    requires { W.failed out.old ≡ false }
+    ensures { (names : List (List ℕ)) (rows : List Row) (others : List (List ℕ)) (other_rows : List Row)
+        → first.now ≡ running names rows → second.now ≡ running others other_rows
+        → WroteSeveral (W.held out.old) (W.held out.new) (W.failed out.new)
+        (comparison (report names rows first_finals.now) (report others other_rows second_finals.now)) result }
+{
+    let before = first.columns(alloc, first_finals)?;
+    let after = second.columns(alloc, second_finals)?;
+    write_comparison(alloc, out, before.as_slice(), after.as_slice())
+}

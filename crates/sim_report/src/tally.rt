@@ -1,0 +1,150 @@
+//! The running counts of a queue.
+ghost use Rattle.std.specs.Prelude.{◌≡◌, ◌∷◌, [], All, IfErr, IfOk, map, Some};
+ghost use Rattle.sim_report.specs.Tally.{IsCount, IsFull, IsStop, counted, depth_by, rank_in, tallied};
+
+use crate::ages::{nearest_rank, sorted, total};
+use crate::column::{age_of, column_of};
+use crate::left::Left;
+use sim_clock::Refusal;
+use sqs_message::Row;
+use std::alloc::{AllocError, Global};
+use std::marker::Model;
+
+/// How many columns count rows.
+pub(crate) const COUNTED: usize = 18;
+
+/// How many columns do not.
+pub(crate) const OTHERS: usize = 9;
+
+// The greatest value of a count.
+const MOST_COUNT: u64 = 4611686018427387903;
+
+/// The running counts of a queue: what its columns need of the rows so far, without the rows.
+#[derive(Drop)]
+pub(crate) struct Tally {
+    counts: [u64; COUNTED],
+    depth_max: u64,
+    ages: Vec<u64>,
+}
+
+impl Model for Tally {
+    ghost use Rattle.std.specs.Prelude.{All};
+    ghost use Rattle.sim_report.specs.Tally.{IsCount, TallyState};
+
+    ghost Value = { TallyState };
+
+    ghost view = { λ t. record { counts = t.counts; depth_max = t.depth_max; ages = t.ages.items } };
+
+    ghost invariant = { λ t. All IsCount t.counts };
+}
+
+// Counts one more row in a column, where it is one of these.
+fn count_in(counts: &mut [u64; COUNTED], column: Option<usize>) -> Result<(), Refusal>
+    requires { All IsCount counts.old }
+    ensures counted { IfOk result (λ _. counts.new ≡ counted column counts.old) }
+    ensures within { All IsCount counts.new }
+    ensures stopped { IfErr result (λ e. IsStop (IsFull counts.old) e) }
+{
+    if let Some(column) = column
+        && column < COUNTED
+    {
+        if counts[column] == MOST_COUNT {
+            return Err(Refusal::CountLimit);
+        }
+        counts[column] += 1;
+    }
+    Ok(())
+}
+
+// How many messages came in by these counts, less those that went out.
+fn depth_of(counts: &[u64; COUNTED]) -> u64
+    requires { All IsCount counts.now }
+    ensures { result ≡ depth_by counts.now }
+{
+    let came = counts[0] + counts[8];
+    let went = counts[4] + counts[5] + counts[6] + counts[7];
+    came.saturating_sub(went)
+}
+
+// The columns that count rows.
+fn count_columns(alloc: Global, counts: &[u64; COUNTED]) -> Result<Vec<Option<u128>>, AllocError>
+    ensures { IfOk result (λ v. v.items ≡ map (λ n. Some n) counts.now) }
+{
+    let mut columns = Vec::with_capacity(alloc, COUNTED + OTHERS)?;
+    for count in counts {
+        columns.push(Some(u128::from(*count)))?;
+    }
+    Ok(columns)
+}
+
+// The columns that do not count rows.
+fn other_columns(
+    depth_max: u64,
+    left: Left,
+    age_sum: u128,
+    sorted: &[u64],
+) -> [Option<u128>; OTHERS]
+    ensures { result ≡ Some depth_max ∷ Some left.visible ∷ Some left.in_flight ∷ Some left.delayed ∷ Some age_sum
+        ∷ rank_in 100 sorted.now ∷ rank_in 50 sorted.now ∷ rank_in 95 sorted.now ∷ rank_in 99 sorted.now ∷ [] }
+{
+    [
+        Some(u128::from(depth_max)),
+        Some(u128::from(left.visible)),
+        Some(u128::from(left.in_flight)),
+        Some(u128::from(left.delayed)),
+        Some(age_sum),
+        nearest_rank(sorted, 100),
+        nearest_rank(sorted, 50),
+        nearest_rank(sorted, 95),
+        nearest_rank(sorted, 99),
+    ]
+}
+
+impl Tally {
+    ghost use Rattle.sim_report.specs.Running.{columns_by};
+    ghost use Rattle.std.specs.Prelude.{[]};
+    ghost use Rattle.sim_report.specs.Tally.{tally_of};
+
+    /// The counts of no rows.
+    pub(crate) fn new(alloc: Global) -> Tally
+        ensures { result ≡ tally_of [] }
+    {
+        Tally {
+            counts: [0; COUNTED],
+            depth_max: 0,
+            ages: Vec::new(alloc),
+        }
+    }
+
+    /// Counts a row of the queue.
+    ///
+    /// # Errors
+    ///
+    /// `CountLimit` where a count would pass 2^62 - 1; `Memory` where an age could not be kept.
+    pub(crate) fn count_row(&mut self, row: &Row) -> Result<(), Refusal>
+        ensures counted { IfOk result (λ _. self.new ≡ tallied row.now self.old) }
+        ensures stopped { IfErr result (λ e. IsStop (IsFull self.old.counts) e) }
+    {
+        let column = column_of(row.kind, row.answer);
+        count_in(&mut self.counts, column)?;
+        self.depth_max = self.depth_max.max(depth_of(&self.counts));
+        if let Some(age) = age_of(column, row.detail) {
+            self.ages.push(age)?;
+        }
+        Ok(())
+    }
+
+    /// The columns of the queue, with what is left of it.
+    pub(crate) fn columns(&self, alloc: Global, left: Left) -> Result<Vec<Option<u128>>, AllocError>
+        ensures { IfOk result (λ v. v.items ≡ columns_by self.now left) }
+    {
+        let sorted = sorted(alloc, self.ages.as_slice())?;
+        let age_sum = total(self.ages.as_slice());
+        let others = other_columns(self.depth_max, left, age_sum, sorted.as_slice());
+        let mut columns = count_columns(alloc, &self.counts)?;
+        for column in others {
+            columns.push(column)?;
+        }
+        Ok(columns)
+    }
+}

@@ -1,0 +1,158 @@
+-- The ranges of what a text's actors say.
+use Rattle.std.proofs.Common.{◌≡◌, ℕ, ◌≤◌, Bool, codes, List, [], ◌∷◌, map, find, Option, Some, None, Ok, arith}
+use Rattle.std.specs.Str.{bytes_eq}
+use Rattle.std.proofs.lemmas.List.Elements.{All-nil}
+use Rattle.toml.specs.Data.{Data, as_integer, as_str}
+use Rattle.sim_clock.specs.declared.refusal.Refusal.TheVariants.{OutOfRange}
+use Rattle.sqs_message.specs.declared.calls.ScriptCall.{ScriptCall}
+use Rattle.sqs_formats.specs.declared.faults.ScriptFault.{ScriptFault}
+use Rattle.sqs_formats.specs.declared.home.Home.{Home}
+use Rattle.sqs_formats.specs.Reading.{Reading, answer, first, needs, retold}
+use Rattle.sqs_formats.specs.Reading as reading
+use Rattle.sqs_formats.specs.Keys.{Says, Table, at, fault_at, integer, maybe, optional_when, place_of, required, required_when, some, text_that, typed}
+use Rattle.sqs_formats.specs.Names.{is_script_name}
+use Rattle.sqs_formats.specs.Outline.{Outline, kind_at}
+use Rattle.sqs_formats.specs.Actors.{ActorKind, ConsumerKind, Files, ProducerKind, ScriptKind, Unread, actor, calls_by, calls_in, consuming, file_when, forward, home_of, producing, role, script_fault, scripted}
+use Rattle.sqs_formats.specs.Script.{script, waits}
+use Rattle.sqs_model.specs.declared.agents.ActorSettings.{ActorSettings}
+use Rattle.sqs_model.specs.declared.agents.Forwarding.{Forwarding}
+use Rattle.sqs_model.specs.declared.agents.Role.{Role}
+use Rattle.sqs_model.specs.Valid.{MayBeForward, MayBeTimeout}
+use Rattle.sim_scenario.specs.Ranges.{IsRole, IsScript}
+use Rattle.sim_scenario.proofs.Sound.{is_read, optional_within, parts, required_within, typed_within}
+use Rattle.sim_scenario.proofs.QueueRanges.{latency_in_range}
+use Rattle.sim_scenario.proofs.ScriptRanges.{script_in_range}
+use Rattle.sim_scenario.proofs.ActorParts.{file_read}
+
+-- a producer
+producer_in_range : (fifo : Bool) (t : Table) (r : Role) → answer (producing fifo t) ≡ Ok r → IsRole r
+producer_in_range fifo t r e =
+    let known = parts _ _ _ e in
+    let count = parts _ _ _ known.2 in
+    let start = parts _ _ _ count.2 in
+    let gap_min = parts _ _ _ start.2 in
+    let gap_max = parts _ _ _ gap_min.2 in
+    let body = parts _ _ _ gap_max.2 in
+    let own = parts _ _ _ body.2 in
+    let least = required_within 1 86400000 t (codes "gap_min_ms") gap_min.0 gap_min.1 in
+    let most = required_within gap_min.0 86400000 t (codes "gap_max_ms") gap_max.0 gap_max.1 in
+    rw (← is_read _ _ own.2) (record {
+      count = required_within 1 1000000 t (codes "count") count.0 count.1;
+      start = (optional_within 0 2592000000 0 t (codes "start_ms") start.0 (omega arith, omega arith) start.1).1;
+      gap_min = least.0;
+      ordered = most.0;
+      gap_max = most.1;
+    })
+
+-- a consumer
+timeout_typed : (place : List ℕ) (d : Data) (v : Option ℕ) → answer ((some (integer 0 43200)).read place d) ≡ Ok v → MayBeTimeout v
+timeout_typed place d v e =
+    let n = parts _ _ _ e in
+    let w = typed_within 0 43200 place (as_integer d) n.0 n.1 in
+    rw (← is_read _ _ n.2) w.1
+
+timeout_when : (place : List ℕ) (o : Option Data) (v : Option ℕ) → answer (optional_when None (some (integer 0 43200)) place o) ≡ Ok v → MayBeTimeout v
+timeout_when place None v e = rw (← is_read _ _ e) tt
+timeout_when place (Some d) v e = timeout_typed place d v e
+
+timeout_in_range : (t : Table) (key : List ℕ) (v : Option ℕ) → answer (maybe (integer 0 43200) t key) ≡ Ok v → MayBeTimeout v
+timeout_in_range t key v e = timeout_when (place_of t key) (at t key) v e
+
+forward_in_range : (o : Outline) (home : ℕ) (t : Table) (d : Option Data) (f : Option Forwarding) → answer (forward o home t d) ≡ Ok f → MayBeForward f
+forward_in_range o home t None f e = rw (← is_read _ _ e) tt
+forward_in_range o home t (Some d) f e =
+    let to = parts _ _ _ e in
+    let within = parts _ _ _ to.2 in
+    rw (← is_read _ _ within.2) (latency_in_range o.version t within.0 within.1)
+
+consumer_in_range : (o : Outline) (home : ℕ) (t : Table) (r : Role) → answer (consuming o home t) ≡ Ok r → IsRole r
+consumer_in_range o home t r e =
+    let known = parts _ _ _ e in
+    let start = parts _ _ _ known.2 in
+    let batch = parts _ _ _ start.2 in
+    let wait = parts _ _ _ batch.2 in
+    let timeout = parts _ _ _ wait.2 in
+    let service_min = parts _ _ _ timeout.2 in
+    let service_max = parts _ _ _ service_min.2 in
+    let failures = parts _ _ _ service_max.2 in
+    let idle = parts _ _ _ failures.2 in
+    let forward = parts _ _ _ idle.2 in
+    let least = required_within 1 86400000 t (codes "service_min_ms") service_min.0 service_min.1 in
+    let most = required_within service_min.0 86400000 t (codes "service_max_ms") service_max.0 service_max.1 in
+    rw (← is_read _ _ forward.2) (record {
+      start = (optional_within 0 2592000000 0 t (codes "start_ms") start.0 (omega arith, omega arith) start.1).1;
+      batch = optional_within 1 10 1 t (codes "batch") batch.0 (omega arith, omega arith) batch.1;
+      wait = (optional_within 0 20 0 t (codes "wait_s") wait.0 (omega arith, omega arith) wait.1).1;
+      timeout = timeout_in_range t (codes "timeout_s") timeout.0 timeout.1;
+      service_min = least.0;
+      ordered = most.0;
+      service_max = most.1;
+      failures = (optional_within 0 1000 0 t (codes "fail_permille") failures.0 (omega arith, omega arith) failures.1).1;
+      idle = optional_within 1 86400000 1000 t (codes "idle_ms") idle.0 (omega arith, omega arith) idle.1;
+      forward = forward_in_range o home t (at t (codes "forward")) forward.0 forward.1;
+    })
+
+-- what holds of the texts at a key that read on
+pub typed_holds : {X : Type 0} (P : X → Type 0) (x : X) (read : List ℕ → List ℕ → Says X) (place : List ℕ) (o : Option (List ℕ)) (v : X)
+    → ((place s : List ℕ) (v : X) → answer (read place s) ≡ Ok v → P v) → answer (typed x (read place) place o) ≡ Ok v → P v
+unfolding answer
+typed_holds P x read place None v h e = cc e
+typed_holds P x read place (Some s) v h e = h place s v e
+
+required_when_holds : {X : Type 0} (P : X → Type 0) (x : X) (read : List ℕ → List ℕ → Says X) (place : List ℕ) (o : Option Data) (v : X)
+    → ((place s : List ℕ) (v : X) → answer (read place s) ≡ Ok v → P v) → answer (required_when (text_that x read) place o) ≡ Ok v → P v
+unfolding answer
+required_when_holds P x read place None v h e = cc e
+required_when_holds P x read place (Some d) v h e = typed_holds P x read place (as_str d) v h e
+
+pub text_holds : {X : Type 0} (P : X → Type 0) (x : X) (read : List ℕ → List ℕ → Says X) (t : Table) (key : List ℕ) (v : X)
+    → ((place s : List ℕ) (v : X) → answer (read place s) ≡ Ok v → P v) → answer (required (text_that x read) t key) ≡ Ok v → P v
+text_holds P x read t key v h e = required_when_holds P x read (place_of t key) (at t key) v h e
+
+-- a script in the scenario
+told_back : {F G X : Type 0} (tell : F → G) (fs : List F) (x v : X) → first (map tell fs) x ≡ Ok v → first fs x ≡ Ok v
+told_back tell [] x v e = cc e
+told_back tell (f ∷ fs) x v e = cc e
+
+calls_in_range : (home : Home) (place s : List ℕ) (cs : List ScriptCall) → answer (calls_in home place s) ≡ Ok cs → IsScript cs
+unfolding answer
+calls_in_range home place s cs e =
+    let r : Reading ScriptFault (List ScriptCall) = script home s in
+    script_in_range home s cs (told_back (script_fault place) r.faults r.value cs e)
+
+file_in_range : (home : Home) (place : List ℕ) (o : Option (List ℕ × List ℕ)) (cs : List ScriptCall) → answer (file_when home place o) ≡ Ok cs → IsScript cs
+unfolding answer
+file_in_range home place None cs e = cc e
+file_in_range home place (Some file) cs e = calls_in_range home place file.1 cs e
+
+named_in_range : (files : Files) (home : Home) (place s : List ℕ) (cs : List ScriptCall)
+    → answer (reading.◌>>=◌ (needs (is_script_name s) (fault_at OutOfRange place) s) (λ s. file_when home place (find (λ file. bytes_eq file.0 s) files))) ≡ Ok cs → IsScript cs
+named_in_range files home place s cs e =
+    let name = parts _ _ _ e in
+    file_in_range home place (find (λ (file : List ℕ × List ℕ). bytes_eq file.0 name.0) files) cs name.2
+
+calls_by_in_range : (files : Files) (home : Home) (t : Table) (d : Option Data) (cs : List ScriptCall) → answer (calls_by files home t d) ≡ Ok cs → IsScript cs
+calls_by_in_range files home t None cs e = text_holds IsScript [] (calls_in home) t (codes "calls") cs (calls_in_range home) e
+calls_by_in_range files home t (Some d) cs e = text_holds IsScript [] (file_read files home) t (codes "script") cs (named_in_range files home) e
+
+scripted_in_range : (files : Files) (o : Outline) (home : ℕ) (t : Table) (r : Role) → answer (scripted files o home t) ≡ Ok r → IsRole r
+scripted_in_range files o home t r e =
+    let known = parts _ _ _ e in
+    let calls = parts _ _ _ known.2 in
+    rw (← is_read _ _ calls.2) (calls_by_in_range files (home_of o home) t (at t (codes "script")) calls.0 calls.1)
+
+-- an actor
+role_in_range : (kind : ActorKind) (files : Files) (o : Outline) (home : ℕ) (t : Table) (r : Role) → answer (role kind files o home t) ≡ Ok r → IsRole r
+role_in_range Unread files o home t r e = rw (← is_read _ _ e) (record { few = omega arith; ascending = tt; waiting = All-nil (λ (c : ScriptCall). waits c.call ≤ 20) })
+role_in_range ScriptKind files o home t r e = scripted_in_range files o home t r e
+role_in_range ProducerKind files o home t r e = producer_in_range (kind_at o home) t r e
+role_in_range ConsumerKind files o home t r e = consumer_in_range o home t r e
+
+pub actor_in_range : (files : Files) (o : Outline) (index : ℕ) (t : Table) (a : List ℕ × ActorSettings) → answer (actor files o index t) ≡ Ok a → IsRole a.1.role
+unfolding actor
+actor_in_range files o index t a e =
+    let name = parts _ _ _ e in
+    let kind = parts _ _ _ name.2 in
+    let home = parts _ _ _ kind.2 in
+    let role = parts _ _ _ home.2 in
+    rw (← is_read _ _ role.2) (role_in_range kind.0 files o home.0 t role.0 role.1)

@@ -1,0 +1,98 @@
+-- What a text says without a fault is in range.
+use Rattle.std.proofs.Common.{length-append, ◌++◌, subst, ◌≡◌, ◌∙◌, ◌<◌, length, ℕ, ◌+◌, ◌≤◌, codes, List, map, Option, Some, None, Ok, sym, arith}
+use Rattle.std.specs.Prelude.{All}
+use Rattle.std.proofs.lemmas.List.Elements.{All-map, All-weaker}
+use Rattle.sqs_redrive.specs.declared.settings.Policy.{Policy}
+use Rattle.sqs_redrive.specs.declared.settings.QueueSettings.{QueueSettings}
+use Rattle.sqs_redrive.specs.declared.settings.TaskSettings.{TaskSettings}
+use Rattle.sqs_model.specs.declared.agents.ActorSettings.{ActorSettings}
+use Rattle.sqs_model.specs.declared.agents.Forwarding.{Forwarding}
+use Rattle.sqs_model.specs.declared.agents.Role.{Role}
+use Rattle.sqs_model.specs.declared.agents.Role.TheVariants.{Consumer, Producer, Script}
+use Rattle.sqs_model.specs.Progress.{IsSoundForward, IsSoundPolicy, IsSoundRole, IsSoundSettings, TakesTime}
+use Rattle.sqs_model.specs.Scenario.{Scenario}
+use Rattle.sqs_model.specs.Valid.{IsQueueSettings, IsTaskSettings, MayBeForward, MayBePolicy}
+use Rattle.sqs_formats.specs.Reading.{answer}
+use Rattle.sqs_formats.specs.Keys.{each}
+use Rattle.sqs_formats.specs.Outline.{Outline}
+use Rattle.sqs_formats.specs.Queues.{queue}
+use Rattle.sqs_formats.specs.Actors.{Files, actor}
+use Rattle.sqs_formats.specs.Tasks.{task}
+use Rattle.sqs_formats.specs.Scenario.{Top}
+use Rattle.std.proofs.lemmas.List.{length-map}
+use Rattle.sim_scenario.specs.Ranges.{IsInRange, IsLinked, IsRole, LeadsBelow, MayBeBelow, RoleBelow}
+use Rattle.sim_scenario.proofs.Links.{actor_below, each_length, queue_below, task_below}
+use Rattle.sim_scenario.proofs.ActorRanges.{actor_in_range}
+use Rattle.sim_scenario.proofs.QueueRanges.{each_holds, queue_in_range, task_in_range}
+use Rattle.sim_scenario.specs.TopWalks.{IsTop, whole}
+
+-- what is in range is sound
+policy_sound : (p : Option Policy) → MayBePolicy p → IsSoundPolicy p
+policy_sound None h = tt
+policy_sound (Some p) h = h.latency.least
+
+queue_sound : (q : QueueSettings) → IsQueueSettings q → IsSoundSettings q
+queue_sound q h = record { retention = omega (arith, h.retention.0); policy = policy_sound q.policy h.policy }
+
+forward_sound : (f : Option Forwarding) → MayBeForward f → IsSoundForward f
+forward_sound None h = tt
+forward_sound (Some f) h = h.least
+
+role_sound : (r : Role) → IsRole r → IsSoundRole r
+role_sound (Script calls) h = h.ascending
+role_sound (Producer p) h = h.gap_min
+role_sound (Consumer c) h = (h.service_min, h.idle.0, forward_sound c.forward h.forward)
+
+names_count : (queues : List (List ℕ × QueueSettings)) (actors : List (List ℕ × ActorSettings)) (tasks : List (List ℕ × TaskSettings))
+    → length (map (λ x. x.0) queues ++ (map (λ x. x.0) actors ++ map (λ x. x.0) tasks)) ≡ length (map (λ x. x.1) queues) + length (map (λ x. x.1) actors) + length (map (λ x. x.1) tasks)
+names_count queues actors tasks = simp (length-append, length-map) (omega arith)
+
+linked_by : (count : ℕ) (s : Scenario) → length s.queues ≡ count
+    → All (λ q. LeadsBelow count q.policy) s.queues → All (λ a. (a.home < count) × RoleBelow count a.role) s.actors → All (λ t. (t.home < count) × MayBeBelow count t.to) s.tasks → IsLinked s
+linked_by count s same q a t = record {
+  policies = subst (λ (n : ℕ). All (λ (q : QueueSettings). LeadsBelow n q.policy) s.queues) (sym same) q;
+  actors = subst (λ (n : ℕ). All (λ (a : ActorSettings). (a.home < n) × RoleBelow n a.role) s.actors) (sym same) a;
+  tasks = subst (λ (n : ℕ). All (λ (t : TaskSettings). (t.home < n) × MayBeBelow n t.to) s.tasks) (sym same) t;
+}
+
+pub whole_in_range : (files : Files) (top : Top) (o : Outline) (queues : List (List ℕ × QueueSettings)) (actors : List (List ℕ × ActorSettings)) (tasks : List (List ℕ × TaskSettings))
+    → IsTop top → length o.queues ≡ length top.queues → answer (each (codes "queue") (queue o) 0 top.queues) ≡ Ok queues
+    → answer (each (codes "actor") (actor files o) 0 top.actors) ≡ Ok actors → answer (each (codes "task") (task o) 0 top.tasks) ≡ Ok tasks → IsInRange (whole top queues actors tasks)
+whole_in_range files top o queues actors tasks numbers outlined are_queues are_actors are_tasks =
+    let q = each_holds (λ (x : List ℕ × QueueSettings). IsQueueSettings x.1) (codes "queue") (queue o) 0 top.queues queues (queue_in_range o) are_queues in
+    let a = each_holds (λ (x : List ℕ × ActorSettings). IsRole x.1.role) (codes "actor") (actor files o) 0 top.actors actors (actor_in_range files o) are_actors in
+    let t = each_holds (λ (x : List ℕ × TaskSettings). IsTaskSettings x.1) (codes "task") (task o) 0 top.tasks tasks (task_in_range o) are_tasks in
+    let settings = All-map IsQueueSettings (λ (x : List ℕ × QueueSettings). x.1) queues q in
+    let roles = All-map (λ (a : ActorSettings). IsRole a.role) (λ (x : List ℕ × ActorSettings). x.1) actors a in
+    let moves = All-map IsTaskSettings (λ (x : List ℕ × TaskSettings). x.1) tasks t in
+    let count : ℕ = length o.queues in
+    let queue_count : length (map (λ (x : List ℕ × QueueSettings). x.1) queues) ≡ length top.queues =
+    length-map queues (λ (x : List ℕ × QueueSettings). x.1) ∙ each_length (codes "queue") (queue o) 0 top.queues queues are_queues in
+    let actor_count : length (map (λ (x : List ℕ × ActorSettings). x.1) actors) ≡ length top.actors =
+    length-map actors (λ (x : List ℕ × ActorSettings). x.1) ∙ each_length (codes "actor") (actor files o) 0 top.actors actors are_actors in
+    let task_count : length (map (λ (x : List ℕ × TaskSettings). x.1) tasks) ≡ length top.tasks =
+    length-map tasks (λ (x : List ℕ × TaskSettings). x.1) ∙ each_length (codes "task") (task o) 0 top.tasks tasks are_tasks in
+    let some : 1 ≤ length o.queues = omega (arith, numbers.few_queues.0) in
+    let lq = each_holds (λ (x : List ℕ × QueueSettings). LeadsBelow count x.1.policy) (codes "queue") (queue o) 0 top.queues queues (queue_below o some) are_queues in
+    let la = each_holds (λ (x : List ℕ × ActorSettings). (x.1.home < count) × RoleBelow count x.1.role) (codes "actor") (actor files o) 0 top.actors actors (actor_below files o) are_actors in
+    let lt = each_holds (λ (x : List ℕ × TaskSettings). (x.1.home < count) × MayBeBelow count x.1.to) (codes "task") (task o) 0 top.tasks tasks (task_below o) are_tasks in
+    record {
+      horizon = numbers.horizon;
+      seed = numbers.seed;
+      sample = numbers.sample;
+      queues = settings;
+      actors = roles;
+      tasks = moves;
+      sound = record {
+        queues = All-weaker IsQueueSettings IsSoundSettings queue_sound _ settings;
+        actors = All-weaker (λ (a : ActorSettings). IsRole a.role) (λ (a : ActorSettings). IsSoundRole a.role) (λ a h. role_sound a.role h) _ roles;
+        tasks = All-weaker IsTaskSettings (λ (t : TaskSettings). TakesTime t.latency) (λ t h. h.latency.least) _ moves;
+      };
+      few_queues = rw queue_count numbers.few_queues;
+      few_agents = rw (actor_count, task_count) numbers.few_agents;
+      named = names_count queues actors tasks;
+      linked = linked_by count _ (queue_count ∙ sym outlined)
+          (All-map (λ (q : QueueSettings). LeadsBelow count q.policy) (λ (x : List ℕ × QueueSettings). x.1) queues lq)
+          (All-map (λ (a : ActorSettings). (a.home < count) × RoleBelow count a.role) (λ (x : List ℕ × ActorSettings). x.1) actors la)
+          (All-map (λ (t : TaskSettings). (t.home < count) × MayBeBelow count t.to) (λ (x : List ℕ × TaskSettings). x.1) tasks lt);
+    }

@@ -1,0 +1,29 @@
+use Rattle.std.proofs.Common.{◌∙◌, map, string_bytes, true, false, rules}
+use Rattle.sqs_formats.specs.Reading.{answer}
+use Rattle.sim_scenario.proofs.UnknownKeys.{unknown_faults, keys_in-view, known_here, step_known, step_unknown, named_fails}
+use Rattle.sim_scenario.proofs.keys.known_keys.Goals as goal
+
+pub loop-key-init : goal.loop-key-init
+loop-key-init c = rw (c.into_iter-key-iterator.ensures.into_iter_gives, c.keys-key-items.ensures.rest, keys_in-view c.args.table.now.entries)
+
+pub loop-key-preserved : goal.loop-key-preserved
+loop-key-preserved c =
+    let known = map (λ k. k.now) c.args.known.now in
+    let key = string_bytes c.in-Some.key.now in
+    let step = rw c.in-Some.is at c.next.ensures.steps in
+    let here = known_here c.args.known.now key c.as_str.result.now c.is_known.result true c.as_str.ensures.value c.is_known.ensures c.if-not-is_known.false in
+    rw step at c.loop-key.invariant ∙ step_known c.args.place.now known key (map string_bytes c.next.new.self) here
+
+pub returns-then-not-is_known : goal.returns-then-not-is_known
+unfolding answer
+returns-then-not-is_known c =
+    let known = map (λ k. k.now) c.args.known.now in
+    let key = string_bytes c.in-Some.key.now in
+    let step = rw c.in-Some.is at c.next.ensures.steps in
+    let here = known_here c.args.known.now key c.as_str.result.now c.is_known.result false c.as_str.ensures.value c.is_known.ensures c.if-not-is_known.true in
+    let left = rw step at c.loop-key.invariant ∙ step_unknown c.args.place.now known key (map string_bytes c.next.new.self) here in
+    rw left (named_fails c.blame.result _ (unknown_faults c.args.place.now known (map string_bytes c.next.new.self)) _ (rw c.as_str-then-not-is_known.ensures.value at c.blame.ensures))
+
+pub returns : goal.returns
+unfolding answer
+returns c = rw (c.loop-key.invariant) (search rules)

@@ -1,0 +1,26 @@
+-- What a reader of a part returns: what the text says there, or want of memory.
+use Rattle.std.specs.Prelude.{◌≡◌, ℕ, List, Result, Ok, Err}
+use Rattle.toml.specs.Data.{Members}
+use Rattle.sqs_formats.specs.declared.faults.ScenarioFault.{ScenarioFault}
+use Rattle.sqs_formats.specs.Keys.{Table}
+use Rattle.sim_scenario.specs.declared.fault.ReadError.{ReadError}
+use Rattle.sim_scenario.specs.declared.fault.ReadError.TheVariants as errors
+
+-- the table of some members, before whose keys a prefix stands
+abbrev pub table : List ℕ → Members → Table
+table prefix ms = record { prefix = prefix; members = ms }
+
+-- an error is this fault, or tells of memory alone
+abbrev pub Names : ReadError → ScenarioFault → Type 0
+Names errors.Memory f = Unit {0}
+Names (errors.Fault g) f = g ≡ f
+
+-- an error is that of the reading, or tells of memory alone
+abbrev pub Fails : {Y : Type 0} → ReadError → Result Y ScenarioFault → Type 0
+Fails errors.Memory read = Unit {0}
+Fails (errors.Fault f) read = read ≡ Err f
+
+-- what a function returned, seen by view, is what the text says, unless memory ran out
+abbrev pub Gives : {X Y : Type 0} → (X → Y) → Result X ReadError → Result Y ScenarioFault → Type 0
+Gives view (Ok x) read = read ≡ Ok (view x)
+Gives view (Err e) read = Fails e read

@@ -1,0 +1,64 @@
+-- The ranges that a scenario keeps to which was read from a text.
+use Rattle.std.specs.Prelude.{All, List, None, Option, Some, ℕ, ◌+◌, ◌<◌, ◌≡◌, ◌≤◌, length}
+use Rattle.sqs_message.specs.declared.calls.ScriptCall.{ScriptCall}
+use Rattle.sqs_formats.specs.Script.{waits}
+use Rattle.sqs_model.specs.declared.agents.Forwarding.{Forwarding}
+use Rattle.sqs_model.specs.declared.agents.Role.{Role}
+use Rattle.sqs_model.specs.declared.agents.Role.TheVariants.{Consumer, Producer, Script}
+use Rattle.sqs_redrive.specs.declared.settings.Policy.{Policy}
+use Rattle.sqs_model.specs.Progress.{Ascends, IsSoundScenario}
+use Rattle.sqs_model.specs.Scenario.{Scenario}
+use Rattle.sqs_model.specs.Valid.{Between, IsConsumer, IsProducer, IsQueueSettings, IsTaskSettings}
+
+-- at most 100,000 calls, each later than the one before it; a receive waits for at most 20 seconds
+pub record IsScript (calls : List ScriptCall) : Type 0 where
+  pub few : length calls ≤ 100000
+  pub ascending : Ascends (λ c. c.at) 0 calls
+  pub waiting : All (λ c. waits c.call ≤ 20) calls
+
+-- a role in range
+abbrev pub IsRole : Role → Type 0
+IsRole (Script calls) = IsScript calls
+IsRole (Producer p) = IsProducer p
+IsRole (Consumer c) = IsConsumer c
+
+-- a number below a bound, if there is one
+abbrev pub MayBeBelow : ℕ → Option ℕ → Type 0
+MayBeBelow bound None = Unit {0}
+MayBeBelow bound (Some n) = n < bound
+
+-- the same of where a policy leads
+abbrev pub LeadsBelow : ℕ → Option Policy → Type 0
+LeadsBelow bound None = Unit {0}
+LeadsBelow bound (Some p) = p.dead_letter < bound
+
+-- and of where a consumer forwards to
+abbrev pub ForwardsBelow : ℕ → Option Forwarding → Type 0
+ForwardsBelow bound None = Unit {0}
+ForwardsBelow bound (Some f) = f.to < bound
+
+-- the same of any actor
+abbrev pub RoleBelow : ℕ → Role → Type 0
+RoleBelow bound (Script calls) = Unit {0}
+RoleBelow bound (Producer p) = Unit {0}
+RoleBelow bound (Consumer c) = ForwardsBelow bound c.forward
+
+-- whatever names a queue names one of the scenario
+pub record IsLinked (s : Scenario) : Type 0 where
+  pub policies : All (λ q. LeadsBelow (length s.queues) q.policy) s.queues
+  pub actors : All (λ a. (a.home < length s.queues) × RoleBelow (length s.queues) a.role) s.actors
+  pub tasks : All (λ t. (t.home < length s.queues) × MayBeBelow (length s.queues) t.to) s.tasks
+
+-- a scenario in range, in which time moves on
+pub record IsInRange (s : Scenario) : Type 0 where
+  pub horizon : Between 1 2592000000 s.horizon
+  pub seed : s.seed ≤ 9223372036854775807
+  pub sample : s.sample ≤ 2592000000
+  pub queues : All IsQueueSettings s.queues
+  pub actors : All (λ a. IsRole a.role) s.actors
+  pub tasks : All IsTaskSettings s.tasks
+  pub sound : IsSoundScenario s
+  pub few_queues : Between 1 1000 (length s.queues)
+  pub few_agents : length s.actors + length s.tasks ≤ 10000
+  pub named : length s.names ≡ length s.queues + length s.actors + length s.tasks
+  pub linked : IsLinked s

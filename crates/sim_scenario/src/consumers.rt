@@ -1,0 +1,146 @@
+//! A consumer of a scenario's text.
+ghost use Rattle.std.specs.Prelude.{◌≡◌, ◌++◌, map};
+ghost use Rattle.toml.specs.View.{table_view};
+ghost use Rattle.sqs_formats.specs.Actors.{actor_keys, consumer_keys, forward_keys};
+ghost use Rattle.sim_scenario.specs.Gives.{Gives, table as the_table};
+ghost use Rattle.sim_scenario.specs.ActorWalks.{consumer_walk, forward_by, forwarding_walk};
+
+use crate::fault::ReadError;
+use crate::keys::{integer_or, known_keys, maybe_integer, required_integer};
+use crate::kin::kin_named;
+use crate::outline::Outline;
+use crate::queues::{has, latency};
+use sqs_model::{ConsumerSettings, Forwarding, Role};
+use std::alloc::Global;
+use toml::Table;
+
+/// The keys that a consumer may have.
+fn consumer_keys(version: u64, forwards: bool) -> &'static [&'static str]
+    ensures { map (λ k. k.now) result.now ≡ actor_keys ++ (consumer_keys ++ forward_keys version forwards) }
+{
+    if !forwards {
+        &[
+            "name",
+            "kind",
+            "queue",
+            "start_ms",
+            "batch",
+            "wait_s",
+            "timeout_s",
+            "service_min_ms",
+            "service_max_ms",
+            "fail_permille",
+            "idle_ms",
+            "forward",
+        ]
+    } else if version == 2 {
+        &[
+            "name",
+            "kind",
+            "queue",
+            "start_ms",
+            "batch",
+            "wait_s",
+            "timeout_s",
+            "service_min_ms",
+            "service_max_ms",
+            "fail_permille",
+            "idle_ms",
+            "forward",
+            "latency_min_ms",
+            "latency_max_ms",
+        ]
+    } else {
+        &[
+            "name",
+            "kind",
+            "queue",
+            "start_ms",
+            "batch",
+            "wait_s",
+            "timeout_s",
+            "service_min_ms",
+            "service_max_ms",
+            "fail_permille",
+            "idle_ms",
+            "forward",
+            "latency_ms",
+        ]
+    }
+}
+
+/// Where a consumer forwards to.
+#[tactic(auto, unfolding(crate::specs::ActorWalks::forwarding_walk, crate::specs::Walk::and_then))]
+fn forwarding(
+    alloc: Global,
+    outline: &Outline,
+    home: u32,
+    table: &Table,
+    place: &str,
+) -> Result<Option<Forwarding>, ReadError>
+    ensures { Gives (λ f. f) result (forwarding_walk outline.now home (the_table place.now (table_view table.now))) }
+{
+    let to = kin_named(alloc, outline, home, table, place, "forward")?;
+    let latency = latency(alloc, outline.version(), table, place)?;
+    Ok(Some(Forwarding { to, latency }))
+}
+
+/// Where a consumer forwards to, if it does.
+fn forward(
+    alloc: Global,
+    forwards: bool,
+    outline: &Outline,
+    home: u32,
+    table: &Table,
+    place: &str,
+) -> Result<Option<Forwarding>, ReadError>
+    ensures { Gives (λ f. f) result (forward_by forwards outline.now home (the_table place.now (table_view table.now))) }
+{
+    if forwards {
+        forwarding(alloc, outline, home, table, place)
+    } else {
+        Ok(None)
+    }
+}
+
+/// A consumer at a home.
+#[tactic(auto, unfolding(crate::specs::ActorWalks::consumer_walk, crate::specs::Walk::and_then))]
+pub(crate) fn consumer(
+    alloc: Global,
+    outline: &Outline,
+    home: u32,
+    table: &Table,
+    place: &str,
+) -> Result<Role, ReadError>
+    ensures { Gives (λ c. c) result (consumer_walk outline.now home (the_table place.now (table_view table.now))) }
+{
+    let known = consumer_keys(outline.version(), has(table, "forward"));
+    known_keys(alloc, table, place, known)?;
+    let start = integer_or(alloc, table, place, "start_ms", 0, 2_592_000_000, 0)?;
+    let batch = integer_or(alloc, table, place, "batch", 1, 10, 1)?;
+    let wait = integer_or(alloc, table, place, "wait_s", 0, 20, 0)?;
+    let timeout = maybe_integer(alloc, table, place, "timeout_s", 0, 43_200)?;
+    let service_min = required_integer(alloc, table, place, "service_min_ms", 1, 86_400_000)?;
+    let service_max = required_integer(
+        alloc,
+        table,
+        place,
+        "service_max_ms",
+        service_min,
+        86_400_000,
+    )?;
+    let fail_permille = integer_or(alloc, table, place, "fail_permille", 0, 1000, 0)?;
+    let idle = integer_or(alloc, table, place, "idle_ms", 1, 86_400_000, 1000)?;
+    let forward = forward(alloc, has(table, "forward"), outline, home, table, place)?;
+    Ok(Role::Consumer(ConsumerSettings {
+        start,
+        batch,
+        wait,
+        timeout,
+        service_min,
+        service_max,
+        fail_permille,
+        idle,
+        forward,
+    }))
+}

@@ -1,0 +1,31 @@
+//! What stops a reader.
+ghost use Rattle.std.specs.Prelude.{◌++◌};
+ghost use Rattle.sqs_formats.specs.Keys.{fault_at};
+ghost use Rattle.sim_scenario.specs.Gives.{Names};
+
+use sim_clock::Refusal;
+use sqs_formats::ScenarioFault;
+use sqs_message::Text;
+use std::alloc::Global;
+
+/// Why a scenario could not be read.
+#[derive(Drop)]
+pub enum ReadError {
+    /// A growth was refused.
+    Memory,
+    /// The first fault of the text.
+    Fault(ScenarioFault),
+}
+
+/// The fault at a key of a table, before whose keys `place` stands, or want of memory.
+pub(crate) fn blame(alloc: Global, refusal: Refusal, place: &str, key: &str) -> ReadError
+    ensures { Names result (fault_at refusal (place.now ++ key.now)) }
+{
+    match format!(in alloc; "{place}{key}") {
+        Ok(place) => ReadError::Fault(ScenarioFault {
+            refusal,
+            place: Text::new(place.into_bytes()),
+        }),
+        Err(_) => ReadError::Memory,
+    }
+}

@@ -1,0 +1,33 @@
+//! The reader of scenarios: a text in TOML and its script files in, a sound scenario or the first
+//! fault out.
+#![tactic(auto)]
+
+mod actors;
+mod consumers;
+mod edges;
+mod fault;
+mod items;
+mod keys;
+mod kin;
+mod lists;
+mod names;
+mod outline;
+mod producers;
+mod queues;
+mod reader;
+mod records;
+mod scenario;
+mod script;
+mod script_files;
+mod scripted;
+#[cfg(test)]
+mod tests;
+mod top;
+
+pub use edges::least_latency;
+pub use fault::ReadError;
+pub use reader::read;
+pub use scenario::{Scenario, ScenarioParts};
+pub use script::{ScriptError, read_script};
+pub use script_files::script_names;
+pub use scripted::Scripts;

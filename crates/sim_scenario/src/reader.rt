@@ -1,0 +1,139 @@
+//! The reader of a scenario: a text in, what it says or the first fault in it out.
+ghost use Rattle.std.specs.Prelude.{◌≡◌, ◌≤◌, ◌+◌, ◌++◌, IfOk, OnOk, Ok, length, map};
+ghost use Rattle.toml.specs.View.{table_view};
+ghost use Rattle.sqs_formats.specs.Reading.{answer};
+ghost use Rattle.sqs_formats.specs.Scenario.{scenario_in, scenario_of};
+ghost use Rattle.sim_scenario.specs.Gives.{Gives};
+ghost use Rattle.sim_scenario.specs.Ranges.{IsInRange};
+ghost use Rattle.sim_scenario.specs.TopWalks.{IsTop, agents_walk, top_view, whole};
+
+use crate::actors::actors;
+use crate::fault::{ReadError, blame};
+use crate::lists::{dead_letters, queues, tasks};
+use crate::outline::Outline;
+use crate::scenario::Scenario;
+use crate::scripted::Scripts;
+use crate::top::{Top, top_table};
+use sim_clock::Refusal;
+use sqs_message::Text;
+use sqs_model::ActorSettings;
+use sqs_redrive::{QueueSettings, TaskSettings};
+use std::alloc::Global;
+use toml::Table;
+
+/// Parts settings from their names, which go behind other names.
+fn part<T: Drop>(
+    alloc: Global,
+    items: Vec<(Text, T)>,
+    names: &mut Vec<Text>,
+) -> Result<Vec<T>, ReadError>
+    ensures settings { IfOk result (λ v. v.items ≡ map (λ x. x.1) items.items) }
+    ensures names { OnOk result (names.new.items ≡ names.old.items ++ map (λ x. x.0) items.items) }
+{
+    let mut settings = Vec::new(alloc);
+    for item in items {
+        let (name, setting) = item;
+        if names.push(name).is_err() {
+            return Err(ReadError::Memory);
+        }
+        if settings.push(setting).is_err() {
+            return Err(ReadError::Memory);
+        }
+    }
+    Ok(settings)
+}
+
+/// The scenario of these agents.
+fn assembled(
+    alloc: Global,
+    top: &Top<'_>,
+    queues: Vec<(Text, QueueSettings)>,
+    actors: Vec<(Text, ActorSettings)>,
+    tasks: Vec<(Text, TaskSettings)>,
+) -> Result<Scenario, ReadError>
+    requires { IsInRange (whole (top_view top.now) queues.items actors.items tasks.items) }
+    ensures value { Gives (λ s. s) result (Ok (whole (top_view top.now) queues.items actors.items tasks.items)) }
+    ensures range { IfOk result IsInRange }
+{
+    let mut names = Vec::new(alloc);
+    let queues = match part(alloc, queues, &mut names) {
+        Ok(queues) => queues,
+        Err(_) => return Err(ReadError::Memory),
+    };
+    let actors = match part(alloc, actors, &mut names) {
+        Ok(actors) => actors,
+        Err(_) => return Err(ReadError::Memory),
+    };
+    let tasks = match part(alloc, tasks, &mut names) {
+        Ok(tasks) => tasks,
+        Err(_) => return Err(ReadError::Memory),
+    };
+    Ok(Scenario::new(
+        top.horizon,
+        top.seed,
+        top.sample,
+        queues,
+        actors,
+        tasks,
+        names,
+    ))
+}
+
+/// What the lists of queues, actors and move tasks say.
+#[tactic(auto, unfolding(crate::specs::TopWalks::agents_walk, crate::specs::Walk::and_then))]
+fn agents(
+    alloc: Global,
+    scripts: &Scripts,
+    top: &Top<'_>,
+    outline: &Outline,
+) -> Result<Scenario, ReadError>
+    requires few { length top.now.queues.now + length top.now.actors.now + length top.now.tasks.now ≤ 11000 }
+    requires numbers { IsTop (top_view top.now) }
+    requires outlined { length outline.now.queues ≡ length top.now.queues.now }
+    ensures range { IfOk result IsInRange }
+    ensures value { Gives (λ s. s) result (agents_walk scripts.now (top_view top.now) outline.now) }
+{
+    let queues = queues(alloc, outline, top.queues)?;
+    dead_letters(alloc, outline, top.queues)?;
+    let actors = actors(alloc, scripts, outline, top.actors)?;
+    let tasks = tasks(alloc, outline, top.tasks)?;
+    assembled(alloc, top, queues, actors, tasks)
+}
+
+/// What a document says.
+fn document(alloc: Global, scripts: &Scripts, table: &Table) -> Result<Scenario, ReadError>
+    ensures range { IfOk result IsInRange }
+    ensures value { Gives (λ s. s) result (answer (scenario_in scripts.now (table_view table.now))) }
+{
+    let top = match top_table(alloc, table) {
+        Ok(top) => top,
+        Err(e) => return Err(e),
+    };
+    let outline = match Outline::new(alloc, top.version, top.queues, top.actors, top.tasks) {
+        Ok(outline) => outline,
+        Err(_) => return Err(ReadError::Memory),
+    };
+    agents(alloc, scripts, &top, &outline)
+}
+
+/// The scenario that a text in TOML states with its script files, or the first fault in it:
+/// `TooMany` at no place where it has more than 16 MiB, `NotToml` where it is no document in
+/// UTF-8, else the fault at the first place in the order of the walk. `Memory` tells that a growth
+/// was refused.
+pub fn read(alloc: Global, text: &[u8], scripts: &Scripts) -> Result<Scenario, ReadError>
+    ensures range { IfOk result IsInRange }
+    ensures value { Gives (λ s. s) result (scenario_of scripts.now text.now) }
+{
+    if text.len() > 16_777_216 {
+        return Err(blame(alloc, Refusal::TooMany, "", ""));
+    }
+    match toml::table_from_slice(alloc, text) {
+        Ok(table) => document(alloc, scripts, &table),
+        Err(e) => {
+            if e.is_memory() {
+                return Err(ReadError::Memory);
+            }
+            Err(blame(alloc, Refusal::NotToml, "", ""))
+        }
+    }
+}

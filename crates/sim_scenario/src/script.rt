@@ -1,0 +1,205 @@
+//! The reader of a script: a text of CSV in, the calls of its records or the first fault out.
+ghost use Rattle.std.specs.Prelude.{◌≡◌, ◌≤◌, ◌+◌, ◌*◌, ◌∷◌, [], IfErr, IfOk, length, map};
+ghost use Rattle.std.specs.Str.{is_utf8};
+ghost use Rattle.sim_clock.specs.declared.refusal.Refusal.TheVariants.{BadScript};
+ghost use Rattle.sqs_formats.specs.Reading.{answer};
+ghost use Rattle.sqs_formats.specs.Script.{at_record, call_at, call_of, calls_from, script, waits, whole};
+ghost use Rattle.sim_scenario.specs.declared.script.ScriptError.TheVariants as errors;
+ghost use Rattle.csv.specs.Reading.{AreRecords, default_config, records, strip_bom};
+ghost use Rattle.csv.specs.Records.{fields_of};
+ghost use Rattle.csv.specs.declared.parser.State.TheVariants as st;
+ghost use Rattle.sim_scenario.specs.ScriptGives.{Gives, IsMemory, header_walk, records_walk};
+
+use crate::records::{is_header, script_call};
+use csv::{ByteRecord, ReaderBuilder};
+use sim_clock::Refusal;
+use sqs_formats::{Home, ScriptFault};
+use sqs_message::{Call, ScriptCall};
+use std::alloc::Global;
+
+/// Why a script could not be read.
+#[derive(Drop)]
+pub enum ScriptError {
+    /// A growth was refused.
+    Memory,
+    /// The first fault of the text.
+    Fault(ScriptFault),
+}
+
+/// Every record of a text that has no header row.
+fn all_rows(alloc: Global, text: &[u8]) -> Result<Vec<ByteRecord>, ScriptError>
+    ensures rows { IfOk result (λ v. AreRecords default_config st.StartRecord (strip_bom text.now) (map fields_of v.items)) }
+    ensures memory { IfErr result IsMemory }
+{
+    let rdr = ReaderBuilder::new()
+        .has_headers(false)
+        .flexible(true)
+        .from_reader(alloc, text);
+    let mut rows = Vec::new(alloc);
+    for row in rdr.into_byte_records() {
+        match row {
+            Ok(row) => {
+                if rows.push(row).is_err() {
+                    return Err(ScriptError::Memory);
+                }
+            }
+            Err(_) => return Err(ScriptError::Memory),
+        }
+    }
+    Ok(rows)
+}
+
+/// The records of a script, a byte order mark dropped.
+fn script_rows(alloc: Global, text: &[u8]) -> Result<Vec<ByteRecord>, ScriptError>
+    ensures rows { IfOk result (λ v. map fields_of v.items ≡ records default_config (strip_bom text.now)) }
+    ensures memory { IfErr result IsMemory }
+{
+    let rows = all_rows(alloc, text)?;
+    Ok(rows)
+}
+
+/// A fault of a record.
+fn bad_record(number: usize) -> ScriptError
+    requires { number ≤ 200000 }
+    ensures { result ≡ errors.Fault (at_record BadScript number) }
+{
+    ScriptError::Fault(ScriptFault {
+        refusal: Refusal::BadScript,
+        number: Some(number as u32),
+    })
+}
+
+/// The call that a row states, where it comes in time.
+#[tactic(auto, unfolding(sqs_formats::specs::Reading::answer))]
+fn next_call(
+    alloc: Global,
+    home: &Home,
+    row: &ByteRecord,
+    number: usize,
+    free: u64,
+) -> Result<ScriptCall, ScriptError>
+    requires { number ≤ 200000 }
+    ensures value { Gives (λ c. c ∷ []) result (answer (call_at number free (call_of home.now (fields_of row.now)))) }
+    ensures at { IfOk result (λ c. c.at ≤ 4294967295) }
+    ensures most { IfOk result (λ c. waits c.call ≤ 4294967295) }
+{
+    match script_call(alloc, home, row) {
+        Err(_) => Err(ScriptError::Memory),
+        Ok(None) => Err(bad_record(number)),
+        Ok(Some(call)) => {
+            if free <= call.at {
+                Ok(call)
+            } else {
+                Err(bad_record(number))
+            }
+        }
+    }
+}
+
+/// The first moment that the call after this one may have.
+fn free_after(call: &ScriptCall) -> u64
+    requires at { call.now.at ≤ 4294967295 }
+    requires most { waits call.now.call ≤ 4294967295 }
+    ensures { result ≡ call.now.at + 1000 * waits call.now.call + 1 }
+{
+    let waits = match &call.call {
+        Call::Receive { wait, .. } => *wait,
+        _ => 0,
+    };
+    call.at + 1000 * waits + 1
+}
+
+/// The calls of the rows behind the header.
+fn calls(alloc: Global, home: &Home, rows: &[ByteRecord]) -> Result<Vec<ScriptCall>, ScriptError>
+    requires { length rows.now ≤ 100001 }
+    ensures { Gives (λ v. v.items) result (answer (calls_from home.now 2 0 (map fields_of rows.now))) }
+{
+    let mut calls = Vec::new(alloc);
+    let mut free = 0;
+    for (i, row) in rows.iter().enumerate() {
+        let call = match next_call(alloc, home, row, i + 2, free) {
+            Ok(call) => call,
+            Err(e) => return Err(e),
+        };
+        free = free_after(&call);
+        if calls.push(call).is_err() {
+            return Err(ScriptError::Memory);
+        }
+    }
+    Ok(calls)
+}
+
+/// The calls of the rows, the first of which is the header.
+#[tactic(auto, unfolding(sqs_formats::specs::Reading::answer, crate::specs::Walk::and_then))]
+fn calls_after_header(
+    alloc: Global,
+    home: &Home,
+    rows: &[ByteRecord],
+) -> Result<Vec<ScriptCall>, ScriptError>
+    requires { length rows.now ≤ 100001 }
+    ensures { Gives (λ v. v.items) result (header_walk home.now (map fields_of rows.now)) }
+{
+    match rows {
+        [] => Err(bad_record(1)),
+        [names, rest @ ..] => {
+            if !is_header(names) {
+                return Err(bad_record(1));
+            }
+            calls(alloc, home, rest)
+        }
+    }
+}
+
+/// Whether bytes are text.
+fn is_text(bytes: &[u8]) -> bool
+    ensures { result ≡ is_utf8 bytes.now }
+{
+    match std::str::from_utf8(bytes) {
+        Ok(_) => true,
+        Err(_) => false,
+    }
+}
+
+/// A fault of the whole script.
+fn whole(refusal: Refusal) -> ScriptError
+    ensures { result ≡ errors.Fault (whole refusal) }
+{
+    ScriptError::Fault(ScriptFault {
+        refusal,
+        number: None,
+    })
+}
+
+/// The calls of all rows of a text.
+#[tactic(auto, unfolding(crate::specs::ScriptGives::records_walk, sqs_formats::specs::Reading::answer, crate::specs::Walk::and_then))]
+fn calls_of_rows(
+    alloc: Global,
+    home: &Home,
+    text: &[u8],
+    rows: &[ByteRecord],
+) -> Result<Vec<ScriptCall>, ScriptError>
+    ensures { Gives (λ v. v.items) result (records_walk home.now text.now (map fields_of rows.now)) }
+{
+    if rows.len() > 100_001 {
+        return Err(whole(Refusal::TooMany));
+    }
+    if !is_text(text) {
+        return Err(whole(Refusal::BadScript));
+    }
+    calls_after_header(alloc, home, rows)
+}
+
+/// The calls of a script's text at a home, or the first fault in it: `TooMany` where it has more
+/// than 16 MiB or 100,001 records, `BadScript` at the first record that states no call or states
+/// one before the call in front of it has ended.
+pub fn read_script(alloc: Global, text: &[u8], home: &Home) -> Result<Vec<ScriptCall>, ScriptError>
+    ensures { Gives (λ v. v.items) result (answer (script home.now text.now)) }
+{
+    if text.len() > 16_777_216 {
+        return Err(whole(Refusal::TooMany));
+    }
+    match script_rows(alloc, text) {
+        Err(_) => Err(ScriptError::Memory),
+        Ok(rows) => calls_of_rows(alloc, home, text, rows.as_slice()),
+    }
+}

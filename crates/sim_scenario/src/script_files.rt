@@ -1,0 +1,87 @@
+//! The script files that a scenario's text asks for.
+ghost use Rattle.std.specs.Prelude.{◌≡◌, ◌++◌, ◌∷◌, [], IfOk, OnOk, codes, filter_map, map, option_map};
+ghost use Rattle.toml.specs.Data.{get_member};
+ghost use Rattle.toml.specs.View.{table_view, view};
+ghost use Rattle.sqs_formats.specs.Scenario.{actors_in, script_name as the_script_name, script_names as the_script_names};
+
+use crate::keys::member;
+use crate::names::is_script_name;
+use crate::outline::text_in;
+use sqs_message::Text;
+use std::alloc::{AllocError, Global};
+use toml::{Table, Value};
+
+/// The name of the script file that an item asks for, if it is well-formed.
+fn script_name(item: &Value) -> Option<&str>
+    ensures { option_map (λ s. s.now) result ≡ the_script_name (view item.now) }
+{
+    let name = text_in(item, "script");
+    if is_script_name(name.as_bytes()) {
+        Some(name)
+    } else {
+        None
+    }
+}
+
+/// The items at `actor`.
+#[tactic(auto, using(crate::proofs::TopParts::in_order_is))]
+fn actor_items<'a>(table: &'a Table) -> &'a [Value]
+    ensures { map view result.now ≡ actors_in (get_member (codes "actor") (table_view table.now)) }
+{
+    match member(table, "actor") {
+        None => &[],
+        Some(value) => match value.as_array() {
+            None => &[],
+            Some(values) => values.as_slice(),
+        },
+    }
+}
+
+/// Puts the name that an item asks for behind others.
+fn push_name(alloc: Global, names: &mut Vec<Text>, item: &Value) -> Result<(), AllocError>
+    ensures { OnOk result (names.new.items ≡ names.old.items ++ filter_map the_script_name (view item.now ∷ [])) }
+{
+    match script_name(item) {
+        None => Ok(()),
+        Some(name) => {
+            let bytes = name.as_bytes().to_vec(alloc)?;
+            if names.push(Text::new(bytes)).is_err() {
+                return Err(AllocError);
+            }
+            Ok(())
+        }
+    }
+}
+
+/// The names that items ask for.
+fn names_in(alloc: Global, items: &[Value]) -> Result<Vec<Text>, AllocError>
+    ensures { IfOk result (λ v. v.items ≡ filter_map the_script_name (map view items.now)) }
+{
+    let mut names = Vec::new(alloc);
+    for item in items {
+        match push_name(alloc, &mut names, item) {
+            Ok(()) => {}
+            Err(e) => return Err(e),
+        }
+    }
+    Ok(names)
+}
+
+/// The names of the script files that the actors of a scenario's text ask for, in their order; none
+/// where the text is no document. The one error is want of memory.
+pub fn script_names(alloc: Global, text: &[u8]) -> Result<Vec<Text>, AllocError>
+    ensures { IfOk result (λ v. v.items ≡ the_script_names text.now) }
+{
+    if text.len() > 16_777_216 {
+        return Ok(Vec::new(alloc));
+    }
+    match toml::table_from_slice(alloc, text) {
+        Ok(table) => names_in(alloc, actor_items(&table)),
+        Err(e) => {
+            if e.is_memory() {
+                return Err(AllocError);
+            }
+            Ok(Vec::new(alloc))
+        }
+    }
+}

@@ -1,0 +1,47 @@
+-- The program's commands and their arguments.
+use Rattle.std.specs.Prelude.{Bool, Some, codes, false, pos, true}
+use Rattle.clap.specs.Words.{App, Rule, Text, new_app, new_rule, with_rule, with_subcommand}
+use Rattle.clap.specs.declared.builder.ArgAction.TheVariants.{Set}
+use Rattle.clap.specs.declared.builder.value_parser.ValueParser.TheVariants as parsers
+
+-- an option with a value, as --log FILE
+abbrev pub option_rule : Text → Rule
+option_rule name = record (new_rule name) { long = Some name; action = Some Set }
+
+-- an option with a number of 32 bits
+abbrev pub number_rule : Text → Rule
+number_rule name = record (option_rule name) { parser = Some (parsers.Signed (pos 0) (pos 4294967295)) }
+
+-- an option with a time of 1 ms at least
+abbrev pub time_rule : Text → Rule
+time_rule name = record (option_rule name) { parser = Some (parsers.Unsigned 1 18446744073709551615) }
+
+-- a word by its place
+abbrev pub place_rule : Bool → Text → Rule
+place_rule required name = record (new_rule name) { required = required; action = Some Set }
+
+-- run [--window MS] [--parts N] [--map LIST] [--workers N]
+abbrev pub run_options : App
+run_options =
+    with_rule (with_rule (with_rule (with_rule (new_app (codes "run")) (time_rule (codes "window"))) (number_rule (codes "parts"))) (option_rule (codes "map"))) (number_rule (codes "workers"))
+
+-- .. [--log FILE] [--scripts DIR] [SCENARIO]
+abbrev pub run_app : App
+run_app = with_rule (with_rule (with_rule run_options (option_rule (codes "log"))) (option_rule (codes "scripts"))) (place_rule false (codes "scenario"))
+
+-- check [--scripts DIR] [SCENARIO]
+abbrev pub check_app : App
+check_app = with_rule (with_rule (new_app (codes "check")) (option_rule (codes "scripts"))) (place_rule false (codes "scenario"))
+
+-- compare [--scripts DIR] FIRST SECOND
+abbrev pub compare_app : App
+compare_app =
+    with_rule (with_rule (with_rule (new_app (codes "compare")) (option_rule (codes "scripts"))) (place_rule true (codes "first"))) (place_rule true (codes "second"))
+
+-- sqs_rehearse, which asks for a subcommand
+abbrev pub bare : App
+bare = let a = new_app (codes "sqs_rehearse") in record a { top = record a.top { subcommand_required = true } }
+
+-- the whole
+abbrev pub program : App
+program = with_subcommand (with_subcommand (with_subcommand bare run_app.top) check_app.top) compare_app.top

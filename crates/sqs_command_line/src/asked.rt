@@ -1,0 +1,62 @@
+//! What a command line asks for.
+use clap::Error;
+
+/// A rehearsal.
+#[derive(Clone, Copy)]
+pub struct RunLine<'a> {
+    /// The window, in milliseconds.
+    pub window: Option<u64>,
+    /// How many partitions there are.
+    pub parts: Option<u64>,
+    /// The partition of each queue, in the form `0,1,0`.
+    pub map: Option<&'a str>,
+    pub workers: Option<u64>,
+    /// The file for the log.
+    pub log: Option<&'a str>,
+    /// The folder of the scripts.
+    pub scripts: Option<&'a str>,
+    /// The file of the scenario.
+    pub scenario: Option<&'a str>,
+}
+
+/// A reading of a scenario.
+#[derive(Clone, Copy)]
+pub struct CheckLine<'a> {
+    /// The folder of the scripts.
+    pub scripts: Option<&'a str>,
+    /// The file of the scenario.
+    pub scenario: Option<&'a str>,
+}
+
+/// A comparison of two rehearsals.
+#[derive(Clone, Copy)]
+pub struct CompareLine<'a> {
+    /// The folder of the scripts.
+    pub scripts: Option<&'a str>,
+    /// The files of the two scenarios.
+    pub first: Option<&'a str>,
+    pub second: Option<&'a str>,
+}
+
+/// What a command line asks for.
+#[derive(Clone, Copy)]
+pub enum Line<'a> {
+    Run(RunLine<'a>),
+    Check(CheckLine<'a>),
+    Compare(CompareLine<'a>),
+}
+
+/// Why words are no line.
+#[derive(Drop)]
+pub enum LineFault {
+    /// A usage fault, help that was asked for, or want of memory; `clap` has the text of it.
+    Words(Error),
+    /// `clap` let pass what is no subcommand or no number.
+    Unread,
+}
+
+impl From<Error> for LineFault {
+    fn from(error: Error) -> LineFault {
+        LineFault::Words(error)
+    }
+}

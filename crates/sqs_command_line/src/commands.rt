@@ -1,0 +1,152 @@
+//! The program's commands, as `clap` takes them.
+ghost use Rattle.std.specs.Prelude.{◌≡◌, IfOk, false};
+ghost use Rattle.clap.specs.Words.{app_of, new_app, rule_of};
+ghost use Rattle.clap.specs.declared.builder.command.Command.TheViews.{out-Command as fields_of};
+ghost use Rattle.sqs_command_line.specs.Programs.{check_app, compare_app, number_rule, option_rule, place_rule, program, run_app, run_options, time_rule};
+
+use clap::{Arg, ArgAction, Command};
+use std::alloc::{AllocError, Global};
+
+/// What help says of the scripts' folder.
+const SCRIPTS_HELP: &str = "The folder of the scripts [default: .]";
+
+/// What help says of the scenario.
+const SCENARIO_HELP: &str = "The scenario's file [default: standard input]";
+
+// An option with a value.
+fn option<'a>(alloc: Global, name: &'a str, help: &'a str) -> Arg<'a>
+    ensures rule { rule_of result ≡ option_rule name.entry.now }
+    ensures local { result.global ≡ false }
+{
+    Arg::new(alloc, name)
+        .long(name)
+        .action(ArgAction::Set)
+        .help(help)
+}
+
+// An option with a number of 32 bits.
+fn number<'a>(alloc: Global, name: &'a str, help: &'a str) -> Arg<'a>
+    ensures rule { rule_of result ≡ number_rule name.entry.now }
+    ensures local { result.global ≡ false }
+{
+    Arg::new(alloc, name)
+        .long(name)
+        .action(ArgAction::Set)
+        .value_parser(clap::value_parser!(u32))
+        .help(help)
+}
+
+// An option with a time of 1 ms at least.
+fn time<'a>(alloc: Global, name: &'a str, help: &'a str) -> Arg<'a>
+    ensures rule { rule_of result ≡ time_rule name.entry.now }
+    ensures local { result.global ≡ false }
+{
+    Arg::new(alloc, name)
+        .long(name)
+        .action(ArgAction::Set)
+        .value_parser(clap::value_parser!(u64).range(1..))
+        .help(help)
+}
+
+// A word by its place.
+fn place<'a>(alloc: Global, name: &'a str, required: bool, help: &'a str) -> Arg<'a>
+    ensures rule { rule_of result ≡ place_rule required name.entry.now }
+    ensures local { result.global ≡ false }
+{
+    Arg::new(alloc, name)
+        .required(required)
+        .action(ArgAction::Set)
+        .help(help)
+}
+
+// A command that help tells something of.
+fn named<'a>(alloc: Global, name: &'a str, about: &'a str) -> Command<'a>
+    ensures app { app_of result ≡ new_app name.entry.now }
+    ensures local { (fields_of result).has_globals ≡ false }
+{
+    Command::new(alloc, name).about(about)
+}
+
+// The command of a rehearsal, with the options of how it runs.
+fn run_options<'a>(alloc: Global) -> Result<Command<'a>, AllocError>
+    ensures app { IfOk result (λ c. app_of c ≡ run_options) }
+    ensures local { IfOk result (λ c. (fields_of c).has_globals ≡ false) }
+{
+    let command = named(
+        alloc,
+        "run",
+        "Rehearses a scenario: log, final queues and report",
+    );
+    let command = command.arg(time(
+        alloc,
+        "window",
+        "The window in milliseconds [default: the least latency]",
+    ))?;
+    let command = command.arg(number(
+        alloc,
+        "parts",
+        "How many partitions there are [default: 1]",
+    ))?;
+    let command = command.arg(option(alloc, "map", "The partition of each queue, as 0,1,0"))?;
+    let command = command.arg(number(
+        alloc,
+        "workers",
+        "How many workers run partitions [default: 1]",
+    ))?;
+    Ok(command)
+}
+
+// The command of a rehearsal.
+fn run_command<'a>(alloc: Global) -> Result<Command<'a>, AllocError>
+    ensures app { IfOk result (λ c. app_of c ≡ run_app) }
+    ensures local { IfOk result (λ c. (fields_of c).has_globals ≡ false) }
+{
+    let command = run_options(alloc)?;
+    let command = command.arg(option(
+        alloc,
+        "log",
+        "Write the log to this file [default: standard output]",
+    ))?;
+    let command = command.arg(option(alloc, "scripts", SCRIPTS_HELP))?;
+    let command = command.arg(place(alloc, "scenario", false, SCENARIO_HELP))?;
+    Ok(command)
+}
+
+// The command of a reading.
+fn check_command<'a>(alloc: Global) -> Result<Command<'a>, AllocError>
+    ensures app { IfOk result (λ c. app_of c ≡ check_app) }
+    ensures local { IfOk result (λ c. (fields_of c).has_globals ≡ false) }
+{
+    let command = named(
+        alloc,
+        "check",
+        "Tells whether a text is a scenario, or its first fault",
+    );
+    let command = command.arg(option(alloc, "scripts", SCRIPTS_HELP))?;
+    let command = command.arg(place(alloc, "scenario", false, SCENARIO_HELP))?;
+    Ok(command)
+}
+
+// The command of a comparison.
+fn compare_command<'a>(alloc: Global) -> Result<Command<'a>, AllocError>
+    ensures app { IfOk result (λ c. app_of c ≡ compare_app) }
+    ensures local { IfOk result (λ c. (fields_of c).has_globals ≡ false) }
+{
+    let command = named(alloc, "compare", "Compares the reports of two scenarios");
+    let command = command.arg(option(alloc, "scripts", SCRIPTS_HELP))?;
+    let command = command.arg(place(alloc, "first", true, "The scenario to compare with"))?;
+    let command = command.arg(place(alloc, "second", true, "The scenario to compare"))?;
+    Ok(command)
+}
+
+// The whole program.
+pub fn command<'a>(alloc: Global) -> Result<Command<'a>, AllocError>
+    ensures app { IfOk result (λ c. app_of c ≡ program) }
+    ensures local { IfOk result (λ c. (fields_of c).has_globals ≡ false) }
+{
+    let command = Command::new(alloc, "sqs_rehearse").subcommand_required(true);
+    let command = command.subcommand(run_command(alloc)?)?;
+    let command = command.subcommand(check_command(alloc)?)?;
+    let command = command.subcommand(compare_command(alloc)?)?;
+    Ok(command)
+}
