@@ -1,0 +1,52 @@
+-- The sets of hosts that short polls sample, by a table of all of them.
+use Rattle.std.proofs.Common.{◌≡◌, ℕ, zero, suc, ◌+◌, ◌-◌, ◌<◌, ◌≤◌, ◌^◌, ◌%◌, Bool, true, false, nat_lt, ◌&&◌, ◌||◌, ◌==◌, arith, refl, subst, sym, ap, ◌∙◌}
+use Rattle.std.proofs.lemmas.Bool.{false≢true, ltb-true}
+use Rattle.std.proofs.lemmas.List.FromFn.{sum_by-map-range_with_len_more}
+use Rattle.std.proofs.lemmas.Bool.Decides.{nat_tests}
+use Rattle.sqs_model.specs.Acts.{hosts_from}
+use Rattle.sqs_model.specs.Available.{has_host}
+
+abbrev all_below : ℕ → (ℕ → Bool) → Bool
+all_below zero p = true
+all_below (suc n) p = p n && all_below n p
+
+both : (a b : Bool) → (a && b) ≡ true → (a ≡ true) × (b ≡ true)
+both true b h = (refl, h)
+both false b h = absurd (false≢true h)
+
+at_by : (n : ℕ) (p : ℕ → Bool) (k : ℕ) (b : Bool) → (k == n) ≡ b → k < suc n → p n ≡ true → (k < n → p k ≡ true) → p k ≡ true
+at_by n p k true e l h r = let same : k ≡ n = grind (arith, nat_tests) in subst (λ j. p j ≡ true) (sym same) h
+at_by n p k false e l h r = let other : ¬ (k ≡ n) = grind (arith, nat_tests) in r (omega arith)
+
+at_below : (n : ℕ) (p : ℕ → Bool) (k : ℕ) → k < n → all_below n p ≡ true → p k ≡ true
+at_below zero p k l h = absurd (omega arith)
+at_below (suc n) p k l h = let t = both (p n) (all_below n p) h in at_by n p k _ refl l t.0 (λ m. at_below n p k m t.1)
+
+abbrev fits_in : ℕ → ℕ → ℕ → Bool
+fits_in h s t = nat_lt (hosts_from h s t) 65536
+
+table : all_below 17 (λ h. all_below 17 (λ s. all_below h (λ t. nat_lt h s || fits_in h s t))) ≡ true
+table = refl
+
+pub hosts_fit : (h s t : ℕ) → h ≤ 16 → s ≤ h → t < h → hosts_from h s t < 65536
+hosts_fit h s t few sampled start =
+    let a = at_below 17 (λ i. all_below 17 (λ j. all_below i (λ k. nat_lt i j || fits_in i j k))) h (omega arith) table in
+    let b = at_below 17 (λ j. all_below h (λ k. nat_lt h j || fits_in h j k)) s (omega arith) a in
+    let d = at_below h (λ k. nat_lt h s || fits_in h s k) t start b in
+    let e : nat_lt h s ≡ false = grind (arith, nat_tests) in
+    ltb-true _ _ (ap (λ x. x || fits_in h s t) (sym e) ∙ d)
+
+pub host_fits : (x : ℕ) → x < 16 → 2 ^ x ≤ 32768
+host_fits x l =
+    let a = at_below 16 (λ k. nat_lt (2 ^ k) 32769) x l refl in
+    let b : 2 ^ x < 32769 = ltb-true _ _ a in omega arith
+
+pub hosts_more : (h s t : ℕ) → hosts_from h (s + 1) t ≡ hosts_from h s t + 2 ^ ((t + s) % h)
+hosts_more h s t = sum_by-map-range_with_len_more (λ x. x) (λ i. 2 ^ ((t + i) % h)) 0 s s (omega arith)
+
+hosts_table : all_below 17 (λ h. all_below h (λ k. has_host (2 ^ h - 1) k)) ≡ true
+hosts_table = refl
+
+-- each host is one of all
+pub on_all : (h k : ℕ) → h ≤ 16 → k < h → has_host (2 ^ h - 1) k ≡ true
+on_all h k few l = at_below h (λ j. has_host (2 ^ h - 1) j) k l (at_below 17 (λ i. all_below i (λ j. has_host (2 ^ i - 1) j)) h (omega arith) hosts_table)

@@ -1,0 +1,24 @@
+-- What a site opens with.
+use Rattle.std.proofs.Common.{◌≡◌, ℕ, List, [], ◌∷◌, ◌++◌, map, refl, ap}
+use Rattle.sqs_model.specs.declared.agents.ActorSettings.{ActorSettings}
+use Rattle.sqs_redrive.specs.declared.settings.TaskSettings.{TaskSettings}
+use Rattle.sqs_model.specs.Actor.{Actor}
+use Rattle.sqs_model.specs.Scenario.{Scenario, opening_actor, opening_task}
+use Rattle.sim_site.specs.Kept.{numbered_settings}
+
+pub map_push : {A B : Type 0} (f : A → B) (xs : List A) (x : A) → map f (xs ++ x ∷ []) ≡ map f xs ++ f x ∷ []
+map_push f [] x = refl
+map_push f (y ∷ ys) x = ap (λ t. f y ∷ t) (map_push f ys x)
+
+-- an opening keeps settings
+pub settings_open : (s : Scenario) (xs : List (ℕ × ActorSettings)) → map (λ (a : Actor). a.settings) (map (opening_actor s) xs) ≡ map (λ x. x.1) xs
+settings_open s [] = refl
+settings_open s (x ∷ xs) = ap (λ t. x.1 ∷ t) (settings_open s xs)
+
+pub numbers_open : (s : Scenario) (xs : List (ℕ × TaskSettings)) → map numbered_settings (map (opening_task s) xs) ≡ xs
+numbers_open s [] = refl
+numbers_open s (x ∷ xs) = ap (λ t. x ∷ t) (numbers_open s xs)
+
+-- a scenario of a seed
+abbrev pub seeded : ℕ → Scenario
+seeded seed = record { horizon = 0; seed = seed; sample = 0; queues = []; actors = []; tasks = []; names = [] }

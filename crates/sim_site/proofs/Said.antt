@@ -1,0 +1,54 @@
+-- What the calls of a standard queue are to the definitions of calls at a queue of either kind.
+use Rattle.std.proofs.Common.{◌≡◌, ℕ, ◌==◌, ◌+◌, ◌*◌, List, Option, Some, None, refl, subst, nat_lt}
+use Rattle.std.specs.Prelude.{Err, IfErr, Ok, Result, not, ◌||◌}
+use Rattle.sim_clock.specs.declared.refusal.Refusal.{Refusal}
+use Rattle.sim_clock.specs.declared.refusal.Refusal.TheVariants as refusals
+use Rattle.sqs_message.specs.declared.ids.Receipt.{Receipt}
+use Rattle.sqs_message.specs.declared.message.Message.{Message}
+use Rattle.sqs_redrive.specs.declared.settings.Kind.{Kind}
+use Rattle.sqs_redrive.specs.declared.settings.Kind.TheVariants.{Fifo, Standard}
+use Rattle.sqs_redrive.specs.declared.transfers.Load.{Load}
+use Rattle.sqs_model.specs.Acts.{sends}
+use Rattle.sqs_model.specs.Calls.{change, change_done, change_found, change_here, delete_as, delete_standard, in_flight_until, returned, send_standard}
+use Rattle.sqs_model.specs.Queue.{Queue, is_in_flight, numbered, with_change}
+use Rattle.sqs_model.specs.Return.{released}
+use Rattle.sqs_model.proofs.Branches.{either}
+use Rattle.sqs_standard.specs.Standard.{IsStandard}
+
+-- a send
+pub sends_standard :
+    (k : Kind) (q : Queue) (now : ℕ) (body : List ℕ) (delay : Option ℕ) (group id : Option (List ℕ)) → IsStandard k
+    → sends k q now body delay group id ≡ send_standard q now body delay
+sends_standard (Standard hosts sampled) q now body delay group id s = refl
+sends_standard (Fifo content scope) q now body delay group id s = absurd s
+
+pub deletes_standard : (k : Kind) (q : Queue) (now : ℕ) (r : Receipt) → IsStandard k → delete_as k q now r ≡ delete_standard q now r
+deletes_standard (Standard hosts sampled) q now r s = refl
+deletes_standard (Fifo content scope) q now r s = absurd s
+
+-- a change that is refused leaves the queue as it was
+abbrev SameOnErr : Queue → Result (Option Load) Refusal × Queue → Type 0
+SameOnErr q x = IfErr x.0 (λ _. x.1 ≡ q)
+
+done_same : (q : Queue) (now n timeout : ℕ) → SameOnErr q (change_done q now n timeout)
+done_same q now n timeout =
+    either (SameOnErr q) (timeout == 0) (returned (released q n)) (Ok None, with_change q n (in_flight_until (now + 1000 * timeout))) tt tt
+
+here_same : (q : Queue) (now : ℕ) (r : Receipt) (timeout : ℕ) (m : Message) → SameOnErr q (change_here q now r timeout m)
+here_same q now r timeout m =
+    either (SameOnErr q) (nat_lt m.receives r.count) (Err refusals.ReceiptHandleIsInvalid, q) _ refl
+    (either (SameOnErr q) (not (is_in_flight m) || nat_lt r.count m.receives) (Err refusals.MessageNotInflight, q) _ refl
+    (either (SameOnErr q) (nat_lt (m.received + 43200000) (now + 1000 * timeout)) (Err refusals.BadTimeout, q) _ refl (done_same q now r.number timeout)))
+
+found_same : (q : Queue) (now : ℕ) (r : Receipt) (timeout : ℕ) (o : Option Message) → SameOnErr q (change_found q now r timeout o)
+found_same q now r timeout None = either (SameOnErr q) (nat_lt r.number q.arrivals) (Err refusals.MessageNotInflight, q) (Err refusals.ReceiptHandleIsInvalid, q) refl refl
+found_same q now r timeout (Some m) = here_same q now r timeout m
+
+pub change_same : (q : Queue) (now : ℕ) (r : Receipt) (timeout : ℕ) → SameOnErr q (change q now r timeout)
+change_same q now r timeout =
+    either (SameOnErr q) (nat_lt 43200 timeout) (Err refusals.BadTimeout, q) _ refl
+    (either (SameOnErr q) (r.site == q.site) (change_found q now r timeout (numbered r.number q.records)) (Err refusals.ReceiptHandleIsInvalid, q) (found_same q now r timeout (numbered r.number q.records)) refl)
+
+pub refused_same : (q new : Queue) (now : ℕ) (r : Receipt) (timeout : ℕ) (e : Refusal) → change q now r timeout ≡ (Err e, new) → new ≡ q
+refused_same q new now r timeout e h =
+    let same : SameOnErr q (Err e, new) = subst (SameOnErr q) h (change_same q now r timeout) in same

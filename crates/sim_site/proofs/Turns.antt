@@ -1,0 +1,57 @@
+-- Turns of an actor, one after another.
+use Rattle.std.proofs.Common.{◌≡◌, ℕ, suc, Option, Some, None, refl, ap, sym, ◌∙◌}
+use Rattle.sim_clock.specs.declared.key.Key.{Key}
+use Rattle.sqs_model.specs.declared.acts.Act.{Act}
+use Rattle.sqs_model.specs.declared.acts.Act.TheVariants as acts
+use Rattle.sqs_model.specs.declared.acts.Answer.{Answer}
+use Rattle.sim_site.specs.declared.effects.Effects.{Effects}
+use Rattle.sqs_model.specs.Actor.{Actor, next}
+use Rattle.sqs_model.specs.Acts.{act_made}
+use Rattle.sqs_model.specs.Polls.{acts_found, acts_most, acts_next}
+use Rattle.sqs_model.specs.Site.{Core, Effect, actor_numbered, and_then}
+use Rattle.sim_site.specs.Effects.{Did}
+use Rattle.sim_site.specs.Turns.{DidTurn, turn_next, turn_of}
+use Rattle.sim_site.proofs.Carried.{did_nothing, did_then}
+
+-- what comes of a turn, and of what its actor is told of it
+followed_by : (Answer → Core → Effect) → Effect → Option Answer → Effect
+followed_by more e None = e
+followed_by more e (Some answer) = and_then e (more answer)
+
+next_follows : (more : Answer → Core → Effect) (key : Key) (c : Core) (act : Act) (a : Actor) → acts_next more key c (act, a) ≡ followed_by more (turn_next key c (act, a)).effect (turn_next key c (act, a)).answer
+unfolding followed_by act_made
+next_follows more key c (acts.Send body delay group id) a = refl
+next_follows more key c (acts.Receive max wait timeout) a = refl
+next_follows more key c (acts.Delete text) a = refl
+next_follows more key c (acts.Change text timeout) a = refl
+next_follows more key c (acts.Start task) a = refl
+next_follows more key c (acts.Cancel task) a = refl
+next_follows more key c (acts.Serve id receipt failed forward) a = refl
+next_follows more key c acts.Nothing a = refl
+
+found_follows : (more : Answer → Core → Effect) (key : Key) (answer : Answer) (c : Core) (o : Option Actor) → acts_found more key answer c o ≡ followed_by more (turn_of key answer c o).effect (turn_of key answer c o).answer
+unfolding followed_by
+found_follows more key answer c None = refl
+found_follows more key answer c (Some a) = next_follows more key c (next a key.at answer).0 (next a key.at answer).1
+
+module _ (key : Key) (n most : ℕ) (answer : Answer) (c : Core) (a b : Effects) (d : Core) where
+  -- the turn of an actor that is told nothing of it is its last
+  pub turn_ends : DidTurn a b d None (turn_of key answer c (actor_numbered n c)) → Did a b d (acts_most (suc most) key n answer c)
+  unfolding followed_by
+  turn_ends t =
+      let e : acts_most (suc most) key n answer c ≡ followed_by (acts_most most key n) (turn_of key answer c (actor_numbered n c)).effect None =
+      found_follows (acts_most most key n) key answer c (actor_numbered n c) ∙ ap (followed_by (acts_most most key n) (turn_of key answer c (actor_numbered n c)).effect) (sym t.answer) in
+      rw e t.effect
+
+  -- of any other turn its actor is told something
+  pub turn_goes : (end : Effects) (f : Core) (told : Answer) → DidTurn a b d (Some told) (turn_of key answer c (actor_numbered n c)) → Did b end f (acts_most most key n told d) → Did a end f (acts_most (suc most) key n answer c)
+  unfolding followed_by
+  turn_goes end f told t more =
+      let e : acts_most (suc most) key n answer c ≡ followed_by (acts_most most key n) (turn_of key answer c (actor_numbered n c)).effect (Some told) =
+      found_follows (acts_most most key n) key answer c (actor_numbered n c) ∙ ap (followed_by (acts_most most key n) (turn_of key answer c (actor_numbered n c)).effect) (sym t.answer) in
+      rw e (did_then a b end d f (turn_of key answer c (actor_numbered n c)).effect (acts_most most key n told) t.effect more)
+
+-- the last of the turns that are taken at most
+pub turn_last : (key : Key) (n : ℕ) (answer : Answer) (c : Core) (a b : Effects) (d : Core) (told : Option Answer) → DidTurn a b d told (turn_of key answer c (actor_numbered n c)) → Did a b d (acts_most 1 key n answer c)
+turn_last key n answer c a b d None t = turn_ends key n 0 answer c a b d t
+turn_last key n answer c a b d (Some told) t = turn_goes key n 0 answer c a b d b d told t (did_nothing b d)

@@ -1,0 +1,41 @@
+use Rattle.std.proofs.Common.{ℕ, List, ◌≡◌, ◌∙◌, arith, length, refl, subst, sym}
+use Rattle.sqs_redrive.specs.MoveTasks.{MoveTask}
+use Rattle.sqs_redrive.specs.declared.transfers.Load.{Load}
+use Rattle.sqs_model.specs.Step.{Moved, moves}
+use Rattle.sqs_model.specs.Valid.{IsLatency}
+use Rattle.sim_site.specs.Steps.{MoveRemains}
+use Rattle.sim_site.proofs.Stepping.{move_remains_all, move_remains_next, move_remains_none, none_left}
+use Rattle.sim_site.proofs.agents.Task.move_all.Goals as goal
+
+pub loop-to-init : goal.loop-to-init
+loop-to-init c = record { moved = λ core n. subst (λ (xs : List (ℕ × Load)). MoveRemains c.args.effects.now c.args.effects.now (moves c.args.key core c.args.self.now xs) (moves c.args.key core c.args.self.now c.args.loads.items)) (sym c.into_iter-to-iterator.ensures.into_iter_gives.0) (move_remains_all c.args.effects.now (moves c.args.key core c.args.self.now c.args.loads.items)); kept = record { number = refl; move = refl } }
+
+pub move_one-requires-clause-latency : goal.move_one-requires-clause-latency
+move_one-requires-clause-latency c = subst (λ (m : MoveTask). IsLatency m.settings.latency) (sym c.loop-to.invariant.kept.move) c.requires.latency
+
+pub loop-to-preserved : goal.loop-to-preserved
+loop-to-preserved c =
+    let old = c.loop-to in
+    record {
+      moved = λ core n.
+          let whole : Moved = moves c.args.key core c.args.self.now c.args.loads.items in
+          move_remains_next c.args.effects.now old.effects c.move_one.new.effects c.args.key core old.self c.move_one.new.self c.in-Some.to c.in-Some.load c.next.new.self.rest.items whole
+          (subst (λ (xs : List (ℕ × Load)). MoveRemains c.args.effects.now old.effects (moves c.args.key core old.self xs) whole) c.in-Some.ensures.steps.0 (old.invariant.moved core n))
+          (c.in_ok-move_one.ensures.moved core n);
+      kept = record { number = c.move_one.ensures.kept.number ∙ old.invariant.kept.number; move = c.move_one.ensures.kept.move ∙ old.invariant.kept.move };
+    }
+
+pub returns-in_err-move_one-clause-kept : goal.returns-in_err-move_one-clause-kept
+returns-in_err-move_one-clause-kept c =
+    record { number = c.move_one.ensures.kept.number ∙ c.loop-to.invariant.kept.number; move = c.move_one.ensures.kept.move ∙ c.loop-to.invariant.kept.move }
+
+pub returns-clause-moved : goal.returns-clause-moved
+returns-clause-moved c = λ core n.
+    let now = c.loop-to in
+    let whole : Moved = moves c.args.key core c.args.self.now c.args.loads.items in
+    let none : length now.to-iterator.rest.items ≡ 0 = omega (arith, c.in-None.ensures.steps.0, now.to-iterator.rest.ok.0) in
+    move_remains_none c.args.effects.now now.effects c.args.key core now.self whole
+    (subst (λ (xs : List (ℕ × Load)). MoveRemains c.args.effects.now now.effects (moves c.args.key core now.self xs) whole) (none_left now.to-iterator.rest.items none) (now.invariant.moved core n))
+
+pub returns-clause-kept : goal.returns-clause-kept
+returns-clause-kept c = c.loop-to.invariant.kept

@@ -1,0 +1,13 @@
+use Rattle.std.proofs.Common.{◌≡◌}
+use Rattle.sqs_model.specs.Site.{Core, number_of}
+use Rattle.sqs_model.specs.Step.{moves}
+use Rattle.sim_site.specs.Steps.{IsKept, MoveRemains}
+use Rattle.sim_site.proofs.agents.Task.move_all.Given as goal
+
+-- those so far are moved
+abbrev pub invariant-loop-to : goal.invariant-loop-to
+invariant-loop-to l =
+    record {
+      moved : (c : Core) → number_of c ≡ l.site → MoveRemains l.initial.effects l.effects (moves l.key c l.self l.to-iterator.rest.items) (moves l.key c l.initial.self l.fn.loads.items);
+      kept : IsKept l.initial.self l.self;
+    }

@@ -1,0 +1,19 @@
+use Rattle.std.proofs.Common.{◌∙◌, ap, subst, sym}
+use Rattle.std.specs.Prelude.{OnOk}
+use Rattle.std.specs.Result.{result_map_both}
+use Rattle.sqs_model.specs.Polls.{poll_answered, poll_given}
+use Rattle.sqs_model.specs.Site.{Core, Poll}
+use Rattle.sim_site.specs.Effects.{Did}
+use Rattle.sim_site.specs.contracts.state.Core.{the_view}
+use Rattle.sim_site.specs.contracts.agents.Poll.{the_view as the_poll}
+use Rattle.sim_site.proofs.Polling.{poll_answered_did}
+use Rattle.sim_site.proofs.state.Core.answer_poll.Goals as goal
+
+pub returns-clause-did : goal.returns-clause-did
+returns-clause-did c =
+    let received = c.in_ok-gots.ensures.received ∙ ap (λ r. (result_map_both (λ b. b.items) (λ x. x) r, c.received_by.new.queue)) c.in-Ok.is in
+    subst (λ (p : Poll). OnOk c.told.result (Did c.args.effects.now c.told.new.effects c.told.new.self (poll_answered c.args.key p c.args.self.now (poll_given c.args.key p c.args.self.now.queue)))) c.poll.view_is
+    (subst (λ (x : Core). OnOk c.told.result (Did c.args.effects.now c.told.new.effects c.told.new.self (poll_answered c.args.key (the_poll c.poll.inside) x (poll_given c.args.key (the_poll c.poll.inside) x.queue)))) c.self.view_is
+    (poll_answered_did c.args.key (the_poll c.poll.inside) (the_view c.self.inside) c.give.new.self c.told.new.self c.args.effects.now c.give.new.effects c.told.new.effects c.told.result
+    c.all_hosts_of-set.result c.received_by.new.queue c.drop_first.new.polls.items c.in-Ok.gots.items c.as_slice.result.now c.new.result
+    (c.host_count.ensures.all ∙ sym c.all_hosts_of-set.ensures) received c.in_ok-gots.ensures.framed.site c.drop_first.ensures c.as_slice.ensures.value c.new.ensures c.in_ok-give.ensures.did c.told.ensures.did))

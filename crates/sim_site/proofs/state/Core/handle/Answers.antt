@@ -1,0 +1,10 @@
+use Rattle.sqs_model.specs.Polls.{answer_polls}
+use Rattle.sqs_model.specs.Site.{Core}
+use Rattle.sqs_model.specs.Step.{handle_class}
+use Rattle.sim_site.proofs.Carried.{then_if}
+use Rattle.sim_site.proofs.state.Core.handle.Goals as goal
+
+pub returns-clause-did : goal.returns-clause-did
+returns-clause-did c =
+    then_if c.answer_polls.result c.args.effects.now c.handle_class.new.effects c.answer_polls.new.effects c.handle_class.new.self c.answer_polls.new.self
+    (handle_class c.args.key.class c.args.key c.args.self.now) (λ (x : Core). answer_polls c.args.key x.polls x) c.in_ok-handle_class.ensures.did c.answer_polls.ensures.did

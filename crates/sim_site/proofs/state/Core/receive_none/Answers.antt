@@ -1,0 +1,16 @@
+use Rattle.std.proofs.Common.{refl, sym, ◌∙◌}
+use Rattle.sim_site.specs.contracts.state.Core.{the_view}
+use Rattle.sim_site.proofs.Waiting.{finds_nothing, waits_on}
+use Rattle.sim_site.proofs.state.Core.receive_none.Goals as goal
+
+pub returns-then-wait-eq0-clause-did : goal.returns-then-wait-eq0-clause-did
+returns-then-wait-eq0-clause-did c = λ a e f.
+    rw (← c.self.view_is)
+    (finds_nothing c.args.key a (the_view c.self.inside) c.args.effects.now c.say.new.self c.args.agent c.args.max c.args.wait c.args.timeout c.receive_row.result e c.in_ok-say.ensures.rows c.in_ok-say.ensures.sent
+    c.new-then-wait-eq0.result (c.new-then-wait-eq0.ensures ∙ c.new.ensures.items) c.if-wait-eq0.true (c.receive_row.ensures (the_view c.self.inside) (sym c.site-site.ensures)))
+
+pub returns-clause-did : goal.returns-clause-did
+returns-clause-did c = λ a e.
+    rw (← c.self.view_is)
+    (λ f. waits_on c.args.key a (the_view c.self.inside) c.args.effects.now c.say-2.new.self c.args.agent c.args.max c.args.wait c.args.timeout c.receive_row-2.result e c.in_ok-say-2.ensures.rows c.in_ok-say-2.ensures.sent
+    c.polled_at.new.actors.items c.push.new.self.items _ c.in_ok-number.number f c.in_ok-number.ensures.polled c.if-wait-eq0.false c.in_ok-push.ensures.items refl (c.receive_row-2.ensures (the_view c.self.inside) (sym c.site-site.ensures)))

@@ -1,0 +1,26 @@
+use Rattle.std.proofs.Common.{Option, subst}
+use Rattle.sqs_model.specs.declared.acts.Answer.{Answer}
+use Rattle.sqs_model.specs.Site.{actor_numbered}
+use Rattle.sim_site.specs.Turns.{DidTurn, turn_of}
+use Rattle.sim_site.proofs.Turns.{turn_ends, turn_goes, turn_last}
+use Rattle.sim_site.proofs.state.Core.told.Goals as goal
+
+pub returns-in_default-clause-did : goal.returns-in_default-clause-did
+returns-in_default-clause-did c =
+    let one = subst (λ (o : Option Answer). DidTurn c.args.effects.now c.take_turn.new.effects c.take_turn.new.self o (turn_of c.args.key c.args.answer c.args.self.now (actor_numbered c.args.agent c.args.self.now))) c.in_default.is c.in_ok-answer.ensures.did in
+    turn_ends c.args.key c.args.agent 2 c.args.answer c.args.self.now c.args.effects.now c.take_turn.new.effects c.take_turn.new.self one
+
+pub returns-in_default-2-clause-did : goal.returns-in_default-2-clause-did
+returns-in_default-2-clause-did c =
+    let one = subst (λ (o : Option Answer). DidTurn c.args.effects.now c.take_turn.new.effects c.take_turn.new.self o (turn_of c.args.key c.args.answer c.args.self.now (actor_numbered c.args.agent c.args.self.now))) c.in-Some.is c.in_ok-answer.ensures.did in
+    let two = subst (λ (o : Option Answer). DidTurn c.take_turn.new.effects c.take_turn-2.new.effects c.take_turn-2.new.self o (turn_of c.args.key c.in-Some.answer c.take_turn.new.self (actor_numbered c.args.agent c.take_turn.new.self))) c.in_default-2.is c.in_ok-answer-2.ensures.did in
+    turn_goes c.args.key c.args.agent 2 c.args.answer c.args.self.now c.args.effects.now c.take_turn.new.effects c.take_turn.new.self c.take_turn-2.new.effects c.take_turn-2.new.self c.in-Some.answer one
+    (turn_ends c.args.key c.args.agent 1 c.in-Some.answer c.take_turn.new.self c.take_turn.new.effects c.take_turn-2.new.effects c.take_turn-2.new.self two)
+
+pub returns-clause-did : goal.returns-clause-did
+returns-clause-did c =
+    let one = subst (λ (o : Option Answer). DidTurn c.args.effects.now c.take_turn.new.effects c.take_turn.new.self o (turn_of c.args.key c.args.answer c.args.self.now (actor_numbered c.args.agent c.args.self.now))) c.in-Some.is c.in_ok-answer.ensures.did in
+    let two = subst (λ (o : Option Answer). DidTurn c.take_turn.new.effects c.take_turn-2.new.effects c.take_turn-2.new.self o (turn_of c.args.key c.in-Some.answer c.take_turn.new.self (actor_numbered c.args.agent c.take_turn.new.self))) c.in-Some-2.is c.in_ok-answer-2.ensures.did in
+    turn_goes c.args.key c.args.agent 2 c.args.answer c.args.self.now c.args.effects.now c.take_turn.new.effects c.take_turn.new.self c.take_turn-3.new.effects c.take_turn-3.new.self c.in-Some.answer one
+    (turn_goes c.args.key c.args.agent 1 c.in-Some.answer c.take_turn.new.self c.take_turn.new.effects c.take_turn-2.new.effects c.take_turn-2.new.self c.take_turn-3.new.effects c.take_turn-3.new.self c.in-Some-2.answer two
+    (turn_last c.args.key c.args.agent c.in-Some-2.answer c.take_turn-2.new.self c.take_turn-2.new.effects c.take_turn-3.new.effects c.take_turn-3.new.self c.in_ok-take_turn.field-0 c.in_ok-take_turn.ensures.did))

@@ -1,0 +1,38 @@
+-- How the methods of a site carry out the effects of the definitions: rows and transfers are added to those made before.
+use Rattle.std.specs.Prelude.{Ok, Result, ◌++◌, ◌≡◌}
+use Rattle.sim_clock.specs.declared.refusal.Refusal.{Refusal}
+use Rattle.sim_clock.specs.declared.refusal.Refusal.TheVariants as refusals
+use Rattle.sim_site.specs.declared.effects.Effects.{Effects}
+use Rattle.sqs_model.specs.declared.acts.Answer.{Answer}
+use Rattle.sqs_model.specs.Acts.{Made}
+use Rattle.sqs_model.specs.Site.{Core, Effect, Site}
+use Rattle.sqs_model.specs.Step.{Handled}
+
+-- a site after an effect, whose rows and transfers were added
+pub record Did (before after : Effects) (c : Core) (e : Effect) : Type 0 where
+  pub core : c ≡ e.core
+  pub rows : after.rows.items ≡ before.rows.items ++ e.rows
+  pub sent : after.sent.items ≡ before.sent.items ++ e.sent
+
+-- a site after a handling, whose rows and transfers were added
+pub record DidHandle (before after : Effects) (s : Result Site Refusal) (h : Handled) : Type 0 where
+  pub site : s ≡ Ok h.site
+  pub rows : after.rows.items ≡ before.rows.items ++ h.rows
+  pub sent : after.sent.items ≡ before.sent.items ++ h.sent
+
+-- the same of an act, with what its actor is told
+pub record DidMake (before after : Effects) (c : Core) (told : Answer) (m : Made) : Type 0 where
+  pub effect : Did before after c m.effect
+  pub answer : told ≡ m.answer
+
+-- of an effect some is done, and the rest is what would come at the site as it is
+pub record Remains (before after : Effects) (rest whole : Effect) : Type 0 where
+  pub core : rest.core ≡ whole.core
+  pub rows : after.rows.items ++ rest.rows ≡ before.rows.items ++ whole.rows
+  pub sent : after.sent.items ++ rest.sent ≡ before.sent.items ++ whole.sent
+
+-- the refusals that end a site: want of memory, and a count at its limit
+abbrev pub Spends : Refusal → Type 0
+Spends refusals.CountLimit = Unit {0}
+Spends refusals.Memory = Unit {0}
+Spends e = ⊥

@@ -1,0 +1,50 @@
+-- What every state of a site keeps, so that no moment that it works out is too great.
+use Rattle.std.specs.Prelude.{All, List, ℕ, ◌*◌, ◌+◌, ◌<◌, ◌^◌, ◌≤◌}
+use Rattle.sqs_message.specs.declared.calls.Call.{Call}
+use Rattle.sqs_message.specs.declared.calls.Call.TheVariants as calls
+use Rattle.sqs_model.specs.declared.agents.ActorSettings.{ActorSettings}
+use Rattle.sqs_model.specs.declared.agents.Role.{Role}
+use Rattle.sqs_model.specs.declared.agents.Role.TheVariants.{Consumer, Producer, Script}
+use Rattle.sqs_redrive.specs.declared.settings.QueueSettings.{QueueSettings}
+use Rattle.sqs_redrive.specs.declared.settings.TaskSettings.{TaskSettings}
+use Rattle.sqs_model.specs.Answers.{most_count}
+use Rattle.sqs_model.specs.Progress.{Ascends}
+use Rattle.sqs_model.specs.Task.{Task}
+use Rattle.sqs_model.specs.Valid.{IsLatency}
+use Rattle.sqs_standard.specs.Standard.{IsStandardSettings}
+
+-- the greatest wait of a receive, in seconds
+abbrev pub most_wait : ℕ
+most_wait = 2 ^ 32
+
+-- a call of a script that waits for no longer than that
+abbrev pub WaitsWithin : Call → Type 0
+WaitsWithin (calls.Send body delay group id) = Unit {0}
+WaitsWithin (calls.Receive max wait timeout) = wait ≤ most_wait
+WaitsWithin (calls.Delete receipt) = Unit {0}
+WaitsWithin (calls.Change receipt timeout) = Unit {0}
+WaitsWithin (calls.Start task) = Unit {0}
+WaitsWithin (calls.Cancel task) = Unit {0}
+
+-- a role whose receives wait for no longer than that
+abbrev pub HasShortWaits : Role → Type 0
+HasShortWaits (Script script) = All (λ c. WaitsWithin c.call) script
+HasShortWaits (Producer p) = Unit {0}
+HasShortWaits (Consumer c) = c.wait ≤ most_wait
+
+-- a task's number and its settings
+abbrev pub numbered_settings : Task → ℕ × TaskSettings
+numbered_settings t = (t.number, t.move.settings)
+
+-- settings of a site that never change: its queue is a standard one in range, its actors' waits are short, its tasks' latencies are in range, and each task has a number of its own
+pub record IsSetUp (settings : QueueSettings) (actors : List ActorSettings) (tasks : List (ℕ × TaskSettings)) : Type 0 where
+  pub queue : IsStandardSettings settings
+  pub waits : All (λ a. HasShortWaits a.role) actors
+  pub latencies : All (λ t. IsLatency t.1.latency) tasks
+  pub numbered : Ascends (λ t. t.0) 0 tasks
+
+-- samples every so often, of which so many were taken: the next is at a moment of 64 bits
+pub record IsSampled (sample samples : ℕ) : Type 0 where
+  pub interval : sample ≤ most_count
+  pub taken : samples ≤ most_count
+  pub next : sample * (samples + 1) < 2 ^ 64

@@ -1,0 +1,9 @@
+pub mod Effects
+pub mod Kept
+pub mod Reading
+pub mod Turns
+pub mod Spent
+pub mod Tasks
+pub mod Origins
+pub mod Steps
+pub mod Due

@@ -1,0 +1,65 @@
+-- One turn of an actor at its site: it is told something, decides, and acts.
+use Rattle.std.specs.Prelude.{List, None, Option, Some, find, ℕ, ◌+◌, ◌≡◌, ◌≤◌}
+use Rattle.sim_clock.specs.declared.key.Key.{Key}
+use Rattle.sqs_model.specs.declared.acts.Act.{Act}
+use Rattle.sqs_model.specs.declared.acts.Answer.{Answer}
+use Rattle.sqs_model.specs.declared.acts.Act.TheVariants as acts
+use Rattle.sim_site.specs.declared.effects.Effects.{Effects}
+use Rattle.sim_clock.specs.Firsts.{changed}
+use Rattle.sqs_model.specs.Actor.{Actor, next}
+use Rattle.sqs_model.specs.Acts.{Made, act_made}
+use Rattle.sqs_model.specs.Site.{Core, Effect, is_actor, no_effect, with_actor}
+use Rattle.sim_site.specs.Effects.{Did}
+use Rattle.sim_site.specs.Kept.{most_wait}
+
+-- the actor of a number decides on what it is told, and stands in its place after it
+pub record Turned (n now : ℕ) (told : Answer) (act : Act) (old new : List Actor) : Type 0 where
+  pub before : Actor
+  pub after : Actor
+  pub found : find (is_actor n) old ≡ Some before
+  pub decides : next before now told ≡ (act, after)
+  pub number : after.number ≡ n
+  pub list : new ≡ changed (is_actor n) (λ _. after) old
+  pub there : find (is_actor n) new ≡ Some after
+
+-- the actor of a number waits for one more poll than these
+pub record Polled (n polls : ℕ) (old new : List Actor) : Type 0 where
+  pub before : Actor
+  pub found : find (is_actor n) old ≡ Some before
+  pub count : before.polls ≡ polls
+  pub list : new ≡ changed (is_actor n) (λ _. record before { polls = before.polls + 1 }) old
+
+-- an act that waits for no longer than may be
+abbrev pub WaitsShortly : Act → Type 0
+WaitsShortly (acts.Send body delay group id) = Unit {0}
+WaitsShortly (acts.Receive max wait timeout) = wait ≤ most_wait
+WaitsShortly (acts.Delete receipt) = Unit {0}
+WaitsShortly (acts.Change receipt timeout) = Unit {0}
+WaitsShortly (acts.Start task) = Unit {0}
+WaitsShortly (acts.Cancel task) = Unit {0}
+WaitsShortly (acts.Serve id receipt failed forward) = Unit {0}
+WaitsShortly acts.Nothing = Unit {0}
+
+-- what a turn made, and what the actor is told of it, if it did anything
+pub record Turn : Type 0 where
+  pub effect : Effect
+  pub answer : Option Answer
+
+-- a turn by its act
+abbrev pub turn_by : Act → Made → Turn
+turn_by acts.Nothing m = record { effect = m.effect; answer = None }
+turn_by act m = record { effect = m.effect; answer = Some m.answer }
+
+-- a turn by what was decided
+abbrev pub turn_next : Key → Core → Act × Actor → Turn
+turn_next key c (act, a) = turn_by act (act_made key a (with_actor c a) act)
+
+-- a turn of an actor, if it is there
+abbrev pub turn_of : Key → Answer → Core → Option Actor → Turn
+turn_of key answer c None = record { effect = no_effect c; answer = None }
+turn_of key answer c (Some a) = turn_next key c (next a key.at answer)
+
+-- a turn that was carried out
+pub record DidTurn (before after : Effects) (c : Core) (told : Option Answer) (t : Turn) : Type 0 where
+  pub effect : Did before after c t.effect
+  pub answer : told ≡ t.answer

@@ -1,0 +1,48 @@
+//! What a handling makes: rows of the log, and transfers to other queues.
+ghost use Rattle.std.specs.Prelude.{◌≡◌, ◌++◌, ◌∷◌, [], IfErr, OnOk};
+ghost use Rattle.sim_site.specs.Effects.{Spends};
+
+use sim_clock::Refusal;
+use sqs_message::Row;
+use sqs_redrive::Outbound;
+use std::alloc::Global;
+
+/// Rows made and transfers sent, in order.
+#[derive(Drop)]
+pub struct Effects {
+    pub rows: Vec<Row>,
+    pub sent: Vec<Outbound>,
+}
+
+impl Effects {
+    /// None so far.
+    pub fn new(alloc: Global) -> Effects
+        ensures rows { result.rows.items ≡ [] }
+        ensures sent { result.sent.items ≡ [] }
+    {
+        Effects {
+            rows: Vec::new(alloc),
+            sent: Vec::new(alloc),
+        }
+    }
+
+    /// Adds a row. The one error is `Memory`.
+    pub fn say(&mut self, row: Row) -> Result<(), Refusal>
+        ensures rows { OnOk result (self.new.rows.items ≡ self.old.rows.items ++ row ∷ []) }
+        ensures sent { self.new.sent ≡ self.old.sent }
+        ensures spends { IfErr result Spends }
+    {
+        self.rows.push(row)?;
+        Ok(())
+    }
+
+    /// Adds a transfer. The one error is `Memory`.
+    pub fn send(&mut self, transfer: Outbound) -> Result<(), Refusal>
+        ensures sent { OnOk result (self.new.sent.items ≡ self.old.sent.items ++ transfer ∷ []) }
+        ensures rows { self.new.rows ≡ self.old.rows }
+        ensures spends { IfErr result Spends }
+    {
+        self.sent.push(transfer)?;
+        Ok(())
+    }
+}

@@ -1,0 +1,19 @@
+//! A site: a queue with the actors and tasks at home there and the transfers on their way to it,
+//! and the handling of what is due there.
+#![tactic(auto)]
+
+mod agents;
+mod arrivals;
+mod dues;
+mod effects;
+mod loads;
+mod opening;
+mod places;
+mod rows;
+mod site;
+mod state;
+#[cfg(test)]
+mod tests;
+
+pub use agents::Task;
+pub use site::{Handled, Site};

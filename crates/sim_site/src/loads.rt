@@ -1,0 +1,63 @@
+//! Loads of transfers.
+ghost use Rattle.std.specs.Prelude.{◌≡◌, IfOk, Option};
+
+use sqs_message::Text;
+use sqs_redrive::Load;
+use std::alloc::{AllocError, Global};
+
+// Another group of the same bytes, if there is one.
+fn copied_group(alloc: Global, group: &Option<Text>) -> Result<Option<Text>, AllocError>
+    ensures { IfOk result (λ copy. copy ≡ group.now) }
+{
+    match group {
+        None => Ok(None),
+        Some(group) => Ok(Some(group.copy(alloc)?)),
+    }
+}
+
+// Another load with the same values.
+fn copied_load(alloc: Global, load: &Load) -> Result<Load, AllocError>
+    ensures { IfOk result (λ copy. copy ≡ load.now) }
+{
+    Ok(match load {
+        Load::Redrive {
+            id,
+            origin,
+            body,
+            group,
+            enqueued,
+        } => Load::Redrive {
+            id: *id,
+            origin: *origin,
+            body: body.copy(alloc)?,
+            group: copied_group(alloc, group)?,
+            enqueued: *enqueued,
+        },
+        Load::Move {
+            id,
+            origin,
+            body,
+            group,
+        } => Load::Move {
+            id: *id,
+            origin: *origin,
+            body: body.copy(alloc)?,
+            group: copied_group(alloc, group)?,
+        },
+        Load::Forward { id, body, group } => Load::Forward {
+            id: *id,
+            body: body.copy(alloc)?,
+            group: copied_group(alloc, group)?,
+        },
+    })
+}
+
+/// Another load with the same values, if there is one. The one error is want of memory.
+pub fn copied(alloc: Global, load: &Option<Load>) -> Result<Option<Load>, AllocError>
+    ensures { IfOk result (λ copy. copy ≡ load.now) }
+{
+    match load {
+        None => Ok(None),
+        Some(load) => Ok(Some(copied_load(alloc, load)?)),
+    }
+}

@@ -1,0 +1,46 @@
+//! The actors and tasks that a site opens with.
+ghost use Rattle.std.specs.Prelude.{◌≡◌, All, IfErr, IfOk, map};
+ghost use Rattle.sim_actor.specs.Lives.{IsRole};
+ghost use Rattle.sqs_model.specs.Scenario.{Scenario, opening_actor, opening_task};
+ghost use Rattle.sim_site.specs.Effects.{Spends};
+
+use crate::agents::Task;
+use sim_actor::Actor;
+use sim_clock::Refusal;
+use sqs_model::ActorSettings;
+use sqs_redrive::TaskSettings;
+use std::alloc::Global;
+
+/// The actors of these numbers and settings, which have done nothing.
+pub fn open_actors(
+    alloc: Global,
+    actors: Vec<(u32, ActorSettings)>,
+    seed: u64,
+) -> Result<Vec<Actor>, Refusal>
+    requires { All (λ x. IsRole x.1.role) actors.items }
+    ensures opened { IfOk result (λ opened. (s : Scenario) → s.seed ≡ seed → opened.items ≡ map (opening_actor s) actors.items) }
+    ensures spends { IfErr result Spends }
+{
+    let mut opened = Vec::new(alloc);
+    for (number, settings) in actors {
+        opened.push(Actor::new(alloc, number, settings, seed))?;
+    }
+    Ok(opened)
+}
+
+/// The tasks of these numbers and settings, none of them started.
+pub fn open_tasks(
+    alloc: Global,
+    tasks: &[(u32, TaskSettings)],
+    seed: u64,
+) -> Result<Vec<Task>, Refusal>
+    ensures opened { IfOk result (λ opened. (s : Scenario) → s.seed ≡ seed → opened.items ≡ map (opening_task s) tasks.now) }
+    ensures spends { IfErr result Spends }
+{
+    let mut opened = Vec::new(alloc);
+    for i in 0..tasks.len() {
+        let (number, settings) = tasks[i];
+        opened.push(Task::new(number, settings, seed))?;
+    }
+    Ok(opened)
+}

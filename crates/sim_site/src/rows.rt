@@ -1,0 +1,30 @@
+//! Rows of the log.
+ghost use Rattle.std.specs.Prelude.{◌≡◌};
+ghost use Rattle.sqs_message.specs.declared.row.RowReceipt.TheVariants as receipts;
+
+use sim_clock::Key;
+use sqs_message::{Detail, MessageId, Row, RowAnswer, RowKind, RowReceipt};
+
+/// A row without a receipt.
+pub fn row(
+    key: Key,
+    queue: u32,
+    agent: u32,
+    kind: RowKind,
+    answer: RowAnswer,
+    message: Option<MessageId>,
+    detail: Detail,
+) -> Row
+    ensures { result ≡ record { key = key; queue = queue; agent = agent; kind = kind; answer = answer; message = message; receipt = receipts.Absent; detail = detail } }
+{
+    Row {
+        key,
+        queue,
+        agent,
+        kind,
+        answer,
+        message,
+        receipt: RowReceipt::Absent,
+        detail,
+    }
+}

@@ -1,0 +1,184 @@
+//! Sites.
+ghost use Rattle.std.specs.Prelude.{◌≡◌, ◌≤◌, ◌==◌, All, Err, IfErr, IfOk, IsOk, None, Ok, OnOk, Option, Result, Some, filter, map};
+ghost use Rattle.sim_actor.specs.Lives.{IsRole};
+ghost use Rattle.sim_clock.specs.Order.{least};
+ghost use Rattle.sqs_model.specs.Answers.{most_count};
+ghost use Rattle.sqs_model.specs.Dues.{least_due};
+ghost use Rattle.sqs_model.specs.Scenario.{Scenario, numbered_actors, numbered_tasks, opening_site};
+ghost use Rattle.sqs_model.specs.Site.{Site, accepted};
+ghost use Rattle.sim_site.specs.Kept.{IsSetUp};
+ghost use Rattle.sqs_model.specs.Step.{handled};
+ghost use Rattle.sim_site.specs.Effects.{DidHandle, Spends};
+ghost use Rattle.sim_site.specs.Spent.{due_of, refusal_of};
+
+use crate::agents::Task;
+use crate::arrivals::{insert, take};
+use crate::dues::least_arrival;
+use crate::effects::Effects;
+use crate::opening::{open_actors, open_tasks};
+use crate::state::Core;
+use sim_clock::{Class, Key, Refusal, lesser};
+use sim_draw::Draws;
+use sqs_message::Row;
+use sqs_model::ActorSettings;
+use sqs_redrive::{Outbound, QueueSettings, TaskSettings};
+use sqs_standard::StandardQueue;
+use std::alloc::Global;
+use std::marker::Model;
+
+/// What a handling made: rows of the log, and transfers to other queues, in order.
+#[derive(Drop)]
+pub struct Handled {
+    pub rows: Vec<Row>,
+    pub outbound: Vec<Outbound>,
+}
+
+/// A queue with the actors and tasks at home there, and the transfers on their way to it. Contracts
+/// see it as the definitions' `Site` while it lives; want of memory or a count at its limit spends
+/// it, and it is that refusal from then on.
+#[derive(Drop)]
+pub struct Site {
+    core: Core,
+    arriving: Vec<Outbound>,
+    spent: Option<Refusal>,
+}
+
+impl Model for Site {
+    ghost use Rattle.std.specs.Prelude.{Result};
+    ghost use Rattle.sim_clock.specs.declared.refusal.Refusal.{Refusal};
+    ghost use Rattle.sqs_model.specs.Site.{Site};
+    ghost use Rattle.sim_site.specs.Spent.{spent_or};
+
+    ghost Value = { Result Site Refusal };
+
+    ghost view = { λ s. spent_or s.spent (record { core = s.core; arriving = s.arriving.items }) };
+}
+
+impl Site {
+    /// A site of a standard queue of this number, with the actors and tasks at home there, each
+    /// under its own number; samples are taken every so many milliseconds, or never where that is
+    /// 0. `Memory` where it cannot be made.
+    pub fn new(
+        alloc: Global,
+        number: u32,
+        settings: QueueSettings,
+        actors: Vec<(u32, ActorSettings)>,
+        tasks: Vec<(u32, TaskSettings)>,
+        seed: u64,
+        sample: u64,
+    ) -> Result<Site, Refusal>
+        requires roles { All (λ x. IsRole x.1.role) actors.items }
+        requires set_up { IsSetUp settings (map (λ x. x.1) actors.items) tasks.items }
+        requires sample { sample ≤ most_count }
+        ensures opened { IfOk result (λ site. (s : Scenario) → s.seed ≡ seed → s.sample ≡ sample → actors.items ≡ filter (λ x. x.1.home == number) (numbered_actors s) → tasks.items ≡ filter (λ x. x.1.home == number) (numbered_tasks s) → site ≡ Ok (opening_site s (number, settings))) }
+        ensures spends { IfErr result Spends }
+    {
+        let queue = StandardQueue::new(alloc, number, settings);
+        let actors = open_actors(alloc, actors, seed)?;
+        let tasks = open_tasks(alloc, tasks.as_slice(), seed)?;
+        let draws = Draws::new(seed, number);
+        Ok(Site {
+            core: Core::new(alloc, queue, actors, tasks, draws, sample),
+            arriving: Vec::new(alloc),
+            spent: None,
+        })
+    }
+
+    /// The key of what is due next; none where the site is spent.
+    pub fn least_due(&self) -> Option<Key>
+        ensures { result ≡ due_of self.now }
+    {
+        if self.spent.is_some() {
+            return None;
+        }
+        lesser(least_arrival(&self.arriving), self.core.least_due())
+    }
+
+    /// The refusal that spent it, if one did.
+    pub fn spent(&self) -> Option<Refusal>
+        ensures { result ≡ refusal_of self.now }
+    {
+        self.spent
+    }
+
+    /// A transfer is on its way to it from now on. `Memory`, which spends it; one that is spent
+    /// stays so.
+    pub fn accept(&mut self, transfer: Outbound) -> Result<(), Refusal>
+        ensures accepted { IfOk self.old (λ site. OnOk result (self.new ≡ Ok (accepted transfer site))) }
+        ensures spent { IfErr result (λ refusal. self.new ≡ Err refusal) }
+        ensures memory { IfOk self.old (λ site. IfErr result (λ refusal. refusal ≡ Refusal.Memory)) }
+        ensures stays { IfErr self.old (λ refusal. result ≡ Err refusal) }
+    {
+        if let Some(refusal) = self.spent {
+            return Err(refusal);
+        }
+        if insert(&mut self.arriving, transfer).is_err() {
+            self.spent = Some(Refusal::Memory);
+            return Err(Refusal::Memory);
+        }
+        Ok(())
+    }
+
+    // Handles its least due, while it lives.
+    #[tactic(auto, unfolding(sqs_model::specs::Step::handled))]
+    fn handle_due(&mut self, key: Key, effects: &mut Effects) -> Result<(), Refusal>
+        requires lives { IsOk self.old }
+        requires due { due_of self.old ≡ Some key }
+        requires moment { key.at ≤ most_count }
+        ensures done { IfOk self.old (λ site. OnOk result (DidHandle effects.old effects.new self.new (handled key site))) }
+        ensures spends { IfErr result Spends }
+    {
+        if key.class == Class::Arrival {
+            let transfer = take(&mut self.arriving, key);
+            self.core.handle_arrival(key, transfer, effects)
+        } else {
+            self.core.handle(key, effects)
+        }
+    }
+
+    /// Handles its least due, at a moment in milliseconds: the rows that this makes, and the
+    /// transfers that it sends. `Memory`, or `CountLimit` where a count would pass its limit, spends
+    /// it; one that is spent answers what spent it.
+    pub fn handle(&mut self, key: Key) -> Result<Handled, Refusal>
+        requires due { IfOk self.old (λ site. least_due site ≡ Some key) }
+        requires moment { key.at ≤ most_count }
+        ensures handled { IfOk self.old (λ site. IfOk result (λ made. (self.new ≡ Ok (handled key site).site) × (made.rows.items ≡ (handled key site).rows) × (made.outbound.items ≡ (handled key site).sent))) }
+        ensures spent { IfErr result (λ refusal. self.new ≡ Err refusal) }
+        ensures spends { IfOk self.old (λ site. IfErr result Spends) }
+        ensures stays { IfErr self.old (λ refusal. result ≡ Err refusal) }
+    {
+        if let Some(refusal) = self.spent {
+            return Err(refusal);
+        }
+        let mut effects = Effects::new(self.core.alloc());
+        if let Err(refusal) = self.handle_due(key, &mut effects) {
+            self.spent = Some(refusal);
+            return Err(refusal);
+        }
+        Ok(Handled {
+            rows: effects.rows,
+            outbound: effects.sent,
+        })
+    }
+
+    /// Its queue.
+    pub fn queue(&self) -> &StandardQueue
+        ensures { IfOk self.now (λ site. result.now ≡ site.core.queue) }
+    {
+        self.core.queue()
+    }
+
+    /// The tasks at home there.
+    pub fn tasks(&self) -> &[Task]
+        ensures { IfOk self.now (λ site. result.now ≡ site.core.tasks) }
+    {
+        self.core.tasks()
+    }
+
+    /// The transfers on their way to it, in the order of their keys.
+    pub fn arriving(&self) -> &[Outbound]
+        ensures { IfOk self.now (λ site. result.now ≡ site.arriving) }
+    {
+        self.arriving.as_slice()
+    }
+}

@@ -1,0 +1,131 @@
+//! A site but for what is on its way to it.
+ghost use Rattle.std.specs.Prelude.{◌≡◌, ◌≤◌, [], map};
+ghost use Rattle.sim_site.specs.Kept.{IsSetUp, numbered_settings};
+ghost use Rattle.sqs_model.specs.Answers.{most_count};
+ghost use Rattle.sim_clock.specs.Order.{least};
+ghost use Rattle.sqs_model.specs.Dues.{core_dues, sample_dues};
+
+mod arrivals;
+mod deletes;
+mod gives;
+mod handling;
+mod polls;
+mod receives;
+mod returns;
+mod samples;
+mod sends;
+mod steps;
+mod tasks;
+mod turns;
+
+use crate::agents::{Poll, Task};
+use crate::dues::{least_end, least_step, least_wake};
+use sim_actor::Actor;
+use sim_clock::{Class, Key, lesser};
+use sim_draw::Draws;
+use sqs_standard::StandardQueue;
+use std::alloc::Global;
+use std::marker::Model;
+
+/// The greatest value of a count or a moment.
+pub const MOST_COUNT: u64 = 4611686018427387903;
+
+/// A queue with the actors and tasks at home there, the polls that wait at it, the words drawn and
+/// the transfers sent by it, and how many samples were taken of it. Contracts see it as the
+/// definitions' record of these.
+#[derive(Drop)]
+pub struct Core {
+    alloc: Global,
+    queue: StandardQueue,
+    actors: Vec<Actor>,
+    tasks: Vec<Task>,
+    polls: Vec<Poll>,
+    sent: u64,
+    draws: Draws,
+    sample: u64,
+    samples: u64,
+}
+
+impl Model for Core {
+    ghost use Rattle.std.specs.Prelude.{map};
+    ghost use Rattle.sqs_model.specs.Site.{Core};
+    ghost use Rattle.sim_site.specs.Kept.{IsSampled, IsSetUp, numbered_settings};
+
+    ghost Value = { Core };
+
+    ghost view = { λ c. record { queue = c.queue; actors = c.actors.items; tasks = c.tasks.items; polls = c.polls.items; sent = c.sent; draws = c.draws; sample = c.sample; samples = c.samples } };
+
+    ghost invariant = { λ c. IsSetUp c.queue.settings (map (λ a. a.settings) c.actors.items) (map numbered_settings c.tasks.items) × IsSampled c.sample c.samples };
+}
+
+impl Core {
+    /// A site with nothing on its way to it that has done nothing.
+    pub fn new(
+        alloc: Global,
+        queue: StandardQueue,
+        actors: Vec<Actor>,
+        tasks: Vec<Task>,
+        draws: Draws,
+        sample: u64,
+    ) -> Core
+        requires set_up { IsSetUp queue.settings (map (λ a. a.settings) actors.items) (map numbered_settings tasks.items) }
+        requires sample { sample ≤ most_count }
+        ensures { result ≡ record { queue = queue; actors = actors.items; tasks = tasks.items; polls = []; sent = 0; draws = draws; sample = sample; samples = 0 } }
+    {
+        Core {
+            alloc,
+            queue,
+            actors,
+            tasks,
+            polls: Vec::new(alloc),
+            sent: 0,
+            draws,
+            sample,
+            samples: 0,
+        }
+    }
+
+    /// What it allocates with.
+    pub fn alloc(&self) -> Global {
+        self.alloc
+    }
+
+    /// Its queue.
+    pub fn queue(&self) -> &StandardQueue
+        ensures { result.now ≡ self.now.queue }
+    {
+        &self.queue
+    }
+
+    /// The tasks at home there.
+    pub fn tasks(&self) -> &[Task]
+        ensures { result.now ≡ self.now.tasks }
+    {
+        self.tasks.as_slice()
+    }
+
+    /// The next sample, if samples are taken.
+    fn sample_due(&self) -> Option<Key>
+        ensures { result ≡ least (sample_dues self.now) }
+    {
+        if self.sample == 0 {
+            return None;
+        }
+        Some(Key {
+            at: self.sample * (self.samples + 1),
+            agent: self.queue.site(),
+            class: Class::Sample,
+            number: self.samples,
+        })
+    }
+
+    /// The key of what is due next but for arrivals.
+    pub fn least_due(&self) -> Option<Key>
+        ensures { result ≡ least (core_dues self.now) }
+    {
+        let best = lesser(self.queue.least_due(), least_end(&self.polls));
+        let best = lesser(best, least_wake(&self.actors));
+        let best = lesser(best, self.sample_due());
+        lesser(best, least_step(&self.tasks))
+    }
+}

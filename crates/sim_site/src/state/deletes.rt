@@ -1,0 +1,243 @@
+//! Deletes and changes of visibility by actors, and ends of services.
+ghost use Rattle.std.specs.Prelude.{◌≡◌, ◌≤◌, IfErr, OnOk, Option};
+ghost use Rattle.sqs_message.specs.Ids.{read_receipt as the_read_receipt};
+ghost use Rattle.sqs_message.specs.declared.row.RowReceipt.TheVariants as receipts;
+ghost use Rattle.sqs_model.specs.Actor.{Actor};
+ghost use Rattle.sqs_model.specs.Acts.{change_made, change_answered, delete_made, deleted_row as the_deleted_row, serve_made};
+ghost use Rattle.sqs_model.specs.Answers.{most_count};
+ghost use Rattle.sqs_model.specs.Calls.{change, delete};
+ghost use Rattle.sqs_model.specs.Site.{Core, number_of};
+ghost use Rattle.sim_site.specs.Effects.{Did, Spends};
+
+use super::Core;
+use crate::effects::Effects;
+use crate::rows::row;
+use sim_clock::{Key, Refusal};
+use sqs_message::{Detail, MessageId, Receipt, Row, RowAnswer, RowKind, RowReceipt, Text};
+use sqs_redrive::{Deleted, Outbound};
+use std::str;
+
+// The receipt that a text is, if it is one.
+fn read_receipt(text: &Text) -> Option<Receipt>
+    ensures { result ≡ the_read_receipt text.now }
+{
+    match str::from_utf8(text.as_bytes()) {
+        Ok(text) => Receipt::read(text),
+        Err(_) => None,
+    }
+}
+
+// A row with the receipt text that a call gave.
+fn with_text(row: Row, text: Text) -> Row
+    ensures { result ≡ record row { receipt = receipts.Given text } }
+{
+    Row {
+        key: row.key,
+        queue: row.queue,
+        agent: row.agent,
+        kind: row.kind,
+        answer: row.answer,
+        message: row.message,
+        receipt: RowReceipt::Given(text),
+        detail: row.detail,
+    }
+}
+
+// The row of a delete by a receipt.
+fn deleted_row(
+    key: Key,
+    site: u32,
+    agent: u32,
+    text: Text,
+    receipt: Receipt,
+    answer: Result<Deleted, Refusal>,
+) -> Row
+    ensures { (a : Actor) (c : Core) → a.number ≡ agent → number_of c ≡ site → result ≡ the_deleted_row key a c text receipt answer }
+{
+    let id = MessageId {
+        site,
+        number: receipt.number,
+    };
+    let (answer, message, detail) = match answer {
+        Ok(Deleted::Removed(age)) => (RowAnswer::Deleted, Some(id), Detail::Age(age)),
+        Ok(Deleted::Kept) => (RowAnswer::Kept, Some(id), Detail::Absent),
+        Ok(Deleted::Gone) => (RowAnswer::Gone, Some(id), Detail::Absent),
+        Err(refusal) => (RowAnswer::Refused(refusal), None, Detail::Absent),
+    };
+    let row = row(key, site, agent, RowKind::Delete, answer, message, detail);
+    with_text(row, text)
+}
+
+impl Core {
+    /// An actor deletes a message by a text, which may be no receipt.
+    pub fn delete(
+        &mut self,
+        key: Key,
+        agent: u32,
+        text: Text,
+        effects: &mut Effects,
+    ) -> Result<(), Refusal>
+        ensures did { (a : Actor) → a.number ≡ agent → OnOk result (Did effects.old effects.new self.new (delete_made key a self.old text (the_read_receipt text)).effect) }
+        ensures spends { IfErr result Spends }
+    {
+        let site = self.queue.site();
+        match read_receipt(&text) {
+            None => {
+                let answer = RowAnswer::Refused(Refusal::ReceiptHandleIsInvalid);
+                let row = row(
+                    key,
+                    site,
+                    agent,
+                    RowKind::Delete,
+                    answer,
+                    None,
+                    Detail::Absent,
+                );
+                effects.say(with_text(row, text))
+            }
+            Some(receipt) => {
+                let answer = self.queue.delete(key.at, &receipt);
+                effects.say(deleted_row(key, site, agent, text, receipt, answer))
+            }
+        }
+    }
+
+    // An actor changes a visibility timeout by a receipt.
+    fn change_by(
+        &mut self,
+        key: Key,
+        agent: u32,
+        text: Text,
+        timeout: u64,
+        receipt: Receipt,
+        effects: &mut Effects,
+    ) -> Result<(), Refusal>
+        requires { key.at ≤ most_count }
+        ensures did { (a : Actor) → a.number ≡ agent → OnOk result (Did effects.old effects.new self.new (change_answered key a self.old text timeout receipt (change self.old.queue key.at receipt timeout)).effect) }
+        ensures spends { IfErr result Spends }
+    {
+        let site = self.queue.site();
+        match self.queue.change(key.at, &receipt, timeout) {
+            Err(refusal) => {
+                let answer = RowAnswer::Refused(refusal);
+                let row = row(
+                    key,
+                    site,
+                    agent,
+                    RowKind::Change,
+                    answer,
+                    None,
+                    Detail::Absent,
+                );
+                effects.say(with_text(row, text))
+            }
+            Ok(left) => {
+                let id = MessageId {
+                    site,
+                    number: receipt.number,
+                };
+                let detail = Detail::Timeout(timeout);
+                let row = row(
+                    key,
+                    site,
+                    agent,
+                    RowKind::Change,
+                    RowAnswer::Ok,
+                    Some(id),
+                    detail,
+                );
+                effects.say(with_text(row, text))?;
+                if timeout == 0 {
+                    self.came_back(key, receipt.number, left, effects)
+                } else {
+                    drop(left);
+                    Ok(())
+                }
+            }
+        }
+    }
+
+    /// An actor changes a visibility timeout, in seconds, by a text, which may be no receipt.
+    pub fn change(
+        &mut self,
+        key: Key,
+        agent: u32,
+        text: Text,
+        timeout: u64,
+        effects: &mut Effects,
+    ) -> Result<(), Refusal>
+        requires { key.at ≤ most_count }
+        ensures did { (a : Actor) → a.number ≡ agent → OnOk result (Did effects.old effects.new self.new (change_made key a self.old text timeout (the_read_receipt text)).effect) }
+        ensures spends { IfErr result Spends }
+    {
+        match read_receipt(&text) {
+            None => {
+                let site = self.queue.site();
+                let refusal = if timeout > 43200 {
+                    Refusal::BadTimeout
+                } else {
+                    Refusal::ReceiptHandleIsInvalid
+                };
+                let answer = RowAnswer::Refused(refusal);
+                let row = row(
+                    key,
+                    site,
+                    agent,
+                    RowKind::Change,
+                    answer,
+                    None,
+                    Detail::Absent,
+                );
+                effects.say(with_text(row, text))
+            }
+            Some(receipt) => self.change_by(key, agent, text, timeout, receipt, effects),
+        }
+    }
+
+    /// An actor ends the service of a message: a row if it failed, and else the forward on its
+    /// way, if there is one.
+    pub fn serve(
+        &mut self,
+        key: Key,
+        agent: u32,
+        id: MessageId,
+        receipt: Receipt,
+        failed: bool,
+        forward: Option<Outbound>,
+        effects: &mut Effects,
+    ) -> Result<(), Refusal>
+        ensures did { (a : Actor) → a.number ≡ agent → OnOk result (Did effects.old effects.new self.new (serve_made key a self.old id receipt failed forward).effect) }
+        ensures spends { IfErr result Spends }
+    {
+        let site = self.queue.site();
+        if failed {
+            let mut row = row(
+                key,
+                site,
+                agent,
+                RowKind::Fail,
+                RowAnswer::Ok,
+                Some(id),
+                Detail::Absent,
+            );
+            row.receipt = RowReceipt::Made(receipt);
+            return effects.say(row);
+        }
+        match forward {
+            None => Ok(()),
+            Some(transfer) => {
+                let to = Detail::Queue(transfer.to);
+                effects.say(row(
+                    key,
+                    site,
+                    agent,
+                    RowKind::Forward,
+                    RowAnswer::Out,
+                    Some(id),
+                    to,
+                ))?;
+                effects.send(transfer)
+            }
+        }
+    }
+}

@@ -1,0 +1,106 @@
+//! The rows of what a receive gave.
+ghost use Rattle.std.specs.Prelude.{◌≡◌, ◌≤◌, ◌++◌, map, IfErr, OnOk};
+ghost use Rattle.sqs_message.specs.declared.row.RowReceipt.TheVariants as receipts;
+ghost use Rattle.sqs_model.specs.Acts.{all_came_back, given, got_row as the_got_row};
+ghost use Rattle.sqs_model.specs.Answers.{most_count};
+ghost use Rattle.sqs_model.specs.Site.{Core, number_of};
+ghost use Rattle.sim_site.specs.Effects.{Did, Spends};
+
+use super::Core;
+use crate::effects::Effects;
+use crate::loads::copied;
+use crate::rows::row;
+use sim_clock::{Key, Refusal};
+use sqs_message::{Detail, Row, RowAnswer, RowKind, RowReceipt};
+use sqs_redrive::Got;
+
+// The row of a message that was received.
+fn got_row(key: Key, site: u32, agent: u32, got: &Got) -> Row
+    ensures { (c : Core) → number_of c ≡ site → result ≡ the_got_row key c agent got.now }
+{
+    let detail = Detail::From(got.origin);
+    let row = row(
+        key,
+        site,
+        agent,
+        RowKind::Receive,
+        RowAnswer::Ok,
+        Some(got.id),
+        detail,
+    );
+    Row {
+        key: row.key,
+        queue: row.queue,
+        agent: row.agent,
+        kind: row.kind,
+        answer: row.answer,
+        message: row.message,
+        receipt: RowReceipt::Made(got.receipt),
+        detail: row.detail,
+    }
+}
+
+impl Core {
+    // A row for each message that was received.
+    fn say_gots(
+        &self,
+        key: Key,
+        agent: u32,
+        gots: &[Got],
+        effects: &mut Effects,
+    ) -> Result<(), Refusal>
+        ensures rows { OnOk result (effects.new.rows.items ≡ effects.old.rows.items ++ map (the_got_row key self.now agent) gots.now) }
+        ensures sent { OnOk result (effects.new.sent ≡ effects.old.sent) }
+        ensures spends { IfErr result Spends }
+    {
+        let site = self.queue.site();
+        for i in 0..gots.len() {
+            effects.say(got_row(key, site, agent, &gots[i]))?;
+        }
+        Ok(())
+    }
+
+    // All that were given came back, in order.
+    fn all_come_back(
+        &mut self,
+        key: Key,
+        gots: &[Got],
+        effects: &mut Effects,
+    ) -> Result<(), Refusal>
+        requires { key.at ≤ most_count }
+        ensures did { OnOk result (Did effects.old effects.new self.new (all_came_back key gots.now self.old)) }
+        ensures spends { IfErr result Spends }
+    {
+        for i in 0..gots.len() {
+            let left = copied(self.alloc, &gots[i].left)?;
+            self.came_back(key, gots[i].id.number, left, effects)?;
+        }
+        Ok(())
+    }
+
+    /// What a receive gave, whose queue is the site's by now: a row for each message, and with a
+    /// timeout of 0 after them the rows of their coming back.
+    pub fn give(
+        &mut self,
+        key: Key,
+        agent: u32,
+        timeout: Option<u64>,
+        gots: &[Got],
+        effects: &mut Effects,
+    ) -> Result<(), Refusal>
+        requires { key.at ≤ most_count }
+        ensures did { OnOk result (Did effects.old effects.new self.new (given key self.old agent timeout (self.old.queue, gots.now))) }
+        ensures spends { IfErr result Spends }
+    {
+        self.say_gots(key, agent, gots, effects)?;
+        let at_once = match timeout {
+            None => self.queue.settings().visibility == 0,
+            Some(seconds) => seconds == 0,
+        };
+        if at_once {
+            self.all_come_back(key, gots, effects)
+        } else {
+            Ok(())
+        }
+    }
+}

@@ -1,0 +1,79 @@
+//! The handling of what is due, by its class, and after it the answers to waiting polls.
+ghost use Rattle.std.specs.Prelude.{◌≤◌, IfErr, OnOk};
+ghost use Rattle.sim_clock.specs.declared.key.Class.TheVariants.{Step};
+ghost use Rattle.sqs_model.specs.Acts.{runs};
+ghost use Rattle.sqs_model.specs.Answers.{most_count};
+ghost use Rattle.sqs_model.specs.Step.{handle_arrival, handle_class, with_polls};
+ghost use Rattle.sim_site.specs.Due.{StepIsDue};
+ghost use Rattle.sim_site.specs.Effects.{Did, Spends};
+
+use super::Core;
+use crate::effects::Effects;
+use sim_clock::{Class, Key, Refusal};
+use sqs_redrive::Outbound;
+
+impl Core {
+    // Handles what is due but for arrivals.
+    #[tactic(auto, unfolding(sqs_model::specs::Step::handle_class))]
+    fn handle_class(&mut self, key: Key, effects: &mut Effects) -> Result<(), Refusal>
+        requires moment { key.at ≤ most_count }
+        requires due { StepIsDue self.old key }
+        ensures did { OnOk result (Did effects.old effects.new self.new (handle_class key.class key self.old)) }
+        ensures spends { IfErr result Spends }
+    {
+        match key.class {
+            Class::Expiry => self.handle_expiry(key, effects),
+            Class::Release => self.handle_release(key, effects),
+            Class::Arrival => Ok(()),
+            Class::PollEnd => self.handle_poll_end(key, effects),
+            Class::Wake => self.handle_wake(key, effects),
+            Class::Sample => self.handle_sample(key, effects),
+            Class::Step => self.handle_step(key, effects),
+        }
+    }
+
+    /// Handles what is due but for arrivals, and answers waiting polls. A task whose step is due
+    /// runs. `Memory`; `CountLimit` where a count would pass its limit.
+    pub fn handle(&mut self, key: Key, effects: &mut Effects) -> Result<(), Refusal>
+        requires moment { key.at ≤ most_count }
+        requires due { StepIsDue self.old key }
+        ensures did { OnOk result (Did effects.old effects.new self.new (with_polls key (handle_class key.class key self.old))) }
+        ensures spends { IfErr result Spends }
+    {
+        self.handle_class(key, effects)?;
+        self.answer_polls(key, effects)
+    }
+
+    // A transfer arrives, if there is one.
+    fn handle_transfer(
+        &mut self,
+        key: Key,
+        transfer: Option<Outbound>,
+        effects: &mut Effects,
+    ) -> Result<(), Refusal>
+        requires { key.at ≤ most_count }
+        ensures did { OnOk result (Did effects.old effects.new self.new (handle_arrival key transfer self.old)) }
+        ensures spends { IfErr result Spends }
+    {
+        match transfer {
+            None => Ok(()),
+            Some(transfer) => self.arrive(key, transfer.load, effects),
+        }
+    }
+
+    /// A transfer arrives, if there is one, and waiting polls are answered. `Memory`; `CountLimit`
+    /// where a count would pass its limit.
+    pub fn handle_arrival(
+        &mut self,
+        key: Key,
+        transfer: Option<Outbound>,
+        effects: &mut Effects,
+    ) -> Result<(), Refusal>
+        requires { key.at ≤ most_count }
+        ensures did { OnOk result (Did effects.old effects.new self.new (with_polls key (handle_arrival key transfer self.old))) }
+        ensures spends { IfErr result Spends }
+    {
+        self.handle_transfer(key, transfer, effects)?;
+        self.answer_polls(key, effects)
+    }
+}

@@ -1,0 +1,133 @@
+//! Polls that wait: their ends, and the answers that they get.
+ghost use Rattle.std.specs.Prelude.{◌≡◌, ◌≤◌, ◌-◌, ◌^◌, drop, IfErr, IfOk, MatchOption, OnOk, position};
+ghost use Rattle.sim_clock.specs.Firsts.{without};
+ghost use Rattle.sqs_model.specs.Answers.{most_count};
+ghost use Rattle.sqs_model.specs.Available.{all_hosts};
+ghost use Rattle.sqs_model.specs.Polls.{answer_polls, can_give, poll_answered, poll_given};
+ghost use Rattle.sqs_standard.specs.Standard.{IsStandardSettings};
+ghost use Rattle.sqs_model.specs.Places.{IsAbsent, Stands};
+ghost use Rattle.sqs_model.specs.Step.{ends_at, handle_poll_end};
+ghost use Rattle.sim_site.specs.Effects.{Did, Spends};
+
+use super::Core;
+use super::receives::{all_hosts_of, receive_row, received_by};
+use crate::agents::Poll;
+use crate::effects::Effects;
+use sim_clock::{Key, Refusal};
+use sqs_message::RowAnswer;
+use sqs_model::Answer;
+use sqs_redrive::{Batch, Kind};
+use sqs_standard::StandardQueue;
+use std::alloc::{AllocError, Global};
+
+// Where the first poll stands that ends by a key.
+fn first_ending(polls: &[Poll], key: Key) -> Option<usize>
+    ensures { result ≡ position (ends_at key) polls.now }
+{
+    polls.iter().position(|poll| key.cmp(&poll.key()).is_eq())
+}
+
+// The same, with what it says of the list.
+fn place_of_end(polls: &[Poll], key: Key) -> Option<usize>
+    ensures { MatchOption result (IsAbsent (ends_at key) polls.now) (Stands (ends_at key) polls.now) }
+{
+    first_ending(polls, key)
+}
+
+// Takes out the poll that ends by a key.
+fn end(polls: &mut Vec<Poll>, key: Key)
+    ensures { polls.new.items ≡ without (ends_at key) polls.old.items }
+{
+    let Some(place) = place_of_end(polls.as_slice(), key) else {
+        return;
+    };
+    polls.remove(place);
+}
+
+// The first poll leaves the list, if there is one.
+fn drop_first(polls: &mut Vec<Poll>)
+    ensures { polls.new.items ≡ drop 1 polls.old.items }
+{
+    if polls.is_empty() {
+        return;
+    }
+    polls.remove(0);
+}
+
+// The same polls in another list.
+fn copied(alloc: Global, polls: &[Poll]) -> Result<Vec<Poll>, AllocError>
+    ensures { IfOk result (λ copy. copy.items ≡ polls.now) }
+{
+    polls.to_vec(alloc)
+}
+
+// Whether a queue has a message to give and room in flight for it.
+#[tactic(auto, using(crate::proofs::Gives::gives_by_counts))]
+fn can_give(queue: &StandardQueue) -> bool
+    requires { IsStandardSettings queue.now.settings }
+    ensures { result ≡ can_give queue.now }
+{
+    let counts = queue.counts();
+    0 < counts.visible && counts.in_flight < queue.settings().in_flight_limit
+}
+
+// On how many hosts the messages of a standard queue lie.
+fn host_count(queue: &StandardQueue) -> u64
+    requires { IsStandardSettings queue.now.settings }
+    ensures few { result ≤ 16 }
+    ensures all { all_hosts queue.now.settings.kind ≡ 2 ^ result - 1 }
+{
+    match queue.settings().kind {
+        Kind::Standard { hosts, .. } => hosts,
+        Kind::Fifo { .. } => unreachable!(),
+    }
+}
+
+impl Core {
+    // The first poll is answered, which leaves the list, and its actor acts on it.
+    fn answer_poll(&mut self, key: Key, poll: Poll, effects: &mut Effects) -> Result<(), Refusal>
+        requires { key.at ≤ most_count }
+        ensures did { OnOk result (Did effects.old effects.new self.new (poll_answered key poll self.old (poll_given key poll self.old.queue))) }
+        ensures spends { IfErr result Spends }
+    {
+        let set = all_hosts_of(host_count(&self.queue));
+        let (max, timeout) = (poll.max, poll.timeout);
+        // The timeout was allowed when the poll began to wait.
+        let gots = match received_by(&mut self.queue, key.at, max, timeout, set, false)? {
+            Ok(gots) => gots,
+            Err(_) => return Err(Refusal::Memory),
+        };
+        drop_first(&mut self.polls);
+        self.give(key, poll.actor, timeout, gots.as_slice(), effects)?;
+        self.told(key, poll.actor, Answer::Got(Batch::new(gots)), effects)
+    }
+
+    /// Waiting polls are answered, oldest first, while there is something to give.
+    pub fn answer_polls(&mut self, key: Key, effects: &mut Effects) -> Result<(), Refusal>
+        requires { key.at ≤ most_count }
+        ensures did { OnOk result (Did effects.old effects.new self.new (answer_polls key self.old.polls self.old)) }
+        ensures spends { IfErr result Spends }
+    {
+        let polls = copied(self.alloc, &self.polls)?;
+        for i in 0..polls.len() {
+            if !can_give(&self.queue) {
+                return Ok(());
+            }
+            self.answer_poll(key, polls[i], effects)?;
+        }
+        Ok(())
+    }
+
+    /// A long poll ends with nothing, which its actor is told.
+    pub fn handle_poll_end(&mut self, key: Key, effects: &mut Effects) -> Result<(), Refusal>
+        requires { key.at ≤ most_count }
+        ensures did { OnOk result (Did effects.old effects.new self.new (handle_poll_end key self.old)) }
+        ensures spends { IfErr result Spends }
+    {
+        let site = self.queue.site();
+        end(&mut self.polls, key);
+        effects.say(receive_row(key, site, key.agent, RowAnswer::Empty))?;
+        let nothing = Answer::Got(Batch::new(Vec::new(self.alloc)));
+        self.told(key, key.agent, nothing, effects)
+    }
+}

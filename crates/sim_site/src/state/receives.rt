@@ -1,0 +1,252 @@
+//! Receives of actors.
+ghost use Rattle.std.specs.Prelude.{◌≡◌, ◌≤◌, ◌<◌, ◌-◌, ◌^◌, true, Err, IfErr, IfOk, IfSome, None, OnErr, Some, ℕ};
+ghost use Rattle.sqs_model.specs.Actor.{Actor};
+ghost use Rattle.sqs_model.specs.Acts.{receive_row as the_receive_row, hosts_from as the_hosts_from, long_poll, receive_as, receive_none, receive_some, short_poll};
+ghost use Rattle.sqs_model.specs.Answers.{most_count};
+ghost use Rattle.sqs_model.specs.Available.{all_hosts};
+ghost use Rattle.sqs_model.specs.Draw.{drawn_uniform};
+ghost use Rattle.sqs_model.specs.Queue.{IsFramed};
+ghost use Rattle.sqs_model.specs.Receive.{answered, give_most, receive};
+ghost use Rattle.std.specs.Result.{result_map_both};
+ghost use Rattle.sqs_model.specs.Site.{Core, actor_numbered, number_of};
+ghost use Rattle.sim_site.specs.Effects.{DidMake, Spends};
+ghost use Rattle.sim_site.specs.Kept.{most_wait};
+
+use super::sends::told_refusal;
+use super::{Core, MOST_COUNT};
+use crate::agents::Poll;
+use crate::effects::Effects;
+use crate::places::{place_of_actor, polled_at};
+use crate::rows::row;
+use sim_clock::{Key, Refusal};
+use sqs_message::{Detail, Row, RowAnswer, RowKind};
+use sqs_model::Answer;
+use sqs_redrive::{Batch, Got, Kind};
+use sqs_standard::StandardQueue;
+
+// The hosts that a short poll samples: some from a first one on, round the end. They are given by
+// their bits.
+fn hosts_from(hosts: u64, sampled: u64, start: u64) -> u16
+    requires some { 1 ≤ hosts }
+    requires few { hosts ≤ 16 }
+    requires sampled { sampled ≤ hosts }
+    requires start { start < hosts }
+    ensures { result ≡ the_hosts_from hosts sampled start }
+{
+    let mut set = 0u32;
+    for i in 0..sampled {
+        set += 1 << ((start + i) % hosts);
+    }
+    set as u16
+}
+
+// The set of all hosts.
+pub fn all_hosts_of(hosts: u64) -> u16
+    requires { hosts ≤ 16 }
+    ensures { result ≡ 2 ^ hosts - 1 }
+{
+    ((1u32 << hosts) - 1) as u16
+}
+
+// Why a short poll is refused, if it is.
+fn short_refusal(queue: &StandardQueue, timeout: Option<u64>) -> Option<Refusal>
+    ensures allowed { result ≡ None → (now max set : ℕ) → receive queue.now now max timeout set true ≡ answered (give_most queue.now now max timeout set) }
+    ensures refused { IfSome result (λ refusal. (now max set : ℕ) → receive queue.now now max timeout set true ≡ (Err refusal, queue.now)) }
+{
+    if let Some(seconds) = timeout {
+        if seconds > 43200 {
+            return Some(Refusal::BadTimeout);
+        }
+    }
+    if queue.settings().in_flight_limit <= queue.counts().in_flight {
+        return Some(Refusal::OverLimit);
+    }
+    None
+}
+
+// A receive, with a refusal that the actor is told.
+pub fn received_by(
+    queue: &mut StandardQueue,
+    now: u64,
+    max: u64,
+    timeout: Option<u64>,
+    hosts: u16,
+    short: bool,
+) -> Result<Result<Vec<Got>, Refusal>, Refusal>
+    requires { now ≤ most_count }
+    ensures received { IfOk result (λ answer. receive queue.old now max timeout hosts short ≡ (result_map_both (λ batch. batch.items) (λ refusal. refusal) answer, queue.new)) }
+    ensures unchanged { IfOk result (λ answer. OnErr answer (queue.new ≡ queue.old)) }
+    ensures framed { IsFramed queue.old queue.new }
+    ensures spends { IfErr result Spends }
+{
+    match queue.receive(now, max, timeout, hosts, short) {
+        Ok(gots) => Ok(Ok(gots)),
+        Err(refusal) => Ok(Err(told_refusal(refusal)?)),
+    }
+}
+
+// The row of a receive that got no message.
+pub fn receive_row(key: Key, site: u32, agent: u32, answer: RowAnswer) -> Row
+    ensures { (c : Core) → number_of c ≡ site → result ≡ the_receive_row key c agent answer }
+{
+    row(
+        key,
+        site,
+        agent,
+        RowKind::Receive,
+        answer,
+        None,
+        Detail::Absent,
+    )
+}
+
+impl Core {
+    // A receive that finds nothing is empty, or waits if it is a long poll.
+    fn receive_none(
+        &mut self,
+        key: Key,
+        agent: u32,
+        max: u64,
+        wait: u64,
+        timeout: Option<u64>,
+        effects: &mut Effects,
+    ) -> Result<Answer, Refusal>
+        requires moment { key.at ≤ most_count }
+        requires wait { wait ≤ most_wait }
+        ensures did { (a : Actor) → a.number ≡ agent → actor_numbered agent self.old ≡ Some a → IfOk result (λ answer. DidMake effects.old effects.new self.new answer (receive_none key a self.old max wait timeout)) }
+        ensures spends { IfErr result Spends }
+    {
+        let site = self.queue.site();
+        if wait == 0 {
+            effects.say(receive_row(key, site, agent, RowAnswer::Empty))?;
+            return Ok(Answer::Got(Batch::new(Vec::new(self.alloc))));
+        }
+        let Some(place) = place_of_actor(&self.actors, agent) else {
+            return Ok(Answer::Waiting);
+        };
+        effects.say(receive_row(key, site, agent, RowAnswer::Wait))?;
+        let number = polled_at(&mut self.actors, place, agent)?;
+        self.polls.push(Poll {
+            actor: agent,
+            number,
+            max,
+            timeout,
+            end: key.at + 1000 * wait,
+        })?;
+        Ok(Answer::Waiting)
+    }
+
+    // A receive that finds something, or nothing; what it gave left the queue before.
+    fn receive_some(
+        &mut self,
+        key: Key,
+        agent: u32,
+        max: u64,
+        wait: u64,
+        timeout: Option<u64>,
+        gots: Vec<Got>,
+        effects: &mut Effects,
+    ) -> Result<Answer, Refusal>
+        requires moment { key.at ≤ most_count }
+        requires wait { wait ≤ most_wait }
+        ensures did { (a : Actor) → a.number ≡ agent → actor_numbered agent self.old ≡ Some a → IfOk result (λ answer. DidMake effects.old effects.new self.new answer (receive_some key a self.old max wait timeout self.old.queue gots.items)) }
+        ensures spends { IfErr result Spends }
+    {
+        if gots.is_empty() {
+            return self.receive_none(key, agent, max, wait, timeout, effects);
+        }
+        self.give(key, agent, timeout, gots.as_slice(), effects)?;
+        Ok(Answer::Got(Batch::new(gots)))
+    }
+
+    // A short poll, from a first host that is drawn. One that is refused draws no word.
+    fn short_poll(
+        &mut self,
+        key: Key,
+        agent: u32,
+        max: u64,
+        timeout: Option<u64>,
+        hosts: u64,
+        sampled: u64,
+        effects: &mut Effects,
+    ) -> Result<Answer, Refusal>
+        requires moment { key.at ≤ most_count }
+        requires some { 1 ≤ hosts }
+        requires few { hosts ≤ 16 }
+        requires sampled { sampled ≤ hosts }
+        ensures did { (a : Actor) → a.number ≡ agent → actor_numbered agent self.old ≡ Some a → IfOk result (λ answer. DidMake effects.old effects.new self.new answer (short_poll key a self.old max timeout hosts sampled (drawn_uniform 0 (hosts - 1) self.old.draws))) }
+        ensures spends { IfErr result Spends }
+    {
+        let site = self.queue.site();
+        if let Some(refusal) = short_refusal(&self.queue, timeout) {
+            let answer = RowAnswer::Refused(refusal);
+            effects.say(receive_row(key, site, agent, answer))?;
+            return Ok(Answer::Other);
+        }
+        if self.draws.taken() >= MOST_COUNT {
+            return Err(Refusal::CountLimit);
+        }
+        let start = self.draws.uniform(0, hosts - 1);
+        let set = hosts_from(hosts, sampled, start);
+        match received_by(&mut self.queue, key.at, max, timeout, set, true)? {
+            Ok(gots) => self.receive_some(key, agent, max, 0, timeout, gots, effects),
+            Err(_) => Err(Refusal::Memory),
+        }
+    }
+
+    // A receive that sees all hosts.
+    fn long_poll(
+        &mut self,
+        key: Key,
+        agent: u32,
+        max: u64,
+        wait: u64,
+        timeout: Option<u64>,
+        hosts: u64,
+        effects: &mut Effects,
+    ) -> Result<Answer, Refusal>
+        requires moment { key.at ≤ most_count }
+        requires wait { wait ≤ most_wait }
+        requires few { hosts ≤ 16 }
+        requires all { all_hosts self.old.queue.settings.kind ≡ 2 ^ hosts - 1 }
+        ensures did { (a : Actor) → a.number ≡ agent → actor_numbered agent self.old ≡ Some a → IfOk result (λ answer. DidMake effects.old effects.new self.new answer (long_poll key a self.old max wait timeout)) }
+        ensures spends { IfErr result Spends }
+    {
+        let site = self.queue.site();
+        let set = all_hosts_of(hosts);
+        match received_by(&mut self.queue, key.at, max, timeout, set, false)? {
+            Ok(gots) => self.receive_some(key, agent, max, wait, timeout, gots, effects),
+            Err(refusal) => {
+                let answer = RowAnswer::Refused(refusal);
+                effects.say(receive_row(key, site, agent, answer))?;
+                Ok(Answer::Other)
+            }
+        }
+    }
+
+    /// An actor receives at most so many messages.
+    pub fn receive(
+        &mut self,
+        key: Key,
+        agent: u32,
+        max: u64,
+        wait: u64,
+        timeout: Option<u64>,
+        effects: &mut Effects,
+    ) -> Result<Answer, Refusal>
+        requires moment { key.at ≤ most_count }
+        requires wait { wait ≤ most_wait }
+        ensures did { (a : Actor) → a.number ≡ agent → actor_numbered agent self.old ≡ Some a → IfOk result (λ answer. DidMake effects.old effects.new self.new answer (receive_as self.old.queue.settings.kind key a self.old max wait timeout)) }
+        ensures spends { IfErr result Spends }
+    {
+        match self.queue.settings().kind {
+            Kind::Standard { hosts, sampled } => {
+                if wait == 0 {
+                    return self.short_poll(key, agent, max, timeout, hosts, sampled, effects);
+                }
+                self.long_poll(key, agent, max, wait, timeout, hosts, effects)
+            }
+            Kind::Fifo { .. } => unreachable!(),
+        }
+    }
+}

@@ -1,0 +1,128 @@
+//! Messages that come back to their queue, or leave it for the dead-letter queue.
+ghost use Rattle.std.specs.Prelude.{◌≤◌, IfErr, OnOk};
+ghost use Rattle.sqs_model.specs.Acts.{came_back as the_came_back, redriven};
+ghost use Rattle.sqs_model.specs.Answers.{most_count};
+ghost use Rattle.sqs_model.specs.Draw.{drawn_latency};
+ghost use Rattle.sqs_model.specs.Step.{handle_expiry, handle_release};
+ghost use Rattle.sqs_model.specs.Valid.{IsLatency};
+ghost use Rattle.sim_site.specs.Effects.{Did, Spends};
+
+use super::{Core, MOST_COUNT};
+use crate::effects::Effects;
+use crate::rows::row;
+use sim_clock::{Key, Refusal};
+use sqs_message::{Detail, MessageId, RowAnswer, RowKind};
+use sqs_redrive::{Load, Outbound, Policy};
+
+impl Core {
+    // The load of a message leaves for the dead-letter queue.
+    fn redrive(
+        &mut self,
+        key: Key,
+        number: u64,
+        load: Load,
+        policy: Policy,
+        effects: &mut Effects,
+    ) -> Result<(), Refusal>
+        requires moment { key.at ≤ most_count }
+        requires latency { IsLatency policy.latency }
+        ensures did { OnOk result (Did effects.old effects.new self.new (redriven key self.old number load policy.dead_letter (drawn_latency policy.latency self.old.draws))) }
+        ensures spends { IfErr result Spends }
+    {
+        let (least, greatest) = (policy.latency.least, policy.latency.greatest);
+        let varies = least < greatest;
+        if self.sent >= MOST_COUNT || (varies && self.draws.taken() >= MOST_COUNT) {
+            return Err(Refusal::CountLimit);
+        }
+        let site = self.queue.site();
+        let id = MessageId { site, number };
+        let to = Detail::Queue(policy.dead_letter);
+        effects.say(row(
+            key,
+            site,
+            site,
+            RowKind::Redrive,
+            RowAnswer::Out,
+            Some(id),
+            to,
+        ))?;
+        let latency = self.draws.between(least, greatest);
+        effects.send(Outbound {
+            at: key.at + latency,
+            sender: site,
+            number: self.sent,
+            from: site,
+            to: policy.dead_letter,
+            load,
+        })?;
+        self.sent += 1;
+        Ok(())
+    }
+
+    /// A message came back, or left with a load.
+    pub fn came_back(
+        &mut self,
+        key: Key,
+        number: u64,
+        left: Option<Load>,
+        effects: &mut Effects,
+    ) -> Result<(), Refusal>
+        requires { key.at ≤ most_count }
+        ensures did { OnOk result (Did effects.old effects.new self.new (the_came_back key self.old number left)) }
+        ensures spends { IfErr result Spends }
+    {
+        match left {
+            None => {
+                let site = self.queue.site();
+                let id = MessageId { site, number };
+                effects.say(row(
+                    key,
+                    site,
+                    site,
+                    RowKind::Release,
+                    RowAnswer::Visible,
+                    Some(id),
+                    Detail::Absent,
+                ))
+            }
+            Some(load) => match self.queue.settings().policy {
+                None => Ok(()),
+                Some(policy) => self.redrive(key, number, load, policy, effects),
+            },
+        }
+    }
+
+    /// A message reaches the end of its delay or visibility timeout.
+    pub fn handle_release(&mut self, key: Key, effects: &mut Effects) -> Result<(), Refusal>
+        requires { key.at ≤ most_count }
+        ensures did { OnOk result (Did effects.old effects.new self.new (handle_release key self.old)) }
+        ensures spends { IfErr result Spends }
+    {
+        match self.queue.release(key.number) {
+            Ok(left) => self.came_back(key, key.number, left, effects),
+            Err(_) => Err(Refusal::Memory),
+        }
+    }
+
+    /// A message reaches the end of its retention period.
+    pub fn handle_expiry(&mut self, key: Key, effects: &mut Effects) -> Result<(), Refusal>
+        ensures did { OnOk result (Did effects.old effects.new self.new (handle_expiry key self.old)) }
+        ensures spends { IfErr result Spends }
+    {
+        let age = self.queue.expire(key.at, key.number);
+        let site = self.queue.site();
+        let id = MessageId {
+            site,
+            number: key.number,
+        };
+        effects.say(row(
+            key,
+            site,
+            site,
+            RowKind::Expire,
+            RowAnswer::Expired,
+            Some(id),
+            Detail::Age(age),
+        ))
+    }
+}

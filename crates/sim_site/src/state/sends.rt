@@ -1,0 +1,112 @@
+//! Sends of actors.
+ghost use Rattle.std.specs.Prelude.{◌≡◌, ◌≢◌, ◌≤◌, IfErr, IfOk, List, OnOk, Option, ℕ};
+ghost use Rattle.md5.specs.Md5.{md5};
+ghost use Rattle.sim_clock.specs.declared.refusal.Refusal.TheVariants as refusals;
+ghost use Rattle.sqs_model.specs.Actor.{Actor};
+ghost use Rattle.sqs_model.specs.Acts.{send_made, send_row as the_send_row, sends};
+ghost use Rattle.sqs_model.specs.Answers.{most_count};
+ghost use Rattle.sqs_model.specs.Calls.{send_standard};
+ghost use Rattle.sqs_model.specs.Queue.{IsFramed};
+ghost use Rattle.sqs_model.specs.Site.{Core, number_of};
+ghost use Rattle.sim_site.specs.Effects.{Did, Spends};
+
+use super::Core;
+use crate::effects::Effects;
+use crate::rows::row;
+use sim_clock::{Key, Refusal};
+use sqs_message::{Detail, Row, RowAnswer, RowKind, Text, body_md5};
+use sqs_redrive::Sent;
+use sqs_standard::StandardQueue;
+
+/// A refusal that a caller is told. Want of memory and a count at its limit end the site instead.
+pub fn told_refusal(refusal: Refusal) -> Result<Refusal, Refusal>
+    ensures same { IfOk result (λ told. told ≡ refusal) }
+    ensures memory { OnOk result (refusal ≢ refusals.Memory) }
+    ensures limit { OnOk result (refusal ≢ refusals.CountLimit) }
+    ensures spends { IfErr result Spends }
+{
+    match refusal {
+        Refusal::Memory => Err(Refusal::Memory),
+        Refusal::CountLimit => Err(Refusal::CountLimit),
+        _ => Ok(refusal),
+    }
+}
+
+// A send, with a refusal that the sender is told.
+fn sent_by(
+    queue: &mut StandardQueue,
+    now: u64,
+    body: Text,
+    delay: Option<u64>,
+) -> Result<Result<Sent, Refusal>, Refusal>
+    requires { now ≤ most_count }
+    ensures sent { IfOk result (λ answer. send_standard queue.old now body delay ≡ (answer, queue.new)) }
+    ensures framed { IsFramed queue.old queue.new }
+    ensures spends { IfErr result Spends }
+{
+    match queue.send(now, body, delay) {
+        Ok(sent) => Ok(Ok(sent)),
+        Err(refusal) => Ok(Err(told_refusal(refusal)?)),
+    }
+}
+
+// The row of a send of a body with this digest.
+fn send_row(key: Key, site: u32, agent: u32, digest: [u8; 16], answer: Result<Sent, Refusal>) -> Row
+    ensures { (c : Core) (body : List ℕ) → number_of c ≡ site → digest ≡ md5 body → result ≡ the_send_row key agent c body answer }
+{
+    let digest = Detail::Digest(digest);
+    match answer {
+        Ok(Sent::New(id)) => {
+            row(
+                key,
+                site,
+                agent,
+                RowKind::Send,
+                RowAnswer::New,
+                Some(id),
+                digest,
+            )
+        }
+        Ok(Sent::Repeat(id)) => {
+            row(
+                key,
+                site,
+                agent,
+                RowKind::Send,
+                RowAnswer::Repeat,
+                Some(id),
+                digest,
+            )
+        }
+        Err(refusal) => row(
+            key,
+            site,
+            agent,
+            RowKind::Send,
+            RowAnswer::Refused(refusal),
+            None,
+            Detail::Absent,
+        ),
+    }
+}
+
+impl Core {
+    /// An actor sends a message, delayed by so many seconds or else as the queue says.
+    pub fn send(
+        &mut self,
+        key: Key,
+        agent: u32,
+        body: Text,
+        delay: Option<u64>,
+        effects: &mut Effects,
+    ) -> Result<(), Refusal>
+        requires { key.at ≤ most_count }
+        ensures did { (a : Actor) (group id : Option (List ℕ)) → a.number ≡ agent → OnOk result (Did effects.old effects.new self.new (send_made key a self.old body (sends self.old.queue.settings.kind self.old.queue key.at body delay group id)).effect) }
+        ensures spends { IfErr result Spends }
+    {
+        let site = self.queue.site();
+        let digest = body_md5(body.as_bytes());
+        let answer = sent_by(&mut self.queue, key.at, body, delay)?;
+        effects.say(send_row(key, site, agent, digest, answer))
+    }
+}

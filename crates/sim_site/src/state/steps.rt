@@ -1,0 +1,209 @@
+//! The steps of move tasks.
+ghost use Rattle.std.specs.Prelude.{◌≡◌, ◌≤◌, ◌<◌, ◌++◌, ◌∷◌, [], All, IfErr, IfOk, IfSome, OnOk, find, map, true};
+ghost use Rattle.sim_clock.specs.declared.key.Class.TheVariants.{Step as StepClass};
+ghost use Rattle.sqs_model.specs.Acts.{runs};
+ghost use Rattle.sqs_model.specs.Answers.{most_count};
+ghost use Rattle.sqs_model.specs.Places.{Stands};
+ghost use Rattle.sqs_model.specs.Site.{Core as TheCore, is_task, number_of, task_numbered};
+ghost use Rattle.sqs_model.specs.Step.{handle_step, end_row as the_end_row, load_id as the_load_id, move_row as the_move_row, moves};
+ghost use Rattle.sqs_model.specs.Task.{Task as TheTask};
+ghost use Rattle.sqs_model.specs.Valid.{IsLatency};
+ghost use Rattle.sim_site.specs.Due.{StepIsDue};
+ghost use Rattle.sim_site.specs.Effects.{Did, Spends};
+ghost use Rattle.sim_site.specs.Kept.{numbered_settings};
+ghost use Rattle.sim_site.specs.Steps.{DidMove, IsKept, SendsOn, Stepped, stepped_moves};
+
+use super::{Core, MOST_COUNT};
+use crate::agents::Task;
+use crate::effects::Effects;
+use crate::places::place_of_task;
+use crate::rows::row;
+use sim_clock::{Key, Refusal};
+use sqs_message::{Detail, MessageId, Row, RowAnswer, RowKind};
+use sqs_redrive::{Latency, Load, Outbound, Rest};
+
+// The id that the message of a load had.
+fn load_id(load: &Load) -> MessageId
+    ensures { result ≡ the_load_id load.now }
+{
+    match load {
+        Load::Redrive { id, .. } => *id,
+        Load::Move { id, .. } => *id,
+        Load::Forward { id, .. } => *id,
+    }
+}
+
+// The row of a message that is moved.
+fn move_row(key: Key, site: u32, task: u32, to: u32, load: &Load) -> Row
+    ensures { (c : TheCore) (t : TheTask) → number_of c ≡ site → t.number ≡ task → result ≡ the_move_row key c t to load.now }
+{
+    let id = load_id(load);
+    let detail = Detail::Queue(to);
+    row(
+        key,
+        site,
+        task,
+        RowKind::Move,
+        RowAnswer::Out,
+        Some(id),
+        detail,
+    )
+}
+
+impl Task {
+    // Sends on a message, with a latency drawn. `CountLimit` where its transfers or words are used
+    // up.
+    fn send_on(&mut self, key: Key, site: u32, to: u32, load: Load) -> Result<Outbound, Refusal>
+        requires moment { key.at ≤ most_count }
+        requires latency { IsLatency self.old.move.settings.latency }
+        ensures sent { IfOk result (λ o. SendsOn key site self.old to load o self.new) }
+        ensures kept { IsKept self.old self.new }
+        ensures spends { IfErr result Spends }
+    {
+        let Latency { least, greatest } = self.movement.settings().latency;
+        let draws_a_word = least < greatest;
+        if self.sent >= MOST_COUNT || (draws_a_word && self.draws.taken() >= MOST_COUNT) {
+            return Err(Refusal::CountLimit);
+        }
+        let latency = self.draws.between(least, greatest);
+        let outbound = Outbound {
+            at: key.at + latency,
+            sender: self.number,
+            number: self.sent,
+            from: site,
+            to,
+            load,
+        };
+        self.sent += 1;
+        Ok(outbound)
+    }
+
+    // Sends on one message after its row.
+    fn move_one(
+        &mut self,
+        key: Key,
+        site: u32,
+        to: u32,
+        load: Load,
+        effects: &mut Effects,
+    ) -> Result<(), Refusal>
+        requires moment { key.at ≤ most_count }
+        requires latency { IsLatency self.old.move.settings.latency }
+        ensures moved { OnOk result ((c : TheCore) → number_of c ≡ site → DidMove effects.old effects.new self.new (moves key c self.old ((to, load) ∷ []))) }
+        ensures kept { IsKept self.old self.new }
+        ensures spends { IfErr result Spends }
+    {
+        effects.say(move_row(key, site, self.number, to, &load))?;
+        let outbound = self.send_on(key, site, to, load)?;
+        effects.send(outbound)
+    }
+
+    // Sends on messages, one after another, each after its row.
+    fn move_all(
+        &mut self,
+        key: Key,
+        site: u32,
+        loads: Vec<(u32, Load)>,
+        effects: &mut Effects,
+    ) -> Result<(), Refusal>
+        requires moment { key.at ≤ most_count }
+        requires latency { IsLatency self.old.move.settings.latency }
+        ensures moved { OnOk result ((c : TheCore) → number_of c ≡ site → DidMove effects.old effects.new self.new (moves key c self.old loads.items)) }
+        ensures kept { IsKept self.old self.new }
+        ensures spends { IfErr result Spends }
+    {
+        for (to, load) in loads {
+            self.move_one(key, site, to, load, effects)?;
+        }
+        Ok(())
+    }
+
+    // Tells its end, where a step was its last.
+    fn tell_end(
+        &self,
+        key: Key,
+        site: u32,
+        rest: Rest,
+        effects: &mut Effects,
+    ) -> Result<(), Refusal>
+        ensures rows { OnOk result ((c : TheCore) → number_of c ≡ site → effects.new.rows.items ≡ effects.old.rows.items ++ the_end_row key c self.now rest) }
+        ensures sent { effects.new.sent ≡ effects.old.sent }
+        ensures spends { IfErr result Spends }
+    {
+        let answer = match rest {
+            Rest::Empty => RowAnswer::Completed,
+            Rest::More => return Ok(()),
+            Rest::NoSource => RowAnswer::Failed,
+        };
+        let detail = Detail::Moved(self.movement.moved());
+        let number = self.number;
+        effects.say(row(key, site, number, RowKind::Task, answer, None, detail))
+    }
+
+    /// A step that took these messages and left this: they are sent on, and where it was the last
+    /// step the task's end is told.
+    pub fn step(
+        &mut self,
+        key: Key,
+        site: u32,
+        loads: Vec<(u32, Load)>,
+        rest: Rest,
+        effects: &mut Effects,
+    ) -> Result<(), Refusal>
+        requires running { runs self.old ≡ true }
+        requires moment { key.at ≤ most_count }
+        requires latency { IsLatency self.old.move.settings.latency }
+        ensures stepped { OnOk result ((c : TheCore) → number_of c ≡ site → DidMove effects.old effects.new self.new (stepped_moves key c self.old loads.items rest)) }
+        ensures settings { numbered_settings self.new ≡ numbered_settings self.old }
+        ensures spends { IfErr result Spends }
+    {
+        let taken = loads.len() as u64;
+        let counted = self.movement.moved().max(self.movement.steps());
+        if counted >= MOST_COUNT || taken >= MOST_COUNT {
+            return Err(Refusal::CountLimit);
+        }
+        self.move_all(key, site, loads, effects)?;
+        self.movement.step(key.at, taken, rest);
+        self.tell_end(key, site, rest, effects)
+    }
+}
+
+// The task at a place, which runs, takes a step.
+fn step_at(
+    tasks: &mut Vec<Task>,
+    place: usize,
+    key: Key,
+    site: u32,
+    loads: Vec<(u32, Load)>,
+    rest: Rest,
+    effects: &mut Effects,
+) -> Result<(), Refusal>
+    requires place { Stands (is_task key.agent) tasks.old.items place }
+    requires running { IfSome (find (is_task key.agent) tasks.old.items) (λ t. runs t ≡ true) }
+    requires latencies { All (λ t. IsLatency t.1.latency) (map numbered_settings tasks.old.items) }
+    requires moment { key.at ≤ most_count }
+    ensures stepped { OnOk result (Stepped key.agent key site loads.items rest effects.old effects.new tasks.old.items tasks.new.items) }
+    ensures settings { map numbered_settings tasks.new.items ≡ map numbered_settings tasks.old.items }
+    ensures spends { IfErr result Spends }
+{
+    tasks[place].step(key, site, loads, rest, effects)
+}
+
+impl Core {
+    /// A move task, which runs, takes its next step.
+    pub fn handle_step(&mut self, key: Key, effects: &mut Effects) -> Result<(), Refusal>
+        requires moment { key.at ≤ most_count }
+        requires class { key.class ≡ StepClass }
+        requires due { StepIsDue self.old key }
+        ensures did { OnOk result (Did effects.old effects.new self.new (handle_step key self.old (task_numbered key.agent self.old))) }
+        ensures spends { IfErr result Spends }
+    {
+        let site = self.queue.site();
+        let Some(place) = place_of_task(&self.tasks, key.agent) else {
+            return Ok(());
+        };
+        let settings = self.tasks[place].settings();
+        let (loads, rest) = self.queue.take_movable(settings.per_second, settings.to)?;
+        step_at(&mut self.tasks, place, key, site, loads, rest, effects)
+    }
+}

@@ -1,0 +1,109 @@
+//! Starts and cancels of move tasks by actors.
+ghost use Rattle.std.specs.Prelude.{◌≡◌, ◌≤◌, false, IfErr, IfSome, OnOk, true, find, map};
+ghost use Rattle.std.specs.List.{list_any};
+ghost use Rattle.sqs_model.specs.Actor.{Actor};
+ghost use Rattle.sqs_model.specs.Acts.{cancel_made, runs, start_made, task_row as the_task_row};
+ghost use Rattle.sqs_model.specs.Answers.{most_count};
+ghost use Rattle.sqs_model.specs.Places.{Stands};
+ghost use Rattle.sqs_model.specs.Site.{Core, is_task, number_of, task_numbered};
+ghost use Rattle.sim_site.specs.Effects.{Did, Spends};
+ghost use Rattle.sim_site.specs.Kept.{numbered_settings};
+ghost use Rattle.sim_site.specs.Reading.{cancelled_task, started_task};
+ghost use Rattle.sim_site.specs.Tasks.{Rewritten};
+
+use super::Core;
+use crate::agents::Task;
+use crate::effects::Effects;
+use crate::places::place_of_task;
+use crate::rows::row;
+use sim_clock::{Key, Refusal};
+use sqs_message::{Detail, Row, RowAnswer, RowKind};
+
+// Whether one of some tasks runs.
+fn any_runs(tasks: &[Task]) -> bool
+    ensures { result ≡ list_any runs tasks.now }
+{
+    tasks.iter().any(|task| task.is_running())
+}
+
+// The task at a place is started, which none was.
+fn start_at(tasks: &mut Vec<Task>, place: usize, number: u32, now: u64)
+    requires place { Stands (is_task number) tasks.old.items place }
+    requires idle { list_any runs tasks.old.items ≡ false }
+    requires moment { now ≤ most_count }
+    ensures started { Rewritten number (started_task now) tasks.old.items tasks.new.items }
+    ensures settings { map numbered_settings tasks.new.items ≡ map numbered_settings tasks.old.items }
+{
+    tasks[place].start(now);
+}
+
+// The task at a place is cancelled, if it runs.
+fn cancel_at(tasks: &mut Vec<Task>, place: usize, number: u32) -> bool
+    requires { Stands (is_task number) tasks.old.items place }
+    ensures ran { IfSome (find (is_task number) tasks.old.items) (λ t. result ≡ runs t) }
+    ensures cancelled { result ≡ true → Rewritten number cancelled_task tasks.old.items tasks.new.items }
+    ensures unchanged { result ≡ false → tasks.new ≡ tasks.old }
+    ensures settings { map numbered_settings tasks.new.items ≡ map numbered_settings tasks.old.items }
+{
+    if !tasks[place].is_running() {
+        return false;
+    }
+    tasks[place].cancel();
+    true
+}
+
+// The row of a start or cancel.
+fn task_row(key: Key, site: u32, agent: u32, task: u32, kind: RowKind, answer: RowAnswer) -> Row
+    ensures { (a : Actor) (c : Core) → a.number ≡ agent → number_of c ≡ site → result ≡ the_task_row key a c task kind answer }
+{
+    let detail = Detail::Task(task);
+    row(key, site, agent, kind, answer, None, detail)
+}
+
+impl Core {
+    /// An actor starts a task, which is refused while a task of the site runs.
+    pub fn start(
+        &mut self,
+        key: Key,
+        agent: u32,
+        task: u32,
+        effects: &mut Effects,
+    ) -> Result<(), Refusal>
+        requires { key.at ≤ most_count }
+        ensures did { (a : Actor) → a.number ≡ agent → OnOk result (Did effects.old effects.new self.new (start_made key a self.old task (task_numbered task self.old)).effect) }
+        ensures spends { IfErr result Spends }
+    {
+        let site = self.queue.site();
+        let Some(place) = place_of_task(&self.tasks, task) else {
+            return Ok(());
+        };
+        if any_runs(&self.tasks) {
+            let answer = RowAnswer::Refused(Refusal::TaskRunning);
+            return effects.say(task_row(key, site, agent, task, RowKind::Start, answer));
+        }
+        start_at(&mut self.tasks, place, task, key.at);
+        effects.say(task_row(key, site, agent, task, RowKind::Start, RowAnswer::Ok))
+    }
+
+    /// An actor cancels a task, which is refused where the task does not run.
+    pub fn cancel(
+        &mut self,
+        key: Key,
+        agent: u32,
+        task: u32,
+        effects: &mut Effects,
+    ) -> Result<(), Refusal>
+        ensures did { (a : Actor) → a.number ≡ agent → OnOk result (Did effects.old effects.new self.new (cancel_made key a self.old task (task_numbered task self.old)).effect) }
+        ensures spends { IfErr result Spends }
+    {
+        let site = self.queue.site();
+        let Some(place) = place_of_task(&self.tasks, task) else {
+            return Ok(());
+        };
+        if !cancel_at(&mut self.tasks, place, task) {
+            let answer = RowAnswer::Refused(Refusal::NoTask);
+            return effects.say(task_row(key, site, agent, task, RowKind::Cancel, answer));
+        }
+        effects.say(task_row(key, site, agent, task, RowKind::Cancel, RowAnswer::Ok))
+    }
+}

@@ -1,0 +1,113 @@
+//! What an actor does at its site, act after act.
+ghost use Rattle.std.specs.Prelude.{◌≡◌, ◌≤◌, IfErr, IfOk, OnOk, Some};
+ghost use Rattle.sqs_model.specs.Actor.{Actor};
+ghost use Rattle.sqs_model.specs.Acts.{act_made};
+ghost use Rattle.sqs_model.specs.Answers.{most_count};
+ghost use Rattle.sqs_model.specs.Polls.{told as the_told};
+ghost use Rattle.sqs_model.specs.Site.{actor_numbered};
+ghost use Rattle.sqs_model.specs.Step.{handle_wake};
+ghost use Rattle.sim_site.specs.Effects.{Did, Spends};
+ghost use Rattle.sim_site.specs.Turns.{DidTurn, WaitsShortly, turn_by, turn_of};
+
+use super::Core;
+use crate::effects::Effects;
+use crate::places::{next_at, place_of_actor};
+use sim_clock::{Key, Refusal};
+use sqs_model::{Act, Answer};
+
+impl Core {
+    // An actor acts, and answers what it is told of it, if it did anything.
+    #[tactic(auto, unfolding(sqs_model::specs::Acts::act_made))]
+    fn act(
+        &mut self,
+        key: Key,
+        agent: u32,
+        act: Act,
+        effects: &mut Effects,
+    ) -> Result<Option<Answer>, Refusal>
+        requires moment { key.at ≤ most_count }
+        requires wait { WaitsShortly act }
+        ensures did { (a : Actor) → a.number ≡ agent → actor_numbered agent self.old ≡ Some a → IfOk result (λ told. DidTurn effects.old effects.new self.new told (turn_by act (act_made key a self.old act))) }
+        ensures spends { IfErr result Spends }
+    {
+        match act {
+            Act::Send {
+                body,
+                delay,
+                group,
+                id,
+            } => {
+                drop((group, id));
+                self.send(key, agent, body, delay, effects)?;
+            }
+            Act::Receive { max, wait, timeout } => {
+                let answer = self.receive(key, agent, max, wait, timeout, effects)?;
+                return Ok(Some(answer));
+            }
+            Act::Delete { receipt } => self.delete(key, agent, receipt, effects)?,
+            Act::Change { receipt, timeout } => {
+                self.change(key, agent, receipt, timeout, effects)?;
+            }
+            Act::Start { task } => self.start(key, agent, task, effects)?,
+            Act::Cancel { task } => self.cancel(key, agent, task, effects)?,
+            Act::Serve {
+                id,
+                receipt,
+                failed,
+                forward,
+            } => self.serve(key, agent, id, receipt, failed, forward, effects)?,
+            Act::Nothing => return Ok(None),
+        }
+        Ok(Some(Answer::Other))
+    }
+
+    // An actor is told something, decides and acts; the same answer.
+    fn take_turn(
+        &mut self,
+        key: Key,
+        agent: u32,
+        answer: Answer,
+        effects: &mut Effects,
+    ) -> Result<Option<Answer>, Refusal>
+        requires { key.at ≤ most_count }
+        ensures did { IfOk result (λ told. DidTurn effects.old effects.new self.new told (turn_of key answer self.old (actor_numbered agent self.old))) }
+        ensures spends { IfErr result Spends }
+    {
+        let Some(place) = place_of_actor(&self.actors, agent) else {
+            return Ok(None);
+        };
+        let act = next_at(&mut self.actors, place, agent, key.at, answer)?;
+        self.act(key, agent, act, effects)
+    }
+
+    /// An actor is told something and acts; the answer to each act is told it in turn, to the end.
+    pub fn told(
+        &mut self,
+        key: Key,
+        agent: u32,
+        answer: Answer,
+        effects: &mut Effects,
+    ) -> Result<(), Refusal>
+        requires { key.at ≤ most_count }
+        ensures did { OnOk result (Did effects.old effects.new self.new (the_told key agent answer self.old)) }
+        ensures spends { IfErr result Spends }
+    {
+        let Some(answer) = self.take_turn(key, agent, answer, effects)? else {
+            return Ok(());
+        };
+        let Some(answer) = self.take_turn(key, agent, answer, effects)? else {
+            return Ok(());
+        };
+        self.take_turn(key, agent, answer, effects)?;
+        Ok(())
+    }
+
+    /// An actor wakes.
+    pub fn handle_wake(&mut self, key: Key, effects: &mut Effects) -> Result<(), Refusal>
+        requires { key.at ≤ most_count }
+        ensures did { OnOk result (Did effects.old effects.new self.new (handle_wake key self.old)) }
+        ensures spends { IfErr result Spends }
+    {
+        self.told(key, key.agent, Answer::Wake, effects)
+    }
+}

@@ -1,0 +1,220 @@
+-- Sites at their places in a world.
+use Rattle.std.specs.Prelude.{All, Bool, Err, IfOk, List, None, Ok, Option, Result, Some, [], cond, false, find, if◌then◌else◌, length, map, option_map, set, get_or, true, suc, zero, ℕ, ◌++◌, ◌+◌, ◌<◌, ◌==◌, ◌∷◌, ◌≡◌, ◌≤◌}
+use Rattle.std.proofs.Common.{ap, arith, refl, subst, sym, ◌∙◌}
+use Rattle.std.proofs.lemmas.Bool.Decides.{nat_tests}
+use Rattle.sim_clock.specs.declared.key.Key.{Key}
+use Rattle.sim_clock.specs.declared.refusal.Refusal.{Refusal}
+use Rattle.sim_clock.specs.Firsts.{changed}
+use Rattle.sim_clock.specs.Order.{lesser}
+use Rattle.sim_site.specs.Spent.{due_of}
+use Rattle.sim_clock.proofs.Least.{key_tied}
+use Rattle.sqs_model.proofs.Numbers.{handled_number}
+use Rattle.sim_windows.specs.Worlds.{IsNumbered, IsWorld, alive, due_among, is_due_there, living}
+use Rattle.sqs_redrive.specs.declared.transfers.Outbound.{Outbound}
+use Rattle.sqs_model.specs.Dues.{least_due, world_due}
+use Rattle.sqs_model.proofs.WorldMoves.{among_falls, delivered_sound, world_in}
+use Rattle.sqs_model.specs.Progress.{IsSound}
+use Rattle.sqs_model.specs.Places.{IsAbsent, Stands}
+use Rattle.sqs_model.specs.Run.{Stepped, delivered, delivered_one, handled_among, handled_here, handled_there, is_due}
+use Rattle.sqs_model.specs.Site.{Site, accepted, number_of}
+use Rattle.sqs_model.specs.Step.{handled}
+
+pub living_alive : (w : List Site) → living (map alive w) ≡ w
+living_alive [] = refl
+living_alive (s ∷ ss) = ap (λ t. s ∷ t) (living_alive ss)
+
+pub due_living : (xs : List (Result Site Refusal)) → due_among xs ≡ world_due (living xs)
+due_living [] = refl
+due_living (Ok s ∷ xs) = ap (lesser (least_due s)) (due_living xs)
+due_living (Err e ∷ xs) = due_living xs
+
+-- deliveries
+arrives : (o : Outbound) (s : Site) → o.to ≡ number_of s.core → delivered_one o s ≡ accepted o s
+arrives o s h =
+    let t : (o.to == number_of s.core) ≡ true = grind (arith, nat_tests, h) in
+    ap (λ b. if b then accepted o s else s) t
+
+passes : (o : Outbound) (s : Site) (n : ℕ) → number_of s.core ≡ n → (o.to == n) ≡ false → delivered_one o s ≡ s
+passes o s n h t = let u : (o.to == number_of s.core) ≡ false = ap (λ k. o.to == k) h ∙ t in ap (λ b. if b then accepted o s else s) u
+
+other : (a b : ℕ) → a < b → (a == b) ≡ false
+other a b h = grind (arith, nat_tests, h)
+
+more : (a b : ℕ) → b < a → (a == b) ≡ false
+more a b h = grind (arith, nat_tests, h)
+
+-- a transfer to a number before those of some sites
+before : (o : Outbound) (n : ℕ) (w : List Site) → IsNumbered n w → o.to < n → map (delivered_one o) w ≡ w
+before o n [] h l = refl
+before o n (s ∷ ss) h l = rw (passes o s n h.0 (other o.to n l), before o (n + 1) ss h.1 (omega arith)) refl
+
+-- or past them
+pub past : (o : Outbound) (n : ℕ) (w : List Site) → IsNumbered n w → n + length w ≤ o.to → map (delivered_one o) w ≡ w
+past o n [] h l = refl
+past o n (s ∷ ss) h l = rw (passes o s n h.0 (more o.to n (omega arith)), past o (n + 1) ss h.1 (omega arith)) refl
+
+pub handed :
+    (o : Outbound) (n i : ℕ) (w : List Site) (x d : Result Site Refusal) → IsNumbered n w → i < length w → o.to ≡ n + i
+    → ((s : Site) → get_or (map alive w) i d ≡ Ok s → x ≡ Ok (accepted o s))
+    → set (map alive w) i x ≡ map alive (map (delivered_one o) w)
+handed o n i [] x d h l e f = absurd (omega arith)
+handed o n zero (s ∷ ss) x d h l e f =
+    let to : o.to ≡ number_of s.core = omega (arith, h.0) in
+    rw (f s refl, arrives o s to, before o (n + 1) ss h.1 (omega arith)) refl
+handed o n (suc i) (s ∷ ss) x d h l e f =
+    rw (passes o s n h.0 (more o.to n (omega arith))) (ap (λ t. alive s ∷ t) (handed o (n + 1) i ss x d h.1 (omega arith) (omega arith) f))
+
+one_number : (o : Outbound) (s : Site) → number_of (delivered_one o s).core ≡ number_of s.core
+one_number o s =
+    elim (o.to == number_of s.core) as (λ b. number_of (if b then accepted o s else s).core ≡ number_of s.core) [ true ↦ refl | false ↦ refl ]
+
+pub numbered_one : (o : Outbound) (n : ℕ) (w : List Site) → IsNumbered n w → IsNumbered n (map (delivered_one o) w)
+numbered_one o n [] h = tt
+numbered_one o n (s ∷ ss) h = (one_number o s ∙ h.0, numbered_one o (n + 1) ss h.1)
+
+pub numbered_delivered : (os : List Outbound) (n : ℕ) (w : List Site) → IsNumbered n w → IsNumbered n (delivered os w)
+numbered_delivered [] n w h = h
+numbered_delivered (o ∷ os) n w h = numbered_delivered os n (map (delivered_one o) w) (numbered_one o n w h)
+
+-- one more delivered after others
+pub delivered_more : (os : List Outbound) (o : Outbound) (w : List Site) → delivered (os ++ o ∷ []) w ≡ map (delivered_one o) (delivered os w)
+delivered_more [] o w = refl
+delivered_more (x ∷ os) o w = delivered_more os o (map (delivered_one x) w)
+
+none_some : {A : Type 0} {a : A} → None ≡ Some a → ⊥
+none_some h = cc
+
+-- what holds of a site that lives
+pub ok_of : (P : Site → Type 0) (x : Result Site Refusal) (s : Site) → x ≡ Ok s → IfOk x P → P s
+ok_of P x s e h = subst (λ r. IfOk r P) e h
+
+-- a key that is due at a site that may be spent
+pub due_ok : (key : Key) (x : Result Site Refusal) → due_of x ≡ Some key → IfOk x (λ s. least_due s ≡ Some key)
+due_ok key (Ok s) h = h
+due_ok key (Err e) h = tt
+
+-- the handling of the first site that a key is due at
+module _ (key : Key) where
+  -- whether it is due at a site
+  abbrev pub due_here : Site → Bool
+  due_here s = is_due key (least_due s)
+
+  -- the site after the handling
+  abbrev pub site_after : Site → Site
+  site_after s = (handled key s).site
+
+  -- the same of one that may be spent
+  abbrev pub after_there : Result Site Refusal → Result Site Refusal
+  after_there (Ok s) = Ok (site_after s)
+  after_there (Err e) = Err e
+
+  pub among_found :
+      (w : List Site) (s : Site) → find due_here w ≡ Some s
+      → handled_among key w ≡ record { sites = changed due_here site_after w; rows = (handled key s).rows; sent = (handled key s).sent }
+  among_found [] s h = cc
+  among_found (x ∷ xs) s h =
+      elim (due_here x) as
+      (λ b. cond b (Some x) (find due_here xs) ≡ Some s →
+      (if b then handled_here (handled key x) xs else handled_there x (handled_among key xs))
+      ≡ record { sites = (if b then site_after x ∷ xs else x ∷ changed due_here site_after xs); rows = (handled key s).rows; sent = (handled key s).sent }) [
+        | true ↦ λ e. let same : x ≡ s = cc in ap (λ y. record { sites = site_after x ∷ xs; rows = (handled key y).rows; sent = (handled key y).sent }) same
+        | false ↦ λ e. ap (handled_there x) (among_found xs s e)
+      ] h
+
+  pub find_alive : (w : List Site) (y : Result Site Refusal) → find (is_due_there key) (map alive w) ≡ Some y → option_map alive (find due_here w) ≡ Some y
+  find_alive [] y h = cc
+  find_alive (x ∷ xs) y h =
+      elim (due_here x) as (λ b. cond b (Some (alive x)) (find (is_due_there key) (map alive xs)) ≡ Some y → option_map alive (cond b (Some x) (find due_here xs)) ≡ Some y) [
+        | true ↦ λ e. e
+        | false ↦ λ e. find_alive xs y e
+      ] h
+
+  pub changed_alive : (w : List Site) → changed (is_due_there key) after_there (map alive w) ≡ map alive (changed due_here site_after w)
+  changed_alive [] = refl
+  changed_alive (x ∷ xs) =
+      elim (due_here x) as (λ b. (if b then alive (site_after x) ∷ map alive xs else alive x ∷ changed (is_due_there key) after_there (map alive xs)) ≡ map alive (if b then site_after x ∷ xs else x ∷ changed due_here site_after xs)) [
+        | true ↦ refl
+        | false ↦ ap (λ t. alive x ∷ t) (changed_alive xs)
+      ]
+
+  find_none : (w : List Site) → find (is_due_there key) (map alive w) ≡ None → handled_among key w ≡ record { sites = w; rows = []; sent = [] }
+  find_none [] h = refl
+  find_none (x ∷ xs) h =
+      elim (due_here x) as
+      (λ b. cond b (Some (alive x)) (find (is_due_there key) (map alive xs)) ≡ None →
+      (if b then handled_here (handled key x) xs else handled_there x (handled_among key xs)) ≡ record { sites = x ∷ xs; rows = []; sent = [] }) [
+        | true ↦ λ e. cc
+        | false ↦ λ e. ap (handled_there x) (find_none xs e)
+      ] h
+
+  -- where it is due at no site, nothing happens
+  pub among_none : (w : List Site) → IsAbsent (is_due_there key) (map alive w) → handled_among key w ≡ record { sites = w; rows = []; sent = [] }
+  among_none w a = find_none w a.found
+
+  -- the site that handles it
+  pub record Handles (w : List Site) (i : ℕ) (d : Result Site Refusal) : Type 0 where
+    pub site : Site
+    pub is : get_or (map alive w) i d ≡ Ok site
+    pub among : handled_among key w ≡ record { sites = changed due_here site_after w; rows = (handled key site).rows; sent = (handled key site).sent }
+    pub after : set (map alive w) i (Ok (site_after site)) ≡ map alive (changed due_here site_after w)
+
+  handles_by : (w : List Site) (i : ℕ) (d : Result Site Refusal) → Stands (is_due_there key) (map alive w) i → (o : Option Site) → find due_here w ≡ o → option_map alive o ≡ Some (get_or (map alive w) i d) → Handles w i d
+  handles_by w i d t None f e = absurd (none_some e)
+  handles_by w i d t (Some s) f e =
+      let same : get_or (map alive w) i d ≡ Ok s = cc in
+      record {
+        site = s;
+        is = same;
+        among = among_found w s f;
+        after = ap (λ r. set (map alive w) i (after_there r)) (sym same) ∙ sym (t.change after_there d) ∙ changed_alive w;
+      }
+
+  pub handles_at : (w : List Site) (i : ℕ) (d : Result Site Refusal) → Stands (is_due_there key) (map alive w) i → Handles w i d
+  handles_at w i d t = handles_by w i d t (find due_here w) refl (find_alive w (get_or (map alive w) i d) (t.found d))
+
+  -- a place where it is due
+  find_is : (xs : List (Result Site Refusal)) (y : Result Site Refusal) → find (is_due_there key) xs ≡ Some y → is_due_there key y ≡ true
+  find_is [] y h = absurd (none_some h)
+  find_is (x ∷ xs) y h =
+      elim (is_due_there key x) as (λ b. is_due_there key x ≡ b → cond b (Some x) (find (is_due_there key) xs) ≡ Some y → is_due_there key y ≡ true) [
+        | true ↦ λ k e. let same : x ≡ y = cc in ap (is_due_there key) (sym same) ∙ k
+        | false ↦ λ k e. find_is xs y e
+      ] refl h
+
+  due_key : (o : Option Key) → is_due key o ≡ true → o ≡ Some key
+  due_key None h = cc
+  due_key (Some k) h = let t : key ≡ k = key_tied key k h in ap (λ (x : Key). Some x) (sym t)
+
+  pub due_at_place : (xs : List (Result Site Refusal)) (i : ℕ) (d : Result Site Refusal) → Stands (is_due_there key) xs i → due_of (get_or xs i d) ≡ Some key
+  due_at_place xs i d t = due_key (due_of (get_or xs i d)) (find_is xs (get_or xs i d) (t.found d))
+
+  pub numbered_after : (n : ℕ) (w : List Site) → IsNumbered n w → IsNumbered n (changed due_here site_after w)
+  numbered_after n [] h = tt
+  numbered_after n (x ∷ xs) h =
+      elim (due_here x) as (λ b. IsNumbered n (if b then site_after x ∷ xs else x ∷ changed due_here site_after xs)) [
+        | true ↦ (handled_number key x ∙ h.0, h.1)
+        | false ↦ (h.0, numbered_after (n + 1) xs h.1)
+      ]
+
+  numbered_among : (n : ℕ) (w : List Site) → IsNumbered n w → IsNumbered n (handled_among key w).sites
+  numbered_among n [] h = tt
+  numbered_among n (x ∷ xs) h =
+      elim (due_here x) as (λ b. IsNumbered n (if b then handled_here (handled key x) xs else handled_there x (handled_among key xs)).sites) [
+        | true ↦ (handled_number key x ∙ h.0, h.1)
+        | false ↦ (h.0, numbered_among (n + 1) xs h.1)
+      ]
+
+  -- what is left is a world again
+  pub world_after :
+      (w : List Site) → IsNumbered 0 w → All (λ s. IsSound s.core) w → world_due w ≡ Some key
+      → IsWorld (map alive (delivered (handled_among key w).sent (handled_among key w).sites))
+  world_after w n s d =
+      let t : Stepped = handled_among key w in
+      let v : List Site = delivered t.sent t.sites in
+      let f = among_falls key 0 w (omega arith) s (world_in key w d) in
+      let back : living (map alive v) ≡ v = living_alive v in
+      record {
+        live = ap (map alive) back;
+        numbered = subst (IsNumbered 0) (sym back) (numbered_delivered t.sent 0 t.sites (numbered_among 0 w n));
+        sound = subst (All (λ x. IsSound x.core)) (sym back) (delivered_sound t.sent t.sites f.sound);
+      }

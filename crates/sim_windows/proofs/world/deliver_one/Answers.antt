@@ -1,0 +1,23 @@
+use Rattle.std.proofs.Common.{◌≡◌, ◌+◌, ◌<◌, ◌≤◌, Result, ap, arith, get_or, length, map, sym, ◌∙◌}
+use Rattle.sim_clock.specs.declared.refusal.Refusal.{Refusal}
+use Rattle.std.proofs.lemmas.List.{length-map}
+use Rattle.std.specs.Prelude.{Ok}
+use Rattle.sqs_model.specs.Site.{Site, accepted}
+use Rattle.sim_windows.specs.Worlds.{alive}
+use Rattle.sim_windows.proofs.Places.{handed, ok_of, past}
+use Rattle.sim_windows.proofs.world.deliver_one.Goals as goal
+
+pub returns-in_ok-accept : goal.returns-in_ok-accept
+returns-in_ok-accept c w e n =
+    let d : Result Site Refusal = c.index_mut.result.now in
+    let same : length c.args.sites.now.items ≡ length (map alive w) = ap length e in
+    let within : c.args.transfer.to < length w = omega (arith, c.if-place-len.true, c.len.ensures, same, length-map w alive) in
+    let all = handed c.args.transfer 0 c.args.transfer.to w c.accept.new.self d n within (omega arith)
+    (λ s g. ok_of (λ (site : Site). c.accept.new.self ≡ Ok (accepted c.args.transfer site)) d s (c.index_mut.ensures.value ∙ ap (λ xs. get_or xs c.args.transfer.to d) e ∙ g) c.in_ok-accept.ensures.accepted) in
+    rw e all
+
+pub returns-else-place-len : goal.returns-else-place-len
+returns-else-place-len c w e n =
+    let same : length c.args.sites.now.items ≡ length (map alive w) = ap length e in
+    let outside : 0 + length w ≤ c.args.transfer.to = omega (arith, c.if-place-len.false, c.len.ensures, same, length-map w alive) in
+    e ∙ ap (map alive) (sym (past c.args.transfer 0 w n outside))
