@@ -88,6 +88,12 @@ none_some h = cc
 pub ok_of : (P : Site → Type 0) (x : Result Site Refusal) (s : Site) → x ≡ Ok s → IfOk x P → P s
 ok_of P x s e h = subst (λ r. IfOk r P) e h
 
+-- a site of a world of sites that live
+pub alive_at : (w : List Site) (i : ℕ) (d : Result Site Refusal) → i < length w → (s : Site) × (get_or (map alive w) i d ≡ Ok s)
+alive_at [] i d l = absurd (omega arith)
+alive_at (s ∷ ss) zero d l = (s, refl)
+alive_at (s ∷ ss) (suc i) d l = alive_at ss i d (omega arith)
+
 -- a key that is due at a site that may be spent
 pub due_ok : (key : Key) (x : Result Site Refusal) → due_of x ≡ Some key → IfOk x (λ s. least_due s ≡ Some key)
 due_ok key (Ok s) h = h

@@ -1,5 +1,5 @@
 -- Send, delete and change: the first case that holds gives the answer.
-use Rattle.std.specs.Prelude.{Bool, Err, List, None, Ok, Option, Result, Some, [], false, find, if◌then◌else◌, nat_lt, not, ℕ, ◌&&◌, ◌*◌, ◌++◌, ◌+◌, ◌-◌, ◌==◌, ◌||◌, ◌∷◌}
+use Rattle.std.specs.Prelude.{Bool, Err, List, None, Ok, Option, Result, Some, [], false, filter, find, if◌then◌else◌, nat_lt, not, ℕ, ◌&&◌, ◌*◌, ◌++◌, ◌+◌, ◌-◌, ◌==◌, ◌||◌, ◌∷◌}
 use Rattle.std.specs.Str.{bytes_eq}
 use Rattle.sim_clock.specs.declared.refusal.Refusal.{Refusal}
 use Rattle.sqs_message.specs.declared.ids.Receipt.{Receipt}
@@ -70,10 +70,14 @@ abbrev pub scope_of : Scope → List ℕ → Option (List ℕ)
 scope_of scopes.Queue group = None
 scope_of scopes.Group group = Some group
 
--- a queue with one more deduplication entry, for the next message, which lives for 5 minutes
+-- the entries that live at a moment
+abbrev pub living_entries : ℕ → List Entry → List Entry
+living_entries now entries = filter (λ e. nat_lt now e.end) entries
+
+-- a queue with one more deduplication entry, for the next message, which lives for 5 minutes; those that have ended go
 abbrev pub with_entry : Queue → ℕ → Option (List ℕ) → List ℕ → Queue
 with_entry q now scope id =
-    record q { entries = q.entries ++ record { scope = scope; id = id; end = now + 300000; number = q.arrivals } ∷ [] }
+    record q { entries = living_entries now q.entries ++ record { scope = scope; id = id; end = now + 300000; number = q.arrivals } ∷ [] }
 
 -- a duplicate of a message makes none; any other send makes a message and an entry
 abbrev pub send_unless : Queue → ℕ → List ℕ → List ℕ → Option (List ℕ) → List ℕ → Option Entry → Result Sent Refusal × Queue

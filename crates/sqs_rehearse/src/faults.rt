@@ -1,42 +1,51 @@
-//! What stops the program, in a line on standard error.
+//! What stops the program: a line on standard error, and the status that it ends with.
 ghost use Rattle.std.specs.Prelude.{◌≡◌, ◌++◌, IfOk, codes};
 ghost use Rattle.sqs_formats.specs.Output.{at_place, fault_line as the_fault_line};
 
 use sim_clock::Refusal;
 use sim_scenario::ReadError;
 use sqs_formats::ScenarioFault;
+use sqs_rehearsal::Fault;
 use std::alloc::{AllocError, AllocFailed, Global};
+use std::io::Write;
 use std::process::ExitCode;
 
 /// Why the program stops.
 #[derive(Drop)]
-pub enum Stop {
-    /// An input can't be read.
-    CannotRead,
-    /// A growth was refused.
-    Memory,
-    /// The scenario is refused.
-    Scenario(ScenarioFault),
+pub enum Stop<'a> {
+    /// The input of this path can't be read; `-` is standard input.
+    CannotRead(&'a str),
+    /// The scenario or the rehearsal is refused.
+    Refused(Fault),
 }
 
-impl From<AllocError> for Stop {
-    fn from(_refused: AllocError) -> Stop {
-        Stop::Memory
+impl<'a> From<AllocError> for Stop<'a> {
+    fn from(_refused: AllocError) -> Stop<'a> {
+        Stop::Refused(Fault::Refused(Refusal::Memory))
     }
 }
 
-impl<T: Drop> From<AllocFailed<T>> for Stop {
-    fn from(_refused: AllocFailed<T>) -> Stop {
-        Stop::Memory
+impl<'a, T: Drop> From<AllocFailed<T>> for Stop<'a> {
+    fn from(_refused: AllocFailed<T>) -> Stop<'a> {
+        Stop::Refused(Fault::Refused(Refusal::Memory))
     }
 }
 
-impl From<ReadError> for Stop {
-    fn from(error: ReadError) -> Stop {
-        match error {
-            ReadError::Memory => Stop::Memory,
-            ReadError::Fault(fault) => Stop::Scenario(fault),
-        }
+impl<'a> From<Refusal> for Stop<'a> {
+    fn from(refusal: Refusal) -> Stop<'a> {
+        Stop::Refused(Fault::Refused(refusal))
+    }
+}
+
+impl<'a> From<Fault> for Stop<'a> {
+    fn from(fault: Fault) -> Stop<'a> {
+        Stop::Refused(fault)
+    }
+}
+
+impl<'a> From<ReadError> for Stop<'a> {
+    fn from(error: ReadError) -> Stop<'a> {
+        Stop::Refused(Fault::from(error))
     }
 }
 
@@ -52,8 +61,8 @@ fn at_place(alloc: Global, place: &[u8]) -> Result<Vec<u8>, AllocError>
     Ok(text)
 }
 
-/// The line of a scenario's fault, as `refused 14 OutOfRange at queue[0].delay_s`.
-pub fn fault_line(alloc: Global, fault: &ScenarioFault) -> Result<Vec<u8>, AllocError>
+// The line of a scenario's fault, as `refused 14 OutOfRange at queue[0].delay_s`.
+fn fault_line(alloc: Global, fault: &ScenarioFault) -> Result<Vec<u8>, AllocError>
     ensures { IfOk result (λ v. v.items ≡ the_fault_line fault.now) }
 {
     let code = fault.refusal.code();
@@ -64,4 +73,41 @@ pub fn fault_line(alloc: Global, fault: &ScenarioFault) -> Result<Vec<u8>, Alloc
     text.extend_from_slice(place.as_slice())?;
     text.extend_from_slice(b"\n")?;
     Ok(text)
+}
+
+// The status of a refusal: 1 of a scenario, 4 of a writer that failed, 3 of a run.
+fn status(refusal: Refusal) -> u8 {
+    match refusal.code() {
+        0..=29 => 1,
+        36 => 4,
+        _ => 3,
+    }
+}
+
+// Tells a fault in a line, and gives the status.
+fn tell_fault(rt: &HostRuntime, fault: Fault) -> ExitCode {
+    match fault {
+        Fault::Scenario(fault) => {
+            if let Ok(line) = fault_line(rt.alloc(), &fault) {
+                let _ = rt.stderr().write_all(line.as_slice());
+            }
+            ExitCode::from(1)
+        }
+        Fault::Refused(refusal) => {
+            let code = refusal.code();
+            let _ = eprintln!(rt; "refused {code} {refusal}");
+            ExitCode::from(status(refusal))
+        }
+    }
+}
+
+/// Tells what stopped the program in a line on standard error. Gives the status that it ends with.
+pub fn tell(rt: &HostRuntime, stop: Stop<'_>) -> ExitCode {
+    match stop {
+        Stop::CannotRead(path) => {
+            let _ = eprintln!(rt; "cannot read {path}");
+            ExitCode::from(1)
+        }
+        Stop::Refused(fault) => tell_fault(rt, fault),
+    }
 }

@@ -1,12 +1,19 @@
-//! Rehearses networks of Amazon SQS queues: `sqs_rehearse check` tells whether a text is a scenario.
+//! Rehearses networks of Amazon SQS queues: `run` writes a scenario's log, final queues and report,
+//! `check` tells whether a text is a scenario, and `compare` compares the reports of two.
 #![tactic(auto)]
 
 mod check;
+mod compare;
 mod faults;
 mod files;
+mod run;
 
 use clap::Error;
+use clap::error::ErrorKind;
+use faults::Stop;
+use sim_clock::Refusal;
 use sqs_command_line::{Line, LineFault, line};
+use std::alloc::{AllocFailed, Global};
 use std::process::ExitCode;
 use std::{env, io};
 
@@ -19,8 +26,11 @@ fn words(rt: &HostRuntime) -> io::Result<Vec<String>> {
     Ok(words)
 }
 
-// Tells a usage fault, or the help that was asked for.
+// Tells a usage fault, the help that was asked for, or want of memory.
 fn tell(rt: &HostRuntime, error: &Error) -> ExitCode {
+    if error.kind() == ErrorKind::OutOfMemory {
+        return faults::tell(rt, Stop::from(Refusal::Memory));
+    }
     let told = error.print(rt);
     if told.is_ok() && !error.use_stderr() {
         ExitCode::SUCCESS
@@ -33,28 +43,35 @@ fn tell(rt: &HostRuntime, error: &Error) -> ExitCode {
 fn obey(rt: &HostRuntime, asked: Line<'_>) -> ExitCode {
     match asked {
         Line::Check(asked) => check::check(rt, asked),
-        Line::Run(_) | Line::Compare(_) => {
-            let _ = eprintln!(rt; "error: this command is not there yet");
-            ExitCode::from(2)
-        }
+        Line::Run(asked) => run::run(rt, asked),
+        Line::Compare(asked) => compare::compare(rt, asked),
     }
 }
 
-fn main(rt: HostRuntime) -> ExitCode {
-    let alloc = rt.alloc();
-    let Ok(words) = words(&rt) else {
-        let _ = eprintln!(rt; "refused 34 Memory");
-        return ExitCode::from(3);
-    };
-    let mut given: Vec<&str> = Vec::new(alloc);
-    for word in words.iter() {
-        if given.push(word.as_str()).is_err() {
-            return ExitCode::from(3);
-        }
-    }
-    match line(alloc, given.as_slice()) {
-        Ok(asked) => obey(&rt, asked),
-        Err(LineFault::Words(error)) => tell(&rt, &error),
+// Does what the words ask for.
+fn obey_words(rt: &HostRuntime, words: &[&str]) -> ExitCode {
+    match line(rt.alloc(), words) {
+        Ok(asked) => obey(rt, asked),
+        Err(LineFault::Words(error)) => tell(rt, &error),
         Err(LineFault::Unread) => ExitCode::from(2),
+    }
+}
+
+// The words as `clap` takes them.
+fn borrowed(alloc: Global, words: &[String]) -> Result<Vec<&str>, AllocFailed<&str>> {
+    let mut borrowed = Vec::new(alloc);
+    for word in words {
+        borrowed.push(word.as_str())?;
+    }
+    Ok(borrowed)
+}
+
+fn main(rt: HostRuntime) -> ExitCode {
+    let Ok(words) = words(&rt) else {
+        return faults::tell(&rt, Stop::from(Refusal::Memory));
+    };
+    match borrowed(rt.alloc(), words.as_slice()) {
+        Ok(given) => obey_words(&rt, given.as_slice()),
+        Err(_) => faults::tell(&rt, Stop::from(Refusal::Memory)),
     }
 }

@@ -1,6 +1,9 @@
-use Rattle.std.proofs.Common.{List, Ok, Result, ap, get_or, map, set, subst, sym, ◌≡◌, ◌∙◌}
+use Rattle.std.proofs.Common.{List, Ok, Result, ap, get_or, map, set, subst, ℕ, ◌≡◌, ◌∙◌, sym}
+use Rattle.std.proofs.lemmas.Result.{err_from_is_err_and}
+use Rattle.sim_clock.specs.declared.key.Key.{Key}
 use Rattle.sim_clock.specs.declared.refusal.Refusal.{Refusal}
 use Rattle.sim_clock.specs.Firsts.{changed}
+use Rattle.sim_site.specs.Effects.{Spends}
 use Rattle.sim_site.specs.Spent.{due_of}
 use Rattle.sqs_model.specs.Places.{IsAbsent, Stands}
 use Rattle.sqs_model.specs.Run.{delivered}
@@ -10,8 +13,26 @@ use Rattle.sim_windows.specs.Worlds.{alive, is_due_there}
 use Rattle.sim_windows.proofs.Places.{Handles, among_none, due_at_place, due_here, due_ok, ok_of, handles_at, numbered_after, site_after}
 use Rattle.sim_windows.proofs.world.handle_among.Goals as goal
 
-pub returns-in_default : goal.returns-in_default
-returns-in_default c w e n =
+-- the site that handles it, at its place among sites that live
+record Found (key : Key) (w : List Site) (xs : List (Result Site Refusal)) (place : ℕ) (d : Result Site Refusal) : Type 0 where
+  handles : Handles key w place d
+  old : d ≡ Ok handles.site
+  left : (x : Result Site Refusal) → x ≡ Ok (site_after key handles.site) → set xs place x ≡ map alive (changed (due_here key) (site_after key) w)
+
+found :
+    (key : Key) (w : List Site) (xs ys : List (Result Site Refusal)) (place : ℕ) (d : Result Site Refusal) → xs ≡ map alive w → ys ≡ xs → d ≡ get_or xs place d
+    → Stands (is_due_there key) ys place → Found key w xs place d
+found key w xs ys place d e same is stands =
+    let there : Stands (is_due_there key) (map alive w) place = subst (λ zs. Stands (is_due_there key) zs place) (same ∙ e) stands in
+    let h : Handles key w place d = handles_at key w place d there in
+    record {
+      handles = h;
+      old = is ∙ ap (λ zs. get_or zs place d) e ∙ h.is;
+      left = λ x made. ap (λ zs. set zs place x) e ∙ ap (set (map alive w) place) made ∙ h.after;
+    }
+
+pub returns-in_default-clause-done : goal.returns-in_default-clause-done
+returns-in_default-clause-done c w e n =
     let p : Result Site Refusal → _ = is_due_there c.args.key in
     let absent : IsAbsent p (map alive w) = subst (IsAbsent p) (c.deref.ensures.value ∙ e) c.in_default.ensures in
     rw (among_none c.args.key w absent) (e, c.new.ensures.items)
@@ -23,19 +44,36 @@ handle-requires-clause-due c =
     (ap due_of (c.index_mut.ensures.value ∙ ap (λ xs. get_or xs c.in-Some.place d) (sym c.deref.ensures.value))
     ∙ due_at_place c.args.key c.deref.result.now c.in-Some.place d c.in-Some.ensures)
 
-pub returns : goal.returns
-returns c w e n =
+pub returns-clause-done : goal.returns-clause-done
+returns-clause-done c w e n =
     let d : Result Site Refusal = c.index_mut.result.now in
     let key = c.args.key in
-    let place = c.in-Some.place in
-    let stands : Stands (is_due_there key) (map alive w) place = subst (λ xs. Stands (is_due_there key) xs place) (c.deref.ensures.value ∙ e) c.in-Some.ensures in
-    let h : Handles key w place d = handles_at key w place d stands in
-    let old : d ≡ Ok h.site = c.index_mut.ensures.value ∙ ap (λ xs. get_or xs place d) e ∙ h.is in
+    let f : Found key w c.args.sites.now.items c.in-Some.place d = found key w c.args.sites.now.items c.deref.result.now c.in-Some.place d e c.deref.ensures.value c.index_mut.ensures.value c.in-Some.ensures in
     let made = ok_of
     (λ (site : Site). (c.handle.new.self ≡ Ok (handled key site).site) × (c.in_ok-handled.handled.rows.items ≡ (handled key site).rows) × (c.in_ok-handled.handled.outbound.items ≡ (handled key site).sent))
-    d h.site old c.in_ok-handled.ensures.handled in
+    d f.handles.site f.old c.in_ok-handled.ensures.handled in
     let after : List Site = changed (due_here key) (site_after key) w in
-    let left : set c.args.sites.now.items place c.handle.new.self ≡ map alive after =
-    ap (λ xs. set xs place c.handle.new.self) e ∙ ap (set (map alive w) place) made.0 ∙ h.after in
-    let all = c.in_ok-deliver.ensures after left (numbered_after key 0 w n) in
-    rw h.among (all ∙ ap (λ os. map alive (delivered os after)) made.2, made.1)
+    let all = c.in_ok-deliver.ensures.done after (f.left c.handle.new.self made.0) (numbered_after key 0 w n) in
+    rw f.handles.among (all ∙ ap (λ os. map alive (delivered os after)) made.2, made.1)
+
+pub returns-in_err-handled-clause-spends : goal.returns-in_err-handled-clause-spends
+returns-in_err-handled-clause-spends c w e n =
+    let d : Result Site Refusal = c.index_mut.result.now in
+    let key = c.args.key in
+    let refusal : Refusal = c.in_err-handled.field-0.0 in
+    let f : Found key w c.args.sites.now.items c.in-Some.place d = found key w c.args.sites.now.items c.deref.result.now c.in-Some.place d e c.deref.ensures.value c.index_mut.ensures.value c.in-Some.ensures in
+    let spends : Spends refusal = ok_of (λ (site : Site). Spends refusal) d f.handles.site f.old c.in_err-handled.ensures.spends in
+    let told = err_from_is_err_and c.from_residual.result c.from_residual.ensures.1 in
+    rw (told.1, told.2) spends
+
+pub returns-in_err-deliver-clause-spends : goal.returns-in_err-deliver-clause-spends
+returns-in_err-deliver-clause-spends c w e n =
+    let d : Result Site Refusal = c.index_mut.result.now in
+    let key = c.args.key in
+    let f : Found key w c.args.sites.now.items c.in-Some.place d = found key w c.args.sites.now.items c.deref.result.now c.in-Some.place d e c.deref.ensures.value c.index_mut.ensures.value c.in-Some.ensures in
+    let made = ok_of
+    (λ (site : Site). (c.handle.new.self ≡ Ok (handled key site).site) × (c.in_ok-handled.handled.rows.items ≡ (handled key site).rows) × (c.in_ok-handled.handled.outbound.items ≡ (handled key site).sent))
+    d f.handles.site f.old c.in_ok-handled.ensures.handled in
+    let spends : Spends c.in_err-deliver.field-0.0 = c.in_err-deliver.ensures.spends (changed (due_here key) (site_after key) w) (f.left c.handle.new.self made.0) (numbered_after key 0 w n) in
+    let told = err_from_is_err_and c.from_residual-in_err-deliver.result c.from_residual-in_err-deliver.ensures.1 in
+    rw (told.1, told.2) spends

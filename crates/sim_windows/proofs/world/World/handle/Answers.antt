@@ -11,17 +11,17 @@ pub invariant_of-result : goal.invariant_of-result
 invariant_of-result c =
     let v = c.self.invariant in
     let w : List Site = living c.self.inside.sites.items in
-    let made = c.in_ok-more.ensures w (sym v.live) v.numbered in
+    let made = c.in_ok-more.ensures.done w (sym v.live) v.numbered in
     let due : world_due w ≡ Some c.args.key = ap (λ (r : Run). world_due r.sites) c.self.view_is ∙ c.requires.due in
     subst IsWorld (sym made.0) (world_after c.args.key w v.numbered v.sound due)
 
-pub returns : goal.returns
-returns c =
+pub returns-clause-done : goal.returns-clause-done
+returns-clause-done c =
     let v = c.self.invariant in
     let w : List Site = living c.self.inside.sites.items in
     let t : Stepped = handled_among c.args.key w in
-    let made = c.in_ok-more.ensures w (sym v.live) v.numbered in
+    let made = c.in_ok-more.ensures.done w (sym v.live) v.numbered in
     let sites : living c.handle_among.new.sites.items ≡ delivered t.sent t.sites = ap living made.0 ∙ living_alive (delivered t.sent t.sites) in
-    let rows : c.append.new.rows.items ≡ c.self.inside.rows.items ++ t.rows = c.in_ok-append.ensures ∙ ap (λ more. c.self.inside.rows.items ++ more) made.1 in
+    let rows : c.append.new.rows.items ≡ c.self.inside.rows.items ++ t.rows = c.in_ok-append.ensures.done ∙ ap (λ more. c.self.inside.rows.items ++ more) made.1 in
     let run : List Site → List Row → Run = λ s r. record { sites = s; rows = r } in
     ap₂ run sites rows ∙ ap (λ (r : Run). run_on r.rows (handled_among c.args.key r.sites)) c.self.view_is

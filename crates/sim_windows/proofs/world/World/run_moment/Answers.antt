@@ -10,7 +10,7 @@ loop-key-smaller c =
     let key = c.in-Some.key in
     let due : world_due r.sites ≡ Some key = sym c.least_due.ensures.due ∙ c.in-Some.is in
     let from : c.args.moment ≤ key.at = subst (IsFrom c.args.moment) due c.loop-key.invariant.from in
-    smaller key c.args.moment r c.in_ok-world.world from (omega (arith, c.if-key-moment.false)) c.least_due.ensures.moves_on due c.in_ok-world.ensures
+    smaller key c.args.moment r c.in_ok-world.world from (omega (arith, c.if-key-moment.false)) c.least_due.ensures.moves_on due c.in_ok-world.ensures.done
 
 pub loop-key-preserved : goal.loop-key-preserved
 loop-key-preserved c =
@@ -19,6 +19,6 @@ loop-key-preserved c =
     let due : world_due r.sites ≡ Some key = sym c.least_due.ensures.due ∙ c.in-Some.is in
     let from : c.args.moment ≤ key.at = subst (IsFrom c.args.moment) due c.loop-key.invariant.from in
     record {
-      goes_on = λ horizon l. goes_on horizon key c.args.self r c.in_ok-world.world (c.loop-key.invariant.goes_on horizon l) due (omega (arith, c.if-key-moment.false)) c.in_ok-world.ensures;
-      from = from_after key c.args.moment r c.in_ok-world.world from c.least_due.ensures.moves_on due c.loop-key.invariant.from c.in_ok-world.ensures;
+      goes_on = λ horizon l. goes_on horizon key c.args.self r c.in_ok-world.world (c.loop-key.invariant.goes_on horizon l) due (omega (arith, c.if-key-moment.false)) c.in_ok-world.ensures.done;
+      from = from_after key c.args.moment r c.in_ok-world.world from c.least_due.ensures.moves_on due c.loop-key.invariant.from c.in_ok-world.ensures.done;
     }

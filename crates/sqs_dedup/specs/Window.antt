@@ -1,0 +1,49 @@
+-- The entries that a window holds by their keys, and which of them it shows.
+use Rattle.std.specs.Prelude.{All, List, None, Option, Some, find, if◌then◌else◌, map, nat_lt, ℕ, ◌&&◌, ◌++◌, ◌+◌, ◌≤◌}
+use Rattle.std.proofs.Common.{arith, [], ◌∷◌, ◌≡◌}
+use Rattle.std.proofs.lemmas.List.Elements.{All-filter, All-push}
+use Rattle.std.specs.List.{IsDistinct}
+use Rattle.std.specs.Map.{keys_of}
+use Rattle.std.specs.Str.{bytes_eq}
+use Rattle.sqs_model.specs.Calls.{living_entries}
+use Rattle.sqs_model.specs.Queue.{Entry, same_text}
+use Rattle.sqs_dedup.specs.Keys.{Key, same_key}
+use Rattle.sqs_dedup.specs.declared.held.Held.{Held}
+
+-- the entry with this scope and id that lives at a moment, as a queue finds it among its entries
+abbrev pub living_among : ℕ → Option (List ℕ) → List ℕ → List Entry → Option Entry
+living_among now scope id entries =
+    find (λ e. nat_lt now e.end && same_text e.scope scope && bytes_eq e.id id) entries
+
+-- the entry of a key
+abbrev pub entry_of : Key × Held → Entry
+entry_of p = record { scope = p.0.0; id = p.0.1; end = p.1.end; number = p.1.number }
+
+-- the entries of a map that lived at a moment
+abbrev pub shown : ℕ → List (Key × Held) → List Entry
+shown last held = living_entries last (map entry_of held)
+
+-- the entries of two maps that lived at a moment
+abbrev pub window : List (Key × Held) → List (Key × Held) → ℕ → List Entry
+window earlier recent last = shown last earlier ++ shown last recent
+
+-- the number of an entry that is held, if it lives at a moment
+abbrev pub number_at : ℕ → Option Held → Option ℕ
+number_at now None = None
+number_at now (Some h) = if nat_lt now h.end then Some h.number else None
+
+-- what every window keeps: each map's keys are distinct, earlier entries came up to a moment and recent ones from then on, and by a moment after which no entry shown came the last one has come
+pub record IsWindow (earlier recent : List (Key × Held)) (began last : ℕ) : Type 0 where
+  pub earlier_keys : IsDistinct same_key (keys_of earlier)
+  pub recent_keys : IsDistinct same_key (keys_of recent)
+  pub begun : began ≤ last
+  pub earlier_ends : All (λ p. p.1.end ≤ began + 300000) earlier
+  pub recent_begins : All (λ p. began + 300000 ≤ p.1.end) recent
+  pub recent_ends : All (λ p. p.1.end ≤ last + 300000) recent
+  pub newest : (n : ℕ) → All (λ e. e.end ≤ n + 300000) (window earlier recent last) → last ≤ n
+
+-- after an entry, as before it, no entry is from later than its moment
+pub none_later : (now : ℕ) (entries : List Entry) (e : Entry) → e.end ≡ now + 300000 → All (λ x. x.end ≤ now + 300000) entries → All (λ x. x.end ≤ now + 300000) (living_entries now entries ++ e ∷ [])
+none_later now entries e at h =
+    let P : Entry → Type 0 = λ x. x.end ≤ now + 300000 in
+    All-push P (living_entries now entries) e (All-filter (λ x. nat_lt now x.end) P entries h) (omega (arith, at))

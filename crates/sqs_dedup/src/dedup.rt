@@ -1,0 +1,109 @@
+//! The window and its calls.
+ghost use Rattle.std.specs.Prelude.{All, IsOkUnless, None, OnErr, OnOk, [], ◌++◌, ◌+◌, ◌∷◌, ◌≡◌, ◌≤◌};
+ghost use Rattle.std.specs.Option.{option_copied, option_map};
+ghost use Rattle.sqs_model.specs.Answers.{most_count};
+ghost use Rattle.sqs_model.specs.Calls.{living_entries};
+ghost use Rattle.sqs_dedup.specs.Window.{living_among};
+
+use crate::held::{Held, add, number_at, only};
+use crate::key::{AskedKey, HeldKey};
+use indexmap::IndexMap;
+use sim_clock::Refusal;
+use sqs_message::Text;
+use std::alloc::Global;
+use std::marker::Model;
+use std::mem;
+
+/// For how many milliseconds an entry lives: 5 minutes.
+const LIFE: u64 = 300000;
+
+/// The deduplication entries of a FIFO queue (Developer Guide: exactly-once processing). Contracts
+/// see it as the list of the entries that lived when the last one was entered, in the order in
+/// which they came. Times are milliseconds.
+///
+/// Entries go to a map of recent ones. Once the first of these has ended, all earlier ones have,
+/// and the recent ones become the earlier ones: so no entry is taken out by itself, and at most
+/// about ten minutes of entries are held.
+#[derive(Drop)]
+pub struct Dedup {
+    earlier: IndexMap<HeldKey, Held>,
+    recent: IndexMap<HeldKey, Held>,
+    // The moment from which on entries went to the recent ones.
+    began: u64,
+    // The moment of the last entry.
+    last: u64,
+    alloc: Global,
+}
+
+impl Model for Dedup {
+    ghost use Rattle.std.specs.Prelude.{List};
+    ghost use Rattle.sqs_model.specs.Queue.{Entry};
+    ghost use Rattle.sqs_dedup.specs.Window.{IsWindow, window};
+
+    ghost Value = { List Entry };
+
+    ghost view = { λ d. window d.earlier.entries d.recent.entries d.last };
+
+    ghost invariant = { λ d. IsWindow d.earlier.entries d.recent.entries d.began d.last };
+}
+
+impl Dedup {
+    /// A window with no entry.
+    pub fn new(alloc: Global) -> Dedup
+        ensures { result ≡ [] }
+    {
+        Dedup {
+            earlier: IndexMap::new(alloc),
+            recent: IndexMap::new(alloc),
+            began: 0,
+            last: 0,
+            alloc,
+        }
+    }
+
+    /// The number of the message that was accepted with this scope and id, if its entry lives: a
+    /// send with these is then a duplicate of it (`SendMessage`: `MessageDeduplicationId`). The
+    /// scope is a message group, or none for the whole queue. Takes no memory.
+    pub fn living(&self, now: u64, scope: Option<&Text>, id: &Text) -> Option<u64>
+        ensures { result ≡ option_map (λ e. e.number) (living_among now (option_copied scope.entry) id.now self.now) }
+    {
+        let key = AskedKey::new(scope, id);
+        let moment = now.max(self.last);
+        match number_at(&self.earlier, moment, &key) {
+            Some(number) => Some(number),
+            None => number_at(&self.recent, moment, &key),
+        }
+    }
+
+    /// Enters the message with this number, accepted with this scope and id. The entry lives for 5
+    /// minutes; those that have ended go. `Memory` where a growth is refused; then nothing changes.
+    pub fn enter(
+        &mut self,
+        now: u64,
+        scope: Option<Text>,
+        id: Text,
+        number: u64,
+    ) -> Result<(), Refusal>
+        requires moment { now ≤ most_count }
+        requires no_earlier { All (λ e. e.end ≤ now + 300000) self.old }
+        requires none_living { living_among now scope id self.old ≡ None }
+        ensures entered { OnOk result (self.new ≡ living_entries now self.old ++ record { scope = scope; id = id; end = now + 300000; number = number } ∷ []) }
+        ensures unchanged { OnErr result (self.new ≡ self.old) }
+        ensures memory_only { IsOkUnless result Refusal.Memory }
+    {
+        let key = HeldKey::new(scope, id);
+        let held = Held {
+            end: now + LIFE,
+            number,
+        };
+        if now.saturating_sub(self.began) < LIFE {
+            add(&mut self.recent, key, held)?;
+        } else {
+            let fresh = only(self.alloc, key, held)?;
+            self.earlier = mem::replace(&mut self.recent, fresh);
+            self.began = now;
+        }
+        self.last = now;
+        Ok(())
+    }
+}

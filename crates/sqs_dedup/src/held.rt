@@ -1,0 +1,52 @@
+//! What is held of keys: how it is looked up and added.
+ghost use Rattle.std.specs.Prelude.{IfOk, IsOkUnless, None, OnErr, OnOk, [], ◌++◌, ◌∷◌, ◌≡◌};
+ghost use Rattle.indexmap.specs.IndexMap.{IsUnique, get};
+ghost use Rattle.sqs_dedup.specs.Keys.{same_key};
+ghost use Rattle.sqs_dedup.specs.Window.{number_at};
+
+use crate::key::{AskedKey, HeldKey};
+use indexmap::IndexMap;
+use sim_clock::Refusal;
+use std::alloc::Global;
+
+/// When an entry ends and which message it stands for.
+#[derive(Clone, Copy, Drop)]
+pub struct Held {
+    pub end: u64,
+    pub number: u64,
+}
+
+// The number of the entry of a key, if it lives at a moment.
+pub fn number_at(entries: &IndexMap<HeldKey, Held>, now: u64, key: &AskedKey) -> Option<u64>
+    ensures { result ≡ number_at now (get same_key entries.now key.now) }
+{
+    let held = entries.get(key)?;
+    if now < held.end {
+        Some(held.number)
+    } else {
+        None
+    }
+}
+
+// Adds the entry of a new key, which goes last.
+pub fn add(entries: &mut IndexMap<HeldKey, Held>, key: HeldKey, held: Held) -> Result<(), Refusal>
+    requires { get same_key entries.old key ≡ None }
+    ensures added { OnOk result (entries.new.entries ≡ entries.old.entries ++ (key, held) ∷ []) }
+    ensures unchanged { OnErr result (entries.new.entries ≡ entries.old.entries) }
+    ensures distinct { IsUnique same_key entries.new }
+    ensures memory_only { IsOkUnless result Refusal.Memory }
+{
+    entries.insert(key, held)?;
+    Ok(())
+}
+
+// The entry of one key.
+pub fn only(alloc: Global, key: HeldKey, held: Held) -> Result<IndexMap<HeldKey, Held>, Refusal>
+    ensures added { IfOk result (λ m. m.entries ≡ (key, held) ∷ []) }
+    ensures distinct { IfOk result (IsUnique same_key) }
+    ensures memory_only { IsOkUnless result Refusal.Memory }
+{
+    let mut entries = IndexMap::new(alloc);
+    add(&mut entries, key, held)?;
+    Ok(entries)
+}

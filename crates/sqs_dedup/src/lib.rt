@@ -1,0 +1,11 @@
+//! The deduplication window of a FIFO queue: which deduplication ids were accepted within the last
+//! five minutes, and which messages they made.
+#![tactic(auto)]
+
+mod dedup;
+mod held;
+mod key;
+#[cfg(test)]
+mod tests;
+
+pub use dedup::Dedup;

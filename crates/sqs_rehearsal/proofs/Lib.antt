@@ -1,0 +1,6 @@
+pub mod Writing
+pub mod Runs
+pub mod Barred
+pub mod Stopped
+pub mod Sorting
+pub mod Left

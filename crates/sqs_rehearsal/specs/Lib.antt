@@ -1,0 +1,4 @@
+pub mod Split
+pub mod Outcomes
+pub mod Rehearsals
+pub mod Left

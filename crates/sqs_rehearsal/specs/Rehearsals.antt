@@ -1,0 +1,98 @@
+-- What a rehearsal writes, or why it is refused.
+use Rattle.std.specs.Prelude.{Bool, Err, List, None, Ok, Option, Some, false, true, ℕ, ◌≡◌, ◌⊎◌}
+use Rattle.std.specs.Io.KnownBytes.{Appends}
+use Rattle.sim_clock.specs.declared.refusal.Refusal.{Refusal}
+use Rattle.sim_records.specs.Writes.{AppendsFront}
+use Rattle.sqs_formats.specs.Output.{ending_of, log_of}
+use Rattle.sqs_formats.specs.Scenario.{scenario_of}
+use Rattle.sqs_model.specs.Run.{IsRunOf, Run}
+use Rattle.sqs_model.specs.Scenario.{Scenario}
+use Rattle.sqs_rehearsal.specs.Outcomes.{only_standard}
+use Rattle.sqs_rehearsal.specs.Split.{Split, split_fault}
+use Rattle.sqs_rehearsal.specs.declared.rehearsal.Fault.{Fault}
+use Rattle.sim_scenario.specs.declared.fault.ReadError.{ReadError}
+use Rattle.sim_clock.specs.declared.refusal.Refusal.TheVariants as refusals
+use Rattle.sim_scenario.specs.declared.fault.ReadError.TheVariants as errors
+use Rattle.sqs_rehearsal.specs.declared.rehearsal.Fault.TheVariants as faults
+
+-- what was asked for: the scenario's text with its scripts by their names, and how the run is split
+pub record Request : Type 0 where
+  pub text : List ℕ
+  pub scripts : List (List ℕ × List ℕ)
+  pub split : Split
+
+-- a scenario that a request states, which can be split so, and its one-list run
+pub record Rehearsed (q : Request) : Type 0 where
+  pub scenario : Scenario
+  pub run : Run
+  pub stated : scenario_of q.scripts q.text ≡ Ok scenario
+  pub allowed : split_fault scenario q.split ≡ None
+  pub is_run : IsRunOf scenario run
+
+-- what a writer holds before and after, and whether it has failed
+pub record Writer : Type 0 where
+  pub before : Option (List ℕ)
+  pub after : Option (List ℕ)
+  pub failed : Bool
+
+-- a writer that got just this text
+pub record Got (w : Writer) (text : List ℕ) : Type 0 where
+  pub bytes : Appends w.before w.after text
+  pub whole : w.failed ≡ false
+
+-- a writer that got a front of this text
+abbrev pub GotFront : Writer → List ℕ → Type 0
+GotFront w text = AppendsFront w.before w.after text
+
+-- a writer that got nothing
+pub record GotNothing (w : Writer) : Type 0 where
+  pub nothing : w.after ≡ w.before
+  pub whole : w.failed ≡ false
+
+-- the whole of a rehearsal: the log writer got the log, the other finals and report
+pub record IsWritten (q : Request) (log report : Writer) : Type 0 where
+  pub of : Rehearsed q
+  pub whole_log : Got log (log_of of.scenario of.run)
+  pub whole_report : Got report (ending_of of.scenario of.run)
+
+-- a front of it: the log writer got a front of the log, the other one of finals and report
+pub record IsPartWritten (q : Request) (log report : Writer) : Type 0 where
+  pub of : Rehearsed q
+  pub log_front : GotFront log (log_of of.scenario of.run)
+  pub report_front : GotFront report (ending_of of.scenario of.run)
+
+-- nothing of it
+pub record IsUnwritten (log report : Writer) : Type 0 where
+  pub no_log : GotNothing log
+  pub no_report : GotNothing report
+
+-- a scenario that a request states
+pub record Stated (q : Request) : Type 0 where
+  pub scenario : Scenario
+  pub stated : scenario_of q.scripts q.text ≡ Ok scenario
+
+-- the fault of a scenario that could not be read
+abbrev pub fault_of_reading : ReadError → Fault
+fault_of_reading errors.Memory = faults.Refused refusals.Memory
+fault_of_reading (errors.Fault f) = faults.Scenario f
+
+-- why a request is refused before anything is written
+abbrev pub IsBarred : Request → Refusal → Type 0
+IsBarred q refusals.NotYet = (s : Stated q) × (only_standard s.scenario ≡ false)
+IsBarred q refusals.BadMap = (s : Stated q) × (split_fault s.scenario q.split ≡ Some refusals.BadMap)
+IsBarred q (refusals.WindowTooLong w least) = (s : Stated q) × (split_fault s.scenario q.split ≡ Some (refusals.WindowTooLong w least))
+IsBarred q refusals.BadWorkers = (s : Stated q) × (split_fault s.scenario q.split ≡ Some refusals.BadWorkers)
+IsBarred q refusals.CountLimit = (s : Stated q) × (split_fault s.scenario q.split ≡ None)
+IsBarred q refusals.Memory = Unit {0}
+IsBarred q r = ⊥
+
+-- the same, of a scenario's own fault too
+abbrev pub Bars : Request → Fault → Type 0
+Bars q (faults.Scenario f) = scenario_of q.scripts q.text ≡ Err f
+Bars q (faults.Refused r) = IsBarred q r
+
+-- why a request is refused, and what was written by then
+abbrev pub IsRefused : Request → Writer → Writer → Fault → Type 0
+IsRefused q log report (faults.Refused refusals.Write) = IsPartWritten q log report × ((log.failed ≡ true) ⊎ (report.failed ≡ true))
+IsRefused q log report (faults.Refused refusals.Memory) = (log.failed ≡ false) × (report.failed ≡ false) × (IsUnwritten log report ⊎ IsPartWritten q log report)
+IsRefused q log report f = Bars q f × IsUnwritten log report

@@ -1,0 +1,228 @@
+//! What is left in sites at the end of a run.
+ghost use Rattle.std.specs.Prelude.{◌≡◌, ◌++◌, IfOk, IsOkUnless, List, OnOk, flat_map, map};
+ghost use Rattle.std.specs.Ordering.{is_lt};
+ghost use Rattle.sim_clock.specs.Order.{key_cmp};
+ghost use Rattle.sim_windows.specs.Worlds.{alive};
+ghost use Rattle.sqs_model.specs.Finals.{final_message, final_task, final_transfer, finals_of as the_finals_of, in_key_order, in_number_order, messages_at};
+ghost use Rattle.sqs_model.specs.Queue.{Queue};
+ghost use Rattle.sqs_model.specs.Site.{Site as TheSite};
+ghost use Rattle.sqs_rehearsal.specs.Left.{keyed, keyed_at, tasks_at};
+
+use sim_clock::{Key, Refusal};
+use sim_site::{Site, Task};
+use sqs_message::{Message, MessageId, body_md5};
+use sqs_model::{
+    FinalMessage, FinalMessages, FinalTask, FinalTasks, FinalTransfer, FinalTransfers, Finals,
+    TransferKind,
+};
+use sqs_redrive::{Load, Outbound};
+use sqs_standard::StandardQueue;
+use std::alloc::Global;
+use std::cmp::Ordering;
+
+// A message of a queue.
+fn final_message(alloc: Global, site: u32, message: &Message) -> Result<FinalMessage, Refusal>
+    ensures left { (q : Queue) → q.site ≡ site → IfOk result (λ m. m ≡ final_message q message.now) }
+    ensures memory_only { IsOkUnless result Refusal.Memory }
+{
+    let group = match &message.group {
+        None => None,
+        Some(group) => Some(group.copy(alloc)?),
+    };
+    Ok(FinalMessage {
+        id: MessageId {
+            site,
+            number: message.number,
+        },
+        origin: message.origin,
+        place: message.place,
+        due: message.release,
+        enqueued: message.enqueued,
+        receives: message.receives,
+        group,
+        md5: body_md5(message.body.as_bytes()),
+    })
+}
+
+// Adds the messages of a queue.
+fn add_messages(
+    alloc: Global,
+    messages: &mut Vec<FinalMessage>,
+    queue: &StandardQueue,
+) -> Result<(), Refusal>
+    ensures added { OnOk result (messages.new.items ≡ messages.old.items ++ map (final_message queue.now) queue.now.records) }
+    ensures memory_only { IsOkUnless result Refusal.Memory }
+{
+    for message in queue.view() {
+        messages.push(final_message(alloc, queue.site(), message)?)?;
+    }
+    Ok(())
+}
+
+// The messages of all queues, in order of arrival in each.
+fn messages_of(alloc: Global, sites: &[Site]) -> Result<Vec<FinalMessage>, Refusal>
+    ensures left { (w : List TheSite) → sites.now ≡ map alive w → IfOk result (λ m. m.items ≡ flat_map messages_at w) }
+    ensures memory_only { IsOkUnless result Refusal.Memory }
+{
+    let mut messages = Vec::new(alloc);
+    for site in sites {
+        add_messages(alloc, &mut messages, site.queue())?;
+    }
+    Ok(messages)
+}
+
+// A transfer under way.
+fn final_transfer(transfer: &Outbound) -> FinalTransfer
+    ensures { result ≡ final_transfer transfer.now }
+{
+    let (kind, message, origin, body) = match &transfer.load {
+        Load::Redrive {
+            id,
+            origin,
+            body,
+            ..
+        } => (TransferKind::Redrive, *id, Some(*origin), body),
+        Load::Move {
+            id,
+            origin,
+            body,
+            ..
+        } => (TransferKind::Move, *id, Some(*origin), body),
+        Load::Forward { id, body, .. } => (TransferKind::Forward, *id, None, body),
+    };
+    FinalTransfer {
+        from: transfer.from,
+        to: transfer.to,
+        kind,
+        due: transfer.at,
+        number: transfer.number,
+        message,
+        origin,
+        md5: body_md5(body.as_bytes()),
+    }
+}
+
+// Adds transfers, each with its key.
+fn add_transfers(
+    list: &mut Vec<(Key, FinalTransfer)>,
+    transfers: &[Outbound],
+) -> Result<(), Refusal>
+    ensures added { OnOk result (list.new.items ≡ list.old.items ++ map keyed transfers.now) }
+    ensures memory_only { IsOkUnless result Refusal.Memory }
+{
+    for transfer in transfers {
+        list.push((transfer.key(), final_transfer(transfer)))?;
+    }
+    Ok(())
+}
+
+// The transfers under way to all sites, each with its key.
+fn keyed_transfers(alloc: Global, sites: &[Site]) -> Result<Vec<(Key, FinalTransfer)>, Refusal>
+    ensures left { (w : List TheSite) → sites.now ≡ map alive w → IfOk result (λ t. t.items ≡ flat_map keyed_at w) }
+    ensures memory_only { IsOkUnless result Refusal.Memory }
+{
+    let mut transfers = Vec::new(alloc);
+    for site in sites {
+        add_transfers(&mut transfers, site.arriving())?;
+    }
+    Ok(transfers)
+}
+
+// Which of two keys comes first.
+fn order(first: Key, second: Key) -> Ordering
+    ensures { is_lt result ≡ is_lt (key_cmp first second) }
+{
+    first.cmp(&second)
+}
+
+// Transfers without their keys.
+fn without_keys(
+    alloc: Global,
+    keyed: Vec<(Key, FinalTransfer)>,
+) -> Result<Vec<FinalTransfer>, Refusal>
+    ensures transfers { IfOk result (λ t. t.items ≡ map (λ p. p.1) keyed.items) }
+    ensures memory_only { IsOkUnless result Refusal.Memory }
+{
+    let mut transfers = Vec::with_capacity(alloc, keyed.len())?;
+    for pair in keyed {
+        transfers.push(pair.1)?;
+    }
+    Ok(transfers)
+}
+
+// The transfers under way to all sites, in the order of their keys.
+fn transfers_of(alloc: Global, sites: &[Site]) -> Result<Vec<FinalTransfer>, Refusal>
+    ensures left { (w : List TheSite) → sites.now ≡ map alive w → IfOk result (λ t. t.items ≡ map final_transfer (in_key_order (flat_map (λ s. s.arriving) w))) }
+    ensures memory_only { IsOkUnless result Refusal.Memory }
+{
+    let mut keyed = keyed_transfers(alloc, sites)?;
+    keyed.reverse();
+    keyed.sort_by(|first, second| order(first.0, second.0))?;
+    without_keys(alloc, keyed)
+}
+
+// A move task.
+fn final_task(task: &Task) -> FinalTask
+    ensures { result ≡ final_task task.now }
+{
+    FinalTask {
+        task: task.number(),
+        status: task.status(),
+        moved: task.moved(),
+    }
+}
+
+// Adds the move tasks of a site.
+fn add_tasks(list: &mut Vec<FinalTask>, tasks: &[Task]) -> Result<(), Refusal>
+    ensures added { OnOk result (list.new.items ≡ list.old.items ++ map final_task tasks.now) }
+    ensures memory_only { IsOkUnless result Refusal.Memory }
+{
+    for task in tasks {
+        list.push(final_task(task))?;
+    }
+    Ok(())
+}
+
+// The move tasks of all sites.
+fn site_tasks(alloc: Global, sites: &[Site]) -> Result<Vec<FinalTask>, Refusal>
+    ensures left { (w : List TheSite) → sites.now ≡ map alive w → IfOk result (λ t. t.items ≡ flat_map tasks_at w) }
+    ensures memory_only { IsOkUnless result Refusal.Memory }
+{
+    let mut tasks = Vec::new(alloc);
+    for site in sites {
+        add_tasks(&mut tasks, site.tasks())?;
+    }
+    Ok(tasks)
+}
+
+// The move tasks of all sites, by number.
+fn tasks_of(alloc: Global, sites: &[Site]) -> Result<Vec<FinalTask>, Refusal>
+    ensures left { (w : List TheSite) → sites.now ≡ map alive w → IfOk result (λ t. t.items ≡ map final_task (in_number_order (flat_map (λ s. s.core.tasks) w))) }
+    ensures memory_only { IsOkUnless result Refusal.Memory }
+{
+    let mut tasks = site_tasks(alloc, sites)?;
+    tasks.reverse();
+    tasks.sort_by_key(|task| task.task)?;
+    Ok(tasks)
+}
+
+/// What is left in the sites of a run: the messages of each queue, the transfers under way in the
+/// order of their keys, and the move tasks by number.
+///
+/// # Errors
+///
+/// `Memory` where a growth is refused.
+#[tactic(auto, unfolding(sqs_model::specs::Finals::finals_of))]
+pub fn finals_of(alloc: Global, sites: &[Site]) -> Result<Finals, Refusal>
+    ensures left { (w : List TheSite) → sites.now ≡ map alive w → IfOk result (λ finals. finals ≡ the_finals_of w) }
+    ensures memory_only { IsOkUnless result Refusal.Memory }
+{
+    let messages = messages_of(alloc, sites)?;
+    let transfers = transfers_of(alloc, sites)?;
+    let tasks = tasks_of(alloc, sites)?;
+    Ok(Finals {
+        messages: FinalMessages::new(messages),
+        transfers: FinalTransfers::new(transfers),
+        tasks: FinalTasks::new(tasks),
+    })
+}

@@ -1,0 +1,103 @@
+//! A rehearsal, from bytes to bytes.
+ghost use Rattle.std.specs.Prelude.{◌≡◌, ◌⊎◌, false, true, IfErr, IfOk, OnOk};
+ghost use Rattle.sim_records.specs.Writes.{WroteSeveral};
+ghost use Rattle.sqs_rehearsal.specs.Outcomes.{only_standard, outcome_of};
+ghost use Rattle.sqs_rehearsal.specs.Rehearsals.{Bars, IsRefused, IsWritten, Rehearsed, Request, Writer};
+ghost use Rattle.sqs_rehearsal.specs.Split.{unless};
+
+use crate::outcome::Outcome;
+use crate::split::Split;
+use sim_clock::Refusal;
+use sim_records::Out;
+use sim_scenario::{ReadError, Scenario, Scripts, read};
+use sqs_formats::ScenarioFault;
+use sqs_redrive::Kind;
+use std::alloc::Global;
+
+/// Why a rehearsal is refused.
+#[derive(Drop)]
+pub enum Fault {
+    /// The scenario has a fault, from 10 to 20.
+    Scenario(ScenarioFault),
+    /// Another refusal, from 21 on.
+    Refused(Refusal),
+}
+
+impl From<ReadError> for Fault {
+    ghost use Rattle.std.specs.Prelude.{◌≡◌};
+    ghost use Rattle.sqs_rehearsal.specs.Rehearsals.{fault_of_reading};
+
+    ghost from_gives = { λ error fault. fault ≡ fault_of_reading error };
+
+    fn from(error: ReadError) -> Fault {
+        match error {
+            ReadError::Memory => Fault::Refused(Refusal::Memory),
+            ReadError::Fault(fault) => Fault::Scenario(fault),
+        }
+    }
+}
+
+impl From<Refusal> for Fault {
+    ghost use Rattle.std.specs.Prelude.{◌≡◌};
+    ghost use Rattle.sqs_rehearsal.specs.declared.rehearsal.Fault.TheVariants.{Refused};
+
+    ghost from_gives = { λ refusal fault. fault ≡ Refused refusal };
+
+    fn from(refusal: Refusal) -> Fault {
+        Fault::Refused(refusal)
+    }
+}
+
+// Whether all queues of a scenario are standard.
+fn only_standard(scenario: &Scenario) -> bool
+    ensures { result ≡ only_standard scenario.now }
+{
+    scenario
+        .queues()
+        .iter()
+        .all(|queue| matches!(queue.kind, Kind::Standard { .. }))
+}
+
+// The outcome of a request.
+fn outcome(alloc: Global, text: &[u8], scripts: &Scripts, split: &Split) -> Result<Outcome, Fault>
+    ensures whole { IfOk result (λ o. (r : Rehearsed (record { text = text.now; scripts = scripts.now; split = split.now })) × (o ≡ outcome_of r.scenario r.run)) }
+    ensures barred { IfErr result (Bars (record { text = text.now; scripts = scripts.now; split = split.now })) }
+{
+    let scenario = read(alloc, text, scripts)?;
+    if !only_standard(&scenario) {
+        return Err(Fault::Refused(Refusal::NotYet));
+    }
+    split.check(&scenario)?;
+    let outcome = Outcome::of(alloc, scenario)?;
+    Ok(outcome)
+}
+
+/// Rehearses a scenario: reads its text, with its scripts by their names, runs it, and writes the
+/// log to one writer, and what is left at the end and the report to the other. Both are flushed.
+/// How the run is split does not change what is written.
+///
+/// # Errors
+///
+/// Nothing is written where the scenario has a fault, 10 to 20; where it has a FIFO queue, `NotYet`;
+/// where it can't be split so, `BadMap`, `WindowTooLong` or `BadWorkers`, the first of these that
+/// holds; or where a count passes 2^62 - 1, `CountLimit`. After `Write`, where a writer failed, and
+/// after `Memory` the log writer has got a front of the log, and the other a front of the rest:
+/// nothing unless the log was written whole.
+pub fn rehearse<L: Out, R: Out>(
+    alloc: Global,
+    text: &[u8],
+    scripts: &Scripts,
+    split: &Split,
+    log: &mut L,
+    report: &mut R,
+) -> Result<(), Fault>
+    requires log { L.failed log.old ≡ false }
+    requires report { R.failed report.old ≡ false }
+    ensures written { OnOk result (IsWritten (record { text = text.now; scripts = scripts.now; split = split.now }) (record { before = L.held log.old; after = L.held log.new; failed = L.failed log.new }) (record { before = R.held report.old; after = R.held report.new; failed = R.failed report.new })) }
+    ensures refused { IfErr result (IsRefused (record { text = text.now; scripts = scripts.now; split = split.now }) (record { before = L.held log.old; after = L.held log.new; failed = L.failed log.new }) (record { before = R.held report.old; after = R.held report.new; failed = R.failed report.new })) }
+{
+    let outcome = outcome(alloc, text, scripts, split)?;
+    outcome.write_log(alloc, log)?;
+    outcome.write_ending(alloc, report)?;
+    Ok(())
+}

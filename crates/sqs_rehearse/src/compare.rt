@@ -1,0 +1,37 @@
+//! A comparison of two rehearsals.
+use crate::faults::{Stop, tell};
+use crate::files::{buffered, read_inputs};
+use sim_scenario::{Scenario, read};
+use sqs_command_line::CompareLine;
+use sqs_rehearsal::Outcome;
+use std::process::ExitCode;
+
+// The scenario of a file, with its scripts in a folder.
+fn scenario<'a>(
+    rt: &HostRuntime,
+    path: Option<&'a str>,
+    folder: Option<&str>,
+) -> Result<Scenario, Stop<'a>> {
+    let inputs = read_inputs(rt, path, folder)?;
+    Ok(read(rt.alloc(), inputs.text.as_slice(), &inputs.scripts)?)
+}
+
+// Runs both scenarios and prints the comparison.
+fn compared<'a>(rt: &HostRuntime, asked: CompareLine<'a>) -> Result<(), Stop<'a>> {
+    let alloc = rt.alloc();
+    let first = scenario(rt, asked.first, asked.scripts)?;
+    let second = scenario(rt, asked.second, asked.scripts)?;
+    let first = Outcome::of(alloc, first)?;
+    let second = Outcome::of(alloc, second)?;
+    let mut out = buffered(rt, rt.stdout())?;
+    sqs_rehearsal::compare(alloc, &mut out, &first, &second)?;
+    Ok(())
+}
+
+/// Rehearses two scenarios, each on one thread, and prints the comparison of their reports.
+pub fn compare(rt: &HostRuntime, asked: CompareLine<'_>) -> ExitCode {
+    match compared(rt, asked) {
+        Ok(()) => ExitCode::SUCCESS,
+        Err(stop) => tell(rt, stop),
+    }
+}
