@@ -1,5 +1,1 @@
-pub mod Stored
-pub mod Writes
-pub mod Batches
-pub mod Giving
-pub mod Parted
+pub mod Seen

@@ -1,2 +1,2 @@
 pub mod Standard
-pub mod Batch
+pub mod Hosts

@@ -1,12 +1,10 @@
-//! A standard queue: its messages as a plain list, and the calls of Amazon SQS on it.
+//! A standard queue: messages that lie on hosts, and the calls of Amazon SQS on them.
 #![tactic(auto)]
 
-mod batch;
-mod dues;
-mod parting;
-mod places;
+mod hosts;
 mod queue;
 #[cfg(test)]
 mod tests;
 
-pub use queue::{Counts, StandardQueue};
+pub use queue::StandardQueue;
+pub use sqs_store::Counts;

@@ -1,57 +1,30 @@
 //! The queue and its calls.
-ghost use Rattle.std.specs.Prelude.{◌≡◌, ◌-◌, false, ◌+◌, ◌<◌, ◌≤◌, ◌^◌, [], count_by, filter, IsOkUnless, List, OnOk, OnErr, ℕ};
+ghost use Rattle.std.specs.Prelude.{◌≡◌, ◌-◌, ◌<◌, ◌≤◌, ◌^◌, [], IfOk, IsOkUnless, List, OnErr, OnOk, count_by, filter, take, ℕ};
 ghost use Rattle.sim_clock.specs.Order.{least};
 ghost use Rattle.sqs_model.specs.Answers.{Meets, most_count};
 ghost use Rattle.sqs_model.specs.Arrive.{expired};
-ghost use Rattle.sqs_model.specs.Available.{all_hosts, available_at};
-ghost use Rattle.sqs_model.specs.Calls.{change, delete_standard, new_message, returned, send_standard, with_message};
+ghost use Rattle.sqs_model.specs.Available.{all_hosts, available, available_at};
+ghost use Rattle.sqs_model.specs.Calls.{change, delete_standard, returned, send_standard};
 ghost use Rattle.sqs_model.specs.Dues.{queue_dues};
-ghost use Rattle.sqs_model.specs.Queue.{IsFramed, Queue, in_flight, is_delayed, is_in_flight, is_visible, numbered};
-ghost use Rattle.sqs_model.specs.Receive.{receive};
-ghost use Rattle.sqs_model.specs.Return.{leaves, released};
+ghost use Rattle.sqs_model.specs.Queue.{IsFramed, is_delayed, is_in_flight, is_visible};
+ghost use Rattle.sqs_model.specs.Return.{released};
 ghost use Rattle.sqs_model.specs.Valid.{IsKind};
-ghost use Rattle.sqs_standard.specs.Batch.{gives, is_seen};
-ghost use Rattle.sqs_standard.specs.Standard.{IsCounted, IsStandard, IsStandardSettings};
+ghost use Rattle.sqs_store.specs.Chosen.{AreWithin, Differ, at_places};
+ghost use Rattle.sqs_standard.specs.Hosts.{is_seen};
+ghost use Rattle.sqs_standard.specs.Standard.{IsStandard, IsStandardSettings};
 ghost use Rattle.sqs_message.specs.declared.message.Message.{Message};
 
-use crate::dues::{expiry_of, release_key};
-use crate::places::{
-    count_delayed, count_in_flight, count_visible, is_out, keep_out, make_visible, place_of_number,
-    take_out,
-};
-use sim_clock::{Key, Refusal, lesser};
-use sqs_message::{Message, MessageId, Origin, Place, Receipt, Text};
-use sqs_redrive::{Deleted, Kind, Load, QueueSettings, Returned, Sent, on_return};
+use crate::hosts::seen_places;
+use sim_clock::{Key, Refusal};
+use sqs_message::{Message, MessageId, Receipt, Text};
+use sqs_redrive::{Deleted, Kind, Load, QueueSettings, Sent};
+use sqs_store::{Counts, MOST_COUNT, Store};
 use std::alloc::Global;
 use std::marker::Model;
 
 mod arrive;
 mod receive;
 mod take;
-
-/// The greatest value of a count or a moment.
-pub const MOST_COUNT: u64 = 4611686018427387903;
-
-/// How many messages of a queue are where.
-#[derive(Clone, Copy, Debug, PartialEq, Eq)]
-pub struct Counts {
-    /// May be received (`ApproximateNumberOfMessages`).
-    pub visible: u64,
-    /// Received and not yet back (`ApproximateNumberOfMessagesNotVisible`).
-    pub in_flight: u64,
-    /// Not yet visible for the first time (`ApproximateNumberOfMessagesDelayed`).
-    pub delayed: u64,
-}
-
-// Whether a message has been received as often as the policy allows.
-fn is_spent(settings: &QueueSettings, message: &Message) -> bool
-    ensures { result ≡ leaves settings.now.policy message.now }
-{
-    match settings.policy {
-        None => false,
-        Some(policy) => on_return(&policy, message) == Returned::Leaves,
-    }
-}
 
 // On how many hosts the messages of a standard queue lie.
 fn host_count(kind: &Kind) -> u64
@@ -68,43 +41,23 @@ fn host_count(kind: &Kind) -> u64
     }
 }
 
-// What goes to the dead-letter queue of a message of this queue.
-fn redrive(site: u32, message: Message) -> Load
-    ensures { result ≡ Load.Redrive (record { site = site; number = message.number }) message.origin message.body message.group message.enqueued }
-{
-    Load::Redrive {
-        id: MessageId {
-            site,
-            number: message.number,
-        },
-        origin: message.origin,
-        body: message.body,
-        group: message.group,
-        enqueued: message.enqueued,
-    }
-}
-
-/// A standard queue. Contracts see it as the definitions' `Queue` without deduplication entries.
-/// Times are milliseconds.
+/// A standard queue. Contracts see it as the definitions' `Queue`, which has no deduplication
+/// entries. Times are milliseconds.
 #[derive(Drop)]
 pub struct StandardQueue {
-    site: u32,
-    settings: QueueSettings,
-    messages: Vec<Message>,
-    arrivals: u64,
+    store: Store,
     alloc: Global,
 }
 
 impl Model for StandardQueue {
-    ghost use Rattle.std.specs.Prelude.{[]};
     ghost use Rattle.sqs_model.specs.Queue.{Queue};
-    ghost use Rattle.sqs_standard.specs.Standard.{IsState};
+    ghost use Rattle.sqs_standard.specs.Standard.{IsStandardSettings};
 
     ghost Value = { Queue };
 
-    ghost view = { λ q. record { site = q.site; settings = q.settings; records = q.messages.items; entries = []; arrivals = q.arrivals } };
+    ghost view = { λ q. q.store };
 
-    ghost invariant = { λ q. IsState q.settings q.messages.items q.arrivals };
+    ghost invariant = { λ q. IsStandardSettings q.store.settings };
 }
 
 impl StandardQueue {
@@ -114,10 +67,7 @@ impl StandardQueue {
         ensures { result ≡ record { site = site; settings = settings; records = []; entries = []; arrivals = 0 } }
     {
         StandardQueue {
-            site,
-            settings,
-            messages: Vec::new(alloc),
-            arrivals: 0,
+            store: Store::new(alloc, site, settings),
             alloc,
         }
     }
@@ -126,61 +76,21 @@ impl StandardQueue {
     pub fn site(&self) -> u32
         ensures { result ≡ self.now.site }
     {
-        self.site
+        self.store.site()
     }
 
     /// Its settings.
     pub fn settings(&self) -> &QueueSettings
         ensures { result.now ≡ self.now.settings }
     {
-        &self.settings
+        self.store.settings()
     }
 
     /// Its messages, in the order of their arrival.
     pub fn view(&self) -> &[Message]
         ensures { result.now ≡ self.now.records }
     {
-        self.messages.as_slice()
-    }
-
-    // The message that would come next, delayed for so many milliseconds.
-    fn next_message(&self, now: u64, body: Text, group: Option<Text>, delay: u64) -> Message
-        requires { now + delay < 2 ^ 64 }
-        ensures { result ≡ new_message self.now now body group delay }
-    {
-        Message {
-            number: self.arrivals,
-            origin: Origin {
-                site: self.site,
-                number: self.arrivals,
-            },
-            body,
-            group,
-            enqueued: now,
-            place: if delay == 0 {
-                Place::Visible
-            } else {
-                Place::Delayed
-            },
-            release: if delay == 0 { None } else { Some(now + delay) },
-            receives: 0,
-            received: 0,
-            source: None,
-        }
-    }
-
-    // One more message, with the next number.
-    fn add(&mut self, message: Message) -> Result<(), Refusal>
-        requires numbered { message.number ≡ self.old.arrivals }
-        requires counted { IsCounted message }
-        requires below { self.old.arrivals < most_count }
-        ensures added { OnOk result (self.new ≡ with_message self.old message) }
-        ensures unchanged { OnErr result (self.new ≡ self.old) }
-        ensures memory_only { IsOkUnless result Refusal.Memory }
-    {
-        self.messages.push(message)?;
-        self.arrivals += 1;
-        Ok(())
+        self.store.view()
     }
 
     /// `SendMessage`: a message of this body, delayed by so many seconds or else as the queue says.
@@ -193,7 +103,7 @@ impl StandardQueue {
         ensures framed { IsFramed self.old self.new }
     {
         let wait = match delay {
-            None => self.settings.delay,
+            None => self.store.settings().delay,
             Some(seconds) => {
                 if seconds > 900 {
                     return Err(Refusal::BadDelay);
@@ -201,14 +111,14 @@ impl StandardQueue {
                 1000 * seconds
             }
         };
-        let number = self.arrivals;
+        let number = self.store.arrivals();
         if number == MOST_COUNT {
             return Err(Refusal::CountLimit);
         }
-        let message = self.next_message(now, body, None, wait);
-        self.add(message)?;
+        let message = self.store.next_message(now, body, None, wait);
+        self.store.add(message)?;
         Ok(Sent::New(MessageId {
-            site: self.site,
+            site: self.store.site(),
             number,
         }))
     }
@@ -219,17 +129,16 @@ impl StandardQueue {
         ensures answer { delete_standard self.old now receipt.now ≡ (result, self.new) }
         ensures framed { IsFramed self.old self.new }
     {
-        if receipt.site != self.site {
+        if receipt.site != self.store.site() {
             return Err(Refusal::ReceiptHandleIsInvalid);
         }
-        let Some(place) = place_of_number(&self.messages, receipt.number) else {
-            return if receipt.number < self.arrivals {
+        let Some(message) = self.store.find(receipt.number) else {
+            return if receipt.number < self.store.arrivals() {
                 Ok(Deleted::Gone)
             } else {
                 Err(Refusal::ReceiptHandleIsInvalid)
             };
         };
-        let message = &self.messages[place];
         if message.receives < receipt.count {
             return Err(Refusal::ReceiptHandleIsInvalid);
         }
@@ -237,7 +146,7 @@ impl StandardQueue {
             return Ok(Deleted::Kept);
         }
         let age = now.saturating_sub(message.enqueued);
-        let _ = take_out(&mut self.messages, place, receipt.number);
+        let _ = self.store.remove(receipt.number);
         Ok(Deleted::Removed(age))
     }
 
@@ -247,22 +156,7 @@ impl StandardQueue {
         ensures answer { returned (released self.old number) ≡ (result, self.new) }
         ensures framed { IsFramed self.old self.new }
     {
-        Ok(self.come_back(number))
-    }
-
-    // A message is visible again, or leaves.
-    fn come_back(&mut self, number: u64) -> Option<Load>
-        ensures answer { released self.old number ≡ (self.new, result) }
-        ensures framed { IsFramed self.old self.new }
-    {
-        let place = place_of_number(&self.messages, number)?;
-        if is_spent(&self.settings, &self.messages[place]) {
-            let message = take_out(&mut self.messages, place, number);
-            Some(redrive(self.site, message))
-        } else {
-            make_visible(&mut self.messages, place, number);
-            None
-        }
+        self.store.release(number)
     }
 
     /// The end of the retention period of a message, which leaves. Answers its age, 0 where it is
@@ -271,11 +165,7 @@ impl StandardQueue {
         ensures answer { expired self.old now number ≡ (result, self.new) }
         ensures framed { IsFramed self.old self.new }
     {
-        let Some(place) = place_of_number(&self.messages, number) else {
-            return 0;
-        };
-        let message = take_out(&mut self.messages, place, number);
-        now.saturating_sub(message.enqueued)
+        self.store.expire(now, number)
     }
 
     /// `ChangeMessageVisibility`: a message in flight is so until `now` and so many seconds; by 0
@@ -293,51 +183,14 @@ impl StandardQueue {
         ensures answer { change self.old now receipt.now timeout ≡ (result, self.new) }
         ensures framed { IsFramed self.old self.new }
     {
-        if timeout > 43200 {
-            return Err(Refusal::BadTimeout);
-        }
-        if receipt.site != self.site {
-            return Err(Refusal::ReceiptHandleIsInvalid);
-        }
-        let Some(place) = place_of_number(&self.messages, receipt.number) else {
-            return if receipt.number < self.arrivals {
-                Err(Refusal::MessageNotInflight)
-            } else {
-                Err(Refusal::ReceiptHandleIsInvalid)
-            };
-        };
-        let message = &self.messages[place];
-        if message.receives < receipt.count {
-            return Err(Refusal::ReceiptHandleIsInvalid);
-        }
-        if !is_out(message) || receipt.count < message.receives {
-            return Err(Refusal::MessageNotInflight);
-        }
-        let until = now + 1000 * timeout;
-        if message.received + 43200000 < until {
-            return Err(Refusal::BadTimeout);
-        }
-        if timeout == 0 {
-            return self.release(receipt.number);
-        }
-        keep_out(&mut self.messages, place, receipt.number, until);
-        Ok(None)
+        self.store.change(now, receipt, timeout)
     }
 
     /// The key of what is due next: the least expiry or end of a delay or visibility timeout.
     pub fn least_due(&self) -> Option<Key>
         ensures { result ≡ least (queue_dues self.now) }
     {
-        let mut best = None;
-        for i in (0..self.messages.len()).rev() {
-            let message = &self.messages[i];
-            best = lesser(release_key(self.site, message), best);
-            best = lesser(
-                Some(expiry_of(self.site, self.settings.retention, message)),
-                best,
-            );
-        }
-        best
+        self.store.least_due()
     }
 
     /// How many messages are where.
@@ -346,10 +199,18 @@ impl StandardQueue {
         ensures in_flight { result.in_flight ≡ count_by is_in_flight self.now.records }
         ensures delayed { result.delayed ≡ count_by is_delayed self.now.records }
     {
-        Counts {
-            visible: count_visible(&self.messages),
-            in_flight: count_in_flight(&self.messages),
-            delayed: count_delayed(&self.messages),
-        }
+        self.store.counts()
+    }
+
+    // The places of at most so many of the messages that may be received which lie on these hosts,
+    // in order.
+    fn first_places(&self, set: u32, most: u64) -> Result<Vec<usize>, Refusal>
+        ensures chosen { IfOk result (λ places. at_places self.now.records places.items ≡ take most (available self.now set)) }
+        ensures within { IfOk result (λ places. AreWithin self.now.records places.items) }
+        ensures apart { IfOk result (λ places. Differ (λ m. m.number) (at_places self.now.records places.items)) }
+        ensures memory_only { IsOkUnless result Refusal.Memory }
+    {
+        let count = host_count(&self.store.settings().kind);
+        seen_places(self.alloc, self.store.view(), count, set, most)
     }
 }

@@ -1,15 +1,15 @@
 //! The arrival of transfers.
 ghost use Rattle.std.specs.Prelude.{◌≡◌, ◌-◌, false, true, ◌+◌, ◌<◌, ◌≤◌, IfOk, IsOkUnless, OnOk, OnErr};
 ghost use Rattle.sqs_model.specs.Answers.{Meets, most_count};
-ghost use Rattle.sqs_model.specs.Arrive.{arrived, brought, settle};
-ghost use Rattle.sqs_model.specs.Queue.{IsFramed, numbered};
-ghost use Rattle.sqs_standard.specs.Standard.{IsCounted, WasEnqueuedBy, never_refused};
-ghost use Rattle.sqs_message.specs.declared.message.Message.{Message};
+ghost use Rattle.sqs_model.specs.Arrive.{arrived};
+ghost use Rattle.sqs_model.specs.Queue.{IsFramed};
+ghost use Rattle.sqs_store.specs.Calls.{never_refused};
+ghost use Rattle.sqs_standard.specs.Standard.{WasEnqueuedBy};
 
-use super::{MOST_COUNT, StandardQueue};
+use super::StandardQueue;
 use sim_clock::Refusal;
-use sqs_message::{Message, MessageId, Origin, Place, Text};
 use sqs_redrive::{Load, Sent};
+use sqs_store::MOST_COUNT;
 
 impl StandardQueue {
     /// A transfer arrives: a message of a move task or of another queue's redrive is visible at
@@ -25,7 +25,7 @@ impl StandardQueue {
         ensures unchanged { OnErr result (self.new ≡ self.old) }
         ensures framed { IsFramed self.old self.new }
     {
-        if self.arrivals == MOST_COUNT {
+        if self.store.arrivals() == MOST_COUNT {
             return Err(Refusal::CountLimit);
         }
         match load {
@@ -36,8 +36,10 @@ impl StandardQueue {
                 group,
                 enqueued,
             } => {
-                let message = self.brought(now, origin, body, group, enqueued, Some(id.site));
-                self.settle(now, message)
+                let message = self
+                    .store
+                    .brought(now, origin, body, group, enqueued, Some(id.site));
+                self.store.settle(now, message)
             }
             Load::Move {
                 id: _,
@@ -45,8 +47,8 @@ impl StandardQueue {
                 body,
                 group,
             } => {
-                let message = self.brought(now, origin, body, group, now, None);
-                self.settle(now, message)
+                let message = self.store.brought(now, origin, body, group, now, None);
+                self.store.settle(now, message)
             }
             Load::Forward {
                 id: _,
@@ -57,54 +59,5 @@ impl StandardQueue {
                 Ok((sent, false))
             }
         }
-    }
-
-    // A message that comes in with the origin that it had.
-    fn brought(
-        &self,
-        now: u64,
-        origin: Origin,
-        body: Text,
-        group: Option<Text>,
-        enqueued: u64,
-        source: Option<u32>,
-    ) -> Message
-        requires { now ≤ most_count }
-        ensures { result ≡ brought self.now now origin body group enqueued source }
-    {
-        Message {
-            number: self.arrivals,
-            origin,
-            body,
-            group,
-            enqueued,
-            place: Place::Visible,
-            release: None,
-            receives: 0,
-            received: 0,
-            source,
-        }
-    }
-
-    // A message that comes in stays, or expires at once.
-    fn settle(&mut self, now: u64, message: Message) -> Result<(Sent, bool), Refusal>
-        requires numbered { message.number ≡ self.old.arrivals }
-        requires counted { IsCounted message }
-        requires below { self.old.arrivals < most_count }
-        ensures answer { IfOk result (λ sent. settle self.old now message ≡ (sent, self.new)) }
-        ensures unchanged { OnErr result (self.new ≡ self.old) }
-        ensures memory_only { IsOkUnless result Refusal.Memory }
-        ensures framed { IsFramed self.old self.new }
-    {
-        let sent = Sent::New(MessageId {
-            site: self.site,
-            number: self.arrivals,
-        });
-        if self.settings.retention <= now.saturating_sub(message.enqueued) {
-            self.arrivals += 1;
-            return Ok((sent, true));
-        }
-        self.add(message)?;
-        Ok((sent, false))
     }
 }

@@ -4,10 +4,9 @@ ghost use Rattle.sqs_model.specs.Queue.{IsFramed};
 ghost use Rattle.sqs_model.specs.Task.{take_movable};
 
 use super::{StandardQueue, host_count};
-use crate::parting::{any_seen, part};
+use crate::hosts::any_seen;
 use sim_clock::Refusal;
 use sqs_redrive::{Load, Rest};
-use std::mem;
 
 impl StandardQueue {
     /// A step of a move task (`StartMessageMoveTask`) takes at most so many of the visible messages
@@ -24,21 +23,17 @@ impl StandardQueue {
         ensures memory_only { IsOkUnless result Refusal.Memory }
         ensures framed { IsFramed self.old self.new }
     {
-        let count = host_count(&self.settings.kind);
+        let count = host_count(&self.store.settings().kind);
         let set = (1u32 << count) - 1;
-        let kept = Vec::with_capacity(self.alloc, self.messages.len())?;
-        let most = max.min(self.messages.len() as u64);
-        let loads = Vec::with_capacity(self.alloc, most as usize)?;
-        let messages = mem::replace(&mut self.messages, Vec::new(self.alloc));
-        let parted = part(self.site, messages, kept, loads, count, set, max, to);
-        self.messages = parted.kept;
-        let rest = if parted.stuck {
+        let places = self.first_places(set, max)?;
+        let (loads, stuck) = self.store.take_at(&places, to)?;
+        let rest = if stuck {
             Rest::NoSource
-        } else if any_seen(&self.messages, count, set) {
+        } else if any_seen(self.store.view(), count, set) {
             Rest::More
         } else {
             Rest::Empty
         };
-        Ok((parted.loads, rest))
+        Ok((loads, rest))
     }
 }

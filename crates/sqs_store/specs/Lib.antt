@@ -1,0 +1,4 @@
+pub mod Stored
+pub mod Chosen
+pub mod Giving
+pub mod Calls

@@ -1,0 +1,72 @@
+//! What a receive tells of the messages that it gives.
+ghost use Rattle.std.specs.Prelude.{◌≡◌, ◌⊎◌, ◌+◌, ◌<◌, ◌≤◌, All, Any, Err, IfErr, IfOk, IsOkUnless, OnOk, map};
+ghost use Rattle.sqs_model.specs.Answers.{most_count};
+ghost use Rattle.sqs_store.specs.Chosen.{AreWithin, at_places};
+ghost use Rattle.sqs_store.specs.Giving.{told_of};
+
+use crate::store::MOST_COUNT;
+use sim_clock::Refusal;
+use sqs_message::{Message, MessageId, Receipt, Text};
+use sqs_redrive::Got;
+use std::alloc::{AllocError, Global};
+
+// Another group of the same name.
+pub fn copied_group(alloc: Global, group: &Option<Text>) -> Result<Option<Text>, AllocError>
+    ensures { IfOk result (λ copy. copy ≡ group.now) }
+{
+    match group {
+        None => Ok(None),
+        Some(group) => Ok(Some(group.copy(alloc)?)),
+    }
+}
+
+// What a receive tells of a message, before it gives it.
+fn told_of(alloc: Global, site: u32, message: &Message) -> Result<Got, Refusal>
+    requires { message.now.receives < most_count }
+    ensures told { IfOk result (λ got. got ≡ told_of site message.now) }
+    ensures memory_only { IsOkUnless result Refusal.Memory }
+{
+    let group = copied_group(alloc, &message.group)?;
+    let body = message.body.copy(alloc)?;
+    Ok(Got {
+        id: MessageId {
+            site,
+            number: message.number,
+        },
+        receipt: Receipt {
+            site,
+            number: message.number,
+            count: message.receives + 1,
+        },
+        origin: message.origin,
+        group,
+        body,
+        left: None,
+    })
+}
+
+// What a receive tells of the messages at these places. `CountLimit` where one of them can be
+// received no more.
+pub fn batch_of(
+    alloc: Global,
+    site: u32,
+    messages: &[Message],
+    places: &[usize],
+) -> Result<Vec<Got>, Refusal>
+    requires within { AreWithin messages.now places.now }
+    requires counted { All (λ m. m.receives ≤ most_count) messages.now }
+    ensures told { IfOk result (λ batch. batch.items ≡ map (told_of site) (at_places messages.now places.now)) }
+    ensures below { OnOk result (All (λ m. m.receives < most_count) (at_places messages.now places.now)) }
+    ensures at_limit { result ≡ Err Refusal.CountLimit → Any (λ m. m.receives ≡ most_count) (at_places messages.now places.now) }
+    ensures refused { IfErr result (λ refusal. (refusal ≡ Refusal.CountLimit) ⊎ (refusal ≡ Refusal.Memory)) }
+{
+    let mut batch = Vec::new(alloc);
+    for place in places {
+        let message = &messages[*place];
+        if message.receives == MOST_COUNT {
+            return Err(Refusal::CountLimit);
+        }
+        batch.push(told_of(alloc, site, message)?)?;
+    }
+    Ok(batch)
+}

@@ -1,0 +1,14 @@
+//! What a standard queue and a FIFO queue share: a queue's messages, its deduplication entries, and
+//! the calls of Amazon SQS that treat both kinds alike.
+#![tactic(auto)]
+
+mod batch;
+mod dues;
+mod parting;
+mod places;
+mod store;
+#[cfg(test)]
+mod tests;
+
+pub use places::{is_out, may_be_received};
+pub use store::{Counts, MOST_COUNT, Store};

@@ -1,0 +1,354 @@
+//! The queue and its calls.
+ghost use Rattle.std.specs.Prelude.{◌≡◌, ◌-◌, false, ◌+◌, ◌<◌, ◌≤◌, ◌^◌, [], All, None, count_by, IsOkUnless, OnOk, OnErr};
+ghost use Rattle.std.specs.Option.{option_copied, option_map};
+ghost use Rattle.sim_clock.specs.Order.{least};
+ghost use Rattle.sqs_model.specs.Answers.{most_count};
+ghost use Rattle.sqs_model.specs.Arrive.{expired};
+ghost use Rattle.sqs_model.specs.Calls.{change, new_message, returned, with_entry, with_message};
+ghost use Rattle.sqs_model.specs.Dues.{queue_dues};
+ghost use Rattle.sqs_model.specs.Queue.{IsFramed, in_flight, is_delayed, is_in_flight, is_visible, numbered, room, taken_out};
+ghost use Rattle.sqs_model.specs.Return.{leaves, released};
+ghost use Rattle.sqs_model.specs.Valid.{IsQueueSettings};
+ghost use Rattle.sqs_dedup.specs.Window.{living_among};
+ghost use Rattle.sqs_store.specs.Stored.{IsCounted, IsStored};
+ghost use Rattle.sqs_message.specs.declared.message.Message.{Message};
+
+use crate::dues::{expiry_of, release_key};
+use crate::parting::put;
+use crate::places::{
+    count_delayed, count_in_flight, count_visible, is_out, keep_out, make_visible, place_of_number,
+    take_out,
+};
+use sim_clock::{Key, Refusal, lesser};
+use sqs_dedup::Dedup;
+use sqs_message::{Message, MessageId, Origin, Place, Receipt, Text};
+use sqs_redrive::{Load, QueueSettings, Returned, on_return};
+use std::alloc::Global;
+use std::marker::Model;
+
+mod arrive;
+mod give;
+mod take;
+
+/// The greatest value of a count or a moment.
+pub const MOST_COUNT: u64 = 4611686018427387903;
+
+/// How many messages of a queue are where.
+#[derive(Clone, Copy, Debug, PartialEq, Eq)]
+pub struct Counts {
+    /// May be received (`ApproximateNumberOfMessages`).
+    pub visible: u64,
+    /// Received and not yet back (`ApproximateNumberOfMessagesNotVisible`).
+    pub in_flight: u64,
+    /// Not yet visible for the first time (`ApproximateNumberOfMessagesDelayed`).
+    pub delayed: u64,
+}
+
+// Whether a message has been received as often as the policy allows.
+fn is_spent(settings: &QueueSettings, message: &Message) -> bool
+    ensures { result ≡ leaves settings.now.policy message.now }
+{
+    match settings.policy {
+        None => false,
+        Some(policy) => on_return(&policy, message) == Returned::Leaves,
+    }
+}
+
+// What goes to the dead-letter queue of a message of this queue.
+fn redrive(site: u32, message: Message) -> Load
+    ensures { result ≡ Load.Redrive (record { site = site; number = message.number }) message.origin message.body message.group message.enqueued }
+{
+    Load::Redrive {
+        id: MessageId {
+            site,
+            number: message.number,
+        },
+        origin: message.origin,
+        body: message.body,
+        group: message.group,
+        enqueued: message.enqueued,
+    }
+}
+
+/// A queue's number and settings, its messages in the order of their arrival, its deduplication
+/// entries (none at a standard queue), and how many messages ever came. Contracts see it as the
+/// definitions' `Queue`, of either kind. Times are milliseconds.
+#[derive(Drop)]
+pub struct Store {
+    site: u32,
+    settings: QueueSettings,
+    messages: Vec<Message>,
+    entries: Dedup,
+    arrivals: u64,
+    alloc: Global,
+}
+
+impl Model for Store {
+    ghost use Rattle.sqs_model.specs.Queue.{Queue};
+    ghost use Rattle.sqs_store.specs.Stored.{IsState};
+
+    ghost Value = { Queue };
+
+    ghost view = { λ q. record { site = q.site; settings = q.settings; records = q.messages.items; entries = q.entries; arrivals = q.arrivals } };
+
+    ghost invariant = { λ q. IsState q.settings q.messages.items q.arrivals };
+}
+
+impl Store {
+    /// An empty queue with this number.
+    pub fn new(alloc: Global, site: u32, settings: QueueSettings) -> Store
+        requires { IsQueueSettings settings }
+        ensures { result ≡ record { site = site; settings = settings; records = []; entries = []; arrivals = 0 } }
+    {
+        Store {
+            site,
+            settings,
+            messages: Vec::new(alloc),
+            entries: Dedup::new(alloc),
+            arrivals: 0,
+            alloc,
+        }
+    }
+
+    /// Its number.
+    pub fn site(&self) -> u32
+        ensures { result ≡ self.now.site }
+    {
+        self.site
+    }
+
+    /// Its settings.
+    pub fn settings(&self) -> &QueueSettings
+        ensures { result.now ≡ self.now.settings }
+    {
+        &self.settings
+    }
+
+    /// Its messages, in the order of their arrival.
+    pub fn view(&self) -> &[Message]
+        ensures view { result.now ≡ self.now.records }
+        ensures stored { IsStored self.now.records self.now.arrivals }
+    {
+        self.messages.as_slice()
+    }
+
+    /// How many messages ever came, which is the number of the next one.
+    pub fn arrivals(&self) -> u64
+        ensures arrivals { result ≡ self.now.arrivals }
+        ensures bound { result ≤ most_count }
+    {
+        self.arrivals
+    }
+
+    /// The message of a number.
+    pub fn find(&self, number: u64) -> Option<&Message>
+        ensures { option_copied result ≡ numbered number self.now.records }
+    {
+        let place = place_of_number(&self.messages, number)?;
+        Some(&self.messages[place])
+    }
+
+    /// How many more messages may be in flight.
+    pub fn room(&self) -> u64
+        ensures { result ≡ room self.now }
+    {
+        self.settings
+            .in_flight_limit
+            .saturating_sub(count_in_flight(&self.messages))
+    }
+
+    /// The number of the message whose deduplication entry has this scope and id and lives at
+    /// `now`. Takes no memory.
+    pub fn living(&self, now: u64, scope: Option<&Text>, id: &Text) -> Option<u64>
+        ensures { result ≡ option_map (λ e. e.number) (living_among now (option_copied scope.entry) id.now self.now.entries) }
+    {
+        self.entries.living(now, scope, id)
+    }
+
+    /// The message that would come next, delayed for so many milliseconds.
+    pub fn next_message(&self, now: u64, body: Text, group: Option<Text>, delay: u64) -> Message
+        requires { now + delay < 2 ^ 64 }
+        ensures { result ≡ new_message self.now now body group delay }
+    {
+        Message {
+            number: self.arrivals,
+            origin: Origin {
+                site: self.site,
+                number: self.arrivals,
+            },
+            body,
+            group,
+            enqueued: now,
+            place: if delay == 0 {
+                Place::Visible
+            } else {
+                Place::Delayed
+            },
+            release: if delay == 0 { None } else { Some(now + delay) },
+            receives: 0,
+            received: 0,
+            source: None,
+        }
+    }
+
+    /// One more message, with the next number. The one error is `Memory`.
+    pub fn add(&mut self, message: Message) -> Result<(), Refusal>
+        requires numbered { message.number ≡ self.old.arrivals }
+        requires counted { IsCounted message }
+        requires below { self.old.arrivals < most_count }
+        ensures added { OnOk result (self.new ≡ with_message self.old message) }
+        ensures unchanged { OnErr result (self.new ≡ self.old) }
+        ensures memory_only { IsOkUnless result Refusal.Memory }
+    {
+        self.messages.push(message)?;
+        self.arrivals += 1;
+        Ok(())
+    }
+
+    /// One more message, with the next number, and its deduplication entry, which lives for 5
+    /// minutes. The one error is `Memory`.
+    pub fn add_once(
+        &mut self,
+        now: u64,
+        scope: Option<Text>,
+        id: Text,
+        message: Message,
+    ) -> Result<(), Refusal>
+        requires moment { now ≤ most_count }
+        requires numbered { message.number ≡ self.old.arrivals }
+        requires counted { IsCounted message }
+        requires below { self.old.arrivals < most_count }
+        requires no_earlier { All (λ e. e.end ≤ now + 300000) self.old.entries }
+        requires none_living { living_among now scope id self.old.entries ≡ None }
+        ensures added { OnOk result (self.new ≡ with_message (with_entry self.old now scope id) message) }
+        ensures unchanged { OnErr result (self.new ≡ self.old) }
+        ensures memory_only { IsOkUnless result Refusal.Memory }
+    {
+        self.messages.reserve(1)?;
+        self.entries.enter(now, scope, id, self.arrivals)?;
+        put(&mut self.messages, message);
+        self.arrivals += 1;
+        Ok(())
+    }
+
+    /// Takes out the message of a number.
+    pub fn remove(&mut self, number: u64) -> Option<Message>
+        ensures found { result ≡ numbered number self.old.records }
+        ensures rest { self.new ≡ taken_out self.old number }
+    {
+        let place = place_of_number(&self.messages, number)?;
+        Some(take_out(&mut self.messages, place, number))
+    }
+
+    /// The end of the delay or visibility timeout of a message: it is visible again, or leaves for
+    /// the dead-letter queue, which gives its load. No error comes.
+    pub fn release(&mut self, number: u64) -> Result<Option<Load>, Refusal>
+        ensures answer { returned (released self.old number) ≡ (result, self.new) }
+        ensures framed { IsFramed self.old self.new }
+    {
+        Ok(self.come_back(number))
+    }
+
+    // A message is visible again, or leaves.
+    fn come_back(&mut self, number: u64) -> Option<Load>
+        ensures answer { released self.old number ≡ (self.new, result) }
+        ensures framed { IsFramed self.old self.new }
+    {
+        let place = place_of_number(&self.messages, number)?;
+        if is_spent(&self.settings, &self.messages[place]) {
+            let message = take_out(&mut self.messages, place, number);
+            Some(redrive(self.site, message))
+        } else {
+            make_visible(&mut self.messages, place, number);
+            None
+        }
+    }
+
+    /// The end of the retention period of a message, which leaves. Answers its age, 0 where it is
+    /// not there.
+    pub fn expire(&mut self, now: u64, number: u64) -> u64
+        ensures answer { expired self.old now number ≡ (result, self.new) }
+        ensures framed { IsFramed self.old self.new }
+    {
+        let Some(place) = place_of_number(&self.messages, number) else {
+            return 0;
+        };
+        let message = take_out(&mut self.messages, place, number);
+        now.saturating_sub(message.enqueued)
+    }
+
+    /// `ChangeMessageVisibility`: a message in flight is so until `now` and so many seconds; by 0
+    /// seconds it is visible again, or leaves for the dead-letter queue, which gives its load.
+    /// `BadTimeout` over 43,200 seconds, or past 12 hours from the receive;
+    /// `ReceiptHandleIsInvalid` where the receipt is none of this queue's; `MessageNotInflight`
+    /// where the message is not in flight by this receipt.
+    pub fn change(
+        &mut self,
+        now: u64,
+        receipt: &Receipt,
+        timeout: u64,
+    ) -> Result<Option<Load>, Refusal>
+        requires { now ≤ most_count }
+        ensures answer { change self.old now receipt.now timeout ≡ (result, self.new) }
+        ensures framed { IsFramed self.old self.new }
+    {
+        if timeout > 43200 {
+            return Err(Refusal::BadTimeout);
+        }
+        if receipt.site != self.site {
+            return Err(Refusal::ReceiptHandleIsInvalid);
+        }
+        let Some(place) = place_of_number(&self.messages, receipt.number) else {
+            return if receipt.number < self.arrivals {
+                Err(Refusal::MessageNotInflight)
+            } else {
+                Err(Refusal::ReceiptHandleIsInvalid)
+            };
+        };
+        let message = &self.messages[place];
+        if message.receives < receipt.count {
+            return Err(Refusal::ReceiptHandleIsInvalid);
+        }
+        if !is_out(message) || receipt.count < message.receives {
+            return Err(Refusal::MessageNotInflight);
+        }
+        let until = now + 1000 * timeout;
+        if message.received + 43200000 < until {
+            return Err(Refusal::BadTimeout);
+        }
+        if timeout == 0 {
+            return self.release(receipt.number);
+        }
+        keep_out(&mut self.messages, place, receipt.number, until);
+        Ok(None)
+    }
+
+    /// The key of what is due next: the least expiry or end of a delay or visibility timeout.
+    pub fn least_due(&self) -> Option<Key>
+        ensures { result ≡ least (queue_dues self.now) }
+    {
+        let mut best = None;
+        for i in (0..self.messages.len()).rev() {
+            let message = &self.messages[i];
+            best = lesser(release_key(self.site, message), best);
+            best = lesser(
+                Some(expiry_of(self.site, self.settings.retention, message)),
+                best,
+            );
+        }
+        best
+    }
+
+    /// How many messages are where.
+    pub fn counts(&self) -> Counts
+        ensures visible { result.visible ≡ count_by is_visible self.now.records }
+        ensures in_flight { result.in_flight ≡ count_by is_in_flight self.now.records }
+        ensures delayed { result.delayed ≡ count_by is_delayed self.now.records }
+    {
+        Counts {
+            visible: count_visible(&self.messages),
+            in_flight: count_in_flight(&self.messages),
+            delayed: count_delayed(&self.messages),
+        }
+    }
+}

@@ -1,0 +1,100 @@
+//! The giving of messages to a receiver.
+ghost use Rattle.std.specs.Prelude.{◌≡◌, ◌-◌, false, true, ◌<◌, ◌≤◌, ◌⊎◌, All, Any, Err, IfErr, IfOk, IfSome, OnErr, OnOk, map};
+ghost use Rattle.std.specs.Result.{result_map_both};
+ghost use Rattle.sqs_model.specs.Answers.{Meets, most_count};
+ghost use Rattle.sqs_model.specs.Queue.{IsFramed, numbered};
+ghost use Rattle.sqs_model.specs.Receive.{answered, give, is_bad_timeout, timeout_of};
+ghost use Rattle.sqs_store.specs.Chosen.{AreWithin, Differ, at_places};
+ghost use Rattle.sqs_store.specs.Giving.{CanBeGiven, gives, gives_all, told_of};
+
+use super::Store;
+use crate::batch::batch_of;
+use crate::places::{place_of_number, receive_at};
+use sim_clock::Refusal;
+use sqs_redrive::{Got, Load};
+
+impl Store {
+    /// A receive's visibility timeout in milliseconds: its own, given in seconds, or else the
+    /// queue's. `BadTimeout` over 43,200 seconds.
+    pub fn wait_of(&self, timeout: Option<u64>) -> Result<u64, Refusal>
+        ensures wait { IfOk result (λ wait. (is_bad_timeout timeout ≡ false) × (timeout_of self.now timeout ≡ wait) × (wait ≤ 43200000)) }
+        ensures bad { IfErr result (λ refusal. (is_bad_timeout timeout ≡ true) × (refusal ≡ Refusal.BadTimeout)) }
+    {
+        match timeout {
+            None => Ok(self.settings.visibility),
+            Some(seconds) => {
+                if seconds > 43200 {
+                    Err(Refusal::BadTimeout)
+                } else {
+                    Ok(1000 * seconds)
+                }
+            }
+        }
+    }
+
+    /// Gives the messages at these places, one after another, each for so many milliseconds; with 0
+    /// it comes back at once (`ReceiveMessage`). `CountLimit` where one of them can be received no
+    /// more; `Memory`.
+    pub fn give_at(&mut self, now: u64, timeout: u64, places: &[usize]) -> Result<Vec<Got>, Refusal>
+        requires moment { now ≤ most_count }
+        requires timeout { timeout ≤ 43200000 }
+        requires within { AreWithin self.old.records places.now }
+        requires apart { Differ (λ m. m.number) (at_places self.old.records places.now) }
+        ensures answer { Meets (Any (λ m. m.receives ≡ most_count) (at_places self.old.records places.now)) (result_map_both (λ batch. batch.items) (λ refusal. refusal) result) self.new (answered (give now timeout (at_places self.old.records places.now) self.old)) }
+        ensures counted { OnOk result (All (λ m. m.receives < most_count) (at_places self.old.records places.now)) }
+        ensures unchanged { OnErr result (self.new ≡ self.old) }
+        ensures framed { IsFramed self.old self.new }
+    {
+        let mut batch = self.batch(places)?;
+        self.give_all(now, timeout, &mut batch);
+        Ok(batch)
+    }
+
+    // What a receive tells of the messages at these places, before it gives them.
+    fn batch(&self, places: &[usize]) -> Result<Vec<Got>, Refusal>
+        requires within { AreWithin self.now.records places.now }
+        requires apart { Differ (λ m. m.number) (at_places self.now.records places.now) }
+        ensures told { IfOk result (λ batch. batch.items ≡ map (told_of self.now.site) (at_places self.now.records places.now)) }
+        ensures given { IfOk result (λ batch. CanBeGiven self.now batch.items) }
+        ensures below { OnOk result (All (λ m. m.receives < most_count) (at_places self.now.records places.now)) }
+        ensures at_limit { result ≡ Err Refusal.CountLimit → Any (λ m. m.receives ≡ most_count) (at_places self.now.records places.now) }
+        ensures refused { IfErr result (λ refusal. (refusal ≡ Refusal.CountLimit) ⊎ (refusal ≡ Refusal.Memory)) }
+    {
+        batch_of(self.alloc, self.site, &self.messages, places)
+    }
+
+    // Gives the messages of a batch, one after another.
+    fn give_all(&mut self, now: u64, timeout: u64, batch: &mut Vec<Got>)
+        requires moment { now ≤ most_count }
+        requires timeout { timeout ≤ 43200000 }
+        requires given { CanBeGiven self.old batch.old.items }
+        ensures given { gives_all now timeout batch.old.items self.old ≡ (self.new, batch.new.items) }
+        ensures framed { IsFramed self.old self.new }
+    {
+        for i in 0..batch.len() {
+            let left = self.give(now, timeout, batch[i].id.number);
+            batch[i].left = left;
+        }
+    }
+
+    // Gives one message.
+    fn give(&mut self, now: u64, timeout: u64, number: u64) -> Option<Load>
+        requires moment { now ≤ most_count }
+        requires timeout { timeout ≤ 43200000 }
+        requires counted { IfSome (numbered number self.old.records) (λ m. m.receives < most_count) }
+        ensures given { gives self.old now timeout number ≡ (self.new, result) }
+        ensures framed { IsFramed self.old self.new }
+    {
+        match place_of_number(&self.messages, number) {
+            None => None,
+            Some(place) => {
+                receive_at(&mut self.messages, place, number, now, timeout);
+                if timeout == 0 {
+                    self.come_back(number)
+                } else {
+                    None
+                }
+            }
+        }
+    }
+}
