@@ -70,9 +70,6 @@ pub enum Refusal {
     /// A script that is missing or has a bad call.
     #[error("BadScript")]
     BadScript,
-    /// The scenario uses what this version does not carry out yet.
-    #[error("NotYet")]
-    NotYet,
     /// The window is longer than the least latency; both are milliseconds.
     #[error("WindowTooLong {window} {least}")]
     WindowTooLong { window: u64, least: u64 },
@@ -122,7 +119,6 @@ impl Refusal {
             Refusal::KindMismatch => 18,
             Refusal::TooMany => 19,
             Refusal::BadScript => 20,
-            Refusal::NotYet => 21,
             Refusal::WindowTooLong { .. } => 30,
             Refusal::BadMap => 31,
             Refusal::BadWorkers => 32,
@@ -158,7 +154,6 @@ impl Refusal {
             Refusal::KindMismatch => "KindMismatch",
             Refusal::TooMany => "TooMany",
             Refusal::BadScript => "BadScript",
-            Refusal::NotYet => "NotYet",
             Refusal::WindowTooLong { .. } => "WindowTooLong",
             Refusal::BadMap => "BadMap",
             Refusal::BadWorkers => "BadWorkers",

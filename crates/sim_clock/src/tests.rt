@@ -74,7 +74,6 @@ fn refusals_have_numbers_and_names(rt: HostRuntime) -> Result<(), Fail> {
         (Refusal::KindMismatch, 18, "KindMismatch"),
         (Refusal::TooMany, 19, "TooMany"),
         (Refusal::BadScript, 20, "BadScript"),
-        (Refusal::NotYet, 21, "NotYet"),
         (Refusal::BadMap, 31, "BadMap"),
         (Refusal::BadWorkers, 32, "BadWorkers"),
         (Refusal::CountLimit, 33, "CountLimit"),

@@ -1,39 +1,31 @@
--- A dead letter that was enqueued later than it arrives is as new as it would be then.
+-- A dead letter that was enqueued later than it arrives at a standard queue is as new as it would be then.
 use Rattle.std.proofs.Common.{true, false, [], ◌∷◌, ◌++◌, ◌≡◌, ℕ, ◌-◌, ◌<◌, List, Option, refl, arith}
 use Rattle.sqs_message.specs.declared.ids.MessageId.{MessageId}
 use Rattle.sqs_message.specs.declared.ids.Origin.{Origin}
-use Rattle.sqs_redrive.specs.declared.settings.Kind.{Kind}
-use Rattle.sqs_redrive.specs.declared.settings.Kind.TheVariants.{Fifo, Standard}
+use Rattle.sqs_redrive.specs.declared.settings.Kind.TheVariants.{Standard}
 use Rattle.sqs_redrive.specs.declared.transfers.Load.{Load}
 use Rattle.sqs_redrive.specs.declared.transfers.Load.TheVariants as loads
 use Rattle.sqs_model.specs.Arrive.{arrived}
 use Rattle.sqs_model.specs.Queue.{Queue}
-use Rattle.sqs_standard.specs.Standard.{IsStandard}
-use Rattle.std.specs.Prelude.{OnOk, Result}
+use Rattle.std.specs.Prelude.{Bool, OnOk, Result}
 use Rattle.sim_clock.specs.declared.key.Key.{Key}
 use Rattle.sim_clock.specs.declared.refusal.Refusal.{Refusal}
 use Rattle.sqs_message.specs.declared.row.Row.{Row}
 use Rattle.sqs_message.specs.declared.row.RowAnswer.TheVariants as answers
-use Rattle.sqs_redrive.specs.declared.answers.Sent.TheVariants.{New}
+use Rattle.sqs_redrive.specs.declared.answers.Sent.TheVariants.{New, Repeat}
 use Rattle.sim_site.specs.declared.effects.Effects.{Effects}
 use Rattle.sqs_model.specs.Site.{Core, says, with_queue}
 use Rattle.sqs_model.specs.Step.{arrival_done, arrival_row, expiry_row, load_age}
 use Rattle.sim_site.specs.Effects.{Did}
 use Rattle.sim_site.proofs.Carried.{did_say, says_if, then_if}
 
-as_now_by :
-    (k : Kind) (q : Queue) (now : ℕ) (id : MessageId) (origin : Origin) (body : List ℕ) (group : Option (List ℕ)) (enqueued : ℕ) → q.settings.kind ≡ k → IsStandard k → now < enqueued
+pub arrives_as_now :
+    (q : Queue) (now : ℕ) (hosts sampled : ℕ) (id : MessageId) (origin : Origin) (body : List ℕ) (group : Option (List ℕ)) (enqueued : ℕ) → q.settings.kind ≡ Standard hosts sampled → now < enqueued
     → arrived q enqueued (loads.Redrive id origin body group enqueued) ≡ arrived q now (loads.Redrive id origin body group enqueued)
-as_now_by (Standard hosts sampled) q now id origin body group enqueued e s l =
+arrives_as_now q now hosts sampled id origin body group enqueued e l =
     let a : enqueued - enqueued ≡ 0 = omega arith in
     let b : now - enqueued ≡ 0 = omega arith in
     rw (e, a, b) refl
-as_now_by (Fifo content scope) q now id origin body group enqueued e s l = absurd s
-
-pub arrives_as_now :
-    (q : Queue) (now : ℕ) (id : MessageId) (origin : Origin) (body : List ℕ) (group : Option (List ℕ)) (enqueued : ℕ) → IsStandard q.settings.kind → now < enqueued
-    → arrived q enqueued (loads.Redrive id origin body group enqueued) ≡ arrived q now (loads.Redrive id origin body group enqueued)
-arrives_as_now q now id origin body group enqueued s l = as_now_by q.settings.kind q now id origin body group enqueued refl s l
 
 -- a message that comes in and stays
 pub new_stays :
@@ -52,3 +44,11 @@ new_expires key load c before mid after r q id x y h rows sent row more same row
     let d : Core = with_queue c q in
     let first : Did before mid d (says d (arrival_row key c load answers.New id)) = did_say before mid d d x (arrival_row key c load answers.New id) rows sent refl row in
     rw h (then_if r before mid after d d (says d (arrival_row key c load answers.New id)) (λ e. says e (expiry_row key c id (load_age load key.at))) first (says_if r mid after d d y (expiry_row key c id (load_age load key.at)) more same refl row_y))
+
+-- a repeat
+pub repeat_did :
+    (key : Key) (load : Load) (c : Core) (before after : Effects) (r : Result (Unit {0}) Refusal) (q : Queue) (id : MessageId) (expired : Bool) (x : Row) → arrived c.queue key.at load ≡ ((Repeat id, expired), q)
+    → OnOk r (after.rows.items ≡ before.rows.items ++ x ∷ []) → after.sent ≡ before.sent → x ≡ arrival_row key c load answers.Repeat id
+    → OnOk r (Did before after (with_queue c q) (arrival_done key load c (arrived c.queue key.at load)))
+repeat_did key load c before after r q id expired x h rows sent row =
+    rw h (says_if r before after (with_queue c q) (with_queue c q) x (arrival_row key c load answers.Repeat id) rows sent refl row)

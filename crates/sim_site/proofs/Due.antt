@@ -1,5 +1,5 @@
 -- A task whose step is due runs.
-use Rattle.std.specs.Prelude.{Bool, IfSome, List, None, Option, Result, Some, [], cond, false, find, flat_map, if◌then◌else◌, map, true, ℕ, ◌*◌, ◌+◌, ◌++◌, ◌==◌, ◌∷◌, ◌≡◌, ◌⊎◌}
+use Rattle.std.specs.Prelude.{Bool, IfSome, List, None, Option, Result, Some, [], cond, false, flat_map, if◌then◌else◌, map, true, ℕ, ◌*◌, ◌+◌, ◌++◌, ◌==◌, ◌∷◌, ◌≡◌, ◌⊎◌}
 use Rattle.std.specs.Ordering.{is_lt}
 use Rattle.std.proofs.Common.{ap, inl, inr, refl, subst, sym, ◌∙◌}
 use Rattle.sim_clock.specs.declared.key.Class.{Class}
@@ -8,14 +8,13 @@ use Rattle.sim_clock.specs.declared.key.Key.{Key}
 use Rattle.sim_clock.specs.Order.{key_cmp, least, lesser}
 use Rattle.sqs_message.specs.declared.message.Message.{Message}
 use Rattle.sqs_redrive.specs.declared.settings.TaskSettings.{TaskSettings}
-use Rattle.sqs_redrive.specs.declared.transfers.Outbound.{Outbound}
 use Rattle.sqs_redrive.specs.MoveTasks.{is_running}
 use Rattle.sqs_redrive.specs.Transfers.{transfer_key}
 use Rattle.sqs_model.specs.Actor.{Actor}
 use Rattle.sqs_model.specs.Acts.{runs}
 use Rattle.sqs_model.specs.Dues.{actor_dues, core_dues, dues, least_due, message_dues, poll_key, queue_dues, release_due, sample_dues, task_dues, wake_due}
 use Rattle.sqs_model.specs.Progress.{Ascends}
-use Rattle.sqs_model.specs.Site.{Core, Poll, Site, number_of, task_numbered}
+use Rattle.sqs_model.specs.Site.{Core, Site, number_of, task_numbered}
 use Rattle.sqs_model.specs.Task.{Task}
 use Rattle.sqs_model.proofs.Members.{From, In, found_by_number, in_append, in_flat, in_map}
 use Rattle.sim_site.specs.Due.{IsAmong, StepIsDue}

@@ -1,10 +1,9 @@
 -- The sets of hosts that short polls sample, by a table of all of them.
-use Rattle.std.proofs.Common.{◌≡◌, ℕ, zero, suc, ◌+◌, ◌-◌, ◌<◌, ◌≤◌, ◌^◌, ◌%◌, Bool, true, false, nat_lt, ◌&&◌, ◌||◌, ◌==◌, arith, refl, subst, sym, ap, ◌∙◌}
+use Rattle.std.proofs.Common.{◌≡◌, ℕ, zero, suc, ◌+◌, ◌<◌, ◌≤◌, ◌^◌, ◌%◌, Bool, true, false, nat_lt, ◌&&◌, ◌||◌, ◌==◌, arith, refl, subst, sym, ap, ◌∙◌}
 use Rattle.std.proofs.lemmas.Bool.{false≢true, ltb-true}
 use Rattle.std.proofs.lemmas.List.FromFn.{sum_by-map-range_with_len_more}
 use Rattle.std.proofs.lemmas.Bool.Decides.{nat_tests}
 use Rattle.sqs_model.specs.Acts.{hosts_from}
-use Rattle.sqs_model.specs.Available.{has_host}
 
 abbrev all_below : ℕ → (ℕ → Bool) → Bool
 all_below zero p = true
@@ -43,10 +42,3 @@ host_fits x l =
 
 pub hosts_more : (h s t : ℕ) → hosts_from h (s + 1) t ≡ hosts_from h s t + 2 ^ ((t + s) % h)
 hosts_more h s t = sum_by-map-range_with_len_more (λ x. x) (λ i. 2 ^ ((t + i) % h)) 0 s s (omega arith)
-
-hosts_table : all_below 17 (λ h. all_below h (λ k. has_host (2 ^ h - 1) k)) ≡ true
-hosts_table = refl
-
--- each host is one of all
-pub on_all : (h k : ℕ) → h ≤ 16 → k < h → has_host (2 ^ h - 1) k ≡ true
-on_all h k few l = at_below h (λ j. has_host (2 ^ h - 1) j) k l (at_below 17 (λ i. all_below i (λ j. has_host (2 ^ i - 1) j)) h (omega arith) hosts_table)

@@ -14,7 +14,7 @@ pub mod Receiving
 pub mod Turns
 pub mod Polling
 pub mod Arriving
-pub mod Gives
+pub mod Recent
 pub mod Openings
 pub mod Stepping
 pub mod Due

@@ -15,33 +15,29 @@ use Rattle.sim_site.specs.declared.effects.Effects.{Effects}
 use Rattle.sqs_message.specs.Ids.{read_receipt}
 use Rattle.sqs_model.specs.Actor.{Actor}
 use Rattle.sqs_model.specs.Acts.{came_back, change_answered, change_row, delete_done, delete_made, deleted_row, send_made, send_row, sends}
-use Rattle.sqs_model.specs.Calls.{change, delete_standard, send_standard}
+use Rattle.sqs_model.specs.Calls.{change, delete}
 use Rattle.sqs_model.specs.Queue.{Queue, id_of}
 use Rattle.sqs_model.specs.Site.{Core, says, with_queue}
-use Rattle.sqs_standard.specs.Standard.{IsStandard}
 use Rattle.sim_site.specs.Effects.{Did}
 use Rattle.sim_site.proofs.Carried.{says_if, then_if, did_say}
-use Rattle.sim_site.proofs.Said.{deletes_standard, sends_standard}
 
 module _ (key : Key) (a : Actor) (c : Core) (before after : Effects) where
   pub send_did :
       (r : Result (Unit {0}) Refusal) (body : List ℕ) (delay : Option ℕ) (group id : Option (List ℕ)) (answer : Result Sent Refusal) (q : Queue) (x : Row)
-      → IsStandard c.queue.settings.kind → send_standard c.queue key.at body delay ≡ (answer, q)
+      → sends c.queue.settings.kind c.queue key.at body delay group id ≡ (answer, q)
       → OnOk r (after.rows.items ≡ before.rows.items ++ x ∷ []) → after.sent ≡ before.sent → x ≡ send_row key a.number c body answer
       → OnOk r (Did before after (with_queue c q) (send_made key a c body (sends c.queue.settings.kind c.queue key.at body delay group id)).effect)
-  send_did r body delay group id answer q x s h rows sent row =
-      let m : sends c.queue.settings.kind c.queue key.at body delay group id ≡ (answer, q) = sends_standard c.queue.settings.kind c.queue key.at body delay group id s ∙ h in
-      rw m (says_if r before after (with_queue c q) (with_queue c q) x (send_row key a.number c body answer) rows sent refl row)
+  send_did r body delay group id answer q x h rows sent row =
+      rw h (says_if r before after (with_queue c q) (with_queue c q) x (send_row key a.number c body answer) rows sent refl row)
 
   pub delete_did :
       (r : Result (Unit {0}) Refusal) (text : List ℕ) (rc : Receipt) (answer : Result Deleted Refusal) (q : Queue) (x : Row)
-      → IsStandard c.queue.settings.kind → read_receipt text ≡ Some rc → delete_standard c.queue key.at rc ≡ (answer, q)
+      → read_receipt text ≡ Some rc → delete c.queue key.at rc ≡ (answer, q)
       → OnOk r (after.rows.items ≡ before.rows.items ++ x ∷ []) → after.sent ≡ before.sent → x ≡ deleted_row key a c text rc answer
       → OnOk r (Did before after (with_queue c q) (delete_made key a c text (read_receipt text)).effect)
-  delete_did r text rc answer q x s read h rows sent row =
-      let m = deletes_standard c.queue.settings.kind c.queue key.at rc s ∙ h in
+  delete_did r text rc answer q x read h rows sent row =
       let e : (delete_made key a c text (read_receipt text)).effect ≡ says (with_queue c q) (deleted_row key a c text rc answer) =
-      ap (λ o. (delete_made key a c text o).effect) read ∙ ap (λ (y : Result Deleted Refusal × Queue). (delete_done key a c text rc y).effect) m in
+      ap (λ o. (delete_made key a c text o).effect) read ∙ ap (λ (y : Result Deleted Refusal × Queue). (delete_done key a c text rc y).effect) h in
       rw e (says_if r before after (with_queue c q) (with_queue c q) x (deleted_row key a c text rc answer) rows sent refl row)
 
   pub change_refused_did :

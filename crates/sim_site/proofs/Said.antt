@@ -1,30 +1,15 @@
--- What the calls of a standard queue are to the definitions of calls at a queue of either kind.
-use Rattle.std.proofs.Common.{◌≡◌, ℕ, ◌==◌, ◌+◌, ◌*◌, List, Option, Some, None, refl, subst, nat_lt}
+-- A change of visibility that is refused.
+use Rattle.std.proofs.Common.{◌≡◌, ℕ, ◌==◌, ◌+◌, ◌*◌, Option, Some, None, refl, subst, nat_lt}
 use Rattle.std.specs.Prelude.{Err, IfErr, Ok, Result, not, ◌||◌}
 use Rattle.sim_clock.specs.declared.refusal.Refusal.{Refusal}
 use Rattle.sim_clock.specs.declared.refusal.Refusal.TheVariants as refusals
 use Rattle.sqs_message.specs.declared.ids.Receipt.{Receipt}
 use Rattle.sqs_message.specs.declared.message.Message.{Message}
-use Rattle.sqs_redrive.specs.declared.settings.Kind.{Kind}
-use Rattle.sqs_redrive.specs.declared.settings.Kind.TheVariants.{Fifo, Standard}
 use Rattle.sqs_redrive.specs.declared.transfers.Load.{Load}
-use Rattle.sqs_model.specs.Acts.{sends}
-use Rattle.sqs_model.specs.Calls.{change, change_done, change_found, change_here, delete_as, delete_standard, in_flight_until, returned, send_standard}
+use Rattle.sqs_model.specs.Calls.{change, change_done, change_found, change_here, in_flight_until, returned}
 use Rattle.sqs_model.specs.Queue.{Queue, is_in_flight, numbered, with_change}
 use Rattle.sqs_model.specs.Return.{released}
 use Rattle.sqs_model.proofs.Branches.{either}
-use Rattle.sqs_standard.specs.Standard.{IsStandard}
-
--- a send
-pub sends_standard :
-    (k : Kind) (q : Queue) (now : ℕ) (body : List ℕ) (delay : Option ℕ) (group id : Option (List ℕ)) → IsStandard k
-    → sends k q now body delay group id ≡ send_standard q now body delay
-sends_standard (Standard hosts sampled) q now body delay group id s = refl
-sends_standard (Fifo content scope) q now body delay group id s = absurd s
-
-pub deletes_standard : (k : Kind) (q : Queue) (now : ℕ) (r : Receipt) → IsStandard k → delete_as k q now r ≡ delete_standard q now r
-deletes_standard (Standard hosts sampled) q now r s = refl
-deletes_standard (Fifo content scope) q now r s = absurd s
 
 -- a change that is refused leaves the queue as it was
 abbrev SameOnErr : Queue → Result (Option Load) Refusal × Queue → Type 0

@@ -5,7 +5,6 @@ use Rattle.sim_clock.specs.declared.key.Key.{Key}
 use Rattle.sim_clock.specs.declared.refusal.Refusal.{Refusal}
 use Rattle.sim_site.specs.declared.effects.Effects.{Effects}
 use Rattle.sqs_message.specs.declared.row.Row.{Row}
-use Rattle.sqs_model.specs.Draw.{drawn_latency}
 use Rattle.sim_clock.specs.Firsts.{changed}
 use Rattle.sqs_model.specs.Places.{Stands}
 use Rattle.sqs_model.specs.Site.{Core, is_task, number_of}

@@ -10,8 +10,7 @@ use Rattle.sqs_redrive.specs.declared.settings.TaskSettings.{TaskSettings}
 use Rattle.sqs_model.specs.Answers.{most_count}
 use Rattle.sqs_model.specs.Progress.{Ascends}
 use Rattle.sqs_model.specs.Task.{Task}
-use Rattle.sqs_model.specs.Valid.{IsLatency}
-use Rattle.sqs_standard.specs.Standard.{IsStandardSettings}
+use Rattle.sqs_model.specs.Valid.{IsLatency, IsQueueSettings}
 
 -- the greatest wait of a receive, in seconds
 abbrev pub most_wait : ℕ
@@ -36,9 +35,9 @@ HasShortWaits (Consumer c) = c.wait ≤ most_wait
 abbrev pub numbered_settings : Task → ℕ × TaskSettings
 numbered_settings t = (t.number, t.move.settings)
 
--- settings of a site that never change: its queue is a standard one in range, its actors' waits are short, its tasks' latencies are in range, and each task has a number of its own
+-- settings of a site that never change: its queue's are in range, its actors' waits are short, its tasks' latencies are in range, and each task has a number of its own
 pub record IsSetUp (settings : QueueSettings) (actors : List ActorSettings) (tasks : List (ℕ × TaskSettings)) : Type 0 where
-  pub queue : IsStandardSettings settings
+  pub queue : IsQueueSettings settings
   pub waits : All (λ a. HasShortWaits a.role) actors
   pub latencies : All (λ t. IsLatency t.1.latency) tasks
   pub numbered : Ascends (λ t. t.0) 0 tasks

@@ -1,8 +1,7 @@
 //! The actors and tasks that a site opens with.
-ghost use Rattle.std.specs.Prelude.{◌≡◌, All, IfErr, IfOk, map};
+ghost use Rattle.std.specs.Prelude.{◌≡◌, All, IfOk, IsOkUnless, map};
 ghost use Rattle.sim_actor.specs.Lives.{IsRole};
 ghost use Rattle.sqs_model.specs.Scenario.{Scenario, opening_actor, opening_task};
-ghost use Rattle.sim_site.specs.Effects.{Spends};
 
 use crate::agents::Task;
 use sim_actor::Actor;
@@ -19,7 +18,7 @@ pub fn open_actors(
 ) -> Result<Vec<Actor>, Refusal>
     requires { All (λ x. IsRole x.1.role) actors.items }
     ensures opened { IfOk result (λ opened. (s : Scenario) → s.seed ≡ seed → opened.items ≡ map (opening_actor s) actors.items) }
-    ensures spends { IfErr result Spends }
+    ensures memory_only { IsOkUnless result Refusal.Memory }
 {
     let mut opened = Vec::new(alloc);
     for (number, settings) in actors {
@@ -35,7 +34,7 @@ pub fn open_tasks(
     seed: u64,
 ) -> Result<Vec<Task>, Refusal>
     ensures opened { IfOk result (λ opened. (s : Scenario) → s.seed ≡ seed → opened.items ≡ map (opening_task s) tasks.now) }
-    ensures spends { IfErr result Spends }
+    ensures memory_only { IsOkUnless result Refusal.Memory }
 {
     let mut opened = Vec::new(alloc);
     for i in 0..tasks.len() {

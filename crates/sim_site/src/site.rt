@@ -1,9 +1,10 @@
 //! Sites.
-ghost use Rattle.std.specs.Prelude.{◌≡◌, ◌≤◌, ◌==◌, All, Err, IfErr, IfOk, IsOk, None, Ok, OnOk, Option, Result, Some, filter, map};
+ghost use Rattle.std.specs.Prelude.{◌≡◌, ◌≤◌, ◌==◌, All, Err, IfErr, IfOk, IsOk, IsOkUnless, None, Ok, OnOk, Option, Result, Some, filter, map};
 ghost use Rattle.sim_actor.specs.Lives.{IsRole};
 ghost use Rattle.sim_clock.specs.Order.{least};
 ghost use Rattle.sqs_model.specs.Answers.{most_count};
 ghost use Rattle.sqs_model.specs.Dues.{least_due};
+ghost use Rattle.sqs_model.specs.Progress.{IsRecent};
 ghost use Rattle.sqs_model.specs.Scenario.{Scenario, numbered_actors, numbered_tasks, opening_site};
 ghost use Rattle.sqs_model.specs.Site.{Site, accepted};
 ghost use Rattle.sim_site.specs.Kept.{IsSetUp};
@@ -21,8 +22,8 @@ use sim_clock::{Class, Key, Refusal, lesser};
 use sim_draw::Draws;
 use sqs_message::Row;
 use sqs_model::ActorSettings;
+use sqs_queue::Queue;
 use sqs_redrive::{Outbound, QueueSettings, TaskSettings};
-use sqs_standard::StandardQueue;
 use std::alloc::Global;
 use std::marker::Model;
 
@@ -55,9 +56,9 @@ impl Model for Site {
 }
 
 impl Site {
-    /// A site of a standard queue of this number, with the actors and tasks at home there, each
-    /// under its own number; samples are taken every so many milliseconds, or never where that is
-    /// 0. `Memory` where it cannot be made.
+    /// A site of a queue of this number, of the kind that its settings say, with the actors and
+    /// tasks at home there, each under its own number; samples are taken every so many
+    /// milliseconds, or never where that is 0. `Memory` where it cannot be made.
     pub fn new(
         alloc: Global,
         number: u32,
@@ -71,9 +72,9 @@ impl Site {
         requires set_up { IsSetUp settings (map (λ x. x.1) actors.items) tasks.items }
         requires sample { sample ≤ most_count }
         ensures opened { IfOk result (λ site. (s : Scenario) → s.seed ≡ seed → s.sample ≡ sample → actors.items ≡ filter (λ x. x.1.home == number) (numbered_actors s) → tasks.items ≡ filter (λ x. x.1.home == number) (numbered_tasks s) → site ≡ Ok (opening_site s (number, settings))) }
-        ensures spends { IfErr result Spends }
+        ensures memory_only { IsOkUnless result Refusal.Memory }
     {
-        let queue = StandardQueue::new(alloc, number, settings);
+        let queue = Queue::new(alloc, number, settings);
         let actors = open_actors(alloc, actors, seed)?;
         let tasks = open_tasks(alloc, tasks.as_slice(), seed)?;
         let draws = Draws::new(seed, number);
@@ -125,6 +126,7 @@ impl Site {
         requires lives { IsOk self.old }
         requires due { due_of self.old ≡ Some key }
         requires moment { key.at ≤ most_count }
+        requires recent { IfOk self.old (λ site. IsRecent key.at site.core.queue) }
         ensures done { IfOk self.old (λ site. OnOk result (DidHandle effects.old effects.new self.new (handled key site))) }
         ensures spends { IfErr result Spends }
     {
@@ -136,12 +138,14 @@ impl Site {
         }
     }
 
-    /// Handles its least due, at a moment in milliseconds: the rows that this makes, and the
-    /// transfers that it sends. `Memory`, or `CountLimit` where a count would pass its limit, spends
-    /// it; one that is spent answers what spent it.
+    /// Handles its least due, at a moment in milliseconds, which is not before that of a
+    /// deduplication entry of its queue: the rows that this makes, and the transfers that it sends.
+    /// `Memory`, or `CountLimit` where a count would pass its limit, spends it; one that is spent
+    /// answers what spent it.
     pub fn handle(&mut self, key: Key) -> Result<Handled, Refusal>
         requires due { IfOk self.old (λ site. least_due site ≡ Some key) }
         requires moment { key.at ≤ most_count }
+        requires recent { IfOk self.old (λ site. IsRecent key.at site.core.queue) }
         ensures handled { IfOk self.old (λ site. IfOk result (λ made. (self.new ≡ Ok (handled key site).site) × (made.rows.items ≡ (handled key site).rows) × (made.outbound.items ≡ (handled key site).sent))) }
         ensures spent { IfErr result (λ refusal. self.new ≡ Err refusal) }
         ensures spends { IfOk self.old (λ site. IfErr result Spends) }
@@ -162,7 +166,7 @@ impl Site {
     }
 
     /// Its queue.
-    pub fn queue(&self) -> &StandardQueue
+    pub fn queue(&self) -> &Queue
         ensures { IfOk self.now (λ site. result.now ≡ site.core.queue) }
     {
         self.core.queue()

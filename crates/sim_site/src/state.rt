@@ -23,7 +23,7 @@ use crate::dues::{least_end, least_step, least_wake};
 use sim_actor::Actor;
 use sim_clock::{Class, Key, lesser};
 use sim_draw::Draws;
-use sqs_standard::StandardQueue;
+use sqs_queue::Queue;
 use std::alloc::Global;
 use std::marker::Model;
 
@@ -36,7 +36,7 @@ pub const MOST_COUNT: u64 = 4611686018427387903;
 #[derive(Drop)]
 pub struct Core {
     alloc: Global,
-    queue: StandardQueue,
+    queue: Queue,
     actors: Vec<Actor>,
     tasks: Vec<Task>,
     polls: Vec<Poll>,
@@ -62,7 +62,7 @@ impl Core {
     /// A site with nothing on its way to it that has done nothing.
     pub fn new(
         alloc: Global,
-        queue: StandardQueue,
+        queue: Queue,
         actors: Vec<Actor>,
         tasks: Vec<Task>,
         draws: Draws,
@@ -91,7 +91,7 @@ impl Core {
     }
 
     /// Its queue.
-    pub fn queue(&self) -> &StandardQueue
+    pub fn queue(&self) -> &Queue
         ensures { result.now ≡ self.now.queue }
     {
         &self.queue

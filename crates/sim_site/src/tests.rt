@@ -1,25 +1,24 @@
+//! Transfers that arrive at a site of each kind of queue.
+ghost use Rattle.std.specs.Prelude.{◌≤◌, IfOk};
+ghost use Rattle.sqs_model.specs.Answers.{most_count};
+ghost use Rattle.sqs_model.specs.Progress.{IsRecent};
+ghost use Rattle.sqs_model.specs.Valid.{IsKind};
+
 use crate::{Handled, Site};
 use sim_clock::{Class, Key, Refusal};
 use sqs_message::{MessageId, Text};
-use sqs_redrive::{Kind, Load, Outbound, QueueSettings};
+use sqs_redrive::{Kind, Load, Outbound, QueueSettings, Scope};
+use std::alloc::Global;
+use std::process::Abort;
 use std::test::Fail;
 
-// The handling of the least due.
-fn handle_next(site: &mut Site) -> Result<Handled, Refusal> {
-    match site.least_due() {
-        Some(key) if key.at <= 1000 => site.handle(key),
-        _ => Err(Refusal::Memory),
-    }
-}
-
-#[test]
-fn transfers_arrive_in_the_order_of_their_keys(rt: HostRuntime) -> Result<(), Fail> {
-    let alloc = rt.alloc();
+// A site of a queue of this kind, with neither actors nor tasks.
+fn open(alloc: Global, kind: Kind) -> Result<Site, Refusal>
+    requires { IsKind kind }
+    ensures { IfOk result (λ site. IfOk site (λ s. IsRecent 0 s.core.queue)) }
+{
     let settings = QueueSettings {
-        kind: Kind::Standard {
-            hosts: 4,
-            sampled: 2,
-        },
+        kind,
         visibility: 30000,
         delay: 0,
         retention: 60000,
@@ -27,23 +26,61 @@ fn transfers_arrive_in_the_order_of_their_keys(rt: HostRuntime) -> Result<(), Fa
         policy: None,
     };
     let (actors, tasks) = (Vec::new(alloc), Vec::new(alloc));
-    let mut site = Site::new(alloc, 0, settings, actors, tasks, 7, 0)?;
-    assert_eq!(rt; site.least_due(), None);
-    for at in [40, 10, 30] {
-        let load = Load::Forward {
-            id: MessageId { site: 1, number: 0 },
-            body: Text::new(Vec::new(alloc)),
-            group: None,
-        };
-        site.accept(Outbound {
-            at,
-            sender: 1,
-            number: at,
-            from: 1,
-            to: 0,
-            load,
-        })?;
+    Site::new(alloc, 0, settings, actors, tasks, 7, 0)
+}
+
+// A forward of one message is on its way.
+fn accept(alloc: Global, site: &mut Site, at: u64) -> Result<(), Refusal>
+    requires { IfOk site.old (λ s. IsRecent 0 s.core.queue) }
+    ensures { IfOk site.new (λ s. IsRecent 0 s.core.queue) }
+{
+    let load = Load::Forward {
+        id: MessageId { site: 1, number: 0 },
+        body: Text::new(Vec::new(alloc)),
+        group: None,
+    };
+    site.accept(Outbound {
+        at,
+        sender: 1,
+        number: at,
+        from: 1,
+        to: 0,
+        load,
+    })
+}
+
+// The handling of the least due, at a moment.
+fn handle_next(site: &mut Site, now: u64) -> Result<Handled, Refusal>
+    requires moment { now ≤ most_count }
+    requires recent { IfOk site.old (λ s. IsRecent now s.core.queue) }
+    ensures { IfOk site.new (λ s. IsRecent now s.core.queue) }
+{
+    match site.least_due() {
+        Some(key) if key.at == now => site.handle(key),
+        _ => Err(Refusal::Memory),
     }
+}
+
+// Handles the arrival that is due at a moment, which leaves so many on their way.
+fn try_arrival(rt: &impl Abort, site: &mut Site, now: u64, left: usize) -> Result<(), Fail>
+    requires moment { now ≤ most_count }
+    requires recent { IfOk site.old (λ s. IsRecent now s.core.queue) }
+    ensures { IfOk site.new (λ s. IsRecent now s.core.queue) }
+{
+    let handled = handle_next(site, now)?;
+    assert_eq!(rt; (handled.rows.len(), handled.outbound.len()), (1, 0));
+    assert_eq!(rt; site.arriving().len(), left);
+    Ok(())
+}
+
+// Three transfers arrive in the order of their keys, and the last message is enqueued then.
+fn try_arrivals(rt: &impl Abort, alloc: Global, site: &mut Site, enqueued: u64) -> Result<(), Fail>
+    requires { IfOk site.old (λ s. IsRecent 0 s.core.queue) }
+{
+    assert_eq!(rt; site.least_due(), None);
+    accept(alloc, site, 40)?;
+    accept(alloc, site, 10)?;
+    accept(alloc, site, 30)?;
     let first = Key {
         at: 10,
         agent: 1,
@@ -51,18 +88,36 @@ fn transfers_arrive_in_the_order_of_their_keys(rt: HostRuntime) -> Result<(), Fa
         number: 10,
     };
     assert_eq!(rt; site.least_due(), Some(first));
-    assert_eq!(rt; site.arriving().len(), 3);
-    assert_eq!(rt; site.arriving()[1].at, 30);
+    let second = site.arriving().get(1).map(|transfer| transfer.at);
+    assert_eq!(rt; second, Some(30));
     assert_eq!(rt; site.spent(), None);
     assert_eq!(rt; site.tasks().len(), 0);
     assert_eq!(rt; site.queue().site(), 0);
-    for left in [2, 1, 0] {
-        let handled = handle_next(&mut site)?;
-        assert_eq!(rt; handled.rows.len(), 1);
-        assert_eq!(rt; handled.outbound.len(), 0);
-        assert_eq!(rt; site.arriving().len(), left);
-    }
+    try_arrival(rt, site, 10, 2)?;
+    try_arrival(rt, site, 30, 1)?;
+    try_arrival(rt, site, 40, 0)?;
     let last = site.queue().view().last().map(|message| message.enqueued);
-    assert_eq!(rt; last, Some(40));
+    assert_eq!(rt; last, Some(enqueued));
     Ok(())
+}
+
+#[test]
+fn forwards_arrive_at_a_standard_queue(rt: HostRuntime) -> Result<(), Fail> {
+    let kind = Kind::Standard {
+        hosts: 4,
+        sampled: 2,
+    };
+    let mut site = open(rt.alloc(), kind)?;
+    try_arrivals(&rt, rt.alloc(), &mut site, 40)
+}
+
+// After the first one they are repeats.
+#[test]
+fn forwards_arrive_at_a_fifo_queue(rt: HostRuntime) -> Result<(), Fail> {
+    let kind = Kind::Fifo {
+        content_dedup: false,
+        scope: Scope::Queue,
+    };
+    let mut site = open(rt.alloc(), kind)?;
+    try_arrivals(&rt, rt.alloc(), &mut site, 10)
 }

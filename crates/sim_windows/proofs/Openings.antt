@@ -1,18 +1,19 @@
 -- How actors and tasks come to their homes, and the world that a scenario opens with.
 use Rattle.std.specs.List.{enumerate_from}
-use Rattle.std.specs.Prelude.{All, Any, Bool, List, Result, [], cond, false, filter, get_or, length, map, set, true, suc, zero, ℕ, ◌++◌, ◌+◌, ◌<◌, ◌==◌, ◌∷◌, ◌≡◌, ◌≤◌, ◌⊎◌}
-use Rattle.std.proofs.Common.{add-one, append_assoc, ap, arith, inl, inr, drop, refl, subst, sym, ◌∙◌}
+use Rattle.std.specs.Prelude.{All, Bool, List, None, Option, Result, Some, [], cond, false, filter, get_or, length, map, set, true, suc, zero, ℕ, ◌++◌, ◌+◌, ◌<◌, ◌==◌, ◌∷◌, ◌≡◌, ◌≤◌}
+use Rattle.std.proofs.Common.{add-one, append_assoc, ap, arith, drop, refl, subst, sym, ◌∙◌}
 use Rattle.std.proofs.lemmas.Bool.Decides.{nat_tests}
 use Rattle.std.proofs.lemmas.List.{append-nil, get_or-map, length-map, map-set}
 use Rattle.std.proofs.lemmas.List.Elements.{All-cons, All-filter, All-head, All-map, All-nil, All-tail, All-weaker, filter-append}
 use Rattle.std.proofs.Math.Seq.{drop-cons}
+use Rattle.sim_clock.specs.declared.key.Key.{Key}
+use Rattle.sqs_model.specs.Queue.{Entry}
+use Rattle.sqs_model.specs.Dues.{world_due}
 use Rattle.sim_clock.specs.declared.refusal.Refusal.{Refusal}
 use Rattle.sqs_message.specs.declared.calls.Call.{Call}
 use Rattle.sqs_message.specs.declared.calls.Call.TheVariants as calls
 use Rattle.sqs_message.specs.declared.calls.ScriptCall.{ScriptCall}
 use Rattle.sqs_formats.specs.Script.{waits}
-use Rattle.sqs_redrive.specs.declared.settings.Kind.{Kind}
-use Rattle.sqs_redrive.specs.declared.settings.Kind.TheVariants.{Fifo, Standard}
 use Rattle.sqs_redrive.specs.declared.settings.QueueSettings.{QueueSettings}
 use Rattle.sqs_redrive.specs.declared.settings.TaskSettings.{TaskSettings}
 use Rattle.sqs_model.specs.declared.agents.ActorSettings.{ActorSettings}
@@ -20,18 +21,17 @@ use Rattle.sqs_model.specs.declared.agents.Role.{Role}
 use Rattle.sqs_model.specs.declared.agents.Role.TheVariants.{Consumer, Producer, Script}
 use Rattle.sqs_model.proofs.Counts.{ascends_lower}
 use Rattle.sqs_model.proofs.Opening.{opens_sound}
-use Rattle.sqs_model.specs.Progress.{Ascends, IsSound, IsSoundScenario}
+use Rattle.sqs_model.specs.Progress.{Ascends, IsRecent, IsSound, IsSoundScenario}
 use Rattle.sqs_model.specs.Scenario.{Scenario, numbered_actors, numbered_tasks, opening, opening_site}
 use Rattle.sqs_model.specs.Site.{Site}
 use Rattle.sqs_model.specs.Valid.{IsLatency, IsTaskSettings}
-use Rattle.sqs_standard.specs.Standard.{IsStandard}
 use Rattle.sim_actor.specs.Lives.{IsRole}
 use Rattle.sim_scenario.specs.declared.scenario.ScenarioParts.{ScenarioParts}
 use Rattle.sim_scenario.specs.Ranges.{IsInRange, IsRole as IsScenarioRole}
 use Rattle.sim_site.specs.Kept.{HasShortWaits, WaitsWithin}
 use Rattle.sim_windows.specs.declared.opening.Home.{Home}
 use Rattle.sim_windows.specs.Homes.{AtHome, IsFit, IsSettled, IsVacant, actors_in, tasks_in}
-use Rattle.sim_windows.specs.Worlds.{IsNumbered, IsWorld, alive, living}
+use Rattle.sim_windows.specs.Worlds.{AreRecent, IsNumbered, IsWorld, alive, living}
 use Rattle.sim_windows.proofs.Places.{living_alive}
 
 -- one more agent, with its number
@@ -180,6 +180,17 @@ numbered_sites : (s : Scenario) (n : ℕ) (queues : List QueueSettings) → IsNu
 numbered_sites s n [] = tt
 numbered_sites s n (settings ∷ queues) = (refl, numbered_sites s (n + 1) queues)
 
+-- and have no entries yet
+recent_sites : (s : Scenario) (n now : ℕ) (queues : List QueueSettings) → All (λ x. IsRecent now x.core.queue) (map (opening_site s) (enumerate_from n queues))
+recent_sites s n now [] = All-nil (λ (x : Site). IsRecent now x.core.queue)
+recent_sites s n now (settings ∷ queues) =
+    All-cons (λ (x : Site). IsRecent now x.core.queue) (opening_site s (n, settings)) (map (opening_site s) (enumerate_from (n + 1) queues))
+    (All-nil (λ (e : Entry). e.end ≤ now + 300000)) (recent_sites s (n + 1) now queues)
+
+recent_opening : (s : Scenario) (o : Option Key) → AreRecent (opening s) o
+recent_opening s None = tt
+recent_opening s (Some key) = recent_sites s 0 key.at s.queues
+
 -- and make a world
 pub opening_world : (s : Scenario) → IsSoundScenario s → IsWorld (map alive (opening s))
 opening_world s sound =
@@ -189,6 +200,7 @@ opening_world s sound =
       live = ap (map alive) back;
       numbered = subst (IsNumbered 0) (sym back) (numbered_sites s 0 s.queues);
       sound = subst (All (λ x. IsSound x.core)) (sym back) (opens_sound s sound);
+      recent = subst (λ xs. AreRecent xs (world_due xs)) (sym back) (recent_opening s (world_due w));
     }
 
 -- the scenario of these parts
@@ -209,19 +221,3 @@ opens p whole n homes same range count settled =
     let here : IsInRange s = subst IsInRange (sym same) range in
     let all : IsSettled homes (numbered_actors s) (numbered_tasks s) = subst (λ k. IsSettled homes (enumerate_from k s.actors) (enumerate_from (k + length s.actors) s.tasks)) count settled in
     record { settled = all; fit = fit_homes s homes here all; world = opening_world s here.sound }
-
--- a queue is standard or not
-standard_or : (k : Kind) → IsStandard k ⊎ (IsStandard k → ⊥)
-standard_or (Standard hosts sampled) = inl tt
-standard_or (Fifo content_dedup scope) = inr (λ h. h)
-
--- where not all queues are standard, one is not
-pub some_other : (queues : List QueueSettings) → (All (λ q. IsStandard q.kind) queues → ⊥) → Any (λ q. IsStandard q.kind → ⊥) queues
-some_other [] h = absurd (h (All-nil (λ (q : QueueSettings). IsStandard q.kind)))
-some_other (q ∷ queues) h =
-    elim (standard_or q.kind) [
-      | inl s ↦
-          let r = some_other queues (λ all. h (All-cons (λ (x : QueueSettings). IsStandard x.kind) q queues s all)) in
-          (suc r.0, r.1, omega (arith, r.2), r.3, r.4)
-      | inr n ↦ (0, q, omega arith, refl, n)
-    ]

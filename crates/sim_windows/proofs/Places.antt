@@ -2,20 +2,24 @@
 use Rattle.std.specs.Prelude.{All, Bool, Err, IfOk, List, None, Ok, Option, Result, Some, [], cond, false, find, if◌then◌else◌, length, map, option_map, set, get_or, true, suc, zero, ℕ, ◌++◌, ◌+◌, ◌<◌, ◌==◌, ◌∷◌, ◌≡◌, ◌≤◌}
 use Rattle.std.proofs.Common.{ap, arith, refl, subst, sym, ◌∙◌}
 use Rattle.std.proofs.lemmas.Bool.Decides.{nat_tests}
+use Rattle.std.proofs.lemmas.List.Elements.{All-cons, All-head, All-map, All-nil, All-tail, All-weaker}
+use Rattle.sqs_model.proofs.Branches.{either}
+use Rattle.sqs_model.specs.Queue.{Entry}
+use Rattle.sim_windows.proofs.Runs.{from_after}
 use Rattle.sim_clock.specs.declared.key.Key.{Key}
 use Rattle.sim_clock.specs.declared.refusal.Refusal.{Refusal}
 use Rattle.sim_clock.specs.Firsts.{changed}
 use Rattle.sim_clock.specs.Order.{lesser}
 use Rattle.sim_site.specs.Spent.{due_of}
 use Rattle.sim_clock.proofs.Least.{key_tied}
-use Rattle.sqs_model.proofs.Numbers.{handled_number}
-use Rattle.sim_windows.specs.Worlds.{IsNumbered, IsWorld, alive, due_among, is_due_there, living}
+use Rattle.sqs_model.proofs.Kept.{handled_number, handled_recent}
+use Rattle.sim_windows.specs.Worlds.{AreRecent, IsFrom, IsNumbered, IsWorld, alive, due_among, is_due_there, living}
 use Rattle.sqs_redrive.specs.declared.transfers.Outbound.{Outbound}
 use Rattle.sqs_model.specs.Dues.{least_due, world_due}
 use Rattle.sqs_model.proofs.WorldMoves.{among_falls, delivered_sound, world_in}
-use Rattle.sqs_model.specs.Progress.{IsSound}
+use Rattle.sqs_model.specs.Progress.{IsRecent, IsSound}
 use Rattle.sqs_model.specs.Places.{IsAbsent, Stands}
-use Rattle.sqs_model.specs.Run.{Stepped, delivered, delivered_one, handled_among, handled_here, handled_there, is_due}
+use Rattle.sqs_model.specs.Run.{Run, Stepped, delivered, delivered_one, handled_among, handled_here, handled_there, is_due, run_on}
 use Rattle.sqs_model.specs.Site.{Site, accepted, number_of}
 use Rattle.sqs_model.specs.Step.{handled}
 
@@ -93,6 +97,11 @@ pub alive_at : (w : List Site) (i : ℕ) (d : Result Site Refusal) → i < lengt
 alive_at [] i d l = absurd (omega arith)
 alive_at (s ∷ ss) zero d l = (s, refl)
 alive_at (s ∷ ss) (suc i) d l = alive_at ss i d (omega arith)
+
+-- and the same of each site that lives, if it holds of those
+pub each_alive : (P : Site → Type 0) (w : List Site) → All P w → All (λ r. IfOk r P) (map alive w)
+each_alive P [] h = All-nil (λ (r : Result Site Refusal). IfOk r P)
+each_alive P (s ∷ ss) h = All-cons (λ (r : Result Site Refusal). IfOk r P) (alive s) (map alive ss) (All-head P s ss h) (each_alive P ss (All-tail P s ss h))
 
 -- a key that is due at a site that may be spent
 pub due_ok : (key : Key) (x : Result Site Refusal) → due_of x ≡ Some key → IfOk x (λ s. least_due s ≡ Some key)
@@ -210,11 +219,47 @@ module _ (key : Key) where
         | false ↦ (h.0, numbered_among (n + 1) xs h.1)
       ]
 
+  -- a handling at a moment leaves no entry from after it
+  abbrev pub Recent : Site → Type 0
+  Recent s = IsRecent key.at s.core.queue
+
+  recent_among : (w : List Site) → All Recent w → All Recent (handled_among key w).sites
+  recent_among [] h = All-nil Recent
+  recent_among (x ∷ xs) h =
+      elim (due_here x) as (λ b. All Recent (if b then handled_here (handled key x) xs else handled_there x (handled_among key xs)).sites) [
+        | true ↦ All-cons Recent (site_after x) xs (handled_recent key x (All-head Recent x xs h)) (All-tail Recent x xs h)
+        | false ↦ All-cons Recent x (handled_among key xs).sites (All-head Recent x xs h) (recent_among xs (All-tail Recent x xs h))
+      ]
+
+  recent_one : (o : Outbound) (s : Site) → Recent s → Recent (delivered_one o s)
+  recent_one o s h = either Recent (o.to == number_of s.core) (accepted o s) s h h
+
+  recent_delivered : (os : List Outbound) (w : List Site) → All Recent w → All Recent (delivered os w)
+  recent_delivered [] w h = h
+  recent_delivered (o ∷ os) w h = recent_delivered os (map (delivered_one o) w) (All-map Recent (delivered_one o) w (All-weaker Recent (λ s. Recent (delivered_one o s)) (recent_one o) w h))
+
+  -- what is due after it is not before it
+  recent_from : (v : List Site) (o : Option Key) → IsFrom key.at o → All Recent v → AreRecent v o
+  recent_from v None f h = tt
+  recent_from v (Some k) f h =
+      All-weaker Recent (λ s. IsRecent k.at s.core.queue)
+      (λ s r. All-weaker (λ (e : Entry). e.end ≤ key.at + 300000) (λ e. e.end ≤ k.at + 300000) (λ e l. omega (arith, f)) s.core.queue.entries r)
+      v h
+
+  recent_after : (w : List Site) → All (λ s. IsSound s.core) w → world_due w ≡ Some key → AreRecent w (Some key)
+      → AreRecent (delivered (handled_among key w).sent (handled_among key w).sites) (world_due (delivered (handled_among key w).sent (handled_among key w).sites))
+  recent_after w s d h =
+      let t : Stepped = handled_among key w in
+      let v : List Site = delivered t.sent t.sites in
+      let before : Run = record { sites = w; rows = [] } in
+      let from : IsFrom key.at (world_due w) = rw d (omega arith) in
+      recent_from v (world_due v) (from_after key key.at before (run_on [] t) (omega arith) s d from refl) (recent_delivered t.sent t.sites (recent_among w h))
+
   -- what is left is a world again
   pub world_after :
-      (w : List Site) → IsNumbered 0 w → All (λ s. IsSound s.core) w → world_due w ≡ Some key
+      (w : List Site) → IsNumbered 0 w → All (λ s. IsSound s.core) w → AreRecent w (world_due w) → world_due w ≡ Some key
       → IsWorld (map alive (delivered (handled_among key w).sent (handled_among key w).sites))
-  world_after w n s d =
+  world_after w n s r d =
       let t : Stepped = handled_among key w in
       let v : List Site = delivered t.sent t.sites in
       let f = among_falls key 0 w (omega arith) s (world_in key w d) in
@@ -223,4 +268,5 @@ module _ (key : Key) where
         live = ap (map alive) back;
         numbered = subst (IsNumbered 0) (sym back) (numbered_delivered t.sent 0 t.sites (numbered_among 0 w n));
         sound = subst (All (λ x. IsSound x.core)) (sym back) (delivered_sound t.sent t.sites f.sound);
+        recent = subst (λ xs. AreRecent xs (world_due xs)) (sym back) (recent_after w s d (subst (AreRecent w) d r));
       }

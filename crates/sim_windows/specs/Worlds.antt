@@ -4,7 +4,8 @@ use Rattle.sim_clock.specs.declared.key.Key.{Key}
 use Rattle.sim_clock.specs.declared.refusal.Refusal.{Refusal}
 use Rattle.sim_clock.specs.Order.{lesser}
 use Rattle.sim_site.specs.Spent.{due_of}
-use Rattle.sqs_model.specs.Progress.{IsSound}
+use Rattle.sqs_model.specs.Dues.{world_due}
+use Rattle.sqs_model.specs.Progress.{IsRecent, IsSound}
 use Rattle.sqs_model.specs.Run.{Run, is_due, next_due, stepped}
 use Rattle.sqs_model.specs.Site.{Site, number_of}
 
@@ -23,11 +24,17 @@ abbrev pub IsNumbered : ℕ → List Site → Type 0
 IsNumbered n [] = Unit {0}
 IsNumbered n (s ∷ ss) = (number_of s.core ≡ n) × IsNumbered (n + 1) ss
 
--- sites that make a world: all of them live, each stands at its number, and time moves on in them
+-- no deduplication entry of some sites came after what is due next
+abbrev pub AreRecent : List Site → Option Key → Type 0
+AreRecent sites None = Unit {0}
+AreRecent sites (Some key) = All (λ s. IsRecent key.at s.core.queue) sites
+
+-- sites that make a world: all of them live, each stands at its number, time moves on in them, and no entry came after what is due next
 pub record IsWorld (sites : List (Result Site Refusal)) : Type 0 where
   pub live : map alive (living sites) ≡ sites
   pub numbered : IsNumbered 0 (living sites)
   pub sound : All (λ s. IsSound s.core) (living sites)
+  pub recent : AreRecent (living sites) (world_due (living sites))
 
 -- the least due of some sites
 abbrev pub due_among : List (Result Site Refusal) → Option Key

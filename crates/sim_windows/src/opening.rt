@@ -1,9 +1,9 @@
 //! The world that a scenario opens with.
 ghost use Rattle.std.specs.List.{enumerate_from};
-ghost use Rattle.std.specs.Prelude.{◌≡◌, ◌+◌, ◌<◌, ◌≤◌, ◌⊎◌, ◌^◌, ◌↔◌, [], All, Any, IfErr, IfOk, IsTrue, List, OnOk, length, map, ℕ};
+ghost use Rattle.std.specs.Prelude.{◌≡◌, ◌+◌, ◌<◌, ◌≤◌, ◌^◌, [], All, IfOk, IsOkUnless, List, OnOk, length, map, ℕ};
 ghost use Rattle.sqs_model.specs.Answers.{most_count};
 ghost use Rattle.sqs_model.specs.Scenario.{Scenario as TheScenario, numbered_actors, numbered_tasks, opening};
-ghost use Rattle.sqs_standard.specs.Standard.{IsStandard, IsStandardSettings};
+ghost use Rattle.sqs_model.specs.Valid.{IsQueueSettings};
 ghost use Rattle.sim_windows.specs.Homes.{AtHome, IsFit, IsSettled, IsVacant, actors_in, tasks_in};
 ghost use Rattle.sim_windows.specs.Worlds.{alive};
 
@@ -12,7 +12,7 @@ use sim_clock::Refusal;
 use sim_scenario::Scenario;
 use sim_site::Site;
 use sqs_model::ActorSettings;
-use sqs_redrive::{Kind, QueueSettings, TaskSettings};
+use sqs_redrive::{QueueSettings, TaskSettings};
 use std::alloc::Global;
 
 // The actors and tasks at home at one queue, each under its own number.
@@ -26,7 +26,7 @@ struct Home {
 fn vacant_homes(alloc: Global, queues: usize) -> Result<Vec<Home>, Refusal>
     ensures vacant { IfOk result (λ homes. All IsVacant homes.items) }
     ensures count { IfOk result (λ homes. length homes.items ≡ queues) }
-    ensures memory { IfErr result (λ refusal. refusal ≡ Refusal.Memory) }
+    ensures memory_only { IsOkUnless result Refusal.Memory }
 {
     let mut homes = Vec::new(alloc);
     for _ in 0..queues {
@@ -49,7 +49,7 @@ fn settle_actors(
     ensures settled { OnOk result (AtHome (λ a. a.home) 0 (map actors_in homes.old.items) [] → AtHome (λ a. a.home) 0 (map actors_in homes.new.items) (enumerate_from first actors.items)) }
     ensures tasks { OnOk result (map tasks_in homes.new.items ≡ map tasks_in homes.old.items) }
     ensures count { OnOk result (length homes.new.items ≡ length homes.old.items) }
-    ensures memory { IfErr result (λ refusal. refusal ≡ Refusal.Memory) }
+    ensures memory_only { IsOkUnless result Refusal.Memory }
 {
     let mut number = first;
     for settings in actors {
@@ -67,7 +67,7 @@ fn settle_tasks(homes: &mut Vec<Home>, first: u32, tasks: Vec<TaskSettings>) -> 
     ensures settled { OnOk result (AtHome (λ t. t.home) 0 (map tasks_in homes.old.items) [] → AtHome (λ t. t.home) 0 (map tasks_in homes.new.items) (enumerate_from first tasks.items)) }
     ensures actors { OnOk result (map actors_in homes.new.items ≡ map actors_in homes.old.items) }
     ensures count { OnOk result (length homes.new.items ≡ length homes.old.items) }
-    ensures memory { IfErr result (λ refusal. refusal ≡ Refusal.Memory) }
+    ensures memory_only { IsOkUnless result Refusal.Memory }
 {
     let mut number = first;
     for settings in tasks {
@@ -90,7 +90,7 @@ fn settled_homes(
     requires numbers { queues + length actors.items + length tasks.items < 2 ^ 32 }
     ensures settled { IfOk result (λ homes. IsSettled homes.items (enumerate_from queues actors.items) (enumerate_from (queues + length actors.items) tasks.items)) }
     ensures count { IfOk result (λ homes. length homes.items ≡ queues) }
-    ensures memory { IfErr result (λ refusal. refusal ≡ Refusal.Memory) }
+    ensures memory_only { IsOkUnless result Refusal.Memory }
 {
     let mut homes = vacant_homes(alloc, queues)?;
     let first_actor = queues as u32;
@@ -100,7 +100,7 @@ fn settled_homes(
     Ok(homes)
 }
 
-// The sites of standard queues, by number, each with those at home there.
+// The sites of queues, by number, each with those at home there.
 fn open_sites(
     alloc: Global,
     queues: &[QueueSettings],
@@ -108,19 +108,19 @@ fn open_sites(
     seed: u64,
     sample: u64,
 ) -> Result<Vec<Site>, Refusal>
-    requires queues { All IsStandardSettings queues.now }
+    requires queues { All IsQueueSettings queues.now }
     requires homes { All IsFit homes.items }
     requires count { length homes.items ≡ length queues.now }
     requires numbers { length queues.now < 2 ^ 32 }
     requires sample { sample ≤ most_count }
     ensures opened { IfOk result (λ sites. (s : TheScenario) → s.seed ≡ seed → s.sample ≡ sample → s.queues ≡ queues.now → IsSettled homes.items (numbered_actors s) (numbered_tasks s) → sites.items ≡ map alive (opening s)) }
-    ensures memory { IfErr result (λ refusal. refusal ≡ Refusal.Memory) }
+    ensures memory_only { IsOkUnless result Refusal.Memory }
 {
     let mut sites = Vec::new(alloc);
     let mut number = 0;
     for home in homes {
         let settings = queues[number as usize];
-        let opened = Site::new(
+        let site = Site::new(
             alloc,
             number,
             settings,
@@ -128,27 +128,11 @@ fn open_sites(
             home.tasks,
             seed,
             sample,
-        );
-        // Nothing but want of memory keeps a site from being made.
-        let Ok(site) = opened else {
-            return Err(Refusal::Memory);
-        };
+        )?;
         sites.push(site)?;
         number += 1;
     }
     Ok(sites)
-}
-
-// Whether all queues are standard ones.
-fn all_standard(queues: &[QueueSettings]) -> bool
-    ensures { IsTrue result ↔ All (λ q. IsStandard q.kind) queues.now }
-{
-    for queue in queues {
-        if let Kind::Fifo { .. } = queue.kind {
-            return false;
-        }
-    }
-    true
 }
 
 impl World {
@@ -157,18 +141,12 @@ impl World {
     ///
     /// # Errors
     ///
-    /// `NotYet` where a queue of the scenario is FIFO, which is not carried out yet, and `Memory`
-    /// where a growth is refused.
+    /// `Memory` where a growth is refused.
     pub fn open(alloc: Global, scenario: Scenario) -> Result<World, Refusal>
         ensures opened { IfOk result (λ world. world ≡ record { sites = opening scenario; rows = [] }) }
-        ensures refused { IfErr result (λ refusal. (refusal ≡ Refusal.Memory) ⊎ ((refusal ≡ Refusal.NotYet) × Any (λ q. ¬ IsStandard q.kind) scenario.queues)) }
-        ensures only_standard { OnOk result (All (λ q. IsStandard q.kind) scenario.queues) }
-        ensures not_yet { ¬ All (λ q. IsStandard q.kind) scenario.queues → result ≡ Err Refusal.NotYet }
+        ensures memory_only { IsOkUnless result Refusal.Memory }
     {
         let parts = scenario.into_parts();
-        if !all_standard(parts.queues.as_slice()) {
-            return Err(Refusal::NotYet);
-        }
         let homes = settled_homes(alloc, parts.queues.len(), parts.actors, parts.tasks)?;
         let sites = open_sites(
             alloc,

@@ -3,7 +3,7 @@ ghost use Rattle.std.specs.Prelude.{◌≡◌, ◌++◌, ◌≤◌, [], All, Ok,
 ghost use Rattle.sim_clock.specs.declared.key.Key.{Key as TheKey};
 ghost use Rattle.sqs_model.specs.Answers.{most_count};
 ghost use Rattle.sqs_model.specs.Dues.{world_due};
-ghost use Rattle.sqs_model.specs.Progress.{IsSound};
+ghost use Rattle.sqs_model.specs.Progress.{IsRecent, IsSound};
 ghost use Rattle.sqs_model.specs.Places.{IsAbsent, Stands};
 ghost use Rattle.sqs_model.specs.Run.{delivered, delivered_one, handled_among, is_due, run_on};
 ghost use Rattle.sqs_model.specs.Site.{Site as TheSite};
@@ -79,7 +79,8 @@ fn deliver(sites: &mut Vec<Site>, outbound: Vec<Outbound>) -> Result<(), Refusal
 // The first site at which a key is due next handles it, and what that sends is delivered. Answers
 // the rows.
 fn handle_among(sites: &mut Vec<Site>, alloc: Global, key: Key) -> Result<Vec<Row>, Refusal>
-    requires { key.at ≤ most_count }
+    requires moment { key.at ≤ most_count }
+    requires recent { All (λ s. IfOk s (λ site. IsRecent key.at site.core.queue)) sites.old.items }
     ensures done { (w : List TheSite) → sites.old.items ≡ map alive w → IsNumbered 0 w → IfOk result (λ rows. (sites.new.items ≡ map alive (delivered (handled_among key w).sent (handled_among key w).sites)) × (rows.items ≡ (handled_among key w).rows)) }
     ensures spends { (w : List TheSite) → sites.old.items ≡ map alive w → IsNumbered 0 w → IfErr result Spends }
 {

@@ -1,12 +1,12 @@
 //! The queue and its calls.
-ghost use Rattle.std.specs.Prelude.{◌≡◌, ◌⊎◌, ◌+◌, ◌<◌, ◌≤◌, [], All, IfErr, IfOk, IsOkUnless, OnErr, OnOk, count_by, take};
+ghost use Rattle.std.specs.Prelude.{◌≡◌, ◌⊎◌, ◌+◌, ◌<◌, ◌≤◌, [], All, Err, IfErr, IfOk, Ok, IsOkUnless, OnErr, OnOk, count_by, take};
 ghost use Rattle.sim_clock.specs.Order.{least};
 ghost use Rattle.sqs_model.specs.Answers.{Meets, most_count};
 ghost use Rattle.sqs_model.specs.Arrive.{expired};
 ghost use Rattle.sqs_model.specs.Calls.{change, delete_fifo, returned, send_in};
 ghost use Rattle.sqs_model.specs.Available.{all_available};
 ghost use Rattle.sqs_model.specs.Dues.{queue_dues};
-ghost use Rattle.sqs_model.specs.Queue.{IsFramed, is_delayed, is_in_flight, is_visible};
+ghost use Rattle.sqs_model.specs.Queue.{IsFramed, id_of, is_delayed, is_in_flight, is_visible};
 ghost use Rattle.sqs_model.specs.Return.{released};
 ghost use Rattle.sqs_redrive.specs.declared.settings.Kind.TheVariants.{Fifo};
 ghost use Rattle.sqs_store.specs.Chosen.{AreWithin, Differ, at_places};
@@ -80,6 +80,7 @@ impl FifoQueue {
     /// `ReceiptHandleIsInvalid` by any other receipt, and where the message is not in flight.
     pub fn delete(&mut self, now: u64, receipt: &Receipt) -> Result<Deleted, Refusal>
         ensures answer { delete_fifo self.old now receipt.now ≡ (result, self.new) }
+        ensures kept { self.new.entries ≡ self.old.entries }
         ensures framed { IsFramed self.old self.new }
     {
         if receipt.site != self.store.site() {
@@ -104,6 +105,7 @@ impl FifoQueue {
     /// the dead-letter queue, which gives its load. No error comes.
     pub fn release(&mut self, number: u64) -> Result<Option<Load>, Refusal>
         ensures answer { returned (released self.old number) ≡ (result, self.new) }
+        ensures kept { self.new.entries ≡ self.old.entries }
         ensures framed { IsFramed self.old self.new }
     {
         self.store.release(number)
@@ -113,6 +115,7 @@ impl FifoQueue {
     /// not there.
     pub fn expire(&mut self, now: u64, number: u64) -> u64
         ensures answer { expired self.old now number ≡ (result, self.new) }
+        ensures kept { self.new.entries ≡ self.old.entries }
         ensures framed { IsFramed self.old self.new }
     {
         self.store.expire(now, number)
@@ -131,6 +134,7 @@ impl FifoQueue {
     ) -> Result<Option<Load>, Refusal>
         requires { now ≤ most_count }
         ensures answer { change self.old now receipt.now timeout ≡ (result, self.new) }
+        ensures kept { self.new.entries ≡ self.old.entries }
         ensures framed { IsFramed self.old self.new }
     {
         self.store.change(now, receipt, timeout)
@@ -194,6 +198,7 @@ impl FifoQueue {
         ensures answer { Meets (self.old.arrivals ≡ most_count) result self.new (send_in self.old now body group (scope_in self.old.settings.kind group) id) }
         ensures counted { OnOk result ((self.old.arrivals < most_count) ⊎ (self.new ≡ self.old)) }
         ensures unchanged { OnErr result (self.new ≡ self.old) }
+        ensures at_limit { result ≡ Err Refusal.CountLimit → (send_in self.old now body group (scope_in self.old.settings.kind group) id).0 ≡ Ok (Sent.New (id_of self.old self.old.arrivals)) }
         ensures refused { IfErr result (λ refusal. (refusal ≡ Refusal.CountLimit) ⊎ (refusal ≡ Refusal.Memory)) }
         ensures no_later_entry { All (λ e. e.end ≤ now + 300000) self.new.entries }
         ensures framed { IsFramed self.old self.new }

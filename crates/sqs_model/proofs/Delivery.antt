@@ -5,14 +5,14 @@ use Rattle.std.specs.Cmp.{IsTotalOrder}
 use Rattle.std.specs.Ordering.{on}
 use Rattle.std.proofs.lemmas.Cmp.{on_total}
 use Rattle.sim_clock.specs.declared.key.Key.{Key}
-use Rattle.sim_clock.specs.Order.{key_cmp, key_cmp_total, same_key, IsInOrder, lesser, due_before}
+use Rattle.sim_clock.specs.Order.{key_cmp, key_cmp_total, same_key, lesser, due_before}
 use Rattle.sim_clock.proofs.Inserted.{inserted_swap, find_inserted, without_inserted, ordered_inserted, ordered_without}
 use Rattle.sim_clock.proofs.Least.{least_inserted, key_tied, due_before_lesser}
 use Rattle.sqs_redrive.specs.declared.transfers.Outbound.{Outbound}
 use Rattle.sqs_redrive.specs.Transfers.{transfer_key}
 use Rattle.sqs_model.specs.Site.{Site, accepted, has_key, number_of}
 use Rattle.sqs_model.specs.Dues.{dues, core_dues, least_due}
-use Rattle.sqs_model.specs.Step.{Handled, handled, handled_when}
+use Rattle.sqs_model.specs.Step.{handled, handled_when}
 use Rattle.sqs_model.specs.Run.{delivered, delivered_one}
 use Rattle.sqs_model.specs.Delivery.{IsSorted, with_accepted}
 

@@ -21,3 +21,4 @@ pub mod Accounts
 pub mod Answers
 pub mod Progress
 pub mod Valid
+pub mod Limits

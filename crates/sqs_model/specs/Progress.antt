@@ -7,6 +7,9 @@ use Rattle.sqs_model.specs.declared.agents.Role.TheVariants.{Consumer, Producer,
 use Rattle.sqs_redrive.specs.declared.settings.Latency.{Latency}
 use Rattle.sqs_redrive.specs.declared.settings.Policy.{Policy}
 use Rattle.sqs_redrive.specs.declared.settings.QueueSettings.{QueueSettings}
+use Rattle.sqs_redrive.specs.declared.transfers.Load.{Load}
+use Rattle.sqs_redrive.specs.declared.transfers.Load.TheVariants as loads
+use Rattle.sqs_redrive.specs.declared.transfers.Outbound.{Outbound}
 use Rattle.sqs_model.specs.Actor.{Actor, first_at}
 use Rattle.sqs_model.specs.Dues.{dues}
 use Rattle.sqs_model.specs.Queue.{Queue}
@@ -91,6 +94,14 @@ pub record MovesOn (key : Key) (s : Site) (h : Handled) : Type 0 where
 abbrev pub HandlingMovesOn : Type 0
 HandlingMovesOn = (key : Key) (s : Site) → IsSound s.core → Contains (dues s) key → MovesOn key s (handled key s)
 
+-- no deduplication entry of a queue came after a moment
+abbrev pub IsRecent : ℕ → Queue → Type 0
+IsRecent now q = All (λ e. e.end ≤ now + 300000) q.entries
+
+-- a handling leaves no entry from after its moment
+abbrev pub HandlingStaysRecent : Type 0
+HandlingStaysRecent = (key : Key) (s : Site) → IsRecent key.at s.core.queue → IsRecent key.at (handled key s).site.core.queue
+
 -- a run of a sound scenario begins with sound sites
 abbrev pub OpeningIsSound : Type 0
 OpeningIsSound = (s : Scenario) → IsSoundScenario s → All (λ site. IsSound site.core) (opening s)
@@ -98,3 +109,27 @@ OpeningIsSound = (s : Scenario) → IsSoundScenario s → All (λ site. IsSound 
 -- every sound scenario has a whole run
 abbrev pub RunEnds : Type 0
 RunEnds = (s : Scenario) → IsSoundScenario s → (r : Run) × IsRunOf s r
+
+-- whether what a load carries was enqueued by a moment
+abbrev pub WasEnqueuedBy : ℕ → Load → Type 0
+WasEnqueuedBy now (loads.Redrive id origin body group enqueued) = enqueued ≤ now
+WasEnqueuedBy now (loads.Move id origin body group) = Unit {0}
+WasEnqueuedBy now (loads.Forward id body group) = Unit {0}
+
+-- no message of a queue was enqueued after a moment
+abbrev pub IsFilledBy : ℕ → Queue → Type 0
+IsFilledBy now q = All (λ m. m.enqueued ≤ now) q.records
+
+-- no transfer carries a message that was enqueued after its arrival
+abbrev pub AreTimely : List Outbound → Type 0
+AreTimely transfers = All (λ o. WasEnqueuedBy o.at o.load) transfers
+
+-- what a handling leaves and sends: nothing was enqueued after its moment, or after its arrival
+pub record KeepsTime (key : Key) (h : Handled) : Type 0 where
+  pub filled : IsFilledBy key.at h.site.core.queue
+  pub arriving : AreTimely h.site.arriving
+  pub sent : AreTimely h.sent
+
+-- a handling enqueues nothing after its moment
+abbrev pub HandlingKeepsTime : Type 0
+HandlingKeepsTime = (key : Key) (s : Site) → IsFilledBy key.at s.core.queue → AreTimely s.arriving → KeepsTime key (handled key s)

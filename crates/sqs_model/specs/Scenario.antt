@@ -10,7 +10,6 @@ use Rattle.sqs_redrive.specs.declared.settings.Latency.{Latency}
 use Rattle.sqs_redrive.specs.declared.settings.Policy.{Policy}
 use Rattle.sqs_redrive.specs.declared.settings.QueueSettings.{QueueSettings}
 use Rattle.sqs_redrive.specs.declared.settings.TaskSettings.{TaskSettings}
-use Rattle.sim_clock.specs.Order.{least}
 use Rattle.sqs_model.specs.Actor.{Actor, Asked, first_at}
 use Rattle.sqs_model.specs.Draw.{Draws}
 use Rattle.sqs_model.specs.Queue.{Queue}

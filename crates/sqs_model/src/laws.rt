@@ -1,12 +1,19 @@
 //! Laws about the definitions that the code of other crates rests on. Each function does nothing:
 //! its contract is the law.
+ghost use Rattle.sqs_model.specs.Limits.{CountsOnlyGrow};
 ghost use Rattle.sqs_model.specs.Delivery.{DeliveryInAnyOrder, HandlingApartFromDelivery, SortedSitesStaySorted};
-ghost use Rattle.sqs_model.specs.Progress.{HandlingMovesOn, OpeningIsSound, RunEnds};
+ghost use Rattle.sqs_model.specs.Progress.{HandlingKeepsTime, HandlingMovesOn, HandlingStaysRecent, OpeningIsSound, RunEnds};
 
 /// The handling of what is due at a moment makes nothing due at that moment or before, and what it
 /// sends arrives later.
 pub fn handling_moves_on()
     ensures { HandlingMovesOn }
+{}
+
+/// A handling at a moment leaves a queue no deduplication entry from after that moment, if it found
+/// none.
+pub fn handling_stays_recent()
+    ensures { HandlingStaysRecent }
 {}
 
 /// Every sound scenario opens with sound sites, to which `handling_moves_on` speaks.
@@ -32,4 +39,16 @@ pub fn handling_apart_from_delivery()
 /// Transfers on their way stay in the order of their keys, as `handling_apart_from_delivery` asks.
 pub fn sorted_sites_stay_sorted()
     ensures { SortedSitesStaySorted }
+{}
+
+/// The counts of a site only grow, whatever is handled there: one that passes its limit shows at
+/// the end of the handling.
+pub fn counts_only_grow()
+    ensures { CountsOnlyGrow }
+{}
+
+/// The handling of what is due at a moment leaves no message that was enqueued after that moment,
+/// and sends none that was enqueued after it arrives.
+pub fn handling_keeps_time()
+    ensures { HandlingKeepsTime }
 {}

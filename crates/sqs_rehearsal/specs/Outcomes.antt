@@ -1,16 +1,11 @@
 -- What a whole run leaves.
-use Rattle.std.specs.Prelude.{Bool, List, false, length, take, true, ℕ, ◌≡◌}
-use Rattle.std.specs.List.{list_all}
-use Rattle.sim_clock.specs.declared.refusal.Refusal.{Refusal}
+use Rattle.std.specs.Prelude.{List, length, take, ℕ, ◌≡◌}
 use Rattle.sqs_message.specs.declared.row.Row.{Row}
-use Rattle.sqs_redrive.specs.declared.settings.Kind.{Kind}
-use Rattle.sqs_redrive.specs.declared.settings.Kind.TheVariants.{Fifo, Standard}
 use Rattle.sqs_model.specs.declared.finals.Finals.{Finals}
 use Rattle.sqs_model.specs.Finals.{finals_of}
 use Rattle.sqs_model.specs.Run.{IsRunOf, Run}
 use Rattle.sqs_model.specs.Scenario.{Scenario}
 use Rattle.sqs_formats.specs.Report.{Column, report}
-use Rattle.sim_clock.specs.declared.refusal.Refusal.TheVariants as refusals
 
 -- the names of all agents and how many of these are queues, the rows of a run, and what is left at its end
 pub record Outcome : Type 0 where
@@ -30,19 +25,3 @@ IsOutcomeOf s o = (r : Run) × IsRunOf s r × (o ≡ outcome_of s r)
 -- the report of an outcome
 abbrev pub report_in : Outcome → List Column
 report_in o = report (take o.queues o.names) o.rows o.finals
-
--- whether a queue is a standard one
-abbrev pub is_standard : Kind → Bool
-is_standard (Standard hosts sampled) = true
-is_standard (Fifo content_dedup scope) = false
-
--- whether all queues of a scenario are
-abbrev pub only_standard : Scenario → Bool
-only_standard s = list_all (λ q. is_standard q.kind) s.queues
-
--- why a scenario was not run to its end: want of memory, a count at its limit, or a FIFO queue
-abbrev pub Stops : Scenario → Refusal → Type 0
-Stops s refusals.Memory = Unit {0}
-Stops s refusals.CountLimit = Unit {0}
-Stops s refusals.NotYet = only_standard s ≡ false
-Stops s e = ⊥

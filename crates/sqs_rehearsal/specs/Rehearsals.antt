@@ -7,7 +7,6 @@ use Rattle.sqs_formats.specs.Output.{ending_of, log_of}
 use Rattle.sqs_formats.specs.Scenario.{scenario_of}
 use Rattle.sqs_model.specs.Run.{IsRunOf, Run}
 use Rattle.sqs_model.specs.Scenario.{Scenario}
-use Rattle.sqs_rehearsal.specs.Outcomes.{only_standard}
 use Rattle.sqs_rehearsal.specs.Split.{Split, split_fault}
 use Rattle.sqs_rehearsal.specs.declared.rehearsal.Fault.{Fault}
 use Rattle.sim_scenario.specs.declared.fault.ReadError.{ReadError}
@@ -55,11 +54,23 @@ pub record IsWritten (q : Request) (log report : Writer) : Type 0 where
   pub whole_log : Got log (log_of of.scenario of.run)
   pub whole_report : Got report (ending_of of.scenario of.run)
 
--- a front of it: the log writer got a front of the log, the other one of finals and report
-pub record IsPartWritten (q : Request) (log report : Writer) : Type 0 where
+-- a rehearsal that stopped while the log was written: the log writer got a front of it, and whether it failed; the other got nothing
+pub record StoppedInLog (q : Request) (log report : Writer) (failed : Bool) : Type 0 where
   pub of : Rehearsed q
   pub log_front : GotFront log (log_of of.scenario of.run)
+  pub log_failed : log.failed ≡ failed
+  pub no_report : GotNothing report
+
+-- one that stopped after the log: the other writer got a front of finals and report, and whether it failed
+pub record StoppedAfterLog (q : Request) (log report : Writer) (failed : Bool) : Type 0 where
+  pub of : Rehearsed q
+  pub whole_log : Got log (log_of of.scenario of.run)
   pub report_front : GotFront report (ending_of of.scenario of.run)
+  pub report_failed : report.failed ≡ failed
+
+-- one that stopped on its way: the log is written first, and the rest after all of it
+abbrev pub IsPartWritten : Request → Writer → Writer → Bool → Type 0
+IsPartWritten q log report failed = StoppedInLog q log report failed ⊎ StoppedAfterLog q log report failed
 
 -- nothing of it
 pub record IsUnwritten (log report : Writer) : Type 0 where
@@ -78,7 +89,6 @@ fault_of_reading (errors.Fault f) = faults.Scenario f
 
 -- why a request is refused before anything is written
 abbrev pub IsBarred : Request → Refusal → Type 0
-IsBarred q refusals.NotYet = (s : Stated q) × (only_standard s.scenario ≡ false)
 IsBarred q refusals.BadMap = (s : Stated q) × (split_fault s.scenario q.split ≡ Some refusals.BadMap)
 IsBarred q (refusals.WindowTooLong w least) = (s : Stated q) × (split_fault s.scenario q.split ≡ Some (refusals.WindowTooLong w least))
 IsBarred q refusals.BadWorkers = (s : Stated q) × (split_fault s.scenario q.split ≡ Some refusals.BadWorkers)
@@ -93,6 +103,6 @@ Bars q (faults.Refused r) = IsBarred q r
 
 -- why a request is refused, and what was written by then
 abbrev pub IsRefused : Request → Writer → Writer → Fault → Type 0
-IsRefused q log report (faults.Refused refusals.Write) = IsPartWritten q log report × ((log.failed ≡ true) ⊎ (report.failed ≡ true))
-IsRefused q log report (faults.Refused refusals.Memory) = (log.failed ≡ false) × (report.failed ≡ false) × (IsUnwritten log report ⊎ IsPartWritten q log report)
+IsRefused q log report (faults.Refused refusals.Write) = IsPartWritten q log report true
+IsRefused q log report (faults.Refused refusals.Memory) = IsUnwritten log report ⊎ IsPartWritten q log report false
 IsRefused q log report f = Bars q f × IsUnwritten log report

@@ -4,7 +4,7 @@ ghost use Rattle.std.specs.Ordering.{is_lt};
 ghost use Rattle.sim_clock.specs.Order.{key_cmp};
 ghost use Rattle.sim_windows.specs.Worlds.{alive};
 ghost use Rattle.sqs_model.specs.Finals.{final_message, final_task, final_transfer, finals_of as the_finals_of, in_key_order, in_number_order, messages_at};
-ghost use Rattle.sqs_model.specs.Queue.{Queue};
+ghost use Rattle.sqs_model.specs.Queue.{Queue as TheQueue};
 ghost use Rattle.sqs_model.specs.Site.{Site as TheSite};
 ghost use Rattle.sqs_rehearsal.specs.Left.{keyed, keyed_at, tasks_at};
 
@@ -15,14 +15,14 @@ use sqs_model::{
     FinalMessage, FinalMessages, FinalTask, FinalTasks, FinalTransfer, FinalTransfers, Finals,
     TransferKind,
 };
+use sqs_queue::Queue;
 use sqs_redrive::{Load, Outbound};
-use sqs_standard::StandardQueue;
 use std::alloc::Global;
 use std::cmp::Ordering;
 
 // A message of a queue.
 fn final_message(alloc: Global, site: u32, message: &Message) -> Result<FinalMessage, Refusal>
-    ensures left { (q : Queue) → q.site ≡ site → IfOk result (λ m. m ≡ final_message q message.now) }
+    ensures left { (q : TheQueue) → q.site ≡ site → IfOk result (λ m. m ≡ final_message q message.now) }
     ensures memory_only { IsOkUnless result Refusal.Memory }
 {
     let group = match &message.group {
@@ -48,7 +48,7 @@ fn final_message(alloc: Global, site: u32, message: &Message) -> Result<FinalMes
 fn add_messages(
     alloc: Global,
     messages: &mut Vec<FinalMessage>,
-    queue: &StandardQueue,
+    queue: &Queue,
 ) -> Result<(), Refusal>
     ensures added { OnOk result (messages.new.items ≡ messages.old.items ++ map (final_message queue.now) queue.now.records) }
     ensures memory_only { IsOkUnless result Refusal.Memory }

@@ -1,11 +1,12 @@
 //! What the whole run of a scenario leaves.
 ghost use Rattle.std.specs.Prelude.{◌≡◌, ◌++◌, [], false, IfErr, IfOk, IsOkUnless};
 ghost use Rattle.sim_records.specs.Writes.{WroteSeveral};
+ghost use Rattle.sim_site.specs.Effects.{Spends};
 ghost use Rattle.sqs_formats.specs.Comparison.{comparison};
 ghost use Rattle.sqs_formats.specs.Finals.{finals_text};
 ghost use Rattle.sqs_formats.specs.Report.{report_text};
 ghost use Rattle.sqs_formats.specs.Rows.{log_text};
-ghost use Rattle.sqs_rehearsal.specs.Outcomes.{IsOutcomeOf, Stops, report_in};
+ghost use Rattle.sqs_rehearsal.specs.Outcomes.{IsOutcomeOf, report_in};
 
 use crate::finals::finals_of;
 use sim_clock::Refusal;
@@ -67,11 +68,10 @@ impl Outcome {
     ///
     /// # Errors
     ///
-    /// `NotYet` where a queue is FIFO, which is not there yet; `CountLimit` where a count passes
-    /// 2^62 - 1; `Memory`.
+    /// `CountLimit` where a count passes 2^62 - 1; `Memory`.
     pub fn of(alloc: Global, scenario: Scenario) -> Result<Outcome, Refusal>
         ensures whole { IfOk result (IsOutcomeOf scenario) }
-        ensures stops { IfErr result (Stops scenario) }
+        ensures spends { IfErr result Spends }
     {
         let horizon = scenario.horizon();
         let queues = scenario.queues().len();

@@ -1,7 +1,7 @@
 //! A rehearsal, from bytes to bytes.
-ghost use Rattle.std.specs.Prelude.{◌≡◌, ◌⊎◌, false, true, IfErr, IfOk, OnOk};
+ghost use Rattle.std.specs.Prelude.{◌≡◌, false, IfErr, IfOk, OnOk};
 ghost use Rattle.sim_records.specs.Writes.{WroteSeveral};
-ghost use Rattle.sqs_rehearsal.specs.Outcomes.{only_standard, outcome_of};
+ghost use Rattle.sqs_rehearsal.specs.Outcomes.{outcome_of};
 ghost use Rattle.sqs_rehearsal.specs.Rehearsals.{Bars, IsRefused, IsWritten, Rehearsed, Request, Writer};
 ghost use Rattle.sqs_rehearsal.specs.Split.{unless};
 
@@ -9,9 +9,8 @@ use crate::outcome::Outcome;
 use crate::split::Split;
 use sim_clock::Refusal;
 use sim_records::Out;
-use sim_scenario::{ReadError, Scenario, Scripts, read};
+use sim_scenario::{ReadError, Scripts, read};
 use sqs_formats::ScenarioFault;
-use sqs_redrive::Kind;
 use std::alloc::Global;
 
 /// Why a rehearsal is refused.
@@ -48,25 +47,12 @@ impl From<Refusal> for Fault {
     }
 }
 
-// Whether all queues of a scenario are standard.
-fn only_standard(scenario: &Scenario) -> bool
-    ensures { result ≡ only_standard scenario.now }
-{
-    scenario
-        .queues()
-        .iter()
-        .all(|queue| matches!(queue.kind, Kind::Standard { .. }))
-}
-
 // The outcome of a request.
 fn outcome(alloc: Global, text: &[u8], scripts: &Scripts, split: &Split) -> Result<Outcome, Fault>
     ensures whole { IfOk result (λ o. (r : Rehearsed (record { text = text.now; scripts = scripts.now; split = split.now })) × (o ≡ outcome_of r.scenario r.run)) }
     ensures barred { IfErr result (Bars (record { text = text.now; scripts = scripts.now; split = split.now })) }
 {
     let scenario = read(alloc, text, scripts)?;
-    if !only_standard(&scenario) {
-        return Err(Fault::Refused(Refusal::NotYet));
-    }
     split.check(&scenario)?;
     let outcome = Outcome::of(alloc, scenario)?;
     Ok(outcome)
@@ -78,11 +64,11 @@ fn outcome(alloc: Global, text: &[u8], scripts: &Scripts, split: &Split) -> Resu
 ///
 /// # Errors
 ///
-/// Nothing is written where the scenario has a fault, 10 to 20; where it has a FIFO queue, `NotYet`;
-/// where it can't be split so, `BadMap`, `WindowTooLong` or `BadWorkers`, the first of these that
-/// holds; or where a count passes 2^62 - 1, `CountLimit`. After `Write`, where a writer failed, and
-/// after `Memory` the log writer has got a front of the log, and the other a front of the rest:
-/// nothing unless the log was written whole.
+/// Nothing is written where the scenario has a fault, 10 to 20; where it can't be split so, `BadMap`,
+/// `WindowTooLong` or `BadWorkers`, the first of these that holds; or where a count passes 2^62 - 1,
+/// `CountLimit`. After `Write`, where a writer failed, and after `Memory` the log writer has got a
+/// front of the log, and the other a front of the rest, or nothing where the log was not written
+/// whole.
 pub fn rehearse<L: Out, R: Out>(
     alloc: Global,
     text: &[u8],

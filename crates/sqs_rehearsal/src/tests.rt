@@ -51,10 +51,25 @@ at,call,body,group,id,delay,receipt,max,wait,timeout,task
 \"\"\"
 ";
 
-const FIFO: &[u8] = b"version = 1
+/// A FIFO queue takes a message once, and gives the next of its group when that one is deleted.
+const ONE_GROUP: &[u8] = b"version = 1
 horizon = 1000
 [[queue]]
 name = \"q.fifo\"
+[[actor]]
+name = \"s\"
+kind = \"script\"
+queue = \"q.fifo\"
+calls = \"\"\"
+at,call,body,group,id,delay,receipt,max,wait,timeout,task
+0,send,abc,g,x,,,,,,
+100,send,abc,g,x,,,,,,
+200,receive,,,,,,,,,
+300,send,abc,g,y,,,,,,
+400,receive,,,,,,,,,
+500,delete,,,,,r-0-0-1,,,,
+600,receive,,,,,,,,,
+\"\"\"
 ";
 
 const ONE_SEND_LOG: &[u8] = b"at,queue,agent,call,answer,message,receipt,detail
@@ -93,6 +108,24 @@ transfer,from,to,kind,due,number,message,origin,md5
 task,name,status,moved
 report,queue,sends,repeats,receives,empties,deletes,expiries,redrives,moves,arrivals,OverLimit,MessageNotInflight,ReceiptHandleIsInvalid,BadTimeout,MissingGroup,MissingDeduplication,BadDelay,TaskRunning,NoTask,depth_max,visible,in_flight,delayed,age_sum,age_max,age_p50,age_p95,age_p99
 report,q,1,0,2,0,1,0,0,0,0,0,0,0,0,0,0,0,0,0,1,0,0,0,1400,1400,1400,1400,1400
+";
+
+const ONE_GROUP_LOG: &[u8] = b"at,queue,agent,call,answer,message,receipt,detail
+0,q.fifo,s,send,new,m-0-0,,900150983cd24fb0d6963f7d28e17f72
+100,q.fifo,s,send,repeat,m-0-0,,900150983cd24fb0d6963f7d28e17f72
+200,q.fifo,s,receive,ok,m-0-0,r-0-0-1,o-0-0
+300,q.fifo,s,send,new,m-0-1,,900150983cd24fb0d6963f7d28e17f72
+400,q.fifo,s,receive,empty,,,
+500,q.fifo,s,delete,deleted,m-0-0,r-0-0-1,500
+600,q.fifo,s,receive,ok,m-0-1,r-0-1-1,o-0-1
+";
+
+const ONE_GROUP_ENDING: &[u8] = b"final,queue,message,origin,place,due,enqueued,receives,group,md5
+final,q.fifo,m-0-1,o-0-1,inflight,30600,300,1,g,900150983cd24fb0d6963f7d28e17f72
+transfer,from,to,kind,due,number,message,origin,md5
+task,name,status,moved
+report,queue,sends,repeats,receives,empties,deletes,expiries,redrives,moves,arrivals,OverLimit,MessageNotInflight,ReceiptHandleIsInvalid,BadTimeout,MissingGroup,MissingDeduplication,BadDelay,TaskRunning,NoTask,depth_max,visible,in_flight,delayed,age_sum,age_max,age_p50,age_p95,age_p99
+report,q.fifo,2,1,2,1,1,0,0,0,0,0,0,0,0,0,0,0,0,0,2,0,1,0,500,500,500,500,500
 ";
 
 /// Takes a byte a call, fails its call after so many, and flushes or not.
@@ -183,6 +216,7 @@ fn worked_scenarios_to_the_byte(rt: HostRuntime) -> Result<(), Fail> {
         (ONE_SEND, ONE_SEND_LOG, ONE_SEND_ENDING),
         (NO_ACTOR, NO_ACTOR_LOG, NO_ACTOR_ENDING),
         (TWO_DELETES, TWO_DELETES_LOG, TWO_DELETES_ENDING),
+        (ONE_GROUP, ONE_GROUP_LOG, ONE_GROUP_ENDING),
     ] {
         let got = written(rt.alloc(), text, &whole(), MANY, MANY);
         assert!(rt; got.answer.is_ok());
@@ -223,7 +257,6 @@ fn what_a_rehearsal_refuses(rt: HostRuntime) -> Result<(), Fail> {
         ),
         (ONE_SEND, no_map, Refusal::BadMap),
         (ONE_SEND, crowd, Refusal::BadWorkers),
-        (FIFO, whole(), Refusal::NotYet),
     ] {
         let got = written(rt.alloc(), text, &split, MANY, MANY);
         assert!(rt; matches!(got.answer, Err(Fault::Refused(told)) if told == refusal));

@@ -78,7 +78,7 @@ fn fault_line(alloc: Global, fault: &ScenarioFault) -> Result<Vec<u8>, AllocErro
 // The status of a refusal: 1 of a scenario, 4 of a writer that failed, 3 of a run.
 fn status(refusal: Refusal) -> u8 {
     match refusal.code() {
-        0..=29 => 1,
+        0..=20 => 1,
         36 => 4,
         _ => 3,
     }

@@ -1,14 +1,12 @@
 //! Each public call once, and small tables whose answers are worked out by hand.
-ghost use Rattle.std.specs.Prelude.{◌≤◌};
-ghost use Rattle.sqs_model.specs.Answers.{most_count};
 ghost use Rattle.sqs_standard.specs.Standard.{IsStandardSettings, WasEnqueuedBy};
 
 use crate::{Counts, StandardQueue};
 use sim_clock::{Class, Key, Refusal};
-use sqs_message::{Message, MessageId, Origin, Receipt, Text};
+use sqs_message::{MessageId, Origin, Receipt, Text};
 use sqs_redrive::{Deleted, Got, Kind, Latency, Load, Policy, QueueSettings, Rest, Sent};
 use std::alloc::{AllocError, Global};
-use std::test::Fail;
+use std::process::Abort;
 
 // Two hosts, 30 seconds of visibility, a minute of retention, room for two, and a dead-letter queue
 // after two receives.
@@ -35,92 +33,12 @@ fn settings() -> QueueSettings
     }
 }
 
+fn empty_queue(alloc: Global) -> StandardQueue {
+    StandardQueue::new(alloc, 7, settings())
+}
+
 fn text(alloc: Global, byte: u8) -> Result<Text, AllocError> {
     Ok(Text::new(vec![in alloc; byte]?))
-}
-
-// The calls, without what they promise, which the tests do not rest on.
-
-fn send(
-    alloc: Global,
-    queue: &mut StandardQueue,
-    now: u64,
-    byte: u8,
-    delay: Option<u64>,
-) -> Result<Sent, Refusal>
-    requires { now ≤ most_count }
-{
-    queue.send(now, text(alloc, byte)?, delay)
-}
-
-fn receive(
-    queue: &mut StandardQueue,
-    now: u64,
-    max: u64,
-    timeout: Option<u64>,
-    hosts: u16,
-    short: bool,
-) -> Result<Vec<Got>, Refusal>
-    requires { now ≤ most_count }
-{
-    queue.receive(now, max, timeout, hosts, short)
-}
-
-fn delete(queue: &mut StandardQueue, now: u64, by: &Receipt) -> Result<Deleted, Refusal> {
-    queue.delete(now, by)
-}
-
-fn change(
-    queue: &mut StandardQueue,
-    now: u64,
-    by: &Receipt,
-    seconds: u64,
-) -> Result<Option<Load>, Refusal>
-    requires { now ≤ most_count }
-{
-    queue.change(now, by, seconds)
-}
-
-fn release(queue: &mut StandardQueue, number: u64) -> Result<Option<Load>, Refusal> {
-    queue.release(number)
-}
-
-fn expire(queue: &mut StandardQueue, now: u64, number: u64) -> u64 {
-    queue.expire(now, number)
-}
-
-fn arrive(queue: &mut StandardQueue, now: u64, load: Load) -> Result<(Sent, bool), Refusal>
-    requires moment { now ≤ most_count }
-    requires enqueued { WasEnqueuedBy now load }
-{
-    queue.arrive(now, load)
-}
-
-fn take_movable(
-    queue: &mut StandardQueue,
-    max: u64,
-    to: Option<u32>,
-) -> Result<(Vec<(u32, Load)>, Rest), Refusal> {
-    queue.take_movable(max, to)
-}
-
-fn least_due(queue: &StandardQueue) -> Option<Key> {
-    queue.least_due()
-}
-
-fn counts(queue: &StandardQueue) -> Counts {
-    queue.counts()
-}
-
-fn view(queue: &StandardQueue) -> &[Message] {
-    queue.view()
-}
-
-fn release_of(queue: &StandardQueue, place: usize) -> Option<u64> {
-    match queue.view().get(place) {
-        Some(message) => message.release,
-        None => None,
-    }
 }
 
 fn receipt(number: u64, count: u64) -> Receipt {
@@ -135,42 +53,105 @@ fn id(number: u64) -> MessageId {
     MessageId { site: 7, number }
 }
 
-#[test]
-fn sends_and_counts(rt: HostRuntime) -> Result<(), Fail> {
-    let alloc = rt.alloc();
-    let mut queue = StandardQueue::new(alloc, 7, settings());
-    assert_eq!(rt; send(alloc, &mut queue, 0, 97, None), Ok(Sent::New(id(0))));
-    assert_eq!(rt;
-        send(alloc, &mut queue, 10, 98, Some(5)),
-        Ok(Sent::New(id(1)))
-    );
-    assert_eq!(rt;
-        send(alloc, &mut queue, 11, 99, Some(900)),
-        Ok(Sent::New(id(2)))
-    );
-    assert_eq!(rt;
-        send(alloc, &mut queue, 12, 99, Some(901)),
-        Err(Refusal::BadDelay)
-    );
-    assert_eq!(rt; queue.site(), 7);
-    assert_eq!(rt; queue.settings().retention, 60000);
-    let counts = counts(&queue);
-    assert_eq!(rt;
-        (counts.visible, counts.in_flight, counts.delayed),
-        (1, 0, 2)
-    );
-    let wanted = [(97, None), (98, Some(5010)), (99, Some(900011))];
-    assert_eq!(rt; view(&queue).len(), 3);
-    for (message, (byte, release)) in view(&queue).iter().zip(&wanted) {
-        assert_eq!(rt; message.body.as_bytes(), [*byte].as_slice());
-        assert_eq!(rt; message.release, *release);
+// The calls, without what they promise, which the tests do not rest on.
+
+fn send(
+    alloc: Global,
+    queue: &mut StandardQueue,
+    now: u32,
+    byte: u8,
+    delay: Option<u64>,
+) -> Result<Sent, Refusal> {
+    queue.send(u64::from(now), text(alloc, byte)?, delay)
+}
+
+fn receive(
+    queue: &mut StandardQueue,
+    now: u32,
+    max: u64,
+    timeout: Option<u64>,
+    hosts: u16,
+    short: bool,
+) -> Result<Vec<Got>, Refusal> {
+    queue.receive(u64::from(now), max, timeout, hosts, short)
+}
+
+// How many messages a receive from all hosts gives.
+fn receive_count(
+    queue: &mut StandardQueue,
+    now: u32,
+    max: u64,
+    timeout: Option<u64>,
+    short: bool,
+) -> Result<usize, Refusal> {
+    Ok(receive(queue, now, max, timeout, 3, short)?.len())
+}
+
+fn delete(queue: &mut StandardQueue, now: u64, by: Receipt) -> Result<Deleted, Refusal> {
+    queue.delete(now, &by)
+}
+
+// How a change is refused, if it is.
+fn change(queue: &mut StandardQueue, now: u32, by: Receipt, seconds: u64) -> Option<Refusal> {
+    queue.change(u64::from(now), &by, seconds).err()
+}
+
+// Whether the message leaves as it comes back.
+fn release(queue: &mut StandardQueue, number: u64) -> Result<bool, Refusal> {
+    Ok(queue.release(number)?.is_some())
+}
+
+fn expire(queue: &mut StandardQueue, now: u64, number: u64) -> u64 {
+    queue.expire(now, number)
+}
+
+fn release_of(queue: &StandardQueue, place: usize) -> Option<u64> {
+    match queue.view().get(place) {
+        Some(message) => message.release,
+        None => None,
     }
-    Ok(())
 }
 
 #[test]
-fn receives_what_hosts_show(rt: HostRuntime) -> Result<(), Fail> {
-    let alloc = rt.alloc();
+fn sends_and_counts(rt: HostRuntime) {
+    let mut queue = empty_queue(rt.alloc());
+    assert_eq!(rt; queue.site(), 7);
+    assert_eq!(rt; queue.settings().retention, 60000);
+    try_sends(&rt, rt.alloc(), &mut queue);
+    try_view(&rt, &queue);
+}
+
+fn try_sends(rt: &impl Abort, alloc: Global, queue: &mut StandardQueue) {
+    // When, which body, its own delay, and the answer.
+    let table = [
+        (0, 97, None, Ok(Sent::New(id(0)))),
+        (10, 98, Some(5), Ok(Sent::New(id(1)))),
+        (11, 99, Some(900), Ok(Sent::New(id(2)))),
+        (12, 99, Some(901), Err(Refusal::BadDelay)),
+    ];
+    for (now, byte, delay, answer) in table {
+        assert_eq!(rt; send(alloc, queue, now, byte, delay), answer);
+    }
+    let counts = Counts {
+        visible: 1,
+        in_flight: 0,
+        delayed: 2,
+    };
+    assert_eq!(rt; queue.counts(), counts);
+}
+
+fn try_view(rt: &impl Abort, queue: &StandardQueue) {
+    // The body of each message, and the end of its delay.
+    let wanted = [(97, None), (98, Some(5010)), (99, Some(900011))];
+    assert_eq!(rt; queue.view().len(), 3);
+    for (message, (byte, release)) in queue.view().iter().zip(&wanted) {
+        assert_eq!(rt; message.body.as_bytes(), [*byte].as_slice());
+        assert_eq!(rt; message.release, *release);
+    }
+}
+
+#[test]
+fn receives_what_hosts_show(rt: HostRuntime) {
     // Hosts seen, how many are asked for, and the numbers given: numbers 0, 2 and 4 lie on host 0.
     let table = [
         (1, 10, Some(0), Some(2)),
@@ -181,115 +162,146 @@ fn receives_what_hosts_show(rt: HostRuntime) -> Result<(), Fail> {
         (3, 0, None, None),
     ];
     for (hosts, max, first, second) in table {
-        let mut queue = StandardQueue::new(alloc, 7, settings());
-        for byte in 97..102 {
-            assert!(rt; send(alloc, &mut queue, 0, byte, None).is_ok());
-        }
-        let batch = receive(&mut queue, 5, max, None, hosts, false)?;
-        assert_eq!(rt; batch.first().map(|got| got.id.number), first);
-        assert_eq!(rt; batch.get(1).map(|got| got.id.number), second);
-        assert_eq!(rt; batch.len() as u64, counts(&queue).in_flight);
-        for got in &batch {
-            assert_eq!(rt; got.receipt.count, 1);
-            assert_eq!(rt; got.body.as_bytes().len(), 1);
-        }
+        let mut queue = empty_queue(rt.alloc());
+        send_some(&rt, rt.alloc(), &mut queue, 5);
+        let tried = try_receive(&rt, &mut queue, max, hosts, (first, second));
+        assert_eq!(rt; tried, Ok(()));
     }
-    Ok(())
 }
 
-#[test]
-fn refuses_receives(rt: HostRuntime) -> Result<(), Fail> {
-    let alloc = rt.alloc();
-    let mut queue = StandardQueue::new(alloc, 7, settings());
-    for byte in 97..100 {
-        assert!(rt; send(alloc, &mut queue, 0, byte, None).is_ok());
+fn send_some(rt: &impl Abort, alloc: Global, queue: &mut StandardQueue, count: u8) {
+    for number in 0..count {
+        assert!(rt; send(alloc, queue, 0, 97u8.saturating_add(number), None).is_ok());
     }
-    assert_eq!(rt;
-        receive(&mut queue, 1, 10, Some(43201), 3, true).err(),
-        Some(Refusal::BadTimeout)
-    );
-    assert_eq!(rt; receive(&mut queue, 1, 10, Some(60), 3, true)?.len(), 2);
-    assert_eq!(rt; release_of(&queue, 1), Some(60001));
-    assert_eq!(rt;
-        receive(&mut queue, 2, 10, None, 3, true).err(),
-        Some(Refusal::OverLimit)
-    );
-    assert_eq!(rt; receive(&mut queue, 2, 10, None, 3, false)?.len(), 0);
-    Ok(())
 }
 
-#[test]
-fn gives_and_takes_back_at_once(rt: HostRuntime) -> Result<(), Fail> {
-    let alloc = rt.alloc();
-    let mut queue = StandardQueue::new(alloc, 7, settings());
-    assert!(rt; send(alloc, &mut queue, 3, 97, None).is_ok());
-    let batch = receive(&mut queue, 5, 1, Some(0), 3, false)?;
-    assert_eq!(rt;
-        batch.iter().map(|got| got.left.is_some()).next(),
-        Some(false)
-    );
-    assert_eq!(rt; counts(&queue).visible, 1);
-    let batch = receive(&mut queue, 6, 1, Some(0), 3, false)?;
-    assert_eq!(rt; batch.len(), 1);
+fn try_receive(
+    rt: &impl Abort,
+    queue: &mut StandardQueue,
+    max: u64,
+    hosts: u16,
+    numbers: (Option<u64>, Option<u64>),
+) -> Result<(), Refusal> {
+    let batch = receive(queue, 5, max, None, hosts, false)?;
+    assert_eq!(rt; (number_at(&batch, 0), number_at(&batch, 1)), numbers);
+    assert_eq!(rt; batch.len() as u64, queue.counts().in_flight);
     for got in &batch {
-        assert_eq!(rt; got.receipt, receipt(0, 2));
-        match &got.left {
-            Some(
-                Load::Redrive {
-                    id: left,
-                    enqueued,
-                    ..
-                },
-            ) => {
-                assert_eq!(rt; (*left, *enqueued), (id(0), 3));
-            }
-            _ => assert!(rt; false, "the message stays"),
-        }
+        assert_eq!(rt; (got.receipt.count, got.body.as_bytes().len()), (1, 1));
     }
-    assert_eq!(rt; view(&queue).len(), 0);
     Ok(())
 }
 
+fn number_at(batch: &[Got], place: usize) -> Option<u64> {
+    Some(batch.get(place)?.id.number)
+}
+
 #[test]
-fn deletes_by_the_newest_receipt(rt: HostRuntime) -> Result<(), Fail> {
-    let alloc = rt.alloc();
-    let mut queue = StandardQueue::new(alloc, 7, settings());
-    assert!(rt; send(alloc, &mut queue, 4, 97, None).is_ok());
-    assert_eq!(rt; receive(&mut queue, 5, 1, None, 3, false)?.len(), 1);
-    assert_eq!(rt; release(&mut queue, 0).map(|left| left.is_none()), Ok(true));
-    assert_eq!(rt; receive(&mut queue, 6, 1, None, 3, false)?.len(), 1);
+fn refuses_receives(rt: HostRuntime) {
+    let mut queue = empty_queue(rt.alloc());
+    send_some(&rt, rt.alloc(), &mut queue, 3);
+    // When, for how long, whether the poll is short, and how many are given.
+    let table = [
+        (1, Some(43201), true, Err(Refusal::BadTimeout)),
+        (1, Some(60), true, Ok(2)),
+        (2, None, true, Err(Refusal::OverLimit)),
+        (2, None, false, Ok(0)),
+    ];
+    for (now, timeout, short, answer) in table {
+        assert_eq!(rt; receive_count(&mut queue, now, 10, timeout, short), answer);
+    }
+    assert_eq!(rt; release_of(&queue, 1), Some(60001));
+}
+
+#[test]
+fn gives_and_takes_back_at_once(rt: HostRuntime) {
+    let mut queue = empty_queue(rt.alloc());
+    assert!(rt; send(rt.alloc(), &mut queue, 3, 97, None).is_ok());
+    // When, what is told of the message, and how many messages stay.
+    let table = [
+        (5, (1, Some(receipt(0, 1)), None), 1),
+        (6, (1, Some(receipt(0, 2)), Some((id(0), 3))), 0),
+    ];
+    for (now, told, stay) in table {
+        assert_eq!(rt; give_at_once(&mut queue, now), Ok(told));
+        assert_eq!(rt; queue.counts().visible, stay);
+        assert_eq!(rt; queue.view().len() as u64, stay);
+    }
+}
+
+// Of a receive with a timeout of 0: how many messages it gives, the receipt of the first, and its id
+// and enqueue time where it leaves for the dead-letter queue.
+fn give_at_once(
+    queue: &mut StandardQueue,
+    now: u32,
+) -> Result<(usize, Option<Receipt>, Option<(MessageId, u64)>), Refusal> {
+    let batch = receive(queue, now, 1, Some(0), 3, false)?;
+    match batch.first() {
+        None => Ok((0, None, None)),
+        Some(got) => Ok((batch.len(), Some(got.receipt), dead_letter(got))),
+    }
+}
+
+fn dead_letter(got: &Got) -> Option<(MessageId, u64)> {
+    match &got.left {
+        Some(Load::Redrive { id, enqueued, .. }) => Some((*id, *enqueued)),
+        _ => None,
+    }
+}
+
+#[test]
+fn deletes_by_the_newest_receipt(rt: HostRuntime) {
+    let mut queue = empty_queue(rt.alloc());
+    receive_twice(&rt, rt.alloc(), &mut queue);
+    try_deletes(&rt, &mut queue);
+}
+
+// A message is received at 5, comes back, and is received at 6.
+fn receive_twice(rt: &impl Abort, alloc: Global, queue: &mut StandardQueue) {
+    assert!(rt; send(alloc, queue, 4, 97, None).is_ok());
+    for now in [5, 6] {
+        assert_eq!(rt; receive_count(queue, now, 1, None, false), Ok(1));
+        if now == 5 {
+            assert_eq!(rt; release(queue, 0), Ok(false));
+        }
+    }
+}
+
+fn try_deletes(rt: &impl Abort, queue: &mut StandardQueue) {
     let other = Receipt {
         site: 8,
         number: 0,
         count: 2,
     };
-    assert_eq!(rt;
-        delete(&mut queue, 7, &other),
-        Err(Refusal::ReceiptHandleIsInvalid)
-    );
-    assert_eq!(rt;
-        delete(&mut queue, 7, &receipt(0, 3)),
-        Err(Refusal::ReceiptHandleIsInvalid)
-    );
-    assert_eq!(rt; delete(&mut queue, 7, &receipt(0, 1)), Ok(Deleted::Kept));
-    assert_eq!(rt;
-        delete(&mut queue, 7, &receipt(0, 2)),
-        Ok(Deleted::Removed(3))
-    );
-    assert_eq!(rt; delete(&mut queue, 8, &receipt(0, 2)), Ok(Deleted::Gone));
-    assert_eq!(rt;
-        delete(&mut queue, 8, &receipt(1, 1)),
-        Err(Refusal::ReceiptHandleIsInvalid)
-    );
-    Ok(())
+    // When, by which receipt, and the answer.
+    let table = [
+        (7, other, Err(Refusal::ReceiptHandleIsInvalid)),
+        (7, receipt(0, 3), Err(Refusal::ReceiptHandleIsInvalid)),
+        (7, receipt(0, 1), Ok(Deleted::Kept)),
+        (7, receipt(0, 2), Ok(Deleted::Removed(3))),
+        (8, receipt(0, 2), Ok(Deleted::Gone)),
+        (8, receipt(1, 1), Err(Refusal::ReceiptHandleIsInvalid)),
+    ];
+    for (now, by, answer) in table {
+        assert_eq!(rt; delete(queue, now, by), answer);
+    }
 }
 
 #[test]
-fn changes_visibility(rt: HostRuntime) -> Result<(), Fail> {
-    let alloc = rt.alloc();
-    let mut queue = StandardQueue::new(alloc, 7, settings());
-    assert!(rt; send(alloc, &mut queue, 0, 97, None).is_ok());
-    assert_eq!(rt; receive(&mut queue, 5, 1, None, 3, false)?.len(), 1);
+fn changes_visibility(rt: HostRuntime) {
+    let mut queue = empty_queue(rt.alloc());
+    assert!(rt; send(rt.alloc(), &mut queue, 0, 97, None).is_ok());
+    assert_eq!(rt; receive_count(&mut queue, 5, 1, None, false), Ok(1));
+    try_changes(&rt, &mut queue);
+    assert_eq!(rt; release_of(&queue, 0), Some(2006));
+    assert_eq!(rt; change(&mut queue, 7, receipt(0, 1), 0), None);
+    assert_eq!(rt; queue.counts().visible, 1);
+    assert_eq!(rt;
+        change(&mut queue, 8, receipt(0, 1), 1),
+        Some(Refusal::MessageNotInflight)
+    );
+}
+
+fn try_changes(rt: &impl Abort, queue: &mut StandardQueue) {
     // When, by which receipt, for how many seconds, and how it is refused.
     let table = [
         (6, receipt(0, 1), 43201, Some(Refusal::BadTimeout)),
@@ -301,136 +313,163 @@ fn changes_visibility(rt: HostRuntime) -> Result<(), Fail> {
         (6, receipt(0, 1), 2, None),
     ];
     for (now, by, seconds, refusal) in table {
-        assert_eq!(rt; change(&mut queue, now, &by, seconds).err(), refusal);
+        assert_eq!(rt; change(queue, now, by, seconds), refusal);
     }
-    assert_eq!(rt; release_of(&queue, 0), Some(2006));
-    assert!(rt; change(&mut queue, 7, &receipt(0, 1), 0).is_ok());
-    assert_eq!(rt; counts(&queue).visible, 1);
-    assert_eq!(rt;
-        change(&mut queue, 8, &receipt(0, 1), 1).err(),
-        Some(Refusal::MessageNotInflight)
-    );
-    Ok(())
 }
 
 #[test]
-fn tells_what_is_due(rt: HostRuntime) -> Result<(), Fail> {
-    let alloc = rt.alloc();
-    let mut queue = StandardQueue::new(alloc, 7, settings());
-    assert_eq!(rt; least_due(&queue), None);
-    assert!(rt; send(alloc, &mut queue, 1, 97, None).is_ok());
-    assert!(rt; send(alloc, &mut queue, 2, 98, Some(5)).is_ok());
+fn tells_what_is_due(rt: HostRuntime) {
+    let mut queue = empty_queue(rt.alloc());
+    assert_eq!(rt; queue.least_due(), None);
+    assert!(rt; send(rt.alloc(), &mut queue, 1, 97, None).is_ok());
+    assert!(rt; send(rt.alloc(), &mut queue, 2, 98, Some(5)).is_ok());
+    try_dues(&rt, &mut queue);
+    assert_eq!(rt; expire(&mut queue, 60001, 0), 60000);
+    assert_eq!(rt; expire(&mut queue, 60001, 0), 0);
+    assert_eq!(rt; queue.view().len(), 1);
+}
+
+fn try_dues(rt: &impl Abort, queue: &mut StandardQueue) {
     let visible_again = Key {
         at: 5002,
         agent: 7,
         class: Class::Release,
         number: 1,
     };
-    assert_eq!(rt; least_due(&queue), Some(visible_again));
-    assert_eq!(rt; release(&mut queue, 1).map(|left| left.is_none()), Ok(true));
+    assert_eq!(rt; queue.least_due(), Some(visible_again));
+    assert_eq!(rt; release(queue, 1), Ok(false));
     let over = Key {
         at: 60001,
         agent: 7,
         class: Class::Expiry,
         number: 0,
     };
-    assert_eq!(rt; least_due(&queue), Some(over));
-    assert_eq!(rt; expire(&mut queue, 60001, 0), 60000);
-    assert_eq!(rt; expire(&mut queue, 60001, 0), 0);
-    assert_eq!(rt; view(&queue).len(), 1);
-    Ok(())
+    assert_eq!(rt; queue.least_due(), Some(over));
 }
 
-#[test]
-fn takes_transfers_in(rt: HostRuntime) -> Result<(), Fail> {
-    let alloc = rt.alloc();
-    let mut queue = StandardQueue::new(alloc, 7, settings());
-    let from = MessageId { site: 3, number: 8 };
-    let origin = Origin { site: 1, number: 2 };
-    // Enqueued at 0: it is too old at 60000, and not at 59999.
-    for (now, expired) in [(59999, false), (60000, true)] {
-        let load = Load::Redrive {
-            id: from,
-            origin,
-            body: text(alloc, 97)?,
-            group: None,
-            enqueued: 0,
-        };
-        let sent = if expired { id(1) } else { id(0) };
-        assert_eq!(rt;
-            arrive(&mut queue, now, load),
-            Ok((Sent::New(sent), expired))
-        );
-    }
-    let load = Load::Move {
-        id: from,
-        origin,
-        body: text(alloc, 98)?,
-        group: None,
-    };
-    assert_eq!(rt;
-        arrive(&mut queue, 60001, load),
-        Ok((Sent::New(id(2)), false))
-    );
-    let load = Load::Forward {
-        id: from,
-        body: text(alloc, 99)?,
-        group: None,
-    };
-    assert_eq!(rt;
-        arrive(&mut queue, 60002, load),
-        Ok((Sent::New(id(3)), false))
-    );
-    // Of each: its number, enqueue time, source, and the site of its origin.
-    let wanted = [(0, 0, Some(3), 1), (2, 60001, None, 1), (3, 60002, None, 7)];
-    assert_eq!(rt; view(&queue).len(), 3);
-    for (message, (number, enqueued, source, site)) in view(&queue).iter().zip(&wanted) {
-        assert_eq!(rt; (message.number, message.enqueued), (*number, *enqueued));
-        assert_eq!(rt; (message.source, message.origin.site), (*source, *site));
-    }
-    Ok(())
+// The arrivals of transfers, all of message 8 of queue 3.
+
+fn arrive(queue: &mut StandardQueue, now: u32, load: Load) -> Result<(Sent, bool), Refusal>
+    requires { WasEnqueuedBy now load }
+{
+    queue.arrive(u64::from(now), load)
 }
 
-#[test]
-fn moves_messages_out(rt: HostRuntime) -> Result<(), Fail> {
-    let alloc = rt.alloc();
-    let mut queue = StandardQueue::new(alloc, 7, settings());
-    let origin = Origin { site: 3, number: 2 };
+fn redrive(
+    alloc: Global,
+    queue: &mut StandardQueue,
+    now: u32,
+    origin: Origin,
+    enqueued: u32,
+) -> Result<(Sent, bool), Refusal> {
     let load = Load::Redrive {
         id: MessageId { site: 3, number: 8 },
         origin,
         body: text(alloc, 97)?,
         group: None,
-        enqueued: 1,
+        enqueued: u64::from(enqueued.min(now)),
     };
-    assert!(rt; arrive(&mut queue, 5, load).is_ok());
+    arrive(queue, now, load)
+}
+
+fn move_in(
+    alloc: Global,
+    queue: &mut StandardQueue,
+    now: u32,
+    origin: Origin,
+) -> Result<(Sent, bool), Refusal> {
+    let load = Load::Move {
+        id: MessageId { site: 3, number: 8 },
+        origin,
+        body: text(alloc, 98)?,
+        group: None,
+    };
+    arrive(queue, now, load)
+}
+
+fn forward(alloc: Global, queue: &mut StandardQueue, now: u32) -> Result<(Sent, bool), Refusal> {
+    let load = Load::Forward {
+        id: MessageId { site: 3, number: 8 },
+        body: text(alloc, 99)?,
+        group: None,
+    };
+    arrive(queue, now, load)
+}
+
+#[test]
+fn takes_transfers_in(rt: HostRuntime) {
+    let mut queue = empty_queue(rt.alloc());
+    try_arrivals(&rt, rt.alloc(), &mut queue);
+    try_arrived(&rt, &queue);
+}
+
+fn try_arrivals(rt: &impl Abort, alloc: Global, queue: &mut StandardQueue) {
+    let origin = Origin { site: 1, number: 2 };
+    // Enqueued at 0: it is too old at 60000, and not at 59999.
+    for (now, number, expired) in [(59999, 0, false), (60000, 1, true)] {
+        assert_eq!(rt;
+            redrive(alloc, queue, now, origin, 0),
+            Ok((Sent::New(id(number)), expired))
+        );
+    }
+    assert_eq!(rt;
+        move_in(alloc, queue, 60001, origin),
+        Ok((Sent::New(id(2)), false))
+    );
+    assert_eq!(rt; forward(alloc, queue, 60002), Ok((Sent::New(id(3)), false)));
+}
+
+fn try_arrived(rt: &impl Abort, queue: &StandardQueue) {
+    // Of each: its number, enqueue time, source, and the site of its origin.
+    let wanted = [(0, 0, Some(3), 1), (2, 60001, None, 1), (3, 60002, None, 7)];
+    assert_eq!(rt; queue.view().len(), 3);
+    for (message, (number, enqueued, source, site)) in queue.view().iter().zip(&wanted) {
+        assert_eq!(rt; (message.number, message.enqueued), (*number, *enqueued));
+        assert_eq!(rt; (message.source, message.origin.site), (*source, *site));
+    }
+}
+
+#[test]
+fn moves_messages_out(rt: HostRuntime) {
+    let mut queue = empty_queue(rt.alloc());
+    let origin = Origin { site: 3, number: 2 };
+    assert!(rt; redrive(rt.alloc(), &mut queue, 5, origin, 1).is_ok());
     for byte in 98..100 {
-        assert!(rt; send(alloc, &mut queue, 6, byte, None).is_ok());
+        assert!(rt; send(rt.alloc(), &mut queue, 6, byte, None).is_ok());
     }
-    let (loads, rest) = take_movable(&mut queue, 0, None)?;
-    assert!(rt; loads.is_empty() && rest == Rest::More);
-    // The first goes back to the queue that it came from, the second has nowhere to go.
-    let (loads, rest) = take_movable(&mut queue, 10, None)?;
-    assert_eq!(rt; (loads.len(), rest), (1, Rest::NoSource));
-    assert_eq!(rt; loads.iter().map(|(to, _)| *to).next(), Some(3));
-    assert_eq!(rt; view(&queue).len(), 2);
-    let (loads, rest) = take_movable(&mut queue, 1, Some(4))?;
-    assert_eq!(rt; (loads.len(), rest), (1, Rest::More));
-    for (to, load) in &loads {
-        match load {
-            Load::Move {
-                id: moved,
-                body,
-                ..
-            } => {
-                assert_eq!(rt; (*to, *moved), (4, id(1)));
-                assert_eq!(rt; body.as_bytes(), [98].as_slice());
-            }
-            _ => assert!(rt; false, "no move"),
-        }
+    try_steps(&rt, &mut queue);
+}
+
+fn try_steps(rt: &impl Abort, queue: &mut StandardQueue) {
+    // The first goes back to the queue that it came from, the second has nowhere to go but to the
+    // task's queue. At most how many and where to; what goes first, how many go, what is left, and
+    // how many stay.
+    let table = [
+        (0, None, (None, 0, Rest::More), 3),
+        (10, None, (Some((3, id(0), 97)), 1, Rest::NoSource), 2),
+        (1, Some(4), (Some((4, id(1), 98)), 1, Rest::More), 1),
+        (10, Some(4), (Some((4, id(2), 99)), 1, Rest::Empty), 0),
+    ];
+    for (max, to, answer, stay) in table {
+        assert_eq!(rt; step(queue, max, to), Ok(answer));
+        assert_eq!(rt; queue.view().len(), stay);
     }
-    let (loads, rest) = take_movable(&mut queue, 10, Some(4))?;
-    assert_eq!(rt; (loads.len(), rest), (1, Rest::Empty));
-    assert_eq!(rt; view(&queue).len(), 0);
-    Ok(())
+}
+
+// Of a step of a move task: where the first message goes, its id and the byte of its body, how many
+// go, and what is left.
+fn step(
+    queue: &mut StandardQueue,
+    max: u64,
+    to: Option<u32>,
+) -> Result<(Option<(u32, MessageId, u8)>, usize, Rest), Refusal> {
+    let (loads, rest) = queue.take_movable(max, to)?;
+    Ok((first_moved(&loads), loads.len(), rest))
+}
+
+fn first_moved(loads: &[(u32, Load)]) -> Option<(u32, MessageId, u8)> {
+    match loads.first() {
+        Some((to, Load::Move { id, body, .. })) => Some((*to, *id, *body.as_bytes().first()?)),
+        _ => None,
+    }
 }

@@ -244,6 +244,7 @@ impl Store {
     /// the dead-letter queue, which gives its load. No error comes.
     pub fn release(&mut self, number: u64) -> Result<Option<Load>, Refusal>
         ensures answer { returned (released self.old number) ≡ (result, self.new) }
+        ensures kept { self.new.entries ≡ self.old.entries }
         ensures framed { IsFramed self.old self.new }
     {
         Ok(self.come_back(number))
@@ -252,6 +253,7 @@ impl Store {
     // A message is visible again, or leaves.
     fn come_back(&mut self, number: u64) -> Option<Load>
         ensures answer { released self.old number ≡ (self.new, result) }
+        ensures kept { self.new.entries ≡ self.old.entries }
         ensures framed { IsFramed self.old self.new }
     {
         let place = place_of_number(&self.messages, number)?;
@@ -268,6 +270,7 @@ impl Store {
     /// not there.
     pub fn expire(&mut self, now: u64, number: u64) -> u64
         ensures answer { expired self.old now number ≡ (result, self.new) }
+        ensures kept { self.new.entries ≡ self.old.entries }
         ensures framed { IsFramed self.old self.new }
     {
         let Some(place) = place_of_number(&self.messages, number) else {
@@ -290,6 +293,7 @@ impl Store {
     ) -> Result<Option<Load>, Refusal>
         requires { now ≤ most_count }
         ensures answer { change self.old now receipt.now timeout ≡ (result, self.new) }
+        ensures kept { self.new.entries ≡ self.old.entries }
         ensures framed { IsFramed self.old self.new }
     {
         if timeout > 43200 {

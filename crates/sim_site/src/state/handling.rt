@@ -3,6 +3,7 @@ ghost use Rattle.std.specs.Prelude.{◌≤◌, IfErr, OnOk};
 ghost use Rattle.sim_clock.specs.declared.key.Class.TheVariants.{Step};
 ghost use Rattle.sqs_model.specs.Acts.{runs};
 ghost use Rattle.sqs_model.specs.Answers.{most_count};
+ghost use Rattle.sqs_model.specs.Progress.{IsRecent};
 ghost use Rattle.sqs_model.specs.Step.{handle_arrival, handle_class, with_polls};
 ghost use Rattle.sim_site.specs.Due.{StepIsDue};
 ghost use Rattle.sim_site.specs.Effects.{Did, Spends};
@@ -17,6 +18,7 @@ impl Core {
     #[tactic(auto, unfolding(sqs_model::specs::Step::handle_class))]
     fn handle_class(&mut self, key: Key, effects: &mut Effects) -> Result<(), Refusal>
         requires moment { key.at ≤ most_count }
+        requires recent { IsRecent key.at self.old.queue }
         requires due { StepIsDue self.old key }
         ensures did { OnOk result (Did effects.old effects.new self.new (handle_class key.class key self.old)) }
         ensures spends { IfErr result Spends }
@@ -36,6 +38,7 @@ impl Core {
     /// runs. `Memory`; `CountLimit` where a count would pass its limit.
     pub fn handle(&mut self, key: Key, effects: &mut Effects) -> Result<(), Refusal>
         requires moment { key.at ≤ most_count }
+        requires recent { IsRecent key.at self.old.queue }
         requires due { StepIsDue self.old key }
         ensures did { OnOk result (Did effects.old effects.new self.new (with_polls key (handle_class key.class key self.old))) }
         ensures spends { IfErr result Spends }
@@ -51,7 +54,8 @@ impl Core {
         transfer: Option<Outbound>,
         effects: &mut Effects,
     ) -> Result<(), Refusal>
-        requires { key.at ≤ most_count }
+        requires moment { key.at ≤ most_count }
+        requires recent { IsRecent key.at self.old.queue }
         ensures did { OnOk result (Did effects.old effects.new self.new (handle_arrival key transfer self.old)) }
         ensures spends { IfErr result Spends }
     {
@@ -69,7 +73,8 @@ impl Core {
         transfer: Option<Outbound>,
         effects: &mut Effects,
     ) -> Result<(), Refusal>
-        requires { key.at ≤ most_count }
+        requires moment { key.at ≤ most_count }
+        requires recent { IsRecent key.at self.old.queue }
         ensures did { OnOk result (Did effects.old effects.new self.new (with_polls key (handle_arrival key transfer self.old))) }
         ensures spends { IfErr result Spends }
     {

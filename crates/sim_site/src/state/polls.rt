@@ -3,8 +3,9 @@ ghost use Rattle.std.specs.Prelude.{◌≡◌, ◌≤◌, ◌-◌, ◌^◌, drop
 ghost use Rattle.sim_clock.specs.Firsts.{without};
 ghost use Rattle.sqs_model.specs.Answers.{most_count};
 ghost use Rattle.sqs_model.specs.Available.{all_hosts};
-ghost use Rattle.sqs_model.specs.Polls.{answer_polls, can_give, poll_answered, poll_given};
-ghost use Rattle.sqs_standard.specs.Standard.{IsStandardSettings};
+ghost use Rattle.sqs_model.specs.Polls.{answer_polls, poll_answered, poll_given};
+ghost use Rattle.sqs_model.specs.Valid.{IsQueueSettings};
+ghost use Rattle.sqs_model.specs.Progress.{IsRecent};
 ghost use Rattle.sqs_model.specs.Places.{IsAbsent, Stands};
 ghost use Rattle.sqs_model.specs.Step.{ends_at, handle_poll_end};
 ghost use Rattle.sim_site.specs.Effects.{Did, Spends};
@@ -16,8 +17,8 @@ use crate::effects::Effects;
 use sim_clock::{Key, Refusal};
 use sqs_message::RowAnswer;
 use sqs_model::Answer;
+use sqs_queue::Queue;
 use sqs_redrive::{Batch, Kind};
-use sqs_standard::StandardQueue;
 use std::alloc::{AllocError, Global};
 
 // Where the first poll stands that ends by a key.
@@ -61,32 +62,23 @@ fn copied(alloc: Global, polls: &[Poll]) -> Result<Vec<Poll>, AllocError>
     polls.to_vec(alloc)
 }
 
-// Whether a queue has a message to give and room in flight for it.
-#[tactic(auto, using(crate::proofs::Gives::gives_by_counts))]
-fn can_give(queue: &StandardQueue) -> bool
-    requires { IsStandardSettings queue.now.settings }
-    ensures { result ≡ can_give queue.now }
-{
-    let counts = queue.counts();
-    0 < counts.visible && counts.in_flight < queue.settings().in_flight_limit
-}
-
-// On how many hosts the messages of a standard queue lie.
-fn host_count(queue: &StandardQueue) -> u64
-    requires { IsStandardSettings queue.now.settings }
+// On how many hosts the messages of a queue lie, those of a FIFO queue as if on one.
+fn host_count(queue: &Queue) -> u64
+    requires { IsQueueSettings queue.now.settings }
     ensures few { result ≤ 16 }
     ensures all { all_hosts queue.now.settings.kind ≡ 2 ^ result - 1 }
 {
     match queue.settings().kind {
         Kind::Standard { hosts, .. } => hosts,
-        Kind::Fifo { .. } => unreachable!(),
+        Kind::Fifo { .. } => 1,
     }
 }
 
 impl Core {
     // The first poll is answered, which leaves the list, and its actor acts on it.
     fn answer_poll(&mut self, key: Key, poll: Poll, effects: &mut Effects) -> Result<(), Refusal>
-        requires { key.at ≤ most_count }
+        requires moment { key.at ≤ most_count }
+        requires recent { IsRecent key.at self.old.queue }
         ensures did { OnOk result (Did effects.old effects.new self.new (poll_answered key poll self.old (poll_given key poll self.old.queue))) }
         ensures spends { IfErr result Spends }
     {
@@ -104,13 +96,15 @@ impl Core {
 
     /// Waiting polls are answered, oldest first, while there is something to give.
     pub fn answer_polls(&mut self, key: Key, effects: &mut Effects) -> Result<(), Refusal>
-        requires { key.at ≤ most_count }
+        requires moment { key.at ≤ most_count }
+        requires recent { IsRecent key.at self.old.queue }
         ensures did { OnOk result (Did effects.old effects.new self.new (answer_polls key self.old.polls self.old)) }
         ensures spends { IfErr result Spends }
     {
         let polls = copied(self.alloc, &self.polls)?;
         for i in 0..polls.len() {
-            if !can_give(&self.queue) {
+            let gives = self.queue.can_give()?;
+            if !gives {
                 return Ok(());
             }
             self.answer_poll(key, polls[i], effects)?;
@@ -120,7 +114,8 @@ impl Core {
 
     /// A long poll ends with nothing, which its actor is told.
     pub fn handle_poll_end(&mut self, key: Key, effects: &mut Effects) -> Result<(), Refusal>
-        requires { key.at ≤ most_count }
+        requires moment { key.at ≤ most_count }
+        requires recent { IsRecent key.at self.old.queue }
         ensures did { OnOk result (Did effects.old effects.new self.new (handle_poll_end key self.old)) }
         ensures spends { IfErr result Spends }
     {

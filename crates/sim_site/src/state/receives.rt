@@ -9,6 +9,7 @@ ghost use Rattle.sqs_model.specs.Queue.{IsFramed};
 ghost use Rattle.sqs_model.specs.Receive.{answered, give_most, receive};
 ghost use Rattle.std.specs.Result.{result_map_both};
 ghost use Rattle.sqs_model.specs.Site.{Core, actor_numbered, number_of};
+ghost use Rattle.sqs_standard.specs.Standard.{IsStandard};
 ghost use Rattle.sim_site.specs.Effects.{DidMake, Spends};
 ghost use Rattle.sim_site.specs.Kept.{most_wait};
 
@@ -21,8 +22,8 @@ use crate::rows::row;
 use sim_clock::{Key, Refusal};
 use sqs_message::{Detail, Row, RowAnswer, RowKind};
 use sqs_model::Answer;
+use sqs_queue::Queue;
 use sqs_redrive::{Batch, Got, Kind};
-use sqs_standard::StandardQueue;
 
 // The hosts that a short poll samples: some from a first one on, round the end. They are given by
 // their bits.
@@ -49,7 +50,7 @@ pub fn all_hosts_of(hosts: u64) -> u16
 }
 
 // Why a short poll is refused, if it is.
-fn short_refusal(queue: &StandardQueue, timeout: Option<u64>) -> Option<Refusal>
+fn short_refusal(queue: &Queue, timeout: Option<u64>) -> Option<Refusal>
     ensures allowed { result ≡ None → (now max set : ℕ) → receive queue.now now max timeout set true ≡ answered (give_most queue.now now max timeout set) }
     ensures refused { IfSome result (λ refusal. (now max set : ℕ) → receive queue.now now max timeout set true ≡ (Err refusal, queue.now)) }
 {
@@ -66,14 +67,15 @@ fn short_refusal(queue: &StandardQueue, timeout: Option<u64>) -> Option<Refusal>
 
 // A receive, with a refusal that the actor is told.
 pub fn received_by(
-    queue: &mut StandardQueue,
+    queue: &mut Queue,
     now: u64,
     max: u64,
     timeout: Option<u64>,
     hosts: u16,
     short: bool,
 ) -> Result<Result<Vec<Got>, Refusal>, Refusal>
-    requires { now ≤ most_count }
+    requires moment { now ≤ most_count }
+    requires short { short ≡ true → IsStandard queue.old.settings.kind }
     ensures received { IfOk result (λ answer. receive queue.old now max timeout hosts short ≡ (result_map_both (λ batch. batch.items) (λ refusal. refusal) answer, queue.new)) }
     ensures unchanged { IfOk result (λ answer. OnErr answer (queue.new ≡ queue.old)) }
     ensures framed { IsFramed queue.old queue.new }
@@ -174,6 +176,7 @@ impl Core {
         requires some { 1 ≤ hosts }
         requires few { hosts ≤ 16 }
         requires sampled { sampled ≤ hosts }
+        requires standard { IsStandard self.old.queue.settings.kind }
         ensures did { (a : Actor) → a.number ≡ agent → actor_numbered agent self.old ≡ Some a → IfOk result (λ answer. DidMake effects.old effects.new self.new answer (short_poll key a self.old max timeout hosts sampled (drawn_uniform 0 (hosts - 1) self.old.draws))) }
         ensures spends { IfErr result Spends }
     {
@@ -246,7 +249,8 @@ impl Core {
                 }
                 self.long_poll(key, agent, max, wait, timeout, hosts, effects)
             }
-            Kind::Fifo { .. } => unreachable!(),
+            // It has no short polls, and gives whatever hosts are seen, as if all lay on one.
+            Kind::Fifo { .. } => self.long_poll(key, agent, max, wait, timeout, 1, effects),
         }
     }
 }

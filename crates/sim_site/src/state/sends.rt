@@ -5,7 +5,7 @@ ghost use Rattle.sim_clock.specs.declared.refusal.Refusal.TheVariants as refusal
 ghost use Rattle.sqs_model.specs.Actor.{Actor};
 ghost use Rattle.sqs_model.specs.Acts.{send_made, send_row as the_send_row, sends};
 ghost use Rattle.sqs_model.specs.Answers.{most_count};
-ghost use Rattle.sqs_model.specs.Calls.{send_standard};
+ghost use Rattle.sqs_model.specs.Progress.{IsRecent};
 ghost use Rattle.sqs_model.specs.Queue.{IsFramed};
 ghost use Rattle.sqs_model.specs.Site.{Core, number_of};
 ghost use Rattle.sim_site.specs.Effects.{Did, Spends};
@@ -15,8 +15,8 @@ use crate::effects::Effects;
 use crate::rows::row;
 use sim_clock::{Key, Refusal};
 use sqs_message::{Detail, Row, RowAnswer, RowKind, Text, body_md5};
+use sqs_queue::Queue;
 use sqs_redrive::Sent;
-use sqs_standard::StandardQueue;
 
 /// A refusal that a caller is told. Want of memory and a count at its limit end the site instead.
 pub fn told_refusal(refusal: Refusal) -> Result<Refusal, Refusal>
@@ -34,17 +34,20 @@ pub fn told_refusal(refusal: Refusal) -> Result<Refusal, Refusal>
 
 // A send, with a refusal that the sender is told.
 fn sent_by(
-    queue: &mut StandardQueue,
+    queue: &mut Queue,
     now: u64,
     body: Text,
     delay: Option<u64>,
+    group: Option<Text>,
+    id: Option<Text>,
 ) -> Result<Result<Sent, Refusal>, Refusal>
-    requires { now ≤ most_count }
-    ensures sent { IfOk result (λ answer. send_standard queue.old now body delay ≡ (answer, queue.new)) }
+    requires moment { now ≤ most_count }
+    requires recent { IsRecent now queue.old }
+    ensures sent { IfOk result (λ answer. sends queue.old.settings.kind queue.old now body delay group id ≡ (answer, queue.new)) }
     ensures framed { IsFramed queue.old queue.new }
     ensures spends { IfErr result Spends }
 {
-    match queue.send(now, body, delay) {
+    match queue.send(now, body, delay, group, id) {
         Ok(sent) => Ok(Ok(sent)),
         Err(refusal) => Ok(Err(told_refusal(refusal)?)),
     }
@@ -91,22 +94,26 @@ fn send_row(key: Key, site: u32, agent: u32, digest: [u8; 16], answer: Result<Se
 }
 
 impl Core {
-    /// An actor sends a message, delayed by so many seconds or else as the queue says.
+    /// An actor sends a message, delayed by so many seconds or else as the queue says, in a message
+    /// group and with a deduplication id, if it gives them.
     pub fn send(
         &mut self,
         key: Key,
         agent: u32,
         body: Text,
         delay: Option<u64>,
+        group: Option<Text>,
+        id: Option<Text>,
         effects: &mut Effects,
     ) -> Result<(), Refusal>
-        requires { key.at ≤ most_count }
-        ensures did { (a : Actor) (group id : Option (List ℕ)) → a.number ≡ agent → OnOk result (Did effects.old effects.new self.new (send_made key a self.old body (sends self.old.queue.settings.kind self.old.queue key.at body delay group id)).effect) }
+        requires moment { key.at ≤ most_count }
+        requires recent { IsRecent key.at self.old.queue }
+        ensures did { (a : Actor) → a.number ≡ agent → OnOk result (Did effects.old effects.new self.new (send_made key a self.old body (sends self.old.queue.settings.kind self.old.queue key.at body delay group id)).effect) }
         ensures spends { IfErr result Spends }
     {
         let site = self.queue.site();
         let digest = body_md5(body.as_bytes());
-        let answer = sent_by(&mut self.queue, key.at, body, delay)?;
+        let answer = sent_by(&mut self.queue, key.at, body, delay, group, id)?;
         effects.say(send_row(key, site, agent, digest, answer))
     }
 }

@@ -3,6 +3,7 @@ ghost use Rattle.std.specs.Prelude.{◌≡◌, ◌≤◌, IfErr, IfOk, OnOk, Som
 ghost use Rattle.sqs_model.specs.Actor.{Actor};
 ghost use Rattle.sqs_model.specs.Acts.{act_made};
 ghost use Rattle.sqs_model.specs.Answers.{most_count};
+ghost use Rattle.sqs_model.specs.Progress.{IsRecent};
 ghost use Rattle.sqs_model.specs.Polls.{told as the_told};
 ghost use Rattle.sqs_model.specs.Site.{actor_numbered};
 ghost use Rattle.sqs_model.specs.Step.{handle_wake};
@@ -26,6 +27,7 @@ impl Core {
         effects: &mut Effects,
     ) -> Result<Option<Answer>, Refusal>
         requires moment { key.at ≤ most_count }
+        requires recent { IsRecent key.at self.old.queue }
         requires wait { WaitsShortly act }
         ensures did { (a : Actor) → a.number ≡ agent → actor_numbered agent self.old ≡ Some a → IfOk result (λ told. DidTurn effects.old effects.new self.new told (turn_by act (act_made key a self.old act))) }
         ensures spends { IfErr result Spends }
@@ -37,8 +39,7 @@ impl Core {
                 group,
                 id,
             } => {
-                drop((group, id));
-                self.send(key, agent, body, delay, effects)?;
+                self.send(key, agent, body, delay, group, id, effects)?;
             }
             Act::Receive { max, wait, timeout } => {
                 let answer = self.receive(key, agent, max, wait, timeout, effects)?;
@@ -69,7 +70,8 @@ impl Core {
         answer: Answer,
         effects: &mut Effects,
     ) -> Result<Option<Answer>, Refusal>
-        requires { key.at ≤ most_count }
+        requires moment { key.at ≤ most_count }
+        requires recent { IsRecent key.at self.old.queue }
         ensures did { IfOk result (λ told. DidTurn effects.old effects.new self.new told (turn_of key answer self.old (actor_numbered agent self.old))) }
         ensures spends { IfErr result Spends }
     {
@@ -88,7 +90,8 @@ impl Core {
         answer: Answer,
         effects: &mut Effects,
     ) -> Result<(), Refusal>
-        requires { key.at ≤ most_count }
+        requires moment { key.at ≤ most_count }
+        requires recent { IsRecent key.at self.old.queue }
         ensures did { OnOk result (Did effects.old effects.new self.new (the_told key agent answer self.old)) }
         ensures spends { IfErr result Spends }
     {
@@ -104,7 +107,8 @@ impl Core {
 
     /// An actor wakes.
     pub fn handle_wake(&mut self, key: Key, effects: &mut Effects) -> Result<(), Refusal>
-        requires { key.at ≤ most_count }
+        requires moment { key.at ≤ most_count }
+        requires recent { IsRecent key.at self.old.queue }
         ensures did { OnOk result (Did effects.old effects.new self.new (handle_wake key self.old)) }
         ensures spends { IfErr result Spends }
     {

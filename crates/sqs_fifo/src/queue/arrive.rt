@@ -1,8 +1,8 @@
 //! The arrival of transfers.
-ghost use Rattle.std.specs.Prelude.{◌≡◌, ◌⊎◌, ◌+◌, ◌<◌, ◌≤◌, All, IfOk, OnErr, OnOk};
+ghost use Rattle.std.specs.Prelude.{◌≡◌, ◌⊎◌, ◌+◌, ◌<◌, ◌≤◌, All, Err, IfOk, OnErr, OnOk};
 ghost use Rattle.sqs_model.specs.Answers.{Meets, most_count};
 ghost use Rattle.sqs_model.specs.Arrive.{arrived, brought, forwarded_group, settle};
-ghost use Rattle.sqs_model.specs.Queue.{IsFramed};
+ghost use Rattle.sqs_model.specs.Queue.{IsFramed, id_of};
 ghost use Rattle.sqs_store.specs.Calls.{never_refused};
 ghost use Rattle.sqs_fifo.specs.Fifo.{IsFifo};
 
@@ -22,6 +22,7 @@ impl FifoQueue {
         requires moment { now ≤ most_count }
         requires no_later_entry { All (λ e. e.end ≤ now + 300000) self.old.entries }
         ensures answer { Meets (self.old.arrivals ≡ most_count) result self.new (never_refused (arrived self.old now load)) }
+        ensures at_limit { result ≡ Err Refusal.CountLimit → (arrived self.old now load).0.0 ≡ Sent.New (id_of self.old self.old.arrivals) }
         ensures counted { OnOk result ((self.old.arrivals < most_count) ⊎ (self.new ≡ self.old)) }
         ensures unchanged { OnErr result (self.new ≡ self.old) }
         ensures no_later_entry { All (λ e. e.end ≤ now + 300000) self.new.entries }

@@ -21,6 +21,7 @@ impl FifoQueue {
         ensures answer { Meets (Any (λ m. m.receives ≡ most_count) (to_give self.old max 1)) (result_map_both (λ batch. batch.items) (λ refusal. refusal) result) self.new (receive self.old now max timeout 1 false) }
         ensures counted { OnOk result (All (λ m. m.receives < most_count) (to_give self.old max 1)) }
         ensures unchanged { OnErr result (self.new ≡ self.old) }
+        ensures kept { self.new.entries ≡ self.old.entries }
         ensures framed { IsFramed self.old self.new }
     {
         let wait = self.store.wait_of(timeout)?;

@@ -23,6 +23,7 @@ impl FifoQueue {
     ) -> Result<(Vec<(u32, Load)>, Rest), Refusal>
         ensures taken { IfOk result (λ answer. take_movable self.old max to ≡ ((answer.0.items, answer.1), self.new)) }
         ensures memory_only { IsOkUnless result Refusal.Memory }
+        ensures kept { self.new.entries ≡ self.old.entries }
         ensures framed { IsFramed self.old self.new }
     {
         let places = self.first_places(max)?;

@@ -43,6 +43,7 @@ impl Store {
         ensures answer { Meets (Any (λ m. m.receives ≡ most_count) (at_places self.old.records places.now)) (result_map_both (λ batch. batch.items) (λ refusal. refusal) result) self.new (answered (give now timeout (at_places self.old.records places.now) self.old)) }
         ensures counted { OnOk result (All (λ m. m.receives < most_count) (at_places self.old.records places.now)) }
         ensures unchanged { OnErr result (self.new ≡ self.old) }
+        ensures kept { self.new.entries ≡ self.old.entries }
         ensures framed { IsFramed self.old self.new }
     {
         let mut batch = self.batch(places)?;
@@ -69,6 +70,7 @@ impl Store {
         requires timeout { timeout ≤ 43200000 }
         requires given { CanBeGiven self.old batch.old.items }
         ensures given { gives_all now timeout batch.old.items self.old ≡ (self.new, batch.new.items) }
+        ensures kept { self.new.entries ≡ self.old.entries }
         ensures framed { IsFramed self.old self.new }
     {
         for i in 0..batch.len() {
@@ -83,6 +85,7 @@ impl Store {
         requires timeout { timeout ≤ 43200000 }
         requires counted { IfSome (numbered number self.old.records) (λ m. m.receives < most_count) }
         ensures given { gives self.old now timeout number ≡ (self.new, result) }
+        ensures kept { self.new.entries ≡ self.old.entries }
         ensures framed { IsFramed self.old self.new }
     {
         match place_of_number(&self.messages, number) {

@@ -24,6 +24,7 @@ impl Store {
         ensures taken { IfOk result (λ answer. take_each self.old to (at_places self.old.records places.now) ≡ record { queue = self.new; loads = answer.0.items; stuck = answer.1 }) }
         ensures unchanged { OnErr result (self.new ≡ self.old) }
         ensures memory_only { IsOkUnless result Refusal.Memory }
+        ensures kept { self.new.entries ≡ self.old.entries }
         ensures framed { IsFramed self.old self.new }
     {
         let kept = Vec::with_capacity(self.alloc, self.messages.len())?;

@@ -1,15 +1,8 @@
-use Rattle.std.proofs.Common.{rules, ◌≡◌, false, true}
-use Rattle.sqs_rehearsal.specs.Outcomes.{only_standard}
+use Rattle.std.proofs.Common.{rules}
 use Rattle.sqs_rehearsal.specs.Rehearsals.{Request, Stated}
 use Rattle.sqs_rehearsal.specs.declared.rehearsal.Fault.TheVariants.{Refused}
 use Rattle.sqs_rehearsal.proofs.Barred.{bars_on, split_allowed, split_bars, stop_bars}
 use Rattle.sqs_rehearsal.proofs.rehearsal.outcome.Goals as goal
-
-pub returns-then-not-only_standard-clause-barred : goal.returns-then-not-only_standard-clause-barred
-returns-then-not-only_standard-clause-barred c =
-    let s = c.in_ok-scenario.scenario in
-    let fifo : only_standard s ≡ false = search rules in
-    (record { scenario = s; stated = c.in_ok-scenario.ensures.value }, fifo)
 
 pub returns-in_err-check-clause-barred : goal.returns-in_err-check-clause-barred
 returns-in_err-check-clause-barred c =
@@ -24,8 +17,7 @@ returns-in_err-outcome-clause-barred c =
     let s : Stated q = record { scenario = c.in_ok-scenario.scenario; stated = c.in_ok-scenario.ensures.value } in
     let e = c.in_err-outcome.field-0.0 in
     let allowed = split_allowed _ c.in_ok-check.field-0 (search rules) in
-    let standard : only_standard s.scenario ≡ true = search rules in
-    bars_on q c.from_residual-in_err-outcome.result (Refused e) c.from_residual-in_err-outcome.ensures.1 (stop_bars q s e allowed standard c.in_err-outcome.ensures.stops)
+    bars_on q c.from_residual-in_err-outcome.result (Refused e) c.from_residual-in_err-outcome.ensures.1 (stop_bars q s e allowed c.in_err-outcome.ensures.spends)
 
 pub returns-clause-whole : goal.returns-clause-whole
 returns-clause-whole c =

@@ -1,3 +1,9 @@
+use Rattle.std.proofs.Common.{false}
+use Rattle.sqs_model.proofs.Kept.{given_recent}
+use Rattle.sqs_model.specs.Acts.{given}
+use Rattle.sqs_model.specs.Progress.{IsRecent}
+use Rattle.sqs_model.specs.Queue.{Queue}
+use Rattle.sim_site.proofs.Recent.{did_recent, received_recent}
 use Rattle.std.proofs.Common.{◌∙◌, ap, subst, sym}
 use Rattle.std.specs.Prelude.{OnOk}
 use Rattle.std.specs.Result.{result_map_both}
@@ -17,3 +23,13 @@ returns-clause-did c =
     (poll_answered_did c.args.key (the_poll c.poll.inside) (the_view c.self.inside) c.give.new.self c.told.new.self c.args.effects.now c.give.new.effects c.told.new.effects c.told.result
     c.all_hosts_of-set.result c.received_by.new.queue c.drop_first.new.polls.items c.in-Ok.gots.items c.as_slice.result.now c.new.result
     (c.host_count.ensures.all ∙ sym c.all_hosts_of-set.ensures) received c.in_ok-gots.ensures.framed.site c.drop_first.ensures c.as_slice.ensures.value c.new.ensures c.in_ok-give.ensures.did c.told.ensures.did))
+
+pub told-requires-clause-recent : goal.told-requires-clause-recent
+told-requires-clause-recent c =
+    let key = c.args.key in
+    let q : Queue = c.received_by.new.queue in
+    let before : IsRecent key.at c.self.inside.queue = subst (λ (x : Core). IsRecent key.at x.queue) (sym c.self.view_is) c.requires.recent in
+    let after : IsRecent key.at q = received_recent c.self.inside.queue q key.at c.poll.inside.max c.poll.inside.timeout c.all_hosts_of-set.result false _ c.in_ok-gots.ensures.received before in
+    let mid : Core = record (the_view c.self.inside) { queue = q; polls = c.drop_first.new.polls.items } in
+    did_recent key.at c.args.effects.now c.give.new.effects c.give.new.self (given key mid c.poll.inside.actor c.poll.inside.timeout (q, c.as_slice.result.now)) c.in_ok-give.ensures.did
+    (given_recent key mid c.poll.inside.actor c.poll.inside.timeout (q, c.as_slice.result.now) after)

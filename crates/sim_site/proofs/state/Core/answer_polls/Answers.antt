@@ -1,3 +1,4 @@
+use Rattle.sim_site.proofs.Recent.{did_recent, poll_recent}
 use Rattle.std.proofs.Common.{◌≡◌, ◌∙◌, ◌+◌, ◌<◌, List, ap, arith, drop, length, subst, sym, true, false}
 use Rattle.sim_site.specs.Effects.{Did}
 use Rattle.sqs_model.specs.Polls.{answer_polls, can_give, poll_answered, poll_given}
@@ -11,14 +12,18 @@ loop-i-preserved c =
     let ps = c.in_ok-polls.polls.items in
     let p : Poll = c.index.result.now in
     let within : c.loop-i.i < length ps = omega (arith, c.loop-i-test.true, c.len-i-end.ensures) in
-    let gives : can_give c.loop-i.self.queue ≡ true = ap (λ (x : Core). can_give x.queue) (sym c.self-in-loop-i.view_is) ∙ sym c.can_give.ensures ∙ c.if-not-can_give.false in
-    remains_then c.args.effects.now c.loop-i.effects c.answer_poll.new.effects c.answer_poll.new.self _ _ (poll_answered c.args.key p c.loop-i.self (poll_given c.args.key p c.loop-i.self.queue)) (answer_polls c.args.key (drop (c.loop-i.i + 1) ps))
-    c.loop-i.invariant (polls_go c.args.key c.loop-i.self ps c.loop-i.i p within c.index.ensures gives) c.in_ok-answer_poll.ensures.did
+    let gives : can_give c.loop-i.self.queue ≡ true = ap (λ (x : Core). can_give x.queue) (sym c.self-in-loop-i.view_is) ∙ sym c.in_ok-gives.ensures.gives ∙ c.if-not-gives.false in
+    record {
+      remains = remains_then c.args.effects.now c.loop-i.effects c.answer_poll.new.effects c.answer_poll.new.self _ _ (poll_answered c.args.key p c.loop-i.self (poll_given c.args.key p c.loop-i.self.queue)) (answer_polls c.args.key (drop (c.loop-i.i + 1) ps))
+          c.loop-i.invariant.remains (polls_go c.args.key c.loop-i.self ps c.loop-i.i p within c.index.ensures gives) c.in_ok-answer_poll.ensures.did;
+      recent = did_recent c.args.key.at c.loop-i.effects c.answer_poll.new.effects c.answer_poll.new.self (poll_answered c.args.key p c.loop-i.self (poll_given c.args.key p c.loop-i.self.queue)) c.in_ok-answer_poll.ensures.did
+          (poll_recent c.args.key p c.loop-i.self gives c.loop-i.invariant.recent);
+    }
 
-pub returns-then-not-can_give-clause-did : goal.returns-then-not-can_give-clause-did
-returns-then-not-can_give-clause-did c =
+pub returns-then-not-gives-clause-did : goal.returns-then-not-gives-clause-did
+returns-then-not-gives-clause-did c =
     let ps = c.in_ok-polls.polls.items in
-    let stops : can_give c.loop-i.self.queue ≡ false = ap (λ (x : Core). can_give x.queue) (sym c.self-in-loop-i.view_is) ∙ sym c.can_give.ensures ∙ c.if-not-can_give.true in
+    let stops : can_give c.loop-i.self.queue ≡ false = ap (λ (x : Core). can_give x.queue) (sym c.self-in-loop-i.view_is) ∙ sym c.in_ok-gives.ensures.gives ∙ c.if-not-gives.true in
     let same : ps ≡ c.args.self.now.polls = c.in_ok-polls.ensures ∙ c.deref.ensures.value ∙ ap (λ (x : Core). x.polls) c.self.view_is in
     subst (λ (qs : List Poll). Did c.args.effects.now c.loop-i.effects c.loop-i.self (answer_polls c.args.key qs c.args.self.now)) same
-    (remains_none c.args.effects.now c.loop-i.effects c.loop-i.self _ (answer_polls c.args.key ps c.args.self.now) c.loop-i.invariant (polls_stop c.args.key c.loop-i.self (drop c.loop-i.i ps) stops))
+    (remains_none c.args.effects.now c.loop-i.effects c.loop-i.self _ (answer_polls c.args.key ps c.args.self.now) c.loop-i.invariant.remains (polls_stop c.args.key c.loop-i.self (drop c.loop-i.i ps) stops))

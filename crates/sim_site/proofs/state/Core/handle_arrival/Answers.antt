@@ -1,3 +1,5 @@
+use Rattle.sqs_model.proofs.Kept.{arrival_recent}
+use Rattle.sim_site.proofs.Recent.{did_recent}
 use Rattle.sqs_model.specs.Polls.{answer_polls}
 use Rattle.sqs_model.specs.Site.{Core}
 use Rattle.sqs_model.specs.Step.{handle_arrival}
@@ -8,3 +10,7 @@ pub returns-clause-did : goal.returns-clause-did
 returns-clause-did c =
     then_if c.answer_polls.result c.args.effects.now c.handle_transfer.new.effects c.answer_polls.new.effects c.handle_transfer.new.self c.answer_polls.new.self
     (handle_arrival c.args.key c.args.transfer c.args.self.now) (λ (x : Core). answer_polls c.args.key x.polls x) c.in_ok-handle_transfer.ensures.did c.answer_polls.ensures.did
+
+pub answer_polls-requires-clause-recent : goal.answer_polls-requires-clause-recent
+answer_polls-requires-clause-recent c =
+    did_recent c.args.key.at c.args.effects.now c.handle_transfer.new.effects c.handle_transfer.new.self (handle_arrival c.args.key c.args.transfer c.args.self.now) c.in_ok-handle_transfer.ensures.did (arrival_recent c.args.key c.args.transfer c.args.self.now c.requires.recent)

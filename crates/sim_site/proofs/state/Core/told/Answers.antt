@@ -1,3 +1,6 @@
+use Rattle.sqs_model.specs.Progress.{IsRecent}
+use Rattle.sqs_model.specs.Site.{Core}
+use Rattle.sim_site.proofs.Recent.{did_recent, turn_recent}
 use Rattle.std.proofs.Common.{Option, subst}
 use Rattle.sqs_model.specs.declared.acts.Answer.{Answer}
 use Rattle.sqs_model.specs.Site.{actor_numbered}
@@ -24,3 +27,16 @@ returns-clause-did c =
     turn_goes c.args.key c.args.agent 2 c.args.answer c.args.self.now c.args.effects.now c.take_turn.new.effects c.take_turn.new.self c.take_turn-3.new.effects c.take_turn-3.new.self c.in-Some.answer one
     (turn_goes c.args.key c.args.agent 1 c.in-Some.answer c.take_turn.new.self c.take_turn.new.effects c.take_turn-2.new.effects c.take_turn-2.new.self c.take_turn-3.new.effects c.take_turn-3.new.self c.in-Some-2.answer two
     (turn_last c.args.key c.args.agent c.in-Some-2.answer c.take_turn-2.new.self c.take_turn-2.new.effects c.take_turn-3.new.effects c.take_turn-3.new.self c.in_ok-take_turn.field-0 c.in_ok-take_turn.ensures.did))
+
+pub take_turn-requires-2-clause-recent : goal.take_turn-requires-2-clause-recent
+take_turn-requires-2-clause-recent c =
+    let turn = turn_of c.args.key c.args.answer c.args.self.now (actor_numbered c.args.agent c.args.self.now) in
+    did_recent c.args.key.at c.args.effects.now c.take_turn.new.effects c.take_turn.new.self turn.effect c.in_ok-answer.ensures.did.effect (turn_recent c.args.key c.args.answer c.args.self.now (actor_numbered c.args.agent c.args.self.now) c.requires.recent)
+
+pub take_turn-requires-3-clause-recent : goal.take_turn-requires-3-clause-recent
+take_turn-requires-3-clause-recent c =
+    let turn = turn_of c.args.key c.args.answer c.args.self.now (actor_numbered c.args.agent c.args.self.now) in
+    let mid : Core = c.take_turn.new.self in
+    let recent : IsRecent c.args.key.at mid.queue = did_recent c.args.key.at c.args.effects.now c.take_turn.new.effects mid turn.effect c.in_ok-answer.ensures.did.effect (turn_recent c.args.key c.args.answer c.args.self.now (actor_numbered c.args.agent c.args.self.now) c.requires.recent) in
+    let next = turn_of c.args.key c.in-Some.answer mid (actor_numbered c.args.agent mid) in
+    did_recent c.args.key.at c.take_turn.new.effects c.take_turn-2.new.effects c.take_turn-2.new.self next.effect c.in_ok-answer-2.ensures.did.effect (turn_recent c.args.key c.in-Some.answer mid (actor_numbered c.args.agent mid) recent)

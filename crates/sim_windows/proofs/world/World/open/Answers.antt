@@ -1,10 +1,9 @@
-use Rattle.std.proofs.Common.{All, List, [], ap, arith, inr, map, rules, refl, subst, sym, ◌≡◌, ◌∙◌}
+use Rattle.std.proofs.Common.{List, [], ap, arith, map, refl, subst, sym, ◌≡◌, ◌∙◌}
 use Rattle.sqs_model.specs.Run.{Run}
 use Rattle.sqs_model.specs.Scenario.{Scenario, opening}
 use Rattle.sqs_model.specs.Site.{Site}
-use Rattle.sqs_standard.specs.Standard.{IsStandard}
 use Rattle.sim_windows.specs.Worlds.{IsWorld, alive, living}
-use Rattle.sim_windows.proofs.Openings.{Opens, opens, some_other, whole_of}
+use Rattle.sim_windows.proofs.Openings.{Opens, opens, whole_of}
 use Rattle.sim_windows.proofs.Places.{living_alive}
 use Rattle.sim_windows.proofs.world.World.open.Goals as goal
 
@@ -18,7 +17,7 @@ new-requires c =
     let parts = c.into_parts-parts in
     let s : Scenario = whole_of parts.result in
     let o : Opens s c.in_ok-homes.homes.items = opens parts.result c.args.scenario c.len.result c.in_ok-homes.homes.items parts.ensures.value parts.ensures.range (omega (arith, c.len.ensures)) c.in_ok-homes.ensures.settled in
-    let sites : c.in_ok-sites.sites.items ≡ map alive (opening s) = c.in_ok-sites.ensures.opened s refl refl (sym c.as_slice-2.ensures.value) o.settled in
+    let sites : c.in_ok-sites.sites.items ≡ map alive (opening s) = c.in_ok-sites.ensures.opened s refl refl (sym c.as_slice.ensures.value) o.settled in
     subst IsWorld (sym sites) o.world
 
 pub returns-clause-opened : goal.returns-clause-opened
@@ -26,11 +25,6 @@ returns-clause-opened c =
     let parts = c.into_parts-parts in
     let s : Scenario = whole_of parts.result in
     let o : Opens s c.in_ok-homes.homes.items = opens parts.result c.args.scenario c.len.result c.in_ok-homes.homes.items parts.ensures.value parts.ensures.range (omega (arith, c.len.ensures)) c.in_ok-homes.ensures.settled in
-    let sites : c.in_ok-sites.sites.items ≡ map alive (opening s) = c.in_ok-sites.ensures.opened s refl refl (sym c.as_slice-2.ensures.value) o.settled in
+    let sites : c.in_ok-sites.sites.items ≡ map alive (opening s) = c.in_ok-sites.ensures.opened s refl refl (sym c.as_slice.ensures.value) o.settled in
     let run : List Site → Run = λ w. record { sites = w; rows = [] } in
     c.new.ensures ∙ ap (λ xs. run (living xs)) sites ∙ ap run (living_alive (opening s)) ∙ ap (λ w. run (opening w)) parts.ensures.value
-
-pub returns-then-not-all_standard-clause-refused : goal.returns-then-not-all_standard-clause-refused
-returns-then-not-all_standard-clause-refused c =
-    let other : All (λ q. IsStandard q.kind) c.args.scenario.queues → ⊥ = search rules in
-    inr (refl, some_other c.args.scenario.queues other)

@@ -16,6 +16,7 @@ loop-i-preserved c =
     let given = ap (λ (g : Got). gives c.loop-i.self c.args.now c.args.timeout g.id.number) (sym same) ∙ c.give-left.ensures.given in
     record {
       giving = giving_more c.args.now c.args.timeout _ _ c.loop-i.i c.loop-i.self _ gots written _ within c.index_mut.ensures.value given so_far.giving;
+      kept = c.give-left.ensures.kept ∙ so_far.kept;
       framed = record {
         site = c.give-left.ensures.framed.site ∙ so_far.framed.site;
         settings = c.give-left.ensures.framed.settings ∙ so_far.framed.settings;

@@ -1,4 +1,4 @@
-use Rattle.std.proofs.Common.{length}
+use Rattle.std.proofs.Common.{◌≡◌, length}
 use Rattle.sqs_model.specs.Queue.{IsFramed}
 use Rattle.sqs_store.specs.Giving.{gives_all}
 use Rattle.sqs_store.proofs.Giving.{IsGiving}
@@ -8,5 +8,6 @@ use Rattle.sqs_store.proofs.store.Store.give_all.Given as goal
 abbrev pub invariant-loop-i : goal.invariant-loop-i
 invariant-loop-i l = record {
   giving : IsGiving l.now l.timeout (gives_all l.now l.timeout l.initial.batch.items l.initial.self) (length l.initial.batch.items) l.i l.self l.batch.items;
+  kept : l.self.entries ≡ l.initial.self.entries;
   framed : IsFramed l.initial.self l.self;
 }

@@ -1,0 +1,56 @@
+-- No deduplication entry is from after now, whatever is done now.
+use Rattle.std.proofs.Common.{◌≡◌, ℕ, arith, refl, true, ◌∷◌, [], Option, None, Some, subst, sym}
+use Rattle.std.specs.Prelude.{Bool, List, Result}
+use Rattle.sim_clock.specs.declared.key.Key.{Key}
+use Rattle.sim_clock.specs.declared.refusal.Refusal.{Refusal}
+use Rattle.sqs_redrive.specs.declared.answers.Got.{Got}
+use Rattle.sqs_model.proofs.Kept.{act_recent, polls_recent, receive_recent}
+use Rattle.sqs_model.specs.declared.acts.Act.{Act}
+use Rattle.sqs_model.specs.declared.acts.Act.TheVariants as acts
+use Rattle.sqs_model.specs.declared.acts.Answer.{Answer}
+use Rattle.sqs_model.specs.Actor.{Actor, next}
+use Rattle.sqs_model.specs.Acts.{Made, act_made}
+use Rattle.sqs_model.specs.Polls.{can_give, poll_answered, poll_given}
+use Rattle.sqs_model.specs.Progress.{IsRecent}
+use Rattle.sqs_model.specs.Queue.{Queue}
+use Rattle.sqs_model.specs.Receive.{receive}
+use Rattle.sqs_model.specs.Site.{Core, Effect, Poll, with_actor}
+use Rattle.sim_site.specs.declared.effects.Effects.{Effects}
+use Rattle.sim_site.specs.Effects.{Did}
+use Rattle.sim_site.specs.Turns.{turn_by, turn_next, turn_of}
+use Rattle.sim_site.proofs.Polling.{polls_go}
+
+-- a site after an effect
+pub did_recent : (now : ℕ) (before after : Effects) (c : Core) (e : Effect) → Did before after c e → IsRecent now e.core.queue → IsRecent now c.queue
+did_recent now before after c e did h = subst (λ (x : Core). IsRecent now x.queue) (sym did.core) h
+
+-- a queue after a receive
+pub received_recent :
+    (q new : Queue) (now max : ℕ) (timeout : Option ℕ) (set : ℕ) (short : Bool) (answer : Result (List Got) Refusal) → receive q now max timeout set short ≡ (answer, new)
+    → IsRecent now q → IsRecent now new
+received_recent q new now max timeout set short answer e h =
+    subst (λ (x : Result (List Got) Refusal × Queue). IsRecent now x.1) e (receive_recent q now max timeout set short h)
+
+-- a site after a turn of an actor
+turn_by_made : (act : Act) (m : Made) → (turn_by act m).effect ≡ m.effect
+turn_by_made (acts.Send body delay group id) m = refl
+turn_by_made (acts.Receive max wait timeout) m = refl
+turn_by_made (acts.Delete text) m = refl
+turn_by_made (acts.Change text timeout) m = refl
+turn_by_made (acts.Start task) m = refl
+turn_by_made (acts.Cancel task) m = refl
+turn_by_made (acts.Serve id receipt failed forward) m = refl
+turn_by_made acts.Nothing m = refl
+
+next_recent : (key : Key) (c : Core) (act : Act) (a : Actor) → IsRecent key.at c.queue → IsRecent key.at (turn_next key c (act, a)).effect.core.queue
+next_recent key c act a h =
+    subst (λ (e : Effect). IsRecent key.at e.core.queue) (sym (turn_by_made act (act_made key a (with_actor c a) act))) (act_recent key a (with_actor c a) act h)
+
+pub turn_recent : (key : Key) (answer : Answer) (c : Core) (o : Option Actor) → IsRecent key.at c.queue → IsRecent key.at (turn_of key answer c o).effect.core.queue
+turn_recent key answer c None h = h
+turn_recent key answer c (Some a) h = next_recent key c (next a key.at answer).0 (next a key.at answer).1 h
+
+-- a site after the answer to one poll
+pub poll_recent : (key : Key) (p : Poll) (c : Core) → can_give c.queue ≡ true → IsRecent key.at c.queue → IsRecent key.at (poll_answered key p c (poll_given key p c.queue)).core.queue
+poll_recent key p c gives h =
+    subst (λ (e : Effect). IsRecent key.at e.core.queue) (polls_go key c (p ∷ []) 0 p (omega arith) refl gives) (polls_recent key (p ∷ []) c h)

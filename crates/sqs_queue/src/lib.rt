@@ -1,0 +1,9 @@
+//! A queue of either kind, and the calls of Amazon SQS on it.
+#![tactic(auto)]
+
+mod queue;
+#[cfg(test)]
+mod tests;
+
+pub use queue::Queue;
+pub use sqs_store::Counts;

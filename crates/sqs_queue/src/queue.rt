@@ -1,0 +1,127 @@
+//! The queue, and what it tells of itself.
+ghost use Rattle.std.specs.Prelude.{◌≡◌, [], IfOk, IsOkUnless, count_by};
+ghost use Rattle.sim_clock.specs.Order.{least};
+ghost use Rattle.sqs_model.specs.Dues.{queue_dues};
+ghost use Rattle.sqs_model.specs.Polls.{can_give};
+ghost use Rattle.sqs_model.specs.Queue.{is_delayed, is_in_flight, is_visible};
+ghost use Rattle.sqs_model.specs.Valid.{IsQueueSettings};
+
+use sim_clock::{Key, Refusal};
+use sqs_fifo::FifoQueue;
+use sqs_groups::available_places;
+use sqs_message::Message;
+use sqs_redrive::{Kind, QueueSettings};
+use sqs_standard::StandardQueue;
+use sqs_store::Counts;
+use std::alloc::Global;
+use std::marker::Model;
+
+mod calls;
+mod moves;
+
+// A queue of one kind or of the other.
+#[derive(Drop)]
+enum Either {
+    Standard(StandardQueue),
+    Fifo(FifoQueue),
+}
+
+/// A queue of either kind. Contracts see it as the definitions' `Queue`. Times are milliseconds.
+#[derive(Drop)]
+pub struct Queue {
+    either: Either,
+    alloc: Global,
+}
+
+impl Model for Queue {
+    ghost use Rattle.sqs_model.specs.Queue.{Queue};
+    ghost use Rattle.sqs_queue.specs.Kinds.{IsAsSet, either_queue};
+
+    ghost Value = { Queue };
+
+    ghost view = { λ q. either_queue q.either };
+
+    ghost invariant = { λ q. IsAsSet q.either };
+}
+
+impl Queue {
+    /// An empty queue with this number, of the kind that its settings say.
+    pub fn new(alloc: Global, site: u32, settings: QueueSettings) -> Queue
+        requires { IsQueueSettings settings }
+        ensures { result ≡ record { site = site; settings = settings; records = []; entries = []; arrivals = 0 } }
+    {
+        let either = match settings.kind {
+            Kind::Standard { .. } => Either::Standard(StandardQueue::new(alloc, site, settings)),
+            Kind::Fifo { .. } => Either::Fifo(FifoQueue::new(alloc, site, settings)),
+        };
+        Queue { either, alloc }
+    }
+
+    /// Its number.
+    pub fn site(&self) -> u32
+        ensures { result ≡ self.now.site }
+    {
+        match &self.either {
+            Either::Standard(queue) => queue.site(),
+            Either::Fifo(queue) => queue.site(),
+        }
+    }
+
+    /// Its settings.
+    pub fn settings(&self) -> &QueueSettings
+        ensures { result.now ≡ self.now.settings }
+    {
+        match &self.either {
+            Either::Standard(queue) => queue.settings(),
+            Either::Fifo(queue) => queue.settings(),
+        }
+    }
+
+    /// Its messages, in the order of their arrival.
+    pub fn view(&self) -> &[Message]
+        ensures { result.now ≡ self.now.records }
+    {
+        match &self.either {
+            Either::Standard(queue) => queue.view(),
+            Either::Fifo(queue) => queue.view(),
+        }
+    }
+
+    /// The key of what is due next: the least expiry or end of a delay or visibility timeout.
+    pub fn least_due(&self) -> Option<Key>
+        ensures { result ≡ least (queue_dues self.now) }
+    {
+        match &self.either {
+            Either::Standard(queue) => queue.least_due(),
+            Either::Fifo(queue) => queue.least_due(),
+        }
+    }
+
+    /// How many messages are where.
+    pub fn counts(&self) -> Counts
+        ensures visible { result.visible ≡ count_by is_visible self.now.records }
+        ensures in_flight { result.in_flight ≡ count_by is_in_flight self.now.records }
+        ensures delayed { result.delayed ≡ count_by is_delayed self.now.records }
+    {
+        match &self.either {
+            Either::Standard(queue) => queue.counts(),
+            Either::Fifo(queue) => queue.counts(),
+        }
+    }
+
+    /// Whether it has a message to give and room in flight for it. Takes time linear in the queue.
+    /// The one error is `Memory`.
+    pub fn can_give(&self) -> Result<bool, Refusal>
+        ensures gives { IfOk result (λ gives. gives ≡ can_give self.now) }
+        ensures memory_only { IsOkUnless result Refusal.Memory }
+    {
+        let counts = self.counts();
+        if counts.visible == 0 || self.settings().in_flight_limit <= counts.in_flight {
+            return Ok(false);
+        }
+        match &self.either {
+            Either::Standard(_) => Ok(true),
+            Either::Fifo(queue) => Ok(!available_places(self.alloc, queue.view())?.is_empty()),
+        }
+    }
+}
