@@ -1,10 +1,7 @@
--- A dead letter that was enqueued later than it arrives at a standard queue is as new as it would be then.
-use Rattle.std.proofs.Common.{true, false, [], ◌∷◌, ◌++◌, ◌≡◌, ℕ, ◌-◌, ◌<◌, List, Option, refl, arith}
+-- A transfer that arrives, by what the queue answered.
+use Rattle.std.proofs.Common.{true, false, [], ◌∷◌, ◌++◌, ◌≡◌, refl}
 use Rattle.sqs_message.specs.declared.ids.MessageId.{MessageId}
-use Rattle.sqs_message.specs.declared.ids.Origin.{Origin}
-use Rattle.sqs_redrive.specs.declared.settings.Kind.TheVariants.{Standard}
 use Rattle.sqs_redrive.specs.declared.transfers.Load.{Load}
-use Rattle.sqs_redrive.specs.declared.transfers.Load.TheVariants as loads
 use Rattle.sqs_model.specs.Arrive.{arrived}
 use Rattle.sqs_model.specs.Queue.{Queue}
 use Rattle.std.specs.Prelude.{Bool, OnOk, Result}
@@ -18,14 +15,6 @@ use Rattle.sqs_model.specs.Site.{Core, says, with_queue}
 use Rattle.sqs_model.specs.Step.{arrival_done, arrival_row, expiry_row, load_age}
 use Rattle.sim_site.specs.Effects.{Did}
 use Rattle.sim_site.proofs.Carried.{did_say, says_if, then_if}
-
-pub arrives_as_now :
-    (q : Queue) (now : ℕ) (hosts sampled : ℕ) (id : MessageId) (origin : Origin) (body : List ℕ) (group : Option (List ℕ)) (enqueued : ℕ) → q.settings.kind ≡ Standard hosts sampled → now < enqueued
-    → arrived q enqueued (loads.Redrive id origin body group enqueued) ≡ arrived q now (loads.Redrive id origin body group enqueued)
-arrives_as_now q now hosts sampled id origin body group enqueued e l =
-    let a : enqueued - enqueued ≡ 0 = omega arith in
-    let b : now - enqueued ≡ 0 = omega arith in
-    rw (e, a, b) refl
 
 -- a message that comes in and stays
 pub new_stays :

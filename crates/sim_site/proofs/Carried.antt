@@ -3,10 +3,12 @@ use Rattle.std.specs.Prelude.{Err, Ok, OnOk, Result}
 use Rattle.sim_clock.specs.declared.refusal.Refusal.{Refusal}
 use Rattle.sqs_message.specs.declared.row.Row.{Row}
 use Rattle.sqs_redrive.specs.declared.transfers.Outbound.{Outbound}
-use Rattle.std.proofs.Common.{Global, Vec, ◌≡◌, [], ◌∷◌, ◌++◌, append_assoc, append-nil, refl, ap, sym, ◌∙◌}
+use Rattle.std.proofs.Common.{Global, Vec, ◌≡◌, [], ◌∷◌, ◌++◌, append_assoc, append-nil, arith, refl, ap, subst, sym, ◌∙◌, ◌≤◌}
 use Rattle.sim_site.specs.declared.effects.Effects.{Effects}
+use Rattle.sqs_model.specs.Limits.{rows_count}
 use Rattle.sqs_model.specs.Site.{Core, Effect, and_then, no_effect, says}
 use Rattle.sim_site.specs.Effects.{Did, Remains}
+use Rattle.sim_site.proofs.Passing.{rows_after}
 
 -- one effect, and then what comes of the site that it leaves
 pub did_then :
@@ -47,7 +49,7 @@ says_if (Err e) a b c d x y rows sent same row = tt
 
 -- all of an effect remains before anything is done
 pub remains_all : (a : Effects) (f : Effect) → Remains a a f f
-remains_all a f = record { core = refl; rows = refl; sent = refl }
+remains_all a f = record { core = refl; rows = refl; sent = refl; told = omega arith }
 
 -- the first of what remains is done
 pub remains_then :
@@ -65,6 +67,10 @@ remains_then a b d c rest whole f g m e p =
       sent =
           ap (λ r. r ++ (g c).sent) p.sent ∙ append_assoc b.sent.items f.sent (g c).sent ∙ ap (λ x. b.sent.items ++ (f.sent ++ (g x).sent)) p.core
           ∙ ap (λ r. b.sent.items ++ r) (sym sent) ∙ m.sent;
+      told =
+          let less : rows_count (g c).rows ≤ rows_count (f.rows ++ (g f.core).rows) = subst (λ x. rows_count (g c).rows ≤ rows_count (f.rows ++ (g x).rows)) p.core (rows_after f.rows (g c).rows) in
+          let same : rows_count rest.rows ≡ rows_count (f.rows ++ (g f.core).rows) = ap rows_count rows in
+          omega (arith, less, same, m.told);
     }
 
 -- nothing remains

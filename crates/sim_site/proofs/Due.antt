@@ -1,23 +1,28 @@
--- A task whose step is due runs.
-use Rattle.std.specs.Prelude.{Bool, IfSome, List, None, Option, Result, Some, [], cond, false, flat_map, if◌then◌else◌, map, true, ℕ, ◌*◌, ◌+◌, ◌++◌, ◌==◌, ◌∷◌, ◌≡◌, ◌⊎◌}
+-- What is known of a key that is due, by its class: a task whose step is due runs, and a sample is due at its moment.
+use Rattle.std.specs.Prelude.{Bool, IfOk, IfSome, IsOk, List, None, Option, Result, Some, [], find, cond, false, flat_map, if◌then◌else◌, map, true, ℕ, ◌*◌, ◌+◌, ◌++◌, ◌==◌, ◌∷◌, ◌≡◌, ◌≢◌, ◌⊎◌}
 use Rattle.std.specs.Ordering.{is_lt}
-use Rattle.std.proofs.Common.{ap, inl, inr, refl, subst, sym, ◌∙◌}
+use Rattle.std.proofs.Common.{ap, arith, inl, inr, refl, subst, sym, ◌∙◌}
+use Rattle.std.proofs.lemmas.Bool.{false≢true}
+use Rattle.std.proofs.lemmas.Bool.Decides.{nat_tests}
+use Rattle.std.proofs.lemmas.List.Elements.{All-head, All-tail}
+use Rattle.sqs_redrive.specs.declared.transfers.Outbound.{Outbound}
 use Rattle.sim_clock.specs.declared.key.Class.{Class}
-use Rattle.sim_clock.specs.declared.key.Class.TheVariants.{Sample, Step}
+use Rattle.sim_clock.specs.declared.key.Class.TheVariants.{Arrival, Expiry, PollEnd, Release, Sample, Step, Wake}
 use Rattle.sim_clock.specs.declared.key.Key.{Key}
 use Rattle.sim_clock.specs.Order.{key_cmp, least, lesser}
+use Rattle.sim_clock.proofs.Least.{key_tied}
 use Rattle.sqs_message.specs.declared.message.Message.{Message}
 use Rattle.sqs_redrive.specs.declared.settings.TaskSettings.{TaskSettings}
 use Rattle.sqs_redrive.specs.MoveTasks.{is_running}
 use Rattle.sqs_redrive.specs.Transfers.{transfer_key}
 use Rattle.sqs_model.specs.Actor.{Actor}
 use Rattle.sqs_model.specs.Acts.{runs}
-use Rattle.sqs_model.specs.Dues.{actor_dues, core_dues, dues, least_due, message_dues, poll_key, queue_dues, release_due, sample_dues, task_dues, wake_due}
-use Rattle.sqs_model.specs.Progress.{Ascends}
-use Rattle.sqs_model.specs.Site.{Core, Site, number_of, task_numbered}
+use Rattle.sqs_model.specs.Dues.{actor_dues, core_dues, dues, message_dues, poll_key, queue_dues, release_due, sample_dues, task_dues, wake_due}
+use Rattle.sqs_model.specs.Progress.{AreTimely, Ascends, WasEnqueuedBy}
+use Rattle.sqs_model.specs.Site.{Core, Site, has_key, number_of, task_numbered}
 use Rattle.sqs_model.specs.Task.{Task}
 use Rattle.sqs_model.proofs.Members.{From, In, found_by_number, in_append, in_flat, in_map}
-use Rattle.sim_site.specs.Due.{IsAmong, StepIsDue}
+use Rattle.sim_site.specs.Due.{IsAmong}
 use Rattle.sim_clock.specs.declared.refusal.Refusal.{Refusal}
 use Rattle.sim_site.specs.Spent.{due_of, spent_or}
 use Rattle.sim_site.specs.Kept.{numbered_settings}
@@ -42,96 +47,142 @@ tasks_ascend : (n : ℕ) (ts : List Task) → Ascends (λ (x : ℕ × TaskSettin
 tasks_ascend n [] h = tt
 tasks_ascend n (t ∷ ts) h = (h.0, tasks_ascend (t.number + 1) ts h.1)
 
-module _ (key : Key) (step : key.class ≡ Step) where
-  -- a key of another class is not this one
-  not_step : (k : Key) (c : Class) → k ≡ key → k.class ≡ c → c ≡ Step
-  not_step k c e h = sym h ∙ ap (λ (x : Key). x.class) e ∙ step
+-- the classes of what is due of a part of a site
+module _ (key : Key) where
+  of_class : (k : Key) (c : Class) → k ≡ key → k.class ≡ c → key.class ≡ c
+  of_class k c e h = ap (λ (x : Key). x.class) (sym e) ∙ h
 
-  not_released : (site : ℕ) (m : Message) (o : Option ℕ) → In (release_due site m o) key → ⊥
-  not_released site m None k = elim k [ ]
-  not_released site m (Some at) (inl k) = let e = not_step _ _ k refl in cc
-  not_released site m (Some at) (inr k) = elim k [ ]
+  release_class : (site : ℕ) (m : Message) (o : Option ℕ) → In (release_due site m o) key → key.class ≡ Release
+  release_class site m None k = elim k [ ]
+  release_class site m (Some at) (inl k) = of_class _ _ k refl
+  release_class site m (Some at) (inr k) = elim k [ ]
 
-  not_message : (site retention : ℕ) (m : Message) → In (message_dues site retention m) key → ⊥
-  not_message site retention m (inl k) = let e = not_step _ _ k refl in cc
-  not_message site retention m (inr k) = not_released site m m.release k
+  message_class : (site retention : ℕ) (m : Message) → In (message_dues site retention m) key → (key.class ≡ Expiry) ⊎ (key.class ≡ Release)
+  message_class site retention m (inl k) = inl (of_class _ _ k refl)
+  message_class site retention m (inr k) = inr (release_class site m m.release k)
 
-  not_woken : (a : Actor) (o : Option ℕ) → In (wake_due a o) key → ⊥
-  not_woken a None k = elim k [ ]
-  not_woken a (Some at) (inl k) = let e = not_step _ _ k refl in cc
-  not_woken a (Some at) (inr k) = elim k [ ]
+  wake_class : (a : Actor) (o : Option ℕ) → In (wake_due a o) key → key.class ≡ Wake
+  wake_class a None k = elim k [ ]
+  wake_class a (Some at) (inl k) = of_class _ _ k refl
+  wake_class a (Some at) (inr k) = elim k [ ]
 
-  not_sampled : (c : Core) (b : Bool) → In (cond b [] (record { at = c.sample * (c.samples + 1); agent = number_of c; class = Sample; number = c.samples } ∷ [])) key → ⊥
-  not_sampled c true k = elim k [ ]
-  not_sampled c false (inl k) = let e = not_step _ _ k refl in cc
-  not_sampled c false (inr k) = elim k [ ]
+  -- the moment of a sample, where samples are taken
+  pub record IsSample (c : Core) : Type 0 where
+    pub class : key.class ≡ Sample
+    pub sampled : ¬ (c.sample ≡ 0)
+    pub at : key.at ≡ c.sample * (c.samples + 1)
 
-  -- whether the task of its number runs
-  abbrev Runs : Core → Type 0
-  Runs c = IfSome (task_numbered key.agent c) (λ t. runs t ≡ true)
+  sample_when : (c : Core) (b : Bool) → (c.sample == 0) ≡ b → In (cond b [] (record { at = c.sample * (c.samples + 1); agent = number_of c; class = Sample; number = c.samples } ∷ [])) key → IsSample c
+  sample_when c true e k = elim k [ ]
+  sample_when c false e (inl k) =
+      record {
+        class = of_class _ _ k refl;
+        sampled = grind (arith, nat_tests);
+        at = ap (λ (x : Key). x.at) (sym k);
+      }
+  sample_when c false e (inr k) = elim k [ ]
 
-  runs_by : (c : Core) (t : Task) (b : Bool) → Ascends (λ (x : Task). x.number) 0 c.tasks → In c.tasks t → is_running t.move.status ≡ b
-      → In (cond b (record { at = t.move.step_at; agent = t.number; class = Step; number = t.move.steps } ∷ []) []) key → Runs c
-  runs_by c t false a i r k = elim k [ ]
-  runs_by c t true a i r (inl k) =
-      let own : task_numbered t.number c ≡ Some t = found_by_number (λ (x : Task). x.number) 0 c.tasks t a i in
-      let found : task_numbered key.agent c ≡ Some t = subst (λ (j : ℕ). task_numbered j c ≡ Some t) (ap (λ (x : Key). x.agent) k) own in
-      rw found r
-  runs_by c t true a i r (inr k) = elim k [ ]
+  -- a task of a site whose step this is, which runs
+  pub record IsStep (c : Core) : Type 0 where
+    pub class : key.class ≡ Step
+    pub task : Task
+    pub within : In c.tasks task
+    pub running : runs task ≡ true
+    pub agent : task.number ≡ key.agent
 
-  runs_task : (c : Core) → Ascends (λ (x : Task). x.number) 0 c.tasks → In (flat_map task_dues c.tasks) key → Runs c
-  runs_task c a k =
-      let f : From c.tasks (λ t. In (task_dues t) key) = in_flat task_dues c.tasks key k in
-      runs_by c f.one (is_running f.one.move.status) a f.within refl f.gives
+  step_when : (c : Core) (t : Task) (b : Bool) → In c.tasks t → is_running t.move.status ≡ b
+      → In (cond b (record { at = t.move.step_at; agent = t.number; class = Step; number = t.move.steps } ∷ []) []) key → IsStep c
+  step_when c t false i r k = elim k [ ]
+  step_when c t true i r (inl k) = record { class = of_class _ _ k refl; task = t; within = i; running = r; agent = ap (λ (x : Key). x.agent) k }
+  step_when c t true i r (inr k) = elim k [ ]
 
-  runs_core : (c : Core) → Ascends (λ (x : Task). x.number) 0 c.tasks → In (core_dues c) key → Runs c
+  -- what is due but for arrivals, by the part that it is of
+  by_part :
+      (P : Type 0) (c : Core) → (key.class ≡ Expiry → P) → (key.class ≡ Release → P) → (key.class ≡ PollEnd → P) → (key.class ≡ Wake → P) → (IsSample c → P) → (IsStep c → P)
+      → IsAmong (core_dues c) key → P
   unfolding core_dues
-  runs_core c a i =
-      elim (in_append (queue_dues c.queue ++ map poll_key c.polls ++ flat_map actor_dues c.actors ++ sample_dues c) (flat_map task_dues c.tasks) key i) as (λ _. Runs c) [
-        | inr k ↦ runs_task c a k
+  by_part P c expiry release end wake sample step i =
+      elim (in_append (queue_dues c.queue ++ map poll_key c.polls ++ flat_map actor_dues c.actors ++ sample_dues c) (flat_map task_dues c.tasks) key i) as (λ _. P) [
+        | inr k ↦
+            let f : From c.tasks (λ t. In (task_dues t) key) = in_flat task_dues c.tasks key k in
+            step (step_when c f.one (is_running f.one.move.status) f.within refl f.gives)
         | inl i4 ↦
-            elim (in_append (queue_dues c.queue ++ map poll_key c.polls ++ flat_map actor_dues c.actors) (sample_dues c) key i4) as (λ _. Runs c) [
-              | inr k ↦ absurd (not_sampled c (c.sample == 0) k)
+            elim (in_append (queue_dues c.queue ++ map poll_key c.polls ++ flat_map actor_dues c.actors) (sample_dues c) key i4) as (λ _. P) [
+              | inr k ↦ sample (sample_when c (c.sample == 0) refl k)
               | inl i3 ↦
-                  elim (in_append (queue_dues c.queue ++ map poll_key c.polls) (flat_map actor_dues c.actors) key i3) as (λ _. Runs c) [
+                  elim (in_append (queue_dues c.queue ++ map poll_key c.polls) (flat_map actor_dues c.actors) key i3) as (λ _. P) [
                     | inr k ↦
                         let f : From c.actors (λ x. In (actor_dues x) key) = in_flat actor_dues c.actors key k in
-                        absurd (not_woken f.one f.one.wake f.gives)
+                        wake (wake_class f.one f.one.wake f.gives)
                     | inl i2 ↦
-                        elim (in_append (queue_dues c.queue) (map poll_key c.polls) key i2) as (λ _. Runs c) [
+                        elim (in_append (queue_dues c.queue) (map poll_key c.polls) key i2) as (λ _. P) [
                           | inr k ↦
                               let f : From c.polls (λ p. poll_key p ≡ key) = in_map poll_key c.polls key k in
-                              let e = not_step _ _ f.gives refl in cc
+                              end (of_class _ _ f.gives refl)
                           | inl k ↦
                               let f : From c.queue.records (λ m. In (message_dues c.queue.site c.queue.settings.retention m) key) = in_flat (message_dues c.queue.site c.queue.settings.retention) c.queue.records key k in
-                              absurd (not_message c.queue.site c.queue.settings.retention f.one f.gives)
+                              elim (message_class c.queue.site c.queue.settings.retention f.one f.gives) as (λ _. P) [
+                                | inl e ↦ expiry e
+                                | inr e ↦ release e
+                              ]
                         ]
                   ]
             ]
       ]
 
-  among_core : (s : Site) → IsAmong (dues s) key → IsAmong (core_dues s.core) key
-  unfolding dues
-  among_core s i =
-      elim (in_append (map transfer_key s.arriving) (core_dues s.core) key i) as (λ _. IsAmong (core_dues s.core) key) [
-        | inl k ↦
-            let f : From s.arriving (λ o. transfer_key o ≡ key) = in_map transfer_key s.arriving key k in
-            let e = not_step _ _ f.gives refl in cc
-        | inr k ↦ k
-      ]
+-- a sample that is due
+pub due_sample : (c : Core) (key : Key) → key.class ≡ Sample → IsAmong (core_dues c) key → IsSample key c
+due_sample c key is due =
+    by_part key (IsSample key c) c (λ e. let k : Expiry ≡ Sample = sym e ∙ is in cc) (λ e. let k : Release ≡ Sample = sym e ∙ is in cc) (λ e. let k : PollEnd ≡ Sample = sym e ∙ is in cc)
+    (λ e. let k : Wake ≡ Sample = sym e ∙ is in cc) (λ s. s) (λ s. let k : Step ≡ Sample = sym s.class ∙ is in cc) due
+
+-- a step that is due
+due_step : (c : Core) (key : Key) → key.class ≡ Step → IsAmong (core_dues c) key → IsStep key c
+due_step c key is due =
+    by_part key (IsStep key c) c (λ e. let k : Expiry ≡ Step = sym e ∙ is in cc) (λ e. let k : Release ≡ Step = sym e ∙ is in cc) (λ e. let k : PollEnd ≡ Step = sym e ∙ is in cc)
+    (λ e. let k : Wake ≡ Step = sym e ∙ is in cc) (λ s. let k : Sample ≡ Step = sym s.class ∙ is in cc) (λ s. s) due
 
 -- the task runs whose step is due
 pub due_runs :
-    (c : Core) (key : Key) → Ascends (λ (x : ℕ × TaskSettings). x.0) 0 (map numbered_settings c.tasks) → key.class ≡ Step → StepIsDue c key
+    (c : Core) (key : Key) → Ascends (λ (x : ℕ × TaskSettings). x.0) 0 (map numbered_settings c.tasks) → key.class ≡ Step → IsAmong (core_dues c) key
     → IfSome (task_numbered key.agent c) (λ t. runs t ≡ true)
-due_runs c key a step due = runs_core key step c (tasks_ascend 0 c.tasks a) (due step)
+due_runs c key a is due =
+    let s : IsStep key c = due_step c key is due in
+    let own : task_numbered s.task.number c ≡ Some s.task = found_by_number (λ (x : Task). x.number) 0 c.tasks s.task (tasks_ascend 0 c.tasks a) s.within in
+    let found : task_numbered key.agent c ≡ Some s.task = subst (λ (j : ℕ). task_numbered j c ≡ Some s.task) s.agent own in
+    rw found s.running
 
--- a step that is the least due of a site is due there
-pub step_is_due : (s : Site) (key : Key) → least_due s ≡ Some key → StepIsDue s.core key
-step_is_due s key d step = among_core key step s (least_in (dues s) key d)
+-- what is due of a site and is no arrival
+among_core : (key : Key) (s : Site) → key.class ≢ Arrival → IsAmong (dues s) key → IsAmong (core_dues s.core) key
+unfolding dues
+among_core key s other i =
+    elim (in_append (map transfer_key s.arriving) (core_dues s.core) key i) as (λ _. IsAmong (core_dues s.core) key) [
+      | inl k ↦
+          let f : From s.arriving (λ o. transfer_key o ≡ key) = in_map transfer_key s.arriving key k in
+          absurd (other (of_class key _ _ f.gives refl))
+      | inr k ↦ k
+    ]
+
+-- the least due of a site that may be spent, where it is no arrival
+pub spent_is_due :
+    (o : Option Refusal) (s : Site) (x : Result Site Refusal) (key : Key) → spent_or o s ≡ x → due_of x ≡ Some key → key.class ≢ Arrival → IsAmong (core_dues s.core) key
+spent_is_due None s x key v d other = among_core key s other (least_in (dues s) key (ap due_of v ∙ d))
+spent_is_due (Some e) s x key v d other = absurd (let k : None ≡ Some key = ap due_of v ∙ d in cc)
+
+-- the transfer that arrives was enqueued by then
+pub arrives_timely : (key : Key) (transfers : List Outbound) → AreTimely transfers → IfSome (find (has_key key) transfers) (λ t. WasEnqueuedBy key.at t.load)
+arrives_timely key [] h = tt
+arrives_timely key (o ∷ os) h =
+    elim (has_key key o) as (λ b. has_key key o ≡ b → IfSome (cond b (Some o) (find (has_key key) os)) (λ t. WasEnqueuedBy key.at t.load)) [
+      | true ↦ λ e.
+          let at : o.at ≡ key.at = ap (λ (x : Key). x.at) (sym (key_tied key (transfer_key o) e)) in
+          subst (λ n. WasEnqueuedBy n o.load) at (All-head (λ (x : Outbound). WasEnqueuedBy x.at x.load) o os h)
+      | false ↦ λ e. arrives_timely key os (All-tail (λ (x : Outbound). WasEnqueuedBy x.at x.load) o os h)
+    ] refl
 
 -- the same of a site that may be spent
-pub spent_step_is_due :
-    (o : Option Refusal) (s : Site) (x : Result Site Refusal) (key : Key) → spent_or o s ≡ x → due_of x ≡ Some key → StepIsDue s.core key
-spent_step_is_due None s x key v d = step_is_due s key (ap due_of v ∙ d)
-spent_step_is_due (Some e) s x key v d = absurd (let k : None ≡ Some key = ap due_of v ∙ d in cc)
+pub spent_timely :
+    (o : Option Refusal) (s : Site) (x : Result Site Refusal) (key : Key) → spent_or o s ≡ x → IsOk x → IfOk x (λ t. AreTimely t.arriving)
+    → IfSome (find (has_key key) s.arriving) (λ t. WasEnqueuedBy key.at t.load)
+spent_timely None s x key v l h = arrives_timely key s.arriving (subst (λ y. IfOk y (λ t. AreTimely t.arriving)) (sym v) h)
+spent_timely (Some e) s x key v l h = absurd (false≢true (subst (λ (y : Result Site Refusal). IsOk y) (sym v) l))

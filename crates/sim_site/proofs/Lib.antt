@@ -18,3 +18,9 @@ pub mod Recent
 pub mod Openings
 pub mod Stepping
 pub mod Due
+pub mod Passing
+pub mod Limiting
+pub mod Timely
+pub mod Told
+pub mod Deciding
+pub mod Answering

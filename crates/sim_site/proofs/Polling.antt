@@ -44,7 +44,7 @@ gives_by false q new x gots h =
     let d : x.1 ≡ gots = cc in
     ap (λ y. (y, x.1)) b ∙ ap (λ g. (new, g)) d
 
-receive_gives :
+pub receive_gives :
     (q new : Queue) (now max : ℕ) (timeout : Option ℕ) (set : ℕ) (gots : List Got) → receive q now max timeout set false ≡ (Ok gots, new) → give_most q now max timeout set ≡ (new, gots)
 receive_gives q new now max timeout set gots h = gives_by (is_bad_timeout timeout) q new (give_most q now max timeout set) gots h
 

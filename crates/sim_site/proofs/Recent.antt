@@ -32,7 +32,7 @@ received_recent q new now max timeout set short answer e h =
     subst (λ (x : Result (List Got) Refusal × Queue). IsRecent now x.1) e (receive_recent q now max timeout set short h)
 
 -- a site after a turn of an actor
-turn_by_made : (act : Act) (m : Made) → (turn_by act m).effect ≡ m.effect
+pub turn_by_made : (act : Act) (m : Made) → (turn_by act m).effect ≡ m.effect
 turn_by_made (acts.Send body delay group id) m = refl
 turn_by_made (acts.Receive max wait timeout) m = refl
 turn_by_made (acts.Delete text) m = refl

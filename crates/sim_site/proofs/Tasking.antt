@@ -20,11 +20,11 @@ use Rattle.sim_site.specs.Tasks.{Rewritten}
 use Rattle.sim_site.proofs.Carried.{says_if}
 
 -- one that is found
-record Found (p : Task → Bool) (xs : List Task) : Type 0 where
-  one : Task
-  is : find p xs ≡ Some one
+pub record Found {A : Type 0} (p : A → Bool) (xs : List A) : Type 0 where
+  pub one : A
+  pub is : find p xs ≡ Some one
 
-stands_found : (p : Task → Bool) (xs : List Task) (i : ℕ) → Stands p xs i → Found p xs
+pub stands_found : {A : Type 0} (p : A → Bool) (xs : List A) (i : ℕ) → Stands p xs i → Found p xs
 stands_found p [] i s = absurd (omega (arith, s.within))
 stands_found p (x ∷ xs) i s = record { one = _; is = s.found x }
 

@@ -36,7 +36,7 @@ module _ {A B : Type 0} (p : A → Bool) (f : A → B) where
         | false ↦ λ k. all_found P zs x (All-tail P (f z) (map f zs) h) k
       ] e
 
-is_its_number : (n : ℕ) (a : Actor) → is_actor n a ≡ true → a.number ≡ n
+pub is_its_number : (n : ℕ) (a : Actor) → is_actor n a ≡ true → a.number ≡ n
 is_its_number n a h = grind (arith, nat_tests)
 
 has_its_number : (n : ℕ) (a : Actor) → a.number ≡ n → is_actor n a ≡ true

@@ -1,5 +1,6 @@
 -- Turns of an actor, one after another.
-use Rattle.std.proofs.Common.{◌≡◌, ℕ, suc, Option, Some, None, refl, ap, sym, ◌∙◌}
+use Rattle.sqs_model.specs.Limits.{PassesCount}
+use Rattle.std.proofs.Common.{◌≡◌, ℕ, suc, Option, Some, None, refl, ap, subst, sym, ◌∙◌}
 use Rattle.sim_clock.specs.declared.key.Key.{Key}
 use Rattle.sqs_model.specs.declared.acts.Act.{Act}
 use Rattle.sqs_model.specs.declared.acts.Act.TheVariants as acts
@@ -10,7 +11,9 @@ use Rattle.sqs_model.specs.Acts.{act_made}
 use Rattle.sqs_model.specs.Polls.{acts_found, acts_most, acts_next}
 use Rattle.sqs_model.specs.Site.{Core, Effect, actor_numbered, and_then}
 use Rattle.sim_site.specs.Effects.{Did}
-use Rattle.sim_site.specs.Turns.{DidTurn, turn_next, turn_of}
+use Rattle.sim_site.specs.Turns.{DidTurn, Turn, turn_next, turn_of}
+use Rattle.sqs_model.proofs.Growth.{Grows, most_up, same}
+use Rattle.sim_site.proofs.Passing.{passes_after, passes_before}
 use Rattle.sim_site.proofs.Carried.{did_nothing, did_then}
 
 -- what comes of a turn, and of what its actor is told of it
@@ -55,3 +58,29 @@ module _ (key : Key) (n most : ℕ) (answer : Answer) (c : Core) (a b : Effects)
 pub turn_last : (key : Key) (n : ℕ) (answer : Answer) (c : Core) (a b : Effects) (d : Core) (told : Option Answer) → DidTurn a b d told (turn_of key answer c (actor_numbered n c)) → Did a b d (acts_most 1 key n answer c)
 turn_last key n answer c a b d None t = turn_ends key n 0 answer c a b d t
 turn_last key n answer c a b d (Some told) t = turn_goes key n 0 answer c a b d b d told t (did_nothing b d)
+
+-- an effect, and what comes of it
+followed_limited : (more : Answer → Core → Effect) → ((w : Answer) (d : Core) → Grows d (more w d).core) → (e : Effect) (o : Option Answer) → PassesCount e → PassesCount (followed_by more e o)
+unfolding followed_by
+followed_limited more up e None h = h
+followed_limited more up e (Some w) h = passes_before e (more w) (up w e.core) h
+
+module _ (key : Key) (n most : ℕ) (answer : Answer) (c : Core) where
+  -- a turn that a count stops
+  pub turn_limited : PassesCount (turn_of key answer c (actor_numbered n c)).effect → PassesCount (acts_most (suc most) key n answer c)
+  turn_limited h =
+      let t : Turn = turn_of key answer c (actor_numbered n c) in
+      let more : Answer → Core → Effect = acts_most most key n in
+      subst PassesCount (sym (found_follows more key answer c (actor_numbered n c)))
+      (followed_limited more (λ w d. most_up d most key n w d (same d)) t.effect t.answer h)
+
+  -- one of the turns after it
+  pub turns_limited :
+      (a b : Effects) (d : Core) (told : Answer) → DidTurn a b d (Some told) (turn_of key answer c (actor_numbered n c)) → PassesCount (acts_most most key n told d)
+      → PassesCount (acts_most (suc most) key n answer c)
+  unfolding followed_by
+  turns_limited a b d told t h =
+      let turn : Turn = turn_of key answer c (actor_numbered n c) in
+      let more : Answer → Core → Effect = acts_most most key n in
+      let e : acts_most (suc most) key n answer c ≡ followed_by more turn.effect (Some told) = found_follows more key answer c (actor_numbered n c) ∙ ap (followed_by more turn.effect) (sym t.answer) in
+      subst PassesCount (sym e) (passes_after turn.effect (more told) (subst (λ (x : Core). PassesCount (more told x)) t.effect.core h))

@@ -1,10 +1,11 @@
 -- How the methods of a site carry out the effects of the definitions: rows and transfers are added to those made before.
-use Rattle.std.specs.Prelude.{Ok, Result, ◌++◌, ◌≡◌}
+use Rattle.std.specs.Prelude.{Ok, Result, ◌++◌, ◌≡◌, ◌≤◌}
 use Rattle.sim_clock.specs.declared.refusal.Refusal.{Refusal}
 use Rattle.sim_clock.specs.declared.refusal.Refusal.TheVariants as refusals
 use Rattle.sim_site.specs.declared.effects.Effects.{Effects}
 use Rattle.sqs_model.specs.declared.acts.Answer.{Answer}
 use Rattle.sqs_model.specs.Acts.{Made}
+use Rattle.sqs_model.specs.Limits.{PassesCount, rows_count}
 use Rattle.sqs_model.specs.Site.{Core, Effect, Site}
 use Rattle.sqs_model.specs.Step.{Handled}
 
@@ -30,9 +31,14 @@ pub record Remains (before after : Effects) (rest whole : Effect) : Type 0 where
   pub core : rest.core ≡ whole.core
   pub rows : after.rows.items ++ rest.rows ≡ before.rows.items ++ whole.rows
   pub sent : after.sent.items ++ rest.sent ≡ before.sent.items ++ whole.sent
+  pub told : rows_count rest.rows ≤ rows_count whole.rows
 
--- the refusals that end a site: want of memory, and a count at its limit
-abbrev pub Spends : Refusal → Type 0
-Spends refusals.CountLimit = Unit {0}
-Spends refusals.Memory = Unit {0}
-Spends e = ⊥
+-- why something is not done: want of memory, or a count at its limit where this holds
+abbrev pub StopsWhere : Type 0 → Refusal → Type 0
+StopsWhere AtLimit refusals.CountLimit = AtLimit
+StopsWhere AtLimit refusals.Memory = Unit {0}
+StopsWhere AtLimit refusal = ⊥
+
+-- why an effect is not carried out: want of memory, or a count that it takes past the limit
+abbrev pub Stops : Effect → Refusal → Type 0
+Stops e = StopsWhere (PassesCount e)

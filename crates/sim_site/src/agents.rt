@@ -46,8 +46,9 @@ impl Poll {
     }
 }
 
-/// A move task as an agent: its number, its state, how many transfers it sent, and its draws.
-/// Contracts see it as the definitions' record of these.
+/// A move task as an agent: its number, its state, how many transfers it ever sent, which are no
+/// fewer than those since its last start, and its draws. Contracts see it as the definitions'
+/// record of these.
 #[derive(Drop)]
 pub struct Task {
     pub(crate) number: u32,
@@ -57,11 +58,15 @@ pub struct Task {
 }
 
 impl Model for Task {
+    ghost use Rattle.std.specs.Prelude.{◌≤◌};
+    ghost use Rattle.sqs_model.specs.Answers.{most_count};
     ghost use Rattle.sqs_model.specs.Task.{Task};
 
     ghost Value = { Task };
 
     ghost view = { λ t. record { number = t.number; move = t.movement; sent = t.sent; draws = t.draws } };
+
+    ghost invariant = { λ t. (t.movement.moved ≤ t.sent) × (t.sent ≤ most_count) };
 }
 
 impl Task {

@@ -1,6 +1,5 @@
 //! What a handling makes: rows of the log, and transfers to other queues.
-ghost use Rattle.std.specs.Prelude.{◌≡◌, ◌++◌, ◌∷◌, [], IfErr, OnOk};
-ghost use Rattle.sim_site.specs.Effects.{Spends};
+ghost use Rattle.std.specs.Prelude.{IsOkUnless, OnOk, [], ◌++◌, ◌∷◌, ◌≡◌};
 
 use sim_clock::Refusal;
 use sqs_message::Row;
@@ -30,7 +29,7 @@ impl Effects {
     pub fn say(&mut self, row: Row) -> Result<(), Refusal>
         ensures rows { OnOk result (self.new.rows.items ≡ self.old.rows.items ++ row ∷ []) }
         ensures sent { self.new.sent ≡ self.old.sent }
-        ensures spends { IfErr result Spends }
+        ensures memory_only { IsOkUnless result Refusal.Memory }
     {
         self.rows.push(row)?;
         Ok(())
@@ -40,7 +39,7 @@ impl Effects {
     pub fn send(&mut self, transfer: Outbound) -> Result<(), Refusal>
         ensures sent { OnOk result (self.new.sent.items ≡ self.old.sent.items ++ transfer ∷ []) }
         ensures rows { self.new.rows ≡ self.old.rows }
-        ensures spends { IfErr result Spends }
+        ensures memory_only { IsOkUnless result Refusal.Memory }
     {
         self.sent.push(transfer)?;
         Ok(())

@@ -1,9 +1,11 @@
 //! Actors and tasks by their numbers and by their places in their lists.
-ghost use Rattle.std.specs.Prelude.{◌≡◌, ◌≤◌, All, IfErr, IfOk, MatchOption, map, position};
+ghost use Rattle.std.specs.Prelude.{All, IfErr, IfOk, MatchOption, Some, find, map, position, ◌<◌, ◌≡◌, ◌≤◌};
+ghost use Rattle.sim_actor.specs.Lives.{greatest_count};
+ghost use Rattle.sqs_model.specs.Actor.{Actor as TheActor, next};
 ghost use Rattle.sqs_model.specs.Answers.{most_count};
 ghost use Rattle.sqs_model.specs.Places.{IsAbsent, Stands};
 ghost use Rattle.sqs_model.specs.Site.{is_actor, is_task};
-ghost use Rattle.sim_site.specs.Effects.{Spends};
+ghost use Rattle.sim_site.specs.Effects.{StopsWhere};
 ghost use Rattle.sim_site.specs.Kept.{HasShortWaits};
 ghost use Rattle.sim_site.specs.Turns.{Polled, Turned, WaitsShortly};
 
@@ -54,7 +56,7 @@ pub fn next_at(
     ensures turned { IfOk result (λ act. Turned number now answer act actors.old.items actors.new.items) }
     ensures settings { map (λ a. a.settings) actors.new.items ≡ map (λ a. a.settings) actors.old.items }
     ensures waits { All (λ a. HasShortWaits a.role) (map (λ a. a.settings) actors.old.items) → IfOk result WaitsShortly }
-    ensures spends { IfErr result Spends }
+    ensures stops { IfErr result (StopsWhere ((a : TheActor) → find (is_actor number) actors.old.items ≡ Some a → most_count < greatest_count (next a now answer).1)) }
 {
     actors[place].next(now, answer)
 }
@@ -65,7 +67,7 @@ pub fn polled_at(actors: &mut Vec<Actor>, place: usize, number: u32) -> Result<u
     requires place { Stands (is_actor number) actors.old.items place }
     ensures polled { IfOk result (λ polls. Polled number polls actors.old.items actors.new.items) }
     ensures settings { map (λ a. a.settings) actors.new.items ≡ map (λ a. a.settings) actors.old.items }
-    ensures spends { IfErr result Spends }
+    ensures stops { IfErr result (StopsWhere ((a : TheActor) → find (is_actor number) actors.old.items ≡ Some a → a.polls ≡ most_count)) }
 {
     let actor = &mut actors[place];
     let polls = actor.polls();

@@ -1,15 +1,16 @@
 //! Sites.
-ghost use Rattle.std.specs.Prelude.{◌≡◌, ◌≤◌, ◌==◌, All, Err, IfErr, IfOk, IsOk, IsOkUnless, None, Ok, OnOk, Option, Result, Some, filter, map};
+ghost use Rattle.std.specs.Prelude.{All, Err, IfErr, IfOk, IsOk, IsOkUnless, None, Ok, OnOk, Option, Result, Some, filter, map, ◌==◌, ◌≡◌, ◌≤◌};
 ghost use Rattle.sim_actor.specs.Lives.{IsRole};
 ghost use Rattle.sim_clock.specs.Order.{least};
 ghost use Rattle.sqs_model.specs.Answers.{most_count};
 ghost use Rattle.sqs_model.specs.Dues.{least_due};
-ghost use Rattle.sqs_model.specs.Progress.{IsRecent};
+ghost use Rattle.sqs_model.specs.Limits.{effect_of};
+ghost use Rattle.sqs_model.specs.Progress.{AreTimely, IsRecent};
 ghost use Rattle.sqs_model.specs.Scenario.{Scenario, numbered_actors, numbered_tasks, opening_site};
 ghost use Rattle.sqs_model.specs.Site.{Site, accepted};
 ghost use Rattle.sim_site.specs.Kept.{IsSetUp};
 ghost use Rattle.sqs_model.specs.Step.{handled};
-ghost use Rattle.sim_site.specs.Effects.{DidHandle, Spends};
+ghost use Rattle.sim_site.specs.Effects.{DidHandle, Stops};
 ghost use Rattle.sim_site.specs.Spent.{due_of, refusal_of};
 
 use crate::agents::Task;
@@ -127,8 +128,9 @@ impl Site {
         requires due { due_of self.old ≡ Some key }
         requires moment { key.at ≤ most_count }
         requires recent { IfOk self.old (λ site. IsRecent key.at site.core.queue) }
+        requires timely { IfOk self.old (λ site. AreTimely site.arriving) }
         ensures done { IfOk self.old (λ site. OnOk result (DidHandle effects.old effects.new self.new (handled key site))) }
-        ensures spends { IfErr result Spends }
+        ensures stops { IfOk self.old (λ site. IfErr result (Stops (effect_of (handled key site)))) }
     {
         if key.class == Class::Arrival {
             let transfer = take(&mut self.arriving, key);
@@ -140,15 +142,16 @@ impl Site {
 
     /// Handles its least due, at a moment in milliseconds, which is not before that of a
     /// deduplication entry of its queue: the rows that this makes, and the transfers that it sends.
-    /// `Memory`, or `CountLimit` where a count would pass its limit, spends it; one that is spent
-    /// answers what spent it.
+    /// What is on its way to it was enqueued by its arrival. `Memory`, or `CountLimit`, only where
+    /// the handling takes a count past 2^62 - 1, spends it; one that is spent answers what spent it.
     pub fn handle(&mut self, key: Key) -> Result<Handled, Refusal>
         requires due { IfOk self.old (λ site. least_due site ≡ Some key) }
         requires moment { key.at ≤ most_count }
         requires recent { IfOk self.old (λ site. IsRecent key.at site.core.queue) }
+        requires timely { IfOk self.old (λ site. AreTimely site.arriving) }
         ensures handled { IfOk self.old (λ site. IfOk result (λ made. (self.new ≡ Ok (handled key site).site) × (made.rows.items ≡ (handled key site).rows) × (made.outbound.items ≡ (handled key site).sent))) }
         ensures spent { IfErr result (λ refusal. self.new ≡ Err refusal) }
-        ensures spends { IfOk self.old (λ site. IfErr result Spends) }
+        ensures stops { IfOk self.old (λ site. IfErr result (Stops (effect_of (handled key site)))) }
         ensures stays { IfErr self.old (λ refusal. result ≡ Err refusal) }
     {
         if let Some(refusal) = self.spent {

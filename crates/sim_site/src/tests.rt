@@ -1,7 +1,7 @@
 //! Transfers that arrive at a site of each kind of queue.
 ghost use Rattle.std.specs.Prelude.{◌≤◌, IfOk};
 ghost use Rattle.sqs_model.specs.Answers.{most_count};
-ghost use Rattle.sqs_model.specs.Progress.{IsRecent};
+ghost use Rattle.sqs_model.specs.Progress.{AreTimely, IsRecent};
 ghost use Rattle.sqs_model.specs.Valid.{IsKind};
 
 use crate::{Handled, Site};
@@ -15,7 +15,8 @@ use std::test::Fail;
 // A site of a queue of this kind, with neither actors nor tasks.
 fn open(alloc: Global, kind: Kind) -> Result<Site, Refusal>
     requires { IsKind kind }
-    ensures { IfOk result (λ site. IfOk site (λ s. IsRecent 0 s.core.queue)) }
+    ensures recent { IfOk result (λ site. IfOk site (λ s. IsRecent 0 s.core.queue)) }
+    ensures timely { IfOk result (λ site. IfOk site (λ s. AreTimely s.arriving)) }
 {
     let settings = QueueSettings {
         kind,
@@ -31,8 +32,10 @@ fn open(alloc: Global, kind: Kind) -> Result<Site, Refusal>
 
 // A forward of one message is on its way.
 fn accept(alloc: Global, site: &mut Site, at: u64) -> Result<(), Refusal>
-    requires { IfOk site.old (λ s. IsRecent 0 s.core.queue) }
-    ensures { IfOk site.new (λ s. IsRecent 0 s.core.queue) }
+    requires recent { IfOk site.old (λ s. IsRecent 0 s.core.queue) }
+    requires timely { IfOk site.old (λ s. AreTimely s.arriving) }
+    ensures recent { IfOk site.new (λ s. IsRecent 0 s.core.queue) }
+    ensures timely { IfOk site.new (λ s. AreTimely s.arriving) }
 {
     let load = Load::Forward {
         id: MessageId { site: 1, number: 0 },
@@ -53,7 +56,9 @@ fn accept(alloc: Global, site: &mut Site, at: u64) -> Result<(), Refusal>
 fn handle_next(site: &mut Site, now: u64) -> Result<Handled, Refusal>
     requires moment { now ≤ most_count }
     requires recent { IfOk site.old (λ s. IsRecent now s.core.queue) }
-    ensures { IfOk site.new (λ s. IsRecent now s.core.queue) }
+    requires timely { IfOk site.old (λ s. AreTimely s.arriving) }
+    ensures recent { IfOk site.new (λ s. IsRecent now s.core.queue) }
+    ensures timely { IfOk site.new (λ s. AreTimely s.arriving) }
 {
     match site.least_due() {
         Some(key) if key.at == now => site.handle(key),
@@ -65,7 +70,9 @@ fn handle_next(site: &mut Site, now: u64) -> Result<Handled, Refusal>
 fn try_arrival(rt: &impl Abort, site: &mut Site, now: u64, left: usize) -> Result<(), Fail>
     requires moment { now ≤ most_count }
     requires recent { IfOk site.old (λ s. IsRecent now s.core.queue) }
-    ensures { IfOk site.new (λ s. IsRecent now s.core.queue) }
+    requires timely { IfOk site.old (λ s. AreTimely s.arriving) }
+    ensures recent { IfOk site.new (λ s. IsRecent now s.core.queue) }
+    ensures timely { IfOk site.new (λ s. AreTimely s.arriving) }
 {
     let handled = handle_next(site, now)?;
     assert_eq!(rt; (handled.rows.len(), handled.outbound.len()), (1, 0));
@@ -75,7 +82,8 @@ fn try_arrival(rt: &impl Abort, site: &mut Site, now: u64, left: usize) -> Resul
 
 // Three transfers arrive in the order of their keys, and the last message is enqueued then.
 fn try_arrivals(rt: &impl Abort, alloc: Global, site: &mut Site, enqueued: u64) -> Result<(), Fail>
-    requires { IfOk site.old (λ s. IsRecent 0 s.core.queue) }
+    requires recent { IfOk site.old (λ s. IsRecent 0 s.core.queue) }
+    requires timely { IfOk site.old (λ s. AreTimely s.arriving) }
 {
     assert_eq!(rt; site.least_due(), None);
     accept(alloc, site, 40)?;

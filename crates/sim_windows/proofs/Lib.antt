@@ -1,3 +1,4 @@
 pub mod Openings
 pub mod Places
 pub mod Runs
+pub mod Stopping

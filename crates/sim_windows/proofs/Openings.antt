@@ -7,6 +7,8 @@ use Rattle.std.proofs.lemmas.List.{append-nil, get_or-map, length-map, map-set}
 use Rattle.std.proofs.lemmas.List.Elements.{All-cons, All-filter, All-head, All-map, All-nil, All-tail, All-weaker, filter-append}
 use Rattle.std.proofs.Math.Seq.{drop-cons}
 use Rattle.sim_clock.specs.declared.key.Key.{Key}
+use Rattle.sqs_message.specs.declared.message.Message.{Message}
+use Rattle.sqs_redrive.specs.declared.transfers.Outbound.{Outbound}
 use Rattle.sqs_model.specs.Queue.{Entry}
 use Rattle.sqs_model.specs.Dues.{world_due}
 use Rattle.sim_clock.specs.declared.refusal.Refusal.{Refusal}
@@ -21,17 +23,17 @@ use Rattle.sqs_model.specs.declared.agents.Role.{Role}
 use Rattle.sqs_model.specs.declared.agents.Role.TheVariants.{Consumer, Producer, Script}
 use Rattle.sqs_model.proofs.Counts.{ascends_lower}
 use Rattle.sqs_model.proofs.Opening.{opens_sound}
-use Rattle.sqs_model.specs.Progress.{Ascends, IsRecent, IsSound, IsSoundScenario}
-use Rattle.sqs_model.specs.Scenario.{Scenario, numbered_actors, numbered_tasks, opening, opening_site}
+use Rattle.sqs_model.specs.Progress.{Ascends, IsSound, IsSoundScenario, WasEnqueuedBy}
+use Rattle.sqs_model.specs.Scenario.{HasItsQueues, MayBeWithin, Scenario, numbered_actors, numbered_tasks, opening, opening_site}
 use Rattle.sqs_model.specs.Site.{Site}
 use Rattle.sqs_model.specs.Valid.{IsLatency, IsTaskSettings}
 use Rattle.sim_actor.specs.Lives.{IsRole}
 use Rattle.sim_scenario.specs.declared.scenario.ScenarioParts.{ScenarioParts}
-use Rattle.sim_scenario.specs.Ranges.{IsInRange, IsRole as IsScenarioRole}
+use Rattle.sim_scenario.specs.Ranges.{IsInRange, MayBeBelow, IsRole as IsScenarioRole}
 use Rattle.sim_site.specs.Kept.{HasShortWaits, WaitsWithin}
 use Rattle.sim_windows.specs.declared.opening.Home.{Home}
 use Rattle.sim_windows.specs.Homes.{AtHome, IsFit, IsSettled, IsVacant, actors_in, tasks_in}
-use Rattle.sim_windows.specs.Worlds.{AreRecent, IsNumbered, IsWorld, alive, living}
+use Rattle.sim_windows.specs.Worlds.{AreOfPast, IsNumbered, IsOfPast, IsWorld, alive, living}
 use Rattle.sim_windows.proofs.Places.{living_alive}
 
 -- one more agent, with its number
@@ -180,16 +182,21 @@ numbered_sites : (s : Scenario) (n : ℕ) (queues : List QueueSettings) → IsNu
 numbered_sites s n [] = tt
 numbered_sites s n (settings ∷ queues) = (refl, numbered_sites s (n + 1) queues)
 
--- and have no entries yet
-recent_sites : (s : Scenario) (n now : ℕ) (queues : List QueueSettings) → All (λ x. IsRecent now x.core.queue) (map (opening_site s) (enumerate_from n queues))
-recent_sites s n now [] = All-nil (λ (x : Site). IsRecent now x.core.queue)
-recent_sites s n now (settings ∷ queues) =
-    All-cons (λ (x : Site). IsRecent now x.core.queue) (opening_site s (n, settings)) (map (opening_site s) (enumerate_from (n + 1) queues))
-    (All-nil (λ (e : Entry). e.end ≤ now + 300000)) (recent_sites s (n + 1) now queues)
+-- and have nothing yet
+past_sites : (s : Scenario) (n now : ℕ) (queues : List QueueSettings) → All (IsOfPast now) (map (opening_site s) (enumerate_from n queues))
+past_sites s n now [] = All-nil (IsOfPast now)
+past_sites s n now (settings ∷ queues) =
+    All-cons (IsOfPast now) (opening_site s (n, settings)) (map (opening_site s) (enumerate_from (n + 1) queues))
+    (record {
+      recent = All-nil (λ (e : Entry). e.end ≤ now + 300000);
+      filled = All-nil (λ (m : Message). m.enqueued ≤ now);
+      arriving = All-nil (λ (o : Outbound). WasEnqueuedBy o.at o.load);
+    })
+    (past_sites s (n + 1) now queues)
 
-recent_opening : (s : Scenario) (o : Option Key) → AreRecent (opening s) o
-recent_opening s None = tt
-recent_opening s (Some key) = recent_sites s 0 key.at s.queues
+past_opening : (s : Scenario) (o : Option Key) → AreOfPast (opening s) o
+past_opening s None = tt
+past_opening s (Some key) = past_sites s 0 key.at s.queues
 
 -- and make a world
 pub opening_world : (s : Scenario) → IsSoundScenario s → IsWorld (map alive (opening s))
@@ -200,7 +207,7 @@ opening_world s sound =
       live = ap (map alive) back;
       numbered = subst (IsNumbered 0) (sym back) (numbered_sites s 0 s.queues);
       sound = subst (All (λ x. IsSound x.core)) (sym back) (opens_sound s sound);
-      recent = subst (λ xs. AreRecent xs (world_due xs)) (sym back) (recent_opening s (world_due w));
+      past = subst (λ xs. AreOfPast xs (world_due xs)) (sym back) (past_opening s (world_due w));
     }
 
 -- the scenario of these parts
@@ -221,3 +228,11 @@ opens p whole n homes same range count settled =
     let here : IsInRange s = subst IsInRange (sym same) range in
     let all : IsSettled homes (numbered_actors s) (numbered_tasks s) = subst (λ k. IsSettled homes (enumerate_from k s.actors) (enumerate_from (k + length s.actors) s.tasks)) count settled in
     record { settled = all; fit = fit_homes s homes here all; world = opening_world s here.sound }
+
+-- what a scenario in range names is there
+pub has_queues : (s : Scenario) → IsInRange s → HasItsQueues s
+has_queues s r =
+    record {
+      policies = r.linked.policies;
+      tasks = All-weaker (λ (t : TaskSettings). (t.home < length s.queues) × MayBeBelow (length s.queues) t.to) (λ t. MayBeWithin (length s.queues) t.to) (λ t h. h.1) s.tasks r.linked.tasks;
+    }

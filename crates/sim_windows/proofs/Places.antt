@@ -1,5 +1,5 @@
 -- Sites at their places in a world.
-use Rattle.std.specs.Prelude.{All, Bool, Err, IfOk, List, None, Ok, Option, Result, Some, [], cond, false, find, if◌then◌else◌, length, map, option_map, set, get_or, true, suc, zero, ℕ, ◌++◌, ◌+◌, ◌<◌, ◌==◌, ◌∷◌, ◌≡◌, ◌≤◌}
+use Rattle.std.specs.Prelude.{All, Bool, Err, IfOk, List, None, Ok, Option, Result, Some, [], cond, false, find, if◌then◌else◌, length, map, max, option_map, set, get_or, true, suc, zero, ℕ, ◌++◌, ◌+◌, ◌<◌, ◌==◌, ◌∷◌, ◌≡◌, ◌≤◌}
 use Rattle.std.proofs.Common.{ap, arith, refl, subst, sym, ◌∙◌}
 use Rattle.std.proofs.lemmas.Bool.Decides.{nat_tests}
 use Rattle.std.proofs.lemmas.List.Elements.{All-cons, All-head, All-map, All-nil, All-tail, All-weaker}
@@ -9,15 +9,22 @@ use Rattle.sim_windows.proofs.Runs.{from_after}
 use Rattle.sim_clock.specs.declared.key.Key.{Key}
 use Rattle.sim_clock.specs.declared.refusal.Refusal.{Refusal}
 use Rattle.sim_clock.specs.Firsts.{changed}
-use Rattle.sim_clock.specs.Order.{lesser}
+use Rattle.sim_clock.specs.Order.{inserted_by, key_cmp, lesser}
 use Rattle.sim_site.specs.Spent.{due_of}
 use Rattle.sim_clock.proofs.Least.{key_tied}
+use Rattle.std.proofs.Math.Nat.{le-max_left, le-max_right}
+use Rattle.std.specs.declared.cmp.Ordering.{Ordering}
+use Rattle.std.specs.Ordering.{is_lt, on}
+use Rattle.sqs_message.specs.declared.message.Message.{Message}
+use Rattle.sqs_redrive.specs.Transfers.{transfer_key}
 use Rattle.sqs_model.proofs.Kept.{handled_number, handled_recent}
-use Rattle.sim_windows.specs.Worlds.{AreRecent, IsFrom, IsNumbered, IsWorld, alive, due_among, is_due_there, living}
+use Rattle.sqs_model.proofs.Times.{handled_timely}
+use Rattle.sqs_model.specs.Limits.{site_count, sites_count}
+use Rattle.sim_windows.specs.Worlds.{AreOfPast, IsFrom, IsNumbered, IsOfPast, IsWorld, alive, due_among, is_due_there, living}
 use Rattle.sqs_redrive.specs.declared.transfers.Outbound.{Outbound}
 use Rattle.sqs_model.specs.Dues.{least_due, world_due}
 use Rattle.sqs_model.proofs.WorldMoves.{among_falls, delivered_sound, world_in}
-use Rattle.sqs_model.specs.Progress.{IsRecent, IsSound}
+use Rattle.sqs_model.specs.Progress.{AreTimely, IsSound, KeepsTime, WasEnqueuedBy}
 use Rattle.sqs_model.specs.Places.{IsAbsent, Stands}
 use Rattle.sqs_model.specs.Run.{Run, Stepped, delivered, delivered_one, handled_among, handled_here, handled_there, is_due, run_on}
 use Rattle.sqs_model.specs.Site.{Site, accepted, number_of}
@@ -108,6 +115,30 @@ pub due_ok : (key : Key) (x : Result Site Refusal) → due_of x ≡ Some key →
 due_ok key (Ok s) h = h
 due_ok key (Err e) h = tt
 
+-- a transfer that was enqueued by its arrival
+abbrev pub Timely : Outbound → Type 0
+Timely o = WasEnqueuedBy o.at o.load
+
+-- what holds of all, and of one that is put in its place among them
+all_inserted : {A : Type 0} (P : A → Type 0) (R : A → A → Ordering) (x : A) (xs : List A) → P x → All P xs → All P (inserted_by R x xs)
+all_inserted P R x [] p h = All-cons P x [] p (All-nil P)
+all_inserted P R x (y ∷ ys) p h =
+    elim (is_lt (R x y)) as (λ b. All P (if b then x ∷ (y ∷ ys) else y ∷ inserted_by R x ys)) [
+      | true ↦ All-cons P x (y ∷ ys) p h
+      | false ↦ All-cons P y (inserted_by R x ys) (All-head P y ys h) (all_inserted P R x ys p (All-tail P y ys h))
+    ]
+
+-- what is delivered counts nothing
+one_counts : (o : Outbound) (w : List Site) → sites_count (map (delivered_one o) w) ≡ sites_count w
+one_counts o [] = refl
+one_counts o (s ∷ ss) =
+    let same : site_count (delivered_one o s).core ≡ site_count s.core = either (λ (x : Site). site_count x.core ≡ site_count s.core) (o.to == number_of s.core) (accepted o s) s refl refl in
+    λ j. max (same j) (one_counts o ss j)
+
+pub delivered_counts : (os : List Outbound) (w : List Site) → sites_count (delivered os w) ≡ sites_count w
+delivered_counts [] w = refl
+delivered_counts (o ∷ os) w = delivered_counts os (map (delivered_one o) w) ∙ one_counts o w
+
 -- the handling of the first site that a key is due at
 module _ (key : Key) where
   -- whether it is due at a site
@@ -162,6 +193,18 @@ module _ (key : Key) where
         | false ↦ λ e. ap (handled_there x) (find_none xs e)
       ] h
 
+  -- the counts of the site that handles it are among those of all
+  counted_found : (w : List Site) (s : Site) → find due_here w ≡ Some s → site_count (site_after s).core ≤ sites_count (changed due_here site_after w)
+  counted_found [] s h = cc
+  counted_found (x ∷ xs) s h =
+      elim (due_here x) as
+      (λ b. cond b (Some x) (find due_here xs) ≡ Some s → site_count (site_after s).core ≤ sites_count (if b then site_after x ∷ xs else x ∷ changed due_here site_after xs)) [
+        | true ↦ λ e. let is : x ≡ s = cc in rw (← is) (le-max_left (site_count (site_after x).core) (sites_count xs))
+        | false ↦ λ e.
+            let rest : site_count (site_after s).core ≤ sites_count (changed due_here site_after xs) = counted_found xs s e in
+            omega (arith, rest, le-max_right (site_count x.core) (sites_count (changed due_here site_after xs)))
+      ] h
+
   -- where it is due at no site, nothing happens
   pub among_none : (w : List Site) → IsAbsent (is_due_there key) (map alive w) → handled_among key w ≡ record { sites = w; rows = []; sent = [] }
   among_none w a = find_none w a.found
@@ -172,6 +215,7 @@ module _ (key : Key) where
     pub is : get_or (map alive w) i d ≡ Ok site
     pub among : handled_among key w ≡ record { sites = changed due_here site_after w; rows = (handled key site).rows; sent = (handled key site).sent }
     pub after : set (map alive w) i (Ok (site_after site)) ≡ map alive (changed due_here site_after w)
+    pub counted : site_count (site_after site).core ≤ sites_count (changed due_here site_after w)
 
   handles_by : (w : List Site) (i : ℕ) (d : Result Site Refusal) → Stands (is_due_there key) (map alive w) i → (o : Option Site) → find due_here w ≡ o → option_map alive o ≡ Some (get_or (map alive w) i d) → Handles w i d
   handles_by w i d t None f e = absurd (none_some e)
@@ -182,6 +226,7 @@ module _ (key : Key) where
         is = same;
         among = among_found w s f;
         after = ap (λ r. set (map alive w) i (after_there r)) (sym same) ∙ sym (t.change after_there d) ∙ changed_alive w;
+        counted = counted_found w s f;
       }
 
   pub handles_at : (w : List Site) (i : ℕ) (d : Result Site Refusal) → Stands (is_due_there key) (map alive w) i → Handles w i d
@@ -219,45 +264,69 @@ module _ (key : Key) where
         | false ↦ (h.0, numbered_among (n + 1) xs h.1)
       ]
 
-  -- a handling at a moment leaves no entry from after it
-  abbrev pub Recent : Site → Type 0
-  Recent s = IsRecent key.at s.core.queue
+  -- a handling at a moment leaves nothing from after it
+  abbrev pub Past : Site → Type 0
+  Past s = IsOfPast key.at s
 
-  recent_among : (w : List Site) → All Recent w → All Recent (handled_among key w).sites
-  recent_among [] h = All-nil Recent
-  recent_among (x ∷ xs) h =
-      elim (due_here x) as (λ b. All Recent (if b then handled_here (handled key x) xs else handled_there x (handled_among key xs)).sites) [
-        | true ↦ All-cons Recent (site_after x) xs (handled_recent key x (All-head Recent x xs h)) (All-tail Recent x xs h)
-        | false ↦ All-cons Recent x (handled_among key xs).sites (All-head Recent x xs h) (recent_among xs (All-tail Recent x xs h))
+  handled_past : (s : Site) → Past s → Past (site_after s)
+  handled_past s h =
+      let k : KeepsTime key (handled key s) = handled_timely key s h.filled h.arriving in
+      record { recent = handled_recent key s h.recent; filled = k.filled; arriving = k.arriving }
+
+  past_among : (w : List Site) → All Past w → All Past (handled_among key w).sites
+  past_among [] h = All-nil Past
+  past_among (x ∷ xs) h =
+      elim (due_here x) as (λ b. All Past (if b then handled_here (handled key x) xs else handled_there x (handled_among key xs)).sites) [
+        | true ↦ All-cons Past (site_after x) xs (handled_past x (All-head Past x xs h)) (All-tail Past x xs h)
+        | false ↦ All-cons Past x (handled_among key xs).sites (All-head Past x xs h) (past_among xs (All-tail Past x xs h))
       ]
 
-  recent_one : (o : Outbound) (s : Site) → Recent s → Recent (delivered_one o s)
-  recent_one o s h = either Recent (o.to == number_of s.core) (accepted o s) s h h
+  -- and sends nothing from after its arrival
+  sent_among : (w : List Site) → All Past w → AreTimely (handled_among key w).sent
+  sent_among [] h = All-nil Timely
+  sent_among (x ∷ xs) h =
+      let p : Past x = All-head Past x xs h in
+      elim (due_here x) as (λ b. AreTimely (if b then handled_here (handled key x) xs else handled_there x (handled_among key xs)).sent) [
+        | true ↦ (handled_timely key x p.filled p.arriving).sent
+        | false ↦ sent_among xs (All-tail Past x xs h)
+      ]
 
-  recent_delivered : (os : List Outbound) (w : List Site) → All Recent w → All Recent (delivered os w)
-  recent_delivered [] w h = h
-  recent_delivered (o ∷ os) w h = recent_delivered os (map (delivered_one o) w) (All-map Recent (delivered_one o) w (All-weaker Recent (λ s. Recent (delivered_one o s)) (recent_one o) w h))
+  past_one : (o : Outbound) → Timely o → (s : Site) → Past s → Past (delivered_one o s)
+  past_one o t s h =
+      either Past (o.to == number_of s.core) (accepted o s) s
+      (record { recent = h.recent; filled = h.filled; arriving = all_inserted Timely (on transfer_key key_cmp) o s.arriving t h.arriving }) h
+
+  past_delivered : (os : List Outbound) (w : List Site) → AreTimely os → All Past w → All Past (delivered os w)
+  past_delivered [] w t h = h
+  past_delivered (o ∷ os) w t h =
+      past_delivered os (map (delivered_one o) w) (All-tail Timely o os t)
+      (All-map Past (delivered_one o) w (All-weaker Past (λ s. Past (delivered_one o s)) (past_one o (All-head Timely o os t)) w h))
 
   -- what is due after it is not before it
-  recent_from : (v : List Site) (o : Option Key) → IsFrom key.at o → All Recent v → AreRecent v o
-  recent_from v None f h = tt
-  recent_from v (Some k) f h =
-      All-weaker Recent (λ s. IsRecent k.at s.core.queue)
-      (λ s r. All-weaker (λ (e : Entry). e.end ≤ key.at + 300000) (λ e. e.end ≤ k.at + 300000) (λ e l. omega (arith, f)) s.core.queue.entries r)
+  past_from : (v : List Site) (o : Option Key) → IsFrom key.at o → All Past v → AreOfPast v o
+  past_from v None f h = tt
+  past_from v (Some k) f h =
+      All-weaker Past (IsOfPast k.at)
+      (λ s p.
+      record {
+        recent = All-weaker (λ (e : Entry). e.end ≤ key.at + 300000) (λ e. e.end ≤ k.at + 300000) (λ e l. omega (arith, f)) s.core.queue.entries p.recent;
+        filled = All-weaker (λ (m : Message). m.enqueued ≤ key.at) (λ m. m.enqueued ≤ k.at) (λ m l. omega (arith, f)) s.core.queue.records p.filled;
+        arriving = p.arriving;
+      })
       v h
 
-  recent_after : (w : List Site) → All (λ s. IsSound s.core) w → world_due w ≡ Some key → AreRecent w (Some key)
-      → AreRecent (delivered (handled_among key w).sent (handled_among key w).sites) (world_due (delivered (handled_among key w).sent (handled_among key w).sites))
-  recent_after w s d h =
+  past_after : (w : List Site) → All (λ s. IsSound s.core) w → world_due w ≡ Some key → AreOfPast w (Some key)
+      → AreOfPast (delivered (handled_among key w).sent (handled_among key w).sites) (world_due (delivered (handled_among key w).sent (handled_among key w).sites))
+  past_after w s d h =
       let t : Stepped = handled_among key w in
       let v : List Site = delivered t.sent t.sites in
       let before : Run = record { sites = w; rows = [] } in
       let from : IsFrom key.at (world_due w) = rw d (omega arith) in
-      recent_from v (world_due v) (from_after key key.at before (run_on [] t) (omega arith) s d from refl) (recent_delivered t.sent t.sites (recent_among w h))
+      past_from v (world_due v) (from_after key key.at before (run_on [] t) (omega arith) s d from refl) (past_delivered t.sent t.sites (sent_among w h) (past_among w h))
 
   -- what is left is a world again
   pub world_after :
-      (w : List Site) → IsNumbered 0 w → All (λ s. IsSound s.core) w → AreRecent w (world_due w) → world_due w ≡ Some key
+      (w : List Site) → IsNumbered 0 w → All (λ s. IsSound s.core) w → AreOfPast w (world_due w) → world_due w ≡ Some key
       → IsWorld (map alive (delivered (handled_among key w).sent (handled_among key w).sites))
   world_after w n s r d =
       let t : Stepped = handled_among key w in
@@ -268,5 +337,5 @@ module _ (key : Key) where
         live = ap (map alive) back;
         numbered = subst (IsNumbered 0) (sym back) (numbered_delivered t.sent 0 t.sites (numbered_among 0 w n));
         sound = subst (All (λ x. IsSound x.core)) (sym back) (delivered_sound t.sent t.sites f.sound);
-        recent = subst (λ xs. AreRecent xs (world_due xs)) (sym back) (recent_after w s d (subst (AreRecent w) d r));
+        past = subst (λ xs. AreOfPast xs (world_due xs)) (sym back) (past_after w s d (subst (AreOfPast w) d r));
       }

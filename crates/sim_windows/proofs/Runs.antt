@@ -82,7 +82,7 @@ goes_on horizon key start r x c d l e =
     record { steps = suc c.steps; reached = ap (stepped horizon) c.reached ∙ next_is horizon key r d l ∙ sym e }
 
 -- handlings after handlings
-joined : (horizon m n : ℕ) (r : Run) → continued horizon m (continued horizon n r) ≡ continued horizon (m + n) r
+pub joined : (horizon m n : ℕ) (r : Run) → continued horizon m (continued horizon n r) ≡ continued horizon (m + n) r
 joined horizon zero n r = let e : n ≡ 0 + n = omega arith in ap (λ k. continued horizon k r) e
 joined horizon (suc m) n r =
     let e : suc (m + n) ≡ suc m + n = omega arith in

@@ -5,7 +5,10 @@ use Rattle.sim_clock.specs.declared.refusal.Refusal.{Refusal}
 use Rattle.sim_clock.specs.Order.{lesser}
 use Rattle.sim_site.specs.Spent.{due_of}
 use Rattle.sqs_model.specs.Dues.{world_due}
-use Rattle.sqs_model.specs.Progress.{IsRecent, IsSound}
+use Rattle.sqs_model.specs.Answers.{most_count}
+use Rattle.sqs_model.specs.Limits.{run_count}
+use Rattle.sqs_model.specs.Progress.{AreTimely, IsFilledBy, IsRecent, IsSound}
+use Rattle.sim_clock.specs.declared.refusal.Refusal.TheVariants as refusals
 use Rattle.sqs_model.specs.Run.{Run, is_due, next_due, stepped}
 use Rattle.sqs_model.specs.Site.{Site, number_of}
 
@@ -24,17 +27,23 @@ abbrev pub IsNumbered : ℕ → List Site → Type 0
 IsNumbered n [] = Unit {0}
 IsNumbered n (s ∷ ss) = (number_of s.core ≡ n) × IsNumbered (n + 1) ss
 
--- no deduplication entry of some sites came after what is due next
-abbrev pub AreRecent : List Site → Option Key → Type 0
-AreRecent sites None = Unit {0}
-AreRecent sites (Some key) = All (λ s. IsRecent key.at s.core.queue) sites
+-- nothing at a site is from after a moment: no deduplication entry, no message, and no transfer from after its arrival
+pub record IsOfPast (now : ℕ) (s : Site) : Type 0 where
+  pub recent : IsRecent now s.core.queue
+  pub filled : IsFilledBy now s.core.queue
+  pub arriving : AreTimely s.arriving
 
--- sites that make a world: all of them live, each stands at its number, time moves on in them, and no entry came after what is due next
+-- nothing at some sites is from after what is due next
+abbrev pub AreOfPast : List Site → Option Key → Type 0
+AreOfPast sites None = Unit {0}
+AreOfPast sites (Some key) = All (IsOfPast key.at) sites
+
+-- sites that make a world: all of them live, each stands at its number, time moves on in them, and nothing is from after what is due next
 pub record IsWorld (sites : List (Result Site Refusal)) : Type 0 where
   pub live : map alive (living sites) ≡ sites
   pub numbered : IsNumbered 0 (living sites)
   pub sound : All (λ s. IsSound s.core) (living sites)
-  pub recent : AreRecent (living sites) (world_due (living sites))
+  pub past : AreOfPast (living sites) (world_due (living sites))
 
 -- the least due of some sites
 abbrev pub due_among : List (Result Site Refusal) → Option Key
@@ -74,3 +83,15 @@ pub record Continues (horizon : ℕ) (r x : Run) : Type 0 where
 pub record Ends (horizon : ℕ) (r x : Run) : Type 0 where
   pub continues : Continues horizon r x
   pub ended : IsNone (next_due horizon x.sites)
+
+-- why a run stops: want of memory, or a count that it takes past the limit some handlings on
+abbrev pub StopsRun : ℕ → Run → Refusal → Type 0
+StopsRun horizon r refusals.CountLimit = (n : ℕ) × (most_count < run_count (continued horizon n r))
+StopsRun horizon r refusals.Memory = Unit {0}
+StopsRun horizon r refusal = ⊥
+
+-- why a handling that leads to a run stops
+abbrev pub StopsBefore : Run → Refusal → Type 0
+StopsBefore r refusals.CountLimit = most_count < run_count r
+StopsBefore r refusals.Memory = Unit {0}
+StopsBefore r refusal = ⊥

@@ -2,7 +2,7 @@
 ghost use Rattle.std.specs.List.{enumerate_from};
 ghost use Rattle.std.specs.Prelude.{◌≡◌, ◌+◌, ◌<◌, ◌≤◌, ◌^◌, [], All, IfOk, IsOkUnless, List, OnOk, length, map, ℕ};
 ghost use Rattle.sqs_model.specs.Answers.{most_count};
-ghost use Rattle.sqs_model.specs.Scenario.{Scenario as TheScenario, numbered_actors, numbered_tasks, opening};
+ghost use Rattle.sqs_model.specs.Scenario.{HasItsQueues, Scenario as TheScenario, numbered_actors, numbered_tasks, opening};
 ghost use Rattle.sqs_model.specs.Valid.{IsQueueSettings};
 ghost use Rattle.sim_windows.specs.Homes.{AtHome, IsFit, IsSettled, IsVacant, actors_in, tasks_in};
 ghost use Rattle.sim_windows.specs.Worlds.{alive};
@@ -144,6 +144,7 @@ impl World {
     /// `Memory` where a growth is refused.
     pub fn open(alloc: Global, scenario: Scenario) -> Result<World, Refusal>
         ensures opened { IfOk result (λ world. world ≡ record { sites = opening scenario; rows = [] }) }
+        ensures has_queues { IfOk result (λ _. HasItsQueues scenario) }
         ensures memory_only { IsOkUnless result Refusal.Memory }
     {
         let parts = scenario.into_parts();

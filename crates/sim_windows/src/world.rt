@@ -1,15 +1,14 @@
 //! Worlds of sites, and what they do moment by moment.
-ghost use Rattle.std.specs.Prelude.{◌≡◌, ◌++◌, ◌≤◌, [], All, Ok, Some, IfErr, IfOk, MatchOption, OnOk, List, map, position, ℕ};
+ghost use Rattle.std.specs.Prelude.{◌≡◌, ◌++◌, ◌≤◌, [], All, Ok, Some, IfErr, IfOk, IsOkUnless, MatchOption, OnOk, List, map, position, ℕ};
 ghost use Rattle.sim_clock.specs.declared.key.Key.{Key as TheKey};
 ghost use Rattle.sqs_model.specs.Answers.{most_count};
 ghost use Rattle.sqs_model.specs.Dues.{world_due};
-ghost use Rattle.sqs_model.specs.Progress.{IsRecent, IsSound};
+ghost use Rattle.sqs_model.specs.Progress.{IsSound};
 ghost use Rattle.sqs_model.specs.Places.{IsAbsent, Stands};
 ghost use Rattle.sqs_model.specs.Run.{delivered, delivered_one, handled_among, is_due, run_on};
 ghost use Rattle.sqs_model.specs.Site.{Site as TheSite};
-ghost use Rattle.sim_site.specs.Effects.{Spends};
 ghost use Rattle.sim_site.specs.Spent.{due_of};
-ghost use Rattle.sim_windows.specs.Worlds.{Continues, Ends, IsFrom, IsLater, IsNumbered, IsWorld, alive, due_among, is_due_there, living};
+ghost use Rattle.sim_windows.specs.Worlds.{Continues, Ends, IsFrom, IsLater, IsNumbered, IsOfPast, IsWorld, StopsBefore, StopsRun, alive, due_among, is_due_there, living};
 
 use sim_clock::{Key, Refusal, lesser};
 use sim_site::Site;
@@ -56,7 +55,7 @@ fn place_of(sites: &[Site], key: Key) -> Option<usize>
 // Hands a transfer to the site that it goes to, whose number is its place.
 fn deliver_one(sites: &mut Vec<Site>, transfer: Outbound) -> Result<(), Refusal>
     ensures done { (w : List TheSite) → sites.old.items ≡ map alive w → IsNumbered 0 w → OnOk result (sites.new.items ≡ map alive (map (delivered_one transfer) w)) }
-    ensures spends { (w : List TheSite) → sites.old.items ≡ map alive w → IfErr result Spends }
+    ensures memory_only { (w : List TheSite) → sites.old.items ≡ map alive w → IsOkUnless result Refusal.Memory }
 {
     let place = transfer.to as usize;
     if place < sites.len() {
@@ -68,7 +67,7 @@ fn deliver_one(sites: &mut Vec<Site>, transfer: Outbound) -> Result<(), Refusal>
 // Hands transfers to the sites that they go to, one after another.
 fn deliver(sites: &mut Vec<Site>, outbound: Vec<Outbound>) -> Result<(), Refusal>
     ensures done { (w : List TheSite) → sites.old.items ≡ map alive w → IsNumbered 0 w → OnOk result (sites.new.items ≡ map alive (delivered outbound.items w)) }
-    ensures spends { (w : List TheSite) → sites.old.items ≡ map alive w → IsNumbered 0 w → IfErr result Spends }
+    ensures memory_only { (w : List TheSite) → sites.old.items ≡ map alive w → IsNumbered 0 w → IsOkUnless result Refusal.Memory }
 {
     for transfer in outbound {
         deliver_one(sites, transfer)?;
@@ -80,9 +79,9 @@ fn deliver(sites: &mut Vec<Site>, outbound: Vec<Outbound>) -> Result<(), Refusal
 // the rows.
 fn handle_among(sites: &mut Vec<Site>, alloc: Global, key: Key) -> Result<Vec<Row>, Refusal>
     requires moment { key.at ≤ most_count }
-    requires recent { All (λ s. IfOk s (λ site. IsRecent key.at site.core.queue)) sites.old.items }
+    requires past { All (λ s. IfOk s (IsOfPast key.at)) sites.old.items }
     ensures done { (w : List TheSite) → sites.old.items ≡ map alive w → IsNumbered 0 w → IfOk result (λ rows. (sites.new.items ≡ map alive (delivered (handled_among key w).sent (handled_among key w).sites)) × (rows.items ≡ (handled_among key w).rows)) }
-    ensures spends { (w : List TheSite) → sites.old.items ≡ map alive w → IsNumbered 0 w → IfErr result Spends }
+    ensures stops { (w : List TheSite) → sites.old.items ≡ map alive w → IsNumbered 0 w → IfErr result (StopsBefore (run_on [] (handled_among key w))) }
 {
     let Some(place) = place_of(sites, key) else {
         return Ok(Vec::new(alloc));
@@ -95,7 +94,7 @@ fn handle_among(sites: &mut Vec<Site>, alloc: Global, key: Key) -> Result<Vec<Ro
 // Adds rows at the end.
 fn append(rows: &mut Vec<Row>, more: Vec<Row>) -> Result<(), Refusal>
     ensures done { OnOk result (rows.new.items ≡ rows.old.items ++ more.items) }
-    ensures spends { IfErr result Spends }
+    ensures memory_only { IsOkUnless result Refusal.Memory }
 {
     for row in more {
         rows.push(row)?;
@@ -151,7 +150,7 @@ impl World {
         requires due { world_due self.sites ≡ Some key }
         requires moment { key.at ≤ most_count }
         ensures done { IfOk result (λ w. w ≡ run_on self.rows (handled_among key self.sites)) }
-        ensures spends { IfErr result Spends }
+        ensures stops { IfErr result (StopsBefore (run_on self.rows (handled_among key self.sites))) }
     {
         let World {
             alloc,
@@ -169,7 +168,7 @@ impl World {
         requires moment { moment ≤ most_count }
         ensures goes_on { IfOk result (λ w. (horizon : ℕ) → moment ≤ horizon → Continues horizon self w) }
         ensures done { IfOk result (λ w. IsLater moment (world_due w.sites)) }
-        ensures spends { IfErr result Spends }
+        ensures stops { IfErr result (λ refusal. (horizon : ℕ) → moment ≤ horizon → StopsRun horizon self refusal) }
     {
         let mut world = self;
         while let Some(key) = world.least_due() {
@@ -186,11 +185,12 @@ impl World {
     ///
     /// # Errors
     ///
-    /// `Memory` where a growth is refused, and `CountLimit` where a count passes its limit.
+    /// `Memory` where a growth is refused, and `CountLimit`, only where the run takes a count past
+    /// 2^62 - 1.
     pub fn run(self, horizon: u64) -> Result<World, Refusal>
         requires { horizon ≤ most_count }
         ensures ends { IfOk result (λ w. Ends horizon self w) }
-        ensures spends { IfErr result Spends }
+        ensures stops { IfErr result (StopsRun horizon self) }
     {
         let mut world = self;
         while let Some(key) = world.least_due() {

@@ -167,7 +167,7 @@ as_up (Consumer c) a now (told_by.Got gots) = got_up a c now gots
 as_up (Consumer c) a now told_by.Waiting = turns a a refl (omega arith) refl (omega arith) (omega arith)
 as_up (Consumer c) a now told_by.Other = told_up a c now a.stage
 
-next_up : (a : Actor) (now : ℕ) (w : Answer) → Turns a (next a now w).1
+pub next_up : (a : Actor) (now : ℕ) (w : Answer) → Turns a (next a now w).1
 unfolding next
 next_up a now w = as_up a.settings.role a now w
 
@@ -250,7 +250,7 @@ module _ (from : Core) where
       (made (says (with_poll key a c max wait timeout) (receive_row key c a.number answers.Wait)) told_by.Waiting) h
       (record { arrivals = g.arrivals; sent = g.sent; words = g.words; samples = g.samples; actors = g.actors; tasks = g.tasks })
 
-  some_up : (key : Key) (a : Actor) (c : Core) (max wait : ℕ) (timeout : Option ℕ) (q : Queue) (gots : List Got) → MayStand c a → Grows from c → from.queue.arrivals ≤ q.arrivals → Makes (receive_some key a c max wait timeout q gots)
+  pub some_up : (key : Key) (a : Actor) (c : Core) (max wait : ℕ) (timeout : Option ℕ) (q : Queue) (gots : List Got) → MayStand c a → Grows from c → from.queue.arrivals ≤ q.arrivals → Makes (receive_some key a c max wait timeout q gots)
   some_up key a c max wait timeout q [] m h k = polled key a c max wait timeout m h
   some_up key a c max wait timeout q (g ∷ gs) m h k = given_up key c a.number timeout (q, g ∷ gs) h k
 

@@ -17,7 +17,7 @@ use Rattle.sqs_model.specs.Task.{Task}
 use Rattle.sqs_model.proofs.Counts.{ascends_lower}
 
 -- elements with their places
-all_enumerated : {A : Type 0} (P : A → Type 0) (n : ℕ) (xs : List A) → All P xs → All (λ x. P x.1) (enumerate_from n xs)
+pub all_enumerated : {A : Type 0} (P : A → Type 0) (n : ℕ) (xs : List A) → All P xs → All (λ x. P x.1) (enumerate_from n xs)
 all_enumerated {A} P n [] a = All-nil (λ (x : ℕ × A). P x.1)
 all_enumerated {A} P n (x ∷ xs) a = All-cons (λ (y : ℕ × A). P y.1) (n, x) (enumerate_from (n + 1) xs) (All-head P x xs a) (all_enumerated P (n + 1) xs (All-tail P x xs a))
 

@@ -103,7 +103,7 @@ lesser_is (Some a) None = inl refl
 lesser_is (Some a) (Some b) =
     elim (is_lt (key_cmp b a)) as (λ c. ((if c then Some b else Some a) ≡ Some a) ⊎ ((if c then Some b else Some a) ≡ Some b)) [ true ↦ inr refl | false ↦ inl refl ]
 
-least_in : (ks : List Key) (k : Key) → least ks ≡ Some k → In ks k
+pub least_in : (ks : List Key) (k : Key) → least ks ≡ Some k → In ks k
 least_in [] k h = absurd (none_some k h)
 least_in (x ∷ xs) k h =
     elim (lesser_is (Some x) (least xs)) as (λ _. In (x ∷ xs) k) [
@@ -124,7 +124,7 @@ world_in key (s ∷ ss) h =
       | inr i ↦ inr (world_in key ss (sym i ∙ h))
     ]
 
-is_due_least : (key : Key) (o : Option Key) → is_due key o ≡ true → o ≡ Some key
+pub is_due_least : (key : Key) (o : Option Key) → is_due key o ≡ true → o ≡ Some key
 is_due_least key None h = cc
 is_due_least key (Some k) h = let t : key ≡ k = key_tied key k h in ap (λ (x : Key). Some x) (sym t)
 
@@ -171,7 +171,7 @@ among_falls key e (s ∷ ss) l h d =
     ] refl
 
 -- delivery
-total_inserted : {A : Type 0} (f : A → ℕ) (R : A → A → Ordering) (x : A) (xs : List A) → total f (inserted_by R x xs) ≡ f x + total f xs
+pub total_inserted : {A : Type 0} (f : A → ℕ) (R : A → A → Ordering) (x : A) (xs : List A) → total f (inserted_by R x xs) ≡ f x + total f xs
 total_inserted f R x [] = refl
 total_inserted f R x (y ∷ ys) =
     elim (is_lt (R x y)) as (λ b. total f (if b then x ∷ (y ∷ ys) else y ∷ inserted_by R x ys) ≡ f x + (f y + total f ys)) [

@@ -9,6 +9,8 @@ use Rattle.sqs_message.specs.declared.row.RowAnswer.{RowAnswer}
 use Rattle.sqs_redrive.specs.declared.transfers.Load.{Load}
 use Rattle.sqs_redrive.specs.declared.transfers.Load.TheVariants.{Forward, Move, Redrive}
 use Rattle.sqs_model.specs.Acts.{row}
+use Rattle.sqs_model.specs.Run.{after}
+use Rattle.sqs_model.specs.Scenario.{HasItsQueues, Scenario, opening}
 use Rattle.sqs_model.specs.Site.{Site}
 use Rattle.sqs_message.specs.declared.row.RowAnswer.TheVariants as answers
 use Rattle.sqs_message.specs.declared.row.Detail.TheVariants as details
@@ -90,3 +92,19 @@ places o sites rows = queued o sites + under_way o sites + ended_by is_deleted o
 -- every message accepted stands in exactly one place: one queue, transfer, deleted, expired
 abbrev pub EachHasOnePlace : List Site → List Row → Type 0
 EachHasOnePlace sites rows = (o : Origin) → IsAccepted o rows → places o sites rows ≡ 1
+
+-- a message that was not accepted stands nowhere
+abbrev pub NoOtherHasPlace : List Site → List Row → Type 0
+NoOtherHasPlace sites rows = (o : Origin) → list_any (is_first o) rows ≡ false → places o sites rows ≡ 0
+
+-- in the one-list run of every scenario that has its queues, at every step, every message accepted stands in exactly one place
+abbrev pub EachKeepsOnePlace : Type 0
+EachKeepsOnePlace =
+    (s : Scenario) → HasItsQueues s → (n : ℕ)
+    → EachHasOnePlace (after s.horizon n (opening s)).sites (after s.horizon n (opening s)).rows
+
+-- nor does a message stand anywhere there that was not accepted
+abbrev pub NoOtherComesIn : Type 0
+NoOtherComesIn =
+    (s : Scenario) → HasItsQueues s → (n : ℕ)
+    → NoOtherHasPlace (after s.horizon n (opening s)).sites (after s.horizon n (opening s)).rows

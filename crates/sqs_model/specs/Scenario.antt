@@ -1,6 +1,6 @@
 -- A scenario, the world that it opens with, and the ways that transfers may go.
 use Rattle.std.specs.List.{enumerate_from}
-use Rattle.std.specs.Prelude.{Bool, List, None, Option, Some, [], false, filter, flat_map, length, map, min, ℕ, ◌++◌, ◌+◌, ◌==◌, ◌∷◌}
+use Rattle.std.specs.Prelude.{All, Bool, List, None, Option, Some, [], false, filter, flat_map, length, map, min, ℕ, ◌++◌, ◌+◌, ◌<◌, ◌==◌, ◌∷◌}
 use Rattle.sqs_model.specs.declared.agents.ActorSettings.{ActorSettings}
 use Rattle.sqs_model.specs.declared.agents.Forwarding.{Forwarding}
 use Rattle.sqs_model.specs.declared.agents.Role.{Role}
@@ -134,6 +134,21 @@ edges s =
     flat_map (λ x. policy_edges x.0 x.1.policy) (enumerate_from 0 s.queues)
     ++ flat_map (λ a. role_edges a.home a.role) s.actors
     ++ flat_map (task_edges s) s.tasks
+
+-- a queue's number, if there is one, is one of so many
+abbrev pub MayBeWithin : ℕ → Option ℕ → Type 0
+MayBeWithin queues None = Unit {0}
+MayBeWithin queues (Some n) = n < queues
+
+-- so is that of the dead-letter queue of a policy, if there is one
+abbrev pub LeadsWithin : ℕ → Option Policy → Type 0
+LeadsWithin queues None = Unit {0}
+LeadsWithin queues (Some p) = p.dead_letter < queues
+
+-- each dead-letter queue and each queue that a task moves messages to is one of the scenario's
+pub record HasItsQueues (s : Scenario) : Type 0 where
+  pub policies : All (λ q. LeadsWithin (length s.queues) q.policy) s.queues
+  pub tasks : All (λ t. MayBeWithin (length s.queues) t.to) s.tasks
 
 -- the least latency of some edges, or a bound
 abbrev pub least_of : ℕ → List Edge → ℕ

@@ -1,5 +1,6 @@
 //! Laws about the definitions that the code of other crates rests on. Each function does nothing:
 //! its contract is the law.
+ghost use Rattle.sqs_model.specs.Accounts.{EachKeepsOnePlace, NoOtherComesIn};
 ghost use Rattle.sqs_model.specs.Limits.{CountsOnlyGrow};
 ghost use Rattle.sqs_model.specs.Delivery.{DeliveryInAnyOrder, HandlingApartFromDelivery, SortedSitesStaySorted};
 ghost use Rattle.sqs_model.specs.Progress.{HandlingKeepsTime, HandlingMovesOn, HandlingStaysRecent, OpeningIsSound, RunEnds};
@@ -51,4 +52,15 @@ pub fn counts_only_grow()
 /// and sends none that was enqueued after it arrives.
 pub fn handling_keeps_time()
     ensures { HandlingKeepsTime }
+{}
+
+/// In the one-list run of every scenario whose queues are all there, every message accepted stands
+/// in exactly one place at every step: in one queue, on one way, deleted or expired.
+pub fn each_keeps_one_place()
+    ensures { EachKeepsOnePlace }
+{}
+
+/// Nor does a message stand anywhere there that was not accepted.
+pub fn no_other_comes_in()
+    ensures { NoOtherComesIn }
 {}

@@ -17,6 +17,6 @@ pub use finals::{
     TransferKind,
 };
 pub use laws::{
-    delivery_in_any_order, handling_apart_from_delivery, handling_moves_on, opening_is_sound,
-    run_ends, sorted_sites_stay_sorted,
+    delivery_in_any_order, each_keeps_one_place, handling_apart_from_delivery, handling_moves_on,
+    no_other_comes_in, opening_is_sound, run_ends, sorted_sites_stay_sorted,
 };

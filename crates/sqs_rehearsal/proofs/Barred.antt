@@ -8,7 +8,7 @@ use Rattle.sim_scenario.specs.Gives.{Fails}
 use Rattle.sim_scenario.specs.declared.fault.ReadError.{ReadError}
 use Rattle.sqs_formats.specs.Scenario.{scenario_of}
 use Rattle.sqs_model.specs.Scenario.{Scenario, least_latency}
-use Rattle.sim_site.specs.Effects.{Spends}
+use Rattle.sqs_rehearsal.specs.Outcomes.{Stops}
 use Rattle.sqs_rehearsal.specs.Rehearsals.{Bars, Request, Stated, fault_of_reading}
 use Rattle.sqs_rehearsal.specs.Split.{Split, is_parted, is_within, or_else, split_fault, unless, window_fault, workers_fault}
 use Rattle.sqs_rehearsal.specs.declared.rehearsal.Fault.TheVariants as faults
@@ -69,9 +69,9 @@ split_allowed None u h = refl
 split_allowed (Some r) u h = cc
 
 -- a run that was not carried to its end
-pub stop_bars : (q : Request) (s : Stated q) (e : Refusal) → split_fault s.scenario q.split ≡ None → Spends e → Bars q (faults.Refused e)
+pub stop_bars : (q : Request) (s : Stated q) (e : Refusal) → split_fault s.scenario q.split ≡ None → Stops s.scenario e → Bars q (faults.Refused e)
 stop_bars q s refusals.Memory a p = tt
-stop_bars q s refusals.CountLimit a p = (s, a)
+stop_bars q s refusals.CountLimit a p = (s, a, p)
 stop_bars q s e a p = absurd p
 
 -- the fault that a `?` hands on is the one that it made

@@ -5,6 +5,8 @@ use Rattle.sim_clock.specs.declared.refusal.Refusal.{Refusal}
 use Rattle.sim_records.specs.Writes.{AppendsFront}
 use Rattle.sqs_formats.specs.Output.{ending_of, log_of}
 use Rattle.sqs_formats.specs.Scenario.{scenario_of}
+use Rattle.sqs_model.specs.Accounts.{EachHasOnePlace, NoOtherHasPlace}
+use Rattle.sqs_model.specs.Limits.{IsOver}
 use Rattle.sqs_model.specs.Run.{IsRunOf, Run}
 use Rattle.sqs_model.specs.Scenario.{Scenario}
 use Rattle.sqs_rehearsal.specs.Split.{Split, split_fault}
@@ -20,13 +22,15 @@ pub record Request : Type 0 where
   pub scripts : List (List ℕ × List ℕ)
   pub split : Split
 
--- a scenario that a request states, which can be split so, and its one-list run
+-- a scenario that a request states, which can be split so, and its one-list run, in which every message accepted stands in exactly one place, and no other anywhere
 pub record Rehearsed (q : Request) : Type 0 where
   pub scenario : Scenario
   pub run : Run
   pub stated : scenario_of q.scripts q.text ≡ Ok scenario
   pub allowed : split_fault scenario q.split ≡ None
   pub is_run : IsRunOf scenario run
+  pub one_place : EachHasOnePlace run.sites run.rows
+  pub no_other : NoOtherHasPlace run.sites run.rows
 
 -- what a writer holds before and after, and whether it has failed
 pub record Writer : Type 0 where
@@ -92,7 +96,7 @@ abbrev pub IsBarred : Request → Refusal → Type 0
 IsBarred q refusals.BadMap = (s : Stated q) × (split_fault s.scenario q.split ≡ Some refusals.BadMap)
 IsBarred q (refusals.WindowTooLong w least) = (s : Stated q) × (split_fault s.scenario q.split ≡ Some (refusals.WindowTooLong w least))
 IsBarred q refusals.BadWorkers = (s : Stated q) × (split_fault s.scenario q.split ≡ Some refusals.BadWorkers)
-IsBarred q refusals.CountLimit = (s : Stated q) × (split_fault s.scenario q.split ≡ None)
+IsBarred q refusals.CountLimit = (s : Stated q) × (split_fault s.scenario q.split ≡ None) × IsOver s.scenario
 IsBarred q refusals.Memory = Unit {0}
 IsBarred q r = ⊥
 

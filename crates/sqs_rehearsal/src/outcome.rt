@@ -1,12 +1,12 @@
 //! What the whole run of a scenario leaves.
 ghost use Rattle.std.specs.Prelude.{◌≡◌, ◌++◌, [], false, IfErr, IfOk, IsOkUnless};
 ghost use Rattle.sim_records.specs.Writes.{WroteSeveral};
-ghost use Rattle.sim_site.specs.Effects.{Spends};
 ghost use Rattle.sqs_formats.specs.Comparison.{comparison};
 ghost use Rattle.sqs_formats.specs.Finals.{finals_text};
 ghost use Rattle.sqs_formats.specs.Report.{report_text};
 ghost use Rattle.sqs_formats.specs.Rows.{log_text};
-ghost use Rattle.sqs_rehearsal.specs.Outcomes.{IsOutcomeOf, report_in};
+ghost use Rattle.sqs_model.specs.Scenario.{HasItsQueues};
+ghost use Rattle.sqs_rehearsal.specs.Outcomes.{IsOutcomeOf, Stops, report_in};
 
 use crate::finals::finals_of;
 use sim_clock::Refusal;
@@ -68,10 +68,11 @@ impl Outcome {
     ///
     /// # Errors
     ///
-    /// `CountLimit` where a count passes 2^62 - 1; `Memory`.
+    /// `CountLimit`, only where the one-list run takes a count past 2^62 - 1; `Memory`.
     pub fn of(alloc: Global, scenario: Scenario) -> Result<Outcome, Refusal>
         ensures whole { IfOk result (IsOutcomeOf scenario) }
-        ensures spends { IfErr result Spends }
+        ensures has_queues { IfOk result (λ _. HasItsQueues scenario) }
+        ensures stops { IfErr result (Stops scenario) }
     {
         let horizon = scenario.horizon();
         let queues = scenario.queues().len();

@@ -65,10 +65,10 @@ fn outcome(alloc: Global, text: &[u8], scripts: &Scripts, split: &Split) -> Resu
 /// # Errors
 ///
 /// Nothing is written where the scenario has a fault, 10 to 20; where it can't be split so, `BadMap`,
-/// `WindowTooLong` or `BadWorkers`, the first of these that holds; or where a count passes 2^62 - 1,
-/// `CountLimit`. After `Write`, where a writer failed, and after `Memory` the log writer has got a
-/// front of the log, and the other a front of the rest, or nothing where the log was not written
-/// whole.
+/// `WindowTooLong` or `BadWorkers`, the first of these that holds; nor after `CountLimit`, which
+/// comes only where the one-list run takes a count past 2^62 - 1. After `Write`, where a writer
+/// failed, and after `Memory` the log writer has got a front of the log, and the other a front of
+/// the rest, or nothing where the log was not written whole.
 pub fn rehearse<L: Out, R: Out>(
     alloc: Global,
     text: &[u8],

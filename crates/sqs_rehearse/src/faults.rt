@@ -1,6 +1,7 @@
 //! What stops the program: a line on standard error, and the status that it ends with.
 ghost use Rattle.std.specs.Prelude.{◌≡◌, ◌++◌, IfOk, codes};
 ghost use Rattle.sqs_formats.specs.Output.{at_place, fault_line as the_fault_line};
+ghost use Rattle.sqs_rehearse.specs.Statuses.{status_of};
 
 use sim_clock::Refusal;
 use sim_scenario::ReadError;
@@ -76,11 +77,18 @@ fn fault_line(alloc: Global, fault: &ScenarioFault) -> Result<Vec<u8>, AllocErro
 }
 
 // The status of a refusal: 1 of a scenario, 4 of a writer that failed, 3 of a run.
-fn status(refusal: Refusal) -> u8 {
-    match refusal.code() {
-        0..=20 => 1,
-        36 => 4,
-        _ => 3,
+fn status(refusal: Refusal) -> u8
+    ensures { result ≡ status_of refusal }
+{
+    match refusal {
+        Refusal::WindowTooLong { .. }
+        | Refusal::BadMap
+        | Refusal::BadWorkers
+        | Refusal::CountLimit
+        | Refusal::Memory
+        | Refusal::NoWorker => 3,
+        Refusal::Write => 4,
+        _ => 1,
     }
 }
 

@@ -287,6 +287,34 @@ fn try_deletes(rt: &impl Abort, queue: &mut StandardQueue) {
 }
 
 #[test]
+fn deletes_after_the_timeout(rt: HostRuntime) {
+    let mut queue = empty_queue(rt.alloc());
+    assert!(rt; send(rt.alloc(), &mut queue, 0, 97, None).is_ok());
+    assert_eq!(rt; receive_count(&mut queue, 100, 1, None, false), Ok(1));
+    assert_eq!(rt; release(&mut queue, 0), Ok(false));
+    try_late_calls(&rt, &mut queue);
+    assert_eq!(rt; queue.view().len(), 0);
+}
+
+// The newest receipt of a message that is visible again deletes it, and changes nothing; nor does
+// one of a message that is gone, or of another queue.
+fn try_late_calls(rt: &impl Abort, queue: &mut StandardQueue) {
+    let (late, gone) = (Refusal::MessageNotInflight, Ok(Deleted::Removed(1200)));
+    let other = Receipt {
+        site: 8,
+        number: 0,
+        count: 1,
+    };
+    assert_eq!(rt; change(queue, 1200, receipt(0, 1), 1), Some(late));
+    assert_eq!(rt;
+        change(queue, 1200, other, 1),
+        Some(Refusal::ReceiptHandleIsInvalid)
+    );
+    assert_eq!(rt; delete(queue, 1200, receipt(0, 1)), gone);
+    assert_eq!(rt; change(queue, 1200, receipt(0, 1), 1), Some(late));
+}
+
+#[test]
 fn changes_visibility(rt: HostRuntime) {
     let mut queue = empty_queue(rt.alloc());
     assert!(rt; send(rt.alloc(), &mut queue, 0, 97, None).is_ok());

@@ -1,5 +1,5 @@
 //! Deletes and changes of visibility by actors, and ends of services.
-ghost use Rattle.std.specs.Prelude.{◌≡◌, ◌≤◌, IfErr, OnOk, Option};
+ghost use Rattle.std.specs.Prelude.{IfErr, IsOkUnless, OnOk, Option, ◌≡◌, ◌≤◌};
 ghost use Rattle.sqs_message.specs.Ids.{read_receipt as the_read_receipt};
 ghost use Rattle.sqs_message.specs.declared.row.RowReceipt.TheVariants as receipts;
 ghost use Rattle.sqs_model.specs.Actor.{Actor};
@@ -7,7 +7,7 @@ ghost use Rattle.sqs_model.specs.Acts.{change_made, change_answered, delete_made
 ghost use Rattle.sqs_model.specs.Answers.{most_count};
 ghost use Rattle.sqs_model.specs.Calls.{change, delete};
 ghost use Rattle.sqs_model.specs.Site.{Core, number_of};
-ghost use Rattle.sim_site.specs.Effects.{Did, Spends};
+ghost use Rattle.sim_site.specs.Effects.{Did, Stops};
 
 use super::Core;
 use crate::effects::Effects;
@@ -78,7 +78,7 @@ impl Core {
         effects: &mut Effects,
     ) -> Result<(), Refusal>
         ensures did { (a : Actor) → a.number ≡ agent → OnOk result (Did effects.old effects.new self.new (delete_made key a self.old text (the_read_receipt text)).effect) }
-        ensures spends { IfErr result Spends }
+        ensures memory_only { IsOkUnless result Refusal.Memory }
     {
         let site = self.queue.site();
         match read_receipt(&text) {
@@ -114,7 +114,7 @@ impl Core {
     ) -> Result<(), Refusal>
         requires { key.at ≤ most_count }
         ensures did { (a : Actor) → a.number ≡ agent → OnOk result (Did effects.old effects.new self.new (change_answered key a self.old text timeout receipt (change self.old.queue key.at receipt timeout)).effect) }
-        ensures spends { IfErr result Spends }
+        ensures stops { (a : Actor) → a.number ≡ agent → IfErr result (Stops (change_answered key a self.old text timeout receipt (change self.old.queue key.at receipt timeout)).effect) }
     {
         let site = self.queue.site();
         match self.queue.change(key.at, &receipt, timeout) {
@@ -168,7 +168,7 @@ impl Core {
     ) -> Result<(), Refusal>
         requires { key.at ≤ most_count }
         ensures did { (a : Actor) → a.number ≡ agent → OnOk result (Did effects.old effects.new self.new (change_made key a self.old text timeout (the_read_receipt text)).effect) }
-        ensures spends { IfErr result Spends }
+        ensures stops { (a : Actor) → a.number ≡ agent → IfErr result (Stops (change_made key a self.old text timeout (the_read_receipt text)).effect) }
     {
         match read_receipt(&text) {
             None => {
@@ -207,7 +207,7 @@ impl Core {
         effects: &mut Effects,
     ) -> Result<(), Refusal>
         ensures did { (a : Actor) → a.number ≡ agent → OnOk result (Did effects.old effects.new self.new (serve_made key a self.old id receipt failed forward).effect) }
-        ensures spends { IfErr result Spends }
+        ensures memory_only { IsOkUnless result Refusal.Memory }
     {
         let site = self.queue.site();
         if failed {

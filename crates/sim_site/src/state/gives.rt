@@ -1,10 +1,10 @@
 //! The rows of what a receive gave.
-ghost use Rattle.std.specs.Prelude.{◌≡◌, ◌≤◌, ◌++◌, map, IfErr, OnOk};
+ghost use Rattle.std.specs.Prelude.{IfErr, IsOkUnless, OnOk, map, ◌++◌, ◌≡◌, ◌≤◌};
 ghost use Rattle.sqs_message.specs.declared.row.RowReceipt.TheVariants as receipts;
 ghost use Rattle.sqs_model.specs.Acts.{all_came_back, given, got_row as the_got_row};
 ghost use Rattle.sqs_model.specs.Answers.{most_count};
 ghost use Rattle.sqs_model.specs.Site.{Core, number_of};
-ghost use Rattle.sim_site.specs.Effects.{Did, Spends};
+ghost use Rattle.sim_site.specs.Effects.{Did, Stops};
 
 use super::Core;
 use crate::effects::Effects;
@@ -51,7 +51,7 @@ impl Core {
     ) -> Result<(), Refusal>
         ensures rows { OnOk result (effects.new.rows.items ≡ effects.old.rows.items ++ map (the_got_row key self.now agent) gots.now) }
         ensures sent { OnOk result (effects.new.sent ≡ effects.old.sent) }
-        ensures spends { IfErr result Spends }
+        ensures memory_only { IsOkUnless result Refusal.Memory }
     {
         let site = self.queue.site();
         for i in 0..gots.len() {
@@ -69,7 +69,7 @@ impl Core {
     ) -> Result<(), Refusal>
         requires { key.at ≤ most_count }
         ensures did { OnOk result (Did effects.old effects.new self.new (all_came_back key gots.now self.old)) }
-        ensures spends { IfErr result Spends }
+        ensures stops { IfErr result (Stops (all_came_back key gots.now self.old)) }
     {
         for i in 0..gots.len() {
             let left = copied(self.alloc, &gots[i].left)?;
@@ -90,7 +90,7 @@ impl Core {
     ) -> Result<(), Refusal>
         requires { key.at ≤ most_count }
         ensures did { OnOk result (Did effects.old effects.new self.new (given key self.old agent timeout (self.old.queue, gots.now))) }
-        ensures spends { IfErr result Spends }
+        ensures stops { IfErr result (Stops (given key self.old agent timeout (self.old.queue, gots.now))) }
     {
         self.say_gots(key, agent, gots, effects)?;
         let at_once = match timeout {

@@ -1,12 +1,11 @@
 //! The handling of what is due, by its class, and after it the answers to waiting polls.
-ghost use Rattle.std.specs.Prelude.{◌≤◌, IfErr, OnOk};
-ghost use Rattle.sim_clock.specs.declared.key.Class.TheVariants.{Step};
-ghost use Rattle.sqs_model.specs.Acts.{runs};
+ghost use Rattle.std.specs.Prelude.{IfErr, IfSome, OnOk, ◌≤◌};
 ghost use Rattle.sqs_model.specs.Answers.{most_count};
-ghost use Rattle.sqs_model.specs.Progress.{IsRecent};
+ghost use Rattle.sqs_model.specs.Dues.{core_dues};
+ghost use Rattle.sqs_model.specs.Progress.{IsRecent, WasEnqueuedBy};
 ghost use Rattle.sqs_model.specs.Step.{handle_arrival, handle_class, with_polls};
-ghost use Rattle.sim_site.specs.Due.{StepIsDue};
-ghost use Rattle.sim_site.specs.Effects.{Did, Spends};
+ghost use Rattle.sim_site.specs.Due.{IsAmong};
+ghost use Rattle.sim_site.specs.Effects.{Did, Stops};
 
 use super::Core;
 use crate::effects::Effects;
@@ -14,14 +13,14 @@ use sim_clock::{Class, Key, Refusal};
 use sqs_redrive::Outbound;
 
 impl Core {
-    // Handles what is due but for arrivals.
+    // Handles what is due but for arrivals. A task whose step is due runs.
     #[tactic(auto, unfolding(sqs_model::specs::Step::handle_class))]
     fn handle_class(&mut self, key: Key, effects: &mut Effects) -> Result<(), Refusal>
         requires moment { key.at ≤ most_count }
         requires recent { IsRecent key.at self.old.queue }
-        requires due { StepIsDue self.old key }
+        requires due { IsAmong (core_dues self.old) key }
         ensures did { OnOk result (Did effects.old effects.new self.new (handle_class key.class key self.old)) }
-        ensures spends { IfErr result Spends }
+        ensures stops { IfErr result (Stops (handle_class key.class key self.old)) }
     {
         match key.class {
             Class::Expiry => self.handle_expiry(key, effects),
@@ -34,14 +33,14 @@ impl Core {
         }
     }
 
-    /// Handles what is due but for arrivals, and answers waiting polls. A task whose step is due
-    /// runs. `Memory`; `CountLimit` where a count would pass its limit.
+    /// Handles what is due but for arrivals, and answers waiting polls. `Memory`; `CountLimit`
+    /// where a count would pass its limit.
     pub fn handle(&mut self, key: Key, effects: &mut Effects) -> Result<(), Refusal>
         requires moment { key.at ≤ most_count }
         requires recent { IsRecent key.at self.old.queue }
-        requires due { StepIsDue self.old key }
+        requires due { IsAmong (core_dues self.old) key }
         ensures did { OnOk result (Did effects.old effects.new self.new (with_polls key (handle_class key.class key self.old))) }
-        ensures spends { IfErr result Spends }
+        ensures stops { IfErr result (Stops (with_polls key (handle_class key.class key self.old))) }
     {
         self.handle_class(key, effects)?;
         self.answer_polls(key, effects)
@@ -56,8 +55,9 @@ impl Core {
     ) -> Result<(), Refusal>
         requires moment { key.at ≤ most_count }
         requires recent { IsRecent key.at self.old.queue }
+        requires enqueued { IfSome transfer (λ t. WasEnqueuedBy key.at t.load) }
         ensures did { OnOk result (Did effects.old effects.new self.new (handle_arrival key transfer self.old)) }
-        ensures spends { IfErr result Spends }
+        ensures stops { IfErr result (Stops (handle_arrival key transfer self.old)) }
     {
         match transfer {
             None => Ok(()),
@@ -75,8 +75,9 @@ impl Core {
     ) -> Result<(), Refusal>
         requires moment { key.at ≤ most_count }
         requires recent { IsRecent key.at self.old.queue }
+        requires enqueued { IfSome transfer (λ t. WasEnqueuedBy key.at t.load) }
         ensures did { OnOk result (Did effects.old effects.new self.new (with_polls key (handle_arrival key transfer self.old))) }
-        ensures spends { IfErr result Spends }
+        ensures stops { IfErr result (Stops (with_polls key (handle_arrival key transfer self.old))) }
     {
         self.handle_transfer(key, transfer, effects)?;
         self.answer_polls(key, effects)

@@ -1,5 +1,5 @@
 //! Polls that wait: their ends, and the answers that they get.
-ghost use Rattle.std.specs.Prelude.{◌≡◌, ◌≤◌, ◌-◌, ◌^◌, drop, IfErr, IfOk, MatchOption, OnOk, position};
+ghost use Rattle.std.specs.Prelude.{IfErr, IfOk, MatchOption, OnOk, drop, position, ◌-◌, ◌^◌, ◌≡◌, ◌≤◌};
 ghost use Rattle.sim_clock.specs.Firsts.{without};
 ghost use Rattle.sqs_model.specs.Answers.{most_count};
 ghost use Rattle.sqs_model.specs.Available.{all_hosts};
@@ -8,7 +8,7 @@ ghost use Rattle.sqs_model.specs.Valid.{IsQueueSettings};
 ghost use Rattle.sqs_model.specs.Progress.{IsRecent};
 ghost use Rattle.sqs_model.specs.Places.{IsAbsent, Stands};
 ghost use Rattle.sqs_model.specs.Step.{ends_at, handle_poll_end};
-ghost use Rattle.sim_site.specs.Effects.{Did, Spends};
+ghost use Rattle.sim_site.specs.Effects.{Did, Stops};
 
 use super::Core;
 use super::receives::{all_hosts_of, receive_row, received_by};
@@ -80,7 +80,7 @@ impl Core {
         requires moment { key.at ≤ most_count }
         requires recent { IsRecent key.at self.old.queue }
         ensures did { OnOk result (Did effects.old effects.new self.new (poll_answered key poll self.old (poll_given key poll self.old.queue))) }
-        ensures spends { IfErr result Spends }
+        ensures stops { IfErr result (Stops (poll_answered key poll self.old (poll_given key poll self.old.queue))) }
     {
         let set = all_hosts_of(host_count(&self.queue));
         let (max, timeout) = (poll.max, poll.timeout);
@@ -99,7 +99,7 @@ impl Core {
         requires moment { key.at ≤ most_count }
         requires recent { IsRecent key.at self.old.queue }
         ensures did { OnOk result (Did effects.old effects.new self.new (answer_polls key self.old.polls self.old)) }
-        ensures spends { IfErr result Spends }
+        ensures stops { IfErr result (Stops (answer_polls key self.old.polls self.old)) }
     {
         let polls = copied(self.alloc, &self.polls)?;
         for i in 0..polls.len() {
@@ -117,7 +117,7 @@ impl Core {
         requires moment { key.at ≤ most_count }
         requires recent { IsRecent key.at self.old.queue }
         ensures did { OnOk result (Did effects.old effects.new self.new (handle_poll_end key self.old)) }
-        ensures spends { IfErr result Spends }
+        ensures stops { IfErr result (Stops (handle_poll_end key self.old)) }
     {
         let site = self.queue.site();
         end(&mut self.polls, key);

@@ -1,5 +1,5 @@
 //! Receives of actors.
-ghost use Rattle.std.specs.Prelude.{◌≡◌, ◌≤◌, ◌<◌, ◌-◌, ◌^◌, true, Err, IfErr, IfOk, IfSome, None, OnErr, Some, ℕ};
+ghost use Rattle.std.specs.Prelude.{Any, Err, IfErr, IfOk, IfSome, IsOk, None, OnErr, Some, true, ℕ, ◌-◌, ◌<◌, ◌^◌, ◌≡◌, ◌≤◌};
 ghost use Rattle.sqs_model.specs.Actor.{Actor};
 ghost use Rattle.sqs_model.specs.Acts.{receive_row as the_receive_row, hosts_from as the_hosts_from, long_poll, receive_as, receive_none, receive_some, short_poll};
 ghost use Rattle.sqs_model.specs.Answers.{most_count};
@@ -10,7 +10,8 @@ ghost use Rattle.sqs_model.specs.Receive.{answered, give_most, receive};
 ghost use Rattle.std.specs.Result.{result_map_both};
 ghost use Rattle.sqs_model.specs.Site.{Core, actor_numbered, number_of};
 ghost use Rattle.sqs_standard.specs.Standard.{IsStandard};
-ghost use Rattle.sim_site.specs.Effects.{DidMake, Spends};
+ghost use Rattle.sqs_store.specs.Calls.{to_give};
+ghost use Rattle.sim_site.specs.Effects.{DidMake, Stops, StopsWhere};
 ghost use Rattle.sim_site.specs.Kept.{most_wait};
 
 use super::sends::told_refusal;
@@ -79,7 +80,7 @@ pub fn received_by(
     ensures received { IfOk result (λ answer. receive queue.old now max timeout hosts short ≡ (result_map_both (λ batch. batch.items) (λ refusal. refusal) answer, queue.new)) }
     ensures unchanged { IfOk result (λ answer. OnErr answer (queue.new ≡ queue.old)) }
     ensures framed { IsFramed queue.old queue.new }
-    ensures spends { IfErr result Spends }
+    ensures stops { IfErr result (StopsWhere (Any (λ m. m.receives ≡ most_count) (to_give queue.old max hosts) × IsOk (receive queue.old now max timeout hosts short).0)) }
 {
     match queue.receive(now, max, timeout, hosts, short) {
         Ok(gots) => Ok(Ok(gots)),
@@ -116,7 +117,7 @@ impl Core {
         requires moment { key.at ≤ most_count }
         requires wait { wait ≤ most_wait }
         ensures did { (a : Actor) → a.number ≡ agent → actor_numbered agent self.old ≡ Some a → IfOk result (λ answer. DidMake effects.old effects.new self.new answer (receive_none key a self.old max wait timeout)) }
-        ensures spends { IfErr result Spends }
+        ensures stops { (a : Actor) → a.number ≡ agent → actor_numbered agent self.old ≡ Some a → IfErr result (Stops (receive_none key a self.old max wait timeout).effect) }
     {
         let site = self.queue.site();
         if wait == 0 {
@@ -152,7 +153,7 @@ impl Core {
         requires moment { key.at ≤ most_count }
         requires wait { wait ≤ most_wait }
         ensures did { (a : Actor) → a.number ≡ agent → actor_numbered agent self.old ≡ Some a → IfOk result (λ answer. DidMake effects.old effects.new self.new answer (receive_some key a self.old max wait timeout self.old.queue gots.items)) }
-        ensures spends { IfErr result Spends }
+        ensures stops { (a : Actor) → a.number ≡ agent → actor_numbered agent self.old ≡ Some a → IfErr result (Stops (receive_some key a self.old max wait timeout self.old.queue gots.items).effect) }
     {
         if gots.is_empty() {
             return self.receive_none(key, agent, max, wait, timeout, effects);
@@ -178,7 +179,7 @@ impl Core {
         requires sampled { sampled ≤ hosts }
         requires standard { IsStandard self.old.queue.settings.kind }
         ensures did { (a : Actor) → a.number ≡ agent → actor_numbered agent self.old ≡ Some a → IfOk result (λ answer. DidMake effects.old effects.new self.new answer (short_poll key a self.old max timeout hosts sampled (drawn_uniform 0 (hosts - 1) self.old.draws))) }
-        ensures spends { IfErr result Spends }
+        ensures stops { (a : Actor) → a.number ≡ agent → actor_numbered agent self.old ≡ Some a → IfErr result (Stops (short_poll key a self.old max timeout hosts sampled (drawn_uniform 0 (hosts - 1) self.old.draws)).effect) }
     {
         let site = self.queue.site();
         if let Some(refusal) = short_refusal(&self.queue, timeout) {
@@ -213,7 +214,7 @@ impl Core {
         requires few { hosts ≤ 16 }
         requires all { all_hosts self.old.queue.settings.kind ≡ 2 ^ hosts - 1 }
         ensures did { (a : Actor) → a.number ≡ agent → actor_numbered agent self.old ≡ Some a → IfOk result (λ answer. DidMake effects.old effects.new self.new answer (long_poll key a self.old max wait timeout)) }
-        ensures spends { IfErr result Spends }
+        ensures stops { (a : Actor) → a.number ≡ agent → actor_numbered agent self.old ≡ Some a → IfErr result (Stops (long_poll key a self.old max wait timeout).effect) }
     {
         let site = self.queue.site();
         let set = all_hosts_of(hosts);
@@ -240,7 +241,7 @@ impl Core {
         requires moment { key.at ≤ most_count }
         requires wait { wait ≤ most_wait }
         ensures did { (a : Actor) → a.number ≡ agent → actor_numbered agent self.old ≡ Some a → IfOk result (λ answer. DidMake effects.old effects.new self.new answer (receive_as self.old.queue.settings.kind key a self.old max wait timeout)) }
-        ensures spends { IfErr result Spends }
+        ensures stops { (a : Actor) → a.number ≡ agent → actor_numbered agent self.old ≡ Some a → IfErr result (Stops (receive_as self.old.queue.settings.kind key a self.old max wait timeout).effect) }
     {
         match self.queue.settings().kind {
             Kind::Standard { hosts, sampled } => {

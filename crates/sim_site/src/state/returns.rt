@@ -1,11 +1,11 @@
 //! Messages that come back to their queue, or leave it for the dead-letter queue.
-ghost use Rattle.std.specs.Prelude.{◌≤◌, IfErr, OnOk};
+ghost use Rattle.std.specs.Prelude.{IfErr, IsOkUnless, OnOk, ◌≤◌};
 ghost use Rattle.sqs_model.specs.Acts.{came_back as the_came_back, redriven};
 ghost use Rattle.sqs_model.specs.Answers.{most_count};
 ghost use Rattle.sqs_model.specs.Draw.{drawn_latency};
 ghost use Rattle.sqs_model.specs.Step.{handle_expiry, handle_release};
 ghost use Rattle.sqs_model.specs.Valid.{IsLatency};
-ghost use Rattle.sim_site.specs.Effects.{Did, Spends};
+ghost use Rattle.sim_site.specs.Effects.{Did, Stops};
 
 use super::{Core, MOST_COUNT};
 use crate::effects::Effects;
@@ -27,7 +27,7 @@ impl Core {
         requires moment { key.at ≤ most_count }
         requires latency { IsLatency policy.latency }
         ensures did { OnOk result (Did effects.old effects.new self.new (redriven key self.old number load policy.dead_letter (drawn_latency policy.latency self.old.draws))) }
-        ensures spends { IfErr result Spends }
+        ensures stops { IfErr result (Stops (redriven key self.old number load policy.dead_letter (drawn_latency policy.latency self.old.draws))) }
     {
         let (least, greatest) = (policy.latency.least, policy.latency.greatest);
         let varies = least < greatest;
@@ -69,7 +69,7 @@ impl Core {
     ) -> Result<(), Refusal>
         requires { key.at ≤ most_count }
         ensures did { OnOk result (Did effects.old effects.new self.new (the_came_back key self.old number left)) }
-        ensures spends { IfErr result Spends }
+        ensures stops { IfErr result (Stops (the_came_back key self.old number left)) }
     {
         match left {
             None => {
@@ -96,7 +96,7 @@ impl Core {
     pub fn handle_release(&mut self, key: Key, effects: &mut Effects) -> Result<(), Refusal>
         requires { key.at ≤ most_count }
         ensures did { OnOk result (Did effects.old effects.new self.new (handle_release key self.old)) }
-        ensures spends { IfErr result Spends }
+        ensures stops { IfErr result (Stops (handle_release key self.old)) }
     {
         match self.queue.release(key.number) {
             Ok(left) => self.came_back(key, key.number, left, effects),
@@ -107,7 +107,7 @@ impl Core {
     /// A message reaches the end of its retention period.
     pub fn handle_expiry(&mut self, key: Key, effects: &mut Effects) -> Result<(), Refusal>
         ensures did { OnOk result (Did effects.old effects.new self.new (handle_expiry key self.old)) }
-        ensures spends { IfErr result Spends }
+        ensures memory_only { IsOkUnless result Refusal.Memory }
     {
         let age = self.queue.expire(key.at, key.number);
         let site = self.queue.site();

@@ -1,23 +1,24 @@
 //! Samples of a queue's counts.
-ghost use Rattle.std.specs.Prelude.{IfErr, OnOk};
+ghost use Rattle.std.specs.Prelude.{IsOkUnless, OnOk, ◌*◌, ◌+◌, ◌≡◌, ◌≢◌, ◌≤◌};
+ghost use Rattle.sqs_model.specs.Answers.{most_count};
 ghost use Rattle.sqs_model.specs.Step.{handle_sample};
-ghost use Rattle.sim_site.specs.Effects.{Did, Spends};
+ghost use Rattle.sim_site.specs.Effects.{Did};
 
-use super::{Core, MOST_COUNT};
+use super::Core;
 use crate::effects::Effects;
 use crate::rows::row;
 use sim_clock::{Key, Refusal};
 use sqs_message::{Detail, RowAnswer, RowKind};
 
 impl Core {
-    /// A queue's counts are sampled.
+    /// A queue's counts are sampled, where the next sample is due. The one error is `Memory`.
     pub fn handle_sample(&mut self, key: Key, effects: &mut Effects) -> Result<(), Refusal>
+        requires moment { key.at ≤ most_count }
+        requires sampled { self.old.sample ≢ 0 }
+        requires due { key.at ≡ self.old.sample * (self.old.samples + 1) }
         ensures did { OnOk result (Did effects.old effects.new self.new (handle_sample key self.old)) }
-        ensures spends { IfErr result Spends }
+        ensures memory_only { IsOkUnless result Refusal.Memory }
     {
-        if self.samples == MOST_COUNT || self.sample * (self.samples + 1) > MOST_COUNT {
-            return Err(Refusal::CountLimit);
-        }
         let counts = self.queue.counts();
         let site = self.queue.site();
         let detail = Detail::Counts {

@@ -1,5 +1,5 @@
 //! Sends of actors.
-ghost use Rattle.std.specs.Prelude.{◌≡◌, ◌≢◌, ◌≤◌, IfErr, IfOk, List, OnOk, Option, ℕ};
+ghost use Rattle.std.specs.Prelude.{IfErr, IfOk, List, OnOk, Option, ℕ, ◌<◌, ◌≡◌, ◌≢◌, ◌≤◌};
 ghost use Rattle.md5.specs.Md5.{md5};
 ghost use Rattle.sim_clock.specs.declared.refusal.Refusal.TheVariants as refusals;
 ghost use Rattle.sqs_model.specs.Actor.{Actor};
@@ -8,7 +8,7 @@ ghost use Rattle.sqs_model.specs.Answers.{most_count};
 ghost use Rattle.sqs_model.specs.Progress.{IsRecent};
 ghost use Rattle.sqs_model.specs.Queue.{IsFramed};
 ghost use Rattle.sqs_model.specs.Site.{Core, number_of};
-ghost use Rattle.sim_site.specs.Effects.{Did, Spends};
+ghost use Rattle.sim_site.specs.Effects.{Did, Stops, StopsWhere};
 
 use super::Core;
 use crate::effects::Effects;
@@ -23,7 +23,8 @@ pub fn told_refusal(refusal: Refusal) -> Result<Refusal, Refusal>
     ensures same { IfOk result (λ told. told ≡ refusal) }
     ensures memory { OnOk result (refusal ≢ refusals.Memory) }
     ensures limit { OnOk result (refusal ≢ refusals.CountLimit) }
-    ensures spends { IfErr result Spends }
+    ensures ends { IfErr result (λ ends. ends ≡ refusal) }
+    ensures stops { IfErr result (StopsWhere (refusal ≡ Refusal.CountLimit)) }
 {
     match refusal {
         Refusal::Memory => Err(Refusal::Memory),
@@ -45,7 +46,7 @@ fn sent_by(
     requires recent { IsRecent now queue.old }
     ensures sent { IfOk result (λ answer. sends queue.old.settings.kind queue.old now body delay group id ≡ (answer, queue.new)) }
     ensures framed { IsFramed queue.old queue.new }
-    ensures spends { IfErr result Spends }
+    ensures stops { IfErr result (StopsWhere (most_count < (sends queue.old.settings.kind queue.old now body delay group id).1.arrivals)) }
 {
     match queue.send(now, body, delay, group, id) {
         Ok(sent) => Ok(Ok(sent)),
@@ -109,7 +110,7 @@ impl Core {
         requires moment { key.at ≤ most_count }
         requires recent { IsRecent key.at self.old.queue }
         ensures did { (a : Actor) → a.number ≡ agent → OnOk result (Did effects.old effects.new self.new (send_made key a self.old body (sends self.old.queue.settings.kind self.old.queue key.at body delay group id)).effect) }
-        ensures spends { IfErr result Spends }
+        ensures stops { (a : Actor) → a.number ≡ agent → IfErr result (Stops (send_made key a self.old body (sends self.old.queue.settings.kind self.old.queue key.at body delay group id)).effect) }
     {
         let site = self.queue.site();
         let digest = body_md5(body.as_bytes());

@@ -1,15 +1,18 @@
 //! The steps of move tasks.
-ghost use Rattle.std.specs.Prelude.{◌≡◌, ◌≤◌, ◌<◌, ◌++◌, ◌∷◌, [], All, IfErr, IfOk, IfSome, OnOk, find, map, true};
+ghost use Rattle.std.specs.Prelude.{All, IfErr, IfOk, IfSome, IsOkUnless, OnOk, [], find, length, map, true, ◌++◌, ◌+◌, ◌<◌, ◌∷◌, ◌≡◌, ◌≤◌};
 ghost use Rattle.sim_clock.specs.declared.key.Class.TheVariants.{Step as StepClass};
 ghost use Rattle.sqs_model.specs.Acts.{runs};
 ghost use Rattle.sqs_model.specs.Answers.{most_count};
+ghost use Rattle.sqs_model.specs.Draw.{drawn_latency};
+ghost use Rattle.sqs_model.specs.Dues.{core_dues};
+ghost use Rattle.sqs_model.specs.Limits.{task_count};
 ghost use Rattle.sqs_model.specs.Places.{Stands};
 ghost use Rattle.sqs_model.specs.Site.{Core as TheCore, is_task, number_of, task_numbered};
-ghost use Rattle.sqs_model.specs.Step.{handle_step, end_row as the_end_row, load_id as the_load_id, move_row as the_move_row, moves};
+ghost use Rattle.sqs_model.specs.Step.{handle_step, end_row as the_end_row, load_id as the_load_id, move_row as the_move_row, moves, one_sent};
 ghost use Rattle.sqs_model.specs.Task.{Task as TheTask};
 ghost use Rattle.sqs_model.specs.Valid.{IsLatency};
-ghost use Rattle.sim_site.specs.Due.{StepIsDue};
-ghost use Rattle.sim_site.specs.Effects.{Did, Spends};
+ghost use Rattle.sim_site.specs.Due.{IsAmong};
+ghost use Rattle.sim_site.specs.Effects.{Did, Stops, StopsWhere};
 ghost use Rattle.sim_site.specs.Kept.{numbered_settings};
 ghost use Rattle.sim_site.specs.Steps.{DidMove, IsKept, SendsOn, Stepped, stepped_moves};
 
@@ -57,8 +60,9 @@ impl Task {
         requires moment { key.at ≤ most_count }
         requires latency { IsLatency self.old.move.settings.latency }
         ensures sent { IfOk result (λ o. SendsOn key site self.old to load o self.new) }
+        ensures counted { OnOk result (self.new.sent ≡ self.old.sent + 1) }
         ensures kept { IsKept self.old self.new }
-        ensures spends { IfErr result Spends }
+        ensures stops { IfErr result (StopsWhere (most_count < task_count (one_sent self.old (drawn_latency self.old.move.settings.latency self.old.draws).1))) }
     {
         let Latency { least, greatest } = self.movement.settings().latency;
         let draws_a_word = least < greatest;
@@ -90,8 +94,9 @@ impl Task {
         requires moment { key.at ≤ most_count }
         requires latency { IsLatency self.old.move.settings.latency }
         ensures moved { OnOk result ((c : TheCore) → number_of c ≡ site → DidMove effects.old effects.new self.new (moves key c self.old ((to, load) ∷ []))) }
+        ensures counted { OnOk result (self.new.sent ≡ self.old.sent + 1) }
         ensures kept { IsKept self.old self.new }
-        ensures spends { IfErr result Spends }
+        ensures stops { IfErr result (StopsWhere (most_count < task_count (one_sent self.old (drawn_latency self.old.move.settings.latency self.old.draws).1))) }
     {
         effects.say(move_row(key, site, self.number, to, &load))?;
         let outbound = self.send_on(key, site, to, load)?;
@@ -109,8 +114,9 @@ impl Task {
         requires moment { key.at ≤ most_count }
         requires latency { IsLatency self.old.move.settings.latency }
         ensures moved { OnOk result ((c : TheCore) → number_of c ≡ site → DidMove effects.old effects.new self.new (moves key c self.old loads.items)) }
+        ensures counted { OnOk result (self.new.sent ≡ self.old.sent + length loads.items) }
         ensures kept { IsKept self.old self.new }
-        ensures spends { IfErr result Spends }
+        ensures stops { IfErr result (StopsWhere ((c : TheCore) → number_of c ≡ site → most_count < task_count (moves key c self.old loads.items).task)) }
     {
         for (to, load) in loads {
             self.move_one(key, site, to, load, effects)?;
@@ -128,7 +134,7 @@ impl Task {
     ) -> Result<(), Refusal>
         ensures rows { OnOk result ((c : TheCore) → number_of c ≡ site → effects.new.rows.items ≡ effects.old.rows.items ++ the_end_row key c self.now rest) }
         ensures sent { effects.new.sent ≡ effects.old.sent }
-        ensures spends { IfErr result Spends }
+        ensures memory_only { IsOkUnless result Refusal.Memory }
     {
         let answer = match rest {
             Rest::Empty => RowAnswer::Completed,
@@ -155,13 +161,12 @@ impl Task {
         requires latency { IsLatency self.old.move.settings.latency }
         ensures stepped { OnOk result ((c : TheCore) → number_of c ≡ site → DidMove effects.old effects.new self.new (stepped_moves key c self.old loads.items rest)) }
         ensures settings { numbered_settings self.new ≡ numbered_settings self.old }
-        ensures spends { IfErr result Spends }
+        ensures stops { IfErr result (StopsWhere ((c : TheCore) → number_of c ≡ site → most_count < task_count (stepped_moves key c self.old loads.items rest).task)) }
     {
-        let taken = loads.len() as u64;
-        let counted = self.movement.moved().max(self.movement.steps());
-        if counted >= MOST_COUNT || taken >= MOST_COUNT {
+        if self.movement.steps() >= MOST_COUNT {
             return Err(Refusal::CountLimit);
         }
+        let taken = loads.len() as u64;
         self.move_all(key, site, loads, effects)?;
         self.movement.step(key.at, taken, rest);
         self.tell_end(key, site, rest, effects)
@@ -184,7 +189,7 @@ fn step_at(
     requires moment { key.at ≤ most_count }
     ensures stepped { OnOk result (Stepped key.agent key site loads.items rest effects.old effects.new tasks.old.items tasks.new.items) }
     ensures settings { map numbered_settings tasks.new.items ≡ map numbered_settings tasks.old.items }
-    ensures spends { IfErr result Spends }
+    ensures stops { IfErr result (StopsWhere ((c : TheCore) (t : TheTask) → number_of c ≡ site → find (is_task key.agent) tasks.old.items ≡ Some t → most_count < task_count (stepped_moves key c t loads.items rest).task)) }
 {
     tasks[place].step(key, site, loads, rest, effects)
 }
@@ -194,9 +199,9 @@ impl Core {
     pub fn handle_step(&mut self, key: Key, effects: &mut Effects) -> Result<(), Refusal>
         requires moment { key.at ≤ most_count }
         requires class { key.class ≡ StepClass }
-        requires due { StepIsDue self.old key }
+        requires due { IsAmong (core_dues self.old) key }
         ensures did { OnOk result (Did effects.old effects.new self.new (handle_step key self.old (task_numbered key.agent self.old))) }
-        ensures spends { IfErr result Spends }
+        ensures stops { IfErr result (Stops (handle_step key self.old (task_numbered key.agent self.old))) }
     {
         let site = self.queue.site();
         let Some(place) = place_of_task(&self.tasks, key.agent) else {

@@ -1,12 +1,12 @@
 //! Starts and cancels of move tasks by actors.
-ghost use Rattle.std.specs.Prelude.{◌≡◌, ◌≤◌, false, IfErr, IfSome, OnOk, true, find, map};
+ghost use Rattle.std.specs.Prelude.{IfSome, IsOkUnless, OnOk, false, find, map, true, ◌≡◌, ◌≤◌};
 ghost use Rattle.std.specs.List.{list_any};
 ghost use Rattle.sqs_model.specs.Actor.{Actor};
 ghost use Rattle.sqs_model.specs.Acts.{cancel_made, runs, start_made, task_row as the_task_row};
 ghost use Rattle.sqs_model.specs.Answers.{most_count};
 ghost use Rattle.sqs_model.specs.Places.{Stands};
 ghost use Rattle.sqs_model.specs.Site.{Core, is_task, number_of, task_numbered};
-ghost use Rattle.sim_site.specs.Effects.{Did, Spends};
+ghost use Rattle.sim_site.specs.Effects.{Did};
 ghost use Rattle.sim_site.specs.Kept.{numbered_settings};
 ghost use Rattle.sim_site.specs.Reading.{cancelled_task, started_task};
 ghost use Rattle.sim_site.specs.Tasks.{Rewritten};
@@ -71,7 +71,7 @@ impl Core {
     ) -> Result<(), Refusal>
         requires { key.at ≤ most_count }
         ensures did { (a : Actor) → a.number ≡ agent → OnOk result (Did effects.old effects.new self.new (start_made key a self.old task (task_numbered task self.old)).effect) }
-        ensures spends { IfErr result Spends }
+        ensures memory_only { IsOkUnless result Refusal.Memory }
     {
         let site = self.queue.site();
         let Some(place) = place_of_task(&self.tasks, task) else {
@@ -94,7 +94,7 @@ impl Core {
         effects: &mut Effects,
     ) -> Result<(), Refusal>
         ensures did { (a : Actor) → a.number ≡ agent → OnOk result (Did effects.old effects.new self.new (cancel_made key a self.old task (task_numbered task self.old)).effect) }
-        ensures spends { IfErr result Spends }
+        ensures memory_only { IsOkUnless result Refusal.Memory }
     {
         let site = self.queue.site();
         let Some(place) = place_of_task(&self.tasks, task) else {

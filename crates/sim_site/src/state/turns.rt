@@ -1,5 +1,5 @@
 //! What an actor does at its site, act after act.
-ghost use Rattle.std.specs.Prelude.{◌≡◌, ◌≤◌, IfErr, IfOk, OnOk, Some};
+ghost use Rattle.std.specs.Prelude.{IfErr, IfOk, OnOk, Some, ◌≡◌, ◌≤◌};
 ghost use Rattle.sqs_model.specs.Actor.{Actor};
 ghost use Rattle.sqs_model.specs.Acts.{act_made};
 ghost use Rattle.sqs_model.specs.Answers.{most_count};
@@ -7,7 +7,7 @@ ghost use Rattle.sqs_model.specs.Progress.{IsRecent};
 ghost use Rattle.sqs_model.specs.Polls.{told as the_told};
 ghost use Rattle.sqs_model.specs.Site.{actor_numbered};
 ghost use Rattle.sqs_model.specs.Step.{handle_wake};
-ghost use Rattle.sim_site.specs.Effects.{Did, Spends};
+ghost use Rattle.sim_site.specs.Effects.{Did, Stops};
 ghost use Rattle.sim_site.specs.Turns.{DidTurn, WaitsShortly, turn_by, turn_of};
 
 use super::Core;
@@ -30,7 +30,7 @@ impl Core {
         requires recent { IsRecent key.at self.old.queue }
         requires wait { WaitsShortly act }
         ensures did { (a : Actor) → a.number ≡ agent → actor_numbered agent self.old ≡ Some a → IfOk result (λ told. DidTurn effects.old effects.new self.new told (turn_by act (act_made key a self.old act))) }
-        ensures spends { IfErr result Spends }
+        ensures stops { (a : Actor) → a.number ≡ agent → actor_numbered agent self.old ≡ Some a → IfErr result (Stops (act_made key a self.old act).effect) }
     {
         match act {
             Act::Send {
@@ -73,7 +73,7 @@ impl Core {
         requires moment { key.at ≤ most_count }
         requires recent { IsRecent key.at self.old.queue }
         ensures did { IfOk result (λ told. DidTurn effects.old effects.new self.new told (turn_of key answer self.old (actor_numbered agent self.old))) }
-        ensures spends { IfErr result Spends }
+        ensures stops { IfErr result (Stops (turn_of key answer self.old (actor_numbered agent self.old)).effect) }
     {
         let Some(place) = place_of_actor(&self.actors, agent) else {
             return Ok(None);
@@ -93,7 +93,7 @@ impl Core {
         requires moment { key.at ≤ most_count }
         requires recent { IsRecent key.at self.old.queue }
         ensures did { OnOk result (Did effects.old effects.new self.new (the_told key agent answer self.old)) }
-        ensures spends { IfErr result Spends }
+        ensures stops { IfErr result (Stops (the_told key agent answer self.old)) }
     {
         let Some(answer) = self.take_turn(key, agent, answer, effects)? else {
             return Ok(());
@@ -110,7 +110,7 @@ impl Core {
         requires moment { key.at ≤ most_count }
         requires recent { IsRecent key.at self.old.queue }
         ensures did { OnOk result (Did effects.old effects.new self.new (handle_wake key self.old)) }
-        ensures spends { IfErr result Spends }
+        ensures stops { IfErr result (Stops (handle_wake key self.old)) }
     {
         self.told(key, key.agent, Answer::Wake, effects)
     }

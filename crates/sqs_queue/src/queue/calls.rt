@@ -1,5 +1,5 @@
 //! The calls of callers: send, receive, delete and change of visibility.
-ghost use Rattle.std.specs.Prelude.{◌≡◌, ◌⊎◌, ◌<◌, ◌≤◌, All, Any, OnErr, OnOk, true};
+ghost use Rattle.std.specs.Prelude.{◌≡◌, ◌⊎◌, ◌<◌, ◌≤◌, All, Any, Err, OnErr, OnOk, true};
 ghost use Rattle.std.specs.Result.{result_map_both};
 ghost use Rattle.sqs_model.specs.Acts.{sends};
 ghost use Rattle.sqs_model.specs.Answers.{Meets, most_count};
@@ -33,6 +33,7 @@ impl Queue {
         requires recent { IsRecent now self.old }
         ensures answer { Meets (self.old.arrivals ≡ most_count) result self.new (sends self.old.settings.kind self.old now body delay group id) }
         ensures counted { OnOk result ((self.old.arrivals < most_count) ⊎ (self.new ≡ self.old)) }
+        ensures at_limit { result ≡ Err Refusal.CountLimit → most_count < (sends self.old.settings.kind self.old now body delay group id).1.arrivals }
         ensures unchanged { OnErr result (self.new ≡ self.old) }
         ensures framed { IsFramed self.old self.new }
         ensures recent { IsRecent now self.new }

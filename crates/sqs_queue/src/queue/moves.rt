@@ -1,6 +1,6 @@
 //! What comes of time and of other queues: ends of delays, timeouts and retention periods,
 //! arrivals, and steps of move tasks.
-ghost use Rattle.std.specs.Prelude.{◌≡◌, ◌⊎◌, ◌<◌, ◌≤◌, IfOk, IsOkUnless, OnErr, OnOk};
+ghost use Rattle.std.specs.Prelude.{◌≡◌, ◌⊎◌, ◌<◌, ◌≤◌, Err, IfOk, IsOkUnless, OnErr, OnOk};
 ghost use Rattle.sqs_model.specs.Answers.{Meets, most_count};
 ghost use Rattle.sqs_model.specs.Arrive.{arrived, expired};
 ghost use Rattle.sqs_model.specs.Calls.{returned};
@@ -53,6 +53,7 @@ impl Queue {
         requires recent { IsRecent now self.old }
         ensures answer { Meets (self.old.arrivals ≡ most_count) result self.new (never_refused (arrived self.old now load)) }
         ensures counted { OnOk result ((self.old.arrivals < most_count) ⊎ (self.new ≡ self.old)) }
+        ensures at_limit { result ≡ Err Refusal.CountLimit → most_count < (arrived self.old now load).1.arrivals }
         ensures unchanged { OnErr result (self.new ≡ self.old) }
         ensures framed { IsFramed self.old self.new }
         ensures recent { IsRecent now self.new }

@@ -24,8 +24,8 @@ returns-else-place-len-clause-done c w e n =
     let outside : 0 + length w ≤ c.args.transfer.to = omega (arith, c.if-place-len.false, c.len.ensures, same, length-map w alive) in
     e ∙ ap (map alive) (sym (past c.args.transfer 0 w n outside))
 
-pub returns-in_err-accept-clause-spends : goal.returns-in_err-accept-clause-spends
-returns-in_err-accept-clause-spends c w e =
+pub returns-in_err-accept-clause-memory_only : goal.returns-in_err-accept-clause-memory_only
+returns-in_err-accept-clause-memory_only c w e =
     let d : Result Site Refusal = c.index_mut.result.now in
     let same : length c.args.sites.now.items ≡ length (map alive w) = ap length e in
     let within : c.args.transfer.to < length w = omega (arith, c.if-place-len.true, c.len.ensures, same, length-map w alive) in
@@ -33,4 +33,4 @@ returns-in_err-accept-clause-spends c w e =
     let is : d ≡ Ok site.0 = c.index_mut.ensures.value ∙ ap (λ xs. get_or xs c.args.transfer.to d) e ∙ site.1 in
     let memory : c.in_err-accept.field-0.0 ≡ Memory = ok_of (λ (s : Site). c.in_err-accept.field-0.0 ≡ Memory) d site.0 is c.in_err-accept.ensures.memory in
     let told = err_from_is_err_and c.from_residual.result c.from_residual.ensures.1 in
-    rw (told.1, told.2, memory) tt
+    rw (told.1, told.2) memory

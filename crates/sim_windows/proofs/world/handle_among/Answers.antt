@@ -1,9 +1,16 @@
-use Rattle.std.proofs.Common.{List, Ok, Result, ap, get_or, map, set, subst, ℕ, ◌≡◌, ◌∙◌, sym}
-use Rattle.std.proofs.lemmas.Result.{err_from_is_err_and}
+use Rattle.std.proofs.Common.{Bool, List, Ok, Result, ap, get_or, length, map, set, subst, ℕ, ◌<◌, ◌≡◌, ◌∙◌, sym}
+use Rattle.std.proofs.lemmas.Result.{IfOk-weaker, err_from_is_err_and}
 use Rattle.sim_clock.specs.declared.key.Key.{Key}
 use Rattle.sim_clock.specs.declared.refusal.Refusal.{Refusal}
 use Rattle.sim_clock.specs.Firsts.{changed}
-use Rattle.sim_site.specs.Effects.{Spends}
+use Rattle.std.proofs.lemmas.List.Elements.{All-get_or}
+use Rattle.std.specs.Prelude.{All, IfOk}
+use Rattle.sim_clock.specs.declared.refusal.Refusal.TheVariants.{Memory}
+use Rattle.sim_site.specs.Effects.{Stops}
+use Rattle.sqs_model.specs.Limits.{effect_of}
+use Rattle.sqs_model.specs.Progress.{AreTimely, IsRecent}
+use Rattle.sim_windows.specs.Worlds.{IsOfPast}
+use Rattle.sim_windows.proofs.Stopping.{stops_here}
 use Rattle.sim_site.specs.Spent.{due_of}
 use Rattle.sqs_model.specs.Places.{IsAbsent, Stands}
 use Rattle.sqs_model.specs.Run.{delivered}
@@ -56,24 +63,43 @@ returns-clause-done c w e n =
     let all = c.in_ok-deliver.ensures.done after (f.left c.handle.new.self made.0) (numbered_after key 0 w n) in
     rw f.handles.among (all ∙ ap (λ os. map alive (delivered os after)) made.2, made.1)
 
-pub returns-in_err-handled-clause-spends : goal.returns-in_err-handled-clause-spends
-returns-in_err-handled-clause-spends c w e n =
+-- what holds of each holds of the one at a place
+past_there :
+    (now : ℕ) (xs ys : List (Result Site Refusal)) (place : ℕ) (d : Result Site Refusal) (p : Result Site Refusal → Bool) → d ≡ get_or xs place d → ys ≡ xs
+    → Stands p ys place → All (λ r. IfOk r (IsOfPast now)) xs → IfOk d (IsOfPast now)
+past_there now xs ys place d p is same stands h =
+    let P : Result Site Refusal → Type 0 = λ r. IfOk r (IsOfPast now) in
+    let within : place < length xs = subst (λ zs. place < length zs) same stands.within in
+    subst P (sym is) (All-get_or P xs place d within h)
+
+pub handle-requires-clause-recent : goal.handle-requires-clause-recent
+handle-requires-clause-recent c =
+    let d : Result Site Refusal = c.index_mut.result.now in
+    IfOk-weaker d (IsOfPast c.args.key.at) (λ s. IsRecent c.args.key.at s.core.queue) (λ s p. p.recent) (past_there c.args.key.at c.args.sites.now.items c.deref.result.now c.in-Some.place d (is_due_there c.args.key) c.index_mut.ensures.value c.deref.ensures.value c.in-Some.ensures c.requires.past)
+
+pub handle-requires-clause-timely : goal.handle-requires-clause-timely
+handle-requires-clause-timely c =
+    let d : Result Site Refusal = c.index_mut.result.now in
+    IfOk-weaker d (IsOfPast c.args.key.at) (λ s. AreTimely s.arriving) (λ s p. p.arriving) (past_there c.args.key.at c.args.sites.now.items c.deref.result.now c.in-Some.place d (is_due_there c.args.key) c.index_mut.ensures.value c.deref.ensures.value c.in-Some.ensures c.requires.past)
+
+pub returns-in_err-handled-clause-stops : goal.returns-in_err-handled-clause-stops
+returns-in_err-handled-clause-stops c w e n =
     let d : Result Site Refusal = c.index_mut.result.now in
     let key = c.args.key in
     let refusal : Refusal = c.in_err-handled.field-0.0 in
     let f : Found key w c.args.sites.now.items c.in-Some.place d = found key w c.args.sites.now.items c.deref.result.now c.in-Some.place d e c.deref.ensures.value c.index_mut.ensures.value c.in-Some.ensures in
-    let spends : Spends refusal = ok_of (λ (site : Site). Spends refusal) d f.handles.site f.old c.in_err-handled.ensures.spends in
+    let stops : Stops (effect_of (handled key f.handles.site)) refusal = ok_of (λ (site : Site). Stops (effect_of (handled key site)) refusal) d f.handles.site f.old c.in_err-handled.ensures.stops in
     let told = err_from_is_err_and c.from_residual.result c.from_residual.ensures.1 in
-    rw (told.1, told.2) spends
+    rw (told.1, told.2) (stops_here key w f.handles.site refusal f.handles.among f.handles.counted stops)
 
-pub returns-in_err-deliver-clause-spends : goal.returns-in_err-deliver-clause-spends
-returns-in_err-deliver-clause-spends c w e n =
+pub returns-in_err-deliver-clause-stops : goal.returns-in_err-deliver-clause-stops
+returns-in_err-deliver-clause-stops c w e n =
     let d : Result Site Refusal = c.index_mut.result.now in
     let key = c.args.key in
     let f : Found key w c.args.sites.now.items c.in-Some.place d = found key w c.args.sites.now.items c.deref.result.now c.in-Some.place d e c.deref.ensures.value c.index_mut.ensures.value c.in-Some.ensures in
     let made = ok_of
     (λ (site : Site). (c.handle.new.self ≡ Ok (handled key site).site) × (c.in_ok-handled.handled.rows.items ≡ (handled key site).rows) × (c.in_ok-handled.handled.outbound.items ≡ (handled key site).sent))
     d f.handles.site f.old c.in_ok-handled.ensures.handled in
-    let spends : Spends c.in_err-deliver.field-0.0 = c.in_err-deliver.ensures.spends (changed (due_here key) (site_after key) w) (f.left c.handle.new.self made.0) (numbered_after key 0 w n) in
+    let memory : c.in_err-deliver.field-0.0 ≡ Memory = c.in_err-deliver.ensures.memory_only (changed (due_here key) (site_after key) w) (f.left c.handle.new.self made.0) (numbered_after key 0 w n) in
     let told = err_from_is_err_and c.from_residual-in_err-deliver.result c.from_residual-in_err-deliver.ensures.1 in
-    rw (told.1, told.2) spends
+    rw (told.1, told.2, memory) tt

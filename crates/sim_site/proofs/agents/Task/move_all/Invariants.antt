@@ -1,4 +1,4 @@
-use Rattle.std.proofs.Common.{◌≡◌}
+use Rattle.std.proofs.Common.{length, ◌+◌, ◌≡◌}
 use Rattle.sqs_model.specs.Site.{Core, number_of}
 use Rattle.sqs_model.specs.Step.{moves}
 use Rattle.sim_site.specs.Steps.{IsKept, MoveRemains}
@@ -10,4 +10,5 @@ invariant-loop-to l =
     record {
       moved : (c : Core) → number_of c ≡ l.site → MoveRemains l.initial.effects l.effects (moves l.key c l.self l.to-iterator.rest.items) (moves l.key c l.initial.self l.fn.loads.items);
       kept : IsKept l.initial.self l.self;
+      counted : l.self.sent + length l.to-iterator.rest.items ≡ l.initial.self.sent + length l.fn.loads.items;
     }

@@ -1,7 +1,10 @@
-use Rattle.std.proofs.Common.{ap, arith, length, ◌≡◌, ◌∙◌}
+use Rattle.std.proofs.Common.{ap, arith, length, sym, ◌+◌, ◌≡◌, ◌≤◌, ◌∙◌}
+use Rattle.sqs_model.specs.Answers.{most_count}
 use Rattle.sqs_model.specs.Task.{Task}
 use Rattle.sqs_redrive.specs.MoveTasks.{MoveTask}
 use Rattle.sim_site.specs.Steps.{task_after}
+use Rattle.sim_site.proofs.Limiting.{after_passes, steps_pass}
+use Rattle.sim_site.proofs.Passing.{stops_up}
 use Rattle.sim_site.proofs.Stepping.{did_step}
 use Rattle.sim_site.proofs.agents.Task.step.Goals as goal
 
@@ -15,3 +18,30 @@ returns-clause-stepped c =
     let counted : c.len-taken.result ≡ length c.args.loads.items = omega (arith, c.len-taken.ensures, c.args.loads.ok.0) in
     did_step c.tell_end.result c.args.effects.now c.move_all.new.effects c.tell_end.new.effects c.args.key c.args.site c.len-taken.result c.args.self.now c.move_all.new.self after
     c.args.loads.items c.args.rest c.in_ok-move_all.ensures.moved e counted c.tell_end.ensures.rows c.tell_end.ensures.sent
+
+pub returns-then-steps-ge-MOST_COUNT-clause-stops : goal.returns-then-steps-ge-MOST_COUNT-clause-stops
+returns-then-steps-ge-MOST_COUNT-clause-stops c = λ core n.
+    let old : MoveTask = c.args.self.now.move in
+    let same : c.self.inside.movement ≡ old = ap (λ (t : Task). t.move) c.self.view_is in
+    let full : most_count ≤ old.steps = omega (arith, c.if-steps-ge-MOST_COUNT.true, c.steps.ensures, ap (λ (m : MoveTask). m.steps) same) in
+    steps_pass c.args.key core c.args.self.now c.args.loads.items c.args.rest full
+
+pub returns-in_err-move_all-clause-stops : goal.returns-in_err-move_all-clause-stops
+returns-in_err-move_all-clause-stops c =
+    stops_up _ _ c.from_residual.result c.in_err-move_all.field-0.0 c.from_residual.ensures.1 (λ h core n. after_passes c.args.key core c.args.self.now c.args.loads.items c.args.rest (h core n)) c.in_err-move_all.ensures.stops
+
+pub step-requires-clause-steps : goal.step-requires-clause-steps
+step-requires-clause-steps c =
+    let same : c.self-2.inside.movement ≡ c.self.inside.movement = ap (λ (t : Task). t.move) c.self-2.view_is ∙ c.in_ok-move_all.ensures.kept.move ∙ ap (λ (t : Task). t.move) (sym c.self.view_is) in
+    omega (arith, c.if-steps-ge-MOST_COUNT.false, c.steps.ensures, ap (λ (m : MoveTask). m.steps) same)
+
+pub invariant_of-self : goal.invariant_of-self
+invariant_of-self c =
+    let same : c.self-2.inside.movement ≡ c.self.inside.movement = ap (λ (t : Task). t.move) c.self-2.view_is ∙ c.in_ok-move_all.ensures.kept.move ∙ ap (λ (t : Task). t.move) (sym c.self.view_is) in
+    let before : c.self-2.inside.movement.moved ≡ c.self.inside.movement.moved = ap (λ (m : MoveTask). m.moved) same in
+    let moved : c.step.new.self.moved ≡ c.self-2.inside.movement.moved + c.len-taken.result = ap (λ (m : MoveTask). m.moved) c.step.ensures in
+    let sent : c.self-2.inside.sent ≡ c.args.self.now.sent + length c.args.loads.items = ap (λ (t : Task). t.sent) c.self-2.view_is ∙ c.in_ok-move_all.ensures.counted in
+    let old : c.self.inside.sent ≡ c.args.self.now.sent = ap (λ (t : Task). t.sent) c.self.view_is in
+    let counted : c.len-taken.result ≡ length c.args.loads.items = omega (arith, c.len-taken.ensures, c.args.loads.ok.0) in
+    let most : c.self.inside.movement.moved ≤ c.self.inside.sent = c.self.invariant.0 in
+    (omega (arith, before, moved, sent, old, counted, most), c.self-2.invariant.1)

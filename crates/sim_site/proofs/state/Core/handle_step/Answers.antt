@@ -1,10 +1,36 @@
-use Rattle.std.proofs.Common.{subst, sym}
-use Rattle.sqs_model.specs.Site.{Core}
-use Rattle.sim_site.specs.Due.{StepIsDue}
+use Rattle.sqs_model.specs.Limits.{PassesCount}
+use Rattle.std.specs.Prelude.{IfErr, List, Some}
+use Rattle.std.proofs.Common.{ap, subst, sym, ◌≡◌, ◌∙◌}
+use Rattle.sqs_redrive.specs.declared.settings.TaskSettings.{TaskSettings}
+use Rattle.sqs_model.specs.Places.{Stands}
+use Rattle.sqs_model.specs.Queue.{Queue}
+use Rattle.sqs_model.specs.Step.{handle_step}
+use Rattle.sqs_model.specs.Task.{Task, take_movable}
+use Rattle.sim_site.specs.Effects.{Stops}
+use Rattle.sim_site.proofs.Limiting.{step_limited}
+use Rattle.sim_site.proofs.Passing.{stops_if}
+use Rattle.sim_site.proofs.Rewriting.{task_at}
+use Rattle.sqs_model.specs.Dues.{core_dues}
+use Rattle.sqs_model.specs.Site.{Core, is_task, task_numbered, with_queue}
+use Rattle.sim_site.specs.Due.{IsAmong}
 use Rattle.sim_site.specs.contracts.state.Core.{the_view}
 use Rattle.sim_site.proofs.Due.{due_runs}
 use Rattle.sim_site.proofs.state.Core.handle_step.Goals as goal
 
 pub step_at-requires-clause-running : goal.step_at-requires-clause-running
 step_at-requires-clause-running c =
-    due_runs (the_view c.self.inside) c.args.key c.self.invariant.0.numbered c.requires.class (subst (λ (x : Core). StepIsDue x c.args.key) (sym c.self.view_is) c.requires.due)
+    due_runs (the_view c.self.inside) c.args.key c.self.invariant.0.numbered c.requires.class (subst (λ (x : Core). IsAmong (core_dues x) c.args.key) (sym c.self.view_is) c.requires.due)
+
+pub returns-clause-stops : goal.returns-clause-stops
+returns-clause-stops c =
+    let core : Core = the_view c.self.inside in
+    let q : Queue = c.take_movable.new.self in
+    let t : Task = c.index.result.now in
+    let stands = subst (λ (ts : List Task). Stands (is_task c.args.key.agent) ts c.in-Some.place) c.deref.ensures.value c.in-Some.ensures in
+    let found : task_numbered c.args.key.agent core ≡ Some t = task_at c.args.key.agent core.tasks c.in-Some.place stands t c.index.ensures in
+    let taken : take_movable core.queue t.move.settings.per_second t.move.settings.to ≡ ((c.in_ok-loads.loads.items, c.in_ok-loads.rest), q) =
+    ap (λ (s : TaskSettings). take_movable core.queue s.per_second s.to) (sym c.settings-settings.ensures) ∙ c.in_ok-loads.ensures.taken in
+    let site = c.in_ok-loads.ensures.framed.site ∙ sym c.site-site.ensures in
+    subst (λ (x : Core). IfErr c.step_at.result (Stops (handle_step c.args.key x (task_numbered c.args.key.agent x)))) c.self.view_is
+    (stops_if _ (PassesCount (handle_step c.args.key core (task_numbered c.args.key.agent core))) c.step_at.result
+    (λ h. step_limited c.args.key core t c.in_ok-loads.loads.items c.in_ok-loads.rest q found taken (h (with_queue core q) t site found)) c.step_at.ensures.stops)

@@ -1,5 +1,9 @@
+use Rattle.sqs_model.specs.Limits.{PassesCount}
 use Rattle.std.proofs.Common.{refl, sym, ◌∙◌}
 use Rattle.sim_site.specs.contracts.state.Core.{the_view}
+use Rattle.sqs_model.specs.Acts.{receive_none}
+use Rattle.sim_site.proofs.Limiting.{polls_pass}
+use Rattle.sim_site.proofs.Passing.{stops_up}
 use Rattle.sim_site.proofs.Waiting.{finds_nothing, waits_on}
 use Rattle.sim_site.proofs.state.Core.receive_none.Goals as goal
 
@@ -14,3 +18,9 @@ returns-clause-did c = λ a e.
     rw (← c.self.view_is)
     (λ f. waits_on c.args.key a (the_view c.self.inside) c.args.effects.now c.say-2.new.self c.args.agent c.args.max c.args.wait c.args.timeout c.receive_row-2.result e c.in_ok-say-2.ensures.rows c.in_ok-say-2.ensures.sent
     c.polled_at.new.actors.items c.push.new.self.items _ c.in_ok-number.number f c.in_ok-number.ensures.polled c.if-wait-eq0.false c.in_ok-push.ensures.items refl (c.receive_row-2.ensures (the_view c.self.inside) (sym c.site-site.ensures)))
+
+pub returns-in_err-number-clause-stops : goal.returns-in_err-number-clause-stops
+returns-in_err-number-clause-stops c = λ a e.
+    rw (← c.self.view_is)
+    (λ f. stops_up _ (PassesCount (receive_none c.args.key a (the_view c.self.inside) c.args.max c.args.wait c.args.timeout).effect) c.from_residual-in_err-number.result c.in_err-number.field-0.0 c.from_residual-in_err-number.ensures.1
+    (λ h. polls_pass c.args.key (the_view c.self.inside) c.args.agent c.args.max c.args.wait c.args.timeout a e f c.if-wait-eq0.false (h a f)) c.in_err-number.ensures.stops)

@@ -3,7 +3,7 @@ use Rattle.sqs_model.specs.Run.{Run}
 use Rattle.sqs_model.specs.Scenario.{Scenario, opening}
 use Rattle.sqs_model.specs.Site.{Site}
 use Rattle.sim_windows.specs.Worlds.{IsWorld, alive, living}
-use Rattle.sim_windows.proofs.Openings.{Opens, opens, whole_of}
+use Rattle.sim_windows.proofs.Openings.{Opens, has_queues, opens, whole_of}
 use Rattle.sim_windows.proofs.Places.{living_alive}
 use Rattle.sim_windows.proofs.world.World.open.Goals as goal
 
@@ -28,3 +28,6 @@ returns-clause-opened c =
     let sites : c.in_ok-sites.sites.items ≡ map alive (opening s) = c.in_ok-sites.ensures.opened s refl refl (sym c.as_slice.ensures.value) o.settled in
     let run : List Site → Run = λ w. record { sites = w; rows = [] } in
     c.new.ensures ∙ ap (λ xs. run (living xs)) sites ∙ ap run (living_alive (opening s)) ∙ ap (λ w. run (opening w)) parts.ensures.value
+
+pub returns-clause-has_queues : goal.returns-clause-has_queues
+returns-clause-has_queues c = has_queues c.args.scenario c.into_parts-parts.ensures.range
