@@ -22,7 +22,7 @@ use std::marker::Model;
 const MOST_COUNT: u64 = 4_611_686_018_427_387_903;
 
 /// What a consumer did last.
-#[derive(Clone, Copy, Debug, PartialEq, Eq)]
+#[derive(Clone, Copy)]
 enum Stage {
     /// It asked for messages.
     Asked,

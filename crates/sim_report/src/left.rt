@@ -9,7 +9,7 @@ use sqs_model::FinalMessage;
 use std::alloc::{AllocError, Global};
 
 /// How many messages of a queue are where at the end.
-#[derive(Clone, Copy, Debug, PartialEq, Eq)]
+#[derive(Clone, Copy)]
 pub(crate) struct Left {
     pub(crate) visible: u64,
     pub(crate) in_flight: u64,

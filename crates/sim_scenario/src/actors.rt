@@ -24,7 +24,7 @@ use std::alloc::Global;
 use toml::{Table, Value};
 
 /// The kinds of actor.
-#[derive(Clone, Copy, Debug, PartialEq, Eq)]
+#[derive(Clone, Copy)]
 pub(crate) enum ActorKind {
     Script,
     Producer,

@@ -1,72 +1,52 @@
 //! A consumer of a scenario's text.
-ghost use Rattle.std.specs.Prelude.{◌≡◌, ◌++◌, map};
+ghost use Rattle.std.specs.Prelude.{◌≡◌, ◌++◌, codes, map};
 ghost use Rattle.toml.specs.View.{table_view};
 ghost use Rattle.sqs_formats.specs.Actors.{actor_keys, consumer_keys, forward_keys};
+ghost use Rattle.sqs_formats.specs.Keys.{has, only};
+ghost use Rattle.sqs_formats.specs.Reading.{answer};
 ghost use Rattle.sim_scenario.specs.Gives.{Gives, table as the_table};
 ghost use Rattle.sim_scenario.specs.ActorWalks.{consumer_walk, forward_by, forwarding_walk};
 
 use crate::fault::ReadError;
-use crate::keys::{integer_or, known_keys, maybe_integer, required_integer};
+use crate::keys::{ACTOR_KEYS, integer_or, known_keys, maybe_integer, required_integer};
 use crate::kin::kin_named;
 use crate::outline::Outline;
-use crate::queues::{has, latency};
+use crate::queues::{has, latency, latency_keys};
 use sqs_model::{ConsumerSettings, Forwarding, Role};
 use std::alloc::Global;
 use toml::Table;
 
-/// The keys that a consumer may have.
-fn consumer_keys(version: u64, forwards: bool) -> &'static [&'static str]
-    ensures { map (λ k. k.now) result.now ≡ actor_keys ++ (consumer_keys ++ forward_keys version forwards) }
+/// The keys of every consumer.
+const CONSUMER_KEYS: &[&str] = &[
+    "start_ms",
+    "batch",
+    "wait_s",
+    "timeout_s",
+    "service_min_ms",
+    "service_max_ms",
+    "fail_permille",
+    "idle_ms",
+    "forward",
+];
+
+/// The keys that a consumer has with its forward.
+fn forward_keys(version: u64, forwards: bool) -> &'static [&'static str]
+    ensures { map (λ k. k.now) result.now ≡ forward_keys version forwards }
 {
-    if !forwards {
-        &[
-            "name",
-            "kind",
-            "queue",
-            "start_ms",
-            "batch",
-            "wait_s",
-            "timeout_s",
-            "service_min_ms",
-            "service_max_ms",
-            "fail_permille",
-            "idle_ms",
-            "forward",
-        ]
-    } else if version == 2 {
-        &[
-            "name",
-            "kind",
-            "queue",
-            "start_ms",
-            "batch",
-            "wait_s",
-            "timeout_s",
-            "service_min_ms",
-            "service_max_ms",
-            "fail_permille",
-            "idle_ms",
-            "forward",
-            "latency_min_ms",
-            "latency_max_ms",
-        ]
-    } else {
-        &[
-            "name",
-            "kind",
-            "queue",
-            "start_ms",
-            "batch",
-            "wait_s",
-            "timeout_s",
-            "service_min_ms",
-            "service_max_ms",
-            "fail_permille",
-            "idle_ms",
-            "forward",
-            "latency_ms",
-        ]
-    }
+    if forwards { latency_keys(version) } else { &[] }
+}
+
+/// Finds the first key that a consumer should not have.
+fn known_consumer_keys(
+    alloc: Global,
+    version: u64,
+    table: &Table,
+    place: &str,
+) -> Result<(), ReadError>
+    ensures { Gives (λ u. u) result (answer (only (actor_keys ++ (consumer_keys ++ forward_keys version (has (the_table place.now (table_view table.now)) (codes "forward")))) (the_table place.now (table_view table.now)))) }
+{
+    let forward = forward_keys(version, has(table, "forward"));
+    known_keys(alloc, table, place, &[ACTOR_KEYS, CONSUMER_KEYS, forward])
 }
 
 /// Where a consumer forwards to.
@@ -114,8 +94,7 @@ pub(crate) fn consumer(
 ) -> Result<Role, ReadError>
     ensures { Gives (λ c. c) result (consumer_walk outline.now home (the_table place.now (table_view table.now))) }
 {
-    let known = consumer_keys(outline.version(), has(table, "forward"));
-    known_keys(alloc, table, place, known)?;
+    known_consumer_keys(alloc, outline.version(), table, place)?;
     let start = integer_or(alloc, table, place, "start_ms", 0, 2_592_000_000, 0)?;
     let batch = integer_or(alloc, table, place, "batch", 1, 10, 1)?;
     let wait = integer_or(alloc, table, place, "wait_s", 0, 20, 0)?;

@@ -1,6 +1,6 @@
 //! The values at the keys of a table.
 ghost use Rattle.std.specs.Prelude.{◌≡◌, ◌≤◌, ◌++◌, IfOk, map, option_map};
-ghost use Rattle.std.specs.List.{list_any};
+ghost use Rattle.std.specs.List.{flat_map, list_any};
 ghost use Rattle.std.specs.Str.{bytes_eq};
 ghost use Rattle.toml.specs.Data.{get_member};
 ghost use Rattle.toml.specs.View.{view, table_view};
@@ -179,21 +179,31 @@ pub(crate) fn boolean_or(
     }
 }
 
+/// The keys of every actor.
+pub(crate) const ACTOR_KEYS: &[&str] = &["name", "kind", "queue"];
+
 /// Whether the list has a key.
-fn is_known(known: &[&str], key: &str) -> bool
-    ensures { result ≡ list_any (λ k. bytes_eq k.now key.now) known.now }
+fn is_listed(keys: &[&str], key: &str) -> bool
+    ensures { result ≡ list_any (λ k. bytes_eq k.now key.now) keys.now }
 {
-    known.iter().any(|k| *k == key)
+    keys.iter().any(|k| *k == key)
 }
 
-/// Finds the first key, in the order of their bytes, that a table should not have.
+/// Whether one of the lists has a key.
+fn is_known(known: &[&[&str]], key: &str) -> bool
+    ensures { result ≡ list_any (λ ks. list_any (λ k. bytes_eq k.now key.now) ks.now) known.now }
+{
+    known.iter().any(|keys| is_listed(keys, key))
+}
+
+/// Finds the first key, in the order of their bytes, that a table should not have: one that is in none of the lists.
 pub(crate) fn known_keys(
     alloc: Global,
     table: &Table,
     place: &str,
-    known: &[&str],
+    known: &[&[&str]],
 ) -> Result<(), ReadError>
-    ensures { Gives (λ u. u) result (answer (only (map (λ k. k.now) known.now) (the_table place.now (table_view table.now)))) }
+    ensures { Gives (λ u. u) result (answer (only (flat_map (λ ks. map (λ k. k.now) ks.now) known.now) (the_table place.now (table_view table.now)))) }
 {
     for key in table.keys() {
         if !is_known(known, key.as_str()) {

@@ -20,8 +20,6 @@ mod scenario;
 mod script;
 mod script_files;
 mod scripted;
-#[cfg(test)]
-mod tests;
 mod top;
 
 pub use edges::least_latency;

@@ -2,7 +2,7 @@
 ghost use Rattle.std.specs.Prelude.{◌≡◌, ◌<◌, ◌≤◌, codes, map, length};
 ghost use Rattle.toml.specs.View.{table_view, view};
 ghost use Rattle.sqs_formats.specs.Reading.{answer};
-ghost use Rattle.sqs_formats.specs.Keys.{each};
+ghost use Rattle.sqs_formats.specs.Keys.{each, only};
 ghost use Rattle.sqs_formats.specs.Queues.{dead_letter as the_dead_letter, queue as the_queue};
 ghost use Rattle.sqs_formats.specs.Tasks.{task as the_task, task_keys};
 ghost use Rattle.sim_scenario.specs.Gives.{Gives, table as the_table};
@@ -13,7 +13,7 @@ use crate::items::item_table;
 use crate::keys::{integer_or, known_keys};
 use crate::kin::{maybe_other_kin, source_named};
 use crate::outline::Outline;
-use crate::queues::{agent_name, latency, queue};
+use crate::queues::{agent_name, latency, latency_keys, queue};
 use sqs_message::Text;
 use sqs_redrive::{QueueSettings, TaskSettings};
 use std::alloc::Global;
@@ -49,8 +49,7 @@ fn task(
     let number = outline.queue_count() + outline.actor_count() + index;
     let name = agent_name(alloc, outline, number, table, place)?;
     let home = source_named(alloc, outline, table, place, "queue")?;
-    let known = task_keys(outline.version());
-    known_keys(alloc, table, place, known)?;
+    known_task_keys(alloc, outline.version(), table, place)?;
     let to = maybe_other_kin(alloc, outline, home, table, place, "to")?;
     let per_second = integer_or(alloc, table, place, "per_second", 1, 500, 500)?;
     let latency = latency(alloc, outline.version(), table, place)?;
@@ -63,22 +62,15 @@ fn task(
     Ok((name, settings))
 }
 
-/// The keys that a move task may have.
-fn task_keys(version: u64) -> &'static [&'static str]
-    ensures { map (λ k. k.now) result.now ≡ task_keys version }
+/// The keys of every move task.
+const TASK_KEYS: &[&str] = &["name", "queue", "to", "per_second"];
+
+/// Finds the first key that a move task should not have.
+fn known_task_keys(alloc: Global, version: u64, table: &Table, place: &str) -> Result<(), ReadError>
+    ensures { Gives (λ u. u) result (answer (only (task_keys version) (the_table place.now (table_view table.now)))) }
 {
-    if version == 2 {
-        &[
-            "name",
-            "queue",
-            "to",
-            "per_second",
-            "latency_min_ms",
-            "latency_max_ms",
-        ]
-    } else {
-        &["name", "queue", "to", "per_second", "latency_ms"]
-    }
+    let latency = latency_keys(version);
+    known_keys(alloc, table, place, &[TASK_KEYS, latency])
 }
 
 /// The queue of an item.

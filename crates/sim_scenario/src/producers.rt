@@ -3,7 +3,7 @@ ghost use Rattle.std.specs.Prelude.{◌≡◌, ◌++◌, IfOk, codes, length, ma
 ghost use Rattle.toml.specs.View.{table_view};
 ghost use Rattle.sim_clock.specs.declared.refusal.Refusal.TheVariants.{OutOfRange};
 ghost use Rattle.sqs_formats.specs.Reading.{answer, needs};
-ghost use Rattle.sqs_formats.specs.Keys.{fault_at};
+ghost use Rattle.sqs_formats.specs.Keys.{fault_at, only};
 ghost use Rattle.sqs_formats.specs.Actors.{actor_keys, is_producer_body, producer_keys, sending_keys};
 ghost use Rattle.sqs_model.specs.Actor.{filled};
 ghost use Rattle.sim_scenario.specs.Gives.{Gives, table as the_table};
@@ -11,7 +11,7 @@ ghost use Rattle.sim_scenario.specs.ActorWalks.{body_walk, fifo_sending_walk, ha
 
 use crate::fault::{ReadError, blame};
 use crate::keys::{
-    boolean_or, integer_or, known_keys, maybe_integer, required_integer, required_text,
+    ACTOR_KEYS, boolean_or, integer_or, known_keys, maybe_integer, required_integer, required_text,
 };
 use sim_clock::Refusal;
 use sqs_message::Text;
@@ -19,36 +19,31 @@ use sqs_model::{ProducerSettings, Role};
 use std::alloc::{AllocError, Global};
 use toml::Table;
 
-/// The keys that a producer may have.
-fn producer_keys(is_fifo: bool) -> &'static [&'static str]
-    ensures { map (λ k. k.now) result.now ≡ actor_keys ++ (producer_keys ++ sending_keys is_fifo) }
+/// The keys of every producer.
+const PRODUCER_KEYS: &[&str] = &["count", "start_ms", "gap_min_ms", "gap_max_ms", "body"];
+
+/// The keys that only a producer at a home of this kind has.
+fn sending_keys(is_fifo: bool) -> &'static [&'static str]
+    ensures { map (λ k. k.now) result.now ≡ sending_keys is_fifo }
 {
     if is_fifo {
-        &[
-            "name",
-            "kind",
-            "queue",
-            "count",
-            "start_ms",
-            "gap_min_ms",
-            "gap_max_ms",
-            "body",
-            "groups",
-            "ids",
-        ]
+        &["groups", "ids"]
     } else {
-        &[
-            "name",
-            "kind",
-            "queue",
-            "count",
-            "start_ms",
-            "gap_min_ms",
-            "gap_max_ms",
-            "body",
-            "delay_s",
-        ]
+        &["delay_s"]
     }
+}
+
+/// Finds the first key that a producer should not have.
+fn known_producer_keys(
+    alloc: Global,
+    is_fifo: bool,
+    table: &Table,
+    place: &str,
+) -> Result<(), ReadError>
+    ensures { Gives (λ u. u) result (answer (only (actor_keys ++ (producer_keys ++ sending_keys is_fifo)) (the_table place.now (table_view table.now)))) }
+{
+    let own = sending_keys(is_fifo);
+    known_keys(alloc, table, place, &[ACTOR_KEYS, PRODUCER_KEYS, own])
 }
 
 /// What a producer has at a FIFO home alone.
@@ -172,7 +167,7 @@ pub(crate) fn producer(
 ) -> Result<Role, ReadError>
     ensures { Gives (λ p. p) result (producer_walk is_fifo (the_table place.now (table_view table.now))) }
 {
-    known_keys(alloc, table, place, producer_keys(is_fifo))?;
+    known_producer_keys(alloc, is_fifo, table, place)?;
     let count = required_integer(alloc, table, place, "count", 1, 1_000_000)?;
     let start = integer_or(alloc, table, place, "start_ms", 0, 2_592_000_000, 0)?;
     let gap_min = required_integer(alloc, table, place, "gap_min_ms", 1, 86_400_000)?;

@@ -4,7 +4,7 @@ ghost use Rattle.toml.specs.View.{table_view};
 ghost use Rattle.sqs_formats.specs.Reading.{answer};
 ghost use Rattle.sqs_formats.specs.Keys.{has, one_of, optional, only};
 ghost use Rattle.sqs_formats.specs.Names.{is_agent_name, is_queue_name};
-ghost use Rattle.sqs_formats.specs.Queues.{queue_keys, scopes_named};
+ghost use Rattle.sqs_formats.specs.Queues.{kind_keys, latency_keys, policy_keys, queue_keys, scopes_named};
 ghost use Rattle.sqs_redrive.specs.declared.settings.Scope.TheVariants as scopes;
 ghost use Rattle.sim_scenario.specs.Gives.{Gives, table as the_table};
 ghost use Rattle.sim_scenario.specs.Walks.{fifo_walk, fresh_walk, kind_by, latency_by, leading_walk, name_walk, one_latency_walk, policy_by, queue_walk, settings_walk, standard_walk, two_bounds_walk};
@@ -247,89 +247,68 @@ fn settings(
     Ok((name, settings))
 }
 
-/// The keys that a queue may have.
-fn queue_keys(version: u64, is_fifo: bool, leads: bool) -> &'static [&'static str]
-    ensures { map (λ k. k.now) result.now ≡ queue_keys version is_fifo leads }
+/// The keys of every queue.
+const QUEUE_KEYS: &[&str] = &[
+    "name",
+    "visibility_s",
+    "delay_s",
+    "retention_s",
+    "in_flight",
+    "dead_letter",
+];
+
+/// The keys that only a queue of this kind has.
+fn kind_keys(is_fifo: bool) -> &'static [&'static str]
+    ensures { map (λ k. k.now) result.now ≡ kind_keys is_fifo }
 {
     if is_fifo {
-        if !leads {
-            &[
-                "name",
-                "visibility_s",
-                "delay_s",
-                "retention_s",
-                "in_flight",
-                "dead_letter",
-                "content_dedup",
-                "dedup_scope",
-            ]
-        } else if version == 2 {
-            &[
-                "name",
-                "visibility_s",
-                "delay_s",
-                "retention_s",
-                "in_flight",
-                "dead_letter",
-                "content_dedup",
-                "dedup_scope",
-                "max_receives",
-                "latency_min_ms",
-                "latency_max_ms",
-            ]
-        } else {
-            &[
-                "name",
-                "visibility_s",
-                "delay_s",
-                "retention_s",
-                "in_flight",
-                "dead_letter",
-                "content_dedup",
-                "dedup_scope",
-                "max_receives",
-                "latency_ms",
-            ]
-        }
-    } else if !leads {
-        &[
-            "name",
-            "visibility_s",
-            "delay_s",
-            "retention_s",
-            "in_flight",
-            "dead_letter",
-            "hosts",
-            "sampled",
-        ]
-    } else if version == 2 {
-        &[
-            "name",
-            "visibility_s",
-            "delay_s",
-            "retention_s",
-            "in_flight",
-            "dead_letter",
-            "hosts",
-            "sampled",
-            "max_receives",
-            "latency_min_ms",
-            "latency_max_ms",
-        ]
+        &["content_dedup", "dedup_scope"]
     } else {
-        &[
-            "name",
-            "visibility_s",
-            "delay_s",
-            "retention_s",
-            "in_flight",
-            "dead_letter",
-            "hosts",
-            "sampled",
-            "max_receives",
-            "latency_ms",
-        ]
+        &["hosts", "sampled"]
     }
+}
+
+/// The keys of a latency in a version.
+pub(crate) fn latency_keys(version: u64) -> &'static [&'static str]
+    ensures { map (λ k. k.now) result.now ≡ latency_keys version }
+{
+    if version == 2 {
+        &["latency_min_ms", "latency_max_ms"]
+    } else {
+        &["latency_ms"]
+    }
+}
+
+/// The keys that a queue has with its dead-letter queue.
+fn policy_keys(version: u64, leads: bool) -> &'static [&'static str]
+    ensures { map (λ k. k.now) result.now ≡ policy_keys version leads }
+{
+    if !leads {
+        &[]
+    } else if version == 2 {
+        &["max_receives", "latency_min_ms", "latency_max_ms"]
+    } else {
+        &["max_receives", "latency_ms"]
+    }
+}
+
+/// Finds the first key that a queue should not have.
+fn known_queue_keys(
+    alloc: Global,
+    version: u64,
+    is_fifo: bool,
+    table: &Table,
+    place: &str,
+) -> Result<(), ReadError>
+    ensures { Gives (λ u. u) result (answer (only (queue_keys version is_fifo (has (the_table place.now (table_view table.now)) (codes "dead_letter"))) (the_table place.now (table_view table.now)))) }
+{
+    let policy = policy_keys(version, has(table, "dead_letter"));
+    known_keys(
+        alloc,
+        table,
+        place,
+        &[QUEUE_KEYS, kind_keys(is_fifo), policy],
+    )
 }
 
 /// A queue of a text: its name and its settings.
@@ -345,7 +324,6 @@ pub(crate) fn queue(
 {
     let name = queue_name(alloc, outline, number, table, place)?;
     let is_fifo = is_fifo(name.as_bytes());
-    let known = queue_keys(outline.version(), is_fifo, has(table, "dead_letter"));
-    known_keys(alloc, table, place, known)?;
+    known_queue_keys(alloc, outline.version(), is_fifo, table, place)?;
     settings(alloc, outline, name, table, place)
 }

@@ -1,14 +1,15 @@
 //! An actor of a scenario's text that follows a script.
-ghost use Rattle.std.specs.Prelude.{◌≡◌, ◌++◌, find, map, option_map};
+ghost use Rattle.std.specs.Prelude.{◌≡◌, ◌++◌, codes, find, map, option_map};
 ghost use Rattle.std.specs.Str.{bytes_eq};
 ghost use Rattle.toml.specs.View.{table_view};
 ghost use Rattle.sqs_formats.specs.Reading.{answer};
+ghost use Rattle.sqs_formats.specs.Keys.{has, only};
 ghost use Rattle.sqs_formats.specs.Actors.{actor_keys, calls_in, file_when, script_fault, script_keys};
 ghost use Rattle.sim_scenario.specs.Gives.{Gives, Names, table as the_table};
 ghost use Rattle.sim_scenario.specs.ActorWalks.{calls_either, file_calls_walk, own_calls_walk, scripted_walk};
 
 use crate::fault::{ReadError, blame};
-use crate::keys::{known_keys, required_text};
+use crate::keys::{ACTOR_KEYS, known_keys, required_text};
 use crate::names::is_script_name;
 use crate::outline::Outline;
 use crate::queues::has;
@@ -149,15 +150,23 @@ fn calls(
     }
 }
 
-/// The keys that an actor may have that follows a script.
+/// The keys of an actor that follows a script.
 fn script_keys(has_calls: bool) -> &'static [&'static str]
-    ensures { map (λ k. k.now) result.now ≡ actor_keys ++ script_keys has_calls }
+    ensures { map (λ k. k.now) result.now ≡ script_keys has_calls }
 {
     if has_calls {
-        &["name", "kind", "queue", "calls"]
+        &["calls"]
     } else {
-        &["name", "kind", "queue", "calls", "script"]
+        &["calls", "script"]
     }
+}
+
+/// Finds the first key that an actor should not have that follows a script.
+fn known_script_keys(alloc: Global, table: &Table, place: &str) -> Result<(), ReadError>
+    ensures { Gives (λ u. u) result (answer (only (actor_keys ++ script_keys (has (the_table place.now (table_view table.now)) (codes "calls"))) (the_table place.now (table_view table.now)))) }
+{
+    let own = script_keys(has(table, "calls"));
+    known_keys(alloc, table, place, &[ACTOR_KEYS, own])
 }
 
 /// An actor that follows a script.
@@ -172,8 +181,7 @@ pub(crate) fn scripted(
 ) -> Result<Role, ReadError>
     ensures { Gives (λ r. r) result (scripted_walk scripts.now outline.now home (the_table place.now (table_view table.now))) }
 {
-    let known = script_keys(has(table, "calls"));
-    known_keys(alloc, table, place, known)?;
+    known_script_keys(alloc, table, place)?;
     let home = match outline.home(alloc, home) {
         Ok(home) => home,
         Err(_) => return Err(ReadError::Memory),

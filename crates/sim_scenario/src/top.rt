@@ -89,20 +89,18 @@ fn agent_list<'a>(
     }
 }
 
+/// The keys of the top table.
+const TOP_KEYS: &[&str] = &[
+    "version", "horizon", "seed", "sample", "queue", "actor", "task",
+];
+
 /// What the top table says.
 #[tactic(auto, unfolding(crate::specs::TopWalks::top_walk, crate::specs::Walk::and_then))]
 pub(crate) fn top_table<'a>(alloc: Global, table: &'a Table) -> Result<Top<'a>, ReadError>
     ensures value { Gives top_view result (top_walk (the_table [] (table_view table.now))) }
     ensures few { IfOk result (λ t. length t.queues.now + length t.actors.now + length t.tasks.now ≤ 11000) }
 {
-    known_keys(
-        alloc,
-        table,
-        "",
-        &[
-            "version", "horizon", "seed", "sample", "queue", "actor", "task",
-        ],
-    )?;
+    known_keys(alloc, table, "", &[TOP_KEYS])?;
     let version = required_integer(alloc, table, "", "version", 1, 2)?;
     let horizon = required_integer(alloc, table, "", "horizon", 1, 2_592_000_000)?;
     let seed = integer_or(alloc, table, "", "seed", 0, 9_223_372_036_854_775_807, 0)?;

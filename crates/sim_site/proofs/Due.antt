@@ -1,15 +1,12 @@
 -- What is known of a key that is due, by its class: a task whose step is due runs, and a sample is due at its moment.
-use Rattle.std.specs.Prelude.{Bool, IfOk, IfSome, IsOk, List, None, Option, Result, Some, [], find, cond, false, flat_map, if◌then◌else◌, map, true, ℕ, ◌*◌, ◌+◌, ◌++◌, ◌==◌, ◌∷◌, ◌≡◌, ◌≢◌, ◌⊎◌}
-use Rattle.std.specs.Ordering.{is_lt}
+use Rattle.std.specs.Prelude.{Bool, IfSome, List, None, Option, Some, [], find, cond, false, flat_map, map, true, ℕ, ◌*◌, ◌+◌, ◌++◌, ◌==◌, ◌∷◌, ◌≡◌, ◌≢◌, ◌⊎◌}
 use Rattle.std.proofs.Common.{ap, arith, inl, inr, refl, subst, sym, ◌∙◌}
-use Rattle.std.proofs.lemmas.Bool.{false≢true}
 use Rattle.std.proofs.lemmas.Bool.Decides.{nat_tests}
 use Rattle.std.proofs.lemmas.List.Elements.{All-head, All-tail}
 use Rattle.sqs_redrive.specs.declared.transfers.Outbound.{Outbound}
 use Rattle.sim_clock.specs.declared.key.Class.{Class}
 use Rattle.sim_clock.specs.declared.key.Class.TheVariants.{Arrival, Expiry, PollEnd, Release, Sample, Step, Wake}
 use Rattle.sim_clock.specs.declared.key.Key.{Key}
-use Rattle.sim_clock.specs.Order.{key_cmp, least, lesser}
 use Rattle.sim_clock.proofs.Least.{key_tied}
 use Rattle.sqs_message.specs.declared.message.Message.{Message}
 use Rattle.sqs_redrive.specs.declared.settings.TaskSettings.{TaskSettings}
@@ -17,30 +14,14 @@ use Rattle.sqs_redrive.specs.MoveTasks.{is_running}
 use Rattle.sqs_redrive.specs.Transfers.{transfer_key}
 use Rattle.sqs_model.specs.Actor.{Actor}
 use Rattle.sqs_model.specs.Acts.{runs}
-use Rattle.sqs_model.specs.Dues.{actor_dues, core_dues, dues, message_dues, poll_key, queue_dues, release_due, sample_dues, task_dues, wake_due}
+use Rattle.sqs_model.specs.Dues.{actor_dues, core_dues, dues, least_due, message_dues, poll_key, queue_dues, release_due, sample_dues, task_dues, wake_due}
 use Rattle.sqs_model.specs.Progress.{AreTimely, Ascends, WasEnqueuedBy}
 use Rattle.sqs_model.specs.Site.{Core, Site, has_key, number_of, task_numbered}
 use Rattle.sqs_model.specs.Task.{Task}
 use Rattle.sqs_model.proofs.Members.{From, In, found_by_number, in_append, in_flat, in_map}
+use Rattle.sqs_model.proofs.WorldMoves.{least_in}
 use Rattle.sim_site.specs.Due.{IsAmong}
-use Rattle.sim_clock.specs.declared.refusal.Refusal.{Refusal}
-use Rattle.sim_site.specs.Spent.{due_of, spent_or}
 use Rattle.sim_site.specs.Kept.{numbered_settings}
-
--- the least of some keys is one of them
-lesser_is : (a b : Option Key) → (lesser a b ≡ a) ⊎ (lesser a b ≡ b)
-lesser_is None b = inr refl
-lesser_is (Some a) None = inl refl
-lesser_is (Some a) (Some b) =
-    elim (is_lt (key_cmp b a)) as (λ c. ((if c then Some b else Some a) ≡ Some a) ⊎ ((if c then Some b else Some a) ≡ Some b)) [ true ↦ inr refl | false ↦ inl refl ]
-
-least_in : (ks : List Key) (k : Key) → least ks ≡ Some k → In ks k
-least_in [] k h = absurd (let e : None ≡ Some k = h in cc)
-least_in (x ∷ xs) k h =
-    elim (lesser_is (Some x) (least xs)) as (λ _. In (x ∷ xs) k) [
-      | inl i ↦ let j : Some x ≡ Some k = sym i ∙ h in let n : x ≡ k = cc in inl n
-      | inr i ↦ inr (least_in xs k (sym i ∙ h))
-    ]
 
 -- numbers that ascend among settings ascend among tasks
 tasks_ascend : (n : ℕ) (ts : List Task) → Ascends (λ (x : ℕ × TaskSettings). x.0) n (map numbered_settings ts) → Ascends (λ (t : Task). t.number) n ts
@@ -163,11 +144,9 @@ among_core key s other i =
       | inr k ↦ k
     ]
 
--- the least due of a site that may be spent, where it is no arrival
-pub spent_is_due :
-    (o : Option Refusal) (s : Site) (x : Result Site Refusal) (key : Key) → spent_or o s ≡ x → due_of x ≡ Some key → key.class ≢ Arrival → IsAmong (core_dues s.core) key
-spent_is_due None s x key v d other = among_core key s other (least_in (dues s) key (ap due_of v ∙ d))
-spent_is_due (Some e) s x key v d other = absurd (let k : None ≡ Some key = ap due_of v ∙ d in cc)
+-- the least due of a site, where it is no arrival
+pub least_is_due : (s : Site) (key : Key) → least_due s ≡ Some key → key.class ≢ Arrival → IsAmong (core_dues s.core) key
+least_is_due s key d other = among_core key s other (least_in (dues s) key d)
 
 -- the transfer that arrives was enqueued by then
 pub arrives_timely : (key : Key) (transfers : List Outbound) → AreTimely transfers → IfSome (find (has_key key) transfers) (λ t. WasEnqueuedBy key.at t.load)
@@ -179,10 +158,3 @@ arrives_timely key (o ∷ os) h =
           subst (λ n. WasEnqueuedBy n o.load) at (All-head (λ (x : Outbound). WasEnqueuedBy x.at x.load) o os h)
       | false ↦ λ e. arrives_timely key os (All-tail (λ (x : Outbound). WasEnqueuedBy x.at x.load) o os h)
     ] refl
-
--- the same of a site that may be spent
-pub spent_timely :
-    (o : Option Refusal) (s : Site) (x : Result Site Refusal) (key : Key) → spent_or o s ≡ x → IsOk x → IfOk x (λ t. AreTimely t.arriving)
-    → IfSome (find (has_key key) s.arriving) (λ t. WasEnqueuedBy key.at t.load)
-spent_timely None s x key v l h = arrives_timely key s.arriving (subst (λ y. IfOk y (λ t. AreTimely t.arriving)) (sym v) h)
-spent_timely (Some e) s x key v l h = absurd (false≢true (subst (λ (y : Result Site Refusal). IsOk y) (sym v) l))

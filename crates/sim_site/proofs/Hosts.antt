@@ -1,25 +1,16 @@
 -- The sets of hosts that short polls sample, by a table of all of them.
-use Rattle.std.proofs.Common.{◌≡◌, ℕ, zero, suc, ◌+◌, ◌<◌, ◌≤◌, ◌^◌, ◌%◌, Bool, true, false, nat_lt, ◌&&◌, ◌||◌, ◌==◌, arith, refl, subst, sym, ap, ◌∙◌}
-use Rattle.std.proofs.lemmas.Bool.{false≢true, ltb-true}
+use Rattle.std.proofs.Common.{◌≡◌, ℕ, ◌+◌, ◌<◌, ◌≤◌, ◌^◌, ◌%◌, Bool, true, false, nat_lt, ◌||◌, arith, refl, sym, ap, ◌∙◌}
+use Rattle.std.proofs.lemmas.Bool.{agree_below, agree_below_at, ltb-true}
 use Rattle.std.proofs.lemmas.List.FromFn.{sum_by-map-range_with_len_more}
 use Rattle.std.proofs.lemmas.Bool.Decides.{nat_tests}
 use Rattle.sqs_model.specs.Acts.{hosts_from}
 
+-- a test that is met by each number below one
 abbrev all_below : ℕ → (ℕ → Bool) → Bool
-all_below zero p = true
-all_below (suc n) p = p n && all_below n p
-
-both : (a b : Bool) → (a && b) ≡ true → (a ≡ true) × (b ≡ true)
-both true b h = (refl, h)
-both false b h = absurd (false≢true h)
-
-at_by : (n : ℕ) (p : ℕ → Bool) (k : ℕ) (b : Bool) → (k == n) ≡ b → k < suc n → p n ≡ true → (k < n → p k ≡ true) → p k ≡ true
-at_by n p k true e l h r = let same : k ≡ n = grind (arith, nat_tests) in subst (λ j. p j ≡ true) (sym same) h
-at_by n p k false e l h r = let other : ¬ (k ≡ n) = grind (arith, nat_tests) in r (omega arith)
+all_below n p = agree_below p (λ _. true) n
 
 at_below : (n : ℕ) (p : ℕ → Bool) (k : ℕ) → k < n → all_below n p ≡ true → p k ≡ true
-at_below zero p k l h = absurd (omega arith)
-at_below (suc n) p k l h = let t = both (p n) (all_below n p) h in at_by n p k _ refl l t.0 (λ m. at_below n p k m t.1)
+at_below n p k l h = agree_below_at p (λ _. true) n k h l
 
 abbrev fits_in : ℕ → ℕ → ℕ → Bool
 fits_in h s t = nat_lt (hosts_from h s t) 65536

@@ -8,13 +8,9 @@ use Rattle.sim_clock.specs.Order.{key_cmp_total, least, least_by, lesser, lesser
 use Rattle.sim_clock.proofs.Inserted.{before_upto, upto_before}
 use Rattle.sqs_model.specs.Dues.{actor_dues, core_dues, poll_key, queue_dues, sample_dues, task_dues}
 use Rattle.sqs_model.specs.Site.{Core}
-use Rattle.std.specs.Prelude.{is_some}
-use Rattle.std.proofs.lemmas.Bool.{false≢true}
-use Rattle.sim_clock.specs.declared.refusal.Refusal.{Refusal}
 use Rattle.sqs_redrive.specs.declared.transfers.Outbound.{Outbound}
 use Rattle.sqs_redrive.specs.Transfers.{transfer_key}
-use Rattle.sqs_model.specs.Dues.{dues}
-use Rattle.sim_site.specs.Spent.{due_of, spent_or}
+use Rattle.sqs_model.specs.Dues.{dues, least_due}
 
 not_back : (o : Ordering) → is_lt o ≡ true → is_lt (ordering_reverse o) ≡ false
 not_back Less h = refl
@@ -65,10 +61,7 @@ core_least c =
     let e : least (messages ++ ends ++ wakes ++ samples ++ steps) ≡ lesser (least (messages ++ ends ++ wakes ++ samples)) (least steps) = least_append (messages ++ ends ++ wakes ++ samples) steps in
     sym (e ∙ ap (λ k. lesser k (least steps)) (d ∙ ap (λ k. lesser k (least samples)) (b ∙ ap (λ k. lesser k (least wakes)) a)))
 
--- what is due at a site that lives
-pub due_living :
-    (spent : Option Refusal) (c : Core) (arriving : List Outbound) (k : Option Key) → is_some spent ≡ false
-    → k ≡ lesser (least (map transfer_key arriving)) (least (core_dues c)) → k ≡ due_of (spent_or spent (record { core = c; arriving = arriving }))
+-- what is due at a site, arrivals and the rest
+pub due_parts : (c : Core) (arriving : List Outbound) → lesser (least (map transfer_key arriving)) (least (core_dues c)) ≡ least_due (record { core = c; arriving = arriving })
 unfolding dues
-due_living None c arriving k h e = e ∙ sym (least_append (map transfer_key arriving) (core_dues c))
-due_living (Some r) c arriving k h e = absurd (false≢true (sym h))
+due_parts c arriving = sym (least_append (map transfer_key arriving) (core_dues c))

@@ -29,7 +29,7 @@ rows_before (x ∷ xs) ys =
     max-le (le-max_left n k) l
 
 -- greater counts pass it too
-more_passes : (a b c d : ℕ) → a ≤ c → b ≤ d → most_count < max a b → most_count < max c d
+pub more_passes : (a b c d : ℕ) → a ≤ c → b ≤ d → most_count < max a b → most_count < max c d
 more_passes a b c d h k p =
     let up : max a b ≤ max c d = max-le (omega (arith, h, le-max_left c d)) (omega (arith, k, le-max_right c d)) in omega (arith, up, p)
 
@@ -102,7 +102,7 @@ pub passes_site : (c : Core) (e : Effect) → Grows c e.core → most_count < si
 passes_site c e g p = site_passes e (site_count c) p (grown c e.core g)
 
 -- refusals
-stops_for : (L M : Type 0) (x : Refusal) → (L → M) → StopsWhere L x → StopsWhere M x
+pub stops_for : (L M : Type 0) (x : Refusal) → (L → M) → StopsWhere L x → StopsWhere M x
 stops_for L M refusals.CountLimit f h = f h
 stops_for L M refusals.Memory f h = tt
 stops_for L M x f h = h

@@ -1,6 +1,6 @@
 -- Polls: their ends, and the answers that they get.
 use Rattle.std.proofs.Common.{Bool, true, false, suc, ◌+◌, ◌<◌, Option, add-one, drop, drop-cons, get_or, length, if◌then◌else◌, ◌≡◌, ℕ, List, [], ◌∷◌, ◌++◌, refl, ap, subst, sym, ◌∙◌}
-use Rattle.std.specs.Prelude.{Err, Ok, OnOk, Result}
+use Rattle.std.specs.Prelude.{Err, IfErr, Ok, OnOk, Result}
 use Rattle.sim_clock.specs.declared.refusal.Refusal.TheVariants as refusals
 use Rattle.sqs_model.specs.Available.{all_hosts}
 use Rattle.sqs_model.specs.Queue.{Queue}
@@ -18,21 +18,33 @@ use Rattle.sqs_model.specs.Acts.{given, receive_row}
 use Rattle.sqs_model.specs.Polls.{answer_polls, can_give, poll_answered, poll_given, told, without_poll}
 use Rattle.sqs_model.specs.Site.{Core, Poll, and_then, no_effect, says}
 use Rattle.sqs_model.specs.Step.{ends_at, handle_poll_end}
-use Rattle.sim_site.specs.Effects.{Did}
+use Rattle.sim_site.specs.Effects.{Did, Stops}
 use Rattle.sim_site.proofs.Carried.{did_say, then_if}
+use Rattle.sim_site.proofs.Passing.{stops_then}
 
-pub poll_end_did :
-    (key : Key) (c d : Core) (before mid after : Effects) (r : Result (Unit {0}) Refusal) (polls : List Poll) (gots : List Got) (x : Row)
-    → polls ≡ without (ends_at key) c.polls → gots ≡ []
-    → mid.rows.items ≡ before.rows.items ++ x ∷ [] → mid.sent ≡ before.sent → x ≡ receive_row key c key.agent answers.Empty
-    → OnOk r (Did mid after d (told key key.agent (told_by.Got gots) (record c { polls = polls })))
-    → OnOk r (Did before after d (handle_poll_end key c))
-poll_end_did key c d before mid after r polls gots x left none rows sent row more =
-    let e : Core = record c { polls = without (ends_at key) c.polls } in
-    let same : told key key.agent (told_by.Got gots) (record c { polls = polls }) ≡ told key key.agent (told_by.Got []) e =
-    ap (λ g. told key key.agent (told_by.Got g) (record c { polls = polls })) none ∙ ap (λ p. told key key.agent (told_by.Got []) (record c { polls = p })) left in
-    then_if r before mid after e d (says e (receive_row key c key.agent answers.Empty)) (told key key.agent (told_by.Got []))
-    (did_say before mid e e x (receive_row key c key.agent answers.Empty) rows sent refl row) (subst (λ f. OnOk r (Did mid after d f)) same more)
+-- a poll that ends, whose row was added
+module _ (key : Key) (c : Core) (before mid : Effects) (r : Result (Unit {0}) Refusal) (polls : List Poll) (gots : List Got) (x : Row) (left : polls ≡ without (ends_at key) c.polls) (none : gots ≡ [])
+    (rows : mid.rows.items ≡ before.rows.items ++ x ∷ []) (sent : mid.sent ≡ before.sent) (row : x ≡ receive_row key c key.agent answers.Empty) where
+  abbrev ended : Core
+  ended = record c { polls = without (ends_at key) c.polls }
+
+  row_told : Did before mid ended (says ended (receive_row key c key.agent answers.Empty))
+  row_told = did_say before mid ended ended x (receive_row key c key.agent answers.Empty) rows sent refl row
+
+  told_there : told key key.agent (told_by.Got gots) (record c { polls = polls }) ≡ told key key.agent (told_by.Got []) ended
+  told_there = ap (λ g. told key key.agent (told_by.Got g) (record c { polls = polls })) none ∙ ap (λ p. told key key.agent (told_by.Got []) (record c { polls = p })) left
+
+  pub poll_end_did :
+      (d : Core) (after : Effects) → OnOk r (Did mid after d (told key key.agent (told_by.Got gots) (record c { polls = polls })))
+      → OnOk r (Did before after d (handle_poll_end key c))
+  poll_end_did d after more =
+      then_if r before mid after ended d (says ended (receive_row key c key.agent answers.Empty)) (told key key.agent (told_by.Got []))
+      row_told (subst (λ f. OnOk r (Did mid after d f)) told_there more)
+
+  pub poll_end_stops : IfErr r (Stops (told key key.agent (told_by.Got gots) (record c { polls = polls }))) → IfErr r (Stops (handle_poll_end key c))
+  poll_end_stops more =
+      stops_then r before mid ended (says ended (receive_row key c key.agent answers.Empty)) (told key key.agent (told_by.Got []))
+      row_told (subst (λ f. IfErr r (Stops f)) told_there more)
 
 -- a receive that is not refused gives what the definition gives
 gives_by :

@@ -1,5 +1,5 @@
 -- How the methods of a site carry out the effects of the definitions: rows and transfers are added to those made before.
-use Rattle.std.specs.Prelude.{Ok, Result, ◌++◌, ◌≡◌, ◌≤◌}
+use Rattle.std.specs.Prelude.{◌++◌, ◌≡◌, ◌≤◌}
 use Rattle.sim_clock.specs.declared.refusal.Refusal.{Refusal}
 use Rattle.sim_clock.specs.declared.refusal.Refusal.TheVariants as refusals
 use Rattle.sim_site.specs.declared.effects.Effects.{Effects}
@@ -16,8 +16,8 @@ pub record Did (before after : Effects) (c : Core) (e : Effect) : Type 0 where
   pub sent : after.sent.items ≡ before.sent.items ++ e.sent
 
 -- a site after a handling, whose rows and transfers were added
-pub record DidHandle (before after : Effects) (s : Result Site Refusal) (h : Handled) : Type 0 where
-  pub site : s ≡ Ok h.site
+pub record DidHandle (before after : Effects) (s : Site) (h : Handled) : Type 0 where
+  pub site : s ≡ h.site
   pub rows : after.rows.items ≡ before.rows.items ++ h.rows
   pub sent : after.sent.items ≡ before.sent.items ++ h.sent
 

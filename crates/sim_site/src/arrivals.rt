@@ -8,8 +8,9 @@ ghost use Rattle.sqs_model.specs.Places.{IsAbsent, Stands};
 ghost use Rattle.sqs_model.specs.Site.{has_key};
 ghost use Rattle.sqs_redrive.specs.Transfers.{transfer_key};
 
-use sim_clock::{Key, Refusal};
+use sim_clock::Key;
 use sqs_redrive::Outbound;
+use std::alloc::AllocError;
 
 // Where the first transfer stands that comes after this one.
 fn first_after(transfers: &[Outbound], transfer: &Outbound) -> Option<usize>
@@ -53,7 +54,7 @@ pub fn take(transfers: &mut Vec<Outbound>, key: Key) -> Option<Outbound>
 }
 
 /// Adds a transfer at its place.
-pub fn insert(transfers: &mut Vec<Outbound>, transfer: Outbound) -> Result<(), Refusal>
+pub fn insert(transfers: &mut Vec<Outbound>, transfer: Outbound) -> Result<(), AllocError>
     ensures added { OnOk result (transfers.new.items ≡ inserted_by (on transfer_key key_cmp) transfer transfers.old.items) }
 {
     let place = place_among(transfers.as_slice(), &transfer);

@@ -44,4 +44,14 @@ impl Effects {
         self.sent.push(transfer)?;
         Ok(())
     }
+
+    /// Adds a row, and the transfer that it tells of. The one error is `Memory`.
+    pub fn say_sent(&mut self, row: Row, transfer: Outbound) -> Result<(), Refusal>
+        ensures rows { OnOk result (self.new.rows.items ≡ self.old.rows.items ++ row ∷ []) }
+        ensures sent { OnOk result (self.new.sent.items ≡ self.old.sent.items ++ transfer ∷ []) }
+        ensures memory_only { IsOkUnless result Refusal.Memory }
+    {
+        self.say(row)?;
+        self.send(transfer)
+    }
 }

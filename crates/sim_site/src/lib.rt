@@ -12,8 +12,6 @@ mod places;
 mod rows;
 mod site;
 mod state;
-#[cfg(test)]
-mod tests;
 
 pub use agents::Task;
 pub use site::{Handled, Site};

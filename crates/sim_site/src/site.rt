@@ -37,23 +37,58 @@ pub struct Handled {
 
 /// A queue with the actors and tasks at home there, and the transfers on their way to it. Contracts
 /// see it as the definitions' `Site` while it lives; want of memory or a count at its limit spends
-/// it, and it is that refusal from then on.
+/// it, and it is that refusal from then on. What is due next is kept, so that telling it costs
+/// nothing.
 #[derive(Drop)]
 pub struct Site {
     core: Core,
     arriving: Vec<Outbound>,
+    due: Option<Key>,
     spent: Option<Refusal>,
 }
 
 impl Model for Site {
-    ghost use Rattle.std.specs.Prelude.{Result};
+    ghost use Rattle.std.specs.Prelude.{Result, ◌≡◌};
     ghost use Rattle.sim_clock.specs.declared.refusal.Refusal.{Refusal};
+    ghost use Rattle.sqs_model.specs.Dues.{least_due};
     ghost use Rattle.sqs_model.specs.Site.{Site};
     ghost use Rattle.sim_site.specs.Spent.{spent_or};
 
     ghost Value = { Result Site Refusal };
 
     ghost view = { λ s. spent_or s.spent (record { core = s.core; arriving = s.arriving.items }) };
+
+    ghost invariant = { λ s. s.due ≡ least_due (record { core = s.core; arriving = s.arriving.items }) };
+}
+
+// The key of what is due next.
+fn least_of(core: &Core, arriving: &[Outbound]) -> Option<Key>
+    ensures { result ≡ least_due (record { core = core.now; arriving = arriving.now }) }
+{
+    lesser(least_arrival(arriving), core.least_due())
+}
+
+// Handles what is due next.
+#[tactic(auto, unfolding(sqs_model::specs::Step::handled))]
+fn handle_due(
+    core: &mut Core,
+    arriving: &mut Vec<Outbound>,
+    key: Key,
+    effects: &mut Effects,
+) -> Result<(), Refusal>
+    requires due { least_due (record { core = core.old; arriving = arriving.old.items }) ≡ Some key }
+    requires moment { key.at ≤ most_count }
+    requires recent { IsRecent key.at core.old.queue }
+    requires timely { AreTimely arriving.old.items }
+    ensures done { OnOk result (DidHandle effects.old effects.new (record { core = core.new; arriving = arriving.new.items }) (handled key (record { core = core.old; arriving = arriving.old.items }))) }
+    ensures stops { IfErr result (Stops (effect_of (handled key (record { core = core.old; arriving = arriving.old.items })))) }
+{
+    if key.class == Class::Arrival {
+        let transfer = take(arriving, key);
+        core.handle_arrival(key, transfer, effects)
+    } else {
+        core.handle(key, effects)
+    }
 }
 
 impl Site {
@@ -75,13 +110,17 @@ impl Site {
         ensures opened { IfOk result (λ site. (s : Scenario) → s.seed ≡ seed → s.sample ≡ sample → actors.items ≡ filter (λ x. x.1.home == number) (numbered_actors s) → tasks.items ≡ filter (λ x. x.1.home == number) (numbered_tasks s) → site ≡ Ok (opening_site s (number, settings))) }
         ensures memory_only { IsOkUnless result Refusal.Memory }
     {
-        let queue = Queue::new(alloc, number, settings);
         let actors = open_actors(alloc, actors, seed)?;
         let tasks = open_tasks(alloc, tasks.as_slice(), seed)?;
+        let queue = Queue::new(alloc, number, settings);
         let draws = Draws::new(seed, number);
+        let core = Core::new(alloc, queue, actors, tasks, draws, sample);
+        let arriving = Vec::new(alloc);
+        let due = least_of(&core, &arriving);
         Ok(Site {
-            core: Core::new(alloc, queue, actors, tasks, draws, sample),
-            arriving: Vec::new(alloc),
+            core,
+            arriving,
+            due,
             spent: None,
         })
     }
@@ -93,7 +132,7 @@ impl Site {
         if self.spent.is_some() {
             return None;
         }
-        lesser(least_arrival(&self.arriving), self.core.least_due())
+        self.due
     }
 
     /// The refusal that spent it, if one did.
@@ -114,30 +153,13 @@ impl Site {
         if let Some(refusal) = self.spent {
             return Err(refusal);
         }
-        if insert(&mut self.arriving, transfer).is_err() {
+        let inserted = insert(&mut self.arriving, transfer);
+        self.due = least_of(&self.core, &self.arriving);
+        if inserted.is_err() {
             self.spent = Some(Refusal::Memory);
             return Err(Refusal::Memory);
         }
         Ok(())
-    }
-
-    // Handles its least due, while it lives.
-    #[tactic(auto, unfolding(sqs_model::specs::Step::handled))]
-    fn handle_due(&mut self, key: Key, effects: &mut Effects) -> Result<(), Refusal>
-        requires lives { IsOk self.old }
-        requires due { due_of self.old ≡ Some key }
-        requires moment { key.at ≤ most_count }
-        requires recent { IfOk self.old (λ site. IsRecent key.at site.core.queue) }
-        requires timely { IfOk self.old (λ site. AreTimely site.arriving) }
-        ensures done { IfOk self.old (λ site. OnOk result (DidHandle effects.old effects.new self.new (handled key site))) }
-        ensures stops { IfOk self.old (λ site. IfErr result (Stops (effect_of (handled key site)))) }
-    {
-        if key.class == Class::Arrival {
-            let transfer = take(&mut self.arriving, key);
-            self.core.handle_arrival(key, transfer, effects)
-        } else {
-            self.core.handle(key, effects)
-        }
     }
 
     /// Handles its least due, at a moment in milliseconds, which is not before that of a
@@ -158,7 +180,9 @@ impl Site {
             return Err(refusal);
         }
         let mut effects = Effects::new(self.core.alloc());
-        if let Err(refusal) = self.handle_due(key, &mut effects) {
+        let done = handle_due(&mut self.core, &mut self.arriving, key, &mut effects);
+        self.due = least_of(&self.core, &self.arriving);
+        if let Err(refusal) = done {
             self.spent = Some(refusal);
             return Err(refusal);
         }

@@ -3,9 +3,9 @@ use Rattle.std.specs.List.{enumerate_from}
 use Rattle.std.specs.Prelude.{All, Bool, List, None, Option, Result, Some, [], cond, false, filter, get_or, length, map, set, true, suc, zero, ℕ, ◌++◌, ◌+◌, ◌<◌, ◌==◌, ◌∷◌, ◌≡◌, ◌≤◌}
 use Rattle.std.proofs.Common.{add-one, append_assoc, ap, arith, drop, refl, subst, sym, ◌∙◌}
 use Rattle.std.proofs.lemmas.Bool.Decides.{nat_tests}
-use Rattle.std.proofs.lemmas.List.{append-nil, get_or-map, length-map, map-set}
+use Rattle.std.proofs.lemmas.List.{append-nil, get_or-map, length-append, length-map, length-set, map-set}
 use Rattle.std.proofs.lemmas.List.Elements.{All-cons, All-filter, All-head, All-map, All-nil, All-tail, All-weaker, filter-append}
-use Rattle.std.proofs.Math.Seq.{drop-cons}
+use Rattle.std.proofs.Math.Seq.{drop-cons, map-set_same}
 use Rattle.sim_clock.specs.declared.key.Key.{Key}
 use Rattle.sqs_message.specs.declared.message.Message.{Message}
 use Rattle.sqs_redrive.specs.declared.transfers.Outbound.{Outbound}
@@ -22,7 +22,7 @@ use Rattle.sqs_model.specs.declared.agents.ActorSettings.{ActorSettings}
 use Rattle.sqs_model.specs.declared.agents.Role.{Role}
 use Rattle.sqs_model.specs.declared.agents.Role.TheVariants.{Consumer, Producer, Script}
 use Rattle.sqs_model.proofs.Counts.{ascends_lower}
-use Rattle.sqs_model.proofs.Opening.{opens_sound}
+use Rattle.sqs_model.proofs.Opening.{all_enumerated, opens_sound}
 use Rattle.sqs_model.specs.Progress.{Ascends, IsSound, IsSoundScenario, WasEnqueuedBy}
 use Rattle.sqs_model.specs.Scenario.{HasItsQueues, MayBeWithin, Scenario, numbered_actors, numbered_tasks, opening, opening_site}
 use Rattle.sqs_model.specs.Site.{Site}
@@ -90,11 +90,43 @@ module _ {A : Type 0} (home : A → ℕ) where
   vacant_at_home agents none n [] h = tt
   vacant_at_home agents none n (here ∷ homes) h = (none here (All-head IsVacant here homes h), vacant_at_home agents none (n + 1) homes (All-tail IsVacant here homes h))
 
--- agents with their numbers
-all_numbered : {A : Type 0} (P : A → Type 0) (n : ℕ) (xs : List A) → All P xs → All (λ x. P x.1) (enumerate_from n xs)
-all_numbered {A} P n [] a = All-nil (λ (x : ℕ × A). P x.1)
-all_numbered {A} P n (x ∷ xs) a = All-cons (λ (y : ℕ × A). P y.1) (n, x) (enumerate_from (n + 1) xs) (All-head P x xs a) (all_numbered P (n + 1) xs (All-tail P x xs a))
+-- agents that come home one after another: those so far are there, the rest is to come, and the others stay
+pub record Settling {A B : Type 0} (home : A → ℕ) (here : Home → List (ℕ × A)) (others : Home → List (ℕ × B)) (first next : ℕ) (so_far left all : List A) (before after : List Home) : Type 0 where
+  pub number : next ≡ first + length so_far
+  pub rest : so_far ++ left ≡ all
+  pub homes : All (λ a. home a < length before) left
+  pub count : length after ≡ length before
+  pub kept : map others after ≡ map others before
+  pub settled : AtHome home 0 (map here before) [] → AtHome home 0 (map here after) (enumerate_from first so_far)
 
+-- one more of them
+pub settles_one :
+    {A B : Type 0} (home : A → ℕ) (here : Home → List (ℕ × A)) (others : Home → List (ℕ × B)) (first next : ℕ) (so_far left all : List A) (before homes : List Home) (a : A) (more : List A) (d with_it : Home)
+    → Settling home here others first next so_far left all before homes → left ≡ a ∷ more → d ≡ get_or homes (home a) d → here with_it ≡ here d ++ (next, a) ∷ [] → others with_it ≡ others d
+    → Settling home here others first (next + 1) (so_far ++ a ∷ []) more all before (set homes (home a) with_it)
+settles_one {A} home here others first next so_far left all before homes a more d with_it v steps is new same =
+    let bound : List A → Type 0 = All (λ (x : A). home x < length before) in
+    let known : bound (a ∷ more) = subst bound steps v.homes in
+    let within : home a < length homes = rw v.count (All-head (λ (x : A). home x < length before) a more known) in
+    let longer : length (so_far ++ a ∷ []) ≡ length so_far + 1 = length-append so_far (a ∷ []) in
+    record {
+      number = omega (arith, v.number, longer);
+      rest = append_assoc so_far (a ∷ []) more ∙ ap (λ r. so_far ++ r) (sym steps) ∙ v.rest;
+      homes = All-tail (λ (x : A). home x < length before) a more known;
+      count = length-set homes (home a) with_it ∙ v.count;
+      kept = map-set_same others homes (home a) with_it d (same ∙ ap others is) ∙ v.kept;
+      settled = λ h. rw (enumerate_push first next so_far a v.number) (at_home_in home here homes (home a) with_it d (enumerate_from first so_far) (next, a) within refl is new (v.settled h));
+    }
+
+-- all of them
+pub settles_all :
+    {A B : Type 0} (home : A → ℕ) (here : Home → List (ℕ × A)) (others : Home → List (ℕ × B)) (first next : ℕ) (so_far left all : List A) (before after : List Home)
+    → Settling home here others first next so_far left all before after → left ≡ [] → AtHome home 0 (map here before) [] → AtHome home 0 (map here after) (enumerate_from first all)
+settles_all home here others first next so_far left all before after v none h =
+    let whole : so_far ≡ all = sym (append-nil so_far) ∙ ap (λ r. so_far ++ r) (sym none) ∙ v.rest in
+    subst (λ xs. AtHome home 0 (map here after) (enumerate_from first xs)) whole (v.settled h)
+
+-- agents with their numbers
 ascends_numbered : {A : Type 0} (n : ℕ) (xs : List A) → Ascends (λ x. x.0) n (enumerate_from n xs)
 ascends_numbered n [] = tt
 ascends_numbered n (x ∷ xs) = (omega arith, ascends_numbered (n + 1) xs)
@@ -158,8 +190,8 @@ fit_homes s homes range settled =
     let latencies : All (λ (t : TaskSettings). IsLatency t.latency) s.tasks = All-weaker IsTaskSettings (λ t. IsLatency t.latency) (λ t k. k.latency) s.tasks range.tasks in
     fit_from 0 homes (numbered_actors s) (numbered_tasks s)
     record {
-      actors = all_numbered (λ (a : ActorSettings). IsScenarioRole a.role) (length s.queues) s.actors range.actors;
-      tasks = all_numbered (λ (t : TaskSettings). IsLatency t.latency) first s.tasks latencies;
+      actors = all_enumerated (λ (a : ActorSettings). IsScenarioRole a.role) (length s.queues) s.actors range.actors;
+      tasks = all_enumerated (λ (t : TaskSettings). IsLatency t.latency) first s.tasks latencies;
       numbered = ascends_lower (λ (t : ℕ × TaskSettings). t.0) 0 first (numbered_tasks s) (omega arith) (ascends_numbered first s.tasks);
     } settled.actors settled.tasks
 

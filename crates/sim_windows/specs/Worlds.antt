@@ -3,12 +3,12 @@ use Rattle.std.specs.Prelude.{All, Bool, Err, IsNone, List, None, Ok, Option, Re
 use Rattle.sim_clock.specs.declared.key.Key.{Key}
 use Rattle.sim_clock.specs.declared.refusal.Refusal.{Refusal}
 use Rattle.sim_clock.specs.Order.{lesser}
+use Rattle.sim_site.specs.Effects.{StopsWhere}
 use Rattle.sim_site.specs.Spent.{due_of}
 use Rattle.sqs_model.specs.Dues.{world_due}
 use Rattle.sqs_model.specs.Answers.{most_count}
 use Rattle.sqs_model.specs.Limits.{run_count}
 use Rattle.sqs_model.specs.Progress.{AreTimely, IsFilledBy, IsRecent, IsSound}
-use Rattle.sim_clock.specs.declared.refusal.Refusal.TheVariants as refusals
 use Rattle.sqs_model.specs.Run.{Run, is_due, next_due, stepped}
 use Rattle.sqs_model.specs.Site.{Site, number_of}
 
@@ -86,12 +86,8 @@ pub record Ends (horizon : ℕ) (r x : Run) : Type 0 where
 
 -- why a run stops: want of memory, or a count that it takes past the limit some handlings on
 abbrev pub StopsRun : ℕ → Run → Refusal → Type 0
-StopsRun horizon r refusals.CountLimit = (n : ℕ) × (most_count < run_count (continued horizon n r))
-StopsRun horizon r refusals.Memory = Unit {0}
-StopsRun horizon r refusal = ⊥
+StopsRun horizon r = StopsWhere ((n : ℕ) × (most_count < run_count (continued horizon n r)))
 
 -- why a handling that leads to a run stops
 abbrev pub StopsBefore : Run → Refusal → Type 0
-StopsBefore r refusals.CountLimit = most_count < run_count r
-StopsBefore r refusals.Memory = Unit {0}
-StopsBefore r refusal = ⊥
+StopsBefore r = StopsWhere (most_count < run_count r)

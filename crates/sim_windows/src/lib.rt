@@ -2,8 +2,6 @@
 #![tactic(auto)]
 
 mod opening;
-#[cfg(test)]
-mod tests;
 mod world;
 
 pub use world::World;

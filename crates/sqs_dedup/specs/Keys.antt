@@ -1,13 +1,14 @@
 -- What entries are looked up by, a scope and an id: when two are one, and what is hashed of them.
-use Rattle.std.specs.Prelude.{◌≡◌, Bool, List, None, Option, Some, true, ℕ, ◌&&◌, ◌++◌}
+use Rattle.std.specs.Prelude.{◌≡◌, Bool, List, Option, true, ℕ, ◌&&◌, ◌++◌}
 use Rattle.std.specs.Bool.{Decides}
-use Rattle.std.specs.Cmp.{IsEquivalence, IsPartialEquivalence, both_ways, first_so, partial_equiv_from_equiv, second_so}
+use Rattle.std.specs.Cmp.{IsEquivalence, IsPartialEquivalence, first_so, second_so}
 use Rattle.std.specs.Cmp.Lexicographic.{bytes_decides}
 use Rattle.std.specs.Hash as fed
 use Rattle.std.specs.Hash.{HashWrites}
 use Rattle.std.specs.Str.{bytes_eq}
-use Rattle.std.proofs.Common.{ap, refl, sym, true≢false, subst}
+use Rattle.std.proofs.Common.{ap, refl, sym, subst}
 use Rattle.sqs_model.specs.Queue.{same_text}
+use Rattle.sqs_model.specs.Texts.{decided_equivalence, decided_partial, same_text_decides}
 
 -- a scope, which is a group or none for the whole queue, and an id
 abbrev pub Key : Type 0
@@ -20,13 +21,6 @@ same_key a b = same_text b.0 a.0 && bytes_eq b.1 a.1
 -- what is hashed of a key
 abbrev pub key_writes : Key → HashWrites
 key_writes k = fed.option (fed.slice fed.u8) k.0 ++ fed.slice fed.u8 k.1
-
--- texts that may be absent are one where they are equal
-pub same_text_decides : (a b : Option (List ℕ)) → Decides (same_text a b) (a ≡ b)
-same_text_decides None None = (λ _. refl, λ _. refl)
-same_text_decides None (Some b) = (λ e. absurd (true≢false (sym e)), λ e. cc)
-same_text_decides (Some a) None = (λ e. absurd (true≢false (sym e)), λ e. cc)
-same_text_decides (Some a) (Some b) = (λ e. ap Some ((bytes_decides a b).0 e), λ e. (bytes_decides a b).1 cc)
 
 -- keys that are one are equal
 same_key_equal : (a b : Key) → same_key a b ≡ true → a ≡ b
@@ -43,23 +37,13 @@ same_key_itself a = rw ((same_text_decides a.0 a.0).1 refl) ((bytes_decides a.1 
 pub same_key_decides : (a b : Key) → Decides (same_key a b) (a ≡ b)
 same_key_decides a b = (same_key_equal a b, λ e. subst (λ (k : Key). same_key a k ≡ true) e (same_key_itself a))
 
-same_key_symm : (a b : Key) → same_key a b ≡ same_key b a
-same_key_symm a b = both_ways (same_key a b) (same_key b a)
-    (λ e. (same_key_decides b a).1 (sym ((same_key_decides a b).0 e)))
-    (λ e. (same_key_decides a b).1 (sym ((same_key_decides b a).0 e)))
-
 -- to be one is an equivalence of keys
 pub same_key_equivalence : IsEquivalence same_key
-same_key_equivalence =
-    record {
-      refl = λ a. (same_key_decides a a).1 refl;
-      symm = same_key_symm;
-      congr = λ a b c e. ap (λ k. same_key k c) ((same_key_decides a b).0 e);
-    }
+same_key_equivalence = decided_equivalence same_key same_key_decides
 
 -- and so it is symmetric and transitive
 pub same_key_partial : IsPartialEquivalence same_key
-same_key_partial = partial_equiv_from_equiv same_key_equivalence
+same_key_partial = decided_partial same_key same_key_decides
 
 -- keys that are one are hashed alike
 pub same_key_writes : (a b : Key) → same_key a b ≡ true → key_writes a ≡ key_writes b

@@ -1,7 +1,5 @@
 -- The entries that a window holds by their keys, and which of them it shows.
 use Rattle.std.specs.Prelude.{All, List, None, Option, Some, find, if◌then◌else◌, map, nat_lt, ℕ, ◌&&◌, ◌++◌, ◌+◌, ◌≤◌}
-use Rattle.std.proofs.Common.{arith, [], ◌∷◌, ◌≡◌}
-use Rattle.std.proofs.lemmas.List.Elements.{All-filter, All-push}
 use Rattle.std.specs.List.{IsDistinct}
 use Rattle.std.specs.Map.{keys_of}
 use Rattle.std.specs.Str.{bytes_eq}
@@ -41,9 +39,3 @@ pub record IsWindow (earlier recent : List (Key × Held)) (began last : ℕ) : T
   pub recent_begins : All (λ p. began + 300000 ≤ p.1.end) recent
   pub recent_ends : All (λ p. p.1.end ≤ last + 300000) recent
   pub newest : (n : ℕ) → All (λ e. e.end ≤ n + 300000) (window earlier recent last) → last ≤ n
-
--- after an entry, as before it, no entry is from later than its moment
-pub none_later : (now : ℕ) (entries : List Entry) (e : Entry) → e.end ≡ now + 300000 → All (λ x. x.end ≤ now + 300000) entries → All (λ x. x.end ≤ now + 300000) (living_entries now entries ++ e ∷ [])
-none_later now entries e at h =
-    let P : Entry → Type 0 = λ x. x.end ≤ now + 300000 in
-    All-push P (living_entries now entries) e (All-filter (λ x. nat_lt now x.end) P entries h) (omega (arith, at))

@@ -1,15 +1,16 @@
 //! The queue and its calls.
-ghost use Rattle.std.specs.Prelude.{◌≡◌, ◌⊎◌, ◌+◌, ◌<◌, ◌≤◌, [], All, Err, IfErr, IfOk, Ok, IsOkUnless, OnErr, OnOk, count_by, take};
+ghost use Rattle.std.specs.Prelude.{◌≡◌, ◌⊎◌, ◌<◌, ◌≤◌, [], Err, IfErr, IfOk, IsOkUnless, OnErr, OnOk, count_by, length, nat_lt, take};
 ghost use Rattle.sim_clock.specs.Order.{least};
 ghost use Rattle.sqs_model.specs.Answers.{Meets, most_count};
 ghost use Rattle.sqs_model.specs.Arrive.{expired};
 ghost use Rattle.sqs_model.specs.Calls.{change, delete_fifo, returned, send_in};
-ghost use Rattle.sqs_model.specs.Available.{all_available};
+ghost use Rattle.sqs_model.specs.Available.{all_available, at_places};
 ghost use Rattle.sqs_model.specs.Dues.{queue_dues};
-ghost use Rattle.sqs_model.specs.Queue.{IsFramed, id_of, is_delayed, is_in_flight, is_visible};
+ghost use Rattle.sqs_model.specs.Progress.{Ascends, Differ, IsRecent};
+ghost use Rattle.sqs_model.specs.Queue.{IsFramed, is_delayed, is_in_flight, is_visible};
 ghost use Rattle.sqs_model.specs.Return.{released};
 ghost use Rattle.sqs_redrive.specs.declared.settings.Kind.TheVariants.{Fifo};
-ghost use Rattle.sqs_store.specs.Chosen.{AreWithin, Differ, at_places};
+ghost use Rattle.sqs_store.specs.Chosen.{AreWithin};
 ghost use Rattle.sqs_fifo.specs.Fifo.{IsFifoSettings, scope_in};
 
 use sim_clock::{Key, Refusal};
@@ -156,16 +157,20 @@ impl FifoQueue {
         self.store.counts()
     }
 
-    // The places of at most so many of the messages that the queue may give, in order.
-    fn first_places(&self, most: u64) -> Result<Vec<usize>, Refusal>
-        ensures chosen { IfOk result (λ places. at_places self.now.records places.items ≡ take most (all_available self.now)) }
-        ensures within { IfOk result (λ places. AreWithin self.now.records places.items) }
-        ensures apart { IfOk result (λ places. Differ (λ m. m.number) (at_places self.now.records places.items)) }
+    // The places of at most so many of the messages that the queue may give, in order, and whether
+    // it may give more than those.
+    fn first_places(&self, most: u64) -> Result<(Vec<usize>, bool), Refusal>
+        ensures chosen { IfOk result (λ first. at_places self.now.records first.0.items ≡ take most (all_available self.now)) }
+        ensures within { IfOk result (λ first. AreWithin self.now.records first.0.items) }
+        ensures apart { IfOk result (λ first. Differ (λ m. m.number) (at_places self.now.records first.0.items)) }
+        ensures more { IfOk result (λ first. first.1 ≡ nat_lt most (length (all_available self.now))) }
+        ensures ordered { Ascends (λ m. m.number) 0 self.now.records }
         ensures memory_only { IsOkUnless result Refusal.Memory }
     {
         let mut places = available_places(self.alloc, self.store.view())?;
-        places.truncate(most.min(places.len() as u64) as usize);
-        Ok(places)
+        let all = places.len() as u64;
+        places.truncate(most.min(all) as usize);
+        Ok((places, most < all))
     }
 
     // Whether bodies stand for ids that are absent, and where ids count.
@@ -194,13 +199,13 @@ impl FifoQueue {
     // A send with a group and a deduplication id.
     fn send_in(&mut self, now: u64, body: Text, group: Text, id: Text) -> Result<Sent, Refusal>
         requires moment { now ≤ most_count }
-        requires no_later_entry { All (λ e. e.end ≤ now + 300000) self.old.entries }
+        requires recent { IsRecent now self.old }
         ensures answer { Meets (self.old.arrivals ≡ most_count) result self.new (send_in self.old now body group (scope_in self.old.settings.kind group) id) }
         ensures counted { OnOk result ((self.old.arrivals < most_count) ⊎ (self.new ≡ self.old)) }
         ensures unchanged { OnErr result (self.new ≡ self.old) }
-        ensures at_limit { result ≡ Err Refusal.CountLimit → (send_in self.old now body group (scope_in self.old.settings.kind group) id).0 ≡ Ok (Sent.New (id_of self.old self.old.arrivals)) }
+        ensures at_limit { result ≡ Err Refusal.CountLimit → most_count < (send_in self.old now body group (scope_in self.old.settings.kind group) id).1.arrivals }
         ensures refused { IfErr result (λ refusal. (refusal ≡ Refusal.CountLimit) ⊎ (refusal ≡ Refusal.Memory)) }
-        ensures no_later_entry { All (λ e. e.end ≤ now + 300000) self.new.entries }
+        ensures recent { IsRecent now self.new }
         ensures framed { IsFramed self.old self.new }
     {
         let scope = self.scope_of(&group)?;

@@ -1,11 +1,13 @@
 -- Messages put together group by group.
 use Rattle.std.proofs.Common.{◌≡◌, ℕ, ◌+◌, ◌<◌, ◌≤◌, Bool, true, false, List, [], ◌∷◌, ◌++◌, Option, Some, cond, filter, if◌then◌else◌, ◌||◌, not, arith, refl, ap, subst, sym, ◌∙◌, map, length, get_or, set, nat_lt, slice_get, append-nil, true≢false, flat_map}
-use Rattle.std.specs.List.{AllByRecursion, IsDistinct, cons_option, list_any, position_or_len}
+use Rattle.std.specs.List.{AllByRecursion, IsDistinct, list_any, position_or_len}
 use Rattle.std.proofs.lemmas.Bool.Decides.{nat_tests}
 use Rattle.std.proofs.lemmas.List.{length-map, map-append, map-set}
+use Rattle.std.proofs.Math.Bool.{or-false}
 use Rattle.std.proofs.Math.ListN.{get_or-map}
+use Rattle.std.proofs.lemmas.Simd.{map-map}
 use Rattle.std.proofs.lemmas.List.{get_or-map as get_or_map}
-use Rattle.std.proofs.lemmas.List.Elements.{filter-append, filter_map-append}
+use Rattle.std.proofs.lemmas.List.Elements.{filter-append}
 use Rattle.std.proofs.lemmas.Map.Keys.{IsDistinct-head, IsDistinct-tail}
 use Rattle.std.proofs.Math.Numerals.{one-add}
 use Rattle.indexmap.specs.IndexSet.{insert_key}
@@ -13,7 +15,8 @@ use Rattle.sim_clock.specs.Firsts.{kept_when}
 use Rattle.sqs_message.specs.declared.message.Message.{Message}
 use Rattle.sqs_model.specs.Available.{firsts}
 use Rattle.sqs_model.specs.Queue.{same_group, same_text}
-use Rattle.sqs_groups.specs.Groups.{at_places, groups_of, of_group, picked, same_text_decides, same_text_symm, with_place}
+use Rattle.sqs_model.specs.Texts.{decided_symm, same_text_decides}
+use Rattle.sqs_groups.specs.Groups.{found_at, groups_of, of_group, with_place}
 
 abbrev Group : Type 0
 Group = Option (List ℕ)
@@ -50,10 +53,6 @@ or_true : (a : Bool) → (a || true) ≡ true
 or_true true = refl
 or_true false = refl
 
-or_false : (a : Bool) → (a || false) ≡ a
-or_false true = refl
-or_false false = refl
-
 -- the leaders have each group that there is, and no other
 any_first : (g : Group) (earlier ms : List Message) → (list_any (same_text g) (map (λ m. m.group) (firsts earlier ms)) || list_any (in_group g) earlier) ≡ (list_any (in_group g) ms || list_any (in_group g) earlier)
 any_first g earlier [] = refl
@@ -79,14 +78,14 @@ any_first g earlier (x ∷ ms) = by (list_any (same_group x) earlier) refl (same
     by true p false q h = ap (λ c. led || (c || old)) (sym q) ∙ h ∙ ap (λ c. any || (c || old)) q ∙ ap (λ c. c || any || old) (sym q)
 
 any_leader : (g : Group) (ms : List Message) → list_any (same_text g) (leaders ms) ≡ list_any (in_group g) ms
-any_leader g ms = sym (or_false (list_any (same_text g) (leaders ms))) ∙ any_first g [] ms ∙ or_false (list_any (in_group g) ms)
+any_leader g ms = sym (or-false (list_any (same_text g) (leaders ms))) ∙ any_first g [] ms ∙ or-false (list_any (in_group g) ms)
 
 -- the groups, after one more message
 leaders_push : (ms : List Message) (m : Message) → leaders (ms ++ m ∷ []) ≡ insert_key same_text (leaders ms) m.group
 leaders_push ms m =
     ap (map (λ x. x.group)) (firsts_push [] ms m)
     ∙ map-append (λ x. x.group) (firsts [] ms) (kept_when (not (list_any (same_group m) ms || false)) m [])
-    ∙ ap (λ c. leaders ms ++ map (λ x. x.group) (kept_when (not c) m [])) (or_false (list_any (same_group m) ms) ∙ sym (any_leader m.group ms))
+    ∙ ap (λ c. leaders ms ++ map (λ x. x.group) (kept_when (not c) m [])) (or-false (list_any (same_group m) ms) ∙ sym (any_leader m.group ms))
     ∙ by (list_any (same_text m.group) (leaders ms))
   where
     by : (c : Bool) → leaders ms ++ map (λ x. x.group) (kept_when (not c) m []) ≡ (if c then leaders ms else leaders ms ++ m.group ∷ [])
@@ -122,7 +121,7 @@ buckets_same ms m (k ∷ groups) h = by (same_text m.group k) refl h (buckets_sa
     by : (b : Bool) → same_text m.group k ≡ b → (b || list_any (same_text m.group) groups) ≡ false → (list_any (same_text m.group) groups ≡ false → map (bucket (ms ++ m ∷ [])) groups ≡ map (bucket ms) groups)
         → map (bucket (ms ++ m ∷ [])) (k ∷ groups) ≡ map (bucket ms) (k ∷ groups)
     by true e n i = absurd (true≢false n)
-    by false e n i = λ j. bucket_same ms m k (same_text_symm k m.group ∙ e) j ∷ i n j
+    by false e n i = λ j. bucket_same ms m k (decided_symm same_text same_text_decides k m.group ∙ e) j ∷ i n j
 
 any_of_others : (k : Group) (groups : List Group) → AllByRecursion (λ y. same_text k y ≡ false) groups → list_any (same_text k) groups ≡ false
 any_of_others k [] h = refl
@@ -155,10 +154,10 @@ buckets_at ms m (k ∷ groups) d h = by (same_text m.group k) refl h (buckets_at
     by true e n i =
         let others : list_any (same_text m.group) groups ≡ false =
         subst (λ (g : Group). list_any (same_text g) groups ≡ false) (sym ((same_text_decides m.group k).0 e)) (any_of_others k groups (IsDistinct-head same_text k groups d)) in
-        (λ j. bucket_more ms m k (same_text_symm k m.group ∙ e) j ∷ buckets_same ms m groups others j)
+        (λ j. bucket_more ms m k (decided_symm same_text same_text_decides k m.group ∙ e) j ∷ buckets_same ms m groups others j)
         ∙ ap (λ b. set (bucket ms k ∷ old) (cond (not b) (1 + p) 0) (get_or (bucket ms k ∷ old) (cond (not b) (1 + p) 0) [] ++ Some m ∷ [])) (sym e)
     by false e n i =
-        (λ j. bucket_same ms m k (same_text_symm k m.group ∙ e) j ∷ i n j)
+        (λ j. bucket_same ms m k (decided_symm same_text same_text_decides k m.group ∙ e) j ∷ i n j)
         ∙ ap (λ x. bucket ms k ∷ set old p (x ++ Some m ∷ [])) (sym (get_next (bucket ms k) old p []))
         ∙ sym (set_next (bucket ms k) old p (get_or (bucket ms k ∷ old) (1 + p) [] ++ Some m ∷ []))
         ∙ ap (λ b. set (bucket ms k ∷ old) (cond (not b) (1 + p) 0) (get_or (bucket ms k ∷ old) (cond (not b) (1 + p) 0) [] ++ Some m ∷ [])) (sym e)
@@ -183,7 +182,7 @@ position_present p (x ∷ xs) h =
 pub record IsGrouped (all seen : List Message) (groups : List Group) (lists : List (List ℕ)) : Type 0 where
   pub led : groups ≡ leaders seen
   pub distinct : IsDistinct same_text groups
-  pub held : map (at_places all) lists ≡ map (bucket seen) groups
+  pub held : map (found_at all) lists ≡ map (bucket seen) groups
 
 with_place_old : (index place : ℕ) (lists : List (List ℕ)) → index < length lists → with_place index place lists ≡ set lists index (get_or lists index [] ++ place ∷ [])
 with_place_old index place lists l =
@@ -197,10 +196,10 @@ with_place_new index place lists l =
 
 -- a place of a group that is there
 held_old : (all seen : List Message) (m : Message) (place : ℕ) (groups : List Group) (lists : List (List ℕ)) → IsGrouped all seen groups lists → slice_get all place ≡ Some m → list_any (same_text m.group) groups ≡ true
-    → map (at_places all) (with_place (position_or_len (same_text m.group) groups) place lists) ≡ map (bucket (seen ++ m ∷ [])) groups
+    → map (found_at all) (with_place (position_or_len (same_text m.group) groups) place lists) ≡ map (bucket (seen ++ m ∷ [])) groups
 held_old all seen m place groups lists h at there =
     let p = position_or_len (same_text m.group) groups in
-    let f = at_places all in
+    let f = found_at all in
     let long : length lists ≡ length groups = sym (length-map lists f) ∙ ap length h.held ∙ length-map groups (bucket seen) in
     let list = get_or lists p [] in
     ap (map f) (with_place_old p place lists (omega (arith, long, position_present (same_text m.group) groups there)))
@@ -212,10 +211,10 @@ held_old all seen m place groups lists h at there =
 
 -- a place of a new group
 held_new : (all seen : List Message) (m : Message) (place : ℕ) (groups : List Group) (lists : List (List ℕ)) → IsGrouped all seen groups lists → slice_get all place ≡ Some m → list_any (same_text m.group) groups ≡ false
-    → map (at_places all) (with_place (position_or_len (same_text m.group) groups) place lists) ≡ map (bucket (seen ++ m ∷ [])) (groups ++ m.group ∷ [])
+    → map (found_at all) (with_place (position_or_len (same_text m.group) groups) place lists) ≡ map (bucket (seen ++ m ∷ [])) (groups ++ m.group ∷ [])
 held_new all seen m place groups lists h at none =
     let p = position_or_len (same_text m.group) groups in
-    let f = at_places all in
+    let f = found_at all in
     let long : length lists ≡ length groups = sym (length-map lists f) ∙ ap length h.held ∙ length-map groups (bucket seen) in
     let unseen : bucket seen m.group ≡ [] =
     ap (map Some) (filter_none (in_group m.group) seen (sym (any_leader m.group seen) ∙ ap (list_any (same_text m.group)) (sym h.led) ∙ none)) in
@@ -235,52 +234,34 @@ grouped_more all seen m place index old new lists after h at is distinct found p
       led = is ∙ ap (λ g. insert_key same_text g m.group) h.led ∙ sym (leaders_push seen m);
       distinct = distinct;
       held =
-          ap (map (at_places all)) (put ∙ ap (λ i. with_place i place lists) found) ∙ by (list_any (same_text m.group) old) refl
+          ap (map (found_at all)) (put ∙ ap (λ i. with_place i place lists) found) ∙ by (list_any (same_text m.group) old) refl
           ∙ ap (map (bucket (seen ++ m ∷ []))) (sym is);
     }
   where
-    by : (b : Bool) → list_any (same_text m.group) old ≡ b → map (at_places all) (with_place (position_or_len (same_text m.group) old) place lists) ≡ map (bucket (seen ++ m ∷ [])) (insert_key same_text old m.group)
+    by : (b : Bool) → list_any (same_text m.group) old ≡ b → map (found_at all) (with_place (position_or_len (same_text m.group) old) place lists) ≡ map (bucket (seen ++ m ∷ [])) (insert_key same_text old m.group)
     by true e = held_old all seen m place old lists h at e ∙ ap (λ b. map (bucket (seen ++ m ∷ [])) (if b then old else old ++ m.group ∷ [])) (sym e)
     by false e = held_new all seen m place old lists h at e ∙ ap (λ b. map (bucket (seen ++ m ∷ [])) (if b then old else old ++ m.group ∷ [])) (sym e)
-
-map_map : {A B C : Type 0} (f : B → C) (g : A → B) (xs : List A) → map f (map g xs) ≡ map (λ x. f (g x)) xs
-map_map f g [] = refl
-map_map f g (x ∷ xs) = ap (λ t. f (g x) ∷ t) (map_map f g xs)
 
 groups_of_leaders : (ms fs : List Message) → map (bucket ms) (map (λ m. m.group) fs) ≡ map (map Some) (map (λ leader. filter (same_group leader) ms) fs)
 groups_of_leaders ms [] = refl
 groups_of_leaders ms (x ∷ fs) = ap (λ t. bucket ms x.group ∷ t) (groups_of_leaders ms fs)
 
 -- lists of all
-pub grouped_all : {A : Type 0} (items : A → List ℕ) (all seen : List Message) (groups : List Group) (lists : List A) → IsGrouped all seen groups (map items lists) → map (λ v. at_places all (items v)) lists ≡ map (map Some) (groups_of seen)
-grouped_all items all seen groups lists h = sym (map_map (at_places all) items lists) ∙ h.held ∙ ap (map (bucket seen)) h.led ∙ groups_of_leaders seen (firsts [] seen)
+pub grouped_all : {A : Type 0} (items : A → List ℕ) (all seen : List Message) (groups : List Group) (lists : List A) → IsGrouped all seen groups (map items lists) → map (λ v. found_at all (items v)) lists ≡ map (map Some) (groups_of seen)
+grouped_all items all seen groups lists h = sym (map-map (found_at all) items lists) ∙ h.held ∙ ap (map (bucket seen)) h.led ∙ groups_of_leaders seen (firsts [] seen)
 
 -- nothing yet
 pub grouped_none : (all : List Message) (groups : List Group) → groups ≡ [] → IsDistinct same_text groups → IsGrouped all [] groups []
 grouped_none all groups e d = record { led = e; distinct = d; held = ap (map (bucket [])) (sym e) }
 
--- the messages at one more place
-pub picked_push : (all : List Message) (places : List ℕ) (place : ℕ) (m : Message) → slice_get all place ≡ Some m → picked all (places ++ place ∷ []) ≡ picked all places ++ m ∷ []
-picked_push all places place m e = filter_map-append (slice_get all) places (place ∷ []) ∙ ap (λ o. picked all places ++ cons_option o []) e
-
--- places of messages: those messages are picked
-pub picked_are : (all ms : List Message) (places : List ℕ) → at_places all places ≡ map Some ms → picked all places ≡ ms
-picked_are all [] [] h = refl
-picked_are all (m ∷ ms) [] h = cc
-picked_are all [] (p ∷ places) h = cc
-picked_are all (m ∷ ms) (p ∷ places) h =
-    let first : slice_get all p ≡ Some m = cc in
-    let rest : at_places all places ≡ map Some ms = cc in
-    ap (λ o. cons_option o (picked all places)) first ∙ ap (λ t. m ∷ t) (picked_are all ms places rest)
-
 -- lists of places one after another, and the messages there
-pub joined_at : {A : Type 0} (items : A → List ℕ) (all : List Message) (of : Message → List Message) (lists : List A) (leads : List Message) → map (λ v. at_places all (items v)) lists ≡ map (map Some) (map of leads) → at_places all (flat_map items lists) ≡ map Some (flat_map of leads)
+pub joined_at : {A : Type 0} (items : A → List ℕ) (all : List Message) (of : Message → List Message) (lists : List A) (leads : List Message) → map (λ v. found_at all (items v)) lists ≡ map (map Some) (map of leads) → found_at all (flat_map items lists) ≡ map Some (flat_map of leads)
 joined_at items all of [] [] h = refl
 joined_at items all of [] (x ∷ leads) h = cc
 joined_at items all of (v ∷ lists) [] h = cc
 joined_at items all of (v ∷ lists) (x ∷ leads) h =
-    let first : at_places all (items v) ≡ map Some (of x) = cc in
-    let rest : map (λ w. at_places all (items w)) lists ≡ map (map Some) (map of leads) = cc in
+    let first : found_at all (items v) ≡ map Some (of x) = cc in
+    let rest : map (λ w. found_at all (items w)) lists ≡ map (map Some) (map of leads) = cc in
     map-append (slice_get all) (items v) (flat_map items lists) ∙ (λ j. first j ++ joined_at items all of lists leads rest j) ∙ sym (map-append Some (of x) (flat_map of leads))
 
 -- a list that takes one more place

@@ -1,14 +1,13 @@
 -- The messages that may be given, message by message.
 use Rattle.std.proofs.Common.{◌≡◌, ℕ, ◌+◌, ◌<◌, ◌≤◌, Bool, true, false, List, [], ◌∷◌, ◌++◌, Option, Some, if◌then◌else◌, ◌&&◌, ◌||◌, not, refl, ap, sym, ◌∙◌, map, take, drop, length, get_or, reverse, slice_get, append_assoc, append-nil}
 use Rattle.std.specs.List.{list_any}
-use Rattle.std.proofs.lemmas.List.{drop_all, drop_more, map-append, reverse-append, take_more}
-use Rattle.std.proofs.lemmas.Option.{slice_get-get_or}
+use Rattle.std.proofs.lemmas.List.{drop_all, map-append, reverse-append, take_more}
 use Rattle.std.proofs.lemmas.List.Folds.{list_any-append}
 use Rattle.sim_clock.specs.Firsts.{kept_when}
 use Rattle.sqs_message.specs.declared.message.Message.{Message}
 use Rattle.sqs_model.specs.Available.{is_open, open_from}
 use Rattle.sqs_model.specs.Queue.{is_delayed, is_in_flight, is_visible, same_text}
-use Rattle.sqs_groups.specs.Groups.{AreGroupsOf, at_places}
+use Rattle.sqs_groups.specs.Groups.{AreGroupsOf, found_at}
 
 -- the first i of a list, the last of them first
 abbrev pub turned : {A : Type 0} → ℕ → List A → List A
@@ -43,31 +42,23 @@ open_by all earlier m busy waiting b w = λ j. is_visible m && not (b m.group j)
 
 -- places so far, and what comes after them
 abbrev pub IsOpened : List Message → List Message → List Message → List ℕ → Type 0
-IsOpened all earlier rest places = at_places all places ++ map Some (open_from all earlier rest) ≡ map Some (open_from all [] all)
+IsOpened all earlier rest places = found_at all places ++ map Some (open_from all earlier rest) ≡ map Some (open_from all [] all)
 
 -- one more place, or none
 pub opened_more : (all earlier rest : List Message) (m : Message) (places after : List ℕ) (i : ℕ) (b : Bool) → IsOpened all earlier (m ∷ rest) places → slice_get all i ≡ Some m → b ≡ is_open all earlier m
     → after ≡ places ++ (if b then i ∷ [] else []) → IsOpened all (m ∷ earlier) rest after
 opened_more all earlier rest m places after i b h at e is =
     let next = map Some (open_from all (m ∷ earlier) rest) in
-    ap (λ p. at_places all p ++ next) is ∙ by b ∙ ap (λ c. at_places all places ++ map Some (kept_when c m (open_from all (m ∷ earlier) rest))) e ∙ h
+    ap (λ p. found_at all p ++ next) is ∙ by b ∙ ap (λ c. found_at all places ++ map Some (kept_when c m (open_from all (m ∷ earlier) rest))) e ∙ h
   where
-    by : (c : Bool) → at_places all (places ++ (if c then i ∷ [] else [])) ++ map Some (open_from all (m ∷ earlier) rest) ≡ at_places all places ++ map Some (kept_when c m (open_from all (m ∷ earlier) rest))
+    by : (c : Bool) → found_at all (places ++ (if c then i ∷ [] else [])) ++ map Some (open_from all (m ∷ earlier) rest) ≡ found_at all places ++ map Some (kept_when c m (open_from all (m ∷ earlier) rest))
     by true =
         ap (λ p. p ++ map Some (open_from all (m ∷ earlier) rest)) (map-append (slice_get all) places (i ∷ []))
-        ∙ append_assoc (at_places all places) (slice_get all i ∷ []) (map Some (open_from all (m ∷ earlier) rest))
-        ∙ ap (λ o. at_places all places ++ o ∷ map Some (open_from all (m ∷ earlier) rest)) at
-    by false = ap (λ p. at_places all p ++ map Some (open_from all (m ∷ earlier) rest)) (append-nil places)
-
--- what is left at a place
-pub rest_at : {A : Type 0} (xs : List A) (i : ℕ) (x : A) → i < length xs → x ≡ get_or xs i x → drop i xs ≡ x ∷ drop (i + 1) xs
-rest_at xs i x l e = drop_more xs i x l ∙ ap (λ y. y ∷ drop (i + 1) xs) (sym e)
-
--- what stands at a place
-pub stands_at : {A : Type 0} (xs : List A) (i : ℕ) (x : A) → i < length xs → x ≡ get_or xs i x → slice_get xs i ≡ Some x
-stands_at xs i x l e = slice_get-get_or xs i x l ∙ ap Some (sym e)
+        ∙ append_assoc (found_at all places) (slice_get all i ∷ []) (map Some (open_from all (m ∷ earlier) rest))
+        ∙ ap (λ o. found_at all places ++ o ∷ map Some (open_from all (m ∷ earlier) rest)) at
+    by false = ap (λ p. found_at all p ++ map Some (open_from all (m ∷ earlier) rest)) (append-nil places)
 
 -- once all were looked at
-pub opened_all : (all earlier : List Message) (places : List ℕ) (i : ℕ) → length all ≤ i → IsOpened all earlier (drop i all) places → at_places all places ≡ map Some (open_from all [] all)
+pub opened_all : (all earlier : List Message) (places : List ℕ) (i : ℕ) → length all ≤ i → IsOpened all earlier (drop i all) places → found_at all places ≡ map Some (open_from all [] all)
 opened_all all earlier places i l h =
-    sym (append-nil (at_places all places)) ∙ ap (λ r. at_places all places ++ map Some (open_from all earlier r)) (sym (drop_all i all l)) ∙ h
+    sym (append-nil (found_at all places)) ∙ ap (λ r. found_at all places ++ map Some (open_from all earlier r)) (sym (drop_all i all l)) ∙ h

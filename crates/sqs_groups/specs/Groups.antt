@@ -1,15 +1,14 @@
 -- Message groups: when two are one, the messages of one, and places in a list of messages.
-use Rattle.std.specs.Prelude.{◌≡◌, Bool, List, [], ◌∷◌, ◌++◌, None, Option, Some, filter, get_or, if◌then◌else◌, length, map, nat_lt, set, slice_get, true, ℕ, ◌&&◌}
-use Rattle.std.specs.Bool.{Decides}
-use Rattle.std.specs.Cmp.{IsEquivalence, IsPartialEquivalence, both_ways, partial_equiv_from_equiv}
-use Rattle.std.specs.Cmp.Lexicographic.{bytes_decides}
+use Rattle.std.specs.Prelude.{◌≡◌, Bool, List, [], ◌∷◌, ◌++◌, Option, filter, get_or, if◌then◌else◌, length, map, nat_lt, set, slice_get, true, ℕ, ◌&&◌}
+use Rattle.std.specs.Cmp.{IsEquivalence, IsPartialEquivalence}
 use Rattle.std.specs.Hash as fed
 use Rattle.std.specs.Hash.{HashWrites}
-use Rattle.std.specs.List.{filter_map, list_any}
-use Rattle.std.proofs.Common.{ap, refl, sym, true≢false}
+use Rattle.std.specs.List.{list_any}
+use Rattle.std.proofs.Common.{ap}
 use Rattle.sqs_message.specs.declared.message.Message.{Message}
 use Rattle.sqs_model.specs.Available.{firsts}
 use Rattle.sqs_model.specs.Queue.{same_group, same_text}
+use Rattle.sqs_model.specs.Texts.{decided_equivalence, decided_partial, same_text_decides}
 
 -- whether a message that a test picks is of a group
 abbrev pub has_group : (Message → Bool) → List Message → Option (List ℕ) → Bool
@@ -20,16 +19,12 @@ abbrev pub AreGroupsOf : (Message → Bool) → List Message → List (Option (L
 AreGroupsOf picks messages groups = (g : Option (List ℕ)) → list_any (same_text g) groups ≡ has_group picks messages g
 
 -- what stands at places
-abbrev pub at_places : List Message → List ℕ → List (Option Message)
-at_places messages places = map (slice_get messages) places
+abbrev pub found_at : List Message → List ℕ → List (Option Message)
+found_at messages places = map (slice_get messages) places
 
 -- the messages of a group
 abbrev pub of_group : Option (List ℕ) → List Message → List Message
 of_group g messages = filter (λ x. same_text g x.group) messages
-
--- the messages at places
-abbrev pub picked : List Message → List ℕ → List Message
-picked messages places = filter_map (slice_get messages) places
 
 -- the messages of each group, in the order of the groups' first ones
 abbrev pub groups_of : List Message → List (List Message)
@@ -44,30 +39,13 @@ with_place index place lists =
 abbrev pub group_writes : Option (List ℕ) → HashWrites
 group_writes g = fed.option (fed.slice fed.u8) g
 
--- groups are one where they are equal
-pub same_text_decides : (a b : Option (List ℕ)) → Decides (same_text a b) (a ≡ b)
-same_text_decides None None = (λ _. refl, λ _. refl)
-same_text_decides None (Some b) = (λ e. absurd (true≢false (sym e)), λ e. cc)
-same_text_decides (Some a) None = (λ e. absurd (true≢false (sym e)), λ e. cc)
-same_text_decides (Some a) (Some b) = (λ e. ap Some ((bytes_decides a b).0 e), λ e. (bytes_decides a b).1 cc)
-
-pub same_text_symm : (a b : Option (List ℕ)) → same_text a b ≡ same_text b a
-same_text_symm a b = both_ways (same_text a b) (same_text b a)
-    (λ e. (same_text_decides b a).1 (sym ((same_text_decides a b).0 e)))
-    (λ e. (same_text_decides a b).1 (sym ((same_text_decides b a).0 e)))
-
 -- to be one is an equivalence of groups
 pub same_text_equivalence : IsEquivalence same_text
-same_text_equivalence =
-    record {
-      refl = λ a. (same_text_decides a a).1 refl;
-      symm = same_text_symm;
-      congr = λ a b c e. ap (λ k. same_text k c) ((same_text_decides a b).0 e);
-    }
+same_text_equivalence = decided_equivalence same_text same_text_decides
 
 -- and so it is symmetric and transitive
 pub same_text_partial : IsPartialEquivalence same_text
-same_text_partial = partial_equiv_from_equiv same_text_equivalence
+same_text_partial = decided_partial same_text same_text_decides
 
 -- groups that are one are hashed alike
 pub same_text_writes : (a b : Option (List ℕ)) → same_text a b ≡ true → group_writes a ≡ group_writes b

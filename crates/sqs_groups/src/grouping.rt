@@ -1,6 +1,7 @@
 //! Places put together group by group.
 ghost use Rattle.std.specs.Prelude.{All, IfOk, IsOkUnless, List, OnErr, OnOk, Some, flat_map, length, map, vec_len, ◌<◌, ◌≡◌, ◌≤◌};
-ghost use Rattle.sqs_groups.specs.Groups.{at_places, groups_of, picked, with_place};
+ghost use Rattle.sqs_model.specs.Available.{at_places};
+ghost use Rattle.sqs_groups.specs.Groups.{found_at, groups_of, with_place};
 
 use crate::group::Group;
 use indexmap::IndexSet;
@@ -34,7 +35,7 @@ pub fn grouped(
     places: &[usize],
 ) -> Result<Vec<Vec<usize>>, Refusal>
     requires { All (λ place. place < length messages.now) places.now }
-    ensures groups { IfOk result (λ lists. map (λ v. at_places messages.now v.items) lists.items ≡ map (map Some) (groups_of (picked messages.now places.now))) }
+    ensures groups { IfOk result (λ lists. map (λ v. found_at messages.now v.items) lists.items ≡ map (map Some) (groups_of (at_places messages.now places.now))) }
     ensures memory_only { IsOkUnless result Refusal.Memory }
 {
     let mut groups = IndexSet::new(alloc);

@@ -3,7 +3,7 @@ ghost use Rattle.std.specs.Prelude.{IfOk, IsOkUnless, OnErr, OnOk, Some, [], if�
 ghost use Rattle.indexmap.specs.IndexSet.{contains};
 ghost use Rattle.sqs_model.specs.Available.{open_from};
 ghost use Rattle.sqs_model.specs.Queue.{is_delayed, is_in_flight, is_visible, same_text};
-ghost use Rattle.sqs_groups.specs.Groups.{AreGroupsOf, at_places};
+ghost use Rattle.sqs_groups.specs.Groups.{AreGroupsOf, found_at};
 
 use crate::group::{Group, note};
 use indexmap::IndexSet;
@@ -66,7 +66,7 @@ pub fn open_places(
     busy: &IndexSet<Group>,
 ) -> Result<Vec<usize>, Refusal>
     requires busy { AreGroupsOf is_in_flight messages.now busy.now.keys }
-    ensures places { IfOk result (λ places. at_places messages.now places.items ≡ map Some (open_from messages.now [] messages.now)) }
+    ensures places { IfOk result (λ places. found_at messages.now places.items ≡ map Some (open_from messages.now [] messages.now)) }
     ensures memory_only { IsOkUnless result Refusal.Memory }
 {
     let mut waiting = IndexSet::new(alloc);

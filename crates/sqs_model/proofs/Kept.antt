@@ -1,5 +1,5 @@
 -- A handling changes a queue's number never, and its entries only by entering one at its own moment: what such an entry keeps, a handling keeps.
-use Rattle.std.specs.Prelude.{Bool, Err, List, None, Ok, Option, Result, Some, [], false, find, if◌then◌else◌, min, nat_le, nat_lt, not, suc, take, true, zero, ℕ, ◌&&◌, ◌*◌, ◌+◌, ◌==◌, ◌∷◌, ◌≡◌, ◌||◌}
+use Rattle.std.specs.Prelude.{Bool, Err, List, None, Ok, Option, Result, Some, [], false, find, min, nat_lt, suc, take, true, zero, ℕ, ◌+◌, ◌∷◌, ◌≡◌}
 use Rattle.std.proofs.Common.{arith, refl, ◌++◌, ◌≤◌}
 use Rattle.std.proofs.lemmas.List.Elements.{All-filter, All-push}
 use Rattle.std.specs.Prelude.{All}
@@ -15,7 +15,6 @@ use Rattle.sqs_model.specs.declared.acts.Act.{Act}
 use Rattle.sqs_model.specs.declared.acts.Act.TheVariants as acts
 use Rattle.sqs_model.specs.declared.acts.Answer.{Answer}
 use Rattle.sqs_model.specs.declared.acts.Answer.TheVariants as told_by
-use Rattle.sqs_redrive.specs.declared.answers.Deleted.{Deleted}
 use Rattle.sqs_redrive.specs.declared.answers.Got.{Got}
 use Rattle.sqs_redrive.specs.declared.answers.Sent.{Sent}
 use Rattle.sqs_redrive.specs.declared.settings.Kind.{Kind}
@@ -26,21 +25,20 @@ use Rattle.sqs_redrive.specs.declared.transfers.Load.{Load}
 use Rattle.sqs_redrive.specs.declared.transfers.Load.TheVariants.{Forward, Move, Redrive}
 use Rattle.sqs_redrive.specs.declared.transfers.Outbound.{Outbound}
 use Rattle.sqs_message.specs.Ids.{id_text, read_receipt}
-use Rattle.sim_clock.specs.declared.refusal.Refusal.TheVariants as refusals
-use Rattle.sqs_redrive.specs.declared.answers.Deleted.TheVariants.{Kept}
 use Rattle.sqs_model.specs.Actor.{Actor, next}
 use Rattle.sqs_model.specs.Acts.{Made, act_made, all_came_back, came_back, cancel_done, cancel_made, change_answered, change_made, delete_made, given, long_poll, receive_as, receive_made, receive_none, receive_some, redrive_by, sends, serve_made, short_poll, start_made}
 use Rattle.sqs_model.specs.Arrive.{arrived, expired, expired_found, forwarded, forwarded_group, sent_of, settled_when}
 use Rattle.sqs_model.specs.Available.{all_hosts, available}
-use Rattle.sqs_model.specs.Calls.{in_flight_until, living, living_entries, removed, returned, scope_of, change, change_found, change_here, delete_as, delete_fifo_here, delete_gone, delete_standard_here, send_fifo, send_standard, send_unless, send_with}
+use Rattle.sqs_model.specs.Calls.{living, living_entries, scope_of, change, delete_as, send_fifo, send_standard, send_unless, send_with}
 use Rattle.sqs_model.specs.Draw.{Draws}
 use Rattle.sqs_model.specs.Polls.{acts_found, acts_most, acts_next, answer_polls, answer_when, poll_given, told, without_poll}
-use Rattle.sqs_model.specs.Queue.{Entry, Queue, in_flight, is_in_flight, numbered, room, taken_out, with_change}
-use Rattle.sqs_model.specs.Receive.{answered, give, give_most, given_one, is_bad_timeout, receive, timeout_of}
+use Rattle.sqs_model.specs.Queue.{Entry, Queue, room, taken_out}
+use Rattle.sqs_model.specs.Receive.{give, given_one, receive, timeout_of}
 use Rattle.sqs_model.specs.Return.{released, released_found, released_when}
 use Rattle.sqs_model.specs.Site.{Core, Effect, Poll, Site, actor_numbered, has_key, number_of, task_numbered, with_queue}
 use Rattle.sqs_model.specs.Step.{handle_arrival, handle_class, handle_step, handled, handled_when, with_polls}
 use Rattle.sqs_model.specs.Task.{Taken, Task, destination, take_each, taken_one}
+use Rattle.sqs_model.proofs.Answered.{change_by, delete_by, receive_by}
 use Rattle.sqs_model.proofs.Branches.{either}
 
 module _ (Q : ℕ → ℕ → List Entry → ℕ → Type 0)
@@ -80,11 +78,7 @@ module _ (Q : ℕ → ℕ → List Entry → ℕ → Type 0)
 
   receive_kept : (q : Queue) (now max : ℕ) (timeout : Option ℕ) (set : ℕ) (short : Bool) → Keeps now q → Leaves now (receive q now max timeout set short)
   receive_kept q now max timeout set short h =
-      let P : Result (List Got) Refusal × Queue → Type 0 = λ x. Leaves now x in
-      let full : Bool = short && nat_le q.settings.in_flight_limit (in_flight q) in
-      let got : Result (List Got) Refusal × Queue = answered (give_most q now max timeout set) in
-      either P (is_bad_timeout timeout) (Err refusals.BadTimeout, q) (if full then (Err refusals.OverLimit, q) else got) h
-      (either P full (Err refusals.OverLimit, q) got h (give_kept now (timeout_of q timeout) (take (min max (room q)) (available q set)) q h))
+      receive_by (λ x. Leaves now x) q now max timeout set short (λ e. h) (give_kept now (timeout_of q timeout) (take (min max (room q)) (available q set)) q h)
 
   -- sends
   standard_kept : (q : Queue) (now : ℕ) (body : List ℕ) (delay : Option ℕ) → Keeps now q → Leaves now (send_standard q now body delay)
@@ -110,61 +104,12 @@ module _ (Q : ℕ → ℕ → List Entry → ℕ → Type 0)
   sends_kept (Fifo content scope) q now body delay group id h = fifo_kept q content scope now body group id delay h
 
   -- deletes
-  gone_kept : (now : ℕ) (q : Queue) (r : Receipt) → Keeps now q → Leaves now (delete_gone q r)
-  gone_kept now q r h = either (λ (x : Result Deleted Refusal × Queue). Leaves now x) _ _ _ h h
-
-  standard_here : (q : Queue) (now : ℕ) (r : Receipt) (m : Message) → Keeps now q → Leaves now (delete_standard_here q now r m)
-  standard_here q now r m h =
-      let P : Result Deleted Refusal × Queue → Type 0 = λ x. Leaves now x in
-      let newer : Result Deleted Refusal × Queue = if nat_lt r.count m.receives then (Ok Kept, q) else removed q now r m in
-      either P (nat_lt m.receives r.count) (Err refusals.ReceiptHandleIsInvalid, q) newer h
-      (either P (nat_lt r.count m.receives) (Ok Kept, q) (removed q now r m) h h)
-
-  fifo_here : (q : Queue) (now : ℕ) (r : Receipt) (m : Message) → Keeps now q → Leaves now (delete_fifo_here q now r m)
-  fifo_here q now r m h = either (λ (x : Result Deleted Refusal × Queue). Leaves now x) _ _ _ h h
-
   delete_kept : (k : Kind) (q : Queue) (now : ℕ) (r : Receipt) → Keeps now q → Leaves now (delete_as k q now r)
-  delete_kept (Standard hosts sampled) q now r h =
-      either (λ (x : Result Deleted Refusal × Queue). Leaves now x) _ _ _
-      (elim (numbered r.number q.records) as
-      (λ o. Leaves now (elim o as (λ _. Result Deleted Refusal × Queue) [ None ↦ delete_gone q r | Some m ↦ delete_standard_here q now r m ])) [
-        | None ↦ gone_kept now q r h
-        | Some m ↦ standard_here q now r m h
-      ])
-      h
-  delete_kept (Fifo content scope) q now r h =
-      either (λ (x : Result Deleted Refusal × Queue). Leaves now x) _ _ _
-      (elim (numbered r.number q.records) as
-      (λ o. Leaves now (elim o as (λ _. Result Deleted Refusal × Queue) [ None ↦ delete_gone q r | Some m ↦ delete_fifo_here q now r m ])) [
-        | None ↦ gone_kept now q r h
-        | Some m ↦ fifo_here q now r m h
-      ])
-      h
+  delete_kept k q now r h = delete_by (λ x. Leaves now x) q now r (record { refused = h; gone = h; kept = h; taken = λ m e. h }) k
 
   -- changes
-  change_here_kept : (q : Queue) (now : ℕ) (r : Receipt) (timeout : ℕ) (m : Message) → Keeps now q → Leaves now (change_here q now r timeout m)
-  change_here_kept q now r timeout m h =
-      let P : Result (Option Load) Refusal × Queue → Type 0 = λ x. Leaves now x in
-      let kept : Queue = with_change q r.number (in_flight_until (now + 1000 * timeout)) in
-      let done : Result (Option Load) Refusal × Queue = if timeout == 0 then returned (released q r.number) else (Ok None, kept) in
-      let short : Result (Option Load) Refusal × Queue = if nat_lt (m.received + 43200000) (now + 1000 * timeout) then (Err refusals.BadTimeout, q) else done in
-      either P (nat_lt m.receives r.count) (Err refusals.ReceiptHandleIsInvalid, q)
-      (if not (is_in_flight m) || nat_lt r.count m.receives then (Err refusals.MessageNotInflight, q) else short) h
-      (either P (not (is_in_flight m) || nat_lt r.count m.receives) (Err refusals.MessageNotInflight, q) short h
-      (either P (nat_lt (m.received + 43200000) (now + 1000 * timeout)) (Err refusals.BadTimeout, q) done h
-      (either P (timeout == 0) (returned (released q r.number)) (Ok None, kept) (released_kept now q r.number h) h)))
-
-  change_found_kept : (q : Queue) (now : ℕ) (r : Receipt) (timeout : ℕ) (o : Option Message) → Keeps now q → Leaves now (change_found q now r timeout o)
-  change_found_kept q now r timeout None h = either (λ (x : Result (Option Load) Refusal × Queue). Leaves now x) _ _ _ h h
-  change_found_kept q now r timeout (Some m) h = change_here_kept q now r timeout m h
-
   change_kept : (q : Queue) (now : ℕ) (r : Receipt) (timeout : ℕ) → Keeps now q → Leaves now (change q now r timeout)
-  change_kept q now r timeout h =
-      let P : Result (Option Load) Refusal × Queue → Type 0 = λ x. Leaves now x in
-      let o : Option Message = numbered r.number q.records in
-      let found : Result (Option Load) Refusal × Queue = change_found q now r timeout o in
-      either P (nat_lt 43200 timeout) (Err refusals.BadTimeout, q) (if r.site == q.site then found else (Err refusals.ReceiptHandleIsInvalid, q)) h
-      (either P (r.site == q.site) found (Err refusals.ReceiptHandleIsInvalid, q) (change_found_kept q now r timeout o h) h)
+  change_kept q now r timeout h = change_by (λ x. Leaves now x) q now r timeout (record { refused = λ e. h; back = λ e. released_kept now q r.number h; kept = λ e. h })
 
   -- arrivals
   settled_kept : (now : ℕ) (b : Bool) (q : Queue) (m : Message) → Keeps now q → Leaves now (settled_when b q m)
@@ -351,14 +296,18 @@ pub handled_number : (key : Key) (s : Site) → number_of (handled key s).site.c
 unfolding handled
 handled_number key s = when_handled (λ now site entries n. site ≡ number_of s.core) (λ now site entries e n at h. h) (λ now site entries n h. h) _ key s refl
 
+-- after an entry, as before it, no entry is from after its moment
+pub none_later : (now : ℕ) (entries : List Entry) (e : Entry) → e.end ≡ now + 300000 → All (λ x. x.end ≤ now + 300000) entries → All (λ x. x.end ≤ now + 300000) (living_entries now entries ++ e ∷ [])
+none_later now entries e at h =
+    let P : Entry → Type 0 = λ x. x.end ≤ now + 300000 in
+    All-push P (living_entries now entries) e (All-filter (λ x. nat_lt now x.end) P entries h) (omega (arith, at))
+
 -- no entry is from after a moment
 abbrev Recent : ℕ → ℕ → List Entry → ℕ → Type 0
 Recent now site entries n = All (λ e. e.end ≤ now + 300000) entries
 
 entered : (now site : ℕ) (entries : List Entry) (e : Entry) (n : ℕ) → e.end ≡ now + 300000 → Recent now site entries n → Recent now site (living_entries now entries ++ e ∷ []) n
-entered now site entries e n at h =
-    let P : Entry → Type 0 = λ x. x.end ≤ now + 300000 in
-    All-push P (living_entries now entries) e (All-filter (λ x. nat_lt now x.end) P entries h) (omega (arith, at))
+entered now site entries e n at h = none_later now entries e at h
 
 counted : (now site : ℕ) (entries : List Entry) (n : ℕ) → Recent now site entries n → Recent now site entries (n + 1)
 counted now site entries n h = h

@@ -1,5 +1,5 @@
 -- What happens to a queue keeps it in balance: what leaves it is sent, deleted or expired, and what comes in is new or was on its way.
-use Rattle.std.specs.Prelude.{All, Bool, Err, List, None, Ok, Option, Result, Some, [], false, get_or, if◌then◌else◌, min, nat_le, nat_lt, not, take, true, ℕ, ◌&&◌, ◌*◌, ◌+◌, ◌++◌, ◌<◌, ◌==◌, ◌∷◌, ◌≡◌, ◌≢◌, ◌||◌}
+use Rattle.std.specs.Prelude.{All, Bool, Err, List, None, Ok, Option, Result, Some, [], false, get_or, min, take, true, ℕ, ◌*◌, ◌+◌, ◌++◌, ◌<◌, ◌==◌, ◌∷◌, ◌≡◌, ◌≢◌}
 use Rattle.std.proofs.Common.{ap, arith, refl, subst, sym, ◌∙◌}
 use Rattle.std.proofs.lemmas.Bool.{eqb-true}
 use Rattle.std.proofs.lemmas.List.Elements.{All-head, All-tail, All-weaker}
@@ -28,17 +28,19 @@ use Rattle.sqs_model.specs.Scenario.{MayBeWithin}
 use Rattle.sqs_model.specs.Acts.{sends}
 use Rattle.sqs_model.specs.Arrive.{arrived, brought, enqueued_at, forwarded, forwarded_group, sent_of, settled_when}
 use Rattle.sqs_model.specs.Available.{available}
-use Rattle.sqs_model.specs.Calls.{change, change_found, change_here, deduplication_id, delay_of, delete_as, delete_fifo_here, delete_gone, delete_standard_here, in_flight_until, is_bad_delay, living, new_message, removed, returned, scope_of, send_standard, send_unless, send_with, with_entry, with_message}
-use Rattle.sqs_model.specs.Queue.{Entry, Queue, has_number, id_of, in_flight, is_in_flight, numbered, room, taken_out, with_change}
-use Rattle.sqs_model.specs.Receive.{answered, give, give_most, given_one, is_bad_timeout, receive, received, timeout_of}
+use Rattle.sqs_model.specs.Calls.{change, deduplication_id, delay_of, delete_as, in_flight_until, is_bad_delay, living, new_message, scope_of, send_standard, send_unless, send_with, with_entry, with_message}
+use Rattle.sqs_model.specs.Queue.{Entry, Queue, has_number, id_of, numbered, room, taken_out, with_change}
+use Rattle.sqs_model.specs.Receive.{give, given_one, receive, received, timeout_of}
 use Rattle.sqs_model.specs.Return.{leaves, released, released_found, released_when, visible_again}
 use Rattle.sqs_model.specs.Step.{load_origin}
 use Rattle.sqs_model.specs.Task.{Taken, destination, take_each, taken_one}
+use Rattle.sqs_model.proofs.Answered.{change_by, delete_by, receive_by}
 use Rattle.sqs_model.proofs.Balance.{Holds, IsFine, IsSame, first_again, first_own, holds_as, holds_changed, holds_end, holds_news, holds_pushed, holds_taken, told_new}
 use Rattle.sqs_model.proofs.Branches.{either, either_by}
-use Rattle.sqs_model.proofs.Chosen.{Apart, Stand, other_without}
+use Rattle.sqs_model.proofs.Chosen.{Stand}
 use Rattle.sqs_model.proofs.Counts.{find_all, find_picked, total}
 use Rattle.sqs_model.proofs.Ledger.{IsEnd, IsNews, bit, first_in, given_by, id_at}
+use Rattle.sqs_model.proofs.Numbered.{Apart, other_without}
 
 -- whether there is a policy
 abbrev pub IsThere : Option Policy → Type 0
@@ -193,11 +195,8 @@ module _ (o : Origin) (top : ℕ) (base : List Row) (rows : List Row) where
 
   pub receive_balances : (elsewhere : ℕ) (q : Queue) (now max : ℕ) (timeout : Option ℕ) (set : ℕ) (short : Bool) → At elsewhere q → Answers elsewhere (timeout_of q timeout) q.settings (receive q now max timeout set short)
   receive_balances elsewhere q now max timeout set short h =
-      let P : Result (List Got) Refusal × Queue → Type 0 = Answers elsewhere (timeout_of q timeout) q.settings in
-      let full : Bool = short && nat_le q.settings.in_flight_limit (in_flight q) in
-      let got : Result (List Got) Refusal × Queue = answered (give_most q now max timeout set) in
-      either P (is_bad_timeout timeout) (Err refusals.BadTimeout, q) (if full then (Err refusals.OverLimit, q) else got) tt
-      (either P full (Err refusals.OverLimit, q) got tt (give_balances now (timeout_of q timeout) (take (min max (room q)) (available q set)) elsewhere q h))
+      receive_by (Answers elsewhere (timeout_of q timeout) q.settings) q now max timeout set short (λ e. tt)
+      (give_balances now (timeout_of q timeout) (take (min max (room q)) (available q set)) elsewhere q h)
 
   -- sends
   abbrev pub Sends : ℕ → Result Sent Refusal × Queue → Type 0
@@ -241,41 +240,9 @@ module _ (o : Origin) (top : ℕ) (base : List Row) (rows : List Row) where
   Deletes elsewhere site n (Ok Gone, q) = At elsewhere q
   Deletes elsewhere site n (Err e, q) = At elsewhere q
 
-  gone_balances : (elsewhere : ℕ) (q : Queue) (r : Receipt) → At elsewhere q → Deletes elsewhere q.site r.number (delete_gone q r)
-  gone_balances elsewhere q r h = either (Deletes elsewhere q.site r.number) (nat_lt r.number q.arrivals) (Ok Gone, q) (Err refusals.ReceiptHandleIsInvalid, q) h h
-
-  standard_here : (elsewhere : ℕ) (q : Queue) (now : ℕ) (r : Receipt) (m : Message) → numbered r.number q.records ≡ Some m → At elsewhere q → Deletes elsewhere q.site r.number (delete_standard_here q now r m)
-  standard_here elsewhere q now r m e h =
-      let P : Result Deleted Refusal × Queue → Type 0 = Deletes elsewhere q.site r.number in
-      let newer : Result Deleted Refusal × Queue = if nat_lt r.count m.receives then (Ok Kept, q) else removed q now r m in
-      either P (nat_lt m.receives r.count) (Err refusals.ReceiptHandleIsInvalid, q) newer h
-      (either P (nat_lt r.count m.receives) (Ok Kept, q) (removed q now r m) h (ends_one r.number m elsewhere q e h))
-
-  fifo_here : (elsewhere : ℕ) (q : Queue) (now : ℕ) (r : Receipt) (m : Message) → numbered r.number q.records ≡ Some m → At elsewhere q → Deletes elsewhere q.site r.number (delete_fifo_here q now r m)
-  fifo_here elsewhere q now r m e h =
-      either (Deletes elsewhere q.site r.number) (r.count == m.receives && is_in_flight m) (removed q now r m) (Err refusals.ReceiptHandleIsInvalid, q) (ends_one r.number m elsewhere q e h) h
-
   pub delete_balances : (k : Kind) (elsewhere : ℕ) (q : Queue) (now : ℕ) (r : Receipt) → At elsewhere q → Deletes elsewhere q.site r.number (delete_as k q now r)
-  delete_balances (Standard hosts sampled) elsewhere q now r h =
-      either (Deletes elsewhere q.site r.number) (r.site == q.site)
-      (elim (numbered r.number q.records) as (λ _. Result Deleted Refusal × Queue) [ None ↦ delete_gone q r | Some m ↦ delete_standard_here q now r m ])
-      (Err refusals.ReceiptHandleIsInvalid, q)
-      (elim (numbered r.number q.records) as
-      (λ f. numbered r.number q.records ≡ f → Deletes elsewhere q.site r.number (elim f as (λ _. Result Deleted Refusal × Queue) [ None ↦ delete_gone q r | Some m ↦ delete_standard_here q now r m ])) [
-        | None ↦ λ e. gone_balances elsewhere q r h
-        | Some m ↦ λ e. standard_here elsewhere q now r m e h
-      ] refl)
-      h
-  delete_balances (Fifo content scope) elsewhere q now r h =
-      either (Deletes elsewhere q.site r.number) (r.site == q.site)
-      (elim (numbered r.number q.records) as (λ _. Result Deleted Refusal × Queue) [ None ↦ delete_gone q r | Some m ↦ delete_fifo_here q now r m ])
-      (Err refusals.ReceiptHandleIsInvalid, q)
-      (elim (numbered r.number q.records) as
-      (λ f. numbered r.number q.records ≡ f → Deletes elsewhere q.site r.number (elim f as (λ _. Result Deleted Refusal × Queue) [ None ↦ delete_gone q r | Some m ↦ delete_fifo_here q now r m ])) [
-        | None ↦ λ e. gone_balances elsewhere q r h
-        | Some m ↦ λ e. fifo_here elsewhere q now r m e h
-      ] refl)
-      h
+  delete_balances k elsewhere q now r h =
+      delete_by (Deletes elsewhere q.site r.number) q now r (record { refused = h; gone = h; kept = h; taken = λ m e. ends_one r.number m elsewhere q e h }) k
 
   -- changes
   abbrev pub Changes : ℕ → ℕ → QueueSettings → Result (Option Load) Refusal × Queue → Type 0
@@ -285,31 +252,16 @@ module _ (o : Origin) (top : ℕ) (base : List Row) (rows : List Row) where
   flight_same : (at : ℕ) → IsSame o top base (in_flight_until at)
   flight_same at = record { number = λ m. refl; origin = λ m. refl; source = λ m. refl }
 
-  here_balances : (elsewhere : ℕ) (q : Queue) (now : ℕ) (r : Receipt) (timeout : ℕ) (m : Message) → At elsewhere q → Changes elsewhere timeout q.settings (change_here q now r timeout m)
-  here_balances elsewhere q now r timeout m h =
-      let P : Result (Option Load) Refusal × Queue → Type 0 = Changes elsewhere timeout q.settings in
-      let kept : Queue = with_change q r.number (in_flight_until (now + 1000 * timeout)) in
-      let k : At elsewhere kept = holds_changed o top base rows r.number (in_flight_until (now + 1000 * timeout)) elsewhere q (flight_same (now + 1000 * timeout)) h in
-      let done : Result (Option Load) Refusal × Queue = if timeout == 0 then returned (released q r.number) else (Ok None, kept) in
-      let short : Result (Option Load) Refusal × Queue = if nat_lt (m.received + 43200000) (now + 1000 * timeout) then (Err refusals.BadTimeout, q) else done in
-      either P (nat_lt m.receives r.count) (Err refusals.ReceiptHandleIsInvalid, q)
-      (if not (is_in_flight m) || nat_lt r.count m.receives then (Err refusals.MessageNotInflight, q) else short) tt
-      (either P (not (is_in_flight m) || nat_lt r.count m.receives) (Err refusals.MessageNotInflight, q) short tt
-      (either P (nat_lt (m.received + 43200000) (now + 1000 * timeout)) (Err refusals.BadTimeout, q) done tt
-      (either_by P (timeout == 0) (returned (released q r.number)) (Ok None, kept)
-      (λ e. (released_balances elsewhere q r.number h, λ f. cc)) (λ e. (stays elsewhere kept k, λ f. refl)))))
-
-  found_balances : (elsewhere : ℕ) (q : Queue) (now : ℕ) (r : Receipt) (timeout : ℕ) (f : Option Message) → At elsewhere q → Changes elsewhere timeout q.settings (change_found q now r timeout f)
-  found_balances elsewhere q now r timeout None h =
-      either (Changes elsewhere timeout q.settings) (nat_lt r.number q.arrivals) (Err refusals.MessageNotInflight, q) (Err refusals.ReceiptHandleIsInvalid, q) tt tt
-  found_balances elsewhere q now r timeout (Some m) h = here_balances elsewhere q now r timeout m h
-
   pub change_balances : (elsewhere : ℕ) (q : Queue) (now : ℕ) (r : Receipt) (timeout : ℕ) → At elsewhere q → Changes elsewhere timeout q.settings (change q now r timeout)
   change_balances elsewhere q now r timeout h =
-      let P : Result (Option Load) Refusal × Queue → Type 0 = Changes elsewhere timeout q.settings in
-      let found : Result (Option Load) Refusal × Queue = change_found q now r timeout (numbered r.number q.records) in
-      either P (nat_lt 43200 timeout) (Err refusals.BadTimeout, q) (if r.site == q.site then found else (Err refusals.ReceiptHandleIsInvalid, q)) tt
-      (either P (r.site == q.site) found (Err refusals.ReceiptHandleIsInvalid, q) (found_balances elsewhere q now r timeout (numbered r.number q.records) h) tt)
+      let flight : Message → Message = in_flight_until (now + 1000 * timeout) in
+      let k : At elsewhere (with_change q r.number flight) = holds_changed o top base rows r.number flight elsewhere q (flight_same (now + 1000 * timeout)) h in
+      change_by (Changes elsewhere timeout q.settings) q now r timeout
+      (record {
+        refused = λ e. tt;
+        back = λ e. (released_balances elsewhere q r.number h, λ f. cc);
+        kept = λ e. (stays elsewhere (with_change q r.number flight) k, λ f. refl);
+      })
 
   -- arrivals
   abbrev pub Comes : ℕ → Load → (Sent × Bool) × Queue → Type 0

@@ -1,5 +1,5 @@
 -- Nothing that happens to a sound queue makes anything due by the present, and the queue stays sound.
-use Rattle.std.specs.Prelude.{All, Bool, Err, List, None, Ok, Option, Result, Some, [], false, if◌then◌else◌, nat_le, nat_lt, not, min, take, true, ℕ, ◌&&◌, ◌||◌, ◌*◌, ◌+◌, ◌-◌, ◌<◌, ◌==◌, ◌∷◌, ◌≡◌, ◌≤◌}
+use Rattle.std.specs.Prelude.{All, Bool, Err, List, None, Ok, Option, Result, Some, [], false, if◌then◌else◌, min, take, true, ℕ, ◌*◌, ◌+◌, ◌-◌, ◌<◌, ◌==◌, ◌∷◌, ◌≡◌, ◌≤◌}
 use Rattle.std.proofs.Common.{ap, arith, refl}
 use Rattle.std.proofs.lemmas.Bool.{eqb-false, eqb-true, leb-false}
 use Rattle.std.proofs.lemmas.List.Elements.{All-append, All-cons, All-nil, All-weaker}
@@ -7,8 +7,6 @@ use Rattle.sim_clock.specs.declared.refusal.Refusal.{Refusal}
 use Rattle.sqs_message.specs.declared.ids.MessageId.{MessageId}
 use Rattle.sqs_message.specs.declared.ids.Receipt.{Receipt}
 use Rattle.sqs_message.specs.declared.message.Message.{Message}
-use Rattle.sqs_redrive.specs.declared.answers.Deleted.{Deleted}
-use Rattle.sqs_redrive.specs.declared.answers.Got.{Got}
 use Rattle.sqs_redrive.specs.declared.answers.Sent.{Sent}
 use Rattle.sqs_redrive.specs.declared.settings.Kind.{Kind}
 use Rattle.sqs_redrive.specs.declared.settings.Kind.TheVariants.{Fifo, Standard}
@@ -16,15 +14,14 @@ use Rattle.sqs_redrive.specs.declared.settings.Scope.{Scope}
 use Rattle.sqs_redrive.specs.declared.transfers.Load.{Load}
 use Rattle.sqs_redrive.specs.declared.transfers.Load.TheVariants.{Forward, Move, Redrive}
 use Rattle.sqs_model.specs.Arrive.{arrived, forwarded, is_too_old, sent_of, settled_when}
-use Rattle.sqs_model.specs.Calls.{change, change_done, change_found, change_here, delete_as, delete_fifo_here, delete_gone, delete_standard_here, in_flight_until, new_message, removed, returned, send_fifo, send_standard, send_unless, send_with, with_entry, with_message}
+use Rattle.sqs_model.specs.Calls.{change, delete_as, in_flight_until, new_message, send_fifo, send_standard, send_unless, send_with, with_entry, with_message}
 use Rattle.sqs_model.specs.Progress.{IsSoundQueue}
-use Rattle.sqs_model.specs.Queue.{Entry, Queue, has_number, in_flight, is_in_flight, numbered, room, taken_out, with_change}
+use Rattle.sqs_model.specs.Queue.{Entry, Queue, has_number, numbered, room, taken_out, with_change}
 use Rattle.sqs_model.specs.Available.{available}
-use Rattle.sqs_model.specs.Receive.{answered, give, give_most, given_one, is_bad_timeout, received, receive, timeout_of}
-use Rattle.sim_clock.specs.declared.refusal.Refusal.TheVariants as refusals
-use Rattle.sqs_redrive.specs.declared.answers.Deleted.TheVariants.{Kept}
+use Rattle.sqs_model.specs.Receive.{give, given_one, received, receive, timeout_of}
 use Rattle.sqs_model.specs.Return.{leaves, released, released_found, released_when, visible_again}
 use Rattle.sqs_model.specs.Task.{Taken, destination, take_each, taken_one}
+use Rattle.sqs_model.proofs.Answered.{change_by, delete_by, receive_by}
 use Rattle.sqs_model.proofs.Branches.{either}
 use Rattle.sqs_model.proofs.Counts.{all_changed, all_without, ascends_changed, ascends_push, ascends_without, changed_none, changed_twice, find_changed, find_picked, less_changed, less_without, tick, tick_if, tick_past, total_changed, total_push, total_without, without_changed}
 use Rattle.sqs_model.proofs.Early.{message_early, queue_early}
@@ -171,12 +168,8 @@ module _ (now e : ℕ) (l : e ≤ now) where
 
   pub receive_keeps : (q : Queue) (max : ℕ) (timeout : Option ℕ) (set : ℕ) (short : Bool) → IsSoundQueue q → Keeps e 0 q (receive q now max timeout set short).1
   receive_keeps q max timeout set short s =
-      either (λ (r : Result (List Got) Refusal × Queue). Keeps e 0 q r.1) (is_bad_timeout timeout) (Err refusals.BadTimeout, q)
-      (if short && nat_le q.settings.in_flight_limit (in_flight q) then (Err refusals.OverLimit, q) else answered (give_most q now max timeout set))
-      (stays e q s)
-      (either (λ (r : Result (List Got) Refusal × Queue). Keeps e 0 q r.1) (short && nat_le q.settings.in_flight_limit (in_flight q)) (Err refusals.OverLimit, q)
-      (answered (give_most q now max timeout set)) (stays e q s)
-      (give_keeps (timeout_of q timeout) (take (min max (room q)) (available q set)) q s))
+      receive_by (λ x. Keeps e 0 q x.1) q now max timeout set short (λ x. stays e q s)
+      (give_keeps (timeout_of q timeout) (take (min max (room q)) (available q set)) q s)
 
   -- sends
   delayed_when : (delay : ℕ) (b : Bool) → (delay == 0) ≡ b → tick_if e (if b then None else Some (now + delay)) ≡ 0
@@ -214,67 +207,21 @@ module _ (now e : ℕ) (l : e ≤ now) where
       either (λ (r : Result Sent Refusal × Queue). Keeps e 0 q r.1) _ _ _ (stays e q s) (send_with_keeps q scope body group _ s)
 
   -- deletes
-  gone_keeps : (q : Queue) (r : Receipt) → IsSoundQueue q → Keeps e 0 q (delete_gone q r).1
-  gone_keeps q r s = either (λ (x : Result Deleted Refusal × Queue). Keeps e 0 q x.1) _ _ _ (stays e q s) (stays e q s)
-
-  standard_here_keeps : (q : Queue) (r : Receipt) (m : Message) → IsSoundQueue q → Keeps e 0 q (delete_standard_here q now r m).1
-  standard_here_keeps q r m s =
-      either (λ (x : Result Deleted Refusal × Queue). Keeps e 0 q x.1) (nat_lt m.receives r.count) (Err refusals.ReceiptHandleIsInvalid, q)
-      (if nat_lt r.count m.receives then (Ok Kept, q) else removed q now r m) (stays e q s)
-      (either (λ (x : Result Deleted Refusal × Queue). Keeps e 0 q x.1) (nat_lt r.count m.receives) (Ok Kept, q) (removed q now r m) (stays e q s) (taken_keeps e q r.number s))
-
-  fifo_here_keeps : (q : Queue) (r : Receipt) (m : Message) → IsSoundQueue q → Keeps e 0 q (delete_fifo_here q now r m).1
-  fifo_here_keeps q r m s = either (λ (x : Result Deleted Refusal × Queue). Keeps e 0 q x.1) _ _ _ (taken_keeps e q r.number s) (stays e q s)
-
   pub delete_keeps : (q : Queue) (k : Kind) (r : Receipt) → IsSoundQueue q → Keeps e 0 q (delete_as k q now r).1
-  delete_keeps q (Standard hosts sampled) r s =
-      either (λ (x : Result Deleted Refusal × Queue). Keeps e 0 q x.1) _ _ _
-      (elim (numbered r.number q.records) as
-      (λ o. Keeps e 0 q (elim o as (λ _. Result Deleted Refusal × Queue) [ None ↦ delete_gone q r | Some m ↦ delete_standard_here q now r m ]).1) [
-        | None ↦ gone_keeps q r s
-        | Some m ↦ standard_here_keeps q r m s
-      ])
-      (stays e q s)
-  delete_keeps q (Fifo content scope) r s =
-      either (λ (x : Result Deleted Refusal × Queue). Keeps e 0 q x.1) _ _ _
-      (elim (numbered r.number q.records) as
-      (λ o. Keeps e 0 q (elim o as (λ _. Result Deleted Refusal × Queue) [ None ↦ delete_gone q r | Some m ↦ delete_fifo_here q now r m ]).1) [
-        | None ↦ gone_keeps q r s
-        | Some m ↦ fifo_here_keeps q r m s
-      ])
-      (stays e q s)
+  delete_keeps q k r s =
+      delete_by (λ x. Keeps e 0 q x.1) q now r (record { refused = stays e q s; gone = stays e q s; kept = stays e q s; taken = λ m f. taken_keeps e q r.number s }) k
 
   -- changes
-  change_done_when :
-      (q : Queue) (n timeout : ℕ) (b : Bool) → IsSoundQueue q → (timeout == 0) ≡ b
-      → let x : Result (Option Load) Refusal × Queue = if b then returned (released q n) else (Ok None, with_change q n (in_flight_until (now + 1000 * timeout))) in Keeps e 0 q x.1
-  change_done_when q n timeout true s h = released_keeps e q n s
-  change_done_when q n timeout false s h =
+  later_keeps : (q : Queue) (n timeout : ℕ) → IsSoundQueue q → (timeout == 0) ≡ false → Keeps e 0 q (with_change q n (in_flight_until (now + 1000 * timeout)))
+  later_keeps q n timeout s h =
       let z : 0 < timeout = grind (arith, eqb-false timeout 0 h) in
       let t : tick e (now + 1000 * timeout) ≡ 0 = tick_past e (now + 1000 * timeout) (omega arith) in
       changed_keeps e q n (in_flight_until (now + 1000 * timeout)) s (λ x. refl) (λ x. omega arith)
 
-  change_here_keeps : (q : Queue) (r : Receipt) (timeout : ℕ) (m : Message) → IsSoundQueue q → Keeps e 0 q (change_here q now r timeout m).1
-  change_here_keeps q r timeout m s =
-      let done : Result (Option Load) Refusal × Queue = change_done q now r.number timeout in
-      let short : Result (Option Load) Refusal × Queue = if nat_lt (m.received + 43200000) (now + 1000 * timeout) then (Err refusals.BadTimeout, q) else done in
-      either (λ (x : Result (Option Load) Refusal × Queue). Keeps e 0 q x.1) (nat_lt m.receives r.count) (Err refusals.ReceiptHandleIsInvalid, q)
-      (if not (is_in_flight m) || nat_lt r.count m.receives then (Err refusals.MessageNotInflight, q) else short) (stays e q s)
-      (either (λ (x : Result (Option Load) Refusal × Queue). Keeps e 0 q x.1) (not (is_in_flight m) || nat_lt r.count m.receives) (Err refusals.MessageNotInflight, q) short (stays e q s)
-      (either (λ (x : Result (Option Load) Refusal × Queue). Keeps e 0 q x.1) (nat_lt (m.received + 43200000) (now + 1000 * timeout)) (Err refusals.BadTimeout, q) done (stays e q s)
-      (change_done_when q r.number timeout (timeout == 0) s refl)))
-
-  change_found_keeps : (q : Queue) (r : Receipt) (timeout : ℕ) (o : Option Message) → IsSoundQueue q → Keeps e 0 q (change_found q now r timeout o).1
-  change_found_keeps q r timeout None s = either (λ (x : Result (Option Load) Refusal × Queue). Keeps e 0 q x.1) _ _ _ (stays e q s) (stays e q s)
-  change_found_keeps q r timeout (Some m) s = change_here_keeps q r timeout m s
-
   pub change_keeps : (q : Queue) (r : Receipt) (timeout : ℕ) → IsSoundQueue q → Keeps e 0 q (change q now r timeout).1
   change_keeps q r timeout s =
-      let found : Result (Option Load) Refusal × Queue = change_found q now r timeout (numbered r.number q.records) in
-      either (λ (x : Result (Option Load) Refusal × Queue). Keeps e 0 q x.1) (nat_lt 43200 timeout) (Err refusals.BadTimeout, q)
-      (if r.site == q.site then found else (Err refusals.ReceiptHandleIsInvalid, q)) (stays e q s)
-      (either (λ (x : Result (Option Load) Refusal × Queue). Keeps e 0 q x.1) (r.site == q.site) found (Err refusals.ReceiptHandleIsInvalid, q)
-      (change_found_keeps q r timeout (numbered r.number q.records) s) (stays e q s))
+      change_by (λ x. Keeps e 0 q x.1) q now r timeout
+      (record { refused = λ x. stays e q s; back = λ h. released_keeps e q r.number s; kept = λ h. later_keeps q r.number timeout s h })
 
   -- arrivals
   settled_keeps : (q : Queue) (m : Message) (b : Bool) → IsSoundQueue q → m.number ≡ q.arrivals → m.release ≡ None → is_too_old q now m ≡ b → Keeps e 0 q (settled_when b q m).1

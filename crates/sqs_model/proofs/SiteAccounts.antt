@@ -410,7 +410,7 @@ module _ (o : Origin) (top : ℕ) (base : List Row) where
         let l : Leads o top t = task_leads rows elsewhere c key.agent t e h in
         let ms : List Message = take t.move.settings.per_second (all_available c.queue) in
         let taken : Takes o top base rows elsewhere (take_each c.queue t.move.settings.to ms) =
-        take_balances o top base rows t.move.settings.to ms elsewhere c.queue l (first_stand c.queue t.move.settings.per_second h.0.ordered) (first_apart c.queue t.move.settings.per_second h.0.ordered) h.0 in
+        take_balances o top base rows t.move.settings.to ms elsewhere c.queue l (first_stand c.queue (all_hosts c.queue.settings.kind) t.move.settings.per_second h.0.ordered) (first_apart c.queue (all_hosts c.queue.settings.kind) t.move.settings.per_second h.0.ordered) h.0 in
         let y : (List (ℕ × Load) × Rest) × Queue = take_movable c.queue t.move.settings.per_second t.move.settings.to in
         let d : Core = with_queue c y.1 in
         let moved = moved_goes d t y.0.0 taken.bound in

@@ -1,5 +1,5 @@
 -- Nothing at a site was enqueued after the present.
-use Rattle.std.specs.Prelude.{Bool, Err, IfSome, List, None, Ok, Option, Result, Some, [], drop, false, find, if◌then◌else◌, map, min, nat_le, nat_lt, not, suc, take, true, zero, ℕ, ◌&&◌, ◌*◌, ◌+◌, ◌==◌, ◌∷◌, ◌≡◌, ◌≤◌, ◌||◌}
+use Rattle.std.specs.Prelude.{Bool, Err, IfSome, List, None, Ok, Option, Result, Some, [], false, find, map, min, suc, take, true, zero, ℕ, ◌*◌, ◌+◌, ◌==◌, ◌∷◌, ◌≡◌, ◌≤◌}
 use Rattle.std.proofs.Common.{ap, arith, refl}
 use Rattle.std.proofs.lemmas.List.Elements.{All-append, All-cons, All-nil, All-push}
 use Rattle.sim_clock.specs.declared.key.Class.{Class}
@@ -12,9 +12,6 @@ use Rattle.sim_clock.proofs.Least.{key_tied}
 use Rattle.sqs_message.specs.declared.ids.MessageId.{MessageId}
 use Rattle.sqs_message.specs.declared.ids.Receipt.{Receipt}
 use Rattle.sqs_message.specs.declared.message.Message.{Message}
-use Rattle.sqs_message.specs.declared.calls.Call.{Call}
-use Rattle.sqs_message.specs.declared.calls.Call.TheVariants as calls
-use Rattle.sqs_message.specs.declared.calls.ScriptCall.{ScriptCall}
 use Rattle.sqs_message.specs.Ids.{id_text, read_receipt}
 use Rattle.sqs_message.specs.declared.row.Detail.TheVariants as details
 use Rattle.sqs_message.specs.declared.row.RowAnswer.TheVariants as answers
@@ -25,12 +22,6 @@ use Rattle.sqs_model.specs.declared.acts.Act.{Act}
 use Rattle.sqs_model.specs.declared.acts.Act.TheVariants as acts
 use Rattle.sqs_model.specs.declared.acts.Answer.{Answer}
 use Rattle.sqs_model.specs.declared.acts.Answer.TheVariants as told_by
-use Rattle.sqs_model.specs.declared.agents.ConsumerSettings.{ConsumerSettings}
-use Rattle.sqs_model.specs.declared.agents.Forwarding.{Forwarding}
-use Rattle.sqs_model.specs.declared.agents.Role.{Role}
-use Rattle.sqs_model.specs.declared.agents.Role.TheVariants.{Consumer, Producer, Script}
-use Rattle.sqs_redrive.specs.declared.answers.Deleted.{Deleted}
-use Rattle.sqs_redrive.specs.declared.answers.Deleted.TheVariants as deletes
 use Rattle.sqs_redrive.specs.declared.answers.Got.{Got}
 use Rattle.sqs_redrive.specs.declared.answers.Sent.{Sent}
 use Rattle.sqs_redrive.specs.declared.settings.Kind.{Kind}
@@ -41,22 +32,24 @@ use Rattle.sqs_redrive.specs.declared.transfers.Load.{Load}
 use Rattle.sqs_redrive.specs.declared.transfers.Load.TheVariants.{Forward, Move, Redrive}
 use Rattle.sqs_redrive.specs.declared.transfers.Outbound.{Outbound}
 use Rattle.sqs_redrive.specs.Transfers.{transfer_key}
-use Rattle.sqs_model.specs.Actor.{Actor, Asked, Ended, Served, Stage, act_of, consumer_got, consumer_told, consumer_wake, ends_service, next, next_as, script_wake, serves, wakes_after, woken}
+use Rattle.sqs_model.specs.Actor.{Actor, next}
 use Rattle.sqs_model.specs.Acts.{Made, act_made, change_row, got_row, made, receive_row, runs, task_row, with_poll, all_came_back, came_back, cancel_done, cancel_made, change_answered, change_made, delete_made, given, long_poll, receive_as, receive_made, receive_none, receive_some, redrive_by, sends, serve_made, short_poll, start_made}
 use Rattle.sqs_model.specs.Arrive.{arrived, enqueued_at, expired_found, forwarded, forwarded_group, sent_of, settled_when}
 use Rattle.sqs_model.specs.Available.{all_hosts, available}
-use Rattle.sqs_model.specs.Calls.{change, change_found, change_here, delete_as, delete_fifo_here, delete_gone, delete_standard_here, in_flight_until, living, removed, returned, scope_of, send_standard, send_unless, send_with, with_message}
-use Rattle.sqs_model.specs.Draw.{Draws, drawn_chance, drawn_latency, drawn_uniform}
+use Rattle.sqs_model.specs.Calls.{change, delete_as, in_flight_until, living, scope_of, send_standard, send_unless, send_with, with_message}
+use Rattle.sqs_model.specs.Draw.{Draws, drawn_latency}
 use Rattle.sqs_model.specs.Polls.{acts_found, acts_most, acts_next, answer_polls, answer_when, poll_given, told, without_poll}
 use Rattle.sqs_model.specs.Progress.{AreTimely, HandlingKeepsTime, IsFilledBy, KeepsTime, WasEnqueuedBy}
-use Rattle.sqs_model.specs.Queue.{Entry, Queue, has_number, id_of, in_flight, is_in_flight, numbered, room, taken_out, with_change}
-use Rattle.sqs_model.specs.Receive.{answered, give, give_most, given_one, is_bad_timeout, receive, received, timeout_of}
+use Rattle.sqs_model.specs.Queue.{Entry, Queue, has_number, id_of, numbered, room, taken_out, with_change}
+use Rattle.sqs_model.specs.Receive.{give, given_one, receive, received, timeout_of}
 use Rattle.sqs_model.specs.Return.{leaves, released, released_found, released_when, visible_again}
 use Rattle.sqs_model.specs.Site.{Core, Effect, Poll, Site, actor_numbered, and_then, has_key, says, task_numbered, with_queue, with_task}
 use Rattle.sqs_model.specs.Step.{ends_at, handle_arrival, handle_class, handle_step, handled, handled_when, moves, one_sent, with_polls}
 use Rattle.sqs_model.specs.Task.{Taken, Task, destination, take_each, take_movable, taken_one}
+use Rattle.sqs_model.proofs.Answered.{change_by, delete_by, receive_by}
 use Rattle.sqs_model.proofs.Branches.{either}
 use Rattle.sqs_model.proofs.Counts.{all_changed, all_without, find_all, find_picked}
+use Rattle.sqs_model.proofs.Forwards.{IsForward, MayForward, SendsForwards, next_forwards}
 
 -- whether a load, if there is one, was enqueued by a moment
 abbrev IsPast : ℕ → Option Load → Type 0
@@ -144,10 +137,7 @@ module _ (now : ℕ) where
 
   receive_filled : (q : Queue) (at max : ℕ) (timeout : Option ℕ) (set : ℕ) (short : Bool) → Filled q → Answers (receive q at max timeout set short)
   receive_filled q at max timeout set short h =
-      let full : Bool = short && nat_le q.settings.in_flight_limit (in_flight q) in
-      let got : Result (List Got) Refusal × Queue = answered (give_most q at max timeout set) in
-      either Answers (is_bad_timeout timeout) (Err refusals.BadTimeout, q) (if full then (Err refusals.OverLimit, q) else got) h
-      (either Answers full (Err refusals.OverLimit, q) got h (give_filled at (timeout_of q timeout) (take (min max (room q)) (available q set)) q h))
+      receive_by Answers q at max timeout set short (λ e. h) (give_filled at (timeout_of q timeout) (take (min max (room q)) (available q set)) q h)
 
   -- sends
   standard_filled : (q : Queue) (body : List ℕ) (delay : Option ℕ) → Filled q → Leaves (send_standard q now body delay)
@@ -168,63 +158,22 @@ module _ (now : ℕ) where
       either (λ (x : Result Sent Refusal × Queue). Leaves x) _ _ _ h (with_filled q scope body group _ h)
 
   -- deletes
-  gone_filled : (q : Queue) (r : Receipt) → Filled q → Leaves (delete_gone q r)
-  gone_filled q r h = either (λ (x : Result Deleted Refusal × Queue). Leaves x) _ _ _ h h
-
-  standard_here : (q : Queue) (at : ℕ) (r : Receipt) (m : Message) → Filled q → Leaves (delete_standard_here q at r m)
-  standard_here q at r m h =
-      let P : Result Deleted Refusal × Queue → Type 0 = λ x. Leaves x in
-      let newer : Result Deleted Refusal × Queue = if nat_lt r.count m.receives then (Ok deletes.Kept, q) else removed q at r m in
-      either P (nat_lt m.receives r.count) (Err refusals.ReceiptHandleIsInvalid, q) newer h
-      (either P (nat_lt r.count m.receives) (Ok deletes.Kept, q) (removed q at r m) h (less_filled q r.number h))
-
-  fifo_here : (q : Queue) (at : ℕ) (r : Receipt) (m : Message) → Filled q → Leaves (delete_fifo_here q at r m)
-  fifo_here q at r m h = either (λ (x : Result Deleted Refusal × Queue). Leaves x) _ _ _ (less_filled q r.number h) h
-
   delete_filled : (k : Kind) (q : Queue) (at : ℕ) (r : Receipt) → Filled q → Leaves (delete_as k q at r)
-  delete_filled (Standard hosts sampled) q at r h =
-      either (λ (x : Result Deleted Refusal × Queue). Leaves x) _ _ _
-      (elim (numbered r.number q.records) as
-      (λ o. Leaves (elim o as (λ _. Result Deleted Refusal × Queue) [ None ↦ delete_gone q r | Some m ↦ delete_standard_here q at r m ])) [
-        | None ↦ gone_filled q r h
-        | Some m ↦ standard_here q at r m h
-      ])
-      h
-  delete_filled (Fifo content scope) q at r h =
-      either (λ (x : Result Deleted Refusal × Queue). Leaves x) _ _ _
-      (elim (numbered r.number q.records) as
-      (λ o. Leaves (elim o as (λ _. Result Deleted Refusal × Queue) [ None ↦ delete_gone q r | Some m ↦ delete_fifo_here q at r m ])) [
-        | None ↦ gone_filled q r h
-        | Some m ↦ fifo_here q at r m h
-      ])
-      h
+  delete_filled k q at r h = delete_by (λ x. Leaves x) q at r (record { refused = h; gone = h; kept = h; taken = λ m e. less_filled q r.number h }) k
 
   -- changes
   abbrev Changes : Result (Option Load) Refusal × Queue → Type 0
   Changes (Ok left, q) = Filled q × IsPast now left
   Changes (Err e, q) = Filled q
 
-  change_here_filled : (q : Queue) (at : ℕ) (r : Receipt) (timeout : ℕ) (m : Message) → Filled q → Changes (change_here q at r timeout m)
-  change_here_filled q at r timeout m h =
-      let kept : Queue = with_change q r.number (in_flight_until (at + 1000 * timeout)) in
-      let done : Result (Option Load) Refusal × Queue = if timeout == 0 then returned (released q r.number) else (Ok None, kept) in
-      let short : Result (Option Load) Refusal × Queue = if nat_lt (m.received + 43200000) (at + 1000 * timeout) then (Err refusals.BadTimeout, q) else done in
-      either Changes (nat_lt m.receives r.count) (Err refusals.ReceiptHandleIsInvalid, q)
-      (if not (is_in_flight m) || nat_lt r.count m.receives then (Err refusals.MessageNotInflight, q) else short) h
-      (either Changes (not (is_in_flight m) || nat_lt r.count m.receives) (Err refusals.MessageNotInflight, q) short h
-      (either Changes (nat_lt (m.received + 43200000) (at + 1000 * timeout)) (Err refusals.BadTimeout, q) done h
-      (either Changes (timeout == 0) (returned (released q r.number)) (Ok None, kept) (released_filled q r.number h)
-      (changed_filled q r.number (in_flight_until (at + 1000 * timeout)) (λ x b. b) h, tt))))
-
-  change_found_filled : (q : Queue) (at : ℕ) (r : Receipt) (timeout : ℕ) (o : Option Message) → Filled q → Changes (change_found q at r timeout o)
-  change_found_filled q at r timeout None h = either Changes (nat_lt r.number q.arrivals) (Err refusals.MessageNotInflight, q) (Err refusals.ReceiptHandleIsInvalid, q) h h
-  change_found_filled q at r timeout (Some m) h = change_here_filled q at r timeout m h
-
   change_filled : (q : Queue) (at : ℕ) (r : Receipt) (timeout : ℕ) → Filled q → Changes (change q at r timeout)
   change_filled q at r timeout h =
-      let found : Result (Option Load) Refusal × Queue = change_found q at r timeout (numbered r.number q.records) in
-      either Changes (nat_lt 43200 timeout) (Err refusals.BadTimeout, q) (if r.site == q.site then found else (Err refusals.ReceiptHandleIsInvalid, q)) h
-      (either Changes (r.site == q.site) found (Err refusals.ReceiptHandleIsInvalid, q) (change_found_filled q at r timeout (numbered r.number q.records) h) h)
+      change_by Changes q at r timeout
+      (record {
+        refused = λ e. h;
+        back = λ e. released_filled q r.number h;
+        kept = λ e. (changed_filled q r.number (in_flight_until (at + 1000 * timeout)) (λ x b. b) h, tt);
+      })
 
   -- arrivals
   settled_filled : (b : Bool) (q : Queue) (m : Message) → By m → Filled q → Leaves (settled_when b q m)
@@ -263,72 +212,14 @@ module _ (now : ℕ) where
         | Some d ↦ let others = take_filled to ms (taken_out q m.number) (less_filled q m.number h) in (others.0, (tt, others.1))
       ]
 
--- what an act sends, if anything
-abbrev SendsPast : Act → Type 0
-SendsPast (acts.Send body delay group id) = Unit {0}
-SendsPast (acts.Receive max wait timeout) = Unit {0}
-SendsPast (acts.Delete text) = Unit {0}
-SendsPast (acts.Change text timeout) = Unit {0}
-SendsPast (acts.Start task) = Unit {0}
-SendsPast (acts.Cancel task) = Unit {0}
-SendsPast (acts.Serve id receipt failed forward) = IfSome forward (λ o. WasEnqueuedBy o.at o.load)
-SendsPast acts.Nothing = Unit {0}
-
-call_past : (c : Call) → SendsPast (act_of c)
-call_past (calls.Send body delay group id) = tt
-call_past (calls.Receive max wait timeout) = tt
-call_past (calls.Delete receipt) = tt
-call_past (calls.Change receipt timeout) = tt
-call_past (calls.Start task) = tt
-call_past (calls.Cancel task) = tt
-
-script_past : (a : Actor) (cs : List ScriptCall) → SendsPast (script_wake a cs).0
-script_past a [] = tt
-script_past a (c ∷ cs) = call_past c.call
-
-serves_past : (a : Actor) (now : ℕ) (g : Got) (o : Option Forwarding) → SendsPast (serves a now g o).0
-serves_past a now g None = tt
-serves_past a now g (Some f) = tt
-
-ends_past : (a : Actor) (c : ConsumerSettings) (now : ℕ) (g : Got) (fails : Bool) (d : Draws) → SendsPast (ends_service a c now g (fails, d)).0
-ends_past a c now g true d = tt
-ends_past a c now g false d = serves_past _ now g c.forward
-
-woke_past : (a : Actor) (c : ConsumerSettings) (now : ℕ) (gs : List Got) → SendsPast (consumer_wake a c now gs).0
-woke_past a c now [] = tt
-woke_past a c now (g ∷ gs) =
-    let drawn : Bool × Draws = drawn_chance c.fail_permille a.draws in ends_past (record a { held = gs }) c now g drawn.0 drawn.1
-
-got_past : (a : Actor) (c : ConsumerSettings) (now : ℕ) (gs : List Got) → SendsPast (consumer_got a c now gs).0
-got_past a c now [] = tt
-got_past a c now (g ∷ gs) = tt
-
-told_past : (a : Actor) (c : ConsumerSettings) (now : ℕ) (s : Stage) → SendsPast (consumer_told a c now s).0
-told_past a c now Asked = tt
-told_past a c now (Served r) = tt
-told_past a c now Ended = tt
-
-as_past : (r : Role) (a : Actor) (now : ℕ) (w : Answer) → SendsPast (next_as r a now w).0
-as_past (Script script) a now told_by.Wake = script_past a (drop a.wakes script)
-as_past (Script script) a now (told_by.Got gots) = tt
-as_past (Script script) a now told_by.Waiting = tt
-as_past (Script script) a now told_by.Other = tt
-as_past (Producer p) a now told_by.Wake = tt
-as_past (Producer p) a now (told_by.Got gots) = tt
-as_past (Producer p) a now told_by.Waiting = tt
-as_past (Producer p) a now told_by.Other =
-    either (λ (x : Act × Actor). SendsPast x.0) (nat_lt a.wakes p.count) (acts.Nothing, wakes_after a now (drawn_uniform p.gap_min p.gap_max a.draws)) (acts.Nothing, a) tt tt
-as_past (Consumer c) a now told_by.Wake = woke_past (woken a) c now a.held
-as_past (Consumer c) a now (told_by.Got gots) = got_past a c now gots
-as_past (Consumer c) a now told_by.Waiting = tt
-as_past (Consumer c) a now told_by.Other = told_past a c now a.stage
-
-next_past : (a : Actor) (now : ℕ) (w : Answer) → SendsPast (next a now w).0
-unfolding next
-next_past a now w = as_past a.settings.role a now w
-
 abbrev Timely : Outbound → Type 0
 Timely o = WasEnqueuedBy o.at o.load
+
+-- a forward was not enqueued yet
+forward_timely : (now : ℕ) (load : Load) → IsForward load → WasEnqueuedBy now load
+forward_timely now (Redrive id origin body group enqueued) f = absurd f
+forward_timely now (Move id origin body group) f = tt
+forward_timely now (Forward id body group) f = tt
 
 -- an effect that leaves nothing enqueued later than its moment, and sends nothing enqueued after its arrival
 pub record IsTimely (key : Key) (e : Effect) : Type 0 where
@@ -425,12 +316,12 @@ module _ (key : Key) where
   cancel_timely a c task None h = quiet c _ h
   cancel_timely a c task (Some t) h = cancelled_timely a c task t _ h
 
-  serve_timely : (a : Actor) (c : Core) (id : MessageId) (r : Receipt) (b : Bool) (o : Option Outbound) → IfSome o Timely → IsFilledBy key.at c.queue → Makes (serve_made key a c id r b o)
+  serve_timely : (a : Actor) (c : Core) (id : MessageId) (r : Receipt) (b : Bool) (o : Option Outbound) → MayForward o → IsFilledBy key.at c.queue → Makes (serve_made key a c id r b o)
   serve_timely a c id r true o l h = quiet c _ h
   serve_timely a c id r false None l h = quiet c _ h
-  serve_timely a c id r false (Some x) l h = record { filled = h; sent = All-cons Timely x [] l (All-nil Timely) }
+  serve_timely a c id r false (Some x) l h = record { filled = h; sent = All-cons Timely x [] (forward_timely x.at x.load l) (All-nil Timely) }
 
-  act_timely : (a : Actor) (c : Core) (x : Act) → SendsPast x → IsFilledBy key.at c.queue → Makes (act_made key a c x)
+  act_timely : (a : Actor) (c : Core) (x : Act) → SendsForwards x → IsFilledBy key.at c.queue → Makes (act_made key a c x)
   unfolding act_made
   act_timely a c (acts.Send body delay group id) l h = quiet _ _ (sends_filled key.at c.queue.settings.kind c.queue body delay group id h)
   act_timely a c (acts.Receive max wait timeout) l h = receive_timely c.queue.settings.kind a c max wait timeout h
@@ -442,13 +333,13 @@ module _ (key : Key) where
   act_timely a c acts.Nothing l h = quiet c _ h
 
   -- turns
-  on : (more : Answer → Core → Effect) (a : Actor) (c : Core) (x : Act) → ((w : Answer) (d : Core) → IsFilledBy key.at d.queue → IsTimely key (more w d)) → SendsPast x → IsFilledBy key.at c.queue → IsTimely key (and_then (act_made key a c x).effect (more (act_made key a c x).answer))
+  on : (more : Answer → Core → Effect) (a : Actor) (c : Core) (x : Act) → ((w : Answer) (d : Core) → IsFilledBy key.at d.queue → IsTimely key (more w d)) → SendsForwards x → IsFilledBy key.at c.queue → IsTimely key (and_then (act_made key a c x).effect (more (act_made key a c x).answer))
   on more a c x f l h =
       let m : Made = act_made key a c x in
       let one : IsTimely key m.effect = act_timely a c x l h in
       and_then_timely m.effect (more m.answer) one (f m.answer m.effect.core one.filled)
 
-  next_timely : (more : Answer → Core → Effect) (c : Core) (x : Act) (a : Actor) → ((w : Answer) (d : Core) → IsFilledBy key.at d.queue → IsTimely key (more w d)) → SendsPast x → IsFilledBy key.at c.queue → IsTimely key (acts_next more key c (x, a))
+  next_timely : (more : Answer → Core → Effect) (c : Core) (x : Act) (a : Actor) → ((w : Answer) (d : Core) → IsFilledBy key.at d.queue → IsTimely key (more w d)) → SendsForwards x → IsFilledBy key.at c.queue → IsTimely key (acts_next more key c (x, a))
   next_timely more c acts.Nothing a f l h = quiet _ _ h
   next_timely more c (acts.Send body delay group id) a f l h = on more a _ (acts.Send body delay group id) f l h
   next_timely more c (acts.Receive max wait timeout) a f l h = on more a _ (acts.Receive max wait timeout) f l h
@@ -460,7 +351,7 @@ module _ (key : Key) where
 
   found_timely : (more : Answer → Core → Effect) (w : Answer) (c : Core) (o : Option Actor) → ((v : Answer) (d : Core) → IsFilledBy key.at d.queue → IsTimely key (more v d)) → IsFilledBy key.at c.queue → IsTimely key (acts_found more key w c o)
   found_timely more w c None f h = quiet c _ h
-  found_timely more w c (Some a) f h = next_timely more c (next a key.at w).0 (next a key.at w).1 f (next_past a key.at w) h
+  found_timely more w c (Some a) f h = next_timely more c (next a key.at w).0 (next a key.at w).1 f (next_forwards a key.at w) h
 
   most_timely : (most : ℕ) (i : ℕ) (w : Answer) (c : Core) → IsFilledBy key.at c.queue → IsTimely key (acts_most most key i w c)
   most_timely zero i w c h = quiet c _ h

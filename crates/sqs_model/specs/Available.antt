@@ -1,6 +1,6 @@
 -- Which messages may be received, and in which order.
-use Rattle.std.specs.List.{list_any}
-use Rattle.std.specs.Prelude.{Bool, List, [], filter, flat_map, not, ℕ, ◌%◌, ◌&&◌, ◌-◌, ◌/◌, ◌==◌, ◌^◌, ◌∷◌}
+use Rattle.std.specs.List.{filter_map, list_any}
+use Rattle.std.specs.Prelude.{Bool, List, [], filter, flat_map, not, slice_get, ℕ, ◌%◌, ◌&&◌, ◌-◌, ◌/◌, ◌==◌, ◌^◌, ◌∷◌}
 use Rattle.sqs_message.specs.declared.message.Message.{Message}
 use Rattle.sqs_redrive.specs.declared.settings.Kind.{Kind}
 use Rattle.sqs_redrive.specs.declared.settings.Kind.TheVariants.{Fifo, Standard}
@@ -49,3 +49,7 @@ available q set = available_at q.settings.kind set q.records
 -- the messages that one may give which sees all hosts
 abbrev pub all_available : Queue → List Message
 all_available q = available q (all_hosts q.settings.kind)
+
+-- the messages at these places, in the order of the places
+abbrev pub at_places : List Message → List ℕ → List Message
+at_places records places = filter_map (slice_get records) places

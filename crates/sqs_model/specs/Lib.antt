@@ -1,6 +1,7 @@
 pub mod Places
 pub mod Draw
 pub mod Queue
+pub mod Texts
 pub mod Available
 pub mod Return
 pub mod Receive

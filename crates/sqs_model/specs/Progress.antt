@@ -1,5 +1,5 @@
 -- Time moves on: what a sound site is, and that a handling makes nothing due at its own moment or before.
-use Rattle.std.specs.Prelude.{All, Contains, List, None, Option, Some, [], drop, filter, length, nat_le, ℕ, ◌+◌, ◌<◌, ◌∷◌, ◌≡◌, ◌≤◌}
+use Rattle.std.specs.Prelude.{All, Contains, List, None, Option, Some, [], drop, filter, length, nat_le, ℕ, ◌+◌, ◌<◌, ◌∷◌, ◌≡◌, ◌≢◌, ◌≤◌}
 use Rattle.sim_clock.specs.declared.key.Key.{Key}
 use Rattle.sqs_model.specs.declared.agents.Forwarding.{Forwarding}
 use Rattle.sqs_model.specs.declared.agents.Role.{Role}
@@ -22,6 +22,11 @@ use Rattle.sqs_model.specs.Step.{Handled, handled}
 abbrev pub Ascends : {A : Type 0} → (A → ℕ) → ℕ → List A → Type 0
 Ascends number from [] = Unit {0}
 Ascends number from (x ∷ xs) = (from ≤ number x) × Ascends number (number x + 1) xs
+
+-- whether no two have one number
+abbrev pub Differ : {A : Type 0} → (A → ℕ) → List A → Type 0
+Differ number [] = Unit {0}
+Differ number (x ∷ xs) = All (λ y. number y ≢ number x) xs × Differ number xs
 
 -- a transfer takes at least a millisecond
 abbrev pub TakesTime : Latency → Type 0

@@ -5,9 +5,9 @@ use Rattle.sqs_model.proofs.WorldAccounts.{each_keeps, no_other}
 use Rattle.sqs_model.specs.Accounts.{EachHasOnePlace, NoOtherHasPlace}
 use Rattle.sqs_model.specs.Scenario.{HasItsQueues, Scenario, opening}
 use Rattle.sim_clock.specs.declared.refusal.Refusal.{Refusal}
-use Rattle.sim_clock.specs.declared.refusal.Refusal.TheVariants as refusals
 use Rattle.sqs_model.specs.Answers.{most_count}
-use Rattle.sqs_model.specs.Limits.{run_count}
+use Rattle.sqs_model.specs.Limits.{IsOver, run_count}
+use Rattle.sim_site.proofs.Passing.{stops_for}
 use Rattle.sqs_rehearsal.specs.Outcomes.{Stops}
 use Rattle.sim_windows.specs.Worlds.{Ends, StopsRun, continued}
 use Rattle.sim_windows.proofs.Runs.{after_is}
@@ -20,11 +20,11 @@ run_from_opening s horizon opened w h e ends =
 
 -- where the run of that world stops, the scenario does
 pub stops_from_opening : (s : Scenario) (horizon : ℕ) (opened : Run) (e : Refusal) → horizon ≡ s.horizon → opened ≡ record { sites = opening s; rows = [] } → StopsRun horizon opened e → Stops s e
-stops_from_opening s horizon opened refusals.CountLimit h e p =
-    let reached : after horizon p.0 (opening s) ≡ continued horizon p.0 opened = after_is horizon p.0 (opening s) ∙ ap (continued horizon p.0) (sym e) in
-    rw (← h) (p.0, subst (λ (r : Run). most_count < run_count r) (sym reached) p.1)
-stops_from_opening s horizon opened refusals.Memory h e p = tt
-stops_from_opening s horizon opened refusal h e p = absurd p
+stops_from_opening s horizon opened refusal h e p =
+    let reached : (n : ℕ) → after horizon n (opening s) ≡ continued horizon n opened = λ n. after_is horizon n (opening s) ∙ ap (continued horizon n) (sym e) in
+    let over : ((n : ℕ) × (most_count < run_count (continued horizon n opened))) → IsOver s =
+    λ passes. rw (← h) (passes.0, subst (λ (r : Run). most_count < run_count r) (sym (reached passes.0)) passes.1) in
+    stops_for ((n : ℕ) × (most_count < run_count (continued horizon n opened))) (IsOver s) refusal over p
 
 -- where the messages of a whole run stand
 pub stands_once : (s : Scenario) (r : Run) → HasItsQueues s → IsRunOf s r → EachHasOnePlace r.sites r.rows

@@ -4,7 +4,7 @@ use Rattle.sqs_message.specs.declared.row.Row.{Row}
 use Rattle.sqs_model.specs.declared.finals.Finals.{Finals}
 use Rattle.sqs_model.specs.Finals.{finals_of}
 use Rattle.sim_clock.specs.declared.refusal.Refusal.{Refusal}
-use Rattle.sim_clock.specs.declared.refusal.Refusal.TheVariants as refusals
+use Rattle.sim_site.specs.Effects.{StopsWhere}
 use Rattle.sqs_model.specs.Limits.{IsOver}
 use Rattle.sqs_model.specs.Run.{IsRunOf, Run}
 use Rattle.sqs_model.specs.Scenario.{Scenario}
@@ -31,6 +31,4 @@ report_in o = report (take o.queues o.names) o.rows o.finals
 
 -- why a scenario is not run to its end: want of memory, or a count that its one-list run takes past the limit
 abbrev pub Stops : Scenario → Refusal → Type 0
-Stops s refusals.CountLimit = IsOver s
-Stops s refusals.Memory = Unit {0}
-Stops s refusal = ⊥
+Stops s = StopsWhere (IsOver s)

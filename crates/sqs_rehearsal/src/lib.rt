@@ -6,8 +6,6 @@ mod finals;
 mod outcome;
 mod rehearsal;
 mod split;
-#[cfg(test)]
-mod tests;
 
 pub use finals::finals_of;
 pub use outcome::{Outcome, compare};

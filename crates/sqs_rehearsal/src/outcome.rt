@@ -1,10 +1,13 @@
 //! What the whole run of a scenario leaves.
-ghost use Rattle.std.specs.Prelude.{◌≡◌, ◌++◌, [], false, IfErr, IfOk, IsOkUnless};
+ghost use Rattle.std.specs.Prelude.{◌≡◌, ◌<◌, ◌++◌, [], false, length, IfErr, IfOk, IsOkUnless};
 ghost use Rattle.sim_records.specs.Writes.{WroteSeveral};
+ghost use Rattle.sim_report.specs.Running.{running};
+ghost use Rattle.sim_report.specs.Tally.{IsStop};
 ghost use Rattle.sqs_formats.specs.Comparison.{comparison};
 ghost use Rattle.sqs_formats.specs.Finals.{finals_text};
 ghost use Rattle.sqs_formats.specs.Report.{report_text};
 ghost use Rattle.sqs_formats.specs.Rows.{log_text};
+ghost use Rattle.sqs_model.specs.Answers.{most_count};
 ghost use Rattle.sqs_model.specs.Scenario.{HasItsQueues};
 ghost use Rattle.sqs_rehearsal.specs.Outcomes.{IsOutcomeOf, Stops, report_in};
 
@@ -54,6 +57,16 @@ fn copies(alloc: Global, texts: &[Text]) -> Result<Vec<Text>, Refusal>
     Ok(copies)
 }
 
+// The report of queues of these names over rows, without what is left.
+fn report_of(alloc: Global, names: &[Text], rows: &[Row]) -> Result<Report, Refusal>
+    ensures counted { IfOk result (λ report. report ≡ running names.now rows.now) }
+    ensures stops { IfErr result (IsStop (most_count < length rows.now)) }
+{
+    let mut report = Report::new(alloc, copies(alloc, names)?)?;
+    report.add(rows)?;
+    Ok(report)
+}
+
 // Hands on what a writer has taken.
 fn flush<W: Out>(out: &mut W) -> Result<(), Refusal>
     requires { W.failed out.old ≡ false }
@@ -77,12 +90,10 @@ impl Outcome {
         let horizon = scenario.horizon();
         let queues = scenario.queues().len();
         let names = copies(alloc, scenario.names())?;
-        let queue_names = copies(alloc, &scenario.names()[..queues])?;
-        let mut report = Report::new(alloc, queue_names)?;
         let world = World::open(alloc, scenario)?;
         let (sites, rows) = world.run(horizon)?.into_parts();
         let finals = finals_of(alloc, sites.as_slice())?;
-        report.add(rows.as_slice())?;
+        let report = report_of(alloc, &names[..queues], rows.as_slice())?;
         Ok(Outcome {
             names: Names::new(names),
             queues,

@@ -58,6 +58,24 @@ fn outcome(alloc: Global, text: &[u8], scripts: &Scripts, split: &Split) -> Resu
     Ok(outcome)
 }
 
+// Writes an outcome: its log to one writer, and then what is left at the end and the report to the
+// other.
+fn write<L: Out, R: Out>(
+    alloc: Global,
+    outcome: &Outcome,
+    log: &mut L,
+    report: &mut R,
+) -> Result<(), Fault>
+    requires log { L.failed log.old ≡ false }
+    requires report { R.failed report.old ≡ false }
+    ensures written { (q : Request) (r : Rehearsed q) → outcome.now ≡ outcome_of r.scenario r.run → OnOk result (IsWritten q (record { before = L.held log.old; after = L.held log.new; failed = L.failed log.new }) (record { before = R.held report.old; after = R.held report.new; failed = R.failed report.new })) }
+    ensures refused { (q : Request) (r : Rehearsed q) → outcome.now ≡ outcome_of r.scenario r.run → IfErr result (IsRefused q (record { before = L.held log.old; after = L.held log.new; failed = L.failed log.new }) (record { before = R.held report.old; after = R.held report.new; failed = R.failed report.new })) }
+{
+    outcome.write_log(alloc, log)?;
+    outcome.write_ending(alloc, report)?;
+    Ok(())
+}
+
 /// Rehearses a scenario: reads its text, with its scripts by their names, runs it, and writes the
 /// log to one writer, and what is left at the end and the report to the other. Both are flushed.
 /// How the run is split does not change what is written.
@@ -83,7 +101,5 @@ pub fn rehearse<L: Out, R: Out>(
     ensures refused { IfErr result (IsRefused (record { text = text.now; scripts = scripts.now; split = split.now }) (record { before = L.held log.old; after = L.held log.new; failed = L.failed log.new }) (record { before = R.held report.old; after = R.held report.new; failed = R.failed report.new })) }
 {
     let outcome = outcome(alloc, text, scripts, split)?;
-    outcome.write_log(alloc, log)?;
-    outcome.write_ending(alloc, report)?;
-    Ok(())
+    write(alloc, &outcome, log, report)
 }

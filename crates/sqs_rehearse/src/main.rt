@@ -7,6 +7,8 @@ mod compare;
 mod faults;
 mod files;
 mod run;
+#[cfg(test)]
+mod tests;
 
 use clap::Error;
 use clap::error::ErrorKind;

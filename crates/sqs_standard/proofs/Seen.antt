@@ -1,17 +1,13 @@
 -- The places of messages that pass a test, as far as a place, and what a queue of this kind may give.
 use Rattle.std.proofs.Common.{◌≡◌, ℕ, ◌+◌, ◌<◌, ◌≤◌, Bool, true, false, List, [], ◌∷◌, ◌++◌, Some, cond, filter, length, take, drop, map, get_or, arith, refl, subst, sym, ap, ◌∙◌, append-nil}
-use Rattle.std.specs.Prelude.{Err, IfOk, Ok, Result, slice_get, suc, zero}
-use Rattle.std.proofs.lemmas.List.{drop_more, length-map, length_push, map_push, take-append-drop, take_all, take_at}
+use Rattle.std.specs.Prelude.{slice_get}
+use Rattle.std.proofs.lemmas.List.{length_push, map_push, take-append-drop, take_all, take_at}
 use Rattle.std.proofs.lemmas.List.Elements.{filter-append, filter_more}
 use Rattle.std.proofs.lemmas.Option.{slice_get_read}
 use Rattle.sqs_message.specs.declared.message.Message.{Message}
 use Rattle.sqs_model.specs.Available.{available}
-use Rattle.sqs_model.specs.Progress.{Ascends}
 use Rattle.sqs_model.specs.Queue.{Queue}
-use Rattle.sim_clock.specs.declared.refusal.Refusal.{Refusal}
-use Rattle.sqs_store.specs.Chosen.{AreWithin, Differ, at_places}
-use Rattle.sqs_store.proofs.Chosen.{IsChoice, choice_of}
-use Rattle.sqs_store.proofs.Giving.{climbs_apart, climbs_filter}
+use Rattle.sqs_model.proofs.Placed.{IsChoice, as_many, choice_of, rest_at}
 
 -- once so many pass, no more are looked at
 take-filter : {A : Type 0} (p : A → Bool) (xs : List A) (i n : ℕ) → length (filter p (take i xs)) ≡ n → take n (filter p xs) ≡ filter p (take i xs)
@@ -25,7 +21,7 @@ filter_head p x xs h = ap (λ b. cond b (x ∷ filter p xs) (filter p xs)) h
 -- the next one that passes stands behind those before it
 pub filter_at : {A : Type 0} (p : A → Bool) (xs : List A) (i : ℕ) (x : A) → i < length xs → x ≡ get_or xs i x → p x ≡ true → filter p xs ≡ filter p (take i xs) ++ x ∷ filter p (drop (i + 1) xs)
 filter_at p xs i x l e t =
-    let d : drop i xs ≡ x ∷ drop (i + 1) xs = drop_more xs i x l ∙ ap (λ y. y ∷ drop (i + 1) xs) (sym e) in
+    let d : drop i xs ≡ x ∷ drop (i + 1) xs = rest_at xs i x l e in
     let whole : filter p xs ≡ filter p (take i xs) ++ filter p (drop i xs) = ap (filter p) (sym (take-append-drop i xs)) ∙ filter-append p (take i xs) (drop i xs) in
     whole ∙ ap (λ ys. filter p (take i xs) ++ filter p ys) d ∙ ap (λ ys. filter p (take i xs) ++ ys) (filter_head p x (drop (i + 1) xs) t)
 
@@ -41,9 +37,6 @@ filter_more_false p xs i x l e t =
 pub record IsSeenSoFar (p : Message → Bool) (most : ℕ) (messages : List Message) (i : ℕ) (places : List ℕ) : Type 0 where
   pub seen : map (slice_get messages) places ≡ map Some (filter p (take i messages))
   pub few : length places ≤ most
-
-seen_length : (p : Message → Bool) (messages : List Message) (i : ℕ) (places : List ℕ) → map (slice_get messages) places ≡ map Some (filter p (take i messages)) → length places ≡ length (filter p (take i messages))
-seen_length p messages i places e = sym (length-map places (slice_get messages)) ∙ ap length e ∙ length-map (filter p (take i messages)) Some
 
 -- one more that is seen
 pub seen_more :
@@ -72,7 +65,7 @@ pub seen_full :
     (p : Message → Bool) (most : ℕ) (messages : List Message) (i : ℕ) (places : List ℕ) → length places ≡ most
     → IsSeenSoFar p most messages i places → map (slice_get messages) places ≡ map Some (take most (filter p messages))
 seen_full p most messages i places full h =
-    h.seen ∙ ap (map Some) (sym (take-filter p messages i most (sym (seen_length p messages i places h.seen) ∙ full)))
+    h.seen ∙ ap (map Some) (sym (take-filter p messages i most (sym (as_many messages (filter p (take i messages)) places h.seen) ∙ full)))
 
 -- all are looked at
 pub seen_all :
@@ -81,20 +74,8 @@ pub seen_all :
 seen_all p most messages i places l h =
     let whole : take i messages ≡ messages = take_all i messages l in
     let found : map (slice_get messages) places ≡ map Some (filter p messages) = h.seen ∙ ap (λ ms. map Some (filter p ms)) whole in
-    let long : length (filter p messages) ≤ most = omega (arith, h.few, seen_length p messages i places h.seen, ap (λ ms. length (filter p ms)) whole) in
+    let long : length (filter p messages) ≤ most = omega (arith, h.few, as_many messages (filter p (take i messages)) places h.seen, ap (λ ms. length (filter p ms)) whole) in
     found ∙ ap (map Some) (sym (take_all most (filter p messages) long))
-
--- the numbers go up
-abbrev Climbs : ℕ → List Message → Type 0
-Climbs = Ascends (λ m. m.number)
-
-climbs_take : (n a : ℕ) (ms : List Message) → Climbs a ms → Climbs a (take n ms)
-climbs_take zero a ms h = tt
-climbs_take (suc n) a [] h = tt
-climbs_take (suc n) a (m ∷ ms) h = (h.0, climbs_take n (m.number + 1) ms h.1)
-
-pub seen_apart : (p : Message → Bool) (most : ℕ) (records : List Message) → Climbs 0 records → Differ (λ m. m.number) (take most (filter p records))
-seen_apart p most records o = climbs_apart 0 (take most (filter p records)) (climbs_take most 0 (filter p records) (climbs_filter p 0 records o))
 
 -- the first places of those that a queue may give
 pub seen_choice :
@@ -104,24 +85,3 @@ seen_choice q view p places most set same seen found =
     let records : List Message = q.records in
     let whole : map (slice_get records) places ≡ map Some (take most (filter p records)) = subst (λ (v : List Message). map (slice_get v) places ≡ map Some (take most (filter p v))) same found in
     rw seen (choice_of records places (take most (filter p records)) whole)
-
--- the same, of an answer that may be a refusal
-pub seen_chosen :
-    {V : Type 0} (items : V → List ℕ) (r : Result V Refusal) (q : Queue) (view : List Message) (p : Message → Bool) (most set : ℕ) → view ≡ q.records → available q set ≡ filter p q.records
-    → IfOk r (λ v. map (slice_get view) (items v) ≡ map Some (take most (filter p view))) → IfOk r (λ v. IsChoice q.records (items v) (take most (available q set)))
-seen_chosen items (Ok v) q view p most set same seen found = seen_choice q view p (items v) most set same seen found
-seen_chosen items (Err e) q view p most set same seen found = tt
-
-pub choice_chosen : {V : Type 0} (items : V → List ℕ) (r : Result V Refusal) (records ms : List Message) → IfOk r (λ v. IsChoice records (items v) ms) → IfOk r (λ v. at_places records (items v) ≡ ms)
-choice_chosen items (Ok v) records ms h = h.chosen
-choice_chosen items (Err e) records ms h = tt
-
-pub choice_within : {V : Type 0} (items : V → List ℕ) (r : Result V Refusal) (records ms : List Message) → IfOk r (λ v. IsChoice records (items v) ms) → IfOk r (λ v. AreWithin records (items v))
-choice_within items (Ok v) records ms h = h.within
-choice_within items (Err e) records ms h = tt
-
-pub choice_apart :
-    {V : Type 0} (items : V → List ℕ) (r : Result V Refusal) (records ms : List Message) → Differ (λ m. m.number) ms → IfOk r (λ v. IsChoice records (items v) ms)
-    → IfOk r (λ v. Differ (λ m. m.number) (at_places records (items v)))
-choice_apart items (Ok v) records ms apart h = rw h.chosen apart
-choice_apart items (Err e) records ms apart h = tt

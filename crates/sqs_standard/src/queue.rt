@@ -3,13 +3,14 @@ ghost use Rattle.std.specs.Prelude.{◌≡◌, ◌-◌, ◌<◌, ◌≤◌, ◌^
 ghost use Rattle.sim_clock.specs.Order.{least};
 ghost use Rattle.sqs_model.specs.Answers.{Meets, most_count};
 ghost use Rattle.sqs_model.specs.Arrive.{expired};
-ghost use Rattle.sqs_model.specs.Available.{all_hosts, available, available_at};
+ghost use Rattle.sqs_model.specs.Available.{all_hosts, at_places, available, available_at};
 ghost use Rattle.sqs_model.specs.Calls.{change, delete_standard, returned, send_standard};
 ghost use Rattle.sqs_model.specs.Dues.{queue_dues};
+ghost use Rattle.sqs_model.specs.Progress.{Differ};
 ghost use Rattle.sqs_model.specs.Queue.{IsFramed, is_delayed, is_in_flight, is_visible};
 ghost use Rattle.sqs_model.specs.Return.{released};
 ghost use Rattle.sqs_model.specs.Valid.{IsKind};
-ghost use Rattle.sqs_store.specs.Chosen.{AreWithin, Differ, at_places};
+ghost use Rattle.sqs_store.specs.Chosen.{AreWithin};
 ghost use Rattle.sqs_standard.specs.Hosts.{is_seen};
 ghost use Rattle.sqs_standard.specs.Standard.{IsStandard, IsStandardSettings};
 ghost use Rattle.sqs_message.specs.declared.message.Message.{Message};

@@ -1,5 +1,6 @@
 //! Each public call once, and small tables whose answers are worked out by hand.
-ghost use Rattle.sqs_standard.specs.Standard.{IsStandardSettings, WasEnqueuedBy};
+ghost use Rattle.sqs_model.specs.Progress.{WasEnqueuedBy};
+ghost use Rattle.sqs_standard.specs.Standard.{IsStandardSettings};
 
 use crate::{Counts, StandardQueue};
 use sim_clock::{Class, Key, Refusal};

@@ -6,7 +6,7 @@ use Rattle.std.proofs.lemmas.List.Elements.{All-push}
 use Rattle.sqs_message.specs.declared.message.Message.{Message}
 use Rattle.sqs_redrive.specs.declared.answers.Got.{Got}
 use Rattle.sqs_model.specs.Answers.{most_count}
-use Rattle.sqs_store.specs.Chosen.{at_places}
+use Rattle.sqs_model.specs.Available.{at_places}
 use Rattle.sqs_store.specs.Giving.{told_of}
 use Rattle.sqs_store.proofs.Chosen.{places_from, places_more, places_split}
 

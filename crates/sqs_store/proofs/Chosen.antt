@@ -1,12 +1,14 @@
 -- Messages that are chosen by their places.
-use Rattle.std.proofs.Common.{None, inl, inr, map, ◌≡◌, ℕ, ◌+◌, ◌<◌, List, [], ◌∷◌, ◌++◌, Option, Some, length, take, drop, get_or, refl, subst, sym, ap, ◌∙◌}
+use Rattle.std.proofs.Common.{inl, inr, ◌≡◌, ℕ, ◌+◌, ◌<◌, List, [], ◌∷◌, ◌++◌, Option, Some, length, take, drop, get_or, refl, subst, sym, ap, ◌∙◌}
 use Rattle.std.specs.List.{cons_option, filter_map}
 use Rattle.std.specs.Prelude.{All, slice_get}
 use Rattle.std.proofs.lemmas.List.{drop_more, take-append-drop, take_more}
 use Rattle.std.proofs.lemmas.List.Elements.{All-cons, All-nil, filter_map-append}
 use Rattle.std.proofs.lemmas.Option.{slice_get_cases, slice_get_read}
 use Rattle.sqs_message.specs.declared.message.Message.{Message}
-use Rattle.sqs_store.specs.Chosen.{AreWithin, at_places}
+use Rattle.sqs_model.specs.Available.{at_places}
+use Rattle.sqs_model.proofs.Placed.{places_push}
+use Rattle.sqs_store.specs.Chosen.{AreWithin}
 
 -- the message that is read at a place
 pub read_at :
@@ -18,11 +20,7 @@ read_at records places i m within l e = slice_get_read records (length records) 
 pub places_more :
     (records : List Message) (places : List ℕ) (i : ℕ) (m : Message) → i < length places → slice_get records (get_or places i 0) ≡ Some m
     → at_places records (take (i + 1) places) ≡ at_places records (take i places) ++ m ∷ []
-places_more records places i m l found =
-    let h = slice_get records in
-    ap (filter_map h) (take_more places i 0 l)
-    ∙ filter_map-append h (take i places) (get_or places i 0 ∷ [])
-    ∙ ap (λ (o : Option Message). at_places records (take i places) ++ cons_option o []) found
+places_more records places i m l found = ap (at_places records) (take_more places i 0 l) ∙ places_push records (take i places) (get_or places i 0) m found
 
 -- the places from one on
 pub places_from :
@@ -51,28 +49,3 @@ all_option P xs ys k h t =
 pub all_at : (P : Message → Type 0) (records : List Message) (places : List ℕ) → All P records → All P (at_places records places)
 all_at P records [] h = All-nil P
 all_at P records (p ∷ ps) h = all_option P records (at_places records ps) p h (all_at P records ps h)
-
--- what places of messages choose, and that they are within the list
-pub record IsChoice (records : List Message) (places : List ℕ) (ms : List Message) : Type 0 where
-  pub chosen : at_places records places ≡ ms
-  pub within : AreWithin records places
-
-within_some : (records : List Message) (k : ℕ) (m : Message) → slice_get records k ≡ Some m → k < length records
-within_some records k m e =
-    elim ((slice_get_cases records k).1) as (λ _. k < length records) [
-      | inl c ↦ c.1
-      | inr c ↦ let none : Some m ≡ None = sym e ∙ c.1 in cc
-    ]
-
-pub choice_of : (records : List Message) (places : List ℕ) (ms : List Message) → map (slice_get records) places ≡ map Some ms → IsChoice records places ms
-choice_of records [] [] e = record { chosen = refl; within = All-nil (λ place. place < length records) }
-choice_of records [] (m ∷ ms) e = cc
-choice_of records (p ∷ ps) [] e = cc
-choice_of records (p ∷ ps) (m ∷ ms) e =
-    let first : slice_get records p ≡ Some m = cc in
-    let others : map (slice_get records) ps ≡ map Some ms = cc in
-    let rest : IsChoice records ps ms = choice_of records ps ms others in
-    record {
-      chosen = ap (λ (o : Option Message). cons_option o (at_places records ps)) first ∙ ap (λ ys. m ∷ ys) rest.chosen;
-      within = All-cons (λ place. place < length records) p ps (within_some records p m first) rest.within;
-    }

@@ -1,34 +1,26 @@
 -- The giving of a batch, one message after another, and that it is what the definitions give.
-use Rattle.std.proofs.Common.{◌≡◌, ℕ, ◌+◌, ◌<◌, ◌≤◌, Bool, true, false, List, [], ◌∷◌, ◌++◌, Option, Some, None, cond, if◌then◌else◌, filter, length, take, drop, set, map, get_or, arith, refl, sym, ap, ◌∙◌, append_assoc, append-nil}
+use Rattle.std.proofs.Common.{◌≡◌, ℕ, ◌+◌, ◌<◌, ◌≤◌, Bool, true, false, List, [], ◌∷◌, ◌++◌, Option, Some, None, cond, if◌then◌else◌, length, take, drop, set, map, get_or, arith, refl, sym, ap, ◌∙◌, append_assoc, append-nil}
 use Rattle.std.specs.Prelude.{All, Err, IfOk, IfSome, Ok, OnOk, Result, find, ◌==◌, ◌≢◌}
 use Rattle.sim_clock.specs.declared.refusal.Refusal.{Refusal}
-use Rattle.std.proofs.lemmas.Bool.Decides.{nat_tests}
-use Rattle.std.proofs.lemmas.List.{drop_more, drop-set-lt, take_more_set, length-set, drop_all, take_all}
-use Rattle.std.proofs.lemmas.List.Elements.{All-weaker, All-tail, All-cons, All-nil, All-map}
-use Rattle.sim_clock.specs.Firsts.{without, changed}
+use Rattle.std.proofs.lemmas.List.{drop-set-lt, take_more_set, length-set, drop_all, take_all}
+use Rattle.std.proofs.lemmas.List.Elements.{All-tail, All-map}
+use Rattle.sim_clock.specs.Firsts.{changed}
 use Rattle.sqs_message.specs.declared.message.Message.{Message}
 use Rattle.sqs_redrive.specs.declared.answers.Got.{Got}
 use Rattle.sqs_redrive.specs.declared.transfers.Load.{Load}
 use Rattle.sqs_model.specs.Answers.{most_count}
-use Rattle.sqs_model.specs.Progress.{Ascends}
+use Rattle.sqs_model.specs.Available.{at_places}
+use Rattle.sqs_model.specs.Progress.{Ascends, Differ}
 use Rattle.sqs_model.specs.Queue.{Queue, has_number, numbered, with_change}
 use Rattle.sqs_model.specs.Receive.{answered, received, give, give_after, got_first, got_of}
 use Rattle.sqs_model.specs.Return.{leaves, released, released_found, released_when, visible_again}
-use Rattle.sqs_store.specs.Chosen.{Differ, at_places}
+use Rattle.sqs_model.proofs.Counts.{changed_none}
+use Rattle.sqs_model.proofs.Numbered.{each_is_numbered, one_number, other_without}
+use Rattle.sqs_model.proofs.Placed.{rest_at}
 use Rattle.sqs_store.specs.Giving.{CanBeGiven, after, gives, gives_all, gives_next, told_of, with_left}
 use Rattle.sqs_store.proofs.Chosen.{all_at}
-use Rattle.sqs_store.proofs.Stored.{Climbs, climbs_from}
 
--- another test finds what it found, after the first that a test picks left
-find_without_when : {A : Type 0} (p r : A → Bool) (x : A) (xs : List A) (b : Bool) → p x ≡ b → (b ≡ true → r x ≡ false) → find r (without p xs) ≡ find r xs → find r (if b then xs else x ∷ without p xs) ≡ find r (x ∷ xs)
-find_without_when p r x xs true e h ih = sym (ap (λ c. cond c (Some x) (find r xs)) (h refl))
-find_without_when p r x xs false e h ih = ap (λ o. cond (r x) (Some x) o) ih
-
-pub find_without : {A : Type 0} (p r : A → Bool) → ((x : A) → p x ≡ true → r x ≡ false) → (xs : List A) → find r (without p xs) ≡ find r xs
-find_without p r h [] = refl
-find_without p r h (x ∷ xs) = find_without_when p r x xs (p x) refl (h x) (find_without p r h xs)
-
--- the same, after a change of that one
+-- another test finds what it found, after a change of the first that a test picks
 find_changed_when : {A : Type 0} (p r : A → Bool) (f : A → A) (x : A) (xs : List A) (b : Bool) → p x ≡ b → (b ≡ true → r x ≡ false) → (b ≡ true → r (f x) ≡ false) → find r (changed p f xs) ≡ find r xs → find r (if b then f x ∷ xs else x ∷ changed p f xs) ≡ find r (x ∷ xs)
 find_changed_when p r f x xs true e h k ih = ap (λ c. cond c (Some (f x)) (find r xs)) (k refl) ∙ sym (ap (λ c. cond c (Some x) (find r xs)) (h refl))
 find_changed_when p r f x xs false e h k ih = ap (λ o. cond (r x) (Some x) o) ih
@@ -36,13 +28,6 @@ find_changed_when p r f x xs false e h k ih = ap (λ o. cond (r x) (Some x) o) i
 pub find_changed : {A : Type 0} (p r : A → Bool) (f : A → A) → ((x : A) → p x ≡ true → r x ≡ false) → ((x : A) → p x ≡ true → r (f x) ≡ false) → (xs : List A) → find r (changed p f xs) ≡ find r xs
 find_changed p r f h k [] = refl
 find_changed p r f h k (x ∷ xs) = find_changed_when p r f x xs (p x) refl (h x) (k x) (find_changed p r f h k xs)
-
--- a message has but one number
-one_number : (n k : ℕ) (m : Message) → ¬ (k ≡ n) → has_number n m ≡ true → has_number k m ≡ false
-one_number n k m h e = grind (arith, nat_tests)
-
-other_without : (n k : ℕ) (xs : List Message) → ¬ (k ≡ n) → numbered k (without (has_number n) xs) ≡ numbered k xs
-other_without n k xs h = find_without (has_number n) (has_number k) (λ m. one_number n k m h) xs
 
 other_changed : (n k : ℕ) (f : Message → Message) (xs : List Message) → ((m : Message) → (f m).number ≡ m.number) → ¬ (k ≡ n) → numbered k (changed (has_number n) f xs) ≡ numbered k xs
 other_changed n k f xs same h =
@@ -138,7 +123,7 @@ pub giving_more :
 giving_more now timeout whole count i q next gots g left l e r h =
     let rest = drop (i + 1) gots in
     let told = with_left g left in
-    let d : drop i gots ≡ g ∷ rest = drop_more gots i g l ∙ ap (λ y. y ∷ rest) (sym e) in
+    let d : drop i gots ≡ g ∷ rest = rest_at gots i g l e in
     let kept : drop (i + 1) (set gots i told) ≡ rest = drop-set-lt (i + 1) gots i told (omega arith) in
     let first : gives_all now timeout (drop i gots) q ≡ after (told ∷ []) (gives_all now timeout rest next) =
     ap (λ ys. gives_all now timeout ys q) d ∙ ap (gives_next (gives_all now timeout rest) g) r in
@@ -156,44 +141,6 @@ giving_all now timeout whole count i q gots l h =
     let none : drop i gots ≡ [] = drop_all i gots long in
     let all : take i gots ≡ gots = take_all i gots long in
     h.so_far ∙ ap (λ ys. after (take i gots) (gives_all now timeout ys q)) none ∙ ap (λ g. (q, g)) (append-nil (take i gots) ∙ all)
-
--- each number is at least the bound
-pub all_above : (a : ℕ) (xs : List Message) → Ascends (λ m. m.number) a xs → All (λ m. a ≤ m.number) xs
-all_above a [] h = All-nil (λ m. a ≤ m.number)
-all_above a (x ∷ xs) h = All-cons (λ m. a ≤ m.number) x xs h.0 (all_above a xs (climbs_from a (x.number + 1) xs (omega (arith, h.0)) h.1))
-
--- a part of what goes up goes up, and has no number twice
-pub climbs_filter : (p : Message → Bool) (a : ℕ) (ms : List Message) → Climbs a ms → Climbs a (filter p ms)
-climbs_filter p a [] h = tt
-climbs_filter p a (m ∷ ms) h =
-    let rest : Climbs (m.number + 1) (filter p ms) = climbs_filter p (m.number + 1) ms h.1 in
-    elim (p m) as (λ b. Climbs a (cond b (m ∷ filter p ms) (filter p ms))) [
-      | true ↦ (h.0, rest)
-      | false ↦ climbs_from a (m.number + 1) (filter p ms) (omega (arith, h.0)) rest
-    ]
-
-pub climbs_apart : (a : ℕ) (ms : List Message) → Climbs a ms → Differ (λ m. m.number) ms
-climbs_apart a [] h = tt
-climbs_apart a (m ∷ ms) h =
-    (All-weaker (λ x. m.number + 1 ≤ x.number) (λ x. x.number ≢ m.number) (λ x l e. absurd (omega (arith, l, e))) ms (all_above (m.number + 1) ms h.1), climbs_apart (m.number + 1) ms h.1)
-
-has_its_number : (x : Message) → has_number x.number x ≡ true
-has_its_number x = grind (arith, nat_tests)
-
-has_no_lesser : (x m : Message) → x.number < m.number → has_number m.number x ≡ false
-has_no_lesser x m l = grind (arith, nat_tests)
-
--- each message is the first of its number
-pub each_is_numbered : (a : ℕ) (xs : List Message) → Ascends (λ m. m.number) a xs → All (λ m. numbered m.number xs ≡ Some m) xs
-each_is_numbered a [] h = All-nil (λ m. numbered m.number [] ≡ Some m)
-each_is_numbered a (x ∷ xs) h =
-    let later : All (λ m. x.number + 1 ≤ m.number) xs = all_above (x.number + 1) xs h.1 in
-    let ih : All (λ m. numbered m.number xs ≡ Some m) xs = each_is_numbered (x.number + 1) xs h.1 in
-    All-cons (λ m. numbered m.number (x ∷ xs) ≡ Some m) x xs
-    (ap (λ b. cond b (Some x) (numbered x.number xs)) (has_its_number x))
-    (λ k d l.
-    let m : Message = get_or xs k d in
-    ap (λ b. cond b (Some x) (numbered m.number xs)) (has_no_lesser x m (omega (arith, later k d l))) ∙ ih k d l)
 
 -- what is told of messages that differ, differs
 told_all : (site n : ℕ) (ms : List Message) → All (λ m. m.number ≢ n) ms → All (λ g. g.id.number ≢ n) (map (told_of site) ms)
@@ -219,14 +166,6 @@ can_be_given q records places site batch same o apart e below =
     }
 
 -- where there is no message of a number, nothing is given
-changed_none : {A : Type 0} (p : A → Bool) (f : A → A) (xs : List A) → find p xs ≡ None → changed p f xs ≡ xs
-changed_none p f [] h = refl
-changed_none p f (x ∷ xs) h =
-    elim (p x) as (λ b. cond b (Some x) (find p xs) ≡ None → (if b then f x ∷ xs else x ∷ changed p f xs) ≡ x ∷ xs) [
-      | true ↦ λ e. cc
-      | false ↦ λ e. ap (λ t. x ∷ t) (changed_none p f xs e)
-    ] h
-
 pub gives_none : (q : Queue) (now timeout n : ℕ) → numbered n q.records ≡ None → gives q now timeout n ≡ (q, None)
 gives_none q now timeout n e =
     let taken : Queue = with_change q n (received now timeout) in

@@ -2,14 +2,17 @@
 use Rattle.std.proofs.Common.{◌≡◌, ℕ, ◌+◌, ◌<◌, ◌≤◌, Bool, true, false, List, [], ◌∷◌, ◌++◌, Option, Some, None, if◌then◌else◌, length, drop, set, get_or, replicate, arith, refl, subst, sym, ap, ◌∙◌, append_assoc, append-nil}
 use Rattle.std.specs.Prelude.{not, slice_get, suc, zero}
 use Rattle.std.proofs.lemmas.Bool.Decides.{nat_tests}
-use Rattle.std.proofs.lemmas.List.{drop_all, drop_more, length-replicate, length-set}
+use Rattle.std.proofs.lemmas.List.{drop_all, length-replicate, length-set}
 use Rattle.sim_clock.specs.Firsts.{kept_when, without}
 use Rattle.sqs_message.specs.declared.message.Message.{Message}
 use Rattle.sqs_redrive.specs.declared.transfers.Load.{Load}
+use Rattle.sqs_model.specs.Available.{at_places}
 use Rattle.sqs_model.specs.Progress.{Ascends}
 use Rattle.sqs_model.specs.Queue.{Queue, has_number, taken_out, with_records}
 use Rattle.sqs_model.specs.Task.{Taken, destination, take_each, taken_one}
-use Rattle.sqs_store.specs.Chosen.{at_places, unmarked}
+use Rattle.sqs_model.proofs.Numbered.{has_its_number, has_no_lesser}
+use Rattle.sqs_model.proofs.Placed.{rest_at}
+use Rattle.sqs_store.specs.Chosen.{unmarked}
 use Rattle.sqs_store.specs.Stored.{IsStored}
 use Rattle.sqs_store.proofs.Chosen.{places_from}
 use Rattle.sqs_store.proofs.Stored.{stored_without}
@@ -43,14 +46,8 @@ before_one taken site q m d t e =
     ap (λ s. record t { loads = taken ++ (d, moved_from s m) ∷ t.loads }) e
     ∙ ap (λ l. record t { loads = l }) (sym (append_assoc taken ((d, moved_from site m) ∷ []) t.loads))
 
-has_other : (x m : Message) → x.number < m.number → has_number m.number x ≡ false
-has_other x m l = grind (arith, nat_tests)
-
 has_more : (n : ℕ) (x : Message) → n < x.number → has_number n x ≡ false
 has_more n x l = grind (arith, nat_tests)
-
-has_own : (m : Message) → has_number m.number m ≡ true
-has_own m = grind (arith, nat_tests)
 
 -- where numbers go up, those later are no lesser
 above_at : (b : ℕ) (xs : List Message) (p : ℕ) (m : Message) → Ascends (λ x. x.number) b xs → slice_get xs p ≡ Some m → b ≤ m.number
@@ -77,11 +74,11 @@ unmarked_above n b (g ∷ gone) (x ∷ xs) l h =
 -- a message that is marked is gone
 mark_first : (g : Bool) (x : Message) (ys : List Message) → without (has_number x.number) ys ≡ ys → ys ≡ without (has_number x.number) (kept_when (not g) x ys)
 mark_first true x ys e = sym e
-mark_first false x ys e = sym (ap (λ c. if c then ys else x ∷ without (has_number x.number) ys) (has_own x))
+mark_first false x ys e = sym (ap (λ c. if c then ys else x ∷ without (has_number x.number) ys) (has_its_number x))
 
 mark_later : (g : Bool) (x m : Message) (ys zs : List Message) → x.number < m.number → zs ≡ without (has_number m.number) ys → kept_when (not g) x zs ≡ without (has_number m.number) (kept_when (not g) x ys)
 mark_later true x m ys zs l e = e
-mark_later false x m ys zs l e = ap (λ us. x ∷ us) e ∙ sym (ap (λ c. if c then ys else x ∷ without (has_number m.number) ys) (has_other x m l))
+mark_later false x m ys zs l e = ap (λ us. x ∷ us) e ∙ sym (ap (λ c. if c then ys else x ∷ without (has_number m.number) ys) (has_no_lesser x m l))
 
 pub unmarked_set :
     (b : ℕ) (gone : List Bool) (messages : List Message) (p : ℕ) (m : Message) → length gone ≡ length messages → Ascends (λ x. x.number) b messages → slice_get messages p ≡ Some m
@@ -170,7 +167,7 @@ keeping_next :
     (gone : List Bool) (messages kept rest : List Message) (place : ℕ) (g : Bool) (m : Message) → place < length gone → g ≡ get_or gone place g → IsKeeping gone messages kept (m ∷ rest) place
     → unmarked gone messages ≡ kept ++ kept_when (not g) m (unmarked (drop (place + 1) gone) rest)
 keeping_next gone messages kept rest place g m l e h =
-    h.so_far ∙ ap (λ gs. kept ++ unmarked gs (m ∷ rest)) (drop_more gone place g l ∙ ap (λ x. x ∷ drop (place + 1) gone) (sym e))
+    h.so_far ∙ ap (λ gs. kept ++ unmarked gs (m ∷ rest)) (rest_at gone place g l e)
 
 pub keeping_kept :
     (gone : List Bool) (messages kept rest : List Message) (place : ℕ) (g : Bool) (m : Message) → place < length gone → g ≡ get_or gone place g → g ≡ false → IsKeeping gone messages kept (m ∷ rest) place

@@ -6,84 +6,38 @@ use Rattle.sim_clock.specs.Firsts.{without, changed}
 use Rattle.sqs_message.specs.declared.message.Message.{Message}
 use Rattle.sqs_redrive.specs.declared.settings.QueueSettings.{QueueSettings}
 use Rattle.sqs_model.specs.Answers.{most_count}
-use Rattle.sqs_model.specs.Progress.{Ascends}
 use Rattle.sqs_model.specs.Queue.{has_number}
 use Rattle.sqs_model.specs.Calls.{in_flight_until}
 use Rattle.sqs_model.specs.Receive.{received}
 use Rattle.sqs_model.specs.Return.{visible_again}
+use Rattle.sqs_model.proofs.Counts.{all_changed, all_without, ascends_changed, ascends_push, ascends_without}
 use Rattle.sqs_store.specs.Stored.{IsCounted, IsStored, IsState}
 
-all_without : {A : Type 0} (P : A → Type 0) (p : A → Bool) (xs : List A) → All P xs → All P (without p xs)
-all_without P p [] h = h
-all_without P p (x ∷ xs) h =
-    elim (p x) as (λ b. All P (if b then xs else x ∷ without p xs)) [
-      | true ↦ All-tail P x xs h
-      | false ↦ All-cons P x (without p xs) (All-head P x xs h) (all_without P p xs (All-tail P x xs h))
-    ]
-
-all_changed : {A : Type 0} (P : A → Type 0) (p : A → Bool) (f : A → A) (xs : List A) → IfSome (find p xs) (λ x. P (f x)) → All P xs → All P (changed p f xs)
-all_changed P p f [] g h = h
-all_changed P p f (x ∷ xs) g h =
-    elim (p x) as (λ b. IfSome (cond b (Some x) (find p xs)) (λ y. P (f y)) → All P (if b then f x ∷ xs else x ∷ changed p f xs)) [
-      | true ↦ λ k. All-cons P (f x) xs k (All-tail P x xs h)
-      | false ↦ λ k. All-cons P x (changed p f xs) (All-head P x xs h) (all_changed P p f xs k (All-tail P x xs h))
+-- the limits of each, after one changed
+counted_changed : (p : Message → Bool) (f : Message → Message) (xs : List Message) → IfSome (find p xs) (λ m. IsCounted (f m)) → All IsCounted xs → All IsCounted (changed p f xs)
+counted_changed p f [] g h = h
+counted_changed p f (x ∷ xs) g h =
+    elim (p x) as (λ b. IfSome (cond b (Some x) (find p xs)) (λ m. IsCounted (f m)) → All IsCounted (if b then f x ∷ xs else x ∷ changed p f xs)) [
+      | true ↦ λ k. All-cons IsCounted (f x) xs k (All-tail IsCounted x xs h)
+      | false ↦ λ k. All-cons IsCounted x (changed p f xs) (All-head IsCounted x xs h) (counted_changed p f xs k (All-tail IsCounted x xs h))
     ] g
-
--- the numbers go up
-abbrev pub Climbs : ℕ → List Message → Type 0
-Climbs = Ascends (λ m. m.number)
-
--- numbers from a bound on are those from a lesser one on
-pub climbs_from : (a b : ℕ) (xs : List Message) → a ≤ b → Climbs b xs → Climbs a xs
-climbs_from a b [] l h = tt
-climbs_from a b (x ∷ xs) l h = (omega (arith, h.0), h.1)
-
-climbs_without : (p : Message → Bool) (a : ℕ) (xs : List Message) → Climbs a xs → Climbs a (without p xs)
-climbs_without p a [] h = tt
-climbs_without p a (x ∷ xs) h =
-    elim (p x) as (λ b. Climbs a (if b then xs else x ∷ without p xs)) [
-      | true ↦ climbs_from a (x.number + 1) xs (omega (arith, h.0)) h.1
-      | false ↦ (h.0, climbs_without p (x.number + 1) xs h.1)
-    ]
-
-climbs_changed : (p : Message → Bool) (f : Message → Message) → ((m : Message) → (f m).number ≡ m.number) → (a : ℕ) (xs : List Message) → Climbs a xs → Climbs a (changed p f xs)
-climbs_changed p f same a [] h = tt
-climbs_changed p f same a (x ∷ xs) h =
-    elim (p x) as (λ b. Climbs a (if b then f x ∷ xs else x ∷ changed p f xs)) [
-      | true ↦ rw (same x) h
-      | false ↦ (h.0, climbs_changed p f same (x.number + 1) xs h.1)
-    ]
-
-climbs_push : (a : ℕ) (xs : List Message) (m : Message) → a ≤ m.number → All (λ x. x.number < m.number) xs → Climbs a xs → Climbs a (xs ++ m ∷ [])
-climbs_push a [] m l g h = (l, tt)
-climbs_push a (x ∷ xs) m l g h =
-    let first : x.number < m.number = All-head (λ y. y.number < m.number) x xs g in
-    (h.0, climbs_push (x.number + 1) xs m (omega arith) (All-tail (λ y. y.number < m.number) x xs g) h.1)
 
 -- the limits, after one left
 pub stored_without : (p : Message → Bool) (records : List Message) (arrivals : ℕ) → IsStored records arrivals → IsStored (without p records) arrivals
 stored_without p records n h =
     record {
-      counted = all_without IsCounted p records h.counted;
-      ordered = climbs_without p 0 records h.ordered;
-      given_out = all_without (λ m. m.number < n) p records h.given_out;
+      counted = all_without p IsCounted records h.counted;
+      ordered = ascends_without (λ (m : Message). m.number) p 0 records h.ordered;
+      given_out = all_without p (λ m. m.number < n) records h.given_out;
     }
-
-below_changed : (p : Message → Bool) (f : Message → Message) (n : ℕ) → ((m : Message) → (f m).number ≡ m.number) → (xs : List Message) → All (λ m. m.number < n) xs → IfSome (find p xs) (λ x. (f x).number < n)
-below_changed p f n same [] h = tt
-below_changed p f n same (x ∷ xs) h =
-    elim (p x) as (λ b. IfSome (cond b (Some x) (find p xs)) (λ y. (f y).number < n)) [
-      | true ↦ rw (same x) (All-head (λ m. m.number < n) x xs h)
-      | false ↦ below_changed p f n same xs (All-tail (λ m. m.number < n) x xs h)
-    ]
 
 -- the limits, after one changed but for its number
 pub stored_changed : (p : Message → Bool) (f : Message → Message) (records : List Message) (arrivals : ℕ) → ((m : Message) → (f m).number ≡ m.number) → IfSome (find p records) (λ m. IsCounted (f m)) → IsStored records arrivals → IsStored (changed p f records) arrivals
 stored_changed p f records n same g h =
     record {
-      counted = all_changed IsCounted p f records g h.counted;
-      ordered = climbs_changed p f same 0 records h.ordered;
-      given_out = all_changed (λ m. m.number < n) p f records (below_changed p f n same records h.given_out) h.given_out;
+      counted = counted_changed p f records g h.counted;
+      ordered = ascends_changed (λ (m : Message). m.number) p f (λ m e. same m) 0 records h.ordered;
+      given_out = all_changed p (λ m. m.number < n) f (λ m l. rw (same m) l) records h.given_out;
     }
 
 -- the limits, after one more number was given out
@@ -100,7 +54,7 @@ pub stored_push : (records : List Message) (m : Message) (arrivals : ℕ) → m.
 stored_push records m n e c h =
     record {
       counted = All-push IsCounted records m h.counted c;
-      ordered = climbs_push 0 records m (omega arith) (rw e h.given_out) h.ordered;
+      ordered = ascends_push (λ (x : Message). x.number) 0 records m h.ordered (omega arith) (rw e h.given_out);
       given_out = All-push (λ x. x.number < n + 1) records m (stored_more records n h).given_out (omega arith);
     }
 

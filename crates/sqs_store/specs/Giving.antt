@@ -4,10 +4,10 @@ use Rattle.sqs_message.specs.declared.message.Message.{Message}
 use Rattle.sqs_redrive.specs.declared.answers.Got.{Got}
 use Rattle.sqs_redrive.specs.declared.transfers.Load.{Load}
 use Rattle.sqs_model.specs.Answers.{most_count}
+use Rattle.sqs_model.specs.Progress.{Differ}
 use Rattle.sqs_model.specs.Queue.{Queue, numbered, with_change}
 use Rattle.sqs_model.specs.Receive.{received}
 use Rattle.sqs_model.specs.Return.{released}
-use Rattle.sqs_store.specs.Chosen.{Differ}
 
 -- what a receive tells of a message, before it gives it
 abbrev pub told_of : ℕ → Message → Got

@@ -1,7 +1,8 @@
 //! What a receive tells of the messages that it gives.
 ghost use Rattle.std.specs.Prelude.{◌≡◌, ◌⊎◌, ◌+◌, ◌<◌, ◌≤◌, All, Any, Err, IfErr, IfOk, IsOkUnless, OnOk, map};
 ghost use Rattle.sqs_model.specs.Answers.{most_count};
-ghost use Rattle.sqs_store.specs.Chosen.{AreWithin, at_places};
+ghost use Rattle.sqs_model.specs.Available.{at_places};
+ghost use Rattle.sqs_store.specs.Chosen.{AreWithin};
 ghost use Rattle.sqs_store.specs.Giving.{told_of};
 
 use crate::store::MOST_COUNT;

@@ -1,9 +1,10 @@
 //! What a step of a move task takes out.
 ghost use Rattle.std.specs.Prelude.{◌≡◌, ◌+◌, ◌<◌, ◌≤◌, ◌++◌, ◌∷◌, [], IfOk, IsOkUnless, length, vec_capacity, vec_len};
+ghost use Rattle.sqs_model.specs.Available.{at_places};
 ghost use Rattle.sqs_model.specs.Progress.{Ascends};
 ghost use Rattle.sqs_model.specs.Queue.{Queue, with_records};
 ghost use Rattle.sqs_model.specs.Task.{destination, take_each};
-ghost use Rattle.sqs_store.specs.Chosen.{AreWithin, at_places, unmarked};
+ghost use Rattle.sqs_store.specs.Chosen.{AreWithin, unmarked};
 
 use crate::batch::copied_group;
 use sim_clock::Refusal;

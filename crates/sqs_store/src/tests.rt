@@ -1,6 +1,5 @@
 //! Each public call once, with answers worked out by hand.
-ghost use Rattle.std.specs.Prelude.{All, None, ◌+◌, ◌≡◌, ◌≤◌};
-ghost use Rattle.sqs_dedup.specs.Window.{living_among};
+ghost use Rattle.std.specs.Prelude.{◌≡◌, ◌≤◌, []};
 ghost use Rattle.sqs_model.specs.Answers.{most_count};
 ghost use Rattle.sqs_model.specs.Valid.{IsQueueSettings};
 
@@ -9,6 +8,7 @@ use sim_clock::{Class, Key, Refusal};
 use sqs_message::{MessageId, Origin, Receipt, Text};
 use sqs_redrive::{Got, Kind, Latency, Load, Policy, QueueSettings, Sent};
 use std::alloc::{AllocError, Global};
+use std::process::Abort;
 use std::test::Fail;
 
 // A queue with 30 seconds of visibility, a minute of retention, room for two, and a
@@ -53,25 +53,42 @@ fn add(alloc: Global, store: &mut Store, now: u64, delay: u64) -> Result<(), Ref
     store.add(message)
 }
 
-fn give(store: &mut Store, now: u64, timeout: u64, place: usize) -> Result<Vec<Got>, Refusal>
+fn give(store: &mut Store, now: u64, timeout: u64) -> Result<Vec<Got>, Refusal>
     requires moment { now ≤ most_count }
     requires timeout { timeout ≤ 43200000 }
 {
-    if store.view().len() <= place {
+    if store.view().is_empty() {
         return Err(Refusal::Memory);
     }
-    store.give_at(now, timeout, &[place])
+    store.give_at(now, timeout, &[0])
 }
 
-fn take(
-    store: &mut Store,
-    place: usize,
-    to: Option<u32>,
-) -> Result<(Vec<(u32, Load)>, bool), Refusal> {
-    if store.view().len() <= place {
+// The receipt that the giving of the first message makes, and whether that leaves then.
+fn give_first(store: &mut Store, now: u64, timeout: u64) -> Result<(Receipt, bool), Refusal>
+    requires moment { now ≤ most_count }
+    requires timeout { timeout ≤ 43200000 }
+{
+    match give(store, now, timeout)?.as_slice() {
+        [got] => Ok((got.receipt, got.left.is_some())),
+        _ => Err(Refusal::NoTask),
+    }
+}
+
+fn take(store: &mut Store) -> Result<(Vec<(u32, Load)>, bool), Refusal> {
+    if store.view().is_empty() {
         return Err(Refusal::Memory);
     }
-    store.take_at(&[place], to)
+    store.take_at(&[0], None)
+}
+
+// Where the first message goes, if it goes, and whether it has nowhere to go.
+fn take_first(store: &mut Store) -> Result<(Option<u32>, bool), Refusal> {
+    let (loads, stuck) = take(store)?;
+    match loads.as_slice() {
+        [(to, _)] => Ok((Some(*to), stuck)),
+        [] => Ok((None, stuck)),
+        _ => Err(Refusal::NoTask),
+    }
 }
 
 fn settle(
@@ -87,99 +104,160 @@ fn settle(
         return Err(Refusal::CountLimit);
     }
     let origin = Origin { site: 3, number: 8 };
-    let message = store.brought(now, origin, text(alloc, 98)?, None, enqueued, Some(3));
+    let message = store.brought(origin, text(alloc, 98)?, None, enqueued, Some(3));
     store.settle(now, message)
 }
 
-#[test]
-fn keeps_messages(rt: HostRuntime) -> Result<(), Fail> {
-    let alloc = rt.alloc();
-    let mut store = Store::new(alloc, 7, settings());
-    assert!(rt; add(alloc, &mut store, 1, 0).is_ok());
-    assert!(rt; add(alloc, &mut store, 2, 5000).is_ok());
-    assert_eq!(rt; (store.site(), store.settings().retention), (7, 60000));
-    assert_eq!(rt; (store.arrivals(), store.room()), (2, 2));
-    assert_eq!(rt; (store.counts().visible, store.counts().delayed), (1, 1));
+// Whether a release makes a message visible that stays.
+fn release(store: &mut Store, number: u64) -> bool {
+    matches!(store.release(number), Ok(None))
+}
+
+// When the message was enqueued that is removed.
+fn remove(store: &mut Store, number: u64) -> Option<u64> {
+    store.remove(number).map(|message| message.enqueued)
+}
+
+fn expire(store: &mut Store, now: u64, number: u64) -> u64 {
+    store.expire(now, number)
+}
+
+// Whether a change by a receipt is taken that makes the message come back at once.
+fn bring_back(store: &mut Store, now: u64, receipt: &Receipt) -> bool
+    requires { now ≤ most_count }
+{
+    store.change(now, receipt, 0).is_ok()
+}
+
+// Whether the message of a number waits out a delay.
+fn is_delayed(store: &Store, number: u64) -> bool {
+    match store.find(number) {
+        Some(message) => !may_be_received(message) && !is_out(message),
+        None => false,
+    }
+}
+
+fn least_due(store: &Store) -> Option<Key> {
+    store.least_due()
+}
+
+// Whether a store is that of `settings` at queue 7, to which two messages came, none in flight.
+fn is_of_two(store: &Store) -> bool {
+    let is_there = store.site() == 7 && store.settings().retention == 60000;
+    is_there && store.arrivals() == 2 && store.room() == 2
+}
+
+// Whether one message is visible and one waits out a delay.
+fn is_half_delayed(store: &Store) -> bool {
+    let counts = store.counts();
+    counts.visible == 1 && counts.delayed == 1
+}
+
+// A visible message and one that is delayed until 5,002.
+fn try_reading(rt: &impl Abort, store: &Store) {
     let due = Key {
         at: 5002,
         agent: 7,
         class: Class::Release,
         number: 1,
     };
-    assert_eq!(rt; store.least_due(), Some(due));
-    match store.find(1) {
-        Some(message) => assert!(rt; !may_be_received(message) && !is_out(message)),
-        None => assert!(rt; false, "no message"),
-    }
-    assert_eq!(rt; store.release(1).map(|left| left.is_none()), Ok(true));
-    assert_eq!(rt; store.remove(1).map(|message| message.enqueued), Some(2));
-    assert_eq!(rt;
-        (store.expire(60001, 0), store.expire(60001, 1)),
-        (60000, 0)
-    );
-    assert_eq!(rt; store.view().len(), 0);
-    Ok(())
+    assert_eq!(rt; least_due(store), Some(due));
+    assert!(rt; is_of_two(store));
+    assert!(rt; is_half_delayed(store));
+    assert!(rt; is_delayed(store, 1));
 }
 
 #[test]
-fn gives_messages(rt: HostRuntime) -> Result<(), Fail> {
-    let alloc = rt.alloc();
-    let mut store = Store::new(alloc, 7, settings());
-    assert!(rt; add(alloc, &mut store, 1, 0).is_ok());
+fn keeps_messages(rt: HostRuntime) {
+    let mut store = Store::new(rt.alloc(), 7, settings());
+    assert_eq!(rt; add(rt.alloc(), &mut store, 1, 0), Ok(()));
+    assert_eq!(rt; add(rt.alloc(), &mut store, 2, 5000), Ok(()));
+    try_reading(&rt, &store);
+    assert!(rt; release(&mut store, 1));
+    assert_eq!(rt; remove(&mut store, 1), Some(2));
+    assert_eq!(rt; expire(&mut store, 60001, 0), 60000);
+    assert_eq!(rt; expire(&mut store, 60001, 1), 0);
+    assert_eq!(rt; store.view().len(), 0);
+}
+
+fn try_timeouts(rt: &impl Abort, store: &Store) {
     assert_eq!(rt; store.wait_of(None), Ok(30000));
     assert_eq!(rt; store.wait_of(Some(43201)), Err(Refusal::BadTimeout));
-    let receipt = Receipt {
+}
+
+fn receipt(count: u64) -> Receipt {
+    Receipt {
         site: 7,
         number: 0,
-        count: 1,
-    };
-    for got in &give(&mut store, 5, 30000, 0)? {
-        assert_eq!(rt; got.receipt, receipt);
+        count,
     }
-    assert_eq!(rt; store.counts().in_flight, 1);
-    assert!(rt; store.change(6, &receipt, 0).is_ok());
-    // It comes back at once, received twice, and leaves for the dead-letter queue.
-    for got in &give(&mut store, 7, 0, 0)? {
-        assert!(rt; got.left.is_some());
-    }
-    assert_eq!(rt; store.view().len(), 0);
-    Ok(())
 }
 
 #[test]
-fn takes_in_and_out(rt: HostRuntime) -> Result<(), Fail> {
-    let alloc = rt.alloc();
-    let mut store = Store::new(alloc, 7, settings());
-    let first = MessageId { site: 7, number: 0 };
-    let second = MessageId { site: 7, number: 1 };
-    assert_eq!(rt;
-        settle(alloc, &mut store, 60000, 1),
-        Ok((Sent::New(first), false))
-    );
-    assert_eq!(rt;
-        settle(alloc, &mut store, 60000, 0),
-        Ok((Sent::New(second), true))
-    );
-    assert!(rt; add(alloc, &mut store, 60000, 0).is_ok());
+fn gives_messages(rt: HostRuntime) {
+    let mut store = Store::new(rt.alloc(), 7, settings());
+    assert_eq!(rt; add(rt.alloc(), &mut store, 1, 0), Ok(()));
+    try_timeouts(&rt, &store);
+    let first = give_first(&mut store, 5, 30000);
+    assert_eq!(rt; first, Ok((receipt(1), false)));
+    assert_eq!(rt; store.counts().in_flight, 1);
+    assert!(rt; bring_back(&mut store, 6, &receipt(1)));
+    // It comes back at once, received twice, and leaves for the dead-letter queue.
+    let second = give_first(&mut store, 7, 0);
+    assert_eq!(rt; second, Ok((receipt(2), true)));
+    assert_eq!(rt; store.view().len(), 0);
+}
+
+// Whether what settles after a minute gets this number, and whether it is over then.
+fn settles(alloc: Global, store: &mut Store, enqueued: u64, number: u64, is_over: bool) -> bool
+    requires { enqueued ≤ most_count }
+{
+    match settle(alloc, store, 60000, enqueued) {
+        Ok((Sent::New(id), over)) => id == MessageId { site: 7, number } && over == is_over,
+        _ => false,
+    }
+}
+
+#[test]
+fn takes_in_and_out(rt: HostRuntime) {
+    let mut store = Store::new(rt.alloc(), 7, settings());
+    assert!(rt; settles(rt.alloc(), &mut store, 1, 0, false));
+    assert!(rt; settles(rt.alloc(), &mut store, 0, 1, true));
+    assert_eq!(rt; add(rt.alloc(), &mut store, 60000, 0), Ok(()));
     // The first came from queue 3, and the other has nowhere to go.
-    let (loads, stuck) = take(&mut store, 0, None)?;
-    assert_eq!(rt; loads.iter().map(|(to, _)| *to).next(), Some(3));
-    assert!(rt; !stuck);
-    let (loads, stuck) = take(&mut store, 0, None)?;
-    assert!(rt; loads.is_empty() && stuck);
+    assert_eq!(rt; take_first(&mut store), Ok((Some(3), false)));
+    assert_eq!(rt; take_first(&mut store), Ok((None, true)));
     assert_eq!(rt; store.view().len(), 1);
-    Ok(())
+}
+
+// A message is added under an id, at the start.
+fn add_once(alloc: Global, store: &mut Store, id: Text) -> Result<(), Refusal>
+    requires { store.old.entries ≡ [] }
+{
+    if store.arrivals() == MOST_COUNT {
+        return Err(Refusal::CountLimit);
+    }
+    let message = store.next_message(0, text(alloc, 97)?, None, 0);
+    store.add_once(0, None, id, message)
+}
+
+fn living(store: &Store, now: u64, id: &Text) -> Option<u64> {
+    store.living(now, None, id)
+}
+
+// The entry of an id lives for 5 minutes, end excluded.
+fn try_living(rt: &impl Abort, store: &Store, id: &Text) {
+    assert_eq!(rt; living(store, 299999, id), Some(0));
+    assert_eq!(rt; living(store, 300000, id), None);
 }
 
 #[test]
 fn remembers_sends(rt: HostRuntime) -> Result<(), Fail> {
-    let alloc = rt.alloc();
-    let mut store = Store::new(alloc, 7, settings());
-    let id = text(alloc, 99)?;
+    let id = text(rt.alloc(), 99)?;
+    let copy = text(rt.alloc(), 99)?;
+    let mut store = Store::new(rt.alloc(), 7, settings());
     assert_eq!(rt; store.living(0, None, &id), None);
-    let message = store.next_message(0, text(alloc, 97)?, None, 0);
-    assert!(rt; store.add_once(0, None, text(alloc, 99)?, message).is_ok());
-    assert_eq!(rt; store.living(299999, None, &id), Some(0));
-    assert_eq!(rt; store.living(300000, None, &id), None);
+    assert_eq!(rt; add_once(rt.alloc(), &mut store, copy), Ok(()));
+    try_living(&rt, &store, &id);
     Ok(())
 }

@@ -1,5 +1,5 @@
-use super::{ABC, names, text};
-use crate::{ToWriter, write_finals};
+use super::{ABC, is_written, names, text};
+use crate::{Names, ToWriter, write_finals};
 use sqs_message::{MessageId, Origin, Place, Text};
 use sqs_model::{
     FinalMessage, FinalMessages, FinalTask, FinalTasks, FinalTransfer, FinalTransfers, Finals,
@@ -7,6 +7,7 @@ use sqs_model::{
 };
 use sqs_redrive::TaskStatus;
 use std::alloc::Global;
+use std::process::Abort;
 use std::test::Fail;
 
 /// The finals of nothing.
@@ -44,89 +45,96 @@ fn transfer(kind: TransferKind, number: u64, origin: Option<Origin>) -> FinalTra
     }
 }
 
+fn task(status: TaskStatus, moved: u64) -> FinalTask {
+    FinalTask {
+        task: 3,
+        status,
+        moved,
+    }
+}
+
 /// What is written of finals.
-fn written(alloc: Global, finals: &Finals) -> Result<Vec<u8>, Fail> {
-    let names = names(alloc)?;
+fn try_finals(rt: &impl Abort, alloc: Global, names: &Names, finals: &Finals, text: &[u8]) {
     let mut out = ToWriter::new(Vec::new(alloc));
-    write_finals(alloc, &mut out, finals, &names)?;
-    Ok(out.into_inner())
+    let answer = write_finals(alloc, &mut out, finals, names);
+    assert!(rt; is_written(&out, &answer, text));
 }
 
 #[test]
 fn of_nothing_the_headers_stand(rt: HostRuntime) -> Result<(), Fail> {
-    let finals = nothing(rt.alloc());
-    assert_eq!(rt;
-        written(rt.alloc(), &finals)?.as_slice(),
-        b"final,queue,message,origin,place,due,enqueued,receives,group,md5\ntransfer,from,to,kind,due,number,message,origin,md5\ntask,name,status,moved\n".as_slice()
-    );
+    let names = names(rt.alloc())?;
+    let text =
+        b"final,queue,message,origin,place,due,enqueued,receives,group,md5\ntransfer,from,to,kind,due,number,message,origin,md5\ntask,name,status,moved\n";
+    try_finals(&rt, rt.alloc(), &names, &nothing(rt.alloc()), text);
     Ok(())
+}
+
+/// A message with all that it may have, two transfers and a task.
+fn one_of_each(alloc: Global) -> Result<Finals, Fail> {
+    let group = text(alloc, b"g")?;
+    let origin = Origin { site: 0, number: 6 };
+    let mut finals = nothing(alloc);
+    finals.messages = FinalMessages::new(vec![in alloc;
+        message(3, Place::Delayed, Some(5000), Some(group)),
+    ]?);
+    finals.transfers = FinalTransfers::new(vec![in alloc;
+        transfer(TransferKind::Redrive, 0, Some(origin)),
+        transfer(TransferKind::Forward, 4, None),
+    ]?);
+    finals.tasks = FinalTasks::new(vec![in alloc; task(TaskStatus::Running, 12)]?);
+    Ok(finals)
 }
 
 #[test]
 fn a_message_two_transfers_and_a_task(rt: HostRuntime) -> Result<(), Fail> {
-    let mut messages = Vec::new(rt.alloc());
-    let group = text(rt.alloc(), b"g")?;
-    messages.push(message(3, Place::Delayed, Some(5000), Some(group)))?;
-    let mut transfers = Vec::new(rt.alloc());
-    let origin = Origin { site: 0, number: 6 };
-    transfers.push(transfer(TransferKind::Redrive, 0, Some(origin)))?;
-    transfers.push(transfer(TransferKind::Forward, 4, None))?;
-    let mut tasks = Vec::new(rt.alloc());
-    tasks.push(FinalTask {
-        task: 3,
-        status: TaskStatus::Running,
-        moved: 12,
-    })?;
-    let finals = Finals {
-        messages: FinalMessages::new(messages),
-        transfers: FinalTransfers::new(transfers),
-        tasks: FinalTasks::new(tasks),
-    };
-    assert_eq!(rt;
-        written(rt.alloc(), &finals)?.as_slice(),
-        b"final,queue,message,origin,place,due,enqueued,receives,group,md5\nfinal,q,m-0-3,o-1-8,delayed,5000,1000,2,g,900150983cd24fb0d6963f7d28e17f72\ntransfer,from,to,kind,due,number,message,origin,md5\ntransfer,q,d,redrive,1200,0,m-0-6,o-0-6,900150983cd24fb0d6963f7d28e17f72\ntransfer,q,d,forward,1200,4,m-0-6,,900150983cd24fb0d6963f7d28e17f72\ntask,name,status,moved\ntask,t,Running,12\n".as_slice()
-    );
+    let names = names(rt.alloc())?;
+    let finals = one_of_each(rt.alloc())?;
+    let text =
+        b"final,queue,message,origin,place,due,enqueued,receives,group,md5\nfinal,q,m-0-3,o-1-8,delayed,5000,1000,2,g,900150983cd24fb0d6963f7d28e17f72\ntransfer,from,to,kind,due,number,message,origin,md5\ntransfer,q,d,redrive,1200,0,m-0-6,o-0-6,900150983cd24fb0d6963f7d28e17f72\ntransfer,q,d,forward,1200,4,m-0-6,,900150983cd24fb0d6963f7d28e17f72\ntask,name,status,moved\ntask,t,Running,12\n";
+    try_finals(&rt, rt.alloc(), &names, &finals, text);
     Ok(())
+}
+
+/// Messages in the other places, and a transfer of the other kind.
+fn other_places(alloc: Global) -> Result<Finals, Fail> {
+    let mut finals = nothing(alloc);
+    finals.messages = FinalMessages::new(vec![in alloc;
+        message(0, Place::Visible, None, None),
+        message(1, Place::InFlight, Some(9), None),
+    ]?);
+    finals.transfers = FinalTransfers::new(vec![in alloc; transfer(TransferKind::Move, 1, None)]?);
+    Ok(finals)
 }
 
 #[test]
 fn each_place_and_kind(rt: HostRuntime) -> Result<(), Fail> {
-    let mut messages = Vec::new(rt.alloc());
-    messages.push(message(0, Place::Visible, None, None))?;
-    messages.push(message(1, Place::InFlight, Some(9), None))?;
-    let mut transfers = Vec::new(rt.alloc());
-    transfers.push(transfer(TransferKind::Move, 1, None))?;
-    let mut finals = nothing(rt.alloc());
-    finals.messages = FinalMessages::new(messages);
-    finals.transfers = FinalTransfers::new(transfers);
-    assert_eq!(rt;
-        written(rt.alloc(), &finals)?.as_slice(),
-        b"final,queue,message,origin,place,due,enqueued,receives,group,md5\nfinal,q,m-0-0,o-1-8,visible,,1000,2,,900150983cd24fb0d6963f7d28e17f72\nfinal,q,m-0-1,o-1-8,inflight,9,1000,2,,900150983cd24fb0d6963f7d28e17f72\ntransfer,from,to,kind,due,number,message,origin,md5\ntransfer,q,d,move,1200,1,m-0-6,,900150983cd24fb0d6963f7d28e17f72\ntask,name,status,moved\n".as_slice()
-    );
+    let names = names(rt.alloc())?;
+    let finals = other_places(rt.alloc())?;
+    let text =
+        b"final,queue,message,origin,place,due,enqueued,receives,group,md5\nfinal,q,m-0-0,o-1-8,visible,,1000,2,,900150983cd24fb0d6963f7d28e17f72\nfinal,q,m-0-1,o-1-8,inflight,9,1000,2,,900150983cd24fb0d6963f7d28e17f72\ntransfer,from,to,kind,due,number,message,origin,md5\ntransfer,q,d,move,1200,1,m-0-6,,900150983cd24fb0d6963f7d28e17f72\ntask,name,status,moved\n";
+    try_finals(&rt, rt.alloc(), &names, &finals, text);
     Ok(())
+}
+
+/// A task of each status.
+fn tasks(alloc: Global) -> Result<Finals, Fail> {
+    let mut finals = nothing(alloc);
+    finals.tasks = FinalTasks::new(vec![in alloc;
+        task(TaskStatus::Idle, 0),
+        task(TaskStatus::Running, 0),
+        task(TaskStatus::Completed, 0),
+        task(TaskStatus::Cancelled, 0),
+        task(TaskStatus::Failed, 0),
+    ]?);
+    Ok(finals)
 }
 
 #[test]
 fn each_status(rt: HostRuntime) -> Result<(), Fail> {
-    let mut tasks = Vec::new(rt.alloc());
-    for status in [
-        TaskStatus::Idle,
-        TaskStatus::Running,
-        TaskStatus::Completed,
-        TaskStatus::Cancelled,
-        TaskStatus::Failed,
-    ] {
-        tasks.push(FinalTask {
-            task: 3,
-            status,
-            moved: 0,
-        })?;
-    }
-    let mut finals = nothing(rt.alloc());
-    finals.tasks = FinalTasks::new(tasks);
-    assert_eq!(rt;
-        written(rt.alloc(), &finals)?.as_slice(),
-        b"final,queue,message,origin,place,due,enqueued,receives,group,md5\ntransfer,from,to,kind,due,number,message,origin,md5\ntask,name,status,moved\ntask,t,Idle,0\ntask,t,Running,0\ntask,t,Completed,0\ntask,t,Cancelled,0\ntask,t,Failed,0\n".as_slice()
-    );
+    let names = names(rt.alloc())?;
+    let finals = tasks(rt.alloc())?;
+    let text =
+        b"final,queue,message,origin,place,due,enqueued,receives,group,md5\ntransfer,from,to,kind,due,number,message,origin,md5\ntask,name,status,moved\ntask,t,Idle,0\ntask,t,Running,0\ntask,t,Completed,0\ntask,t,Cancelled,0\ntask,t,Failed,0\n";
+    try_finals(&rt, rt.alloc(), &names, &finals, text);
     Ok(())
 }

@@ -1,8 +1,13 @@
-use super::{names, row};
-use crate::{Failed, Out, ToWriter, write_all, write_header, write_record, write_rows};
+ghost use Rattle.std.specs.Prelude.{◌≡◌, false};
+ghost use Rattle.sim_records.specs.Writers.{has_failed};
+
+use super::{names, row, write_log};
+use crate::{Failed, Names, Out, ToWriter, write_all, write_record, write_rows};
 use sim_clock::Refusal;
-use sqs_message::{Detail, RowAnswer, RowKind};
+use sqs_message::{Detail, Row, RowAnswer, RowKind};
+use std::alloc::Global;
 use std::io::{Error, ErrorKind, Write};
+use std::process::Abort;
 use std::test::Fail;
 
 /// How a writer fails.
@@ -64,45 +69,61 @@ impl Write for Flushed {
     }
 }
 
-const LINE: [u8; 8] = *b"a,\"\"\"\",\n";
+fn writer(alloc: Global, left: usize, fault: Fault) -> ToWriter<ByteByByte>
+    ensures { has_failed result ≡ false }
+{
+    ToWriter::new(ByteByByte {
+        held: Vec::new(alloc),
+        left,
+        fault,
+    })
+}
 
 #[test]
 fn a_byte_a_call_is_the_same(rt: HostRuntime) -> Result<(), Fail> {
     let names = names(rt.alloc())?;
     let rows = [row(0, RowKind::Send, RowAnswer::New, Detail::Queue(1))];
-    let mut out = ToWriter::new(ByteByByte {
-        held: Vec::new(rt.alloc()),
-        left: 1_000_000,
-        fault: Fault::TakesNothing,
-    });
-    write_header(rt.alloc(), &mut out)?;
-    write_rows(rt.alloc(), &mut out, &rows, &names)?;
-    assert_eq!(rt;
-        out.into_inner().held.as_slice(),
-        b"at,queue,agent,call,answer,message,receipt,detail\n0,q,s,send,new,,,d\n".as_slice()
-    );
+    let mut out = writer(rt.alloc(), 1_000_000, Fault::TakesNothing);
+    let answer = write_log(rt.alloc(), &mut out, &rows, &names);
+    assert!(rt; answer.is_ok());
+    let log = b"at,queue,agent,call,answer,message,receipt,detail\n0,q,s,send,new,,,d\n";
+    assert!(rt; out.get_ref().held.as_slice() == log.as_slice());
     Ok(())
 }
 
+/// Whether a call answered that the writer failed, which holds these bytes.
+fn has_failed_behind(
+    out: &ToWriter<ByteByByte>,
+    answer: &Result<(), Refusal>,
+    bytes: &[u8],
+) -> bool {
+    matches!(answer, Err(Refusal::Write)) && out.get_ref().held.as_slice() == bytes
+}
+
+/// What a writer holds of a record's line whose call after so many bytes fails.
+fn try_record(rt: &impl Abort, alloc: Global, left: usize, fault: Fault, front: &[u8]) {
+    let mut out = writer(alloc, left, fault);
+    let answer = write_record(alloc, &mut out, &[b"a", b"\"", b""]);
+    assert!(rt; has_failed_behind(&out, &answer, front));
+}
+
 #[test]
-fn each_failing_call_leaves_what_came_before(rt: HostRuntime) -> Result<(), Fail> {
-    for fault in [
-        Fault::TakesNothing,
-        Fault::Error(ErrorKind::Interrupted),
-        Fault::Error(ErrorKind::BrokenPipe),
-    ] {
-        for left in 0..LINE.len() {
-            let mut out = ToWriter::new(ByteByByte {
-                held: Vec::new(rt.alloc()),
-                left,
-                fault,
-            });
-            let result = write_record(rt.alloc(), &mut out, &[b"a", b"\"", b""]);
-            assert_eq!(rt; result, Err(Refusal::Write));
-            assert_eq!(rt; out.get_ref().held.as_slice(), &LINE[..left]);
-        }
+fn each_failing_call_leaves_what_came_before(rt: HostRuntime) {
+    let line = b"a,\"\"\"\",\n".as_slice();
+    for left in 0..line.len() {
+        let front = &line[..left];
+        let (interrupted, broken) = (ErrorKind::Interrupted, ErrorKind::BrokenPipe);
+        try_record(&rt, rt.alloc(), left, Fault::TakesNothing, front);
+        try_record(&rt, rt.alloc(), left, Fault::Error(interrupted), front);
+        try_record(&rt, rt.alloc(), left, Fault::Error(broken), front);
     }
-    Ok(())
+}
+
+/// What a writer holds of some rows whose call after so many bytes fails.
+fn try_rows(rt: &impl Abort, alloc: Global, given: (&[Row], &Names), left: usize, front: &[u8]) {
+    let mut out = writer(alloc, left, Fault::Error(ErrorKind::Interrupted));
+    let answer = write_rows(alloc, &mut out, given.0, given.1);
+    assert!(rt; has_failed_behind(&out, &answer, front));
 }
 
 #[test]
@@ -112,41 +133,32 @@ fn a_failing_call_ends_the_rows(rt: HostRuntime) -> Result<(), Fail> {
         row(0, RowKind::Send, RowAnswer::New, Detail::Absent),
         row(1, RowKind::Send, RowAnswer::New, Detail::Absent),
     ];
-    let lines = b"0,q,s,send,new,,,\n1,q,s,send,new,,,\n";
+    let lines = b"0,q,s,send,new,,,\n1,q,s,send,new,,,\n".as_slice();
     for left in 0..lines.len() {
-        let mut out = ToWriter::new(ByteByByte {
-            held: Vec::new(rt.alloc()),
-            left,
-            fault: Fault::Error(ErrorKind::Interrupted),
-        });
-        let result = write_rows(rt.alloc(), &mut out, &rows, &names);
-        assert_eq!(rt; result, Err(Refusal::Write));
-        assert_eq!(rt; out.get_ref().held.as_slice(), &lines[..left]);
+        try_rows(&rt, rt.alloc(), (&rows, &names), left, &lines[..left]);
     }
     Ok(())
 }
 
 #[test]
-fn an_empty_piece_is_written(rt: HostRuntime) -> Result<(), Fail> {
+fn an_empty_piece_is_written(rt: HostRuntime) {
     let mut out = ToWriter::new(Vec::new(rt.alloc()));
-    assert_eq!(rt; out.write(b""), Ok(0));
-    write_all(&mut out, b"")?;
+    assert!(rt; matches!(out.write(b""), Ok(0)));
+    assert!(rt; write_all(&mut out, b"").is_ok());
     assert_eq!(rt; out.get_ref().len(), 0);
-    Ok(())
 }
 
 #[test]
-fn flushes_reach_the_writer(rt: HostRuntime) -> Result<(), Fail> {
+fn flushes_reach_the_writer(rt: HostRuntime) {
     let mut out = ToWriter::new(Flushed {
         count: 0,
         fails: false,
     });
-    write_all(&mut out, b"abc")?;
+    assert!(rt; write_all(&mut out, b"abc").is_ok());
     assert_eq!(rt; out.get_ref().count, 0);
-    out.flush()?;
-    out.flush()?;
-    assert_eq!(rt; out.into_inner().count, 2);
-    Ok(())
+    assert!(rt; out.flush().is_ok());
+    assert!(rt; out.flush().is_ok());
+    assert_eq!(rt; out.get_ref().count, 2);
 }
 
 #[test]
@@ -156,5 +168,5 @@ fn a_flush_fails(rt: HostRuntime) {
         fails: true,
     });
     assert_eq!(rt; out.flush(), Err(Failed));
-    assert_eq!(rt; out.into_inner().count, 1);
+    assert_eq!(rt; out.get_ref().count, 1);
 }

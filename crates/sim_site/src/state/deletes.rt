@@ -227,7 +227,7 @@ impl Core {
             None => Ok(()),
             Some(transfer) => {
                 let to = Detail::Queue(transfer.to);
-                effects.say(row(
+                let row = row(
                     key,
                     site,
                     agent,
@@ -235,8 +235,8 @@ impl Core {
                     RowAnswer::Out,
                     Some(id),
                     to,
-                ))?;
-                effects.send(transfer)
+                );
+                effects.say_sent(row, transfer)
             }
         }
     }

@@ -37,7 +37,8 @@ impl Core {
         let site = self.queue.site();
         let id = MessageId { site, number };
         let to = Detail::Queue(policy.dead_letter);
-        effects.say(row(
+        let latency = self.draws.between(least, greatest);
+        let row = row(
             key,
             site,
             site,
@@ -45,16 +46,16 @@ impl Core {
             RowAnswer::Out,
             Some(id),
             to,
-        ))?;
-        let latency = self.draws.between(least, greatest);
-        effects.send(Outbound {
+        );
+        let transfer = Outbound {
             at: key.at + latency,
             sender: site,
             number: self.sent,
             from: site,
             to: policy.dead_letter,
             load,
-        })?;
+        };
+        effects.say_sent(row, transfer)?;
         self.sent += 1;
         Ok(())
     }

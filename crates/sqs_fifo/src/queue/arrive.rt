@@ -1,8 +1,9 @@
 //! The arrival of transfers.
-ghost use Rattle.std.specs.Prelude.{◌≡◌, ◌⊎◌, ◌+◌, ◌<◌, ◌≤◌, All, Err, IfOk, OnErr, OnOk};
+ghost use Rattle.std.specs.Prelude.{◌≡◌, ◌⊎◌, ◌<◌, ◌≤◌, Err, IfOk, OnErr, OnOk};
 ghost use Rattle.sqs_model.specs.Answers.{Meets, most_count};
 ghost use Rattle.sqs_model.specs.Arrive.{arrived, brought, forwarded_group, settle};
-ghost use Rattle.sqs_model.specs.Queue.{IsFramed, id_of};
+ghost use Rattle.sqs_model.specs.Progress.{IsRecent};
+ghost use Rattle.sqs_model.specs.Queue.{IsFramed};
 ghost use Rattle.sqs_store.specs.Calls.{never_refused};
 ghost use Rattle.sqs_fifo.specs.Fifo.{IsFifo};
 
@@ -20,12 +21,12 @@ impl FifoQueue {
     /// `CountLimit` where a new message is to come and the queue's numbers are used up; `Memory`.
     pub fn arrive(&mut self, now: u64, load: Load) -> Result<(Sent, bool), Refusal>
         requires moment { now ≤ most_count }
-        requires no_later_entry { All (λ e. e.end ≤ now + 300000) self.old.entries }
+        requires recent { IsRecent now self.old }
         ensures answer { Meets (self.old.arrivals ≡ most_count) result self.new (never_refused (arrived self.old now load)) }
-        ensures at_limit { result ≡ Err Refusal.CountLimit → (arrived self.old now load).0.0 ≡ Sent.New (id_of self.old self.old.arrivals) }
+        ensures at_limit { result ≡ Err Refusal.CountLimit → most_count < (arrived self.old now load).1.arrivals }
         ensures counted { OnOk result ((self.old.arrivals < most_count) ⊎ (self.new ≡ self.old)) }
         ensures unchanged { OnErr result (self.new ≡ self.old) }
-        ensures no_later_entry { All (λ e. e.end ≤ now + 300000) self.new.entries }
+        ensures recent { IsRecent now self.new }
         ensures framed { IsFramed self.old self.new }
     {
         match load {
@@ -73,7 +74,7 @@ impl FifoQueue {
         if self.store.arrivals() == MOST_COUNT {
             return Err(Refusal::CountLimit);
         }
-        let message = self.store.brought(now, origin, body, group, now, source);
+        let message = self.store.brought(origin, body, group, now, source);
         self.store.settle(now, message)
     }
 }

@@ -1,9 +1,10 @@
 //! The sending of messages.
-ghost use Rattle.std.specs.Prelude.{◌≡◌, ◌⊎◌, ◌+◌, ◌<◌, ◌≤◌, All, Err, IfOk, Ok, OnErr, OnOk};
+ghost use Rattle.std.specs.Prelude.{◌≡◌, ◌⊎◌, ◌<◌, ◌≤◌, Err, IfOk, OnErr, OnOk};
 ghost use Rattle.sqs_model.specs.Acts.{sends};
 ghost use Rattle.sqs_model.specs.Answers.{Meets, most_count};
 ghost use Rattle.sqs_model.specs.Calls.{body_digest, deduplication_id, is_bad_delay};
-ghost use Rattle.sqs_model.specs.Queue.{IsFramed, id_of};
+ghost use Rattle.sqs_model.specs.Progress.{IsRecent};
+ghost use Rattle.sqs_model.specs.Queue.{IsFramed};
 
 use super::FifoQueue;
 use sim_clock::Refusal;
@@ -67,12 +68,12 @@ impl FifoQueue {
         delay: Option<u64>,
     ) -> Result<Sent, Refusal>
         requires moment { now ≤ most_count }
-        requires no_later_entry { All (λ e. e.end ≤ now + 300000) self.old.entries }
+        requires recent { IsRecent now self.old }
         ensures answer { Meets (self.old.arrivals ≡ most_count) result self.new (sends self.old.settings.kind self.old now body delay group id) }
-        ensures at_limit { result ≡ Err Refusal.CountLimit → (sends self.old.settings.kind self.old now body delay group id).0 ≡ Ok (Sent.New (id_of self.old self.old.arrivals)) }
+        ensures at_limit { result ≡ Err Refusal.CountLimit → most_count < (sends self.old.settings.kind self.old now body delay group id).1.arrivals }
         ensures counted { OnOk result ((self.old.arrivals < most_count) ⊎ (self.new ≡ self.old)) }
         ensures unchanged { OnErr result (self.new ≡ self.old) }
-        ensures no_later_entry { All (λ e. e.end ≤ now + 300000) self.new.entries }
+        ensures recent { IsRecent now self.new }
         ensures framed { IsFramed self.old self.new }
     {
         let (content, _) = self.deduplication();

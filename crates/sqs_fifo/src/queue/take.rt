@@ -1,49 +1,38 @@
 //! The steps of move tasks.
-ghost use Rattle.std.specs.Prelude.{◌≡◌, IfOk, IsOkUnless, not};
-ghost use Rattle.sim_clock.specs.Firsts.{is_empty};
-ghost use Rattle.sqs_model.specs.Available.{all_available};
+ghost use Rattle.std.specs.Prelude.{◌≡◌, IfOk, IsOkUnless, OnErr};
 ghost use Rattle.sqs_model.specs.Queue.{IsFramed};
 ghost use Rattle.sqs_model.specs.Task.{take_movable};
 
 use super::FifoQueue;
 use sim_clock::Refusal;
-use sqs_groups::available_places;
 use sqs_redrive::{Load, Rest};
 
 impl FifoQueue {
     /// A step of a move task (`StartMessageMoveTask`) takes at most so many of the messages that
     /// the queue may give out, in the order in which it gives them, each for the task's queue or
     /// else for the one that it came from as a dead letter, up to the first that has nowhere to go.
-    /// Answers where each goes and its load, and what is left. The one error is `Memory`, after
-    /// which nothing is said of the messages.
+    /// Answers where each goes and its load, and what is left. The one error is `Memory`, which
+    /// leaves the queue as it was.
     pub fn take_movable(
         &mut self,
         max: u64,
         to: Option<u32>,
     ) -> Result<(Vec<(u32, Load)>, Rest), Refusal>
         ensures taken { IfOk result (λ answer. take_movable self.old max to ≡ ((answer.0.items, answer.1), self.new)) }
+        ensures unchanged { OnErr result (self.new ≡ self.old) }
         ensures memory_only { IsOkUnless result Refusal.Memory }
         ensures kept { self.new.entries ≡ self.old.entries }
         ensures framed { IsFramed self.old self.new }
     {
-        let places = self.first_places(max)?;
+        let (places, more) = self.first_places(max)?;
         let (loads, stuck) = self.store.take_at(&places, to)?;
         let rest = if stuck {
             Rest::NoSource
-        } else if self.has_available()? {
+        } else if more {
             Rest::More
         } else {
             Rest::Empty
         };
         Ok((loads, rest))
-    }
-
-    // Whether there is any message that the queue may give.
-    fn has_available(&self) -> Result<bool, Refusal>
-        ensures some { IfOk result (λ some. some ≡ not (is_empty (all_available self.now))) }
-        ensures memory_only { IsOkUnless result Refusal.Memory }
-    {
-        let places = available_places(self.alloc, self.store.view())?;
-        Ok(!places.is_empty())
     }
 }

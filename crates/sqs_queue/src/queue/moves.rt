@@ -4,11 +4,11 @@ ghost use Rattle.std.specs.Prelude.{◌≡◌, ◌⊎◌, ◌<◌, ◌≤◌, Er
 ghost use Rattle.sqs_model.specs.Answers.{Meets, most_count};
 ghost use Rattle.sqs_model.specs.Arrive.{arrived, expired};
 ghost use Rattle.sqs_model.specs.Calls.{returned};
-ghost use Rattle.sqs_model.specs.Progress.{IsRecent};
+ghost use Rattle.sqs_model.specs.Progress.{IsRecent, WasEnqueuedBy};
 ghost use Rattle.sqs_model.specs.Queue.{IsFramed};
 ghost use Rattle.sqs_model.specs.Return.{released};
 ghost use Rattle.sqs_model.specs.Task.{take_movable};
-ghost use Rattle.sqs_standard.specs.Standard.{IsStandard, WasEnqueuedBy};
+ghost use Rattle.sqs_standard.specs.Standard.{IsStandard};
 ghost use Rattle.sqs_store.specs.Calls.{never_refused};
 
 use super::{Either, Queue};
@@ -67,14 +67,15 @@ impl Queue {
     /// A step of a move task (`StartMessageMoveTask`) takes at most so many of the messages that
     /// the queue may give, in the order in which it gives them, each for the task's queue or else
     /// for the one that it came from as a dead letter, up to the first that has nowhere to go.
-    /// Answers where each goes and its load, and what is left. The one error is `Memory`, after
-    /// which nothing is said of the messages.
+    /// Answers where each goes and its load, and what is left. The one error is `Memory`, which
+    /// leaves the queue as it was.
     pub fn take_movable(
         &mut self,
         max: u64,
         to: Option<u32>,
     ) -> Result<(Vec<(u32, Load)>, Rest), Refusal>
         ensures taken { IfOk result (λ answer. take_movable self.old max to ≡ ((answer.0.items, answer.1), self.new)) }
+        ensures unchanged { OnErr result (self.new ≡ self.old) }
         ensures memory_only { IsOkUnless result Refusal.Memory }
         ensures framed { IsFramed self.old self.new }
     {

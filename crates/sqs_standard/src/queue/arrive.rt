@@ -2,9 +2,9 @@
 ghost use Rattle.std.specs.Prelude.{◌≡◌, ◌-◌, false, true, ◌+◌, ◌<◌, ◌≤◌, IfOk, IsOkUnless, OnOk, OnErr};
 ghost use Rattle.sqs_model.specs.Answers.{Meets, most_count};
 ghost use Rattle.sqs_model.specs.Arrive.{arrived};
+ghost use Rattle.sqs_model.specs.Progress.{WasEnqueuedBy};
 ghost use Rattle.sqs_model.specs.Queue.{IsFramed};
 ghost use Rattle.sqs_store.specs.Calls.{never_refused};
-ghost use Rattle.sqs_standard.specs.Standard.{WasEnqueuedBy};
 
 use super::StandardQueue;
 use sim_clock::Refusal;
@@ -38,7 +38,7 @@ impl StandardQueue {
             } => {
                 let message = self
                     .store
-                    .brought(now, origin, body, group, enqueued, Some(id.site));
+                    .brought(origin, body, group, enqueued, Some(id.site));
                 self.store.settle(now, message)
             }
             Load::Move {
@@ -47,7 +47,7 @@ impl StandardQueue {
                 body,
                 group,
             } => {
-                let message = self.store.brought(now, origin, body, group, now, None);
+                let message = self.store.brought(origin, body, group, now, None);
                 self.store.settle(now, message)
             }
             Load::Forward {

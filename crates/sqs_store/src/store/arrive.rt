@@ -13,18 +13,16 @@ use sqs_redrive::Sent;
 
 impl Store {
     /// The message that a dead letter or a moved message would be here: visible at once, with the
-    /// origin that it had.
+    /// origin that it had. It is the same whatever the moment.
     pub fn brought(
         &self,
-        now: u64,
         origin: Origin,
         body: Text,
         group: Option<Text>,
         enqueued: u64,
         source: Option<u32>,
     ) -> Message
-        requires { now ≤ most_count }
-        ensures { result ≡ brought self.now now origin body group enqueued source }
+        ensures { result ≡ brought self.now 0 origin body group enqueued source }
     {
         Message {
             number: self.arrivals,

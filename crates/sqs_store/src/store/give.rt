@@ -2,9 +2,11 @@
 ghost use Rattle.std.specs.Prelude.{◌≡◌, ◌-◌, false, true, ◌<◌, ◌≤◌, ◌⊎◌, All, Any, Err, IfErr, IfOk, IfSome, OnErr, OnOk, map};
 ghost use Rattle.std.specs.Result.{result_map_both};
 ghost use Rattle.sqs_model.specs.Answers.{Meets, most_count};
+ghost use Rattle.sqs_model.specs.Available.{at_places};
+ghost use Rattle.sqs_model.specs.Progress.{Differ};
 ghost use Rattle.sqs_model.specs.Queue.{IsFramed, numbered};
 ghost use Rattle.sqs_model.specs.Receive.{answered, give, is_bad_timeout, timeout_of};
-ghost use Rattle.sqs_store.specs.Chosen.{AreWithin, Differ, at_places};
+ghost use Rattle.sqs_store.specs.Chosen.{AreWithin};
 ghost use Rattle.sqs_store.specs.Giving.{CanBeGiven, gives, gives_all, told_of};
 
 use super::Store;

@@ -1,8 +1,9 @@
 //! What a move task takes out.
 ghost use Rattle.std.specs.Prelude.{◌≡◌, ◌-◌, ◌<◌, IfOk, IsOkUnless, OnErr};
+ghost use Rattle.sqs_model.specs.Available.{at_places};
 ghost use Rattle.sqs_model.specs.Queue.{IsFramed};
 ghost use Rattle.sqs_model.specs.Task.{take_each};
-ghost use Rattle.sqs_store.specs.Chosen.{AreWithin, at_places};
+ghost use Rattle.sqs_store.specs.Chosen.{AreWithin};
 
 use super::Store;
 use crate::parting::{kept_of, loads_of};

@@ -1,4 +1,4 @@
-use Rattle.std.proofs.Common.{◌∙◌, map, string_bytes, true, false, rules}
+use Rattle.std.proofs.Common.{◌∙◌, flat_map, map, string_bytes, true, false, rules}
 use Rattle.sqs_formats.specs.Reading.{answer}
 use Rattle.sim_scenario.proofs.UnknownKeys.{unknown_faults, keys_in-view, known_here, step_known, step_unknown, named_fails}
 use Rattle.sim_scenario.proofs.keys.known_keys.Goals as goal
@@ -8,7 +8,7 @@ loop-key-init c = rw (c.into_iter-key-iterator.ensures.into_iter_gives, c.keys-k
 
 pub loop-key-preserved : goal.loop-key-preserved
 loop-key-preserved c =
-    let known = map (λ k. k.now) c.args.known.now in
+    let known = flat_map (λ ks. map (λ k. k.now) ks.now) c.args.known.now in
     let key = string_bytes c.in-Some.key.now in
     let step = rw c.in-Some.is at c.next.ensures.steps in
     let here = known_here c.args.known.now key c.as_str.result.now c.is_known.result true c.as_str.ensures.value c.is_known.ensures c.if-not-is_known.false in
@@ -17,7 +17,7 @@ loop-key-preserved c =
 pub returns-then-not-is_known : goal.returns-then-not-is_known
 unfolding answer
 returns-then-not-is_known c =
-    let known = map (λ k. k.now) c.args.known.now in
+    let known = flat_map (λ ks. map (λ k. k.now) ks.now) c.args.known.now in
     let key = string_bytes c.in-Some.key.now in
     let step = rw c.in-Some.is at c.next.ensures.steps in
     let here = known_here c.args.known.now key c.as_str.result.now c.is_known.result false c.as_str.ensures.value c.is_known.ensures c.if-not-is_known.true in

@@ -1,4 +1,4 @@
-use Rattle.std.proofs.Common.{◌≡◌, map, string_bytes}
+use Rattle.std.proofs.Common.{◌≡◌, flat_map, map, string_bytes}
 use Rattle.toml.specs.View.{table_view}
 use Rattle.sqs_formats.specs.Keys.{keys_in}
 use Rattle.sim_scenario.proofs.UnknownKeys.{unknown_faults}
@@ -7,4 +7,4 @@ use Rattle.sim_scenario.proofs.keys.known_keys.Given as goal
 -- the keys that are left have the faults of all
 abbrev pub invariant-loop-key : goal.invariant-loop-key
 invariant-loop-key l =
-    unknown_faults l.place (map (λ k. k.now) l.known) (keys_in (table_view l.table)) ≡ unknown_faults l.place (map (λ k. k.now) l.known) (map string_bytes l.key-iterator)
+    unknown_faults l.place (flat_map (λ ks. map (λ k. k.now) ks.now) l.known) (keys_in (table_view l.table)) ≡ unknown_faults l.place (flat_map (λ ks. map (λ k. k.now) ks.now) l.known) (map string_bytes l.key-iterator)

@@ -1,10 +1,10 @@
-use Rattle.std.proofs.Common.{◌≡◌, ◌∙◌, ◌++◌, ◌∷◌, [], List, ℕ, ap, append_assoc, map, subst, sym}
+use Rattle.std.proofs.Common.{◌≡◌, ◌∙◌, ◌++◌, ◌∷◌, [], List, ℕ, ap, append_assoc, subst, sym}
 use Rattle.std.specs.Prelude.{All}
 use Rattle.std.proofs.lemmas.List.Elements.{All-tail}
 use Rattle.sqs_model.specs.declared.agents.ActorSettings.{ActorSettings}
 use Rattle.sim_actor.specs.Lives.{IsRole}
 use Rattle.sqs_model.specs.Scenario.{opening_actor}
-use Rattle.sim_site.proofs.Openings.{map_push}
+use Rattle.sim_site.proofs.Openings.{made_more}
 use Rattle.sim_site.proofs.opening.open_actors.Goals as goal
 
 pub loop-number-preserved : goal.loop-number-preserved
@@ -14,8 +14,8 @@ loop-number-preserved c =
     let steps : c.loop-number.number-iterator.rest.items ≡ x ∷ more = c.in-Some.ensures.steps.0 in
     record {
       opened = λ s e.
-          c.in_ok-push.ensures.items ∙ ap (λ xs. xs ++ c.new.result ∷ []) (c.loop-number.invariant.opened s e)
-          ∙ ap (λ y. map (opening_actor s) c.loop-number.yielded ++ y ∷ []) (c.new.ensures s e) ∙ sym (map_push (opening_actor s) c.loop-number.yielded x);
+          made_more (opening_actor s) c.loop-number.opened.items c.push.new.self.items c.new.result c.loop-number.yielded x
+          c.in_ok-push.ensures.items (c.loop-number.invariant.opened s e) (c.new.ensures s e);
       rest = append_assoc c.loop-number.yielded (x ∷ []) more ∙ ap (λ r. c.loop-number.yielded ++ r) (sym steps) ∙ c.loop-number.invariant.rest;
       roles = All-tail (λ (y : ℕ × ActorSettings). IsRole y.1.role) x more (subst (All (λ (y : ℕ × ActorSettings). IsRole y.1.role)) steps c.loop-number.invariant.roles);
     }

@@ -1,5 +1,5 @@
 use Rattle.std.proofs.Common.{refl}
-use Rattle.sqs_dedup.specs.Window.{none_later}
+use Rattle.sqs_model.proofs.Kept.{none_later}
 use Rattle.sqs_dedup.proofs.tests.enter.Goals as goal
 
 pub returns : goal.returns

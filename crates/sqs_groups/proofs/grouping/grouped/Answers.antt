@@ -1,12 +1,13 @@
-use Rattle.std.proofs.Common.{◌+◌, ◌++◌, ◌∙◌, ◌∷◌, ◌≡◌, List, Option, Some, [], ap, get_or, map, slice_get, subst, sym, take, ℕ}
+use Rattle.std.proofs.Common.{◌+◌, ◌++◌, ◌∙◌, ◌∷◌, ◌≡◌, List, Option, Some, [], ap, get_or, length, map, refl, slice_get, subst, sym, take, ℕ}
 use Rattle.std.specs.List.{position_or_len}
 use Rattle.std.proofs.lemmas.List.{take_all, take_more}
+use Rattle.std.proofs.lemmas.Option.{slice_get_read}
 use Rattle.indexmap.specs.IndexSet.{insert_key}
 use Rattle.sqs_message.specs.declared.message.Message.{Message}
+use Rattle.sqs_model.specs.Available.{at_places}
 use Rattle.sqs_model.specs.Queue.{same_text}
-use Rattle.sqs_groups.specs.Groups.{picked}
-use Rattle.sqs_groups.proofs.ByGroup.{IsGrouped, grouped_all, grouped_more, picked_push}
-use Rattle.sqs_groups.proofs.Opens.{stands_at}
+use Rattle.sqs_model.proofs.Placed.{places_push}
+use Rattle.sqs_groups.proofs.ByGroup.{IsGrouped, grouped_all, grouped_more}
 use Rattle.sqs_groups.proofs.grouping.grouped.Goals as goal
 
 pub loop-place-preserved : goal.loop-place-preserved
@@ -15,11 +16,11 @@ loop-place-preserved c =
     let m : Message = c.index-messages-place.result in
     let i = c.loop-place.place-index in
     let place = get_or c.args.places.now i 0 in
-    let at : slice_get ms place ≡ Some m = stands_at ms place m (c.requires i 0 c.loop-place-test.true) c.index-messages-place.is in
-    let seen = picked ms (take i c.args.places.now) in
+    let at : slice_get ms place ≡ Some m = slice_get_read ms (length ms) place m refl (c.requires i 0 c.loop-place-test.true) c.index-messages-place.is in
+    let seen = at_places ms (take i c.args.places.now) in
     let P : List Message → Type 0 = λ picks. IsGrouped ms picks c.insert_full.new.self.keys (map (λ v. v.items) c.put.new.lists.items) in
-    let more : picked ms (take (i + 1) c.args.places.now) ≡ seen ++ m ∷ [] =
-    ap (picked ms) (take_more c.args.places.now i 0 c.loop-place-test.true) ∙ picked_push ms (take i c.args.places.now) place m at in
+    let more : at_places ms (take (i + 1) c.args.places.now) ≡ seen ++ m ∷ [] =
+    ap (at_places ms) (take_more c.args.places.now i 0 c.loop-place-test.true) ∙ places_push ms (take i c.args.places.now) place m at in
     subst P (sym more)
     (grouped_more ms seen m place c.in_ok-index.index c.loop-place.groups.keys c.insert_full.new.self.keys (map (λ v. v.items) c.loop-place.lists.items) (map (λ v. v.items) c.put.new.lists.items)
     c.loop-place.invariant at
@@ -30,6 +31,6 @@ loop-place-preserved c =
 
 pub returns-clause-groups : goal.returns-clause-groups
 returns-clause-groups c =
-    let P : List ℕ → Type 0 = λ places. IsGrouped c.args.messages.now (picked c.args.messages.now places) c.loop-place.groups.keys (map (λ v. v.items) c.loop-place.lists.items) in
-    grouped_all (λ v. v.items) c.args.messages.now (picked c.args.messages.now c.args.places.now) c.loop-place.groups.keys c.loop-place.lists.items
+    let P : List ℕ → Type 0 = λ places. IsGrouped c.args.messages.now (at_places c.args.messages.now places) c.loop-place.groups.keys (map (λ v. v.items) c.loop-place.lists.items) in
+    grouped_all (λ v. v.items) c.args.messages.now (at_places c.args.messages.now c.args.places.now) c.loop-place.groups.keys c.loop-place.lists.items
     (subst P (take_all c.loop-place.place-index c.args.places.now c.loop-place-test.false) c.loop-place.invariant)

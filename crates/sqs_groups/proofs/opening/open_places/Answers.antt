@@ -1,8 +1,10 @@
-use Rattle.std.proofs.Common.{◌+◌, ◌∙◌, List, drop, subst, sym}
+use Rattle.std.proofs.Common.{◌+◌, ◌∙◌, List, drop, length, refl, subst, sym}
+use Rattle.std.proofs.lemmas.Option.{slice_get_read}
 use Rattle.sqs_message.specs.declared.message.Message.{Message}
 use Rattle.sqs_model.specs.Queue.{is_delayed}
+use Rattle.sqs_model.proofs.Placed.{rest_at}
 use Rattle.sqs_groups.specs.Groups.{AreGroupsOf}
-use Rattle.sqs_groups.proofs.Opens.{IsOpened, noted, open_by, opened_all, opened_more, rest_at, stands_at, turned, turned_more}
+use Rattle.sqs_groups.proofs.Opens.{IsOpened, noted, open_by, opened_all, opened_more, turned, turned_more}
 use Rattle.sqs_groups.proofs.opening.open_places.Goals as goal
 
 pub loop-place-preserved : goal.loop-place-preserved
@@ -19,7 +21,7 @@ loop-place-preserved c =
       subst P turn
           (opened_more ms before (drop (i + 1) ms) m c.loop-place.places.items c.keep.new.places.items i c.is_open.result
           (subst R (rest_at ms i m c.loop-place-test.true c.index-messages-place.is) c.loop-place.invariant.1)
-          (stands_at ms i m c.loop-place-test.true c.index-messages-place.is)
+          (slice_get_read ms (length ms) i m refl c.loop-place-test.true c.index-messages-place.is)
           (c.is_open.ensures ∙ open_by ms before m c.args.busy.now.keys c.loop-place.waiting.keys c.requires.busy c.loop-place.invariant.0)
           c.in_ok-keep.ensures.kept),
     )

@@ -6,8 +6,8 @@ use Rattle.sim_site.specs.Kept.{numbered_settings}
 use Rattle.sim_site.proofs.Openings.{numbers_open, seeded, settings_open}
 use Rattle.sim_site.proofs.site.Site.new.Goals as goal
 
-pub new-requires-clause-set_up : goal.new-requires-clause-set_up
-new-requires-clause-set_up c =
+pub new-core-requires-clause-set_up : goal.new-core-requires-clause-set_up
+new-core-requires-clause-set_up c =
     let s = seeded c.args.seed in
     let queue : c.new-queue.result.settings ≡ c.args.settings = ap (λ (q : Queue). q.settings) c.new-queue.ensures in
     let actors : map (λ (a : Actor). a.settings) c.in_ok-actors.actors.items ≡ map (λ x. x.1) c.args.actors.items =

@@ -1,8 +1,9 @@
 use Rattle.std.proofs.Common.{◌∙◌, ap, subst, sym}
 use Rattle.std.specs.Prelude.{List}
 use Rattle.sqs_message.specs.declared.message.Message.{Message}
+use Rattle.sqs_model.specs.Available.{at_places}
+use Rattle.sqs_model.specs.Progress.{Differ}
 use Rattle.sqs_model.specs.Queue.{Queue}
-use Rattle.sqs_store.specs.Chosen.{Differ, at_places}
 use Rattle.sqs_store.proofs.Giving.{told_can_be_given}
 use Rattle.sqs_store.proofs.store.Store.batch.Goals as goal
 

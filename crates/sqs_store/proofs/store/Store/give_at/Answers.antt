@@ -1,4 +1,4 @@
-use Rattle.sqs_store.specs.Chosen.{at_places}
+use Rattle.sqs_model.specs.Available.{at_places}
 use Rattle.sqs_store.proofs.Giving.{answered_given}
 use Rattle.sqs_store.proofs.store.Store.give_at.Goals as goal
 

@@ -2,7 +2,8 @@ use Rattle.std.proofs.Common.{◌≡◌, ◌∙◌, Bool, Global, List, Vec, ap,
 use Rattle.sqs_message.specs.declared.message.Message.{Message}
 use Rattle.sqs_model.specs.Queue.{Queue}
 use Rattle.sqs_model.specs.Task.{Taken}
-use Rattle.sqs_store.specs.Chosen.{at_places, unmarked}
+use Rattle.sqs_model.specs.Available.{at_places}
+use Rattle.sqs_store.specs.Chosen.{unmarked}
 use Rattle.sqs_store.specs.Stored.{IsStored}
 use Rattle.sqs_store.proofs.Parted.{stored_taken}
 use Rattle.sqs_store.proofs.store.Store.take_at.Goals as goal

@@ -8,7 +8,7 @@ use Rattle.sqs_redrive.specs.declared.transfers.Outbound.{Outbound}
 use Rattle.sqs_model.specs.Queue.{Entry}
 use Rattle.sqs_model.specs.Site.{Site}
 use Rattle.sim_site.proofs.Openings.{seeded}
-use Rattle.sim_site.proofs.tests.open.Goals as goal
+use Rattle.sqs_rehearse.proofs.tests.sites.open.Goals as goal
 
 pub returns-clause-recent : goal.returns-clause-recent
 returns-clause-recent c =

@@ -1,26 +1,15 @@
 -- No message is given twice: groups have no message in common, and numbers go up.
-use Rattle.std.proofs.Common.{◌≡◌, ℕ, ◌+◌, ◌≤◌, Bool, true, false, List, [], ◌∷◌, ◌++◌, Option, Some, None, filter, take, flat_map, get_or, arith, refl, sym, ap, ◌∙◌}
+use Rattle.std.proofs.Common.{◌≡◌, ℕ, ◌+◌, ◌≤◌, Bool, true, false, List, [], ◌∷◌, Some, filter, flat_map, get_or, arith, refl, sym, ap, ◌∙◌}
 use Rattle.std.specs.List.{list_any}
-use Rattle.std.specs.Prelude.{All, ◌||◌, ◌≢◌, not, suc, zero}
+use Rattle.std.specs.Prelude.{All, ◌||◌, ◌≢◌, not}
 use Rattle.std.proofs.lemmas.Bool.{false≢true}
-use Rattle.std.proofs.lemmas.List.Elements.{All-append, All-cons, All-filter, All-head, All-nil, All-tail, All-take, All-weaker, filter_passes}
-use Rattle.std.proofs.lemmas.Slice.Eq.{bytes_eq-Decides}
+use Rattle.std.proofs.lemmas.List.Elements.{All-append, All-cons, All-filter, All-head, All-nil, All-tail, All-weaker, filter_passes}
 use Rattle.sim_clock.specs.Firsts.{kept_when}
 use Rattle.sqs_message.specs.declared.message.Message.{Message}
 use Rattle.sqs_model.specs.Available.{by_group, firsts, is_open, open_from}
-use Rattle.sqs_model.specs.Progress.{Ascends}
 use Rattle.sqs_model.specs.Queue.{numbered, same_group, same_text}
-use Rattle.sqs_store.specs.Chosen.{Differ}
-use Rattle.sqs_store.proofs.Giving.{climbs_apart, climbs_filter, each_is_numbered}
-use Rattle.sqs_store.proofs.Stored.{climbs_from}
-
--- the numbers go up
-abbrev Climbs : ℕ → List Message → Type 0
-Climbs = Ascends (λ m. m.number)
-
--- no two have one number
-abbrev pub Apart : List Message → Type 0
-Apart = Differ (λ m. m.number)
+use Rattle.sqs_model.specs.Texts.{same_text_decides}
+use Rattle.sqs_model.proofs.Numbered.{Apart, Climbs, apart_append, climbs_apart, climbs_filter, climbs_from, each_is_numbered}
 
 climbs_kept : (b : Bool) (a : ℕ) (m : Message) (ms : List Message) → a ≤ m.number → Climbs (m.number + 1) ms → Climbs a (kept_when b m ms)
 climbs_kept true a m ms l h = (l, h)
@@ -30,35 +19,13 @@ pub climbs_open : (all earlier : List Message) (a : ℕ) (ms : List Message) →
 climbs_open all earlier a [] h = tt
 climbs_open all earlier a (m ∷ ms) h = climbs_kept (is_open all earlier m) a m (open_from all (m ∷ earlier) ms) h.0 (climbs_open all (m ∷ earlier) (m.number + 1) ms h.1)
 
-pub apart_take : (n : ℕ) (ms : List Message) → Apart ms → Apart (take n ms)
-apart_take zero ms h = tt
-apart_take (suc n) [] h = tt
-apart_take (suc n) (m ∷ ms) h = (All-take (λ x. x.number ≢ m.number) n ms h.0, apart_take n ms h.1)
-
-apart_append : (xs ys : List Message) → Apart xs → Apart ys → All (λ x. All (λ y. y.number ≢ x.number) ys) xs → Apart (xs ++ ys)
-apart_append [] ys h k c = k
-apart_append (x ∷ xs) ys h k c =
-    let P : Message → Type 0 = λ z. All (λ y. y.number ≢ z.number) ys in
-    (All-append (λ y. y.number ≢ x.number) xs ys h.0 (All-head P x xs c), apart_append xs ys h.1 k (All-tail P x xs c))
-
--- texts are one where they are equal
-same_text_equal : (a b : Option (List ℕ)) → same_text a b ≡ true → a ≡ b
-same_text_equal None None e = refl
-same_text_equal None (Some b) e = absurd (false≢true e)
-same_text_equal (Some a) None e = absurd (false≢true e)
-same_text_equal (Some a) (Some b) e = ap Some ((bytes_eq-Decides a b).0 e)
-
-same_text_own : (a : Option (List ℕ)) → same_text a a ≡ true
-same_text_own None = refl
-same_text_own (Some a) = (bytes_eq-Decides a a).1 refl
-
 -- of two leaders of different groups no message is of both
 not_both : (l k y : Message) → same_group k l ≡ false → same_group k y ≡ true → same_group l y ≡ false
 not_both l k y apart of =
     elim (same_group l y) as (λ b. same_group l y ≡ b → b ≡ false) [
       | true ↦ λ e.
-          let one : k.group ≡ l.group = same_text_equal k.group y.group of ∙ sym (same_text_equal l.group y.group e) in
-          let same : same_group k l ≡ true = ap (λ g. same_text g l.group) one ∙ same_text_own l.group in
+          let one : k.group ≡ l.group = (same_text_decides k.group y.group).0 of ∙ sym ((same_text_decides l.group y.group).0 e) in
+          let same : same_group k l ≡ true = ap (λ g. same_text g l.group) one ∙ (same_text_decides l.group l.group).1 refl in
           absurd (false≢true (sym apart ∙ same))
       | false ↦ λ e. refl
     ] refl
@@ -69,10 +36,10 @@ Leaders [] = Unit {0}
 Leaders (l ∷ ls) = All (λ k. same_group k l ≡ false) ls × Leaders ls
 
 -- whether none of these is of a message's group
-abbrev IsNew : List Message → Message → Type 0
+abbrev pub IsNew : List Message → Message → Type 0
 IsNew earlier k = list_any (same_group k) earlier ≡ false
 
-or_first : (a b : Bool) → (a || b) ≡ false → a ≡ false
+pub or_first : (a b : Bool) → (a || b) ≡ false → a ≡ false
 or_first true b e = e
 or_first false b e = refl
 
@@ -80,7 +47,7 @@ or_second : (a b : Bool) → (a || b) ≡ false → b ≡ false
 or_second true b e = absurd (false≢true (sym e))
 or_second false b e = e
 
-record IsLed (earlier ls : List Message) : Type 0 where
+pub record IsLed (earlier ls : List Message) : Type 0 where
   pub fresh : All (IsNew earlier) ls
   pub leaders : Leaders ls
 
@@ -96,15 +63,15 @@ led_kept false earlier m ls e h =
       leaders = (All-weaker (IsNew (m ∷ earlier)) (λ k. same_group k m ≡ false) (λ k n. or_first (same_group k m) (list_any (same_group k) earlier) n) ls h.fresh, h.leaders);
     }
 
-firsts_led : (earlier ms : List Message) → IsLed earlier (firsts earlier ms)
+pub firsts_led : (earlier ms : List Message) → IsLed earlier (firsts earlier ms)
 firsts_led earlier [] = record { fresh = All-nil (IsNew earlier); leaders = tt }
 firsts_led earlier (m ∷ ms) = led_kept (list_any (same_group m) earlier) earlier m (firsts (m ∷ earlier) ms) refl (firsts_led (m ∷ earlier) ms)
 
 -- the messages of these leaders' groups
-abbrev groups : List Message → List Message → List Message
+abbrev pub groups : List Message → List Message → List Message
 groups ms ls = flat_map (λ l. filter (same_group l) ms) ls
 
-all_groups : (P : Message → Type 0) (ms ls : List Message) → All P ms → All P (groups ms ls)
+pub all_groups : (P : Message → Type 0) (ms ls : List Message) → All P ms → All P (groups ms ls)
 all_groups P ms [] h = All-nil P
 all_groups P ms (l ∷ ls) h = All-append P (filter (same_group l) ms) (groups ms ls) (All-filter (same_group l) P ms h) (all_groups P ms ls h)
 
@@ -124,7 +91,7 @@ different l x y ms fx fy ex ey same =
     let equal : y ≡ x = cc in
     false≢true (sym ey ∙ ap (same_group l) equal ∙ ex)
 
-apart_groups : (ms ls : List Message) → Climbs 0 ms → Leaders ls → Apart (groups ms ls)
+pub apart_groups : (ms ls : List Message) → Climbs 0 ms → Leaders ls → Apart (groups ms ls)
 apart_groups ms [] o h = tt
 apart_groups ms (l ∷ ls) o h =
     let xs : List Message = filter (same_group l) ms in

@@ -9,7 +9,7 @@ use Rattle.sqs_model.specs.Step.{handled}
 use Rattle.sim_site.specs.declared.site.Handled.{Handled as Made}
 use Rattle.sim_site.proofs.Timely.{handles_timely}
 use Rattle.sqs_model.specs.Progress.{AreTimely}
-use Rattle.sim_site.proofs.tests.handle_next.Goals as goal
+use Rattle.sqs_rehearse.proofs.tests.sites.handle_next.Goals as goal
 
 -- what holds of a site that lives, and stays so where it is handled
 stays_so :

@@ -1,0 +1,5 @@
+//! The crates below the program, called as the program calls them.
+mod rehearsals;
+mod scenarios;
+mod sites;
+mod worlds;
