@@ -13,13 +13,10 @@ mod script;
 use sim_clock::Refusal;
 use sim_draw::Draws;
 use sqs_message::Receipt;
-use sqs_model::{ActorSettings, Role};
+use sqs_model::{ActorSettings, MOST_COUNT, Role};
 use sqs_redrive::Got;
 use std::alloc::Global;
 use std::marker::Model;
-
-/// No count may pass this.
-const MOST_COUNT: u64 = 4_611_686_018_427_387_903;
 
 /// What a consumer did last.
 #[derive(Clone, Copy)]
@@ -73,12 +70,12 @@ fn first_wake(role: &Role) -> Option<u64>
 }
 
 impl Actor {
-    ghost use Rattle.sqs_model.specs.Scenario.{Scenario, opening_actor};
+    ghost use Rattle.sqs_model.specs.Scenario.{opening_actor};
 
     /// An actor that has done nothing.
     pub fn new(alloc: Global, number: u32, settings: ActorSettings, seed: u64) -> Actor
         requires { IsRole settings.role }
-        ensures { (s : Scenario) → s.seed ≡ seed → result ≡ opening_actor s (number, settings) }
+        ensures { result ≡ opening_actor seed (number, settings) }
     {
         let wake = first_wake(&settings.role);
         Actor {

@@ -2,16 +2,10 @@
 ghost use Rattle.std.specs.Prelude.{◌≡◌, IfOk};
 ghost use Rattle.std.specs.Fmt.{decimal};
 ghost use Rattle.sqs_model.specs.Actor.{filled as the_filled};
-ghost use Rattle.sim_actor.specs.Marks.{has_mark};
+ghost use Rattle.sqs_model.specs.Marks.{has_mark};
 
+use sqs_model::has_mark;
 use std::alloc::{AllocError, Global};
-
-// Whether bytes begin with `{n}`.
-fn has_mark(bytes: &[u8]) -> bool
-    ensures { result ≡ has_mark bytes.now }
-{
-    bytes.len() >= 3 && bytes[0] == b'{' && bytes[1] == b'n' && bytes[2] == b'}'
-}
 
 /// A body with each `{n}` replaced by a number in decimal, from left to right.
 pub fn filled(alloc: Global, n: u64, body: &[u8]) -> Result<Vec<u8>, AllocError>

@@ -57,7 +57,7 @@ impl Draws {
     /// The next word, of 32 bits.
     #[tactic(auto, unfolding(sqs_model::specs::Draw::word))]
     pub fn word(&mut self) -> u32
-        requires { self.old.taken < most_count }
+        requires { self.old.taken ≤ most_count }
         ensures word { result ≡ next_word self.old }
         ensures after { self.new ≡ moved_on self.old }
     {
@@ -69,7 +69,7 @@ impl Draws {
     /// A number from `low` to `high`, both included. It takes a word always.
     #[tactic(auto, using(crate::proofs::Words::share_within))]
     pub fn uniform(&mut self, low: u64, high: u64) -> u64
-        requires words { self.old.taken < most_count }
+        requires words { self.old.taken ≤ most_count }
         requires order { low ≤ high }
         requires span { high < low + 2 ^ 32 }
         ensures number { result ≡ the_uniform low high (next_word self.old) }
@@ -84,7 +84,7 @@ impl Draws {
 
     /// Whether an event comes that has so many chances in a thousand. It takes a word always.
     pub fn chance(&mut self, permille: u64) -> bool
-        requires words { self.old.taken < most_count }
+        requires words { self.old.taken ≤ most_count }
         ensures event { result ≡ the_chance permille (next_word self.old) }
         ensures after { self.new ≡ moved_on self.old }
     {
@@ -94,7 +94,7 @@ impl Draws {
 
     /// A number from `low` to `high`, both included. Where they are equal it takes no word.
     pub fn between(&mut self, low: u64, high: u64) -> u64
-        requires words { low < high → self.old.taken < most_count }
+        requires words { low < high → self.old.taken ≤ most_count }
         requires order { low ≤ high }
         requires span { high < low + 2 ^ 32 }
         ensures least { low ≤ result }

@@ -28,7 +28,7 @@ use Rattle.sqs_model.proofs.Counts.{find_picked}
 use Rattle.sqs_model.proofs.Kept.{give_up}
 use Rattle.sqs_model.proofs.Branches.{either}
 use Rattle.sqs_model.proofs.Growth.{Grows, MayStand, all_back_up, moves_up, same, some_up}
-use Rattle.sqs_store.specs.Calls.{to_give}
+use Rattle.sqs_model.specs.Receive.{to_give}
 use Rattle.sim_site.specs.Steps.{stepped_moves}
 use Rattle.sim_site.proofs.Rewriting.{is_its_number}
 use Rattle.sim_site.proofs.Passing.{actor_passes, passes_after, passes_before, passes_site, rows_pass, site_passes, task_passes, words_within}

@@ -12,14 +12,10 @@ pub made_more : {A B : Type 0} (f : A → B) (made new : List B) (y : B) (xs : L
 made_more f made new y xs x pushed so_far is = rw (pushed, so_far, is) (sym (map-append f xs (x ∷ [])))
 
 -- an opening keeps settings
-pub settings_open : (s : Scenario) (xs : List (ℕ × ActorSettings)) → map (λ (a : Actor). a.settings) (map (opening_actor s) xs) ≡ map (λ x. x.1) xs
-settings_open s [] = refl
-settings_open s (x ∷ xs) = ap (λ t. x.1 ∷ t) (settings_open s xs)
+pub settings_open : (seed : ℕ) (xs : List (ℕ × ActorSettings)) → map (λ (a : Actor). a.settings) (map (opening_actor seed) xs) ≡ map (λ x. x.1) xs
+settings_open seed [] = refl
+settings_open seed (x ∷ xs) = ap (λ t. x.1 ∷ t) (settings_open seed xs)
 
-pub numbers_open : (s : Scenario) (xs : List (ℕ × TaskSettings)) → map numbered_settings (map (opening_task s) xs) ≡ xs
-numbers_open s [] = refl
-numbers_open s (x ∷ xs) = ap (λ t. x ∷ t) (numbers_open s xs)
-
--- a scenario of a seed
-abbrev pub seeded : ℕ → Scenario
-seeded seed = record { horizon = 0; seed = seed; sample = 0; queues = []; actors = []; tasks = []; names = [] }
+pub numbers_open : (seed : ℕ) (xs : List (ℕ × TaskSettings)) → map numbered_settings (map (opening_task seed) xs) ≡ xs
+numbers_open seed [] = refl
+numbers_open seed (x ∷ xs) = ap (λ t. x ∷ t) (numbers_open seed xs)

@@ -6,7 +6,7 @@ use Rattle.sim_clock.specs.declared.refusal.Refusal.TheVariants as refusals
 use Rattle.sqs_message.specs.declared.ids.Receipt.{Receipt}
 use Rattle.sqs_message.specs.declared.message.Message.{Message}
 use Rattle.sqs_redrive.specs.declared.transfers.Load.{Load}
-use Rattle.sqs_model.specs.Calls.{change, change_done, change_found, change_here, in_flight_until, returned}
+use Rattle.sqs_model.specs.Calls.{change, change_done, change_found, change_here, in_flight_until, may_be_given, returned}
 use Rattle.sqs_model.specs.Queue.{Queue, is_in_flight, numbered, with_change}
 use Rattle.sqs_model.specs.Return.{released}
 use Rattle.sqs_model.proofs.Branches.{either}
@@ -32,7 +32,7 @@ found_same q now r timeout (Some m) = here_same q now r timeout m
 pub change_same : (q : Queue) (now : ℕ) (r : Receipt) (timeout : ℕ) → SameOnErr q (change q now r timeout)
 change_same q now r timeout =
     either (SameOnErr q) (nat_lt 43200 timeout) (Err refusals.BadTimeout, q) _ refl
-    (either (SameOnErr q) (r.site == q.site) (change_found q now r timeout (numbered r.number q.records)) (Err refusals.ReceiptHandleIsInvalid, q) (found_same q now r timeout (numbered r.number q.records)) refl)
+    (either (SameOnErr q) (may_be_given q r) (change_found q now r timeout (numbered r.number q.records)) (Err refusals.ReceiptHandleIsInvalid, q) (found_same q now r timeout (numbered r.number q.records)) refl)
 
 pub refused_same : (q new : Queue) (now : ℕ) (r : Receipt) (timeout : ℕ) (e : Refusal) → change q now r timeout ≡ (Err e, new) → new ≡ q
 refused_same q new now r timeout e h =

@@ -70,11 +70,11 @@ impl Model for Task {
 }
 
 impl Task {
-    ghost use Rattle.sqs_model.specs.Scenario.{Scenario, opening_task};
+    ghost use Rattle.sqs_model.specs.Scenario.{opening_task};
 
     /// A task that was never started.
     pub fn new(number: u32, settings: TaskSettings, seed: u64) -> Task
-        ensures { (s : Scenario) → s.seed ≡ seed → result ≡ opening_task s (number, settings) }
+        ensures { result ≡ opening_task seed (number, settings) }
     {
         Task {
             number,

@@ -1,10 +1,9 @@
 //! What a handling makes: rows of the log, and transfers to other queues.
-ghost use Rattle.std.specs.Prelude.{IsOkUnless, OnOk, [], ◌++◌, ◌∷◌, ◌≡◌};
+ghost use Rattle.std.specs.Prelude.{OnOk, [], ◌++◌, ◌∷◌, ◌≡◌};
 
-use sim_clock::Refusal;
 use sqs_message::Row;
 use sqs_redrive::Outbound;
-use std::alloc::Global;
+use std::alloc::{AllocError, Global};
 
 /// Rows made and transfers sent, in order.
 #[derive(Drop)]
@@ -26,30 +25,27 @@ impl Effects {
     }
 
     /// Adds a row. The one error is `Memory`.
-    pub fn say(&mut self, row: Row) -> Result<(), Refusal>
+    pub fn say(&mut self, row: Row) -> Result<(), AllocError>
         ensures rows { OnOk result (self.new.rows.items ≡ self.old.rows.items ++ row ∷ []) }
         ensures sent { self.new.sent ≡ self.old.sent }
-        ensures memory_only { IsOkUnless result Refusal.Memory }
     {
         self.rows.push(row)?;
         Ok(())
     }
 
     /// Adds a transfer. The one error is `Memory`.
-    pub fn send(&mut self, transfer: Outbound) -> Result<(), Refusal>
+    pub fn send(&mut self, transfer: Outbound) -> Result<(), AllocError>
         ensures sent { OnOk result (self.new.sent.items ≡ self.old.sent.items ++ transfer ∷ []) }
         ensures rows { self.new.rows ≡ self.old.rows }
-        ensures memory_only { IsOkUnless result Refusal.Memory }
     {
         self.sent.push(transfer)?;
         Ok(())
     }
 
     /// Adds a row, and the transfer that it tells of. The one error is `Memory`.
-    pub fn say_sent(&mut self, row: Row, transfer: Outbound) -> Result<(), Refusal>
+    pub fn say_sent(&mut self, row: Row, transfer: Outbound) -> Result<(), AllocError>
         ensures rows { OnOk result (self.new.rows.items ≡ self.old.rows.items ++ row ∷ []) }
         ensures sent { OnOk result (self.new.sent.items ≡ self.old.sent.items ++ transfer ∷ []) }
-        ensures memory_only { IsOkUnless result Refusal.Memory }
     {
         self.say(row)?;
         self.send(transfer)

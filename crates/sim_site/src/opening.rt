@@ -1,24 +1,22 @@
 //! The actors and tasks that a site opens with.
-ghost use Rattle.std.specs.Prelude.{◌≡◌, All, IfOk, IsOkUnless, map};
+ghost use Rattle.std.specs.Prelude.{◌≡◌, All, IfOk, map};
 ghost use Rattle.sim_actor.specs.Lives.{IsRole};
-ghost use Rattle.sqs_model.specs.Scenario.{Scenario, opening_actor, opening_task};
+ghost use Rattle.sqs_model.specs.Scenario.{opening_actor, opening_task};
 
 use crate::agents::Task;
 use sim_actor::Actor;
-use sim_clock::Refusal;
 use sqs_model::ActorSettings;
 use sqs_redrive::TaskSettings;
-use std::alloc::Global;
+use std::alloc::{AllocError, Global};
 
 /// The actors of these numbers and settings, which have done nothing.
 pub fn open_actors(
     alloc: Global,
     actors: Vec<(u32, ActorSettings)>,
     seed: u64,
-) -> Result<Vec<Actor>, Refusal>
+) -> Result<Vec<Actor>, AllocError>
     requires { All (λ x. IsRole x.1.role) actors.items }
-    ensures opened { IfOk result (λ opened. (s : Scenario) → s.seed ≡ seed → opened.items ≡ map (opening_actor s) actors.items) }
-    ensures memory_only { IsOkUnless result Refusal.Memory }
+    ensures { IfOk result (λ opened. opened.items ≡ map (opening_actor seed) actors.items) }
 {
     let mut opened = Vec::new(alloc);
     for (number, settings) in actors {
@@ -32,9 +30,8 @@ pub fn open_tasks(
     alloc: Global,
     tasks: &[(u32, TaskSettings)],
     seed: u64,
-) -> Result<Vec<Task>, Refusal>
-    ensures opened { IfOk result (λ opened. (s : Scenario) → s.seed ≡ seed → opened.items ≡ map (opening_task s) tasks.now) }
-    ensures memory_only { IsOkUnless result Refusal.Memory }
+) -> Result<Vec<Task>, AllocError>
+    ensures { IfOk result (λ opened. opened.items ≡ map (opening_task seed) tasks.now) }
 {
     let mut opened = Vec::new(alloc);
     for i in 0..tasks.len() {

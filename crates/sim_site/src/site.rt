@@ -6,7 +6,7 @@ ghost use Rattle.sqs_model.specs.Answers.{most_count};
 ghost use Rattle.sqs_model.specs.Dues.{least_due};
 ghost use Rattle.sqs_model.specs.Limits.{effect_of};
 ghost use Rattle.sqs_model.specs.Progress.{AreTimely, IsRecent};
-ghost use Rattle.sqs_model.specs.Scenario.{Scenario, numbered_actors, numbered_tasks, opening_site};
+ghost use Rattle.sqs_model.specs.Scenario.{fresh_core};
 ghost use Rattle.sqs_model.specs.Site.{Site, accepted};
 ghost use Rattle.sim_site.specs.Kept.{IsSetUp};
 ghost use Rattle.sqs_model.specs.Step.{handled};
@@ -25,7 +25,7 @@ use sqs_message::Row;
 use sqs_model::ActorSettings;
 use sqs_queue::Queue;
 use sqs_redrive::{Outbound, QueueSettings, TaskSettings};
-use std::alloc::Global;
+use std::alloc::{AllocError, Global};
 use std::marker::Model;
 
 /// What a handling made: rows of the log, and transfers to other queues, in order.
@@ -94,7 +94,7 @@ fn handle_due(
 impl Site {
     /// A site of a queue of this number, of the kind that its settings say, with the actors and
     /// tasks at home there, each under its own number; samples are taken every so many
-    /// milliseconds, or never where that is 0. `Memory` where it cannot be made.
+    /// milliseconds, or never where that is 0. The error is want of memory.
     pub fn new(
         alloc: Global,
         number: u32,
@@ -103,12 +103,11 @@ impl Site {
         tasks: Vec<(u32, TaskSettings)>,
         seed: u64,
         sample: u64,
-    ) -> Result<Site, Refusal>
+    ) -> Result<Site, AllocError>
         requires roles { All (λ x. IsRole x.1.role) actors.items }
         requires set_up { IsSetUp settings (map (λ x. x.1) actors.items) tasks.items }
         requires sample { sample ≤ most_count }
-        ensures opened { IfOk result (λ site. (s : Scenario) → s.seed ≡ seed → s.sample ≡ sample → actors.items ≡ filter (λ x. x.1.home == number) (numbered_actors s) → tasks.items ≡ filter (λ x. x.1.home == number) (numbered_tasks s) → site ≡ Ok (opening_site s (number, settings))) }
-        ensures memory_only { IsOkUnless result Refusal.Memory }
+        ensures { IfOk result (λ site. site ≡ Ok (record { core = fresh_core number settings actors.items tasks.items seed sample; arriving = [] })) }
     {
         let actors = open_actors(alloc, actors, seed)?;
         let tasks = open_tasks(alloc, tasks.as_slice(), seed)?;

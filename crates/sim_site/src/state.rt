@@ -27,9 +27,6 @@ use sqs_queue::Queue;
 use std::alloc::Global;
 use std::marker::Model;
 
-/// The greatest value of a count or a moment.
-pub const MOST_COUNT: u64 = 4611686018427387903;
-
 /// A queue with the actors and tasks at home there, the polls that wait at it, the words drawn and
 /// the transfers sent by it, and how many samples were taken of it. Contracts see it as the
 /// definitions' record of these.

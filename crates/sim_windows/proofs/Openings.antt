@@ -1,6 +1,6 @@
 -- How actors and tasks come to their homes, and the world that a scenario opens with.
 use Rattle.std.specs.List.{enumerate_from}
-use Rattle.std.specs.Prelude.{All, Bool, List, None, Option, Result, Some, [], cond, false, filter, get_or, length, map, set, true, suc, zero, ℕ, ◌++◌, ◌+◌, ◌<◌, ◌==◌, ◌∷◌, ◌≡◌, ◌≤◌}
+use Rattle.std.specs.Prelude.{All, Bool, List, None, Ok, Option, Result, Some, [], cond, false, filter, get_or, length, map, set, true, suc, zero, ℕ, ◌++◌, ◌+◌, ◌<◌, ◌==◌, ◌∷◌, ◌≡◌, ◌≤◌}
 use Rattle.std.proofs.Common.{add-one, append_assoc, ap, arith, drop, refl, subst, sym, ◌∙◌}
 use Rattle.std.proofs.lemmas.Bool.Decides.{nat_tests}
 use Rattle.std.proofs.lemmas.List.{append-nil, get_or-map, length-append, length-map, length-set, map-set}
@@ -24,7 +24,7 @@ use Rattle.sqs_model.specs.declared.agents.Role.TheVariants.{Consumer, Producer,
 use Rattle.sqs_model.proofs.Counts.{ascends_lower}
 use Rattle.sqs_model.proofs.Opening.{all_enumerated, opens_sound}
 use Rattle.sqs_model.specs.Progress.{Ascends, IsSound, IsSoundScenario, WasEnqueuedBy}
-use Rattle.sqs_model.specs.Scenario.{HasItsQueues, MayBeWithin, Scenario, numbered_actors, numbered_tasks, opening, opening_site}
+use Rattle.sqs_model.specs.Scenario.{HasItsQueues, MayBeWithin, Scenario, fresh_core, numbered_actors, numbered_tasks, opening, opening_site}
 use Rattle.sqs_model.specs.Site.{Site}
 use Rattle.sqs_model.specs.Valid.{IsLatency, IsTaskSettings}
 use Rattle.sim_actor.specs.Lives.{IsRole}
@@ -208,6 +208,16 @@ one_site s n queues d sites after site within made pushed =
     ap (λ t. t ++ to_come s (n + 1) queues) pushed ∙ append_assoc sites (site ∷ []) (to_come s (n + 1) queues)
     ∙ ap (λ t. sites ++ t ∷ to_come s (n + 1) queues) made
     ∙ ap (λ qs. sites ++ map alive (map (opening_site s) (enumerate_from n qs))) (sym next)
+
+-- a site that was made of what is at home at a queue of a scenario
+pub opened_with : (s : Scenario) (n : ℕ) (settings : QueueSettings) (actors : List (ℕ × ActorSettings)) (tasks : List (ℕ × TaskSettings)) (seed sample : ℕ) (site : Result Site Refusal)
+    → site ≡ Ok (record { core = fresh_core n settings actors tasks seed sample; arriving = [] }) → s.seed ≡ seed → s.sample ≡ sample
+    → actors ≡ filter (λ x. x.1.home == n) (numbered_actors s) → tasks ≡ filter (λ x. x.1.home == n) (numbered_tasks s) → site ≡ alive (opening_site s (n, settings))
+opened_with s n settings actors tasks seed sample site h e f a t =
+    let P : List (ℕ × ActorSettings) → List (ℕ × TaskSettings) → ℕ → ℕ → Result Site Refusal = λ x y z w. Ok (record { core = fresh_core n settings x y z w; arriving = [] }) in
+    h ∙ ap (λ x. P x tasks seed sample) a ∙ ap (λ y. P (filter (λ x. x.1.home == n) (numbered_actors s)) y seed sample) t
+    ∙ ap (λ z. P (filter (λ x. x.1.home == n) (numbered_actors s)) (filter (λ x. x.1.home == n) (numbered_tasks s)) z sample) (sym e)
+    ∙ ap (λ w. P (filter (λ x. x.1.home == n) (numbered_actors s)) (filter (λ x. x.1.home == n) (numbered_tasks s)) s.seed w) (sym f)
 
 -- sites of queues stand at their numbers
 numbered_sites : (s : Scenario) (n : ℕ) (queues : List QueueSettings) → IsNumbered n (map (opening_site s) (enumerate_from n queues))

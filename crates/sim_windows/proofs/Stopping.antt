@@ -1,8 +1,6 @@
 -- Where a handling takes a count past the limit, the run does.
-use Rattle.std.specs.Prelude.{List, [], length, max, ℕ, ◌++◌, ◌+◌, ◌<◌, ◌≡◌, ◌≤◌}
+use Rattle.std.specs.Prelude.{List, [], ℕ, ◌++◌, ◌+◌, ◌<◌, ◌≡◌, ◌≤◌}
 use Rattle.std.proofs.Common.{ap, arith, subst, sym, ◌∙◌}
-use Rattle.std.proofs.lemmas.List.{length-append}
-use Rattle.std.proofs.Math.Nat.{le-max_left, le-max_right, max-le}
 use Rattle.sim_clock.specs.declared.key.Key.{Key}
 use Rattle.sim_clock.specs.declared.refusal.Refusal.{Refusal}
 use Rattle.sim_clock.specs.Firsts.{changed}
@@ -27,22 +25,17 @@ stops_here key w s e among counted p =
     let t : Stepped = record { sites = changed (due_here key) (site_after key) w; rows = (handled key s).rows; sent = (handled key s).sent } in
     let n : ℕ = sites_count (delivered t.sent t.sites) in
     let k : ℕ = rows_count t.rows in
-    let l : ℕ = length t.rows in
     let site : site_count (site_after key s).core ≤ n = omega (arith, counted, delivered_counts t.sent t.sites) in
     rw among
     (stops_for (PassesCount (effect_of (handled key s))) (most_count < run_count (run_on [] t)) e
-    (more_passes (site_count (site_after key s).core) k n (max k l) site (le-max_left k l)) p)
+    (more_passes (site_count (site_after key s).core) k n k site (omega arith)) p)
 
 -- with rows before it too
 pub stops_after : (rows : List Row) (t : Stepped) (e : Refusal) → StopsBefore (run_on [] t) e → StopsBefore (run_on rows t) e
 stops_after rows t e p =
     let n : ℕ = sites_count (delivered t.sent t.sites) in
-    let k : ℕ = rows_count (rows ++ t.rows) in
-    let l : ℕ = length (rows ++ t.rows) in
-    let receives : rows_count t.rows ≤ max k l = omega (arith, rows_after rows t.rows, le-max_left k l) in
-    let longer : length t.rows ≤ max k l = omega (arith, length-append rows t.rows, le-max_right k l) in
     stops_for (most_count < run_count (run_on [] t)) (most_count < run_count (run_on rows t)) e
-    (more_passes n (max (rows_count t.rows) (length t.rows)) n (max k l) (omega arith) (max-le receives longer)) p
+    (more_passes n (rows_count t.rows) n (rows_count (rows ++ t.rows)) (omega arith) (rows_after rows t.rows)) p
 
 -- a run that has come so far stops where its next handling does
 pub stops_on : (horizon : ℕ) (start x : Run) (e : Refusal) → Continues horizon start x → StopsBefore x e → StopsRun horizon start e

@@ -1,6 +1,6 @@
 //! The world that a scenario opens with.
 ghost use Rattle.std.specs.List.{enumerate_from};
-ghost use Rattle.std.specs.Prelude.{◌≡◌, ◌+◌, ◌<◌, ◌≤◌, ◌^◌, [], All, IfOk, IsOkUnless, List, OnOk, length, map, ℕ};
+ghost use Rattle.std.specs.Prelude.{◌≡◌, ◌+◌, ◌<◌, ◌≤◌, ◌^◌, [], All, IfOk, List, OnOk, length, map, ℕ};
 ghost use Rattle.sqs_model.specs.Answers.{most_count};
 ghost use Rattle.sqs_model.specs.Scenario.{HasItsQueues, Scenario as TheScenario, numbered_actors, numbered_tasks, opening};
 ghost use Rattle.sqs_model.specs.Valid.{IsQueueSettings};
@@ -8,12 +8,11 @@ ghost use Rattle.sim_windows.specs.Homes.{AtHome, IsFit, IsSettled, IsVacant, ac
 ghost use Rattle.sim_windows.specs.Worlds.{alive};
 
 use crate::world::World;
-use sim_clock::Refusal;
 use sim_scenario::Scenario;
 use sim_site::Site;
 use sqs_model::ActorSettings;
 use sqs_redrive::{QueueSettings, TaskSettings};
-use std::alloc::Global;
+use std::alloc::{AllocError, Global};
 
 // The actors and tasks at home at one queue, each under its own number.
 #[derive(Drop)]
@@ -23,10 +22,9 @@ struct Home {
 }
 
 // Homes of so many queues, with nothing at any of them.
-fn vacant_homes(alloc: Global, queues: usize) -> Result<Vec<Home>, Refusal>
+fn vacant_homes(alloc: Global, queues: usize) -> Result<Vec<Home>, AllocError>
     ensures vacant { IfOk result (λ homes. All IsVacant homes.items) }
     ensures count { IfOk result (λ homes. length homes.items ≡ queues) }
-    ensures memory_only { IsOkUnless result Refusal.Memory }
 {
     let mut homes = Vec::new(alloc);
     for _ in 0..queues {
@@ -43,13 +41,12 @@ fn settle_actors(
     homes: &mut Vec<Home>,
     first: u32,
     actors: Vec<ActorSettings>,
-) -> Result<(), Refusal>
+) -> Result<(), AllocError>
     requires homes { All (λ a. a.home < length homes.old.items) actors.items }
     requires numbers { first + length actors.items < 2 ^ 32 }
     ensures settled { OnOk result (AtHome (λ a. a.home) 0 (map actors_in homes.old.items) [] → AtHome (λ a. a.home) 0 (map actors_in homes.new.items) (enumerate_from first actors.items)) }
     ensures tasks { OnOk result (map tasks_in homes.new.items ≡ map tasks_in homes.old.items) }
     ensures count { OnOk result (length homes.new.items ≡ length homes.old.items) }
-    ensures memory_only { IsOkUnless result Refusal.Memory }
 {
     let mut number = first;
     for settings in actors {
@@ -61,13 +58,12 @@ fn settle_actors(
 }
 
 // The same of tasks.
-fn settle_tasks(homes: &mut Vec<Home>, first: u32, tasks: Vec<TaskSettings>) -> Result<(), Refusal>
+fn settle_tasks(homes: &mut Vec<Home>, first: u32, tasks: Vec<TaskSettings>) -> Result<(), AllocError>
     requires homes { All (λ t. t.home < length homes.old.items) tasks.items }
     requires numbers { first + length tasks.items < 2 ^ 32 }
     ensures settled { OnOk result (AtHome (λ t. t.home) 0 (map tasks_in homes.old.items) [] → AtHome (λ t. t.home) 0 (map tasks_in homes.new.items) (enumerate_from first tasks.items)) }
     ensures actors { OnOk result (map actors_in homes.new.items ≡ map actors_in homes.old.items) }
     ensures count { OnOk result (length homes.new.items ≡ length homes.old.items) }
-    ensures memory_only { IsOkUnless result Refusal.Memory }
 {
     let mut number = first;
     for settings in tasks {
@@ -84,13 +80,12 @@ fn settled_homes(
     queues: usize,
     actors: Vec<ActorSettings>,
     tasks: Vec<TaskSettings>,
-) -> Result<Vec<Home>, Refusal>
+) -> Result<Vec<Home>, AllocError>
     requires actors { All (λ a. a.home < queues) actors.items }
     requires tasks { All (λ t. t.home < queues) tasks.items }
     requires numbers { queues + length actors.items + length tasks.items < 2 ^ 32 }
     ensures settled { IfOk result (λ homes. IsSettled homes.items (enumerate_from queues actors.items) (enumerate_from (queues + length actors.items) tasks.items)) }
     ensures count { IfOk result (λ homes. length homes.items ≡ queues) }
-    ensures memory_only { IsOkUnless result Refusal.Memory }
 {
     let mut homes = vacant_homes(alloc, queues)?;
     let first_actor = queues as u32;
@@ -107,14 +102,13 @@ fn open_sites(
     homes: Vec<Home>,
     seed: u64,
     sample: u64,
-) -> Result<Vec<Site>, Refusal>
+) -> Result<Vec<Site>, AllocError>
     requires queues { All IsQueueSettings queues.now }
     requires homes { All IsFit homes.items }
     requires count { length homes.items ≡ length queues.now }
     requires numbers { length queues.now < 2 ^ 32 }
     requires sample { sample ≤ most_count }
     ensures opened { IfOk result (λ sites. (s : TheScenario) → s.seed ≡ seed → s.sample ≡ sample → s.queues ≡ queues.now → IsSettled homes.items (numbered_actors s) (numbered_tasks s) → sites.items ≡ map alive (opening s)) }
-    ensures memory_only { IsOkUnless result Refusal.Memory }
 {
     let mut sites = Vec::new(alloc);
     let mut number = 0;
@@ -142,10 +136,9 @@ impl World {
     /// # Errors
     ///
     /// `Memory` where a growth is refused.
-    pub fn open(alloc: Global, scenario: Scenario) -> Result<World, Refusal>
+    pub fn open(alloc: Global, scenario: Scenario) -> Result<World, AllocError>
         ensures opened { IfOk result (λ world. world ≡ record { sites = opening scenario; rows = [] }) }
         ensures has_queues { IfOk result (λ _. HasItsQueues scenario) }
-        ensures memory_only { IsOkUnless result Refusal.Memory }
     {
         let parts = scenario.into_parts();
         let homes = settled_homes(alloc, parts.queues.len(), parts.actors, parts.tasks)?;

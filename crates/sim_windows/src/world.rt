@@ -14,7 +14,7 @@ use sim_clock::{Key, Refusal, lesser};
 use sim_site::Site;
 use sqs_message::Row;
 use sqs_redrive::Outbound;
-use std::alloc::Global;
+use std::alloc::{AllocError, Global};
 use std::marker::Model;
 
 // The least due of some sites.
@@ -92,9 +92,8 @@ fn handle_among(sites: &mut Vec<Site>, alloc: Global, key: Key) -> Result<Vec<Ro
 }
 
 // Adds rows at the end.
-fn append(rows: &mut Vec<Row>, more: Vec<Row>) -> Result<(), Refusal>
+fn append(rows: &mut Vec<Row>, more: Vec<Row>) -> Result<(), AllocError>
     ensures done { OnOk result (rows.new.items ≡ rows.old.items ++ more.items) }
-    ensures memory_only { IsOkUnless result Refusal.Memory }
 {
     for row in more {
         rows.push(row)?;

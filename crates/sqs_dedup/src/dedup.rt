@@ -1,21 +1,19 @@
 //! The window and its calls.
-ghost use Rattle.std.specs.Prelude.{All, IsOkUnless, None, OnErr, OnOk, [], ◌++◌, ◌+◌, ◌∷◌, ◌≡◌, ◌≤◌};
+ghost use Rattle.std.specs.Prelude.{All, None, OnErr, OnOk, [], ◌++◌, ◌+◌, ◌∷◌, ◌≡◌, ◌≤◌};
 ghost use Rattle.std.specs.Option.{option_copied, option_map};
 ghost use Rattle.sqs_model.specs.Answers.{most_count};
 ghost use Rattle.sqs_model.specs.Calls.{living_entries};
+ghost use Rattle.sqs_model.specs.Longest.{deduplication_interval};
 ghost use Rattle.sqs_dedup.specs.Window.{living_among};
 
 use crate::held::{Held, add, number_at, only};
 use crate::key::{AskedKey, HeldKey};
 use indexmap::IndexMap;
-use sim_clock::Refusal;
 use sqs_message::Text;
-use std::alloc::Global;
+use sqs_model::DEDUPLICATION_INTERVAL;
+use std::alloc::{AllocError, Global};
 use std::marker::Model;
 use std::mem;
-
-/// For how many milliseconds an entry lives: 5 minutes.
-const LIFE: u64 = 300000;
 
 /// The deduplication entries of a FIFO queue (Developer Guide: exactly-once processing). Contracts
 /// see it as the list of the entries that lived when the last one was entered, in the order in
@@ -83,20 +81,19 @@ impl Dedup {
         scope: Option<Text>,
         id: Text,
         number: u64,
-    ) -> Result<(), Refusal>
+    ) -> Result<(), AllocError>
         requires moment { now ≤ most_count }
-        requires no_earlier { All (λ e. e.end ≤ now + 300000) self.old }
+        requires no_earlier { All (λ e. e.end ≤ now + deduplication_interval) self.old }
         requires none_living { living_among now scope id self.old ≡ None }
-        ensures entered { OnOk result (self.new ≡ living_entries now self.old ++ record { scope = scope; id = id; end = now + 300000; number = number } ∷ []) }
+        ensures entered { OnOk result (self.new ≡ living_entries now self.old ++ record { scope = scope; id = id; end = now + deduplication_interval; number = number } ∷ []) }
         ensures unchanged { OnErr result (self.new ≡ self.old) }
-        ensures memory_only { IsOkUnless result Refusal.Memory }
     {
         let key = HeldKey::new(scope, id);
         let held = Held {
-            end: now + LIFE,
+            end: now + DEDUPLICATION_INTERVAL,
             number,
         };
-        if now.saturating_sub(self.began) < LIFE {
+        if now.saturating_sub(self.began) < DEDUPLICATION_INTERVAL {
             add(&mut self.recent, key, held)?;
         } else {
             let fresh = only(self.alloc, key, held)?;

@@ -1,13 +1,12 @@
 //! What is held of keys: how it is looked up and added.
-ghost use Rattle.std.specs.Prelude.{IfOk, IsOkUnless, None, OnErr, OnOk, [], ◌++◌, ◌∷◌, ◌≡◌};
+ghost use Rattle.std.specs.Prelude.{IfOk, None, OnErr, OnOk, [], ◌++◌, ◌∷◌, ◌≡◌};
 ghost use Rattle.indexmap.specs.IndexMap.{IsUnique, get};
 ghost use Rattle.sqs_dedup.specs.Keys.{same_key};
 ghost use Rattle.sqs_dedup.specs.Window.{number_at};
 
 use crate::key::{AskedKey, HeldKey};
 use indexmap::IndexMap;
-use sim_clock::Refusal;
-use std::alloc::Global;
+use std::alloc::{AllocError, Global};
 
 /// When an entry ends and which message it stands for.
 #[derive(Clone, Copy, Drop)]
@@ -29,22 +28,20 @@ pub fn number_at(entries: &IndexMap<HeldKey, Held>, now: u64, key: &AskedKey) ->
 }
 
 // Adds the entry of a new key, which goes last.
-pub fn add(entries: &mut IndexMap<HeldKey, Held>, key: HeldKey, held: Held) -> Result<(), Refusal>
+pub fn add(entries: &mut IndexMap<HeldKey, Held>, key: HeldKey, held: Held) -> Result<(), AllocError>
     requires { get same_key entries.old key ≡ None }
     ensures added { OnOk result (entries.new.entries ≡ entries.old.entries ++ (key, held) ∷ []) }
     ensures unchanged { OnErr result (entries.new.entries ≡ entries.old.entries) }
     ensures distinct { IsUnique same_key entries.new }
-    ensures memory_only { IsOkUnless result Refusal.Memory }
 {
     entries.insert(key, held)?;
     Ok(())
 }
 
 // The entry of one key.
-pub fn only(alloc: Global, key: HeldKey, held: Held) -> Result<IndexMap<HeldKey, Held>, Refusal>
+pub fn only(alloc: Global, key: HeldKey, held: Held) -> Result<IndexMap<HeldKey, Held>, AllocError>
     ensures added { IfOk result (λ m. m.entries ≡ (key, held) ∷ []) }
     ensures distinct { IfOk result (IsUnique same_key) }
-    ensures memory_only { IsOkUnless result Refusal.Memory }
 {
     let mut entries = IndexMap::new(alloc);
     add(&mut entries, key, held)?;

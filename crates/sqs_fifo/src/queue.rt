@@ -1,5 +1,5 @@
 //! The queue and its calls.
-ghost use Rattle.std.specs.Prelude.{◌≡◌, ◌⊎◌, ◌<◌, ◌≤◌, [], Err, IfErr, IfOk, IsOkUnless, OnErr, OnOk, count_by, length, nat_lt, take};
+ghost use Rattle.std.specs.Prelude.{◌≡◌, ◌⊎◌, ◌<◌, ◌≤◌, [], Err, IfErr, IfOk, OnErr, OnOk, count_by, length, nat_lt, take};
 ghost use Rattle.sim_clock.specs.Order.{least};
 ghost use Rattle.sqs_model.specs.Answers.{Meets, most_count};
 ghost use Rattle.sqs_model.specs.Arrive.{expired};
@@ -17,7 +17,8 @@ use sim_clock::{Key, Refusal};
 use sqs_groups::available_places;
 use sqs_message::{Message, MessageId, Receipt, Text};
 use sqs_redrive::{Deleted, Kind, Load, QueueSettings, Scope, Sent};
-use sqs_store::{Counts, MOST_COUNT, Store, is_out};
+use sqs_model::MOST_COUNT;
+use sqs_store::{Counts, Store, is_out};
 use std::alloc::{AllocError, Global};
 use std::marker::Model;
 
@@ -84,7 +85,7 @@ impl FifoQueue {
         ensures kept { self.new.entries ≡ self.old.entries }
         ensures framed { IsFramed self.old self.new }
     {
-        if receipt.site != self.store.site() {
+        if receipt.site != self.store.site() || receipt.count == 0 {
             return Err(Refusal::ReceiptHandleIsInvalid);
         }
         let Some(message) = self.store.find(receipt.number) else {
@@ -159,13 +160,12 @@ impl FifoQueue {
 
     // The places of at most so many of the messages that the queue may give, in order, and whether
     // it may give more than those.
-    fn first_places(&self, most: u64) -> Result<(Vec<usize>, bool), Refusal>
+    fn first_places(&self, most: u64) -> Result<(Vec<usize>, bool), AllocError>
         ensures chosen { IfOk result (λ first. at_places self.now.records first.0.items ≡ take most (all_available self.now)) }
         ensures within { IfOk result (λ first. AreWithin self.now.records first.0.items) }
         ensures apart { IfOk result (λ first. Differ (λ m. m.number) (at_places self.now.records first.0.items)) }
         ensures more { IfOk result (λ first. first.1 ≡ nat_lt most (length (all_available self.now))) }
         ensures ordered { Ascends (λ m. m.number) 0 self.now.records }
-        ensures memory_only { IsOkUnless result Refusal.Memory }
     {
         let mut places = available_places(self.alloc, self.store.view())?;
         let all = places.len() as u64;

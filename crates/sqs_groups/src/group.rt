@@ -1,15 +1,15 @@
 //! Message groups as they are looked up, and sets of them.
-ghost use Rattle.std.specs.Prelude.{Bool, IsOkUnless, List, OnErr, OnOk, Option, ℕ, ◌&&◌, ◌||◌, ◌≡◌};
+ghost use Rattle.std.specs.Prelude.{Bool, List, OnErr, OnOk, Option, ℕ, ◌&&◌, ◌||◌, ◌≡◌};
 ghost use Rattle.std.specs.Option.{option_copied};
 ghost use Rattle.indexmap.specs.IndexSet.{contains};
 ghost use Rattle.sqs_model.specs.Queue.{same_text};
 ghost use Rattle.sqs_groups.specs.Groups.{group_writes, same_text_equivalence, same_text_partial, same_text_writes};
 
 use indexmap::IndexSet;
-use sim_clock::Refusal;
 use sqs_message::{Message, Text};
 use std::hash::{Hash, Hasher};
 use std::marker::Model;
+use std::alloc::AllocError;
 
 /// The group of a message. Messages without one are of one group too.
 #[derive(Drop)]
@@ -74,9 +74,8 @@ pub fn note<'a>(
     groups: &mut IndexSet<Group<'a>>,
     message: &'a Message,
     is_noted: bool,
-) -> Result<(), Refusal>
-    ensures noted { OnOk result ((g : Option (List ℕ)) → contains same_text groups.new g ≡ (same_text g message.now.group && is_noted || contains same_text groups.old g)) }
-    ensures memory_only { IsOkUnless result Refusal.Memory }
+) -> Result<(), AllocError>
+    ensures { OnOk result ((g : Option (List ℕ)) → contains same_text groups.new g ≡ (same_text g message.now.group && is_noted || contains same_text groups.old g)) }
 {
     if is_noted {
         groups.insert(Group::of(message))?;

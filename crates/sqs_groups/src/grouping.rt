@@ -1,13 +1,12 @@
 //! Places put together group by group.
-ghost use Rattle.std.specs.Prelude.{All, IfOk, IsOkUnless, List, OnErr, OnOk, Some, flat_map, length, map, vec_len, ◌<◌, ◌≡◌, ◌≤◌};
+ghost use Rattle.std.specs.Prelude.{All, IfOk, List, OnErr, OnOk, Some, flat_map, length, map, vec_len, ◌<◌, ◌≡◌, ◌≤◌};
 ghost use Rattle.sqs_model.specs.Available.{at_places};
 ghost use Rattle.sqs_groups.specs.Groups.{found_at, groups_of, with_place};
 
 use crate::group::Group;
 use indexmap::IndexSet;
-use sim_clock::Refusal;
 use sqs_message::Message;
-use std::alloc::Global;
+use std::alloc::{AllocError, Global};
 
 // Adds a place to the list of this index, or a list with it after the last one.
 fn put(
@@ -15,9 +14,8 @@ fn put(
     lists: &mut Vec<Vec<usize>>,
     index: usize,
     place: usize,
-) -> Result<(), Refusal>
-    ensures put { OnOk result (map (λ v. v.items) lists.new.items ≡ with_place index place (map (λ v. v.items) lists.old.items)) }
-    ensures memory_only { IsOkUnless result Refusal.Memory }
+) -> Result<(), AllocError>
+    ensures { OnOk result (map (λ v. v.items) lists.new.items ≡ with_place index place (map (λ v. v.items) lists.old.items)) }
 {
     if index < lists.len() {
         let list = &mut lists[index];
@@ -33,10 +31,9 @@ pub fn grouped(
     alloc: Global,
     messages: &[Message],
     places: &[usize],
-) -> Result<Vec<Vec<usize>>, Refusal>
+) -> Result<Vec<Vec<usize>>, AllocError>
     requires { All (λ place. place < length messages.now) places.now }
-    ensures groups { IfOk result (λ lists. map (λ v. found_at messages.now v.items) lists.items ≡ map (map Some) (groups_of (at_places messages.now places.now))) }
-    ensures memory_only { IsOkUnless result Refusal.Memory }
+    ensures { IfOk result (λ lists. map (λ v. found_at messages.now v.items) lists.items ≡ map (map Some) (groups_of (at_places messages.now places.now))) }
 {
     let mut groups = IndexSet::new(alloc);
     let mut lists = Vec::new(alloc);
@@ -49,9 +46,8 @@ pub fn grouped(
 }
 
 // What lists hold, one after another.
-pub fn joined(alloc: Global, lists: &[Vec<usize>]) -> Result<Vec<usize>, Refusal>
-    ensures joined { IfOk result (λ places. places.items ≡ flat_map (λ v. v.items) lists.now) }
-    ensures memory_only { IsOkUnless result Refusal.Memory }
+pub fn joined(alloc: Global, lists: &[Vec<usize>]) -> Result<Vec<usize>, AllocError>
+    ensures { IfOk result (λ places. places.items ≡ flat_map (λ v. v.items) lists.now) }
 {
     let mut places = Vec::new(alloc);
     for list in lists {

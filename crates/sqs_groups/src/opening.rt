@@ -1,5 +1,5 @@
 //! The places of the messages that a FIFO queue may give, in the order of their arrival.
-ghost use Rattle.std.specs.Prelude.{IfOk, IsOkUnless, OnErr, OnOk, Some, [], if◌then◌else◌, map, not, ◌&&◌, ◌++◌, ◌∷◌, ◌≡◌};
+ghost use Rattle.std.specs.Prelude.{IfOk, OnErr, OnOk, Some, [], if◌then◌else◌, map, not, ◌&&◌, ◌++◌, ◌∷◌, ◌≡◌};
 ghost use Rattle.indexmap.specs.IndexSet.{contains};
 ghost use Rattle.sqs_model.specs.Available.{open_from};
 ghost use Rattle.sqs_model.specs.Queue.{is_delayed, is_in_flight, is_visible, same_text};
@@ -7,9 +7,8 @@ ghost use Rattle.sqs_groups.specs.Groups.{AreGroupsOf, found_at};
 
 use crate::group::{Group, note};
 use indexmap::IndexSet;
-use sim_clock::Refusal;
 use sqs_message::{Message, Place};
-use std::alloc::Global;
+use std::alloc::{AllocError, Global};
 
 // Whether a message's first delay goes on.
 fn is_delayed(message: &Message) -> bool
@@ -37,9 +36,8 @@ fn is_open(message: &Message, busy: &IndexSet<Group>, waiting: &IndexSet<Group>)
 pub fn groups_in_flight<'a>(
     alloc: Global,
     messages: &'a [Message],
-) -> Result<IndexSet<Group<'a>>, Refusal>
-    ensures groups { IfOk result (λ s. AreGroupsOf is_in_flight messages.now s.keys) }
-    ensures memory_only { IsOkUnless result Refusal.Memory }
+) -> Result<IndexSet<Group<'a>>, AllocError>
+    ensures { IfOk result (λ s. AreGroupsOf is_in_flight messages.now s.keys) }
 {
     let mut groups = IndexSet::new(alloc);
     for message in messages {
@@ -49,9 +47,8 @@ pub fn groups_in_flight<'a>(
 }
 
 // Adds a place, if it is to be.
-fn keep(places: &mut Vec<usize>, place: usize, is_kept: bool) -> Result<(), Refusal>
-    ensures kept { OnOk result (places.new.items ≡ places.old.items ++ (if is_kept then place ∷ [] else [])) }
-    ensures memory_only { IsOkUnless result Refusal.Memory }
+fn keep(places: &mut Vec<usize>, place: usize, is_kept: bool) -> Result<(), AllocError>
+    ensures { OnOk result (places.new.items ≡ places.old.items ++ (if is_kept then place ∷ [] else [])) }
 {
     if is_kept {
         places.push(place)?;
@@ -64,10 +61,9 @@ pub fn open_places(
     alloc: Global,
     messages: &[Message],
     busy: &IndexSet<Group>,
-) -> Result<Vec<usize>, Refusal>
+) -> Result<Vec<usize>, AllocError>
     requires busy { AreGroupsOf is_in_flight messages.now busy.now.keys }
-    ensures places { IfOk result (λ places. found_at messages.now places.items ≡ map Some (open_from messages.now [] messages.now)) }
-    ensures memory_only { IsOkUnless result Refusal.Memory }
+    ensures { IfOk result (λ places. found_at messages.now places.items ≡ map Some (open_from messages.now [] messages.now)) }
 {
     let mut waiting = IndexSet::new(alloc);
     let mut places = Vec::new(alloc);

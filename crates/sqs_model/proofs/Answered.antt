@@ -11,7 +11,7 @@ use Rattle.sqs_redrive.specs.declared.answers.Got.{Got}
 use Rattle.sqs_redrive.specs.declared.settings.Kind.{Kind}
 use Rattle.sqs_redrive.specs.declared.settings.Kind.TheVariants.{Fifo, Standard}
 use Rattle.sqs_redrive.specs.declared.transfers.Load.{Load}
-use Rattle.sqs_model.specs.Calls.{change, change_done, change_found, change_here, delete_as, delete_fifo_here, delete_gone, delete_standard_here, in_flight_until, removed, returned}
+use Rattle.sqs_model.specs.Calls.{change, change_done, change_found, change_here, delete_as, delete_fifo_here, delete_gone, delete_standard_here, in_flight_until, may_be_given, removed, returned}
 use Rattle.sqs_model.specs.Queue.{Queue, in_flight, is_in_flight, numbered, with_change}
 use Rattle.sqs_model.specs.Receive.{answered, give_most, is_bad_timeout, receive}
 use Rattle.sqs_model.specs.Return.{released}
@@ -51,8 +51,8 @@ module _ (P : Result Deleted Refusal × Queue → Type 0) (q : Queue) (now : ℕ
   found_by here there (Some m) e = there m e
 
   pub delete_by : (k : Kind) → P (delete_as k q now r)
-  delete_by (Standard hosts sampled) = either P (r.site == q.site) _ _ (found_by (delete_standard_here q now r) standard_by (numbered r.number q.records) refl) each.refused
-  delete_by (Fifo content scope) = either P (r.site == q.site) _ _ (found_by (delete_fifo_here q now r) fifo_by (numbered r.number q.records) refl) each.refused
+  delete_by (Standard hosts sampled) = either P (may_be_given q r) _ _ (found_by (delete_standard_here q now r) standard_by (numbered r.number q.records) refl) each.refused
+  delete_by (Fifo content scope) = either P (may_be_given q r) _ _ (found_by (delete_fifo_here q now r) fifo_by (numbered r.number q.records) refl) each.refused
 
 -- what holds of each answer of a change of visibility
 pub record IsOfChanges (P : Result (Option Load) Refusal × Queue → Type 0) (q : Queue) (now : ℕ) (r : Receipt) (timeout : ℕ) : Type 0 where
@@ -80,5 +80,5 @@ module _ (P : Result (Option Load) Refusal × Queue → Type 0) (q : Queue) (now
   pub change_by : P (change q now r timeout)
   change_by =
       let found : Result (Option Load) Refusal × Queue = change_found q now r timeout (numbered r.number q.records) in
-      either P (nat_lt 43200 timeout) (Err refusals.BadTimeout, q) (if r.site == q.site then found else (Err refusals.ReceiptHandleIsInvalid, q)) (each.refused refusals.BadTimeout)
-      (either P (r.site == q.site) found (Err refusals.ReceiptHandleIsInvalid, q) (there_by (numbered r.number q.records)) (each.refused refusals.ReceiptHandleIsInvalid))
+      either P (nat_lt 43200 timeout) (Err refusals.BadTimeout, q) (if may_be_given q r then found else (Err refusals.ReceiptHandleIsInvalid, q)) (each.refused refusals.BadTimeout)
+      (either P (may_be_given q r) found (Err refusals.ReceiptHandleIsInvalid, q) (there_by (numbered r.number q.records)) (each.refused refusals.ReceiptHandleIsInvalid))

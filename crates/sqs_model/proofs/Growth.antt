@@ -66,7 +66,7 @@ changed_up f p y (x ∷ xs) h =
     ] h
 
 -- what a test finds where its first pick was changed
-changed_found : {A : Type 0} (p : A → Bool) (y : A) (xs : List A) (z : A) → p y ≡ true → find p (changed p (λ _. y) xs) ≡ Some z → z ≡ y
+pub changed_found : {A : Type 0} (p : A → Bool) (y : A) (xs : List A) (z : A) → p y ≡ true → find p (changed p (λ _. y) xs) ≡ Some z → z ≡ y
 changed_found p y [] z t h = cc
 changed_found p y (x ∷ xs) z t h =
     elim (p x) as (λ b. p x ≡ b → find p (cond b (y ∷ xs) (x ∷ changed p (λ _. y) xs)) ≡ Some z → z ≡ y) [

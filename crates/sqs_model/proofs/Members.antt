@@ -1,13 +1,10 @@
 -- What is one of a list, and what one of a list came from.
-use Rattle.std.specs.Prelude.{Bool, Contains, List, Some, [], cond, false, find, flat_map, length, map, slice_index_or, suc, true, zero, ℕ, ◌+◌, ◌++◌, ◌<◌, ◌==◌, ◌∷◌, ◌≡◌, ◌≤◌, ◌⊎◌}
-use Rattle.std.proofs.Common.{arith, inl, inr, refl}
+use Rattle.std.specs.Prelude.{All, Bool, Contains, List, Some, [], cond, false, filter, find, flat_map, length, map, slice_index_or, suc, true, zero, ℕ, ◌+◌, ◌++◌, ◌<◌, ◌==◌, ◌∷◌, ◌≡◌, ◌≤◌, ◌⊎◌}
+use Rattle.std.proofs.Common.{ap, arith, inl, inr, refl, subst, sym, ◌∙◌}
+use Rattle.std.proofs.lemmas.List.Elements.{All-cons, All-head, All-nil, All-tail}
 use Rattle.std.proofs.lemmas.Bool.{eq-eqb, ne_eqb}
+pub use Rattle.sqs_model.specs.Members.{In}
 use Rattle.sqs_model.specs.Progress.{Ascends}
-
--- one of a list
-abbrev pub In : {A : Type 0} → List A → A → Type 0
-In [] y = ⊥
-In (x ∷ xs) y = (x ≡ y) ⊎ In xs y
 
 in_at : {A : Type 0} (xs : List A) (k : ℕ) (y : A) → k < length xs → slice_index_or xs k y ≡ y → In xs y
 in_at [] k y l e = absurd (omega arith)
@@ -69,3 +66,53 @@ found_by_number number n (x ∷ xs) y a (inl e) = rw (e, eq-eqb (number y) (numb
 found_by_number number n (x ∷ xs) y a (inr h) =
     let l : number x + 1 ≤ number y = in_ascends number (number x + 1) xs y a.1 h in
     rw (ne_eqb (number x) (number y) (λ (k : number x ≡ number y). absurd (omega arith))) (found_by_number number (number x + 1) xs y a.1 h)
+
+-- what is one of a list made of others
+pub in_left : {A : Type 0} (xs ys : List A) (z : A) → In xs z → In (xs ++ ys) z
+in_left [] ys z h = absurd h
+in_left (x ∷ xs) ys z (inl e) = inl e
+in_left (x ∷ xs) ys z (inr h) = inr (in_left xs ys z h)
+
+pub in_right : {A : Type 0} (xs ys : List A) (z : A) → In ys z → In (xs ++ ys) z
+in_right [] ys z h = h
+in_right (x ∷ xs) ys z h = inr (in_right xs ys z h)
+
+pub into_flat : {A B : Type 0} (f : A → List B) (xs : List A) (x : A) (z : B) → In xs x → In (f x) z → In (flat_map f xs) z
+into_flat f [] x z h k = absurd h
+into_flat f (y ∷ ys) x z (inl e) k = in_left (f y) (flat_map f ys) z (subst (λ w. In (f w) z) (sym e) k)
+into_flat f (y ∷ ys) x z (inr h) k = in_right (f y) (flat_map f ys) z (into_flat f ys x z h k)
+
+pub into_map : {A B : Type 0} (f : A → B) (xs : List A) (x : A) → In xs x → In (map f xs) (f x)
+into_map f [] x h = absurd h
+into_map f (y ∷ ys) x (inl e) = inl (ap f e)
+into_map f (y ∷ ys) x (inr h) = inr (into_map f ys x h)
+
+pub into_filter : {A : Type 0} (p : A → Bool) (xs : List A) (x : A) → In xs x → p x ≡ true → In (filter p xs) x
+into_filter p [] x h t = absurd h
+into_filter p (y ∷ ys) x (inl e) t = let u : p y ≡ true = ap p e ∙ t in subst (λ b. In (cond b (y ∷ filter p ys) (filter p ys)) x) (sym u) (inl e)
+into_filter p (y ∷ ys) x (inr h) t =
+    let i : In (filter p ys) x = into_filter p ys x h t in
+    elim (p y) as (λ b. In (cond b (y ∷ filter p ys) (filter p ys)) x) [ true ↦ inr i | false ↦ i ]
+
+-- each of a list is one of it
+pub all_in : {A : Type 0} (P : A → Type 0) (xs : List A) → ((x : A) → In xs x → P x) → All P xs
+all_in P [] f = All-nil P
+all_in P (x ∷ xs) f = All-cons P x xs (f x (inl refl)) (all_in P xs (λ y h. f y (inr h)))
+
+pub of_all : {A : Type 0} (P : A → Type 0) (xs : List A) (x : A) → All P xs → In xs x → P x
+of_all P [] x a h = absurd h
+of_all P (y ∷ ys) x a (inl e) = subst P e (All-head P y ys a)
+of_all P (y ∷ ys) x a (inr h) = of_all P ys x (All-tail P y ys a) h
+
+-- each of a list, by recursion
+abbrev pub Each : {A : Type 0} → (A → Type 0) → List A → Type 0
+Each P [] = Unit {0}
+Each P (x ∷ xs) = P x × Each P xs
+
+pub each_append : {A : Type 0} (P : A → Type 0) (xs ys : List A) → Each P xs → Each P ys → Each P (xs ++ ys)
+each_append P [] ys h k = k
+each_append P (x ∷ xs) ys h k = (h.0, each_append P xs ys h.1 k)
+
+pub all_each : {A : Type 0} (P Q : A → Type 0) → ((x : A) → P x → Q x) → (xs : List A) → Each P xs → All Q xs
+all_each P Q f [] h = All-nil Q
+all_each P Q f (x ∷ xs) h = All-cons Q x xs (f x h.0) (all_each P Q f xs h.1)

@@ -39,12 +39,12 @@ ascends_map number f n [] a = tt
 ascends_map number f n (x ∷ xs) a = (a.0, ascends_map number f (number (f x) + 1) xs a.1)
 
 -- an actor's first wake
-wakes_first : (s : Scenario) (n : ℕ) (settings : ActorSettings) (r : Role) → settings.role ≡ r → WakesFor r (opening_actor s (n, settings))
+wakes_first : (s : Scenario) (n : ℕ) (settings : ActorSettings) (r : Role) → settings.role ≡ r → WakesFor r (opening_actor s.seed (n, settings))
 wakes_first s n settings (Script script) h = rw h refl
 wakes_first s n settings (Producer p) h = tt
 wakes_first s n settings (Consumer c) h = tt
 
-actor_sound : (s : Scenario) (x : ℕ × ActorSettings) → IsSoundRole x.1.role → IsSoundActor (opening_actor s x)
+actor_sound : (s : Scenario) (x : ℕ × ActorSettings) → IsSoundRole x.1.role → IsSoundActor (opening_actor s.seed x)
 actor_sound s (n, settings) h = record { role = h; wakes = wakes_first s n settings settings.role refl }
 
 core_sound : (s : Scenario) (n : ℕ) (settings : QueueSettings) → IsSoundScenario s → IsSoundSettings settings → IsSound (opening_core s n settings)
@@ -54,18 +54,18 @@ core_sound s n settings h k =
     record {
       queue = record { settings = k; ordered = tt; given_out = All-nil (λ (m : Message). m.number < 0) };
       actors =
-          All-map IsSoundActor (opening_actor s) (filter (λ x. x.1.home == n) (numbered_actors s))
-          (All-weaker (λ (x : ℕ × ActorSettings). IsSoundRole x.1.role) (λ x. IsSoundActor (opening_actor s x)) (actor_sound s) (filter (λ x. x.1.home == n) (numbered_actors s))
+          All-map IsSoundActor (opening_actor s.seed) (filter (λ x. x.1.home == n) (numbered_actors s))
+          (All-weaker (λ (x : ℕ × ActorSettings). IsSoundRole x.1.role) (λ x. IsSoundActor (opening_actor s.seed x)) (actor_sound s) (filter (λ x. x.1.home == n) (numbered_actors s))
           (All-filter (λ x. x.1.home == n) (λ (x : ℕ × ActorSettings). IsSoundRole x.1.role) (numbered_actors s) actors));
       actors_ordered =
-          ascends_map (λ (a : Actor). a.number) (opening_actor s) 0 (filter (λ x. x.1.home == n) (numbered_actors s))
+          ascends_map (λ (a : Actor). a.number) (opening_actor s.seed) 0 (filter (λ x. x.1.home == n) (numbered_actors s))
           (ascends_filter (λ (x : ℕ × ActorSettings). x.0) (λ x. x.1.home == n) 0 (numbered_actors s)
           (ascends_lower (λ (x : ℕ × ActorSettings). x.0) 0 (length s.queues) (numbered_actors s) (omega arith) (ascends_enumerated (length s.queues) s.actors)));
       tasks =
-          All-map (λ (t : Task). TakesTime t.move.settings.latency) (opening_task s) (filter (λ x. x.1.home == n) (numbered_tasks s))
+          All-map (λ (t : Task). TakesTime t.move.settings.latency) (opening_task s.seed) (filter (λ x. x.1.home == n) (numbered_tasks s))
           (All-filter (λ x. x.1.home == n) (λ (x : ℕ × TaskSettings). TakesTime x.1.latency) (numbered_tasks s) tasks);
       tasks_ordered =
-          ascends_map (λ (t : Task). t.number) (opening_task s) 0 (filter (λ x. x.1.home == n) (numbered_tasks s))
+          ascends_map (λ (t : Task). t.number) (opening_task s.seed) 0 (filter (λ x. x.1.home == n) (numbered_tasks s))
           (ascends_filter (λ (x : ℕ × TaskSettings). x.0) (λ x. x.1.home == n) 0 (numbered_tasks s)
           (ascends_lower (λ (x : ℕ × TaskSettings). x.0) 0 (length s.queues + length s.actors) (numbered_tasks s) (omega arith) (ascends_enumerated (length s.queues + length s.actors) s.tasks)));
     }

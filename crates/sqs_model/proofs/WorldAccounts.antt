@@ -450,7 +450,7 @@ module _ (o : Origin) (top : ℕ) where
         records = All-nil (IsFine o top [] [] n 0);
         past = All-nil (IsPast o n 0);
         tasks =
-            All-map (Leads o top) (opening_task s) (filter (λ x. x.1.home == n) (numbered_tasks s))
+            All-map (Leads o top) (opening_task s.seed) (filter (λ x. x.1.home == n) (numbered_tasks s))
             (All-filter (λ x. x.1.home == n) (λ (x : ℕ × TaskSettings). MayBeWithin top x.1.to) (numbered_tasks s) leads);
         arriving = All-nil (IsBound o top);
       } in

@@ -1,6 +1,6 @@
 -- Scripts, producers and consumers: what an actor does next, and when it wakes.
 use Rattle.std.specs.Fmt.{decimal}
-use Rattle.std.specs.Prelude.{Bool, List, None, Option, Some, [], drop, false, if◌then◌else◌, max, nat_lt, true, ℕ, ◌%◌, ◌&&◌, ◌++◌, ◌+◌, ◌==◌, ◌∷◌}
+use Rattle.std.specs.Prelude.{Bool, List, None, Option, Some, [], drop, false, if◌then◌else◌, max, nat_lt, true, ℕ, ◌%◌, ◌++◌, ◌+◌, ◌∷◌}
 use Rattle.sqs_message.specs.declared.calls.Call.{Call}
 use Rattle.sqs_message.specs.declared.calls.ScriptCall.{ScriptCall}
 use Rattle.sqs_message.specs.declared.ids.Receipt.{Receipt}
@@ -15,6 +15,7 @@ use Rattle.sqs_model.specs.declared.agents.Role.TheVariants.{Consumer, Producer,
 use Rattle.sqs_redrive.specs.declared.answers.Got.{Got}
 use Rattle.sqs_redrive.specs.declared.transfers.Outbound.{Outbound}
 use Rattle.sqs_message.specs.Ids.{receipt_text}
+use Rattle.sqs_model.specs.Marks.{has_mark}
 use Rattle.sqs_model.specs.Draw.{Draws, drawn_chance, drawn_latency, drawn_uniform}
 use Rattle.sqs_model.specs.declared.acts.Act.TheVariants as acts
 use Rattle.sqs_message.specs.declared.calls.Call.TheVariants as calls
@@ -68,7 +69,7 @@ filled n [] = []
 filled n (a ∷ []) = a ∷ []
 filled n (a ∷ b ∷ []) = a ∷ b ∷ []
 filled n (a ∷ (b ∷ (c ∷ rest))) =
-    elim (a == 123 && b == 110 && c == 125) as (λ _. List ℕ) [
+    elim (has_mark (a ∷ (b ∷ (c ∷ rest)))) as (λ _. List ℕ) [
       | true ↦ n ++ filled n rest
       | false ↦ a ∷ filled n (b ∷ (c ∷ rest))
     ]

@@ -40,6 +40,7 @@ use Rattle.sqs_message.specs.declared.row.RowKind.TheVariants as kinds
 use Rattle.sqs_message.specs.declared.row.RowReceipt.TheVariants as receipts
 use Rattle.sim_clock.specs.declared.refusal.Refusal.TheVariants as refusals
 use Rattle.sqs_model.specs.declared.acts.Answer.TheVariants as told_by
+use Rattle.sqs_model.specs.Longest.{longest_timeout}
 
 -- a row of a handling
 abbrev pub row : Key → Core → ℕ → RowKind → RowAnswer → Option MessageId → RowReceipt → Detail → Row
@@ -197,7 +198,7 @@ change_answered key a c text timeout r (Ok left, q) =
 -- a change by a text, which may be no receipt; an over-long timeout is told first
 abbrev pub change_made : Key → Actor → Core → List ℕ → ℕ → Option Receipt → Made
 change_made key a c text timeout None =
-    change_refused key a c text (if nat_lt 43200 timeout then refusals.BadTimeout else refusals.ReceiptHandleIsInvalid)
+    change_refused key a c text (if nat_lt longest_timeout timeout then refusals.BadTimeout else refusals.ReceiptHandleIsInvalid)
 change_made key a c text timeout (Some r) = change_answered key a c text timeout r (change c.queue key.at r timeout)
 
 -- the row of a start or cancel

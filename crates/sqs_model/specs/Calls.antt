@@ -19,6 +19,7 @@ use Rattle.sqs_model.specs.Return.{released}
 use Rattle.sqs_message.specs.declared.message.Place.TheVariants as places
 use Rattle.sim_clock.specs.declared.refusal.Refusal.TheVariants as refusals
 use Rattle.sqs_redrive.specs.declared.settings.Scope.TheVariants as scopes
+use Rattle.sqs_model.specs.Longest.{deduplication_interval, longest_delay, longest_flight, longest_timeout}
 
 -- the deduplication id that stands for a body: its SHA-256 in lower-case hex
 unfoldable pub body_digest : List ℕ → List ℕ
@@ -57,7 +58,7 @@ delay_of q (Some s) = 1000 * s
 -- a send to a standard queue
 abbrev pub send_standard : Queue → ℕ → List ℕ → Option ℕ → Result Sent Refusal × Queue
 send_standard q now body delay =
-    if is_bad_delay 900 delay then (Err refusals.BadDelay, q)
+    if is_bad_delay longest_delay delay then (Err refusals.BadDelay, q)
     else (Ok (New (id_of q q.arrivals)), with_message q (new_message q now body None (delay_of q delay)))
 
 -- the entry with this scope and id that lives at a moment
@@ -77,7 +78,7 @@ living_entries now entries = filter (λ e. nat_lt now e.end) entries
 -- a queue with one more deduplication entry, for the next message, which lives for 5 minutes; those that have ended go
 abbrev pub with_entry : Queue → ℕ → Option (List ℕ) → List ℕ → Queue
 with_entry q now scope id =
-    record q { entries = living_entries now q.entries ++ record { scope = scope; id = id; end = now + 300000; number = q.arrivals } ∷ [] }
+    record q { entries = living_entries now q.entries ++ record { scope = scope; id = id; end = now + deduplication_interval; number = q.arrivals } ∷ [] }
 
 -- a duplicate of a message makes none; any other send makes a message and an entry
 abbrev pub send_unless : Queue → ℕ → List ℕ → List ℕ → Option (List ℕ) → List ℕ → Option Entry → Result Sent Refusal × Queue
@@ -106,6 +107,10 @@ send_fifo q content scope now body group id delay =
     if is_bad_delay 0 delay then (Err refusals.BadDelay, q)
     else send_with q scope now body group (deduplication_id content body id)
 
+-- whether a receipt may be one that a queue gave: it names the queue's site, and a receive of the message, counted from 1
+abbrev pub may_be_given : Queue → Receipt → Bool
+may_be_given q r = r.site == q.site && nat_lt 0 r.count
+
 -- the message of a receipt is deleted
 abbrev pub removed : Queue → ℕ → Receipt → Message → Result Deleted Refusal × Queue
 removed q now r m = (Ok (Removed (now - m.enqueued)), taken_out q r.number)
@@ -128,7 +133,7 @@ delete_gone q r = if nat_lt r.number q.arrivals then (Ok Gone, q) else (Err refu
 -- a delete at a standard queue
 abbrev pub delete_standard : Queue → ℕ → Receipt → Result Deleted Refusal × Queue
 delete_standard q now r =
-    if r.site == q.site
+    if may_be_given q r
     then elim (numbered r.number q.records) as (λ _. Result Deleted Refusal × Queue) [
       | None ↦ delete_gone q r
       | Some m ↦ delete_standard_here q now r m
@@ -138,7 +143,7 @@ delete_standard q now r =
 -- a delete at a FIFO queue
 abbrev pub delete_fifo : Queue → ℕ → Receipt → Result Deleted Refusal × Queue
 delete_fifo q now r =
-    if r.site == q.site
+    if may_be_given q r
     then elim (numbered r.number q.records) as (λ _. Result Deleted Refusal × Queue) [
       | None ↦ delete_gone q r
       | Some m ↦ delete_fifo_here q now r m
@@ -172,7 +177,7 @@ abbrev pub change_here : Queue → ℕ → Receipt → ℕ → Message → Resul
 change_here q now r timeout m =
     if nat_lt m.receives r.count then (Err refusals.ReceiptHandleIsInvalid, q)
     else (if not (is_in_flight m) || nat_lt r.count m.receives then (Err refusals.MessageNotInflight, q)
-    else (if nat_lt (m.received + 43200000) (now + 1000 * timeout) then (Err refusals.BadTimeout, q)
+    else (if nat_lt (m.received + longest_flight) (now + 1000 * timeout) then (Err refusals.BadTimeout, q)
     else change_done q now r.number timeout))
 
 -- a change of a message that may be there, gone, or never there
@@ -184,6 +189,6 @@ change_found q now r timeout (Some m) = change_here q now r timeout m
 -- the answer of a change of visibility, and the queue after it
 abbrev pub change : Queue → ℕ → Receipt → ℕ → Result (Option Load) Refusal × Queue
 change q now r timeout =
-    if nat_lt 43200 timeout then (Err refusals.BadTimeout, q)
-    else (if r.site == q.site then change_found q now r timeout (numbered r.number q.records)
+    if nat_lt longest_timeout timeout then (Err refusals.BadTimeout, q)
+    else (if may_be_given q r then change_found q now r timeout (numbered r.number q.records)
     else (Err refusals.ReceiptHandleIsInvalid, q))

@@ -24,9 +24,11 @@ DeliveryInAnyOrder =
     → same_key (transfer_key p) (transfer_key o) ≡ false
     → delivered (o ∷ (p ∷ os)) sites ≡ delivered (p ∷ (o ∷ os)) sites
 
--- a site stays sorted when a transfer is accepted, and when a due is handled
+-- a sorted site stays so
 pub record StaysSorted (s : Site) : Type 0 where
+  -- when a transfer is accepted
   pub accepting : (o : Outbound) → IsSorted (accepted o s)
+  -- when a due is handled
   pub handling : (key : Key) → IsSorted (handled key s).site
 
 -- a transfer may be delivered before the handling of another key or after it: site, rows and what is sent are the same

@@ -8,6 +8,8 @@ pub mod Receive
 pub mod Calls
 pub mod Arrive
 pub mod Task
+pub mod Marks
+pub mod Longest
 pub mod Actor
 pub mod Site
 pub mod Dues
@@ -22,4 +24,8 @@ pub mod Accounts
 pub mod Answers
 pub mod Progress
 pub mod Valid
+pub mod Members
+pub mod Ways
+pub mod NoneBefore
+pub mod Turns
 pub mod Limits

@@ -1,5 +1,5 @@
 -- The greatest count that a site has come to. Counts only grow, and the code refuses one that would pass `most_count`.
-use Rattle.std.specs.Prelude.{List, [], length, map, max, ℕ, ◌<◌, ◌∷◌, ◌≤◌}
+use Rattle.std.specs.Prelude.{List, [], map, max, ℕ, ◌<◌, ◌∷◌, ◌≤◌}
 use Rattle.sim_clock.specs.declared.key.Key.{Key}
 use Rattle.sqs_message.specs.declared.row.Row.{Row}
 use Rattle.sqs_message.specs.declared.row.RowReceipt.{RowReceipt}
@@ -52,9 +52,9 @@ effect_of h = record { core = h.site.core; rows = h.rows; sent = h.sent }
 abbrev pub sites_count : List Site → ℕ
 sites_count sites = greatest (map (λ s. site_count s.core) sites)
 
--- the greatest count that a run has come to: in a site, of the receives that a row tells, or of the rows, which a report counts
+-- the greatest count that a run has come to: in a site, or of the receives that a row tells
 abbrev pub run_count : Run → ℕ
-run_count r = max (sites_count r.sites) (max (rows_count r.rows) (length r.rows))
+run_count r = max (sites_count r.sites) (rows_count r.rows)
 
 -- a scenario whose one-list run takes a count past the limit
 abbrev pub IsOver : Scenario → Type 0

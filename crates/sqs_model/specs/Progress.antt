@@ -1,4 +1,4 @@
--- Time moves on: what a sound site is, and that a handling makes nothing due at its own moment or before.
+-- Time moves on: what a sound site is, and that a handling leaves less due by its own moment, and no more by an earlier one.
 use Rattle.std.specs.Prelude.{All, Contains, List, None, Option, Some, [], drop, filter, length, nat_le, ℕ, ◌+◌, ◌<◌, ◌∷◌, ◌≡◌, ◌≢◌, ◌≤◌}
 use Rattle.sim_clock.specs.declared.key.Key.{Key}
 use Rattle.sqs_model.specs.declared.agents.Forwarding.{Forwarding}
@@ -17,6 +17,7 @@ use Rattle.sqs_model.specs.Run.{IsRunOf, Run}
 use Rattle.sqs_model.specs.Scenario.{Scenario, opening}
 use Rattle.sqs_model.specs.Site.{Core, Site}
 use Rattle.sqs_model.specs.Step.{Handled, handled}
+use Rattle.sqs_model.specs.Longest.{deduplication_interval}
 
 -- whether each has a number that is at least this and past the one before it
 abbrev pub Ascends : {A : Type 0} → (A → ℕ) → ℕ → List A → Type 0
@@ -88,20 +89,24 @@ pub record IsSound (c : Core) : Type 0 where
 abbrev pub count_due : ℕ → List Key → ℕ
 count_due moment keys = length (filter (λ k. nat_le k.at moment) keys)
 
--- what a handling of a key does that is due at a sound site: the site stays sound, nothing is made due at that moment or before, the key is due no more, and what is sent arrives later
+-- what a handling of a key does that is due at a sound site
 pub record MovesOn (key : Key) (s : Site) (h : Handled) : Type 0 where
+  -- the site stays sound
   pub sound : IsSound h.site.core
+  -- by no earlier moment is more due there than before
   pub before : (moment : ℕ) → moment < key.at → count_due moment (dues h.site) ≤ count_due moment (dues s)
+  -- by its own moment less is
   pub falls : count_due key.at (dues h.site) < count_due key.at (dues s)
+  -- what is sent arrives later
   pub sent_later : All (λ o. key.at < o.at) h.sent
 
--- a handling makes nothing due at its own moment or before
+-- every handling of what is due at a sound site does
 abbrev pub HandlingMovesOn : Type 0
 HandlingMovesOn = (key : Key) (s : Site) → IsSound s.core → Contains (dues s) key → MovesOn key s (handled key s)
 
 -- no deduplication entry of a queue came after a moment
 abbrev pub IsRecent : ℕ → Queue → Type 0
-IsRecent now q = All (λ e. e.end ≤ now + 300000) q.entries
+IsRecent now q = All (λ e. e.end ≤ now + deduplication_interval) q.entries
 
 -- a handling leaves no entry from after its moment
 abbrev pub HandlingStaysRecent : Type 0
@@ -129,10 +134,13 @@ IsFilledBy now q = All (λ m. m.enqueued ≤ now) q.records
 abbrev pub AreTimely : List Outbound → Type 0
 AreTimely transfers = All (λ o. WasEnqueuedBy o.at o.load) transfers
 
--- what a handling leaves and sends: nothing was enqueued after its moment, or after its arrival
+-- what a handling leaves and sends
 pub record KeepsTime (key : Key) (h : Handled) : Type 0 where
+  -- no message of the queue was enqueued after its moment
   pub filled : IsFilledBy key.at h.site.core.queue
+  -- none on its way to the site was enqueued after its arrival
   pub arriving : AreTimely h.site.arriving
+  -- none that is sent was enqueued after its arrival
   pub sent : AreTimely h.sent
 
 -- a handling enqueues nothing after its moment

@@ -9,6 +9,7 @@ use Rattle.sqs_model.specs.Queue.{Queue, id_of, in_flight, room, with_change}
 use Rattle.sqs_model.specs.Return.{released}
 use Rattle.sqs_message.specs.declared.message.Place.TheVariants as places
 use Rattle.sim_clock.specs.declared.refusal.Refusal.TheVariants as refusals
+use Rattle.sqs_model.specs.Longest.{longest_timeout}
 
 -- a message that is received at a moment, for so many milliseconds
 abbrev pub received : ℕ → ℕ → Message → Message
@@ -54,11 +55,15 @@ timeout_of q (Some s) = 1000 * s
 -- whether a timeout in seconds is over 12 hours
 abbrev pub is_bad_timeout : Option ℕ → Bool
 is_bad_timeout None = false
-is_bad_timeout (Some s) = nat_lt 43200 s
+is_bad_timeout (Some s) = nat_lt longest_timeout s
 
--- the queue after a receive of at most so many messages that sees these hosts, and what it gives
+-- the messages that a receive of at most so many gives which sees these hosts
+abbrev pub to_give : Queue → ℕ → ℕ → List Message
+to_give q max set = take (min max (room q)) (available q set)
+
+-- the queue after such a receive, and what it tells of each message
 abbrev pub give_most : Queue → ℕ → ℕ → Option ℕ → ℕ → Queue × List Got
-give_most q now max timeout set = give now (timeout_of q timeout) (take (min max (room q)) (available q set)) q
+give_most q now max timeout set = give now (timeout_of q timeout) (to_give q max set) q
 
 -- an answer before the queue
 abbrev pub answered : Queue × List Got → Result (List Got) Refusal × Queue

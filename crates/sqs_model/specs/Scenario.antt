@@ -27,9 +27,9 @@ pub record Scenario : Type 0 where
   pub tasks : List TaskSettings
   pub names : List (List ℕ)
 
--- an agent's draws, none taken
-abbrev pub opening_draws : Scenario → ℕ → Draws
-opening_draws s agent = record { seed = s.seed; agent = agent; taken = 0 }
+-- an agent's draws under a seed, none taken
+abbrev pub opening_draws : ℕ → ℕ → Draws
+opening_draws seed agent = record { seed = seed; agent = agent; taken = 0 }
 
 -- a queue with nothing in it
 abbrev pub opening_queue : ℕ → QueueSettings → Queue
@@ -41,9 +41,9 @@ first_wake (Script script) = first_at script
 first_wake (Producer p) = Some p.start
 first_wake (Consumer c) = Some c.start
 
--- an actor that has done nothing
-abbrev pub opening_actor : Scenario → ℕ × ActorSettings → Actor
-opening_actor s (n, settings) =
+-- an actor that has done nothing, under a seed
+abbrev pub opening_actor : ℕ → ℕ × ActorSettings → Actor
+opening_actor seed (n, settings) =
     record {
       number = n;
       settings = settings;
@@ -53,12 +53,12 @@ opening_actor s (n, settings) =
       wakes = 0;
       polls = 0;
       sent = 0;
-      draws = opening_draws s n;
+      draws = opening_draws seed n;
     }
 
--- a task that was never started, as an agent
-abbrev pub opening_task : Scenario → ℕ × TaskSettings → Task
-opening_task s (n, settings) = record { number = n; move = opening_move settings; sent = 0; draws = opening_draws s n }
+-- a task that was never started, as an agent, under a seed
+abbrev pub opening_task : ℕ → ℕ × TaskSettings → Task
+opening_task seed (n, settings) = record { number = n; move = opening_move settings; sent = 0; draws = opening_draws seed n }
 
 -- the actors of a scenario with their numbers
 abbrev pub numbered_actors : Scenario → List (ℕ × ActorSettings)
@@ -68,19 +68,24 @@ numbered_actors s = enumerate_from (length s.queues) s.actors
 abbrev pub numbered_tasks : Scenario → List (ℕ × TaskSettings)
 numbered_tasks s = enumerate_from (length s.queues + length s.actors) s.tasks
 
--- a queue with the actors and tasks at home there
-abbrev pub opening_core : Scenario → ℕ → QueueSettings → Core
-opening_core s n settings =
+-- a queue at which nothing was done, with these actors and tasks at home there, under a seed, sampled every so often
+abbrev pub fresh_core : ℕ → QueueSettings → List (ℕ × ActorSettings) → List (ℕ × TaskSettings) → ℕ → ℕ → Core
+fresh_core n settings actors tasks seed sample =
     record {
       queue = opening_queue n settings;
-      actors = map (opening_actor s) (filter (λ x. x.1.home == n) (numbered_actors s));
-      tasks = map (opening_task s) (filter (λ x. x.1.home == n) (numbered_tasks s));
+      actors = map (opening_actor seed) actors;
+      tasks = map (opening_task seed) tasks;
       polls = [];
       sent = 0;
-      draws = opening_draws s n;
-      sample = s.sample;
+      draws = opening_draws seed n;
+      sample = sample;
       samples = 0;
     }
+
+-- a queue of a scenario with the actors and tasks at home there
+abbrev pub opening_core : Scenario → ℕ → QueueSettings → Core
+opening_core s n settings =
+    fresh_core n settings (filter (λ x. x.1.home == n) (numbered_actors s)) (filter (λ x. x.1.home == n) (numbered_tasks s)) s.seed s.sample
 
 -- a site that nothing is on its way to
 abbrev pub opening_site : Scenario → ℕ × QueueSettings → Site

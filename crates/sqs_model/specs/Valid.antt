@@ -1,5 +1,5 @@
 -- The ranges of settings. Times are milliseconds.
-use Rattle.std.specs.Prelude.{None, Option, Some, ℕ, ◌≤◌}
+use Rattle.std.specs.Prelude.{None, Option, Some, ℕ, ◌*◌, ◌≤◌}
 use Rattle.sqs_model.specs.declared.agents.ConsumerSettings.{ConsumerSettings}
 use Rattle.sqs_model.specs.declared.agents.Forwarding.{Forwarding}
 use Rattle.sqs_model.specs.declared.agents.ProducerSettings.{ProducerSettings}
@@ -9,6 +9,7 @@ use Rattle.sqs_redrive.specs.declared.settings.Latency.{Latency}
 use Rattle.sqs_redrive.specs.declared.settings.Policy.{Policy}
 use Rattle.sqs_redrive.specs.declared.settings.QueueSettings.{QueueSettings}
 use Rattle.sqs_redrive.specs.declared.settings.TaskSettings.{TaskSettings}
+use Rattle.sqs_model.specs.Longest.{longest_delay, longest_timeout}
 
 -- whether a number lies between two
 abbrev pub Between : ℕ → ℕ → ℕ → Type 0
@@ -35,11 +36,16 @@ abbrev pub IsKind : Kind → Type 0
 IsKind (Standard hosts sampled) = Between 1 16 hosts × Between 1 hosts sampled
 IsKind (Fifo content_dedup scope) = Unit {0}
 
+-- whether a queue is a standard one
+abbrev pub IsStandard : Kind → Type 0
+IsStandard (Standard hosts sampled) = Unit {0}
+IsStandard (Fifo content_dedup scope) = ⊥
+
 -- a queue: a visibility timeout to 12 hours, a delay to 15 minutes, a retention period of 1 minute to 14 days, 1 to 120,000 messages in flight
 pub record IsQueueSettings (s : QueueSettings) : Type 0 where
   pub kind : IsKind s.kind
-  pub visibility : s.visibility ≤ 43200000
-  pub delay : s.delay ≤ 900000
+  pub visibility : s.visibility ≤ 1000 * longest_timeout
+  pub delay : s.delay ≤ 1000 * longest_delay
   pub retention : Between 60000 1209600000 s.retention
   pub limit : Between 1 120000 s.in_flight_limit
   pub policy : MayBePolicy s.policy
@@ -60,7 +66,7 @@ MayBeForward (Some f) = IsLatency f.latency
 -- a timeout in seconds, if there is one
 abbrev pub MayBeTimeout : Option ℕ → Type 0
 MayBeTimeout None = Unit {0}
-MayBeTimeout (Some s) = s ≤ 43200
+MayBeTimeout (Some s) = s ≤ longest_timeout
 
 -- a consumer that asks for 1 to 10 messages and waits for at most 20 seconds
 pub record IsConsumer (c : ConsumerSettings) : Type 0 where

@@ -3,10 +3,13 @@
 ghost use Rattle.sqs_model.specs.Accounts.{EachKeepsOnePlace, NoOtherComesIn};
 ghost use Rattle.sqs_model.specs.Limits.{CountsOnlyGrow};
 ghost use Rattle.sqs_model.specs.Delivery.{DeliveryInAnyOrder, HandlingApartFromDelivery, SortedSitesStaySorted};
+ghost use Rattle.sqs_model.specs.NoneBefore.{HandlingLeavesNoneBefore};
+ghost use Rattle.sqs_model.specs.Turns.{TurnsEnd};
+ghost use Rattle.sqs_model.specs.Ways.{AcceptingKeepsWays, HandlingGoesAlongWays, OpeningHasWays};
 ghost use Rattle.sqs_model.specs.Progress.{HandlingKeepsTime, HandlingMovesOn, HandlingStaysRecent, OpeningIsSound, RunEnds};
 
-/// The handling of what is due at a moment makes nothing due at that moment or before, and what it
-/// sends arrives later.
+/// The handling of what is due at a moment leaves less due by that moment than it found, and no
+/// more by any earlier one; what it sends arrives later.
 pub fn handling_moves_on()
     ensures { HandlingMovesOn }
 {}
@@ -63,4 +66,35 @@ pub fn each_keeps_one_place()
 /// Nor does a message stand anywhere there that was not accepted.
 pub fn no_other_comes_in()
     ensures { NoOtherComesIn }
+{}
+
+/// A handling at a site sends along the ways of the site alone, at least a way's least latency
+/// later, by agents at home there; its rows carry the handled key and the site's queue; and the
+/// site keeps its ways.
+pub fn handling_goes_along_ways()
+    ensures { HandlingGoesAlongWays }
+{}
+
+/// A site keeps its ways when a transfer comes that fits them, as `handling_goes_along_ways` says
+/// of those that are sent.
+pub fn accepting_keeps_ways()
+    ensures { AcceptingKeepsWays }
+{}
+
+/// Every sound scenario opens with sites that send along its ways alone, each of which takes a
+/// millisecond at least.
+pub fn opening_has_ways()
+    ensures { OpeningHasWays }
+{}
+
+/// The handling of the least due of a site leaves nothing due there that comes before it in the
+/// order of keys.
+pub fn handling_leaves_none_before()
+    ensures { HandlingLeavesNoneBefore }
+{}
+
+/// An actor's turn ends: told something, it decides at most three times, the last time to do
+/// nothing.
+pub fn turns_end()
+    ensures { TurnsEnd }
 {}

@@ -7,6 +7,8 @@ mod acts;
 mod agents;
 mod finals;
 mod laws;
+mod limits;
+mod marks;
 #[cfg(test)]
 mod tests;
 
@@ -17,6 +19,12 @@ pub use finals::{
     TransferKind,
 };
 pub use laws::{
-    delivery_in_any_order, each_keeps_one_place, handling_apart_from_delivery, handling_moves_on,
-    no_other_comes_in, opening_is_sound, run_ends, sorted_sites_stay_sorted,
+    accepting_keeps_ways, counts_only_grow, delivery_in_any_order, each_keeps_one_place,
+    handling_apart_from_delivery, handling_goes_along_ways, handling_keeps_time,
+    handling_leaves_none_before, handling_moves_on, handling_stays_recent, no_other_comes_in,
+    opening_has_ways, opening_is_sound, run_ends, sorted_sites_stay_sorted, turns_end,
 };
+pub use limits::{
+    DEDUPLICATION_INTERVAL, LONGEST_DELAY, LONGEST_FLIGHT, LONGEST_TIMEOUT, MOST_COUNT,
+};
+pub use marks::has_mark;

@@ -11,7 +11,7 @@ use Rattle.sqs_model.specs.Available.{all_hosts, available_at, by_group, has_hos
 use Rattle.sqs_model.specs.Polls.{can_give}
 use Rattle.sqs_model.specs.Queue.{Queue, in_flight, is_visible}
 use Rattle.sqs_model.specs.Valid.{IsKind}
-use Rattle.sqs_standard.specs.Standard.{IsStandard}
+use Rattle.sqs_model.specs.Valid.{IsStandard}
 use Rattle.sqs_queue.proofs.Hosts.{on_all}
 use Rattle.sqs_queue.specs.Kinds.{IsAsSet, either_queue}
 use Rattle.sqs_queue.specs.declared.queue.Either.{Either}

@@ -1,19 +1,19 @@
 //! The queue, and what it tells of itself.
-ghost use Rattle.std.specs.Prelude.{◌≡◌, [], IfOk, IsOkUnless, count_by};
+ghost use Rattle.std.specs.Prelude.{◌≡◌, [], IfOk, count_by};
 ghost use Rattle.sim_clock.specs.Order.{least};
 ghost use Rattle.sqs_model.specs.Dues.{queue_dues};
 ghost use Rattle.sqs_model.specs.Polls.{can_give};
 ghost use Rattle.sqs_model.specs.Queue.{is_delayed, is_in_flight, is_visible};
 ghost use Rattle.sqs_model.specs.Valid.{IsQueueSettings};
 
-use sim_clock::{Key, Refusal};
+use sim_clock::Key;
 use sqs_fifo::FifoQueue;
 use sqs_groups::available_places;
 use sqs_message::Message;
 use sqs_redrive::{Kind, QueueSettings};
 use sqs_standard::StandardQueue;
 use sqs_store::Counts;
-use std::alloc::Global;
+use std::alloc::{AllocError, Global};
 use std::marker::Model;
 
 mod calls;
@@ -111,9 +111,8 @@ impl Queue {
 
     /// Whether it has a message to give and room in flight for it. Takes time linear in the queue.
     /// The one error is `Memory`.
-    pub fn can_give(&self) -> Result<bool, Refusal>
-        ensures gives { IfOk result (λ gives. gives ≡ can_give self.now) }
-        ensures memory_only { IsOkUnless result Refusal.Memory }
+    pub fn can_give(&self) -> Result<bool, AllocError>
+        ensures { IfOk result (λ gives. gives ≡ can_give self.now) }
     {
         let counts = self.counts();
         if counts.visible == 0 || self.settings().in_flight_limit <= counts.in_flight {

@@ -1,13 +1,12 @@
 //! On which hosts messages lie, and which of them a receive sees.
-ghost use Rattle.std.specs.Prelude.{◌≡◌, ◌<◌, ◌≤◌, ◌%◌, IfOk, IsOkUnless, Some, filter, map, not, slice_get, take};
+ghost use Rattle.std.specs.Prelude.{◌≡◌, ◌<◌, ◌≤◌, ◌%◌, IfOk, Some, filter, map, not, slice_get, take};
 ghost use Rattle.sim_clock.specs.Firsts.{is_empty};
 ghost use Rattle.sqs_model.specs.Available.{has_host};
 ghost use Rattle.sqs_standard.specs.Hosts.{is_seen};
 
-use sim_clock::Refusal;
 use sqs_message::Message;
 use sqs_store::may_be_received;
-use std::alloc::Global;
+use std::alloc::{AllocError, Global};
 
 // Whether a host is one of a set, given by its bits.
 fn has_host(set: u32, host: u64) -> bool
@@ -47,11 +46,10 @@ pub fn seen_places(
     hosts: u64,
     set: u32,
     most: u64,
-) -> Result<Vec<usize>, Refusal>
+) -> Result<Vec<usize>, AllocError>
     requires some { 1 ≤ hosts }
     requires few { hosts ≤ 16 }
-    ensures places { IfOk result (λ places. map (slice_get messages.now) places.items ≡ map Some (take most (filter (is_seen hosts set) messages.now))) }
-    ensures memory_only { IsOkUnless result Refusal.Memory }
+    ensures { IfOk result (λ places. map (slice_get messages.now) places.items ≡ map Some (take most (filter (is_seen hosts set) messages.now))) }
 {
     let mut places = Vec::new(alloc);
     for (place, message) in messages.iter().enumerate() {

@@ -1,5 +1,5 @@
 //! The queue and its calls.
-ghost use Rattle.std.specs.Prelude.{◌≡◌, ◌-◌, ◌<◌, ◌≤◌, ◌^◌, [], IfOk, IsOkUnless, List, OnErr, OnOk, count_by, filter, take, ℕ};
+ghost use Rattle.std.specs.Prelude.{◌≡◌, ◌-◌, ◌<◌, ◌≤◌, ◌^◌, [], IfOk, List, OnErr, OnOk, count_by, filter, take, ℕ};
 ghost use Rattle.sim_clock.specs.Order.{least};
 ghost use Rattle.sqs_model.specs.Answers.{Meets, most_count};
 ghost use Rattle.sqs_model.specs.Arrive.{expired};
@@ -12,15 +12,17 @@ ghost use Rattle.sqs_model.specs.Return.{released};
 ghost use Rattle.sqs_model.specs.Valid.{IsKind};
 ghost use Rattle.sqs_store.specs.Chosen.{AreWithin};
 ghost use Rattle.sqs_standard.specs.Hosts.{is_seen};
-ghost use Rattle.sqs_standard.specs.Standard.{IsStandard, IsStandardSettings};
+ghost use Rattle.sqs_model.specs.Valid.{IsStandard};
+ghost use Rattle.sqs_standard.specs.Standard.{IsStandardSettings};
 ghost use Rattle.sqs_message.specs.declared.message.Message.{Message};
 
 use crate::hosts::seen_places;
 use sim_clock::{Key, Refusal};
 use sqs_message::{Message, MessageId, Receipt, Text};
 use sqs_redrive::{Deleted, Kind, Load, QueueSettings, Sent};
-use sqs_store::{Counts, MOST_COUNT, Store};
-use std::alloc::Global;
+use sqs_model::{LONGEST_DELAY, MOST_COUNT};
+use sqs_store::{Counts, Store};
+use std::alloc::{AllocError, Global};
 use std::marker::Model;
 
 mod arrive;
@@ -106,7 +108,7 @@ impl StandardQueue {
         let wait = match delay {
             None => self.store.settings().delay,
             Some(seconds) => {
-                if seconds > 900 {
+                if seconds > LONGEST_DELAY {
                     return Err(Refusal::BadDelay);
                 }
                 1000 * seconds
@@ -130,7 +132,7 @@ impl StandardQueue {
         ensures answer { delete_standard self.old now receipt.now ≡ (result, self.new) }
         ensures framed { IsFramed self.old self.new }
     {
-        if receipt.site != self.store.site() {
+        if receipt.site != self.store.site() || receipt.count == 0 {
             return Err(Refusal::ReceiptHandleIsInvalid);
         }
         let Some(message) = self.store.find(receipt.number) else {
@@ -205,11 +207,10 @@ impl StandardQueue {
 
     // The places of at most so many of the messages that may be received which lie on these hosts,
     // in order.
-    fn first_places(&self, set: u32, most: u64) -> Result<Vec<usize>, Refusal>
+    fn first_places(&self, set: u32, most: u64) -> Result<Vec<usize>, AllocError>
         ensures chosen { IfOk result (λ places. at_places self.now.records places.items ≡ take most (available self.now set)) }
         ensures within { IfOk result (λ places. AreWithin self.now.records places.items) }
         ensures apart { IfOk result (λ places. Differ (λ m. m.number) (at_places self.now.records places.items)) }
-        ensures memory_only { IsOkUnless result Refusal.Memory }
     {
         let count = host_count(&self.store.settings().kind);
         seen_places(self.alloc, self.store.view(), count, set, most)

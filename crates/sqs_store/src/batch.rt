@@ -1,13 +1,13 @@
 //! What a receive tells of the messages that it gives.
-ghost use Rattle.std.specs.Prelude.{◌≡◌, ◌⊎◌, ◌+◌, ◌<◌, ◌≤◌, All, Any, Err, IfErr, IfOk, IsOkUnless, OnOk, map};
+ghost use Rattle.std.specs.Prelude.{◌≡◌, ◌⊎◌, ◌+◌, ◌<◌, ◌≤◌, All, Any, Err, IfErr, IfOk, OnOk, map};
 ghost use Rattle.sqs_model.specs.Answers.{most_count};
 ghost use Rattle.sqs_model.specs.Available.{at_places};
 ghost use Rattle.sqs_store.specs.Chosen.{AreWithin};
 ghost use Rattle.sqs_store.specs.Giving.{told_of};
 
-use crate::store::MOST_COUNT;
 use sim_clock::Refusal;
 use sqs_message::{Message, MessageId, Receipt, Text};
+use sqs_model::MOST_COUNT;
 use sqs_redrive::Got;
 use std::alloc::{AllocError, Global};
 
@@ -22,10 +22,9 @@ pub fn copied_group(alloc: Global, group: &Option<Text>) -> Result<Option<Text>,
 }
 
 // What a receive tells of a message, before it gives it.
-fn told_of(alloc: Global, site: u32, message: &Message) -> Result<Got, Refusal>
+fn told_of(alloc: Global, site: u32, message: &Message) -> Result<Got, AllocError>
     requires { message.now.receives < most_count }
-    ensures told { IfOk result (λ got. got ≡ told_of site message.now) }
-    ensures memory_only { IsOkUnless result Refusal.Memory }
+    ensures { IfOk result (λ got. got ≡ told_of site message.now) }
 {
     let group = copied_group(alloc, &message.group)?;
     let body = message.body.copy(alloc)?;

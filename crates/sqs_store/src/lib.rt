@@ -11,4 +11,4 @@ mod store;
 mod tests;
 
 pub use places::{is_out, may_be_received};
-pub use store::{Counts, MOST_COUNT, Store};
+pub use store::{Counts, Store};

@@ -1,5 +1,5 @@
 //! What a step of a move task takes out.
-ghost use Rattle.std.specs.Prelude.{◌≡◌, ◌+◌, ◌<◌, ◌≤◌, ◌++◌, ◌∷◌, [], IfOk, IsOkUnless, length, vec_capacity, vec_len};
+ghost use Rattle.std.specs.Prelude.{◌≡◌, ◌+◌, ◌<◌, ◌≤◌, ◌++◌, ◌∷◌, [], IfOk, length, vec_capacity, vec_len};
 ghost use Rattle.sqs_model.specs.Available.{at_places};
 ghost use Rattle.sqs_model.specs.Progress.{Ascends};
 ghost use Rattle.sqs_model.specs.Queue.{Queue, with_records};
@@ -7,7 +7,6 @@ ghost use Rattle.sqs_model.specs.Task.{destination, take_each};
 ghost use Rattle.sqs_store.specs.Chosen.{AreWithin, unmarked};
 
 use crate::batch::copied_group;
-use sim_clock::Refusal;
 use sqs_message::{Message, MessageId};
 use sqs_redrive::Load;
 use std::alloc::{AllocError, Global};
@@ -68,12 +67,11 @@ pub fn loads_of(
     messages: &[Message],
     places: &[usize],
     to: Option<u32>,
-) -> Result<Taken, Refusal>
+) -> Result<Taken, AllocError>
     requires within { AreWithin messages.now places.now }
     requires ordered { Ascends (λ m. m.number) 0 messages.now }
     ensures taken { IfOk result (λ taken. (q : Queue) → q.site ≡ site → q.records ≡ messages.now → take_each q to (at_places messages.now places.now) ≡ record { queue = with_records q (unmarked taken.gone.items messages.now); loads = taken.loads.items; stuck = taken.stuck }) }
     ensures marked { IfOk result (λ taken. length taken.gone.items ≡ length messages.now) }
-    ensures memory_only { IsOkUnless result Refusal.Memory }
 {
     let mut loads = Vec::new(alloc);
     let mut gone = vec![in alloc; false; messages.len()]?;

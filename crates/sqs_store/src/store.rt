@@ -1,11 +1,12 @@
 //! The queue and its calls.
-ghost use Rattle.std.specs.Prelude.{◌≡◌, ◌-◌, false, ◌+◌, ◌<◌, ◌≤◌, ◌^◌, [], All, None, count_by, IsOkUnless, OnOk, OnErr};
+ghost use Rattle.std.specs.Prelude.{◌≡◌, ◌-◌, false, ◌+◌, ◌<◌, ◌≤◌, ◌^◌, [], All, None, count_by, OnOk, OnErr};
 ghost use Rattle.std.specs.Option.{option_copied, option_map};
 ghost use Rattle.sim_clock.specs.Order.{least};
 ghost use Rattle.sqs_model.specs.Answers.{most_count};
 ghost use Rattle.sqs_model.specs.Arrive.{expired};
 ghost use Rattle.sqs_model.specs.Calls.{change, new_message, returned, with_entry, with_message};
 ghost use Rattle.sqs_model.specs.Dues.{queue_dues};
+ghost use Rattle.sqs_model.specs.Longest.{deduplication_interval};
 ghost use Rattle.sqs_model.specs.Queue.{IsFramed, in_flight, is_delayed, is_in_flight, is_visible, numbered, room, taken_out};
 ghost use Rattle.sqs_model.specs.Return.{leaves, released};
 ghost use Rattle.sqs_model.specs.Valid.{IsQueueSettings};
@@ -22,16 +23,14 @@ use crate::places::{
 use sim_clock::{Key, Refusal, lesser};
 use sqs_dedup::Dedup;
 use sqs_message::{Message, MessageId, Origin, Place, Receipt, Text};
+use sqs_model::{LONGEST_FLIGHT, LONGEST_TIMEOUT};
 use sqs_redrive::{Load, QueueSettings, Returned, on_return};
-use std::alloc::Global;
+use std::alloc::{AllocError, Global};
 use std::marker::Model;
 
 mod arrive;
 mod give;
 mod take;
-
-/// The greatest value of a count or a moment.
-pub const MOST_COUNT: u64 = 4611686018427387903;
 
 /// How many messages of a queue are where.
 #[derive(Clone, Copy, Debug, PartialEq, Eq)]
@@ -192,13 +191,12 @@ impl Store {
     }
 
     /// One more message, with the next number. The one error is `Memory`.
-    pub fn add(&mut self, message: Message) -> Result<(), Refusal>
+    pub fn add(&mut self, message: Message) -> Result<(), AllocError>
         requires numbered { message.number ≡ self.old.arrivals }
         requires counted { IsCounted message }
         requires below { self.old.arrivals < most_count }
         ensures added { OnOk result (self.new ≡ with_message self.old message) }
         ensures unchanged { OnErr result (self.new ≡ self.old) }
-        ensures memory_only { IsOkUnless result Refusal.Memory }
     {
         self.messages.push(message)?;
         self.arrivals += 1;
@@ -213,16 +211,15 @@ impl Store {
         scope: Option<Text>,
         id: Text,
         message: Message,
-    ) -> Result<(), Refusal>
+    ) -> Result<(), AllocError>
         requires moment { now ≤ most_count }
         requires numbered { message.number ≡ self.old.arrivals }
         requires counted { IsCounted message }
         requires below { self.old.arrivals < most_count }
-        requires no_earlier { All (λ e. e.end ≤ now + 300000) self.old.entries }
+        requires no_earlier { All (λ e. e.end ≤ now + deduplication_interval) self.old.entries }
         requires none_living { living_among now scope id self.old.entries ≡ None }
         ensures added { OnOk result (self.new ≡ with_message (with_entry self.old now scope id) message) }
         ensures unchanged { OnErr result (self.new ≡ self.old) }
-        ensures memory_only { IsOkUnless result Refusal.Memory }
     {
         self.messages.reserve(1)?;
         self.entries.enter(now, scope, id, self.arrivals)?;
@@ -296,10 +293,10 @@ impl Store {
         ensures kept { self.new.entries ≡ self.old.entries }
         ensures framed { IsFramed self.old self.new }
     {
-        if timeout > 43200 {
+        if timeout > LONGEST_TIMEOUT {
             return Err(Refusal::BadTimeout);
         }
-        if receipt.site != self.site {
+        if receipt.site != self.site || receipt.count == 0 {
             return Err(Refusal::ReceiptHandleIsInvalid);
         }
         let Some(place) = place_of_number(&self.messages, receipt.number) else {
@@ -317,7 +314,7 @@ impl Store {
             return Err(Refusal::MessageNotInflight);
         }
         let until = now + 1000 * timeout;
-        if message.received + 43200000 < until {
+        if message.received + LONGEST_FLIGHT < until {
             return Err(Refusal::BadTimeout);
         }
         if timeout == 0 {

@@ -3,7 +3,8 @@ ghost use Rattle.std.specs.Prelude.{◌≡◌, ◌≤◌, []};
 ghost use Rattle.sqs_model.specs.Answers.{most_count};
 ghost use Rattle.sqs_model.specs.Valid.{IsQueueSettings};
 
-use crate::{MOST_COUNT, Store, is_out, may_be_received};
+use crate::{Store, is_out, may_be_received};
+use sqs_model::MOST_COUNT;
 use sim_clock::{Class, Key, Refusal};
 use sqs_message::{MessageId, Origin, Receipt, Text};
 use sqs_redrive::{Got, Kind, Latency, Load, Policy, QueueSettings, Sent};

@@ -6,10 +6,10 @@ ghost use Rattle.sqs_model.specs.Answers.{most_count};
 ghost use Rattle.sqs_model.specs.Valid.{IsConsumer, IsLatency, MayBeForward};
 ghost use Rattle.sim_actor.specs.Lives.{Becomes, Decides, IsFramed, Meets};
 
-use super::{Actor, MOST_COUNT, Stage};
+use super::{Actor, Stage};
 use sim_clock::Refusal;
 use sqs_message::{Receipt, Text};
-use sqs_model::{Act, ConsumerSettings, Forwarding};
+use sqs_model::{Act, ConsumerSettings, Forwarding, MOST_COUNT};
 use sqs_redrive::{Batch, Got, Latency, Load, Outbound};
 use std::alloc::{AllocError, Global};
 

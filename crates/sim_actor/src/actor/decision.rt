@@ -7,9 +7,9 @@ ghost use Rattle.sim_actor.specs.Lives.{Becomes, Decides, IsFramed, Meets, great
 
 use super::producer::message;
 use super::script::call_made;
-use super::{Actor, MOST_COUNT};
+use super::Actor;
 use sim_clock::Refusal;
-use sqs_model::{Act, Answer, Role};
+use sqs_model::{Act, Answer, MOST_COUNT, Role};
 use sqs_redrive::Batch;
 
 impl Actor {

@@ -93,7 +93,8 @@ impl Core {
         let (sent, expired) = arrive_by(&mut self.queue, key.at, load)?;
         match sent {
             Sent::Repeat(id) => {
-                return effects.say(arrival_row(key, site, origin, RowAnswer::Repeat, id));
+                effects.say(arrival_row(key, site, origin, RowAnswer::Repeat, id))?;
+                Ok(())
             }
             Sent::New(id) => {
                 effects.say(arrival_row(key, site, origin, RowAnswer::New, id))?;
@@ -108,7 +109,8 @@ impl Core {
                     RowAnswer::Expired,
                     Some(id),
                     Detail::Age(age),
-                ))
+                ))?;
+                Ok(())
             }
         }
     }

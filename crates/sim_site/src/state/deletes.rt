@@ -1,5 +1,5 @@
 //! Deletes and changes of visibility by actors, and ends of services.
-ghost use Rattle.std.specs.Prelude.{IfErr, IsOkUnless, OnOk, Option, ◌≡◌, ◌≤◌};
+ghost use Rattle.std.specs.Prelude.{IfErr, OnOk, Option, ◌≡◌, ◌≤◌};
 ghost use Rattle.sqs_message.specs.Ids.{read_receipt as the_read_receipt};
 ghost use Rattle.sqs_message.specs.declared.row.RowReceipt.TheVariants as receipts;
 ghost use Rattle.sqs_model.specs.Actor.{Actor};
@@ -14,8 +14,10 @@ use crate::effects::Effects;
 use crate::rows::row;
 use sim_clock::{Key, Refusal};
 use sqs_message::{Detail, MessageId, Receipt, Row, RowAnswer, RowKind, RowReceipt, Text};
+use sqs_model::LONGEST_TIMEOUT;
 use sqs_redrive::{Deleted, Outbound};
 use std::str;
+use std::alloc::AllocError;
 
 // The receipt that a text is, if it is one.
 fn read_receipt(text: &Text) -> Option<Receipt>
@@ -76,9 +78,8 @@ impl Core {
         agent: u32,
         text: Text,
         effects: &mut Effects,
-    ) -> Result<(), Refusal>
+    ) -> Result<(), AllocError>
         ensures did { (a : Actor) → a.number ≡ agent → OnOk result (Did effects.old effects.new self.new (delete_made key a self.old text (the_read_receipt text)).effect) }
-        ensures memory_only { IsOkUnless result Refusal.Memory }
     {
         let site = self.queue.site();
         match read_receipt(&text) {
@@ -93,7 +94,8 @@ impl Core {
                     None,
                     Detail::Absent,
                 );
-                effects.say(with_text(row, text))
+                effects.say(with_text(row, text))?;
+                Ok(())
             }
             Some(receipt) => {
                 let answer = self.queue.delete(key.at, &receipt);
@@ -129,7 +131,8 @@ impl Core {
                     None,
                     Detail::Absent,
                 );
-                effects.say(with_text(row, text))
+                effects.say(with_text(row, text))?;
+                Ok(())
             }
             Ok(left) => {
                 let id = MessageId {
@@ -173,7 +176,7 @@ impl Core {
         match read_receipt(&text) {
             None => {
                 let site = self.queue.site();
-                let refusal = if timeout > 43200 {
+                let refusal = if timeout > LONGEST_TIMEOUT {
                     Refusal::BadTimeout
                 } else {
                     Refusal::ReceiptHandleIsInvalid
@@ -188,7 +191,8 @@ impl Core {
                     None,
                     Detail::Absent,
                 );
-                effects.say(with_text(row, text))
+                effects.say(with_text(row, text))?;
+                Ok(())
             }
             Some(receipt) => self.change_by(key, agent, text, timeout, receipt, effects),
         }
@@ -205,9 +209,8 @@ impl Core {
         failed: bool,
         forward: Option<Outbound>,
         effects: &mut Effects,
-    ) -> Result<(), Refusal>
+    ) -> Result<(), AllocError>
         ensures did { (a : Actor) → a.number ≡ agent → OnOk result (Did effects.old effects.new self.new (serve_made key a self.old id receipt failed forward).effect) }
-        ensures memory_only { IsOkUnless result Refusal.Memory }
     {
         let site = self.queue.site();
         if failed {

@@ -1,5 +1,5 @@
 //! The rows of what a receive gave.
-ghost use Rattle.std.specs.Prelude.{IfErr, IsOkUnless, OnOk, map, ◌++◌, ◌≡◌, ◌≤◌};
+ghost use Rattle.std.specs.Prelude.{IfErr, OnOk, map, ◌++◌, ◌≡◌, ◌≤◌};
 ghost use Rattle.sqs_message.specs.declared.row.RowReceipt.TheVariants as receipts;
 ghost use Rattle.sqs_model.specs.Acts.{all_came_back, given, got_row as the_got_row};
 ghost use Rattle.sqs_model.specs.Answers.{most_count};
@@ -13,6 +13,7 @@ use crate::rows::row;
 use sim_clock::{Key, Refusal};
 use sqs_message::{Detail, Row, RowAnswer, RowKind, RowReceipt};
 use sqs_redrive::Got;
+use std::alloc::AllocError;
 
 // The row of a message that was received.
 fn got_row(key: Key, site: u32, agent: u32, got: &Got) -> Row
@@ -48,10 +49,9 @@ impl Core {
         agent: u32,
         gots: &[Got],
         effects: &mut Effects,
-    ) -> Result<(), Refusal>
+    ) -> Result<(), AllocError>
         ensures rows { OnOk result (effects.new.rows.items ≡ effects.old.rows.items ++ map (the_got_row key self.now agent) gots.now) }
         ensures sent { OnOk result (effects.new.sent ≡ effects.old.sent) }
-        ensures memory_only { IsOkUnless result Refusal.Memory }
     {
         let site = self.queue.site();
         for i in 0..gots.len() {

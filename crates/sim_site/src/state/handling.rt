@@ -23,12 +23,12 @@ impl Core {
         ensures stops { IfErr result (Stops (handle_class key.class key self.old)) }
     {
         match key.class {
-            Class::Expiry => self.handle_expiry(key, effects),
+            Class::Expiry => Ok(self.handle_expiry(key, effects)?),
             Class::Release => self.handle_release(key, effects),
             Class::Arrival => Ok(()),
             Class::PollEnd => self.handle_poll_end(key, effects),
             Class::Wake => self.handle_wake(key, effects),
-            Class::Sample => self.handle_sample(key, effects),
+            Class::Sample => Ok(self.handle_sample(key, effects)?),
             Class::Step => self.handle_step(key, effects),
         }
     }

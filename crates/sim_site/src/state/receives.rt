@@ -9,20 +9,20 @@ ghost use Rattle.sqs_model.specs.Queue.{IsFramed};
 ghost use Rattle.sqs_model.specs.Receive.{answered, give_most, receive};
 ghost use Rattle.std.specs.Result.{result_map_both};
 ghost use Rattle.sqs_model.specs.Site.{Core, actor_numbered, number_of};
-ghost use Rattle.sqs_standard.specs.Standard.{IsStandard};
-ghost use Rattle.sqs_store.specs.Calls.{to_give};
+ghost use Rattle.sqs_model.specs.Valid.{IsStandard};
+ghost use Rattle.sqs_model.specs.Receive.{to_give};
 ghost use Rattle.sim_site.specs.Effects.{DidMake, Stops, StopsWhere};
 ghost use Rattle.sim_site.specs.Kept.{most_wait};
 
 use super::sends::told_refusal;
-use super::{Core, MOST_COUNT};
+use super::Core;
 use crate::agents::Poll;
 use crate::effects::Effects;
 use crate::places::{place_of_actor, polled_at};
 use crate::rows::row;
 use sim_clock::{Key, Refusal};
 use sqs_message::{Detail, Row, RowAnswer, RowKind};
-use sqs_model::Answer;
+use sqs_model::{Answer, LONGEST_TIMEOUT, MOST_COUNT};
 use sqs_queue::Queue;
 use sqs_redrive::{Batch, Got, Kind};
 
@@ -56,7 +56,7 @@ fn short_refusal(queue: &Queue, timeout: Option<u64>) -> Option<Refusal>
     ensures refused { IfSome result (λ refusal. (now max set : ℕ) → receive queue.now now max timeout set true ≡ (Err refusal, queue.now)) }
 {
     if let Some(seconds) = timeout {
-        if seconds > 43200 {
+        if seconds > LONGEST_TIMEOUT {
             return Some(Refusal::BadTimeout);
         }
     }
@@ -194,7 +194,7 @@ impl Core {
         let set = hosts_from(hosts, sampled, start);
         match received_by(&mut self.queue, key.at, max, timeout, set, true)? {
             Ok(gots) => self.receive_some(key, agent, max, 0, timeout, gots, effects),
-            Err(_) => Err(Refusal::Memory),
+            Err(_) => unreachable!(),
         }
     }
 

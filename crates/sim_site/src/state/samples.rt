@@ -1,5 +1,5 @@
 //! Samples of a queue's counts.
-ghost use Rattle.std.specs.Prelude.{IsOkUnless, OnOk, ◌*◌, ◌+◌, ◌≡◌, ◌≢◌, ◌≤◌};
+ghost use Rattle.std.specs.Prelude.{OnOk, ◌*◌, ◌+◌, ◌≡◌, ◌≢◌, ◌≤◌};
 ghost use Rattle.sqs_model.specs.Answers.{most_count};
 ghost use Rattle.sqs_model.specs.Step.{handle_sample};
 ghost use Rattle.sim_site.specs.Effects.{Did};
@@ -7,17 +7,17 @@ ghost use Rattle.sim_site.specs.Effects.{Did};
 use super::Core;
 use crate::effects::Effects;
 use crate::rows::row;
-use sim_clock::{Key, Refusal};
+use sim_clock::Key;
 use sqs_message::{Detail, RowAnswer, RowKind};
+use std::alloc::AllocError;
 
 impl Core {
     /// A queue's counts are sampled, where the next sample is due. The one error is `Memory`.
-    pub fn handle_sample(&mut self, key: Key, effects: &mut Effects) -> Result<(), Refusal>
+    pub fn handle_sample(&mut self, key: Key, effects: &mut Effects) -> Result<(), AllocError>
         requires moment { key.at ≤ most_count }
         requires sampled { self.old.sample ≢ 0 }
         requires due { key.at ≡ self.old.sample * (self.old.samples + 1) }
         ensures did { OnOk result (Did effects.old effects.new self.new (handle_sample key self.old)) }
-        ensures memory_only { IsOkUnless result Refusal.Memory }
     {
         let counts = self.queue.counts();
         let site = self.queue.site();

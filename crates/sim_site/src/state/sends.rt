@@ -115,6 +115,7 @@ impl Core {
         let site = self.queue.site();
         let digest = body_md5(body.as_bytes());
         let answer = sent_by(&mut self.queue, key.at, body, delay, group, id)?;
-        effects.say(send_row(key, site, agent, digest, answer))
+        effects.say(send_row(key, site, agent, digest, answer))?;
+        Ok(())
     }
 }

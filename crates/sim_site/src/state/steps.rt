@@ -1,5 +1,5 @@
 //! The steps of move tasks.
-ghost use Rattle.std.specs.Prelude.{All, IfErr, IfOk, IfSome, IsOkUnless, OnOk, [], find, length, map, true, ◌++◌, ◌+◌, ◌<◌, ◌∷◌, ◌≡◌, ◌≤◌};
+ghost use Rattle.std.specs.Prelude.{All, IfErr, IfOk, IfSome, OnOk, [], find, length, map, true, ◌++◌, ◌+◌, ◌<◌, ◌∷◌, ◌≡◌, ◌≤◌};
 ghost use Rattle.sim_clock.specs.declared.key.Class.TheVariants.{Step as StepClass};
 ghost use Rattle.sqs_model.specs.Acts.{runs};
 ghost use Rattle.sqs_model.specs.Answers.{most_count};
@@ -16,14 +16,16 @@ ghost use Rattle.sim_site.specs.Effects.{Did, Stops, StopsWhere};
 ghost use Rattle.sim_site.specs.Kept.{numbered_settings};
 ghost use Rattle.sim_site.specs.Steps.{DidMove, IsKept, SendsOn, Stepped, stepped_moves};
 
-use super::{Core, MOST_COUNT};
+use super::Core;
 use crate::agents::Task;
 use crate::effects::Effects;
 use crate::places::place_of_task;
 use crate::rows::row;
 use sim_clock::{Key, Refusal};
 use sqs_message::{Detail, MessageId, Row, RowAnswer, RowKind};
+use sqs_model::MOST_COUNT;
 use sqs_redrive::{Latency, Load, Outbound, Rest};
+use std::alloc::AllocError;
 
 // The id that the message of a load had.
 fn load_id(load: &Load) -> MessageId
@@ -100,7 +102,8 @@ impl Task {
     {
         effects.say(move_row(key, site, self.number, to, &load))?;
         let outbound = self.send_on(key, site, to, load)?;
-        effects.send(outbound)
+        effects.send(outbound)?;
+        Ok(())
     }
 
     // Sends on messages, one after another, each after its row.
@@ -131,10 +134,9 @@ impl Task {
         site: u32,
         rest: Rest,
         effects: &mut Effects,
-    ) -> Result<(), Refusal>
+    ) -> Result<(), AllocError>
         ensures rows { OnOk result ((c : TheCore) → number_of c ≡ site → effects.new.rows.items ≡ effects.old.rows.items ++ the_end_row key c self.now rest) }
         ensures sent { effects.new.sent ≡ effects.old.sent }
-        ensures memory_only { IsOkUnless result Refusal.Memory }
     {
         let answer = match rest {
             Rest::Empty => RowAnswer::Completed,
@@ -169,7 +171,8 @@ impl Task {
         let taken = loads.len() as u64;
         self.move_all(key, site, loads, effects)?;
         self.movement.step(key.at, taken, rest);
-        self.tell_end(key, site, rest, effects)
+        self.tell_end(key, site, rest, effects)?;
+        Ok(())
     }
 }
 

@@ -1,5 +1,5 @@
 //! Starts and cancels of move tasks by actors.
-ghost use Rattle.std.specs.Prelude.{IfSome, IsOkUnless, OnOk, false, find, map, true, ◌≡◌, ◌≤◌};
+ghost use Rattle.std.specs.Prelude.{IfSome, OnOk, false, find, map, true, ◌≡◌, ◌≤◌};
 ghost use Rattle.std.specs.List.{list_any};
 ghost use Rattle.sqs_model.specs.Actor.{Actor};
 ghost use Rattle.sqs_model.specs.Acts.{cancel_made, runs, start_made, task_row as the_task_row};
@@ -18,6 +18,7 @@ use crate::places::place_of_task;
 use crate::rows::row;
 use sim_clock::{Key, Refusal};
 use sqs_message::{Detail, Row, RowAnswer, RowKind};
+use std::alloc::AllocError;
 
 // Whether one of some tasks runs.
 fn any_runs(tasks: &[Task]) -> bool
@@ -68,10 +69,9 @@ impl Core {
         agent: u32,
         task: u32,
         effects: &mut Effects,
-    ) -> Result<(), Refusal>
+    ) -> Result<(), AllocError>
         requires { key.at ≤ most_count }
         ensures did { (a : Actor) → a.number ≡ agent → OnOk result (Did effects.old effects.new self.new (start_made key a self.old task (task_numbered task self.old)).effect) }
-        ensures memory_only { IsOkUnless result Refusal.Memory }
     {
         let site = self.queue.site();
         let Some(place) = place_of_task(&self.tasks, task) else {
@@ -92,9 +92,8 @@ impl Core {
         agent: u32,
         task: u32,
         effects: &mut Effects,
-    ) -> Result<(), Refusal>
+    ) -> Result<(), AllocError>
         ensures did { (a : Actor) → a.number ≡ agent → OnOk result (Did effects.old effects.new self.new (cancel_made key a self.old task (task_numbered task self.old)).effect) }
-        ensures memory_only { IsOkUnless result Refusal.Memory }
     {
         let site = self.queue.site();
         let Some(place) = place_of_task(&self.tasks, task) else {

@@ -11,7 +11,7 @@ use super::FifoQueue;
 use sim_clock::Refusal;
 use sqs_message::{Origin, Text};
 use sqs_redrive::{Load, Sent};
-use sqs_store::MOST_COUNT;
+use sqs_model::MOST_COUNT;
 
 impl FifoQueue {
     /// A transfer arrives: a message of a move task or of another queue's redrive is visible at
@@ -75,6 +75,6 @@ impl FifoQueue {
             return Err(Refusal::CountLimit);
         }
         let message = self.store.brought(origin, body, group, now, source);
-        self.store.settle(now, message)
+        Ok(self.store.settle(now, message)?)
     }
 }

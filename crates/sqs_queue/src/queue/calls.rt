@@ -7,8 +7,8 @@ ghost use Rattle.sqs_model.specs.Calls.{change, delete};
 ghost use Rattle.sqs_model.specs.Progress.{IsRecent};
 ghost use Rattle.sqs_model.specs.Queue.{IsFramed};
 ghost use Rattle.sqs_model.specs.Receive.{receive};
-ghost use Rattle.sqs_standard.specs.Standard.{IsStandard};
-ghost use Rattle.sqs_store.specs.Calls.{to_give};
+ghost use Rattle.sqs_model.specs.Valid.{IsStandard};
+ghost use Rattle.sqs_model.specs.Receive.{to_give};
 
 use super::{Either, Queue};
 use sim_clock::Refusal;

@@ -8,7 +8,7 @@ ghost use Rattle.sqs_model.specs.Progress.{IsRecent, WasEnqueuedBy};
 ghost use Rattle.sqs_model.specs.Queue.{IsFramed};
 ghost use Rattle.sqs_model.specs.Return.{released};
 ghost use Rattle.sqs_model.specs.Task.{take_movable};
-ghost use Rattle.sqs_standard.specs.Standard.{IsStandard};
+ghost use Rattle.sqs_model.specs.Valid.{IsStandard};
 ghost use Rattle.sqs_store.specs.Calls.{never_refused};
 
 use super::{Either, Queue};

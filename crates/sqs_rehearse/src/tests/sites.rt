@@ -8,12 +8,12 @@ use sim_clock::{Class, Key, Refusal};
 use sim_site::{Handled, Site, Task};
 use sqs_message::{MessageId, Text};
 use sqs_redrive::{Kind, Latency, Load, Outbound, QueueSettings, Scope, TaskSettings, TaskStatus};
-use std::alloc::Global;
+use std::alloc::{AllocError, Global};
 use std::process::Abort;
 use std::test::Fail;
 
 // A site of a queue of this kind, with neither actors nor tasks.
-fn open(alloc: Global, kind: Kind) -> Result<Site, Refusal>
+fn open(alloc: Global, kind: Kind) -> Result<Site, AllocError>
     requires { IsKind kind }
     ensures recent { IfOk result (λ site. IfOk site (λ s. IsRecent 0 s.core.queue)) }
     ensures timely { IfOk result (λ site. IfOk site (λ s. AreTimely s.arriving)) }

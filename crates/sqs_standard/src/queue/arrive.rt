@@ -9,7 +9,7 @@ ghost use Rattle.sqs_store.specs.Calls.{never_refused};
 use super::StandardQueue;
 use sim_clock::Refusal;
 use sqs_redrive::{Load, Sent};
-use sqs_store::MOST_COUNT;
+use sqs_model::MOST_COUNT;
 
 impl StandardQueue {
     /// A transfer arrives: a message of a move task or of another queue's redrive is visible at
@@ -39,7 +39,7 @@ impl StandardQueue {
                 let message = self
                     .store
                     .brought(origin, body, group, enqueued, Some(id.site));
-                self.store.settle(now, message)
+                Ok(self.store.settle(now, message)?)
             }
             Load::Move {
                 id: _,
@@ -48,7 +48,7 @@ impl StandardQueue {
                 group,
             } => {
                 let message = self.store.brought(origin, body, group, now, None);
-                self.store.settle(now, message)
+                Ok(self.store.settle(now, message)?)
             }
             Load::Forward {
                 id: _,

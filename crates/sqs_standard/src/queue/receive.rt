@@ -4,7 +4,7 @@ ghost use Rattle.std.specs.Result.{result_map_both};
 ghost use Rattle.sqs_model.specs.Answers.{Meets, most_count};
 ghost use Rattle.sqs_model.specs.Queue.{IsFramed};
 ghost use Rattle.sqs_model.specs.Receive.{receive};
-ghost use Rattle.sqs_store.specs.Calls.{to_give};
+ghost use Rattle.sqs_model.specs.Receive.{to_give};
 
 use super::StandardQueue;
 use sim_clock::Refusal;

@@ -1,5 +1,5 @@
 //! What comes in with the origin that it had.
-ghost use Rattle.std.specs.Prelude.{◌≡◌, ◌-◌, false, true, ◌+◌, ◌<◌, ◌≤◌, IfOk, IsOkUnless, OnErr};
+ghost use Rattle.std.specs.Prelude.{◌≡◌, ◌-◌, false, true, ◌+◌, ◌<◌, ◌≤◌, IfOk, OnErr};
 ghost use Rattle.sqs_model.specs.Answers.{most_count};
 ghost use Rattle.sqs_model.specs.Arrive.{brought, settle};
 ghost use Rattle.sqs_model.specs.Queue.{IsFramed};
@@ -7,9 +7,9 @@ ghost use Rattle.sqs_store.specs.Stored.{IsCounted};
 ghost use Rattle.sqs_message.specs.declared.message.Message.{Message};
 
 use super::Store;
-use sim_clock::Refusal;
 use sqs_message::{Message, MessageId, Origin, Place, Text};
 use sqs_redrive::Sent;
+use std::alloc::AllocError;
 
 impl Store {
     /// The message that a dead letter or a moved message would be here: visible at once, with the
@@ -41,13 +41,12 @@ impl Store {
     /// A message that comes in with the next number stays, or expires at once where it is older
     /// than the retention period, which the second part of the answer tells. The one error is
     /// `Memory`.
-    pub fn settle(&mut self, now: u64, message: Message) -> Result<(Sent, bool), Refusal>
+    pub fn settle(&mut self, now: u64, message: Message) -> Result<(Sent, bool), AllocError>
         requires numbered { message.number ≡ self.old.arrivals }
         requires counted { IsCounted message }
         requires below { self.old.arrivals < most_count }
         ensures answer { IfOk result (λ sent. settle self.old now message ≡ (sent, self.new)) }
         ensures unchanged { OnErr result (self.new ≡ self.old) }
-        ensures memory_only { IsOkUnless result Refusal.Memory }
         ensures framed { IsFramed self.old self.new }
     {
         let sent = Sent::New(MessageId {

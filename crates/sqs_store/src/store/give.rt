@@ -3,6 +3,7 @@ ghost use Rattle.std.specs.Prelude.{◌≡◌, ◌-◌, false, true, ◌<◌, �
 ghost use Rattle.std.specs.Result.{result_map_both};
 ghost use Rattle.sqs_model.specs.Answers.{Meets, most_count};
 ghost use Rattle.sqs_model.specs.Available.{at_places};
+ghost use Rattle.sqs_model.specs.Longest.{longest_flight};
 ghost use Rattle.sqs_model.specs.Progress.{Differ};
 ghost use Rattle.sqs_model.specs.Queue.{IsFramed, numbered};
 ghost use Rattle.sqs_model.specs.Receive.{answered, give, is_bad_timeout, timeout_of};
@@ -13,19 +14,20 @@ use super::Store;
 use crate::batch::batch_of;
 use crate::places::{place_of_number, receive_at};
 use sim_clock::Refusal;
+use sqs_model::LONGEST_TIMEOUT;
 use sqs_redrive::{Got, Load};
 
 impl Store {
     /// A receive's visibility timeout in milliseconds: its own, given in seconds, or else the
     /// queue's. `BadTimeout` over 43,200 seconds.
     pub fn wait_of(&self, timeout: Option<u64>) -> Result<u64, Refusal>
-        ensures wait { IfOk result (λ wait. (is_bad_timeout timeout ≡ false) × (timeout_of self.now timeout ≡ wait) × (wait ≤ 43200000)) }
+        ensures wait { IfOk result (λ wait. (is_bad_timeout timeout ≡ false) × (timeout_of self.now timeout ≡ wait) × (wait ≤ longest_flight)) }
         ensures bad { IfErr result (λ refusal. (is_bad_timeout timeout ≡ true) × (refusal ≡ Refusal.BadTimeout)) }
     {
         match timeout {
             None => Ok(self.settings.visibility),
             Some(seconds) => {
-                if seconds > 43200 {
+                if seconds > LONGEST_TIMEOUT {
                     Err(Refusal::BadTimeout)
                 } else {
                     Ok(1000 * seconds)
@@ -39,7 +41,7 @@ impl Store {
     /// more; `Memory`.
     pub fn give_at(&mut self, now: u64, timeout: u64, places: &[usize]) -> Result<Vec<Got>, Refusal>
         requires moment { now ≤ most_count }
-        requires timeout { timeout ≤ 43200000 }
+        requires timeout { timeout ≤ longest_flight }
         requires within { AreWithin self.old.records places.now }
         requires apart { Differ (λ m. m.number) (at_places self.old.records places.now) }
         ensures answer { Meets (Any (λ m. m.receives ≡ most_count) (at_places self.old.records places.now)) (result_map_both (λ batch. batch.items) (λ refusal. refusal) result) self.new (answered (give now timeout (at_places self.old.records places.now) self.old)) }
@@ -69,7 +71,7 @@ impl Store {
     // Gives the messages of a batch, one after another.
     fn give_all(&mut self, now: u64, timeout: u64, batch: &mut Vec<Got>)
         requires moment { now ≤ most_count }
-        requires timeout { timeout ≤ 43200000 }
+        requires timeout { timeout ≤ longest_flight }
         requires given { CanBeGiven self.old batch.old.items }
         ensures given { gives_all now timeout batch.old.items self.old ≡ (self.new, batch.new.items) }
         ensures kept { self.new.entries ≡ self.old.entries }
@@ -84,7 +86,7 @@ impl Store {
     // Gives one message.
     fn give(&mut self, now: u64, timeout: u64, number: u64) -> Option<Load>
         requires moment { now ≤ most_count }
-        requires timeout { timeout ≤ 43200000 }
+        requires timeout { timeout ≤ longest_flight }
         requires counted { IfSome (numbered number self.old.records) (λ m. m.receives < most_count) }
         ensures given { gives self.old now timeout number ≡ (self.new, result) }
         ensures kept { self.new.entries ≡ self.old.entries }

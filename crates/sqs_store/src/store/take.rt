@@ -1,5 +1,5 @@
 //! What a move task takes out.
-ghost use Rattle.std.specs.Prelude.{◌≡◌, ◌-◌, ◌<◌, IfOk, IsOkUnless, OnErr};
+ghost use Rattle.std.specs.Prelude.{◌≡◌, ◌-◌, ◌<◌, IfOk, OnErr};
 ghost use Rattle.sqs_model.specs.Available.{at_places};
 ghost use Rattle.sqs_model.specs.Queue.{IsFramed};
 ghost use Rattle.sqs_model.specs.Task.{take_each};
@@ -7,9 +7,9 @@ ghost use Rattle.sqs_store.specs.Chosen.{AreWithin};
 
 use super::Store;
 use crate::parting::{kept_of, loads_of};
-use sim_clock::Refusal;
 use sqs_redrive::Load;
 use std::mem;
+use std::alloc::AllocError;
 
 impl Store {
     /// Takes out the messages at these places (`StartMessageMoveTask`), each for the task's queue
@@ -20,11 +20,10 @@ impl Store {
         &mut self,
         places: &[usize],
         to: Option<u32>,
-    ) -> Result<(Vec<(u32, Load)>, bool), Refusal>
+    ) -> Result<(Vec<(u32, Load)>, bool), AllocError>
         requires { AreWithin self.old.records places.now }
         ensures taken { IfOk result (λ answer. take_each self.old to (at_places self.old.records places.now) ≡ record { queue = self.new; loads = answer.0.items; stuck = answer.1 }) }
         ensures unchanged { OnErr result (self.new ≡ self.old) }
-        ensures memory_only { IsOkUnless result Refusal.Memory }
         ensures kept { self.new.entries ≡ self.old.entries }
         ensures framed { IsFramed self.old self.new }
     {

@@ -13,9 +13,9 @@ loop-number-preserved c =
     let more : List (ℕ × ActorSettings) = c.next.new.self.rest.items in
     let steps : c.loop-number.number-iterator.rest.items ≡ x ∷ more = c.in-Some.ensures.steps.0 in
     record {
-      opened = λ s e.
-          made_more (opening_actor s) c.loop-number.opened.items c.push.new.self.items c.new.result c.loop-number.yielded x
-          c.in_ok-push.ensures.items (c.loop-number.invariant.opened s e) (c.new.ensures s e);
+      opened =
+          made_more (opening_actor c.args.seed) c.loop-number.opened.items c.push.new.self.items c.new.result c.loop-number.yielded x
+          c.in_ok-push.ensures.items c.loop-number.invariant.opened c.new.ensures;
       rest = append_assoc c.loop-number.yielded (x ∷ []) more ∙ ap (λ r. c.loop-number.yielded ++ r) (sym steps) ∙ c.loop-number.invariant.rest;
       roles = All-tail (λ (y : ℕ × ActorSettings). IsRole y.1.role) x more (subst (All (λ (y : ℕ × ActorSettings). IsRole y.1.role)) steps c.loop-number.invariant.roles);
     }

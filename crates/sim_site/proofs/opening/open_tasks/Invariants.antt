@@ -1,7 +1,7 @@
 use Rattle.std.proofs.Common.{◌≡◌, map, take}
-use Rattle.sqs_model.specs.Scenario.{Scenario, opening_task}
+use Rattle.sqs_model.specs.Scenario.{opening_task}
 use Rattle.sim_site.proofs.opening.open_tasks.Given as goal
 
 -- those so far
 abbrev pub invariant-loop-i : goal.invariant-loop-i
-invariant-loop-i l = (s : Scenario) → s.seed ≡ l.seed → l.opened.items ≡ map (opening_task s) (take l.i l.tasks)
+invariant-loop-i l = l.opened.items ≡ map (opening_task l.seed) (take l.i l.tasks)

@@ -5,7 +5,7 @@ use Rattle.sqs_redrive.specs.declared.settings.QueueSettings.{QueueSettings}
 use Rattle.sqs_model.specs.Scenario.{numbered_actors, numbered_tasks}
 use Rattle.sim_windows.specs.declared.opening.Home.{Home}
 use Rattle.sim_windows.specs.Homes.{AtHome, IsFit, actors_in, tasks_in}
-use Rattle.sim_windows.proofs.Openings.{one_site}
+use Rattle.sim_windows.proofs.Openings.{one_site, opened_with}
 use Rattle.sim_windows.proofs.opening.open_sites.Goals as goal
 
 pub loop-home-preserved : goal.loop-home-preserved
@@ -29,6 +29,6 @@ loop-home-preserved c =
       opened = λ s seed sample same h.
           let actors : AtHome (λ a. a.home) number (map actors_in (home ∷ more)) (numbered_actors s) = subst (λ hs. AtHome (λ a. a.home) number (map actors_in hs) (numbered_actors s)) steps (v.actors s h) in
           let tasks : AtHome (λ t. t.home) number (map tasks_in (home ∷ more)) (numbered_tasks s) = subst (λ hs. AtHome (λ t. t.home) number (map tasks_in hs) (numbered_tasks s)) steps (v.tasks s h) in
-          one_site s number queues _ c.loop-home.sites.items c.push.new.self.items c.in_ok-site.site within (c.in_ok-site.ensures.opened s seed sample actors.0 tasks.0) c.in_ok-push.ensures.items
+          one_site s number queues _ c.loop-home.sites.items c.push.new.self.items c.in_ok-site.site within (opened_with s number _ _ _ _ _ c.in_ok-site.site c.in_ok-site.ensures seed sample actors.0 tasks.0) c.in_ok-push.ensures.items
           ∙ v.opened s seed sample same h;
     }

@@ -14,16 +14,16 @@ pub grouped-requires : goal.grouped-requires
 grouped-requires c =
     let ms = c.args.messages.now in
     let P : List ℕ → Type 0 = All (λ p. p < length ms) in
-    subst P (sym c.deref.ensures.value) (choice_of ms c.in_ok-places.places.items (open_from ms [] ms) c.in_ok-places.ensures.places).within
+    subst P (sym c.deref.ensures.value) (choice_of ms c.in_ok-places.places.items (open_from ms [] ms) c.in_ok-places.ensures).within
 
-pub returns-clause-places : goal.returns-clause-places
-returns-clause-places c =
+pub returns : goal.returns
+returns c =
     let ms = c.args.messages.now in
     let opened = open_from ms [] ms in
     let lists = c.in_ok-lists.lists.items in
-    let seen : at_places ms c.deref.result.now ≡ opened = ap (at_places ms) c.deref.ensures.value ∙ (choice_of ms c.in_ok-places.places.items opened c.in_ok-places.ensures.places).chosen in
+    let seen : at_places ms c.deref.result.now ≡ opened = ap (at_places ms) c.deref.ensures.value ∙ (choice_of ms c.in_ok-places.places.items opened c.in_ok-places.ensures).chosen in
     let held : map (λ v. found_at ms v.items) lists ≡ map (map Some) (groups_of opened) =
-    c.in_ok-lists.ensures.groups ∙ ap (λ (s : List Message). map (map Some) (groups_of s)) seen in
+    c.in_ok-lists.ensures ∙ ap (λ (s : List Message). map (map Some) (groups_of s)) seen in
     let all : found_at ms (flat_map (λ v. v.items) lists) ≡ map Some (by_group opened) = joined_at (λ v. v.items) ms (λ leader. filter (same_group leader) opened) lists (firsts [] opened) held in
     IfOk-weaker c.joined.result (λ places. places.items ≡ flat_map (λ v. v.items) c.deref-2.result.now) (λ places. found_at ms places.items ≡ map Some (by_group opened))
-    (λ places h. ap (found_at ms) (h ∙ ap (flat_map (λ v. v.items)) c.deref-2.ensures.value) ∙ all) c.joined.ensures.joined
+    (λ places h. ap (found_at ms) (h ∙ ap (flat_map (λ v. v.items)) c.deref-2.ensures.value) ∙ all) c.joined.ensures

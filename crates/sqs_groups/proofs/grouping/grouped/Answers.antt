@@ -27,10 +27,10 @@ loop-place-preserved c =
     (c.in_ok-index.ensures.keys ∙ ap (insert_key same_text c.loop-place.groups.keys) c.of-group.ensures)
     c.in_ok-index.ensures.unique
     (c.in_ok-index.ensures.index ∙ ap (λ (g : Option (List ℕ)). position_or_len (same_text g) c.loop-place.groups.keys) c.of-group.ensures)
-    c.in_ok-put.ensures.put)
+    c.in_ok-put.ensures)
 
-pub returns-clause-groups : goal.returns-clause-groups
-returns-clause-groups c =
+pub returns : goal.returns
+returns c =
     let P : List ℕ → Type 0 = λ places. IsGrouped c.args.messages.now (at_places c.args.messages.now places) c.loop-place.groups.keys (map (λ v. v.items) c.loop-place.lists.items) in
     grouped_all (λ v. v.items) c.args.messages.now (at_places c.args.messages.now c.args.places.now) c.loop-place.groups.keys c.loop-place.lists.items
     (subst P (take_all c.loop-place.place-index c.args.places.now c.loop-place-test.false) c.loop-place.invariant)

@@ -13,10 +13,10 @@ loop-message-preserved c =
     let i = c.loop-message.message-index in
     let P : List Message → Type 0 = λ before. AreGroupsOf is_in_flight before c.note.new.groups.keys in
     subst P (sym (turned_more ms i m c.loop-message-test.true c.message-item.is))
-    (noted is_in_flight (turned i ms) m c.loop-message.groups.keys c.note.new.groups.keys c.is_in_flight.result c.loop-message.invariant c.is_in_flight.ensures c.in_ok-note.ensures.noted)
+    (noted is_in_flight (turned i ms) m c.loop-message.groups.keys c.note.new.groups.keys c.is_in_flight.result c.loop-message.invariant c.is_in_flight.ensures c.in_ok-note.ensures)
 
-pub returns-clause-groups : goal.returns-clause-groups
-returns-clause-groups c =
+pub returns : goal.returns
+returns c =
     let ms = c.args.messages.now in
     let P : List Message → Type 0 = λ seen. AreGroupsOf is_in_flight (reverse seen) c.loop-message.groups.keys in
     noted_all is_in_flight ms c.loop-message.groups.keys (subst P (take_all c.loop-message.message-index ms c.loop-message-test.false) c.loop-message.invariant)

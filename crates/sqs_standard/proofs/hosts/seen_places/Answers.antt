@@ -4,8 +4,8 @@ use Rattle.sqs_standard.proofs.Seen.{seen_full, seen_more, seen_same}
 use Rattle.sqs_standard.proofs.hosts.seen_places.Goals.{then-is_seen+in_ok-push, else-is_seen}
 use Rattle.sqs_standard.proofs.hosts.seen_places.Goals as goal
 
-pub returns-then-len-most-clause-places : goal.returns-then-len-most-clause-places
-returns-then-len-most-clause-places c =
+pub returns-then-len-most : goal.returns-then-len-most
+returns-then-len-most c =
     let full : length c.loop-place.places.items ≡ c.args.most = omega (arith, c.len.ensures, c.loop-place.places.ok.0) in
     seen_full (is_seen c.args.hosts c.args.set) c.args.most c.args.messages.now c.loop-place.place c.loop-place.places.items full c.loop-place.invariant
 

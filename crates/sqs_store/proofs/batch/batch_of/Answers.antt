@@ -20,5 +20,5 @@ loop-place-preserved c =
     let found = read_at c.args.messages.now c.args.places.now i m c.requires.within c.loop-place-test.true c.index-messages-place.is in
     let counted : m.receives ≤ most_count = all_read (λ x. x.receives ≤ most_count) c.args.messages.now _ m (c.requires.within i 0 c.loop-place-test.true) c.index-messages-place.is c.requires.counted in
     let below : m.receives < most_count = omega (arith, counted, c.if-message-eq-MOST_COUNT.false) in
-    rw (c.in_ok-push.ensures.items, c.in_ok-told_of.ensures.told)
+    rw (c.in_ok-push.ensures.items, c.in_ok-told_of.ensures)
     (told_more c.args.site c.args.messages.now c.args.places.now i _ m c.loop-place-test.true found below c.loop-place.invariant)

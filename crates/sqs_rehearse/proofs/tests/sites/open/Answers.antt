@@ -7,17 +7,14 @@ use Rattle.sqs_model.specs.Progress.{AreTimely, IsRecent, WasEnqueuedBy}
 use Rattle.sqs_redrive.specs.declared.transfers.Outbound.{Outbound}
 use Rattle.sqs_model.specs.Queue.{Entry}
 use Rattle.sqs_model.specs.Site.{Site}
-use Rattle.sim_site.proofs.Openings.{seeded}
 use Rattle.sqs_rehearse.proofs.tests.sites.open.Goals as goal
 
 pub returns-clause-recent : goal.returns-clause-recent
 returns-clause-recent c =
     IfOk-weaker c.new.result _ _ (λ site opened.
-    let e = opened (seeded 7) refl refl c.new-actors.ensures.items c.new-tasks.ensures.items in
-    subst (λ (x : Result Site Refusal). IfOk x (λ s. IsRecent 0 s.core.queue)) (sym e) (All-nil (λ (x : Entry). x.end ≤ 0 + 300000))) c.new.ensures.opened
+    subst (λ (x : Result Site Refusal). IfOk x (λ s. IsRecent 0 s.core.queue)) (sym opened) (All-nil (λ (x : Entry). x.end ≤ 0 + 300000))) c.new.ensures
 
 pub returns-clause-timely : goal.returns-clause-timely
 returns-clause-timely c =
     IfOk-weaker c.new.result _ _ (λ site opened.
-    let e = opened (seeded 7) refl refl c.new-actors.ensures.items c.new-tasks.ensures.items in
-    subst (λ (x : Result Site Refusal). IfOk x (λ s. AreTimely s.arriving)) (sym e) (All-nil (λ (o : Outbound). WasEnqueuedBy o.at o.load))) c.new.ensures.opened
+    subst (λ (x : Result Site Refusal). IfOk x (λ s. AreTimely s.arriving)) (sym opened) (All-nil (λ (o : Outbound). WasEnqueuedBy o.at o.load))) c.new.ensures

@@ -22,10 +22,9 @@ returns c =
     let stored = subst (λ (r : Queue). IsStored r.records r.arrivals) c.self.view_is c.view.ensures.stored in
     let apart = first_apart q c.args.set c.args.most stored.ordered in
     let choice = IfOk-weaker c.seen_places.result (λ v. map (slice_get c.view.result.now) v.items ≡ map Some (take c.args.most (filter p c.view.result.now))) (λ v. IsChoice q.records v.items ms)
-    (λ v. seen_choice q c.view.result.now p v.items c.args.most c.args.set same seen) c.seen_places.ensures.places in
+    (λ v. seen_choice q c.view.result.now p v.items c.args.most c.args.set same seen) c.seen_places.ensures in
     record {
       chosen = IfOk-weaker c.seen_places.result (λ v. IsChoice q.records v.items ms) (λ v. at_places q.records v.items ≡ ms) (λ v h. h.chosen) choice;
       within = IfOk-weaker c.seen_places.result (λ v. IsChoice q.records v.items ms) (λ v. AreWithin q.records v.items) (λ v h. h.within) choice;
       apart = IfOk-weaker c.seen_places.result (λ v. IsChoice q.records v.items ms) (λ v. Apart (at_places q.records v.items)) (λ v h. rw h.chosen apart) choice;
-      memory_only = search rules;
     }
