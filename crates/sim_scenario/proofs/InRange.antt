@@ -1,5 +1,5 @@
 -- What a text says without a fault is in range.
-use Rattle.std.proofs.Common.{length-append, ◌++◌, subst, ◌≡◌, ◌∙◌, ◌<◌, length, ℕ, ◌+◌, ◌≤◌, codes, List, map, Option, Some, None, Ok, sym, arith}
+use Rattle.std.proofs.Common.{length-append, ◌++◌, subst, ◌≡◌, ◌∙◌, ◌<◌, length, ℕ, ◌+◌, ◌≤◌, codes, List, map, Option, Some, None, Ok, sym, ap, arith}
 use Rattle.std.specs.Prelude.{All}
 use Rattle.std.proofs.lemmas.List.Elements.{All-map, All-weaker}
 use Rattle.sqs_redrive.specs.declared.settings.Policy.{Policy}
@@ -13,7 +13,7 @@ use Rattle.sqs_model.specs.Progress.{IsSoundForward, IsSoundPolicy, IsSoundRole,
 use Rattle.sqs_model.specs.Scenario.{Scenario}
 use Rattle.sqs_model.specs.Valid.{IsQueueSettings, IsTaskSettings, MayBeForward, MayBePolicy}
 use Rattle.sqs_formats.specs.Reading.{answer}
-use Rattle.sqs_formats.specs.Keys.{each}
+use Rattle.sqs_formats.specs.Keys.{each, text_in}
 use Rattle.sqs_formats.specs.Outline.{Outline}
 use Rattle.sqs_formats.specs.Queues.{queue}
 use Rattle.sqs_formats.specs.Actors.{Files, actor}
@@ -24,6 +24,7 @@ use Rattle.sim_scenario.specs.Ranges.{IsInRange, IsLinked, IsRole, LeadsBelow, M
 use Rattle.sim_scenario.proofs.Links.{actor_below, each_length, queue_below, task_below}
 use Rattle.sim_scenario.proofs.ActorRanges.{actor_in_range}
 use Rattle.sim_scenario.proofs.QueueRanges.{each_holds, queue_in_range, task_in_range}
+use Rattle.sim_scenario.proofs.WholeKin.{AreRead, whole_names_kin}
 use Rattle.sim_scenario.specs.TopWalks.{IsTop, whole}
 
 -- what is in range is sound
@@ -55,27 +56,27 @@ linked_by count s same q a t = record {
   tasks = subst (λ (n : ℕ). All (λ (t : TaskSettings). (t.home < n) × MayBeBelow n t.to) s.tasks) (sym same) t;
 }
 
-pub whole_in_range : (files : Files) (top : Top) (o : Outline) (queues : List (List ℕ × QueueSettings)) (actors : List (List ℕ × ActorSettings)) (tasks : List (List ℕ × TaskSettings))
-    → IsTop top → length o.queues ≡ length top.queues → answer (each (codes "queue") (queue o) 0 top.queues) ≡ Ok queues
-    → answer (each (codes "actor") (actor files o) 0 top.actors) ≡ Ok actors → answer (each (codes "task") (task o) 0 top.tasks) ≡ Ok tasks → IsInRange (whole top queues actors tasks)
-whole_in_range files top o queues actors tasks numbers outlined are_queues are_actors are_tasks =
-    let q = each_holds (λ (x : List ℕ × QueueSettings). IsQueueSettings x.1) (codes "queue") (queue o) 0 top.queues queues (queue_in_range o) are_queues in
-    let a = each_holds (λ (x : List ℕ × ActorSettings). IsRole x.1.role) (codes "actor") (actor files o) 0 top.actors actors (actor_in_range files o) are_actors in
-    let t = each_holds (λ (x : List ℕ × TaskSettings). IsTaskSettings x.1) (codes "task") (task o) 0 top.tasks tasks (task_in_range o) are_tasks in
+pub whole_in_range : (files : Files) (top : Top) (o : Outline) (queues : List (List ℕ × QueueSettings)) (judged : List (Option ℕ)) (actors : List (List ℕ × ActorSettings)) (tasks : List (List ℕ × TaskSettings))
+    → IsTop top → AreRead files top o queues judged actors tasks → IsInRange (whole top queues actors tasks)
+whole_in_range files top o queues judged actors tasks numbers are =
+    let outlined : length o.queues ≡ length top.queues = ap (λ (o : Outline). length o.queues) are.outlined ∙ length-map top.queues (text_in (codes "name")) in
+    let q = each_holds (λ (x : List ℕ × QueueSettings). IsQueueSettings x.1) (codes "queue") (queue o) 0 top.queues queues (queue_in_range o) are.queues_are in
+    let a = each_holds (λ (x : List ℕ × ActorSettings). IsRole x.1.role) (codes "actor") (actor files o) 0 top.actors actors (actor_in_range files o) are.actors_are in
+    let t = each_holds (λ (x : List ℕ × TaskSettings). IsTaskSettings x.1) (codes "task") (task o) 0 top.tasks tasks (task_in_range o) are.tasks_are in
     let settings = All-map IsQueueSettings (λ (x : List ℕ × QueueSettings). x.1) queues q in
     let roles = All-map (λ (a : ActorSettings). IsRole a.role) (λ (x : List ℕ × ActorSettings). x.1) actors a in
     let moves = All-map IsTaskSettings (λ (x : List ℕ × TaskSettings). x.1) tasks t in
     let count : ℕ = length o.queues in
     let queue_count : length (map (λ (x : List ℕ × QueueSettings). x.1) queues) ≡ length top.queues =
-    length-map queues (λ (x : List ℕ × QueueSettings). x.1) ∙ each_length (codes "queue") (queue o) 0 top.queues queues are_queues in
+    length-map queues (λ (x : List ℕ × QueueSettings). x.1) ∙ each_length (codes "queue") (queue o) 0 top.queues queues are.queues_are in
     let actor_count : length (map (λ (x : List ℕ × ActorSettings). x.1) actors) ≡ length top.actors =
-    length-map actors (λ (x : List ℕ × ActorSettings). x.1) ∙ each_length (codes "actor") (actor files o) 0 top.actors actors are_actors in
+    length-map actors (λ (x : List ℕ × ActorSettings). x.1) ∙ each_length (codes "actor") (actor files o) 0 top.actors actors are.actors_are in
     let task_count : length (map (λ (x : List ℕ × TaskSettings). x.1) tasks) ≡ length top.tasks =
-    length-map tasks (λ (x : List ℕ × TaskSettings). x.1) ∙ each_length (codes "task") (task o) 0 top.tasks tasks are_tasks in
+    length-map tasks (λ (x : List ℕ × TaskSettings). x.1) ∙ each_length (codes "task") (task o) 0 top.tasks tasks are.tasks_are in
     let some : 1 ≤ length o.queues = omega (arith, numbers.few_queues.0) in
-    let lq = each_holds (λ (x : List ℕ × QueueSettings). LeadsBelow count x.1.policy) (codes "queue") (queue o) 0 top.queues queues (queue_below o some) are_queues in
-    let la = each_holds (λ (x : List ℕ × ActorSettings). (x.1.home < count) × RoleBelow count x.1.role) (codes "actor") (actor files o) 0 top.actors actors (actor_below files o) are_actors in
-    let lt = each_holds (λ (x : List ℕ × TaskSettings). (x.1.home < count) × MayBeBelow count x.1.to) (codes "task") (task o) 0 top.tasks tasks (task_below o) are_tasks in
+    let lq = each_holds (λ (x : List ℕ × QueueSettings). LeadsBelow count x.1.policy) (codes "queue") (queue o) 0 top.queues queues (queue_below o some) are.queues_are in
+    let la = each_holds (λ (x : List ℕ × ActorSettings). (x.1.home < count) × RoleBelow count x.1.role) (codes "actor") (actor files o) 0 top.actors actors (actor_below files o) are.actors_are in
+    let lt = each_holds (λ (x : List ℕ × TaskSettings). (x.1.home < count) × MayBeBelow count x.1.to) (codes "task") (task o) 0 top.tasks tasks (task_below o) are.tasks_are in
     record {
       horizon = numbers.horizon;
       seed = numbers.seed;
@@ -95,4 +96,5 @@ whole_in_range files top o queues actors tasks numbers outlined are_queues are_a
           (All-map (λ (q : QueueSettings). LeadsBelow count q.policy) (λ (x : List ℕ × QueueSettings). x.1) queues lq)
           (All-map (λ (a : ActorSettings). (a.home < count) × RoleBelow count a.role) (λ (x : List ℕ × ActorSettings). x.1) actors la)
           (All-map (λ (t : TaskSettings). (t.home < count) × MayBeBelow count t.to) (λ (x : List ℕ × TaskSettings). x.1) tasks lt);
+      kin = whole_names_kin files top o queues judged actors tasks are;
     }

@@ -21,3 +21,6 @@ pub mod InRange
 pub mod LowestWays
 pub mod AskedNames
 pub mod Links
+pub mod ItemsRead
+pub mod KinRead
+pub mod WholeKin

@@ -22,20 +22,15 @@ use Rattle.sqs_formats.specs.Tasks.{task}
 use Rattle.sqs_formats.specs.Scenario.{agent_list, queue_list}
 use Rattle.sqs_model.specs.Valid.{Between}
 use Rattle.sim_scenario.specs.Ranges.{ForwardsBelow, LeadsBelow, MayBeBelow, RoleBelow}
-use Rattle.sim_scenario.proofs.Sound.{is_read, parts}
+use Rattle.sim_scenario.proofs.Sound.{is_read, parts, picked}
 use Rattle.sim_scenario.proofs.QueueWalks.{kin_read, other_read, source_read}
 use Rattle.sim_scenario.proofs.ActorRanges.{text_holds, typed_holds}
-
-picked : {X : Type 0} (b : Bool) (f : ScenarioFault) (x y : X) → answer (needs b f x) ≡ Ok y → (b ≡ true) × (x ≡ y)
-unfolding answer
-picked true f x y e = (refl, cc e)
-picked false f x y e = cc e
 
 -- a queue that is found is one of them
 below : (o : Outline) (s : List ℕ) (n : ℕ) → queue_number o s ≡ Some n → n < length o.queues
 below o s n e = (position-Some (λ (t : List ℕ). bytes_eq t s) o.queues n [] e).0
 
-found : (place : List ℕ) (x : Option ℕ) (n : ℕ) → answer (queue_when place x) ≡ Ok n → x ≡ Some n
+pub found : (place : List ℕ) (x : Option ℕ) (n : ℕ) → answer (queue_when place x) ≡ Ok n → x ≡ Some n
 unfolding answer
 found place None n e = cc e
 found place (Some m) n e = let same : m ≡ n = cc e in ap (λ (k : ℕ). Some k) same

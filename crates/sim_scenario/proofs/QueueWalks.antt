@@ -12,7 +12,7 @@ use Rattle.sim_scenario.specs.Walks.{dead_letter_walk, task_walk, fifo_walk, fre
 use Rattle.sim_scenario.proofs.Then.{done, maybe_text_then, part, required_text_then}
 
 -- how the name of an agent is read on
-abbrev name_read : (List ℕ → Bool) → Outline → ℕ → List ℕ → List ℕ → Says (List ℕ)
+abbrev pub name_read : (List ℕ → Bool) → Outline → ℕ → List ℕ → List ℕ → Says (List ℕ)
 name_read f o number place s =
     reading.◌>>=◌ (needs (f s) (fault_at BadName place) s) (λ s. needs (is_first_of number (place_among (all_names o) s)) (fault_at NameTwice place) s)
 

@@ -13,7 +13,7 @@ use Rattle.sqs_formats.specs.Reading.{answer, needs}
 use Rattle.sqs_formats.specs.Script.{Fields, after_header, call_at, call_in, call_of, call_when, calls_from, change_call, delete_call, fields_of, free_after, is_between, is_number_from, may, number, only_if, receive_call, script, send_call, task_call, timed, waits}
 use Rattle.sqs_model.specs.Progress.{Ascends}
 use Rattle.sim_scenario.specs.Ranges.{IsScript}
-use Rattle.sim_scenario.proofs.Sound.{is_read, parts}
+use Rattle.sim_scenario.proofs.Sound.{is_read, parts, picked}
 
 -- a call, if there is one, waits for at most 20 seconds
 pub record Waits (o : Option Call) : Type 0 where
@@ -128,11 +128,6 @@ rows_hold home n free (fields ∷ rows) cs e =
     )
 
 -- the calls of a script
-picked : {X : Type 0} (b : Bool) (f : ScriptFault) (x y : X) → answer (needs b f x) ≡ Ok y → (b ≡ true) × (x ≡ y)
-unfolding answer
-picked true f x y e = (refl, cc e)
-picked false f x y e = cc e
-
 header_none : (home : Home) (cs : List ScriptCall) → answer (after_header home []) ≡ Ok cs → IsScript cs
 unfolding answer
 header_none home cs e = cc e

@@ -24,6 +24,12 @@ pub is_read : {F X : Type 0} (x y : X) → (let r : Reading F X = reads x in ans
 unfolding answer
 is_read x y e = cc e
 
+-- a value that a test lets through
+pub picked : {F X : Type 0} (b : Bool) (f : F) (x y : X) → answer (needs b f x) ≡ Ok y → (b ≡ true) × (x ≡ y)
+unfolding answer
+picked true f x y e = (refl, cc e)
+picked false f x y e = cc e
+
 -- numbers between two
 in_range : (low high m n : ℕ) (b : Bool) (f : ScenarioFault) → within low high m ≡ b → answer (needs b f m) ≡ Ok n → Between low high n
 unfolding answer

@@ -76,10 +76,6 @@ then_fails (errors.Fault f) r g h = rw h refl
 pub top_walk_in_range : (ms : Members) (t : Top) → top_walk (table [] ms) ≡ Ok t → IsTop t
 top_walk_in_range ms t e = top_in_range ms t (sym (top_walk_is ms) ∙ e)
 
--- the outline of a top table has its queues
-pub outlined : (t : Top) → length (outline_of t.version t.queues t.actors t.tasks).queues ≡ length t.queues
-outlined t = length-map t.queues (text_in (codes "name"))
-
 pub document_ok : (files : Files) (ms : Members) (t : Top) → top_walk (table [] ms) ≡ Ok t → agents_walk files t (outline_of t.version t.queues t.actors t.tasks) ≡ answer (scenario_in files ms)
 document_ok files ms t e =
     let is : answer (top ms) ≡ Ok t = sym (top_walk_is ms) ∙ e in

@@ -4,5 +4,6 @@ pub mod Walks
 pub mod ScriptGives
 pub mod ActorWalks
 pub mod TopWalks
+pub mod Kinds
 pub mod Ranges
 pub mod Lowest

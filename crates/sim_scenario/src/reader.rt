@@ -1,7 +1,8 @@
 //! The reader of a scenario: a text in, what it says or the first fault in it out.
 ghost use Rattle.std.specs.Prelude.{◌≡◌, ◌≤◌, ◌+◌, ◌++◌, IfOk, OnOk, Ok, length, map};
-ghost use Rattle.toml.specs.View.{table_view};
+ghost use Rattle.toml.specs.View.{table_view, view};
 ghost use Rattle.sqs_formats.specs.Reading.{answer};
+ghost use Rattle.sqs_formats.specs.Outline.{outline_of};
 ghost use Rattle.sqs_formats.specs.Scenario.{scenario_in, scenario_of};
 ghost use Rattle.sim_scenario.specs.Gives.{Gives};
 ghost use Rattle.sim_scenario.specs.Ranges.{IsInRange};
@@ -89,7 +90,7 @@ fn agents(
 ) -> Result<Scenario, ReadError>
     requires few { length top.now.queues.now + length top.now.actors.now + length top.now.tasks.now ≤ 11000 }
     requires numbers { IsTop (top_view top.now) }
-    requires outlined { length outline.now.queues ≡ length top.now.queues.now }
+    requires outlined { outline.now ≡ outline_of top.now.version (map view top.now.queues.now) (map view top.now.actors.now) (map view top.now.tasks.now) }
     ensures range { IfOk result IsInRange }
     ensures value { Gives (λ s. s) result (agents_walk scripts.now (top_view top.now) outline.now) }
 {

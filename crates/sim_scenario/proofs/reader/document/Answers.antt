@@ -2,7 +2,7 @@ use Rattle.std.proofs.Common.{◌∙◌}
 use Rattle.std.proofs.lemmas.List.{length-map}
 use Rattle.toml.specs.View.{table_view, view}
 use Rattle.sim_scenario.specs.TopWalks.{top_view}
-use Rattle.sim_scenario.proofs.WholeScenario.{document_fails, document_ok, outlined, top_walk_in_range}
+use Rattle.sim_scenario.proofs.WholeScenario.{document_fails, document_ok, top_walk_in_range}
 use Rattle.sim_scenario.proofs.reader.document.Goals as goal
 
 pub returns-in-Err-clause-value : goal.returns-in-Err-clause-value
@@ -15,6 +15,3 @@ returns-clause-value c =
 
 pub agents-requires-clause-numbers : goal.agents-requires-clause-numbers
 agents-requires-clause-numbers c = top_walk_in_range (table_view c.args.table.now) (top_view c.in-Ok.top) c.in-Ok.ensures.value
-
-pub agents-requires-clause-outlined : goal.agents-requires-clause-outlined
-agents-requires-clause-outlined c = rw c.in-Ok-new.ensures (outlined (top_view c.in-Ok.top) ∙ length-map c.in-Ok.top.queues.now view)
