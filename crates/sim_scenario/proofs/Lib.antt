@@ -24,3 +24,5 @@ pub mod Links
 pub mod ItemsRead
 pub mod KinRead
 pub mod WholeKin
+pub mod Naming
+pub mod WholeNames

@@ -5,5 +5,6 @@ pub mod ScriptGives
 pub mod ActorWalks
 pub mod TopWalks
 pub mod Kinds
+pub mod Naming
 pub mod Ranges
 pub mod Lowest

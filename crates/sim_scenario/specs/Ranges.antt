@@ -9,6 +9,7 @@ use Rattle.sqs_redrive.specs.declared.settings.Policy.{Policy}
 use Rattle.sqs_model.specs.Progress.{Ascends, IsSoundScenario}
 use Rattle.sqs_model.specs.Scenario.{Scenario}
 use Rattle.sim_scenario.specs.Kinds.{NamesKin}
+use Rattle.sim_scenario.specs.Naming.{AreNamed}
 use Rattle.sqs_model.specs.Valid.{Between, IsConsumer, IsProducer, IsQueueSettings, IsTaskSettings}
 
 -- at most 100,000 calls, each later than the one before it; a receive waits for at most 20 seconds
@@ -64,3 +65,4 @@ pub record IsInRange (s : Scenario) : Type 0 where
   pub named : length s.names ≡ length s.queues + length s.actors + length s.tasks
   pub linked : IsLinked s
   pub kin : NamesKin s
+  pub names : AreNamed s

@@ -1,0 +1,18 @@
+-- The names of a scenario's agents.
+use Rattle.std.specs.List.{AllPairs, zip}
+use Rattle.std.specs.Prelude.{All, List, drop, length, true, ℕ, ◌≡◌, ◌≢◌}
+use Rattle.sqs_formats.specs.Names.{is_agent_name, is_fifo, is_queue_name}
+use Rattle.sqs_model.specs.Scenario.{Scenario}
+use Rattle.sqs_redrive.specs.declared.settings.QueueSettings.{QueueSettings}
+use Rattle.sim_scenario.specs.Kinds.{is_fifo_kind}
+
+-- a queue's name is well-formed, and ends in `.fifo` exactly where the queue is FIFO
+pub record IsNameOf (q : QueueSettings) (name : List ℕ) : Type 0 where
+  pub form : is_queue_name name ≡ true
+  pub suffix : is_fifo name ≡ is_fifo_kind q.kind
+
+-- no two agents have one name, and each name is well-formed
+pub record AreNamed (s : Scenario) : Type 0 where
+  pub distinct : AllPairs (λ m n. m ≢ n) s.names
+  pub queues : All (λ x. IsNameOf x.0 x.1) (zip s.queues s.names)
+  pub others : All (λ n. is_agent_name n ≡ true) (drop (length s.queues) s.names)
