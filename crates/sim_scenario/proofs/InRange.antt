@@ -24,6 +24,7 @@ use Rattle.sim_scenario.specs.Ranges.{IsInRange, IsLinked, IsRole, LeadsBelow, M
 use Rattle.sim_scenario.proofs.Links.{actor_below, each_length, queue_below, task_below}
 use Rattle.sim_scenario.proofs.ActorRanges.{actor_in_range}
 use Rattle.sim_scenario.proofs.QueueRanges.{each_holds, queue_in_range, task_in_range}
+use Rattle.sim_scenario.proofs.Drained.{whole_drains}
 use Rattle.sim_scenario.proofs.WholeNames.{whole_named}
 use Rattle.sim_scenario.proofs.WholeKin.{AreRead, whole_names_kin}
 use Rattle.sim_scenario.specs.TopWalks.{IsTop, whole}
@@ -99,4 +100,5 @@ whole_in_range files top o queues judged actors tasks numbers are =
           (All-map (λ (t : TaskSettings). (t.home < count) × MayBeBelow count t.to) (λ (x : List ℕ × TaskSettings). x.1) tasks lt);
       kin = whole_names_kin files top o queues judged actors tasks are;
       names = whole_named files top o queues judged actors tasks are;
+      drained = whole_drains files top o queues judged actors tasks are;
     }

@@ -26,3 +26,4 @@ pub mod KinRead
 pub mod WholeKin
 pub mod Naming
 pub mod WholeNames
+pub mod Drained

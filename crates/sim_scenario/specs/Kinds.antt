@@ -48,3 +48,7 @@ pub record NamesKin (s : Scenario) : Type 0 where
   pub policies : All (λ x. MayBeOtherKin s x.0 (dead_letter_of x.1.policy)) (enumerate_from 0 s.queues)
   pub forwards : All (λ a. RoleNamesKin s a.home a.role) s.actors
   pub tasks : All (λ t. MayBeOtherKin s t.home t.to) s.tasks
+
+-- each move task takes from a queue that is the dead-letter queue of some queue
+abbrev pub TasksDrain : Scenario → Type 0
+TasksDrain s = All (λ t. Contains (map (λ q. dead_letter_of q.policy) s.queues) (Some t.home)) s.tasks
