@@ -18,14 +18,14 @@ use Rattle.sqs_model.specs.declared.agents.ActorSettings.{ActorSettings}
 use Rattle.sqs_model.specs.declared.agents.Forwarding.{Forwarding}
 use Rattle.sqs_model.specs.declared.agents.Role.{Role}
 use Rattle.sqs_model.specs.Valid.{MayBeForward, MayBeTimeout}
-use Rattle.sim_scenario.specs.Ranges.{IsRole, IsScript}
+use Rattle.sim_scenario.specs.Ranges.{IsRoleInRange, IsScript}
 use Rattle.sim_scenario.proofs.Sound.{is_read, optional_within, parts, required_within, typed_within}
 use Rattle.sim_scenario.proofs.QueueRanges.{latency_in_range}
 use Rattle.sim_scenario.proofs.ScriptRanges.{script_in_range}
 use Rattle.sim_scenario.proofs.ActorParts.{file_read}
 
 -- a producer
-producer_in_range : (fifo : Bool) (t : Table) (r : Role) → answer (producing fifo t) ≡ Ok r → IsRole r
+producer_in_range : (fifo : Bool) (t : Table) (r : Role) → answer (producing fifo t) ≡ Ok r → IsRoleInRange r
 producer_in_range fifo t r e =
     let known = parts _ _ _ e in
     let count = parts _ _ _ known.2 in
@@ -65,7 +65,7 @@ forward_in_range o home t (Some d) f e =
     let within = parts _ _ _ to.2 in
     rw (← is_read _ _ within.2) (latency_in_range o.version t within.0 within.1)
 
-consumer_in_range : (o : Outline) (home : ℕ) (t : Table) (r : Role) → answer (consuming o home t) ≡ Ok r → IsRole r
+consumer_in_range : (o : Outline) (home : ℕ) (t : Table) (r : Role) → answer (consuming o home t) ≡ Ok r → IsRoleInRange r
 consumer_in_range o home t r e =
     let known = parts _ _ _ e in
     let start = parts _ _ _ known.2 in
@@ -135,20 +135,20 @@ calls_by_in_range : (files : Files) (home : Home) (t : Table) (d : Option Data) 
 calls_by_in_range files home t None cs e = text_holds IsScript [] (calls_in home) t (codes "calls") cs (calls_in_range home) e
 calls_by_in_range files home t (Some d) cs e = text_holds IsScript [] (file_read files home) t (codes "script") cs (named_in_range files home) e
 
-scripted_in_range : (files : Files) (o : Outline) (home : ℕ) (t : Table) (r : Role) → answer (scripted files o home t) ≡ Ok r → IsRole r
+scripted_in_range : (files : Files) (o : Outline) (home : ℕ) (t : Table) (r : Role) → answer (scripted files o home t) ≡ Ok r → IsRoleInRange r
 scripted_in_range files o home t r e =
     let known = parts _ _ _ e in
     let calls = parts _ _ _ known.2 in
     rw (← is_read _ _ calls.2) (calls_by_in_range files (home_of o home) t (at t (codes "script")) calls.0 calls.1)
 
 -- an actor
-role_in_range : (kind : ActorKind) (files : Files) (o : Outline) (home : ℕ) (t : Table) (r : Role) → answer (role kind files o home t) ≡ Ok r → IsRole r
+role_in_range : (kind : ActorKind) (files : Files) (o : Outline) (home : ℕ) (t : Table) (r : Role) → answer (role kind files o home t) ≡ Ok r → IsRoleInRange r
 role_in_range Unread files o home t r e = rw (← is_read _ _ e) (record { few = omega arith; ascending = tt; waiting = All-nil (λ (c : ScriptCall). waits c.call ≤ 20) })
 role_in_range ScriptKind files o home t r e = scripted_in_range files o home t r e
 role_in_range ProducerKind files o home t r e = producer_in_range (kind_at o home) t r e
 role_in_range ConsumerKind files o home t r e = consumer_in_range o home t r e
 
-pub actor_in_range : (files : Files) (o : Outline) (index : ℕ) (t : Table) (a : List ℕ × ActorSettings) → answer (actor files o index t) ≡ Ok a → IsRole a.1.role
+pub actor_in_range : (files : Files) (o : Outline) (index : ℕ) (t : Table) (a : List ℕ × ActorSettings) → answer (actor files o index t) ≡ Ok a → IsRoleInRange a.1.role
 unfolding actor
 actor_in_range files o index t a e =
     let name = parts _ _ _ e in

@@ -20,7 +20,7 @@ use Rattle.sqs_formats.specs.Actors.{Files, actor}
 use Rattle.sqs_formats.specs.Tasks.{task}
 use Rattle.sqs_formats.specs.Scenario.{Top}
 use Rattle.std.proofs.lemmas.List.{length-map}
-use Rattle.sim_scenario.specs.Ranges.{IsInRange, IsLinked, IsRole, LeadsBelow, MayBeBelow, RoleBelow}
+use Rattle.sim_scenario.specs.Ranges.{IsInRange, IsLinked, IsRoleInRange, LeadsBelow, MayBeBelow, RoleBelow}
 use Rattle.sim_scenario.proofs.Links.{actor_below, each_length, queue_below, task_below}
 use Rattle.sim_scenario.proofs.ActorRanges.{actor_in_range}
 use Rattle.sim_scenario.proofs.QueueRanges.{each_holds, queue_in_range, task_in_range}
@@ -41,7 +41,7 @@ forward_sound : (f : Option Forwarding) → MayBeForward f → IsSoundForward f
 forward_sound None h = tt
 forward_sound (Some f) h = h.least
 
-role_sound : (r : Role) → IsRole r → IsSoundRole r
+role_sound : (r : Role) → IsRoleInRange r → IsSoundRole r
 role_sound (Script calls) h = h.ascending
 role_sound (Producer p) h = h.gap_min
 role_sound (Consumer c) h = (h.service_min, h.idle.0, forward_sound c.forward h.forward)
@@ -63,10 +63,10 @@ pub whole_in_range : (files : Files) (top : Top) (o : Outline) (queues : List (L
 whole_in_range files top o queues judged actors tasks numbers are =
     let outlined : length o.queues ≡ length top.queues = ap (λ (o : Outline). length o.queues) are.outlined ∙ length-map top.queues (text_in (codes "name")) in
     let q = each_holds (λ (x : List ℕ × QueueSettings). IsQueueSettings x.1) (codes "queue") (queue o) 0 top.queues queues (queue_in_range o) are.queues_are in
-    let a = each_holds (λ (x : List ℕ × ActorSettings). IsRole x.1.role) (codes "actor") (actor files o) 0 top.actors actors (actor_in_range files o) are.actors_are in
+    let a = each_holds (λ (x : List ℕ × ActorSettings). IsRoleInRange x.1.role) (codes "actor") (actor files o) 0 top.actors actors (actor_in_range files o) are.actors_are in
     let t = each_holds (λ (x : List ℕ × TaskSettings). IsTaskSettings x.1) (codes "task") (task o) 0 top.tasks tasks (task_in_range o) are.tasks_are in
     let settings = All-map IsQueueSettings (λ (x : List ℕ × QueueSettings). x.1) queues q in
-    let roles = All-map (λ (a : ActorSettings). IsRole a.role) (λ (x : List ℕ × ActorSettings). x.1) actors a in
+    let roles = All-map (λ (a : ActorSettings). IsRoleInRange a.role) (λ (x : List ℕ × ActorSettings). x.1) actors a in
     let moves = All-map IsTaskSettings (λ (x : List ℕ × TaskSettings). x.1) tasks t in
     let count : ℕ = length o.queues in
     let queue_count : length (map (λ (x : List ℕ × QueueSettings). x.1) queues) ≡ length top.queues =
@@ -88,7 +88,7 @@ whole_in_range files top o queues judged actors tasks numbers are =
       tasks = moves;
       sound = record {
         queues = All-weaker IsQueueSettings IsSoundSettings queue_sound _ settings;
-        actors = All-weaker (λ (a : ActorSettings). IsRole a.role) (λ (a : ActorSettings). IsSoundRole a.role) (λ a h. role_sound a.role h) _ roles;
+        actors = All-weaker (λ (a : ActorSettings). IsRoleInRange a.role) (λ (a : ActorSettings). IsSoundRole a.role) (λ a h. role_sound a.role h) _ roles;
         tasks = All-weaker IsTaskSettings (λ (t : TaskSettings). TakesTime t.latency) (λ t h. h.latency.least) _ moves;
       };
       few_queues = rw queue_count numbers.few_queues;

@@ -19,10 +19,10 @@ pub record IsScript (calls : List ScriptCall) : Type 0 where
   pub waiting : All (λ c. waits c.call ≤ 20) calls
 
 -- a role in range
-abbrev pub IsRole : Role → Type 0
-IsRole (Script calls) = IsScript calls
-IsRole (Producer p) = IsProducer p
-IsRole (Consumer c) = IsConsumer c
+abbrev pub IsRoleInRange : Role → Type 0
+IsRoleInRange (Script calls) = IsScript calls
+IsRoleInRange (Producer p) = IsProducer p
+IsRoleInRange (Consumer c) = IsConsumer c
 
 -- a number below a bound, if there is one
 abbrev pub MayBeBelow : ℕ → Option ℕ → Type 0
@@ -57,7 +57,7 @@ pub record IsInRange (s : Scenario) : Type 0 where
   pub seed : s.seed ≤ 9223372036854775807
   pub sample : s.sample ≤ 2592000000
   pub queues : All IsQueueSettings s.queues
-  pub actors : All (λ a. IsRole a.role) s.actors
+  pub actors : All (λ a. IsRoleInRange a.role) s.actors
   pub tasks : All IsTaskSettings s.tasks
   pub sound : IsSoundScenario s
   pub few_queues : Between 1 1000 (length s.queues)

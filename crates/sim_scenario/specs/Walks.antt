@@ -52,14 +52,14 @@ abbrev pub latency_by : Bool → Table → Answers Latency
 latency_by true t = two_bounds_walk t
 latency_by false t = one_latency_walk t
 
--- the two kinds of queue
+-- what only a FIFO queue has
 unfoldable pub fifo_walk : Table → Answers Kind
 fifo_walk t = do
   content ← answer (optional false boolean t (codes "content_dedup"))
   scope ← answer (optional scopes.Queue (one_of scopes.Queue scopes_named) t (codes "dedup_scope"))
   Ok (Fifo content scope)
 
--- a standard queue
+-- and what only a standard queue has
 unfoldable pub standard_walk : Table → Answers Kind
 standard_walk t = do
   hosts ← answer (optional 1 (integer 1 16) t (codes "hosts"))
@@ -112,7 +112,7 @@ queue_walk o number t = do
   known ← answer (only (queue_keys o.version (is_fifo name) (has t (codes "dead_letter"))) t)
   settings_walk o name t
 
--- a queue that is named, and one of a home's kind
+-- a queue by its name
 unfoldable pub queue_named_walk : Outline → Table → List ℕ → Answers ℕ
 queue_named_walk o t key = do
   s ← answer (required text t key)
@@ -160,7 +160,7 @@ table_walk place (Some ms) = Ok (item_table place ms)
 unfoldable pub item_walk : {X : Type 0} → List ℕ → (Table → Answers X) → ℕ → Data → Answers X
 item_walk key walk n d = and_then (table_walk (item_place key n) (as_table d)) walk
 
--- a queue, and its dead-letter queue, which is judged after all queues
+-- the dead-letter queue of a queue, judged after all queues
 unfoldable pub dead_letter_walk : Outline → ℕ → Table → Answers (Option ℕ)
 dead_letter_walk o number t = maybe_other_walk o number t (codes "dead_letter")
 

@@ -29,7 +29,7 @@ use Rattle.sqs_model.specs.Site.{Site}
 use Rattle.sqs_model.specs.Valid.{IsLatency, IsTaskSettings}
 use Rattle.sim_actor.specs.Lives.{IsRole}
 use Rattle.sim_scenario.specs.declared.scenario.ScenarioParts.{ScenarioParts}
-use Rattle.sim_scenario.specs.Ranges.{IsInRange, MayBeBelow, IsRole as IsScenarioRole}
+use Rattle.sim_scenario.specs.Ranges.{IsInRange, MayBeBelow, IsRoleInRange as IsScenarioRole}
 use Rattle.sim_site.specs.Kept.{HasShortWaits, WaitsWithin}
 use Rattle.sim_windows.specs.declared.opening.Home.{Home}
 use Rattle.sim_windows.specs.Homes.{AtHome, IsFit, IsSettled, IsVacant, actors_in, tasks_in}
