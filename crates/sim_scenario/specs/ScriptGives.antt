@@ -24,10 +24,6 @@ abbrev pub Gives : {X Y : Type 0} → (X → Y) → Result X ScriptError → Res
 Gives view (Ok x) read = read ≡ Ok (view x)
 Gives view (Err e) read = Fails e read
 
--- an error that tells of memory alone
-abbrev pub IsMemory : ScriptError → Type 0
-IsMemory e = e ≡ errors.Memory
-
 -- the fields of a record that the code holds
 abbrev pub record_view : Record → Fields
 record_view r =

@@ -127,9 +127,7 @@ pub(crate) fn actors(
             Ok(item) => item,
             Err(e) => return Err(e),
         };
-        if actors.push(item).is_err() {
-            return Err(ReadError::Memory);
-        }
+        actors.push(item)?;
     }
     Ok(actors)
 }

@@ -1,12 +1,13 @@
 //! What stops a reader.
-ghost use Rattle.std.specs.Prelude.{◌++◌};
+ghost use Rattle.std.specs.Prelude.{◌++◌, ◌≡◌};
 ghost use Rattle.sqs_formats.specs.Keys.{fault_at};
 ghost use Rattle.sim_scenario.specs.Gives.{Names};
+ghost use Rattle.sim_scenario.specs.declared.fault.ReadError.TheVariants.{Memory};
 
 use sim_clock::Refusal;
 use sqs_formats::ScenarioFault;
 use sqs_message::Text;
-use std::alloc::Global;
+use std::alloc::{AllocError, AllocFailed, Global};
 
 /// Why a scenario could not be read.
 #[derive(Drop)]
@@ -15,6 +16,22 @@ pub enum ReadError {
     Memory,
     /// The first fault of the text.
     Fault(ScenarioFault),
+}
+
+impl From<AllocError> for ReadError {
+    ghost from_gives = { λ _ e. e ≡ Memory };
+
+    fn from(_refused: AllocError) -> Self {
+        ReadError::Memory
+    }
+}
+
+impl<T: Drop> From<AllocFailed<T>> for ReadError {
+    ghost from_gives = { λ _ e. e ≡ Memory };
+
+    fn from(_refused: AllocFailed<T>) -> Self {
+        ReadError::Memory
+    }
 }
 
 /// The fault at a key of a table, before whose keys `place` stands, or want of memory.

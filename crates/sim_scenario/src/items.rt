@@ -21,13 +21,10 @@ pub(crate) fn item_table<'a>(
     ensures { Gives (λ p. the_table (string_bytes p.1) (table_view p.0.now)) result (table_walk (item_place list.now i) (as_table (view value.now))) }
 {
     match value.as_table() {
-        Some(table) => match format!(in alloc; "{list}[{i}].") {
-            Ok(place) => Ok((table, place)),
-            Err(_) => Err(ReadError::Memory),
-        },
-        None => match format!(in alloc; "{list}[{i}]") {
-            Ok(place) => Err(blame(alloc, Refusal::WrongType, place.as_str(), "")),
-            Err(_) => Err(ReadError::Memory),
-        },
+        Some(table) => Ok((table, format!(in alloc; "{list}[{i}].")?)),
+        None => {
+            let place = format!(in alloc; "{list}[{i}]")?;
+            Err(blame(alloc, Refusal::WrongType, place.as_str(), ""))
+        }
     }
 }

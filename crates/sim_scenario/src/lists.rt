@@ -101,9 +101,7 @@ pub(crate) fn queues(
             Ok(item) => item,
             Err(e) => return Err(e),
         };
-        if queues.push(item).is_err() {
-            return Err(ReadError::Memory);
-        }
+        queues.push(item)?;
     }
     Ok(queues)
 }
@@ -138,9 +136,7 @@ pub(crate) fn dead_letters(
             Ok(item) => item,
             Err(e) => return Err(e),
         };
-        if dead_letters.push(item).is_err() {
-            return Err(ReadError::Memory);
-        }
+        dead_letters.push(item)?;
     }
     Ok(dead_letters)
 }
@@ -175,9 +171,7 @@ pub(crate) fn tasks(
             Ok(item) => item,
             Err(e) => return Err(e),
         };
-        if tasks.push(item).is_err() {
-            return Err(ReadError::Memory);
-        }
+        tasks.push(item)?;
     }
     Ok(tasks)
 }

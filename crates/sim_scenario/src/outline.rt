@@ -7,12 +7,11 @@ ghost use Rattle.sqs_formats.specs.Keys.{is_among, text_in};
 ghost use Rattle.sqs_formats.specs.Outline.{all_names, is_first_of, kind_at, outline_of, place_among, queue_number};
 ghost use Rattle.sim_scenario.specs.ActorWalks.{tasks_at};
 
-use crate::fault::ReadError;
 use crate::keys::member;
 use crate::names::is_fifo;
 use sqs_formats::{Home, HomeTask, HomeTasks};
 use sqs_message::Text;
-use std::alloc::Global;
+use std::alloc::{AllocError, Global};
 use std::marker::Model;
 use toml::Value;
 
@@ -61,17 +60,12 @@ fn push_texts(
     texts: &mut Vec<Text>,
     items: &[Value],
     key: &str,
-) -> Result<(), ReadError>
+) -> Result<(), AllocError>
     ensures { OnOk result (texts.new.items ≡ texts.old.items ++ map (text_in key.now) (map view items.now)) }
 {
     for item in items {
-        let bytes = match text_in(item, key).as_bytes().to_vec(alloc) {
-            Ok(bytes) => bytes,
-            Err(_) => return Err(ReadError::Memory),
-        };
-        if texts.push(Text::new(bytes)).is_err() {
-            return Err(ReadError::Memory);
-        }
+        let bytes = text_in(item, key).as_bytes().to_vec(alloc)?;
+        texts.push(Text::new(bytes))?;
     }
     Ok(())
 }
@@ -104,7 +98,7 @@ fn tasks_at(
     homes: &[Text],
     first: usize,
     home: &[u8],
-) -> Result<Vec<HomeTask>, ReadError>
+) -> Result<Vec<HomeTask>, AllocError>
     requires { first + length names.now ≤ 11000 }
     ensures { IfOk result (λ v. v.items ≡ tasks_at home.now (enumerate_from first (zip names.now homes.now))) }
 {
@@ -114,14 +108,9 @@ fn tasks_at(
         if !has_bytes(&homes[i], home) {
             continue;
         }
-        let name = match names[i].copy(alloc) {
-            Ok(name) => name,
-            Err(_) => return Err(ReadError::Memory),
-        };
+        let name = names[i].copy(alloc)?;
         let number = (first + i) as u32;
-        if tasks.push(HomeTask { name, number }).is_err() {
-            return Err(ReadError::Memory);
-        }
+        tasks.push(HomeTask { name, number })?;
     }
     Ok(tasks)
 }
@@ -140,7 +129,7 @@ impl Outline {
         queues: &[Value],
         actors: &[Value],
         tasks: &[Value],
-    ) -> Result<Outline, ReadError>
+    ) -> Result<Outline, AllocError>
         requires { length queues.now + length actors.now + length tasks.now ≤ 11000 }
         ensures { IfOk result (λ o. o ≡ outline_of version (map view queues.now) (map view actors.now) (map view tasks.now)) }
     {
@@ -233,7 +222,7 @@ impl Outline {
     }
 
     /// The home of an actor: its kind, and the move tasks that name it as their queue.
-    pub(crate) fn home(&self, alloc: Global, number: u32) -> Result<Home, ReadError>
+    pub(crate) fn home(&self, alloc: Global, number: u32) -> Result<Home, AllocError>
         ensures { IfOk result (λ h. h ≡ home_of self.now number) }
     {
         let is_fifo = self.is_fifo_at(number);

@@ -137,15 +137,10 @@ fn is_producer_body(alloc: Global, count: u64, body: &[u8]) -> Result<bool, Allo
 fn body_of_text(alloc: Global, count: u64, text: &str, place: &str) -> Result<Text, ReadError>
     ensures { Gives (λ b. b) result (answer (needs (is_producer_body count text.now) (fault_at OutOfRange (place.now ++ codes "body")) text.now)) }
 {
-    match is_producer_body(alloc, count, text.as_bytes()) {
-        Ok(true) => {}
-        Ok(false) => return Err(blame(alloc, Refusal::OutOfRange, place, "body")),
-        Err(_) => return Err(ReadError::Memory),
+    if !is_producer_body(alloc, count, text.as_bytes())? {
+        return Err(blame(alloc, Refusal::OutOfRange, place, "body"));
     }
-    match text.as_bytes().to_vec(alloc) {
-        Ok(bytes) => Ok(Text::new(bytes)),
-        Err(_) => Err(ReadError::Memory),
-    }
+    Ok(Text::new(text.as_bytes().to_vec(alloc)?))
 }
 
 /// The body of so many messages.

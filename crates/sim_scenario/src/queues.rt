@@ -39,10 +39,7 @@ fn fresh_name(
     if !outline.is_first(number, name.as_bytes()) {
         return Err(blame(alloc, Refusal::NameTwice, place, "name"));
     }
-    match name.as_bytes().to_vec(alloc) {
-        Ok(bytes) => Ok(Text::new(bytes)),
-        Err(_) => Err(ReadError::Memory),
-    }
+    Ok(Text::new(name.as_bytes().to_vec(alloc)?))
 }
 
 /// The name of an actor or a task.

@@ -19,7 +19,7 @@ use sim_clock::Refusal;
 use sqs_message::Text;
 use sqs_model::ActorSettings;
 use sqs_redrive::{QueueSettings, TaskSettings};
-use std::alloc::Global;
+use std::alloc::{AllocError, Global};
 use toml::Table;
 
 /// Parts settings from their names, which go behind other names.
@@ -27,19 +27,15 @@ fn part<T: Drop>(
     alloc: Global,
     items: Vec<(Text, T)>,
     names: &mut Vec<Text>,
-) -> Result<Vec<T>, ReadError>
+) -> Result<Vec<T>, AllocError>
     ensures settings { IfOk result (λ v. v.items ≡ map (λ x. x.1) items.items) }
     ensures names { OnOk result (names.new.items ≡ names.old.items ++ map (λ x. x.0) items.items) }
 {
     let mut settings = Vec::new(alloc);
     for item in items {
         let (name, setting) = item;
-        if names.push(name).is_err() {
-            return Err(ReadError::Memory);
-        }
-        if settings.push(setting).is_err() {
-            return Err(ReadError::Memory);
-        }
+        names.push(name)?;
+        settings.push(setting)?;
     }
     Ok(settings)
 }
@@ -51,24 +47,15 @@ fn assembled(
     queues: Vec<(Text, QueueSettings)>,
     actors: Vec<(Text, ActorSettings)>,
     tasks: Vec<(Text, TaskSettings)>,
-) -> Result<Scenario, ReadError>
+) -> Result<Scenario, AllocError>
     requires { IsInRange (whole (top_view top.now) queues.items actors.items tasks.items) }
-    ensures value { Gives (λ s. s) result (Ok (whole (top_view top.now) queues.items actors.items tasks.items)) }
+    ensures value { IfOk result (λ s. s ≡ whole (top_view top.now) queues.items actors.items tasks.items) }
     ensures range { IfOk result IsInRange }
 {
     let mut names = Vec::new(alloc);
-    let queues = match part(alloc, queues, &mut names) {
-        Ok(queues) => queues,
-        Err(_) => return Err(ReadError::Memory),
-    };
-    let actors = match part(alloc, actors, &mut names) {
-        Ok(actors) => actors,
-        Err(_) => return Err(ReadError::Memory),
-    };
-    let tasks = match part(alloc, tasks, &mut names) {
-        Ok(tasks) => tasks,
-        Err(_) => return Err(ReadError::Memory),
-    };
+    let queues = part(alloc, queues, &mut names)?;
+    let actors = part(alloc, actors, &mut names)?;
+    let tasks = part(alloc, tasks, &mut names)?;
     Ok(Scenario::new(
         top.horizon,
         top.seed,
@@ -98,7 +85,8 @@ fn agents(
     dead_letters(alloc, outline, top.queues)?;
     let actors = actors(alloc, scripts, outline, top.actors)?;
     let tasks = tasks(alloc, outline, top.tasks)?;
-    assembled(alloc, top, queues, actors, tasks)
+    let scenario = assembled(alloc, top, queues, actors, tasks)?;
+    Ok(scenario)
 }
 
 /// What a document says.
@@ -110,10 +98,7 @@ fn document(alloc: Global, scripts: &Scripts, table: &Table) -> Result<Scenario,
         Ok(top) => top,
         Err(e) => return Err(e),
     };
-    let outline = match Outline::new(alloc, top.version, top.queues, top.actors, top.tasks) {
-        Ok(outline) => outline,
-        Err(_) => return Err(ReadError::Memory),
-    };
+    let outline = Outline::new(alloc, top.version, top.queues, top.actors, top.tasks)?;
     agents(alloc, scripts, &top, &outline)
 }
 

@@ -1,16 +1,15 @@
 //! The records of a script: each states one call.
-ghost use Rattle.std.specs.Prelude.{◌≡◌, ◌≤◌, [], false, map, IfOk, IfSome, get_or, nat_le, IfErr};
+ghost use Rattle.std.specs.Prelude.{◌≡◌, ◌≤◌, [], false, map, IfOk, IfSome, get_or, nat_le};
 ghost use Rattle.std.specs.List.{list_all};
 ghost use Rattle.csv.specs.Records.{fields_of};
 ghost use Rattle.sqs_formats.specs.Script.{digits_value, is_number, is_number_from, only_if, call_in, call_of, change_call, delete_call, given, header, is_body, is_printed, is_token, may, number, receive_call, same_fields, send_call, task_call, task_named, waits};
 ghost use Rattle.sqs_message.specs.declared.calls.Call.TheVariants.{Cancel, Start};
-ghost use Rattle.sim_scenario.specs.ScriptGives.{IsMemory, called_task, fields_at, is_grouped, is_receive, is_send, record_view, task_call_in};
+ghost use Rattle.sim_scenario.specs.ScriptGives.{called_task, fields_at, is_grouped, is_receive, is_send, record_view, task_call_in};
 
-use crate::script::ScriptError;
 use csv::ByteRecord;
 use sqs_formats::Home;
 use sqs_message::{Call, ScriptCall, Text};
-use std::alloc::Global;
+use std::alloc::{AllocError, Global};
 
 /// The fields of a record, by their names.
 #[derive(Drop)]
@@ -72,23 +71,20 @@ fn digits_value(field: &[u8]) -> Option<u64>
 }
 
 /// The number that a field is in decimal, without a leading zero.
-fn number(alloc: Global, field: &[u8]) -> Result<Option<u64>, ScriptError>
+fn number(alloc: Global, field: &[u8]) -> Result<Option<u64>, AllocError>
     ensures value { IfOk result (λ n. n ≡ number field.now) }
     ensures most { IfOk result (λ n. IfSome n (λ n. n ≤ 4294967295)) }
-    ensures memory { IfErr result IsMemory }
 {
     match digits_value(field) {
         None => Ok(None),
-        Some(value) => match format!(in alloc; "{value}") {
-            Ok(text) => {
-                if text.as_bytes() == field {
-                    Ok(Some(value))
-                } else {
-                    Ok(None)
-                }
+        Some(value) => {
+            let text = format!(in alloc; "{value}")?;
+            if text.as_bytes() == field {
+                Ok(Some(value))
+            } else {
+                Ok(None)
             }
-            Err(_) => Err(ScriptError::Memory),
-        },
+        }
     }
 }
 
@@ -166,20 +162,15 @@ fn are_empty(fields: &[&[u8]]) -> bool
 }
 
 /// A field as a text.
-fn text(alloc: Global, field: &[u8]) -> Result<Text, ScriptError>
-    ensures value { IfOk result (λ t. t ≡ field.now) }
-    ensures memory { IfErr result IsMemory }
+fn text(alloc: Global, field: &[u8]) -> Result<Text, AllocError>
+    ensures { IfOk result (λ t. t ≡ field.now) }
 {
-    match field.to_vec(alloc) {
-        Ok(bytes) => Ok(Text::new(bytes)),
-        Err(_) => Err(ScriptError::Memory),
-    }
+    Ok(Text::new(field.to_vec(alloc)?))
 }
 
 /// A field as a text, unless it is empty.
-fn given(alloc: Global, field: &[u8]) -> Result<Option<Text>, ScriptError>
-    ensures value { IfOk result (λ t. t ≡ given field.now) }
-    ensures memory { IfErr result IsMemory }
+fn given(alloc: Global, field: &[u8]) -> Result<Option<Text>, AllocError>
+    ensures { IfOk result (λ t. t ≡ given field.now) }
 {
     if field.is_empty() {
         return Ok(None);
@@ -218,10 +209,9 @@ fn is_send(home: &Home, record: &Record<'_>, delay: Option<u64>) -> bool
 }
 
 /// The send that a record states.
-fn send(alloc: Global, home: &Home, record: &Record<'_>) -> Result<Option<Call>, ScriptError>
+fn send(alloc: Global, home: &Home, record: &Record<'_>) -> Result<Option<Call>, AllocError>
     ensures value { IfOk result (λ c. c ≡ send_call home.now (record_view record.now)) }
     ensures most { IfOk result (λ c. IfSome c (λ c. waits c ≤ 4294967295)) }
-    ensures memory { IfErr result IsMemory }
 {
     let delay = number(alloc, record.delay)?;
     if !is_send(home, record, delay) {
@@ -265,10 +255,9 @@ fn is_receive(
 }
 
 /// The receive that a record states.
-fn receive(alloc: Global, record: &Record<'_>) -> Result<Option<Call>, ScriptError>
+fn receive(alloc: Global, record: &Record<'_>) -> Result<Option<Call>, AllocError>
     ensures value { IfOk result (λ c. c ≡ receive_call (record_view record.now)) }
     ensures most { IfOk result (λ c. IfSome c (λ c. waits c ≤ 4294967295)) }
-    ensures memory { IfErr result IsMemory }
 {
     let max = number(alloc, record.max)?;
     let wait = number(alloc, record.wait)?;
@@ -284,10 +273,9 @@ fn receive(alloc: Global, record: &Record<'_>) -> Result<Option<Call>, ScriptErr
 }
 
 /// The delete that a record states.
-fn delete(alloc: Global, record: &Record<'_>) -> Result<Option<Call>, ScriptError>
+fn delete(alloc: Global, record: &Record<'_>) -> Result<Option<Call>, AllocError>
     ensures value { IfOk result (λ c. c ≡ delete_call (record_view record.now)) }
     ensures most { IfOk result (λ c. IfSome c (λ c. waits c ≤ 4294967295)) }
-    ensures memory { IfErr result IsMemory }
 {
     let others = [
         record.body,
@@ -307,10 +295,9 @@ fn delete(alloc: Global, record: &Record<'_>) -> Result<Option<Call>, ScriptErro
 }
 
 /// The change of visibility that a record states.
-fn change(alloc: Global, record: &Record<'_>) -> Result<Option<Call>, ScriptError>
+fn change(alloc: Global, record: &Record<'_>) -> Result<Option<Call>, AllocError>
     ensures value { IfOk result (λ c. c ≡ change_call (record_view record.now)) }
     ensures most { IfOk result (λ c. IfSome c (λ c. waits c ≤ 4294967295)) }
-    ensures memory { IfErr result IsMemory }
 {
     let others = [
         record.body,
@@ -403,10 +390,9 @@ fn task_call_of(home: &Home, record: &Record<'_>) -> Option<Call>
 }
 
 /// The call that a record states.
-fn call(alloc: Global, home: &Home, record: &Record<'_>) -> Result<Option<Call>, ScriptError>
+fn call(alloc: Global, home: &Home, record: &Record<'_>) -> Result<Option<Call>, AllocError>
     ensures value { IfOk result (λ c. c ≡ call_in home.now (record_view record.now)) }
     ensures most { IfOk result (λ c. IfSome c (λ c. waits c ≤ 4294967295)) }
-    ensures memory { IfErr result IsMemory }
 {
     if record.call == b"send".as_slice() {
         return send(alloc, home, record);
@@ -429,11 +415,10 @@ pub(crate) fn script_call(
     alloc: Global,
     home: &Home,
     row: &ByteRecord,
-) -> Result<Option<ScriptCall>, ScriptError>
+) -> Result<Option<ScriptCall>, AllocError>
     ensures value { IfOk result (λ c. c ≡ call_of home.now (fields_of row.now)) }
     ensures at { IfOk result (λ c. IfSome c (λ c. c.at ≤ 4294967295)) }
     ensures most { IfOk result (λ c. IfSome c (λ c. waits c.call ≤ 4294967295)) }
-    ensures memory { IfErr result IsMemory }
 {
     if row.len() != 11 {
         return Ok(None);

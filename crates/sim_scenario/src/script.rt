@@ -1,5 +1,5 @@
 //! The reader of a script: a text of CSV in, the calls of its records or the first fault out.
-ghost use Rattle.std.specs.Prelude.{◌≡◌, ◌≤◌, ◌+◌, ◌*◌, ◌∷◌, [], IfErr, IfOk, length, map};
+ghost use Rattle.std.specs.Prelude.{◌≡◌, ◌≤◌, ◌+◌, ◌*◌, ◌∷◌, [], IfOk, length, map};
 ghost use Rattle.std.specs.Str.{is_utf8};
 ghost use Rattle.sim_clock.specs.declared.refusal.Refusal.TheVariants.{BadScript};
 ghost use Rattle.sqs_formats.specs.Reading.{answer};
@@ -8,14 +8,14 @@ ghost use Rattle.sim_scenario.specs.declared.script.ScriptError.TheVariants as e
 ghost use Rattle.csv.specs.Reading.{AreRecords, default_config, records, strip_bom};
 ghost use Rattle.csv.specs.Records.{fields_of};
 ghost use Rattle.csv.specs.declared.parser.State.TheVariants as st;
-ghost use Rattle.sim_scenario.specs.ScriptGives.{Gives, IsMemory, header_walk, records_walk};
+ghost use Rattle.sim_scenario.specs.ScriptGives.{Gives, header_walk, records_walk};
 
 use crate::records::{is_header, script_call};
-use csv::{ByteRecord, ReaderBuilder};
+use csv::{ByteRecord, ErrorKind, ReaderBuilder};
 use sim_clock::Refusal;
 use sqs_formats::{Home, ScriptFault};
 use sqs_message::{Call, ScriptCall};
-use std::alloc::Global;
+use std::alloc::{AllocError, AllocFailed, Global};
 
 /// Why a script could not be read.
 #[derive(Drop)]
@@ -26,10 +26,27 @@ pub enum ScriptError {
     Fault(ScriptFault),
 }
 
-/// Every record of a text that has no header row.
-fn all_rows(alloc: Global, text: &[u8]) -> Result<Vec<ByteRecord>, ScriptError>
-    ensures rows { IfOk result (λ v. AreRecords default_config st.StartRecord (strip_bom text.now) (map fields_of v.items)) }
-    ensures memory { IfErr result IsMemory }
+impl From<AllocError> for ScriptError {
+    ghost from_gives = { λ _ e. e ≡ errors.Memory };
+
+    fn from(_refused: AllocError) -> Self {
+        ScriptError::Memory
+    }
+}
+
+impl<T: Drop> From<AllocFailed<T>> for ScriptError {
+    ghost from_gives = { λ _ e. e ≡ errors.Memory };
+
+    fn from(_refused: AllocFailed<T>) -> Self {
+        ScriptError::Memory
+    }
+}
+
+/// Every record of a text that has no header row. Records may have any number of fields, and bytes
+/// need be no text, so that want of memory is what is left to fail; a slice is read with no error
+/// of its own.
+fn all_rows(alloc: Global, text: &[u8]) -> Result<Vec<ByteRecord>, AllocError>
+    ensures { IfOk result (λ v. AreRecords default_config st.StartRecord (strip_bom text.now) (map fields_of v.items)) }
 {
     let rdr = ReaderBuilder::new()
         .has_headers(false)
@@ -38,21 +55,19 @@ fn all_rows(alloc: Global, text: &[u8]) -> Result<Vec<ByteRecord>, ScriptError>
     let mut rows = Vec::new(alloc);
     for row in rdr.into_byte_records() {
         match row {
-            Ok(row) => {
-                if rows.push(row).is_err() {
-                    return Err(ScriptError::Memory);
-                }
-            }
-            Err(_) => return Err(ScriptError::Memory),
+            Ok(row) => rows.push(row)?,
+            Err(error) => match error.into_kind() {
+                ErrorKind::OutOfMemory | ErrorKind::Io(_) => return Err(AllocError),
+                _ => unreachable!(),
+            },
         }
     }
     Ok(rows)
 }
 
 /// The records of a script, a byte order mark dropped.
-fn script_rows(alloc: Global, text: &[u8]) -> Result<Vec<ByteRecord>, ScriptError>
-    ensures rows { IfOk result (λ v. map fields_of v.items ≡ records default_config (strip_bom text.now)) }
-    ensures memory { IfErr result IsMemory }
+fn script_rows(alloc: Global, text: &[u8]) -> Result<Vec<ByteRecord>, AllocError>
+    ensures { IfOk result (λ v. map fields_of v.items ≡ records default_config (strip_bom text.now)) }
 {
     let rows = all_rows(alloc, text)?;
     Ok(rows)
@@ -83,10 +98,9 @@ fn next_call(
     ensures at { IfOk result (λ c. c.at ≤ 4294967295) }
     ensures most { IfOk result (λ c. waits c.call ≤ 4294967295) }
 {
-    match script_call(alloc, home, row) {
-        Err(_) => Err(ScriptError::Memory),
-        Ok(None) => Err(bad_record(number)),
-        Ok(Some(call)) => {
+    match script_call(alloc, home, row)? {
+        None => Err(bad_record(number)),
+        Some(call) => {
             if free <= call.at {
                 Ok(call)
             } else {
@@ -122,9 +136,7 @@ fn calls(alloc: Global, home: &Home, rows: &[ByteRecord]) -> Result<Vec<ScriptCa
             Err(e) => return Err(e),
         };
         free = free_after(&call);
-        if calls.push(call).is_err() {
-            return Err(ScriptError::Memory);
-        }
+        calls.push(call)?;
     }
     Ok(calls)
 }
@@ -198,8 +210,6 @@ pub fn read_script(alloc: Global, text: &[u8], home: &Home) -> Result<Vec<Script
     if text.len() > 16_777_216 {
         return Err(whole(Refusal::TooMany));
     }
-    match script_rows(alloc, text) {
-        Err(_) => Err(ScriptError::Memory),
-        Ok(rows) => calls_of_rows(alloc, home, text, rows.as_slice()),
-    }
+    let rows = script_rows(alloc, text)?;
+    calls_of_rows(alloc, home, text, rows.as_slice())
 }

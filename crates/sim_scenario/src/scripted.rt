@@ -182,10 +182,7 @@ pub(crate) fn scripted(
     ensures { Gives (λ r. r) result (scripted_walk scripts.now outline.now home (the_table place.now (table_view table.now))) }
 {
     known_script_keys(alloc, table, place)?;
-    let home = match outline.home(alloc, home) {
-        Ok(home) => home,
-        Err(_) => return Err(ReadError::Memory),
-    };
+    let home = outline.home(alloc, home)?;
     let is_file = has(table, "script");
     let calls = calls(alloc, is_file, scripts, &home, table, place)?;
     Ok(Role::Script(calls))

@@ -11,7 +11,7 @@ returns-in-Err-clause-value c = document_fails c.args.scripts.now (table_view c.
 pub returns-clause-value : goal.returns-clause-value
 returns-clause-value c =
     rw (← document_ok c.args.scripts.now (table_view c.args.table.now) (top_view c.in-Ok.top) c.in-Ok.ensures.value)
-    (rw c.in-Ok-new.ensures at c.agents.ensures.value)
+    (rw c.in_ok-outline.ensures at c.agents.ensures.value)
 
 pub agents-requires-clause-numbers : goal.agents-requires-clause-numbers
 agents-requires-clause-numbers c = top_walk_in_range (table_view c.args.table.now) (top_view c.in-Ok.top) c.in-Ok.ensures.value
