@@ -18,10 +18,10 @@ use Rattle.sqs_model.specs.declared.agents.ActorSettings.{ActorSettings}
 use Rattle.sqs_model.specs.declared.agents.Forwarding.{Forwarding}
 use Rattle.sqs_model.specs.declared.agents.Role.{Role}
 use Rattle.sqs_model.specs.Valid.{MayBeForward, MayBeTimeout}
-use Rattle.sim_scenario.specs.Ranges.{IsRoleInRange, IsScript}
-use Rattle.sim_scenario.proofs.Sound.{is_read, optional_within, parts, required_within, typed_within}
+use Rattle.sim_scenario.specs.Ranges.{IsRoleInRange}
+use Rattle.sim_scenario.proofs.Sound.{is_read, optional_within, parts, required_within, maybe_within}
 use Rattle.sim_scenario.proofs.QueueRanges.{latency_in_range}
-use Rattle.sim_scenario.proofs.ScriptRanges.{script_in_range}
+use Rattle.sim_scenario.proofs.ScriptRanges.{IsScriptOf, script_in_range}
 use Rattle.sim_scenario.proofs.ActorParts.{file_read}
 
 -- a producer
@@ -45,19 +45,6 @@ producer_in_range fifo t r e =
     })
 
 -- a consumer
-timeout_typed : (place : List ℕ) (d : Data) (v : Option ℕ) → answer ((some (integer 0 43200)).read place d) ≡ Ok v → MayBeTimeout v
-timeout_typed place d v e =
-    let n = parts _ _ _ e in
-    let w = typed_within 0 43200 place (as_integer d) n.0 n.1 in
-    rw (← is_read _ _ n.2) w.1
-
-timeout_when : (place : List ℕ) (o : Option Data) (v : Option ℕ) → answer (optional_when None (some (integer 0 43200)) place o) ≡ Ok v → MayBeTimeout v
-timeout_when place None v e = rw (← is_read _ _ e) tt
-timeout_when place (Some d) v e = timeout_typed place d v e
-
-timeout_in_range : (t : Table) (key : List ℕ) (v : Option ℕ) → answer (maybe (integer 0 43200) t key) ≡ Ok v → MayBeTimeout v
-timeout_in_range t key v e = timeout_when (place_of t key) (at t key) v e
-
 forward_in_range : (o : Outline) (home : ℕ) (t : Table) (d : Option Data) (f : Option Forwarding) → answer (forward o home t d) ≡ Ok f → MayBeForward f
 forward_in_range o home t None f e = rw (← is_read _ _ e) tt
 forward_in_range o home t (Some d) f e =
@@ -83,7 +70,7 @@ consumer_in_range o home t r e =
       start = (optional_within 0 2592000000 0 t (codes "start_ms") start.0 (omega arith, omega arith) start.1).1;
       batch = optional_within 1 10 1 t (codes "batch") batch.0 (omega arith, omega arith) batch.1;
       wait = (optional_within 0 20 0 t (codes "wait_s") wait.0 (omega arith, omega arith) wait.1).1;
-      timeout = timeout_in_range t (codes "timeout_s") timeout.0 timeout.1;
+      timeout = maybe_within MayBeTimeout 43200 t (codes "timeout_s") timeout.0 tt (λ n h. h) timeout.1;
       service_min = least.0;
       ordered = most.0;
       service_max = most.1;
@@ -114,32 +101,32 @@ told_back : {F G X : Type 0} (tell : F → G) (fs : List F) (x v : X) → first 
 told_back tell [] x v e = cc e
 told_back tell (f ∷ fs) x v e = cc e
 
-calls_in_range : (home : Home) (place s : List ℕ) (cs : List ScriptCall) → answer (calls_in home place s) ≡ Ok cs → IsScript cs
+calls_in_range : (home : Home) (place s : List ℕ) (cs : List ScriptCall) → answer (calls_in home place s) ≡ Ok cs → IsScriptOf home cs
 unfolding answer
 calls_in_range home place s cs e =
     let r : Reading ScriptFault (List ScriptCall) = script home s in
     script_in_range home s cs (told_back (script_fault place) r.faults r.value cs e)
 
-file_in_range : (home : Home) (place : List ℕ) (o : Option (List ℕ × List ℕ)) (cs : List ScriptCall) → answer (file_when home place o) ≡ Ok cs → IsScript cs
+file_in_range : (home : Home) (place : List ℕ) (o : Option (List ℕ × List ℕ)) (cs : List ScriptCall) → answer (file_when home place o) ≡ Ok cs → IsScriptOf home cs
 unfolding answer
 file_in_range home place None cs e = cc e
 file_in_range home place (Some file) cs e = calls_in_range home place file.1 cs e
 
 named_in_range : (files : Files) (home : Home) (place s : List ℕ) (cs : List ScriptCall)
-    → answer (reading.◌>>=◌ (needs (is_script_name s) (fault_at OutOfRange place) s) (λ s. file_when home place (find (λ file. bytes_eq file.0 s) files))) ≡ Ok cs → IsScript cs
+    → answer (reading.◌>>=◌ (needs (is_script_name s) (fault_at OutOfRange place) s) (λ s. file_when home place (find (λ file. bytes_eq file.0 s) files))) ≡ Ok cs → IsScriptOf home cs
 named_in_range files home place s cs e =
     let name = parts _ _ _ e in
     file_in_range home place (find (λ (file : List ℕ × List ℕ). bytes_eq file.0 name.0) files) cs name.2
 
-calls_by_in_range : (files : Files) (home : Home) (t : Table) (d : Option Data) (cs : List ScriptCall) → answer (calls_by files home t d) ≡ Ok cs → IsScript cs
-calls_by_in_range files home t None cs e = text_holds IsScript [] (calls_in home) t (codes "calls") cs (calls_in_range home) e
-calls_by_in_range files home t (Some d) cs e = text_holds IsScript [] (file_read files home) t (codes "script") cs (named_in_range files home) e
+pub calls_by_in_range : (files : Files) (home : Home) (t : Table) (d : Option Data) (cs : List ScriptCall) → answer (calls_by files home t d) ≡ Ok cs → IsScriptOf home cs
+calls_by_in_range files home t None cs e = text_holds (IsScriptOf home) [] (calls_in home) t (codes "calls") cs (calls_in_range home) e
+calls_by_in_range files home t (Some d) cs e = text_holds (IsScriptOf home) [] (file_read files home) t (codes "script") cs (named_in_range files home) e
 
 scripted_in_range : (files : Files) (o : Outline) (home : ℕ) (t : Table) (r : Role) → answer (scripted files o home t) ≡ Ok r → IsRoleInRange r
 scripted_in_range files o home t r e =
     let known = parts _ _ _ e in
     let calls = parts _ _ _ known.2 in
-    rw (← is_read _ _ calls.2) (calls_by_in_range files (home_of o home) t (at t (codes "script")) calls.0 calls.1)
+    rw (← is_read _ _ calls.2) (calls_by_in_range files (home_of o home) t (at t (codes "script")) calls.0 calls.1).script
 
 -- an actor
 role_in_range : (kind : ActorKind) (files : Files) (o : Outline) (home : ℕ) (t : Table) (r : Role) → answer (role kind files o home t) ≡ Ok r → IsRoleInRange r

@@ -1,5 +1,5 @@
 -- The home of a move task is the dead-letter queue of some queue.
-use Rattle.std.proofs.Common.{◌≡◌, ◌∙◌, ℕ, zero, suc, ◌+◌, ◌<◌, ◌||◌, Bool, true, false, codes, List, [], ◌∷◌, length, ◌++◌, Option, Some, None, Ok, refl, sym, ap, arith}
+use Rattle.std.proofs.Common.{◌≡◌, ◌∙◌, ℕ, zero, ◌+◌, ◌<◌, ◌||◌, Bool, true, false, codes, List, [], ◌∷◌, length, ◌++◌, Option, Some, None, Ok, refl, sym, ap, arith}
 use Rattle.std.specs.Prelude.{All, Contains, get_or, map, unwrap_or, ◌≢◌}
 use Rattle.std.specs.Str.{bytes_eq}
 use Rattle.std.proofs.lemmas.Bool.{true≢false}
@@ -22,6 +22,7 @@ use Rattle.sqs_formats.specs.Scenario.{Top}
 use Rattle.sim_scenario.specs.Kinds.{TasksDrain, dead_letter_of}
 use Rattle.sim_scenario.specs.TopWalks.{whole}
 use Rattle.sim_scenario.proofs.ItemsRead.{each_named, text_read}
+use Rattle.sim_scenario.proofs.Listing.{contains_next}
 use Rattle.sim_scenario.proofs.KinRead.{queue_says, task_says}
 use Rattle.sim_scenario.proofs.QueueRanges.{each_holds}
 use Rattle.sim_scenario.proofs.Sound.{is_read, parts}
@@ -49,9 +50,6 @@ item_led o home n s place (Some ms) q found some same e =
     led_by o home s (at t (codes "dead_letter")) t q.1.policy found some same refl (queue_says o n t q e).policy
 
 -- it is found among those of the queues
-contains_next : {X : Type 0} (x y : X) (xs : List X) → Contains xs x → Contains (y ∷ xs) x
-contains_next x y xs h = (suc h.0, omega (arith, h.1), h.2)
-
 either : (b c : Bool) → (b || c) ≡ true → b ≡ false → c ≡ true
 either true c e k = cc k
 either false c e k = e

@@ -26,6 +26,7 @@ use Rattle.sim_scenario.proofs.ActorRanges.{actor_in_range}
 use Rattle.sim_scenario.proofs.QueueRanges.{each_holds, queue_in_range, task_in_range}
 use Rattle.sim_scenario.proofs.Drained.{whole_drains}
 use Rattle.sim_scenario.proofs.WholeNames.{whole_named}
+use Rattle.sim_scenario.proofs.WholeHomes.{whole_fits}
 use Rattle.sim_scenario.proofs.WholeKin.{AreRead, whole_names_kin}
 use Rattle.sim_scenario.specs.TopWalks.{IsTop, whole}
 
@@ -101,4 +102,5 @@ whole_in_range files top o queues judged actors tasks numbers are =
       kin = whole_names_kin files top o queues judged actors tasks are;
       names = whole_named files top o queues judged actors tasks are;
       drained = whole_drains files top o queues judged actors tasks are;
+      at_home = whole_fits files top o queues judged actors tasks are;
     }

@@ -4,14 +4,16 @@ use Rattle.std.specs.Prelude.{All, get_or, if◌then◌else◌, map, unwrap_or, 
 use Rattle.std.specs.List.{enumerate_from}
 use Rattle.std.proofs.lemmas.Bool.{true≢false}
 use Rattle.std.proofs.lemmas.Bool.Decides.{Decides-eqb}
-use Rattle.std.proofs.lemmas.List.Elements.{All-head, All-tail}
+use Rattle.std.proofs.lemmas.List.Elements.{All-head, All-nil, All-tail}
 use Rattle.toml.specs.Data.{Data}
+use Rattle.sqs_message.specs.declared.calls.ScriptCall.{ScriptCall}
 use Rattle.sqs_redrive.specs.declared.settings.Kind.{Kind}
 use Rattle.sqs_redrive.specs.declared.settings.Policy.{Policy}
 use Rattle.sqs_redrive.specs.declared.settings.QueueSettings.{QueueSettings}
 use Rattle.sqs_redrive.specs.declared.settings.TaskSettings.{TaskSettings}
 use Rattle.sqs_model.specs.declared.agents.ActorSettings.{ActorSettings}
 use Rattle.sqs_model.specs.declared.agents.Forwarding.{Forwarding}
+use Rattle.sqs_model.specs.declared.agents.ProducerSettings.{ProducerSettings}
 use Rattle.sqs_model.specs.declared.agents.Role.{Role}
 use Rattle.sqs_model.specs.declared.agents.Role.TheVariants.{Consumer, Producer, Script}
 use Rattle.sqs_formats.specs.Reading.{answer, reads}
@@ -19,13 +21,15 @@ use Rattle.sqs_formats.specs.Keys.{Table, at, has, is_among, is_there, optional_
 use Rattle.sqs_formats.specs.Names.{is_agent_name, is_fifo, is_queue_name}
 use Rattle.sqs_formats.specs.Outline.{Outline, all_names, is_first_of, kind_at, name_of, other_kin_named, other_when, place_among, queue_number, queue_when, same_kind}
 use Rattle.sqs_formats.specs.Queues.{dead_letter, kind, policy, queue}
-use Rattle.sqs_formats.specs.Actors.{ActorKind, ConsumerKind, Files, ProducerKind, ScriptKind, Unread, actor, consuming, forward, producing, role, scripted}
+use Rattle.sqs_formats.specs.Actors.{ActorKind, ConsumerKind, Files, ProducerKind, ScriptKind, Unread, actor, consuming, forward, home_of, producing, role, scripted, sending}
 use Rattle.sqs_formats.specs.Tasks.{task}
+use Rattle.sim_scenario.specs.AtHome.{IsCallAt, IsSendingAt, MayDelay}
 use Rattle.sim_scenario.specs.Kinds.{dead_letter_of, is_fifo_kind}
+use Rattle.sim_scenario.proofs.ActorRanges.{calls_by_in_range}
 use Rattle.sim_scenario.proofs.ItemsRead.{given_read, maybe_holds, text_read}
 use Rattle.sim_scenario.proofs.Links.{found}
 use Rattle.sim_scenario.proofs.QueueWalks.{kin_read, name_read, other_read, source_read}
-use Rattle.sim_scenario.proofs.Sound.{is_read, parts, picked}
+use Rattle.sim_scenario.proofs.Sound.{is_read, maybe_within, parts, picked, required_within}
 
 -- a name is that of its table, well-formed, and no name before it
 pub record IsNamed (is_well_formed : List ℕ → Bool) (o : Outline) (number : ℕ) (t : Table) (s : List ℕ) : Type 0 where
@@ -158,17 +162,17 @@ abbrev pub ForwardKin : Outline → ℕ → Option Forwarding → Type 0
 ForwardKin o home None = Unit {0}
 ForwardKin o home (Some f) = kind_at o f.to ≡ kind_at o home
 
--- the same of any actor
-abbrev pub RoleKin : Outline → ℕ → Role → Type 0
-RoleKin o home (Script calls) = Unit {0}
-RoleKin o home (Producer p) = Unit {0}
-RoleKin o home (Consumer c) = ForwardKin o home c.forward
+-- a role fits its home
+abbrev pub RoleSays : Outline → ℕ → Role → Type 0
+RoleSays o home (Script calls) = All (λ c. IsCallAt (kind_at o home) (map (λ t. t.number) (home_of o home).tasks) c.call) calls
+RoleSays o home (Producer p) = IsSendingAt (kind_at o home) p
+RoleSays o home (Consumer c) = ForwardKin o home c.forward
 
--- an actor: its name, its home, and where it forwards
+-- an actor: its name, its home, and what it does there
 pub record ActorSays (o : Outline) (index : ℕ) (t : Table) (a : List ℕ × ActorSettings) : Type 0 where
   pub named : IsNamed is_agent_name o (length o.queues + index) t a.0
   pub home : queue_number o (text_when (at t (codes "queue"))) ≡ Some a.1.home
-  pub role : RoleKin o a.1.home a.1.role
+  pub role : RoleSays o a.1.home a.1.role
 
 kin_read_says : (o : Outline) (home : ℕ) (place s : List ℕ) (n : ℕ) → answer (kin_read o home place s) ≡ Ok n → kind_at o n ≡ kind_at o home
 kin_read_says o home place s n e =
@@ -184,7 +188,7 @@ forward_kin o home t (Some d) f e =
     let says = kin_read_says o home (place_of t (codes "forward")) (text_when (at t (codes "forward"))) to.0 (text_read 0 (kin_read o home) t (codes "forward") to.0 to.1) in
     rw (← is_read _ _ within.2) says
 
-consumer_kin : (o : Outline) (home : ℕ) (t : Table) (r : Role) → answer (consuming o home t) ≡ Ok r → RoleKin o home r
+consumer_kin : (o : Outline) (home : ℕ) (t : Table) (r : Role) → answer (consuming o home t) ≡ Ok r → RoleSays o home r
 consumer_kin o home t r e =
     let known = parts _ _ _ e in
     let start = parts _ _ _ known.2 in
@@ -198,8 +202,25 @@ consumer_kin o home t r e =
     let forward = parts _ _ _ idle.2 in
     rw (← is_read _ _ forward.2) (forward_kin o home t (at t (codes "forward")) forward.0 forward.1)
 
-producer_kin : (o : Outline) (home : ℕ) (fifo : Bool) (t : Table) (r : Role) → answer (producing fifo t) ≡ Ok r → RoleKin o home r
-producer_kin o home fifo t r e =
+-- what a producer gives at a home of its kind
+sending_says : (b : Bool) (t : Table) (own : Option ℕ × Bool × Option ℕ) (p : ProducerSettings) → p.groups ≡ own.0 → p.ids ≡ own.1 → p.delay ≡ own.2 → answer (sending b t) ≡ Ok own → IsSendingAt b p
+sending_says true t own p g i d e =
+    let groups = parts _ _ _ e in
+    let ids = parts _ _ _ groups.2 in
+    let is = is_read _ _ ids.2 in
+    let same : p.groups ≡ Some groups.0 = g ∙ ap (λ (x : Option ℕ × Bool × Option ℕ). x.0) (sym is) in
+    (rw same (required_within 1 1000 t (codes "groups") groups.0 groups.1), d ∙ ap (λ (x : Option ℕ × Bool × Option ℕ). x.2) (sym is))
+sending_says false t own p g i d e =
+    let delay = parts _ _ _ e in
+    let is = is_read _ _ delay.2 in
+    let same : p.delay ≡ delay.0 = d ∙ ap (λ (x : Option ℕ × Bool × Option ℕ). x.2) (sym is) in (
+      g ∙ ap (λ (x : Option ℕ × Bool × Option ℕ). x.0) (sym is),
+      i ∙ ap (λ (x : Option ℕ × Bool × Option ℕ). x.1) (sym is),
+      rw same (maybe_within MayDelay 900 t (codes "delay_s") delay.0 tt (λ n h. h) delay.1),
+    )
+
+producer_kin : (o : Outline) (home : ℕ) (t : Table) (r : Role) → answer (producing (kind_at o home) t) ≡ Ok r → RoleSays o home r
+producer_kin o home t r e =
     let known = parts _ _ _ e in
     let count = parts _ _ _ known.2 in
     let start = parts _ _ _ count.2 in
@@ -207,18 +228,18 @@ producer_kin o home fifo t r e =
     let gap_max = parts _ _ _ gap_min.2 in
     let body = parts _ _ _ gap_max.2 in
     let own = parts _ _ _ body.2 in
-    rw (← is_read _ _ own.2) tt
+    rw (← is_read _ _ own.2) (sending_says (kind_at o home) t own.0 _ refl refl refl own.1)
 
-scripted_kin : (files : Files) (o : Outline) (home : ℕ) (t : Table) (r : Role) → answer (scripted files o home t) ≡ Ok r → RoleKin o home r
+scripted_kin : (files : Files) (o : Outline) (home : ℕ) (t : Table) (r : Role) → answer (scripted files o home t) ≡ Ok r → RoleSays o home r
 scripted_kin files o home t r e =
     let known = parts _ _ _ e in
     let calls = parts _ _ _ known.2 in
-    rw (← is_read _ _ calls.2) tt
+    rw (← is_read _ _ calls.2) (calls_by_in_range files (home_of o home) t (at t (codes "script")) calls.0 calls.1).fits
 
-role_kin : (kind : ActorKind) (files : Files) (o : Outline) (home : ℕ) (t : Table) (r : Role) → answer (role kind files o home t) ≡ Ok r → RoleKin o home r
-role_kin Unread files o home t r e = rw (← is_read _ _ e) tt
+role_kin : (kind : ActorKind) (files : Files) (o : Outline) (home : ℕ) (t : Table) (r : Role) → answer (role kind files o home t) ≡ Ok r → RoleSays o home r
+role_kin Unread files o home t r e = rw (← is_read _ _ e) (All-nil (λ (c : ScriptCall). IsCallAt (kind_at o home) (map (λ t. t.number) (home_of o home).tasks) c.call))
 role_kin ScriptKind files o home t r e = scripted_kin files o home t r e
-role_kin ProducerKind files o home t r e = producer_kin o home _ t r e
+role_kin ProducerKind files o home t r e = producer_kin o home t r e
 role_kin ConsumerKind files o home t r e = consumer_kin o home t r e
 
 pub actor_says : (files : Files) (o : Outline) (index : ℕ) (t : Table) (a : List ℕ × ActorSettings) → answer (actor files o index t) ≡ Ok a → ActorSays o index t a

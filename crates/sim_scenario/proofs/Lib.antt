@@ -27,3 +27,5 @@ pub mod WholeKin
 pub mod Naming
 pub mod WholeNames
 pub mod Drained
+pub mod TasksThere
+pub mod WholeHomes

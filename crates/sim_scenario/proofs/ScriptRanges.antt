@@ -1,7 +1,8 @@
 -- The ranges of a script's calls.
-use Rattle.std.proofs.Common.{◌≡◌, ℕ, ◌+◌, ◌*◌, ◌≤◌, ◌&&◌, Bool, true, false, List, [], ◌∷◌, ◌++◌, length, Option, Some, None, Ok, nat_le, unwrap_or, refl, ap, arith, ◌∙◌}
-use Rattle.std.specs.Prelude.{All, if◌then◌else◌}
-use Rattle.std.proofs.lemmas.List.Elements.{All-cons, All-nil}
+use Rattle.std.proofs.Common.{◌≡◌, ℕ, zero, ◌+◌, ◌*◌, ◌≤◌, ◌&&◌, Bool, true, false, List, [], ◌∷◌, ◌++◌, length, Option, Some, None, Ok, nat_le, unwrap_or, refl, ap, arith, ◌∙◌}
+use Rattle.std.specs.Prelude.{All, Contains, find, if◌then◌else◌, is_some, map}
+use Rattle.std.specs.Str.{bytes_eq}
+use Rattle.std.proofs.lemmas.List.Elements.{All-cons, All-nil, All-weaker}
 use Rattle.std.proofs.lemmas.Bool.Decides.{nat_tests}
 use Rattle.csv.specs.Reading.{default_config, records, strip_bom}
 use Rattle.sqs_message.specs.declared.calls.Call.{Call}
@@ -9,26 +10,33 @@ use Rattle.sqs_message.specs.declared.calls.Call.TheVariants.{Cancel, Start}
 use Rattle.sqs_message.specs.declared.calls.ScriptCall.{ScriptCall}
 use Rattle.sqs_formats.specs.declared.faults.ScriptFault.{ScriptFault}
 use Rattle.sqs_formats.specs.declared.home.Home.{Home}
+use Rattle.sqs_formats.specs.declared.home.HomeTask.{HomeTask}
 use Rattle.sqs_formats.specs.Reading.{answer, needs}
-use Rattle.sqs_formats.specs.Script.{Fields, after_header, call_at, call_in, call_of, call_when, calls_from, change_call, delete_call, fields_of, free_after, is_between, is_number_from, may, number, only_if, receive_call, script, send_call, task_call, timed, waits}
+use Rattle.sqs_formats.specs.Script.{Fields, after_header, are_empty, call_at, call_in, call_of, call_when, calls_from, change_call, delete_call, fields_of, free_after, given, is_between, is_number_from, may, number, only_if, receive_call, script, send_call, task_call, task_number, timed, waits}
 use Rattle.sqs_model.specs.Progress.{Ascends}
+use Rattle.sim_scenario.specs.AtHome.{IsCallAt, IsGroupedAt}
 use Rattle.sim_scenario.specs.Ranges.{IsScript}
+use Rattle.sim_scenario.proofs.Listing.{contains_next}
 use Rattle.sim_scenario.proofs.Sound.{is_read, parts, picked}
 
--- a call, if there is one, waits for at most 20 seconds
-pub record Waits (o : Option Call) : Type 0 where
-  pub most : (c : Call) → o ≡ Some c → waits c ≤ 20
+-- a call of a home's script: it waits for at most 20 seconds, and is one of a home of this kind with these tasks
+abbrev pub IsCallOf : Home → Call → Type 0
+IsCallOf home call = (waits call ≤ 20) × IsCallAt home.is_fifo (map (λ t. t.number) home.tasks) call
 
-only_if_waits : (b : Bool) (call : Call) → (b ≡ true → waits call ≤ 20) → Waits (only_if b call)
-only_if_waits true call h = record { most = λ c e. let same : call ≡ c = cc e in rw (← same) (h refl) }
-only_if_waits false call h = record { most = λ c e. cc e }
+-- such a call, if there is one
+pub record MayCall (home : Home) (o : Option Call) : Type 0 where
+  pub is : (c : Call) → o ≡ Some c → IsCallOf home c
 
-either_waits : (b : Bool) (x y : Option Call) → Waits x → Waits y → Waits (if b then x else y)
-either_waits true x y hx hy = hx
-either_waits false x y hx hy = hy
+only_if_calls : (home : Home) (b : Bool) (call : Call) → (b ≡ true → IsCallOf home call) → MayCall home (only_if b call)
+only_if_calls home true call h = record { is = λ c e. let same : call ≡ c = cc e in rw (← same) (h refl) }
+only_if_calls home false call h = record { is = λ c e. cc e }
 
-none_waits : Waits None
-none_waits = record { most = λ c e. cc e }
+either_calls : (home : Home) (b : Bool) (x y : Option Call) → MayCall home x → MayCall home y → MayCall home (if b then x else y)
+either_calls home true x y hx hy = hx
+either_calls home false x y hx hy = hy
+
+none_calls : (home : Home) → MayCall home None
+none_calls home = record { is = λ c e. cc e }
 
 front_true : (a b : Bool) → (a && b) ≡ true → a ≡ true
 front_true true b e = refl
@@ -50,47 +58,66 @@ wait_small : (s : List ℕ) → may (is_number_from 0 20) s ≡ true → unwrap_
 wait_small [] e = zero_small _
 wait_small (b ∷ bs) e = between_small (number (b ∷ bs)) e
 
-receive_waits : (f : Fields) → Waits (receive_call f)
-receive_waits f = only_if_waits _ _ (λ e. wait_small f.wait (back_true _ _ (front_true _ _ (front_true _ _ e))))
-
 none_to_wait : 0 ≤ 20
 none_to_wait = omega arith
 
-send_waits : (home : Home) (f : Fields) → Waits (send_call home f)
-send_waits home f = only_if_waits _ _ (λ e. none_to_wait)
+-- a send at a standard home has no group and no id
+grouped : (fifo b : Bool) (group id : List ℕ) → (if fifo then b else are_empty (group ∷ id ∷ [])) ≡ true → IsGroupedAt fifo (given group) (given id)
+grouped true b group id e = tt
+grouped false b [] [] e = (refl, refl)
+grouped false b [] (i ∷ is) e = cc e
+grouped false b (g ∷ gs) id e = cc e
 
-delete_waits : (f : Fields) → Waits (delete_call f)
-delete_waits f = only_if_waits _ _ (λ e. none_to_wait)
+send_calls : (home : Home) (f : Fields) → MayCall home (send_call home f)
+send_calls home f = only_if_calls home _ _ (λ e. (none_to_wait, grouped home.is_fifo _ f.group f.id (back_true _ _ e)))
 
-change_waits : (f : Fields) → Waits (change_call f)
-change_waits f = only_if_waits _ _ (λ e. none_to_wait)
+receive_calls : (home : Home) (f : Fields) → MayCall home (receive_call f)
+receive_calls home f = only_if_calls home _ _ (λ e. (wait_small f.wait (back_true _ _ (front_true _ _ (front_true _ _ e))), tt))
 
-start_waits : (home : Home) (f : Fields) → Waits (task_call home f (λ t. Start t))
-start_waits home f = only_if_waits _ _ (λ e. none_to_wait)
+delete_calls : (home : Home) (f : Fields) → MayCall home (delete_call f)
+delete_calls home f = only_if_calls home _ _ (λ e. (none_to_wait, tt))
 
-cancel_waits : (home : Home) (f : Fields) → Waits (task_call home f (λ t. Cancel t))
-cancel_waits home f = only_if_waits _ _ (λ e. none_to_wait)
+change_calls : (home : Home) (f : Fields) → MayCall home (change_call f)
+change_calls home f = only_if_calls home _ _ (λ e. (none_to_wait, tt))
 
-call_waits : (home : Home) (f : Fields) → Waits (call_in home f)
-call_waits home f =
-    either_waits _ _ _ (send_waits home f) (either_waits _ _ _ (receive_waits f) (either_waits _ _ _ (delete_waits f) (either_waits _ _ _ (change_waits f)
-    (either_waits _ _ _ (start_waits home f) (either_waits _ _ _ (cancel_waits home f) none_waits)))))
+-- a task that is found is one of them
+found_by : (p : HomeTask → Bool) (b : Bool) (t : HomeTask) (ts : List HomeTask) → p t ≡ b
+    → (is_some (task_number (find p ts)) ≡ true → Contains (map (λ t. t.number) ts) (unwrap_or (task_number (find p ts)) 0))
+    → is_some (task_number (find p (t ∷ ts))) ≡ true → Contains (map (λ t. t.number) (t ∷ ts)) (unwrap_or (task_number (find p (t ∷ ts))) 0)
+found_by p true t ts is more some = rw is (zero, omega arith, refl)
+found_by p false t ts is more some = rw is (contains_next (unwrap_or (task_number (find p ts)) 0) t.number (map (λ t. t.number) ts) (more (rw is at some)))
 
-timed_waits : (at : Option ℕ) (o : Option Call) (c : ScriptCall) → Waits o → timed at o ≡ Some c → waits c.call ≤ 20
-timed_waits None o c h e = cc e
-timed_waits (Some at) None c h e = cc e
-timed_waits (Some at) (Some call) c h e =
+task_found : (p : HomeTask → Bool) (ts : List HomeTask) → is_some (task_number (find p ts)) ≡ true → Contains (map (λ t. t.number) ts) (unwrap_or (task_number (find p ts)) 0)
+task_found p [] some = cc some
+task_found p (t ∷ ts) some = found_by p (p t) t ts refl (task_found p ts) some
+
+-- a start or a cancel names a task of the home
+start_calls : (home : Home) (f : Fields) → MayCall home (task_call home f (λ t. Start t))
+start_calls home f = only_if_calls home _ _ (λ e. (none_to_wait, task_found (λ t. bytes_eq t.name f.task) home.tasks (back_true _ _ (front_true _ _ e))))
+
+cancel_calls : (home : Home) (f : Fields) → MayCall home (task_call home f (λ t. Cancel t))
+cancel_calls home f = only_if_calls home _ _ (λ e. (none_to_wait, task_found (λ t. bytes_eq t.name f.task) home.tasks (back_true _ _ (front_true _ _ e))))
+
+call_calls : (home : Home) (f : Fields) → MayCall home (call_in home f)
+call_calls home f =
+    either_calls home _ _ _ (send_calls home f) (either_calls home _ _ _ (receive_calls home f) (either_calls home _ _ _ (delete_calls home f) (either_calls home _ _ _ (change_calls home f)
+    (either_calls home _ _ _ (start_calls home f) (either_calls home _ _ _ (cancel_calls home f) (none_calls home))))))
+
+timed_call : (home : Home) (at : Option ℕ) (o : Option Call) (c : ScriptCall) → MayCall home o → timed at o ≡ Some c → IsCallOf home c.call
+timed_call home None o c h e = cc e
+timed_call home (Some at) None c h e = cc e
+timed_call home (Some at) (Some call) c h e =
     let made : ScriptCall = record { at = at; call = call } in
     let same : made ≡ c = cc e in
-    rw (← same) (h.most call refl)
+    rw (← same) (h.is call refl)
 
-when_waits : (home : Home) (o : Option Fields) (c : ScriptCall) → call_when home o ≡ Some c → waits c.call ≤ 20
-when_waits home None c e = cc e
-when_waits home (Some f) c e = timed_waits (number f.at) (call_in home f) c (call_waits home f) e
+when_call : (home : Home) (o : Option Fields) (c : ScriptCall) → call_when home o ≡ Some c → IsCallOf home c.call
+when_call home None c e = cc e
+when_call home (Some f) c e = timed_call home (number f.at) (call_in home f) c (call_calls home f) e
 
-of_waits : (home : Home) (fields : List (List ℕ)) (c : ScriptCall) → call_of home fields ≡ Some c → waits c.call ≤ 20
+of_call : (home : Home) (fields : List (List ℕ)) (c : ScriptCall) → call_of home fields ≡ Some c → IsCallOf home c.call
 unfolding call_of
-of_waits home fields c e = when_waits home (fields_of fields) c e
+of_call home fields c e = when_call home (fields_of fields) c e
 
 -- a call in time
 in_time : (b : Bool) (f : ScriptFault) (n : ℕ) (c : ScriptCall) (cs : List ScriptCall) → nat_le n c.at ≡ b → answer (needs b f (c ∷ [])) ≡ Ok cs → (n ≤ c.at) × (c ∷ [] ≡ cs)
@@ -110,8 +137,8 @@ ascends_from number low from (x ∷ xs) h a = (omega (arith, a.0), a.1)
 
 -- the calls of some records
 pub rows_hold : (home : Home) (n free : ℕ) (rows : List (List (List ℕ))) (cs : List ScriptCall) → answer (calls_from home n free rows) ≡ Ok cs
-    → Ascends (λ c. c.at) free cs × (length cs ≤ length rows) × All (λ c. waits c.call ≤ 20) cs
-rows_hold home n free [] cs e = rw (← is_read _ _ e) (tt, omega arith, All-nil (λ (c : ScriptCall). waits c.call ≤ 20))
+    → Ascends (λ c. c.at) free cs × (length cs ≤ length rows) × All (λ c. IsCallOf home c.call) cs
+rows_hold home n free [] cs e = rw (← is_read _ _ e) (tt, omega arith, All-nil (λ (c : ScriptCall). IsCallOf home c.call))
 rows_hold home n free (fields ∷ rows) cs e =
     let call = parts _ _ _ e in
     let rest = parts _ _ _ call.2 in
@@ -124,24 +151,32 @@ rows_hold home n free (fields ∷ rows) cs e =
     rw (← whole) (
       (one.2, ascends_from (λ (c : ScriptCall). c.at) (c.at + 1) _ rest.0 later below.0),
       omega (arith, below.1),
-      All-cons (λ (c : ScriptCall). waits c.call ≤ 20) c rest.0 (of_waits home fields c one.1) below.2,
+      All-cons (λ (c : ScriptCall). IsCallOf home c.call) c rest.0 (of_call home fields c one.1) below.2,
     )
 
 -- the calls of a script
-header_none : (home : Home) (cs : List ScriptCall) → answer (after_header home []) ≡ Ok cs → IsScript cs
+-- a script in range, whose calls fit the home
+pub record IsScriptOf (home : Home) (calls : List ScriptCall) : Type 0 where
+  pub script : IsScript calls
+  pub fits : All (λ c. IsCallAt home.is_fifo (map (λ t. t.number) home.tasks) c.call) calls
+
+header_none : (home : Home) (cs : List ScriptCall) → answer (after_header home []) ≡ Ok cs → IsScriptOf home cs
 unfolding answer
 header_none home cs e = cc e
 
-header_holds : (home : Home) (rows : List (List (List ℕ))) (cs : List ScriptCall) → length rows ≤ 100001 → answer (after_header home rows) ≡ Ok cs → IsScript cs
+header_holds : (home : Home) (rows : List (List (List ℕ))) (cs : List ScriptCall) → length rows ≤ 100001 → answer (after_header home rows) ≡ Ok cs → IsScriptOf home cs
 header_holds home [] cs h e = header_none home cs e
 header_holds home (names ∷ rows) cs h e =
     let first = parts _ _ _ e in
     let same = (picked _ _ rows first.0 first.1).1 in
     let held = rows_hold home 2 0 first.0 cs first.2 in
     let few : length first.0 ≤ 100000 = rw (← same) (omega arith) in
-    record { few = omega (arith, held.1); ascending = held.0; waiting = held.2 }
+    record {
+      script = record { few = omega (arith, held.1); ascending = held.0; waiting = All-weaker (λ (c : ScriptCall). IsCallOf home c.call) (λ (c : ScriptCall). waits c.call ≤ 20) (λ c h. h.0) cs held.2 };
+      fits = All-weaker (λ (c : ScriptCall). IsCallOf home c.call) (λ (c : ScriptCall). IsCallAt home.is_fifo (map (λ t. t.number) home.tasks) c.call) (λ c h. h.1) cs held.2;
+    }
 
-pub script_in_range : (home : Home) (text : List ℕ) (cs : List ScriptCall) → answer (script home text) ≡ Ok cs → IsScript cs
+pub script_in_range : (home : Home) (text : List ℕ) (cs : List ScriptCall) → answer (script home text) ≡ Ok cs → IsScriptOf home cs
 unfolding script
 script_in_range home text cs e =
     let small = parts _ _ _ e in

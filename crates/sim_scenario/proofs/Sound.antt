@@ -1,11 +1,11 @@
 -- What a reading that answers a value is sure of.
-use Rattle.std.proofs.Common.{◌≡◌, ℕ, ℤ, pos, negsuc, Bool, true, false, List, Option, Some, None, Result, Ok, Err, refl, arith, ◌∙◌}
+use Rattle.std.proofs.Common.{◌≡◌, ℕ, ◌≤◌, ℤ, pos, negsuc, Bool, true, false, List, Option, Some, None, Result, Ok, Err, refl, arith, ◌∙◌}
 use Rattle.std.proofs.lemmas.Bool.Decides.{nat_tests}
 use Rattle.toml.specs.Data.{Data, as_integer}
 use Rattle.sqs_formats.specs.declared.faults.ScenarioFault.{ScenarioFault}
 use Rattle.sqs_formats.specs.Reading.{Reading, answer, first, needs, reads, faulty}
 use Rattle.sqs_formats.specs.Reading as reading
-use Rattle.sqs_formats.specs.Keys.{Table, at, integer, optional, optional_when, place_of, ranged, required, required_when, typed, within}
+use Rattle.sqs_formats.specs.Keys.{Table, at, integer, maybe, optional, optional_when, place_of, ranged, required, required_when, some, typed, within}
 use Rattle.sqs_model.specs.Valid.{Between}
 use Rattle.sim_scenario.specs.Walk.{and_then}
 use Rattle.sim_scenario.proofs.Then.{part}
@@ -58,6 +58,19 @@ optional_when_within : (low high default : ℕ) (place : List ℕ) (o : Option D
 unfolding answer
 optional_when_within low high default place None n h e = let same : default ≡ n = cc e in rw (← same) h
 optional_when_within low high default place (Some d) n h e = typed_within low high place (as_integer d) n e
+
+some_within : (P : Option ℕ → Type 0) (high : ℕ) (place : List ℕ) (d : Data) (v : Option ℕ) → ((n : ℕ) → n ≤ high → P (Some n)) → answer ((some (integer 0 high)).read place d) ≡ Ok v → P v
+some_within P high place d v h e =
+    let n = parts _ _ _ e in
+    let w = typed_within 0 high place (as_integer d) n.0 n.1 in
+    rw (← is_read _ _ n.2) (h n.0 w.1)
+
+maybe_when_within : (P : Option ℕ → Type 0) (high : ℕ) (place : List ℕ) (o : Option Data) (v : Option ℕ) → P None → ((n : ℕ) → n ≤ high → P (Some n)) → answer (optional_when None (some (integer 0 high)) place o) ≡ Ok v → P v
+maybe_when_within P high place None v none h e = rw (← is_read _ _ e) none
+maybe_when_within P high place (Some d) v none h e = some_within P high place d v h e
+
+pub maybe_within : (P : Option ℕ → Type 0) (high : ℕ) (t : Table) (key : List ℕ) (v : Option ℕ) → P None → ((n : ℕ) → n ≤ high → P (Some n)) → answer (maybe (integer 0 high) t key) ≡ Ok v → P v
+maybe_within P high t key v none h e = maybe_when_within P high (place_of t key) (at t key) v none h e
 
 pub optional_within : (low high default : ℕ) (t : Table) (key : List ℕ) (n : ℕ) → Between low high default → answer (optional default (integer low high) t key) ≡ Ok n → Between low high n
 optional_within low high default t key n h e = optional_when_within low high default (place_of t key) (at t key) n h e

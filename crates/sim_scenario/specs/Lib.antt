@@ -5,6 +5,7 @@ pub mod ScriptGives
 pub mod ActorWalks
 pub mod TopWalks
 pub mod Kinds
+pub mod AtHome
 pub mod Naming
 pub mod Ranges
 pub mod Lowest

@@ -8,6 +8,7 @@ use Rattle.sqs_model.specs.declared.agents.Role.TheVariants.{Consumer, Producer,
 use Rattle.sqs_redrive.specs.declared.settings.Policy.{Policy}
 use Rattle.sqs_model.specs.Progress.{Ascends, IsSoundScenario}
 use Rattle.sqs_model.specs.Scenario.{Scenario}
+use Rattle.sim_scenario.specs.AtHome.{FitsHome}
 use Rattle.sim_scenario.specs.Kinds.{NamesKin, TasksDrain}
 use Rattle.sim_scenario.specs.Naming.{AreNamed}
 use Rattle.sqs_model.specs.Valid.{Between, IsConsumer, IsProducer, IsQueueSettings, IsTaskSettings}
@@ -67,3 +68,4 @@ pub record IsInRange (s : Scenario) : Type 0 where
   pub kin : NamesKin s
   pub names : AreNamed s
   pub drained : TasksDrain s
+  pub at_home : All (λ a. FitsHome s a.home a.role) s.actors

@@ -1,0 +1,49 @@
+-- What an actor does at its home.
+use Rattle.std.specs.Prelude.{All, Bool, Contains, List, None, Option, Some, false, filter, map, true, ℕ, ◌==◌, ◌≡◌, ◌≤◌}
+use Rattle.sqs_message.specs.declared.calls.Call.{Call}
+use Rattle.sqs_message.specs.declared.calls.Call.TheVariants.{Cancel, Change, Delete, Receive, Send, Start}
+use Rattle.sqs_model.specs.declared.agents.ProducerSettings.{ProducerSettings}
+use Rattle.sqs_model.specs.declared.agents.Role.{Role}
+use Rattle.sqs_model.specs.declared.agents.Role.TheVariants.{Consumer, Producer, Script}
+use Rattle.sqs_model.specs.Scenario.{Scenario, numbered_tasks}
+use Rattle.sqs_model.specs.Valid.{Between}
+use Rattle.sim_scenario.specs.Kinds.{is_fifo_queue}
+
+-- 1 to 1,000 groups
+abbrev pub HasGroups : Option ℕ → Type 0
+HasGroups None = ⊥
+HasGroups (Some n) = Between 1 1000 n
+
+-- a delay of at most 900 seconds, if there is one
+abbrev pub MayDelay : Option ℕ → Type 0
+MayDelay None = Unit {0}
+MayDelay (Some seconds) = seconds ≤ 900
+
+-- a producer sends to groups at a FIFO home, with no delay of its own; at a standard home it gives no groups and no ids
+abbrev pub IsSendingAt : Bool → ProducerSettings → Type 0
+IsSendingAt true p = HasGroups p.groups × (p.delay ≡ None)
+IsSendingAt false p = (p.groups ≡ None) × (p.ids ≡ false) × MayDelay p.delay
+
+-- a send at a standard home has no group and no id
+abbrev pub IsGroupedAt : Bool → Option (List ℕ) → Option (List ℕ) → Type 0
+IsGroupedAt true group id = Unit {0}
+IsGroupedAt false group id = (group ≡ None) × (id ≡ None)
+
+-- a call at a home of a kind, which names no move task but those of the home
+abbrev pub IsCallAt : Bool → List ℕ → Call → Type 0
+IsCallAt fifo tasks (Send body delay group id) = IsGroupedAt fifo group id
+IsCallAt fifo tasks (Receive max wait timeout) = Unit {0}
+IsCallAt fifo tasks (Delete receipt) = Unit {0}
+IsCallAt fifo tasks (Change receipt timeout) = Unit {0}
+IsCallAt fifo tasks (Start task) = Contains tasks task
+IsCallAt fifo tasks (Cancel task) = Contains tasks task
+
+-- the numbers of the move tasks that take from a queue
+abbrev pub tasks_of : Scenario → ℕ → List ℕ
+tasks_of s home = map (λ t. t.0) (filter (λ t. t.1.home == home) (numbered_tasks s))
+
+-- a role that fits the kind of its home, and the move tasks there
+abbrev pub FitsHome : Scenario → ℕ → Role → Type 0
+FitsHome s home (Script calls) = All (λ c. IsCallAt (is_fifo_queue s home) (tasks_of s home) c.call) calls
+FitsHome s home (Producer p) = IsSendingAt (is_fifo_queue s home) p
+FitsHome s home (Consumer c) = Unit {0}
