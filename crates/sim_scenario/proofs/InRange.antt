@@ -13,15 +13,16 @@ use Rattle.sqs_model.specs.Progress.{IsSoundForward, IsSoundPolicy, IsSoundRole,
 use Rattle.sqs_model.specs.Scenario.{Scenario}
 use Rattle.sqs_model.specs.Valid.{IsQueueSettings, IsTaskSettings, MayBeForward, MayBePolicy}
 use Rattle.sqs_formats.specs.Reading.{answer}
-use Rattle.sqs_formats.specs.Keys.{each, text_in}
+use Rattle.sqs_formats.specs.Keys.{each, has, text_in}
 use Rattle.sqs_formats.specs.Outline.{Outline}
 use Rattle.sqs_formats.specs.Queues.{queue}
 use Rattle.sqs_formats.specs.Actors.{Files, actor}
 use Rattle.sqs_formats.specs.Tasks.{task}
 use Rattle.sqs_formats.specs.Scenario.{Top}
 use Rattle.std.proofs.lemmas.List.{length-map}
-use Rattle.sim_scenario.specs.Ranges.{IsInRange, IsLinked, IsRoleInRange, LeadsBelow, MayBeBelow, RoleBelow}
-use Rattle.sim_scenario.proofs.Links.{actor_below, each_length, queue_below, task_below}
+use Rattle.sim_scenario.specs.Ranges.{ForwardsBelow, IsInRange, IsLinked, IsRoleInRange, LeadsBelow, MayBeBelow, RoleBelow}
+use Rattle.sim_scenario.proofs.Links.{below, each_length, policy_below}
+use Rattle.sim_scenario.proofs.KinRead.{ForwardKin, IsOtherKin, RoleSays, actor_says, queue_says, task_says}
 use Rattle.sim_scenario.proofs.ActorRanges.{actor_in_range}
 use Rattle.sim_scenario.proofs.QueueRanges.{each_holds, queue_in_range, task_in_range}
 use Rattle.sim_scenario.proofs.Drained.{whole_drains}
@@ -51,6 +52,20 @@ names_count : (queues : List (List ℕ × QueueSettings)) (actors : List (List �
     → length (map (λ x. x.0) queues ++ (map (λ x. x.0) actors ++ map (λ x. x.0) tasks)) ≡ length (map (λ x. x.1) queues) + length (map (λ x. x.1) actors) + length (map (λ x. x.1) tasks)
 names_count queues actors tasks = simp (length-append, length-map) (omega arith)
 
+-- whatever names a queue names one of an outline's, and so of the scenario's
+other_below : (o : Outline) (home : ℕ) (v : Option ℕ) → IsOtherKin o home v → MayBeBelow (length o.queues) v
+other_below o home None h = tt
+other_below o home (Some n) h = h.0
+
+forwards_below : (o : Outline) (home : ℕ) (f : Option Forwarding) → ForwardKin o home f → ForwardsBelow (length o.queues) f
+forwards_below o home None h = tt
+forwards_below o home (Some f) h = h.0
+
+role_below : (o : Outline) (home : ℕ) (r : Role) → RoleSays o home r → RoleBelow (length o.queues) r
+role_below o home (Script calls) h = tt
+role_below o home (Producer p) h = tt
+role_below o home (Consumer c) h = forwards_below o home c.forward h
+
 linked_by : (count : ℕ) (s : Scenario) → length s.queues ≡ count
     → All (λ q. LeadsBelow count q.policy) s.queues → All (λ a. (a.home < count) × RoleBelow count a.role) s.actors → All (λ t. (t.home < count) × MayBeBelow count t.to) s.tasks → IsLinked s
 linked_by count s same q a t = record {
@@ -77,9 +92,9 @@ whole_in_range files top o queues judged actors tasks numbers are =
     let task_count : length (map (λ (x : List ℕ × TaskSettings). x.1) tasks) ≡ length top.tasks =
     length-map tasks (λ (x : List ℕ × TaskSettings). x.1) ∙ each_length (codes "task") (task o) 0 top.tasks tasks are.tasks_are in
     let some : 1 ≤ length o.queues = omega (arith, numbers.few_queues.0) in
-    let lq = each_holds (λ (x : List ℕ × QueueSettings). LeadsBelow count x.1.policy) (codes "queue") (queue o) 0 top.queues queues (queue_below o some) are.queues_are in
-    let la = each_holds (λ (x : List ℕ × ActorSettings). (x.1.home < count) × RoleBelow count x.1.role) (codes "actor") (actor files o) 0 top.actors actors (actor_below files o) are.actors_are in
-    let lt = each_holds (λ (x : List ℕ × TaskSettings). (x.1.home < count) × MayBeBelow count x.1.to) (codes "task") (task o) 0 top.tasks tasks (task_below o) are.tasks_are in
+    let lq = each_holds (λ (x : List ℕ × QueueSettings). LeadsBelow count x.1.policy) (codes "queue") (queue o) 0 top.queues queues (λ n t x e. policy_below o (has t (codes "dead_letter")) t x.1.policy some (queue_says o n t x e).policy) are.queues_are in
+    let la = each_holds (λ (x : List ℕ × ActorSettings). (x.1.home < count) × RoleBelow count x.1.role) (codes "actor") (actor files o) 0 top.actors actors (λ n t x e. let says = actor_says files o n t x e in (below o _ x.1.home says.home, role_below o x.1.home x.1.role says.role)) are.actors_are in
+    let lt = each_holds (λ (x : List ℕ × TaskSettings). (x.1.home < count) × MayBeBelow count x.1.to) (codes "task") (task o) 0 top.tasks tasks (λ n t x e. let says = task_says o n t x e in (below o _ x.1.home says.home, other_below o x.1.home x.1.to says.to)) are.tasks_are in
     record {
       horizon = numbers.horizon;
       seed = numbers.seed;

@@ -1,5 +1,5 @@
 -- What each part of a text says of its name, and of the queues that it names.
-use Rattle.std.proofs.Common.{◌≡◌, ◌∙◌, ℕ, zero, suc, ◌+◌, ◌==◌, Bool, true, false, not, codes, List, [], ◌∷◌, length, Option, Some, None, Ok, refl, sym, ap, arith}
+use Rattle.std.proofs.Common.{◌≡◌, ◌∙◌, ℕ, zero, suc, ◌+◌, ◌<◌, ◌==◌, Bool, true, false, not, codes, List, [], ◌∷◌, length, Option, Some, None, Ok, refl, sym, ap, arith}
 use Rattle.std.specs.Prelude.{All, get_or, if◌then◌else◌, map, unwrap_or, ◌≢◌}
 use Rattle.std.specs.List.{enumerate_from}
 use Rattle.std.proofs.lemmas.Bool.{true≢false}
@@ -27,7 +27,7 @@ use Rattle.sim_scenario.specs.AtHome.{IsCallAt, IsSendingAt, MayDelay}
 use Rattle.sim_scenario.specs.Kinds.{dead_letter_of, is_fifo_kind}
 use Rattle.sim_scenario.proofs.ActorRanges.{calls_by_in_range}
 use Rattle.sim_scenario.proofs.ItemsRead.{given_read, maybe_holds, text_read}
-use Rattle.sim_scenario.proofs.Links.{found}
+use Rattle.sim_scenario.proofs.Links.{below, found}
 use Rattle.sim_scenario.proofs.QueueWalks.{kin_read, name_read, other_read, source_read}
 use Rattle.sim_scenario.proofs.Sound.{is_read, maybe_within, parts, picked, required_within}
 
@@ -47,7 +47,7 @@ name_says f o number t s e =
 -- another queue of the home's kind, if there is one, as an outline has them
 abbrev pub IsOtherKin : Outline → ℕ → Option ℕ → Type 0
 IsOtherKin o home None = Unit {0}
-IsOtherKin o home (Some n) = (n ≢ home) × (kind_at o n ≡ kind_at o home)
+IsOtherKin o home (Some n) = (n < length o.queues) × (n ≢ home) × (kind_at o n ≡ kind_at o home)
 
 same_by : (a b : Bool) → (if a then b else not b) ≡ true → a ≡ b
 same_by true b e = sym e
@@ -77,7 +77,7 @@ other_read_says o home place s n e =
     rw (← kin.1) (other.0, other.1, kin.0)
 
 maybe_other_says : (o : Outline) (home : ℕ) (place : List ℕ) (x : Option Data) (v : Option ℕ) → answer (optional_when None (some (other_kin_named o home)) place x) ≡ Ok v → IsOtherKin o home v
-maybe_other_says o home place x v e = maybe_holds (IsOtherKin o home) 0 (other_read o home) place x v tt (λ n e. let s = other_read_says o home place (text_when x) n e in (s.1, s.2)) e
+maybe_other_says o home place x v e = maybe_holds (IsOtherKin o home) 0 (other_read o home) place x v tt (λ n e. let s = other_read_says o home place (text_when x) n e in (below o (text_when x) n s.0, s.1, s.2)) e
 
 -- a queue: its name, its kind, and where its policy leads
 pub record QueueSays (o : Outline) (number : ℕ) (t : Table) (q : List ℕ × QueueSettings) : Type 0 where
@@ -120,7 +120,7 @@ leads o number place (Some d) t p v is e k =
     let n = given_read 0 (other_read o number) place d v k in
     let read = other_read_says o number place (text_when (Some d)) n.0 n.1 in
     let led : unwrap_or (queue_number o name.0) 0 ≡ n.0 = rw (← given, read.0) refl in
-    rw (← is_read _ _ within.2, led) (read.1, read.2)
+    rw (← is_read _ _ within.2, led) (below o (text_when (Some d)) n.0 read.0, read.1, read.2)
 
 pub queue_kin : (o : Outline) (number : ℕ) (t : Table) (q : List ℕ × QueueSettings) (v : Option ℕ) → answer (queue o number t) ≡ Ok q → answer (dead_letter o number t) ≡ Ok v → IsOtherKin o number (dead_letter_of q.1.policy)
 unfolding dead_letter
@@ -160,7 +160,7 @@ task_says o index t k e =
 -- a consumer forwards to a queue of its home's kind
 abbrev pub ForwardKin : Outline → ℕ → Option Forwarding → Type 0
 ForwardKin o home None = Unit {0}
-ForwardKin o home (Some f) = kind_at o f.to ≡ kind_at o home
+ForwardKin o home (Some f) = (f.to < length o.queues) × (kind_at o f.to ≡ kind_at o home)
 
 -- a role fits its home
 abbrev pub RoleSays : Outline → ℕ → Role → Type 0
@@ -174,11 +174,12 @@ pub record ActorSays (o : Outline) (index : ℕ) (t : Table) (a : List ℕ × Ac
   pub home : queue_number o (text_when (at t (codes "queue"))) ≡ Some a.1.home
   pub role : RoleSays o a.1.home a.1.role
 
-kin_read_says : (o : Outline) (home : ℕ) (place s : List ℕ) (n : ℕ) → answer (kin_read o home place s) ≡ Ok n → kind_at o n ≡ kind_at o home
+kin_read_says : (o : Outline) (home : ℕ) (place s : List ℕ) (n : ℕ) → answer (kin_read o home place s) ≡ Ok n → (n < length o.queues) × (kind_at o n ≡ kind_at o home)
 kin_read_says o home place s n e =
     let m = parts _ _ _ e in
     let kin = same_kind_says o home place m.0 n m.2 in
-    rw (← kin.1) kin.0
+    let here = below o s m.0 (found place (queue_number o s) m.0 m.1) in
+    rw (← kin.1) (here, kin.0)
 
 forward_kin : (o : Outline) (home : ℕ) (t : Table) (d : Option Data) (f : Option Forwarding) → answer (forward o home t d) ≡ Ok f → ForwardKin o home f
 forward_kin o home t None f e = rw (← is_read _ _ e) tt

@@ -27,7 +27,7 @@ use Rattle.sim_scenario.proofs.QueueWalks.{kin_read, other_read, source_read}
 use Rattle.sim_scenario.proofs.ActorRanges.{text_holds, typed_holds}
 
 -- a queue that is found is one of them
-below : (o : Outline) (s : List ℕ) (n : ℕ) → queue_number o s ≡ Some n → n < length o.queues
+pub below : (o : Outline) (s : List ℕ) (n : ℕ) → queue_number o s ≡ Some n → n < length o.queues
 below o s n e = (position-Some (λ (t : List ℕ). bytes_eq t s) o.queues n [] e).0
 
 pub found : (place : List ℕ) (x : Option ℕ) (n : ℕ) → answer (queue_when place x) ≡ Ok n → x ≡ Some n
@@ -35,150 +35,18 @@ unfolding answer
 found place None n e = cc e
 found place (Some m) n e = let same : m ≡ n = cc e in ap (λ (k : ℕ). Some k) same
 
-other_by : (b : Bool) (f : ScenarioFault) (m n : ℕ) → answer (needs b f m) ≡ Ok n → Some m ≡ Some n
-other_by b f m n e = ap (λ (k : ℕ). Some k) (picked b f m n e).1
-
-other_found : (place : List ℕ) (home : ℕ) (x : Option ℕ) (n : ℕ) → answer (other_when place home x) ≡ Ok n → x ≡ Some n
-unfolding answer
-other_found place home None n e = cc e
-other_found place home (Some m) n e = other_by _ _ m n e
-
-named_below : (o : Outline) (t : Table) (key : List ℕ) (n : ℕ) → answer (required (queue_named o) t key) ≡ Ok n → n < length o.queues
-named_below o t key n e =
-    text_holds (λ (n : ℕ). n < length o.queues) 0 (λ place s. queue_when place (queue_number o s)) t key n (λ place s n e. below o s n (found place (queue_number o s) n e)) e
-
-kin_read_below : (o : Outline) (home : ℕ) (place s : List ℕ) (n : ℕ) → answer (kin_read o home place s) ≡ Ok n → n < length o.queues
-kin_read_below o home place s n e =
-    let m = parts _ _ _ e in
-    let here = below o s m.0 (found place (queue_number o s) m.0 m.1) in
-    let same = (picked _ _ m.0 n m.2).1 in
-    rw (← same) here
-
-kin_below : (o : Outline) (home : ℕ) (t : Table) (key : List ℕ) (n : ℕ) → answer (required (kin_named o home) t key) ≡ Ok n → n < length o.queues
-kin_below o home t key n e = text_holds (λ (n : ℕ). n < length o.queues) 0 (kin_read o home) t key n (kin_read_below o home) e
-
-source_read_below : (o : Outline) (place s : List ℕ) (n : ℕ) → answer (source_read o place s) ≡ Ok n → n < length o.queues
-source_read_below o place s n e =
-    let m = parts _ _ _ e in
-    let here = below o s m.0 (found place (queue_number o s) m.0 m.1) in
-    let same = (picked _ _ m.0 n m.2).1 in
-    rw (← same) here
-
-source_below : (o : Outline) (t : Table) (key : List ℕ) (n : ℕ) → answer (required (source_named o) t key) ≡ Ok n → n < length o.queues
-source_below o t key n e = text_holds (λ (n : ℕ). n < length o.queues) 0 (source_read o) t key n (source_read_below o) e
-
-other_read_below : (o : Outline) (home : ℕ) (place s : List ℕ) (n : ℕ) → answer (other_read o home place s) ≡ Ok n → n < length o.queues
-other_read_below o home place s n e =
-    let m = parts _ _ _ e in
-    let here = below o s m.0 (other_found place home (queue_number o s) m.0 m.1) in
-    let same = (picked _ _ m.0 n m.2).1 in
-    rw (← same) here
-
-other_data_below : (o : Outline) (home : ℕ) (place : List ℕ) (d : Data) (v : Option ℕ) → answer ((some (other_kin_named o home)).read place d) ≡ Ok v → MayBeBelow (length o.queues) v
-other_data_below o home place d v e =
-    let n = parts _ _ _ e in
-    let here = typed_holds (λ (n : ℕ). n < length o.queues) 0 (other_read o home) place (as_str d) n.0 (other_read_below o home) n.1 in
-    rw (← is_read _ _ n.2) here
-
-other_when_below : (o : Outline) (home : ℕ) (place : List ℕ) (x : Option Data) (v : Option ℕ) → answer (optional_when None (some (other_kin_named o home)) place x) ≡ Ok v → MayBeBelow (length o.queues) v
-other_when_below o home place None v e = rw (← is_read _ _ e) tt
-other_when_below o home place (Some d) v e = other_data_below o home place d v e
-
-other_below : (o : Outline) (home : ℕ) (t : Table) (key : List ℕ) (v : Option ℕ) → answer (maybe (other_kin_named o home) t key) ≡ Ok v → MayBeBelow (length o.queues) v
-other_below o home t key v e = other_when_below o home (place_of t key) (at t key) v e
-
 -- a policy leads to a queue
 lead_below : (x : Option ℕ) (m : ℕ) → 1 ≤ m → ((n : ℕ) → x ≡ Some n → n < m) → unwrap_or x 0 < m
 lead_below None m h k = omega arith
 lead_below (Some n) m h k = k n refl
 
-policy_below : (o : Outline) (b : Bool) (t : Table) (p : Option Policy) → 1 ≤ length o.queues → answer (policy o b t) ≡ Ok p → LeadsBelow (length o.queues) p
+pub policy_below : (o : Outline) (b : Bool) (t : Table) (p : Option Policy) → 1 ≤ length o.queues → answer (policy o b t) ≡ Ok p → LeadsBelow (length o.queues) p
 policy_below o false t p h e = rw (← is_read _ _ e) tt
 policy_below o true t p h e =
     let name = parts _ _ _ e in
     let most = parts _ _ _ name.2 in
     let within = parts _ _ _ most.2 in
     rw (← is_read _ _ within.2) (lead_below (queue_number o name.0) (length o.queues) h (below o name.0))
-
-pub queue_below : (o : Outline) → 1 ≤ length o.queues → (number : ℕ) (t : Table) (q : List ℕ × QueueSettings) → answer (queue o number t) ≡ Ok q → LeadsBelow (length o.queues) q.1.policy
-unfolding queue
-queue_below o h number t q e =
-    let name = parts _ _ _ e in
-    let known = parts _ _ _ name.2 in
-    let visibility = parts _ _ _ known.2 in
-    let delay = parts _ _ _ visibility.2 in
-    let retention = parts _ _ _ delay.2 in
-    let limit = parts _ _ _ retention.2 in
-    let kind = parts _ _ _ limit.2 in
-    let policy = parts _ _ _ kind.2 in
-    rw (← is_read _ _ policy.2) (policy_below o (has t (codes "dead_letter")) t policy.0 h policy.1)
-
--- a move task takes from a queue, and moves to one
-pub task_below : (o : Outline) (index : ℕ) (t : Table) (k : List ℕ × TaskSettings) → answer (task o index t) ≡ Ok k → (k.1.home < length o.queues) × MayBeBelow (length o.queues) k.1.to
-unfolding task
-task_below o index t k e =
-    let name = parts _ _ _ e in
-    let home = parts _ _ _ name.2 in
-    let known = parts _ _ _ home.2 in
-    let to = parts _ _ _ known.2 in
-    let rate = parts _ _ _ to.2 in
-    let within = parts _ _ _ rate.2 in
-    rw (← is_read _ _ within.2) (source_below o t (codes "queue") home.0 home.1, other_below o home.0 t (codes "to") to.0 to.1)
-
--- an actor calls a queue, and forwards to one
-forward_below : (o : Outline) (home : ℕ) (t : Table) (d : Option Data) (f : Option Forwarding) → answer (forward o home t d) ≡ Ok f → ForwardsBelow (length o.queues) f
-forward_below o home t None f e = rw (← is_read _ _ e) tt
-forward_below o home t (Some d) f e =
-    let to = parts _ _ _ e in
-    let within = parts _ _ _ to.2 in
-    rw (← is_read _ _ within.2) (kin_below o home t (codes "forward") to.0 to.1)
-
-consumer_below : (o : Outline) (home : ℕ) (t : Table) (r : Role) → answer (consuming o home t) ≡ Ok r → RoleBelow (length o.queues) r
-consumer_below o home t r e =
-    let known = parts _ _ _ e in
-    let start = parts _ _ _ known.2 in
-    let batch = parts _ _ _ start.2 in
-    let wait = parts _ _ _ batch.2 in
-    let timeout = parts _ _ _ wait.2 in
-    let service_min = parts _ _ _ timeout.2 in
-    let service_max = parts _ _ _ service_min.2 in
-    let failures = parts _ _ _ service_max.2 in
-    let idle = parts _ _ _ failures.2 in
-    let forward = parts _ _ _ idle.2 in
-    rw (← is_read _ _ forward.2) (forward_below o home t (at t (codes "forward")) forward.0 forward.1)
-
-producer_below : (m : ℕ) (fifo : Bool) (t : Table) (r : Role) → answer (producing fifo t) ≡ Ok r → RoleBelow m r
-producer_below m fifo t r e =
-    let known = parts _ _ _ e in
-    let count = parts _ _ _ known.2 in
-    let start = parts _ _ _ count.2 in
-    let gap_min = parts _ _ _ start.2 in
-    let gap_max = parts _ _ _ gap_min.2 in
-    let body = parts _ _ _ gap_max.2 in
-    let own = parts _ _ _ body.2 in
-    rw (← is_read _ _ own.2) tt
-
-scripted_below : (m : ℕ) (files : Files) (o : Outline) (home : ℕ) (t : Table) (r : Role) → answer (scripted files o home t) ≡ Ok r → RoleBelow m r
-scripted_below m files o home t r e =
-    let known = parts _ _ _ e in
-    let calls = parts _ _ _ known.2 in
-    rw (← is_read _ _ calls.2) tt
-
-role_below : (kind : ActorKind) (files : Files) (o : Outline) (home : ℕ) (t : Table) (r : Role) → answer (role kind files o home t) ≡ Ok r → RoleBelow (length o.queues) r
-role_below Unread files o home t r e = rw (← is_read _ _ e) tt
-role_below ScriptKind files o home t r e = scripted_below (length o.queues) files o home t r e
-role_below ProducerKind files o home t r e = producer_below (length o.queues) _ t r e
-role_below ConsumerKind files o home t r e = consumer_below o home t r e
-
-pub actor_below : (files : Files) (o : Outline) (index : ℕ) (t : Table) (a : List ℕ × ActorSettings) → answer (actor files o index t) ≡ Ok a
-    → (a.1.home < length o.queues) × RoleBelow (length o.queues) a.1.role
-unfolding actor
-actor_below files o index t a e =
-    let name = parts _ _ _ e in
-    let kind = parts _ _ _ name.2 in
-    let home = parts _ _ _ kind.2 in
-    let role = parts _ _ _ home.2 in
-    rw (← is_read _ _ role.2) (named_below o t (codes "queue") home.0 home.1, role_below kind.0 files o home.0 t role.0 role.1)
 
 -- as many are read as there are items
 pub each_length : {X : Type 0} (key : List ℕ) (read : ℕ → Table → Says X) (n : ℕ) (ds : List Data) (xs : List X) → answer (each key read n ds) ≡ Ok xs → length xs ≡ length ds

@@ -41,11 +41,11 @@ kin_by o s h m n e = h m ∙ e ∙ sym (h n)
 
 other_kin : (o : Outline) (s : Scenario) → AreOfKinds o s → (home : ℕ) (v : Option ℕ) → IsOtherKin o home v → MayBeOtherKin s home v
 other_kin o s h home None k = tt
-other_kin o s h home (Some n) k = (k.0, kin_by o s h n home k.1)
+other_kin o s h home (Some n) k = (k.1, kin_by o s h n home k.2)
 
 forward_to_kin : (o : Outline) (s : Scenario) → AreOfKinds o s → (home : ℕ) (f : Option Forwarding) → ForwardKin o home f → ForwardsToKin s home f
 forward_to_kin o s h home None k = tt
-forward_to_kin o s h home (Some f) k = kin_by o s h f.to home k
+forward_to_kin o s h home (Some f) k = kin_by o s h f.to home k.1
 
 role_names_kin : (o : Outline) (s : Scenario) → AreOfKinds o s → (home : ℕ) (r : Role) → RoleSays o home r → RoleNamesKin s home r
 role_names_kin o s h home (Script calls) k = tt

@@ -45,9 +45,7 @@ fn push_name(alloc: Global, names: &mut Vec<Text>, item: &Value) -> Result<(), A
         None => Ok(()),
         Some(name) => {
             let bytes = name.as_bytes().to_vec(alloc)?;
-            if names.push(Text::new(bytes)).is_err() {
-                return Err(AllocError);
-            }
+            names.push(Text::new(bytes))?;
             Ok(())
         }
     }
@@ -59,10 +57,7 @@ fn names_in(alloc: Global, items: &[Value]) -> Result<Vec<Text>, AllocError>
 {
     let mut names = Vec::new(alloc);
     for item in items {
-        match push_name(alloc, &mut names, item) {
-            Ok(()) => {}
-            Err(e) => return Err(e),
-        }
+        push_name(alloc, &mut names, item)?;
     }
     Ok(names)
 }
