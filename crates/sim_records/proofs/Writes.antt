@@ -1,5 +1,5 @@
 -- Writes in turn.
-use Rattle.std.proofs.Common.{◌≡◌, ℕ, ◌+◌, ◌<◌, ◌≤◌, List, ◌∷◌, ◌++◌, Option, Bool, Result, Ok, Err, length, take, drop, get_or, map, arith, refl, sym, ap, ◌∙◌, subst, append-nil, take-append-drop}
+use Rattle.std.proofs.Common.{◌≡◌, ℕ, ◌+◌, ◌<◌, ◌≤◌, List, ◌∷◌, ◌++◌, Option, Bool, Result, Ok, Err, length, take, get_or, map, arith, refl, sym, ap, ◌∙◌, subst, append-nil, append_assoc}
 use Rattle.std.proofs.lemmas.Grind.{common_steps, flat_map-append}
 use Rattle.std.proofs.lemmas.List.{map-append, take_more}
 use Rattle.std.proofs.Math.Seq.{take-append-add}
@@ -51,41 +51,39 @@ several_stopped a b f xs ys refusal.Write p = (front_of_first a b xs ys p.0, p.1
 several_stopped a b f xs ys e p = absurd p
 
 -- the lines of one more
-lines-take : {X : Type 0} (f : X → List (List ℕ)) (xs : List X) (i : ℕ) (d : X) → i < length xs
+pub lines-take : {X : Type 0} (f : X → List (List ℕ)) (xs : List X) (i : ℕ) (d : X) → i < length xs
     → lines (map f (take (i + 1) xs)) ≡ lines (map f (take i xs)) ++ line (f (get_or xs i d))
 lines-take f xs i d h = rw (take_more xs i d h, map-append, flat_map-append line, append-nil) refl
 
--- the lines of those before, and the others
-lines-split : {X : Type 0} (f : X → List (List ℕ)) (xs : List X) (i : ℕ) → lines (map f xs) ≡ lines (map f (take i xs)) ++ lines (map f (drop i xs))
-lines-split f xs i =
-    let parts : take i xs ++ drop i xs ≡ xs = take-append-drop i xs in
-    rw (← flat_map-append line (map f (take i xs)) (map f (drop i xs)), ← map-append f (take i xs) (drop i xs), parts) refl
-
--- one more of several records is written
-pub records_more : {X : Type 0} (f : X → List (List ℕ)) (xs : List X) (i : ℕ) (d x : X) (a b c : Option (List ℕ)) (fl : Bool) (u : Unit {0})
-    → i < length xs → x ≡ get_or xs i d → Appends a b (lines (map f (take i xs))) → Wrote b c fl (line (f x)) (Ok u) → Appends a c (lines (map f (take (i + 1) xs)))
-records_more {X} f xs i d x a b c fl u h is p q =
-    let before = lines (map f (take i xs)) in
-    let through : lines (map f (take (i + 1) xs)) ≡ before ++ line (f x) = lines-take f xs i d h ∙ ap (λ (y : X). before ++ line (f y)) (sym is) in
-    subst (λ (t : List ℕ). Appends a c t) (sym through) (appends-more a b c before (line (f x)) p q.0)
-
--- one of several records is not written, so the others are not either
-pub records_stopped : {X : Type 0} (f : X → List (List ℕ)) (xs : List X) (i : ℕ) (d x : X) (a b c : Option (List ℕ)) (fl : Bool) (e : Refusal)
-    → i < length xs → x ≡ get_or xs i d → Appends a b (lines (map f (take i xs))) → Wrote b c fl (line (f x)) (Err e) → WroteSeveral a c fl (lines (map f xs)) (Err e)
-records_stopped {X} f xs i d x a b c fl e h is p q =
-    let before = lines (map f (take i xs)) in
-    let this = line (f x) in
-    let others = lines (map f (drop (i + 1) xs)) in
-    let stopped = several_after a b c fl before this (Err e) p (several-one b c fl this (Err e) q) in
-    let through : lines (map f (take (i + 1) xs)) ≡ before ++ this = lines-take f xs i d h ∙ ap (λ (y : X). before ++ line (f y)) (sym is) in
-    let whole : lines (map f xs) ≡ (before ++ this) ++ others = lines-split f xs (i + 1) ∙ ap (λ (t : List ℕ). t ++ others) through in
-    subst (λ (t : List ℕ). WroteSeveral a c fl t (Err e)) (sym whole) (several_stopped a c fl (before ++ this) others e stopped)
+-- the lines of some, and then those of others
+lines-append : {X : Type 0} (f : X → List (List ℕ)) (xs ys : List X) → lines (map f (xs ++ ys)) ≡ lines (map f xs) ++ lines (map f ys)
+lines-append f xs ys = rw (map-append f xs ys) (flat_map-append line (map f xs) (map f ys))
 
 -- the error that a `?` hands on is the one that it met
 pub several_handed_on : (a b : Option (List ℕ)) (f : Bool) (xs : List ℕ) (e : Refusal) (r : Result (Unit {0}) Refusal)
     → IsErrAnd r (λ met. met ≡ e) → WroteSeveral a b f xs (Err e) → WroteSeveral a b f xs r
 several_handed_on a b f xs e (Ok u) p q = absurd p
 several_handed_on a b f xs e (Err met) p q = rw p q
+
+-- the next of what is left are not written, so the others are not either
+pub next_stopped : {X : Type 0} (f : X → List (List ℕ)) (rest next others : List X) (a b c : Option (List ℕ)) (fl : Bool) (written all : List ℕ) (e : Refusal) (r : Result (Unit {0}) Refusal)
+    → rest ≡ next ++ others → written ++ lines (map f rest) ≡ all → Appends a b written → Wrote b c fl (lines (map f next)) (Err e)
+    → IsErrAnd r (λ met. met ≡ e) → WroteSeveral a c fl all r
+next_stopped {X} f rest next others a b c fl written all e r parts whole front q met =
+    let both : lines (map f next) ++ lines (map f others) ≡ lines (map f rest) = sym (ap (λ (xs : List X). lines (map f xs)) parts ∙ lines-append f next others) in
+    let more = several_stopped b c fl (lines (map f next)) (lines (map f others)) e (several-one b c fl (lines (map f next)) (Err e) q) in
+    let stopped = several_after a b c fl written (lines (map f next) ++ lines (map f others)) (Err e) front more in
+    let is : written ++ (lines (map f next) ++ lines (map f others)) ≡ all = ap (λ (t : List ℕ). written ++ t) both ∙ whole in
+    several_handed_on a c fl all e r met (subst (λ (t : List ℕ). WroteSeveral a c fl t (Err e)) is stopped)
+
+-- the next of what is left are written
+pub next_written : {X : Type 0} (f : X → List (List ℕ)) (rest next others : List X) (a b c : Option (List ℕ)) (fl : Bool) (written all : List ℕ) (u : Unit {0})
+    → rest ≡ next ++ others → written ++ lines (map f rest) ≡ all → Appends a b written → Wrote b c fl (lines (map f next)) (Ok u)
+    → (more : List ℕ) × Appends a c more × (more ++ lines (map f others) ≡ all)
+next_written {X} f rest next others a b c fl written all u parts whole front q =
+    let both : lines (map f next) ++ lines (map f others) ≡ lines (map f rest) = sym (ap (λ (xs : List X). lines (map f xs)) parts ∙ lines-append f next others) in
+    let is : (written ++ lines (map f next)) ++ lines (map f others) ≡ all = append_assoc written (lines (map f next)) (lines (map f others)) ∙ ap (λ (t : List ℕ). written ++ t) both ∙ whole in
+    (written ++ lines (map f next), appends-more a b c written (lines (map f next)) front q.0, is)
 
 -- a header is not written, so neither is what follows
 pub header_stopped : (a b : Option (List ℕ)) (f : Bool) (header : List (List ℕ)) (rows : List (List (List ℕ))) (e : Refusal) (r : Result (Unit {0}) Refusal)

@@ -1,2 +1,3 @@
 pub mod Writes
 pub mod Writers
+pub mod Lines

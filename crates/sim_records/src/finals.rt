@@ -1,12 +1,15 @@
 //! What is left at the end of a run: messages, transfers and tasks, each part under its header.
-ghost use Rattle.std.specs.Prelude.{◌≡◌, ◌∷◌, false, IfOk, map, string_bytes};
+ghost use Rattle.std.specs.Prelude.{◌≡◌, ◌∷◌, ◌++◌, false, IfOk, OnOk, map, string_bytes};
 ghost use Rattle.std.specs.Fmt.{decimal};
 ghost use Rattle.sqs_message.specs.Ids.{origin_text};
 ghost use Rattle.sqs_formats.specs.Rows.{line, lines, text_if};
 ghost use Rattle.sqs_formats.specs.Finals.{finals_text, message_fields, message_header, place_text, status_text, task_fields, task_header, transfer_fields, transfer_header, transfer_kind_text};
 ghost use Rattle.sim_records.specs.Writes.{Wrote, WroteSeveral};
 
-use crate::{Names, Out, write_record};
+use crate::line::{Lines, write_record};
+use crate::names::Names;
+use crate::record::{Record, write_records};
+use crate::sink::Out;
 use sim_clock::Refusal;
 use sqs_message::{Origin, Place, Text};
 use sqs_model::{FinalMessage, FinalTask, FinalTransfer, Finals, TransferKind};
@@ -98,52 +101,37 @@ fn write_message_header<W: Out>(alloc: Global, out: &mut W) -> Result<(), Refusa
     write_record(alloc, out, &fields)
 }
 
-// Writes the line of a message.
-fn write_message<'a, W: Out>(
-    alloc: Global,
-    out: &mut W,
-    message: &'a FinalMessage,
-    names: &'a Names,
-) -> Result<(), Refusal>
-    requires { W.failed out.old ≡ false }
-    ensures { Wrote (W.held out.old) (W.held out.new) (W.failed out.new) (line (message_fields names.now message.now)) result }
-{
-    let place: &'a [u8] = place_name(message.place).as_bytes();
-    let id = message.id.text(alloc)?;
-    let origin = message.origin.text(alloc)?;
-    let due = number_column(alloc, message.due)?;
-    let enqueued = format!(in alloc; "{}", message.enqueued)?;
-    let receives = format!(in alloc; "{}", message.receives)?;
-    let md5 = hex::encode(alloc, &message.md5)?;
-    let fields = [
-        "final".as_bytes(),
-        names.name(message.id.site),
-        id.as_bytes(),
-        origin.as_bytes(),
-        place,
-        due.as_bytes(),
-        enqueued.as_bytes(),
-        receives.as_bytes(),
-        group_column(&message.group),
-        md5.as_bytes(),
-    ];
-    write_record(alloc, out, &fields)
-}
+impl Record for FinalMessage {
+    ghost use Rattle.sqs_formats.specs.Finals.{message_fields};
 
-// Writes the lines of messages, in order.
-fn write_messages<W: Out>(
-    alloc: Global,
-    out: &mut W,
-    messages: &[FinalMessage],
-    names: &Names,
-) -> Result<(), Refusal>
-    requires { W.failed out.old ≡ false }
-    ensures { WroteSeveral (W.held out.old) (W.held out.new) (W.failed out.new) (lines (map (message_fields names.now) messages.now)) result }
-{
-    for message in messages {
-        write_message(alloc, out, message, names)?;
+    ghost fields = { λ names message. message_fields names message };
+
+    fn add_to<'a>(
+        &'a self,
+        alloc: Global,
+        text: &mut Lines,
+        names: &'a Names,
+    ) -> Result<(), AllocError> {
+        let place: &'a [u8] = place_name(self.place).as_bytes();
+        let id = self.id.text(alloc)?;
+        let origin = self.origin.text(alloc)?;
+        let due = number_column(alloc, self.due)?;
+        let enqueued = format!(in alloc; "{}", self.enqueued)?;
+        let receives = format!(in alloc; "{}", self.receives)?;
+        let md5 = hex::encode(alloc, &self.md5)?;
+        text.add(&[
+            "final".as_bytes(),
+            names.name(self.id.site),
+            id.as_bytes(),
+            origin.as_bytes(),
+            place,
+            due.as_bytes(),
+            enqueued.as_bytes(),
+            receives.as_bytes(),
+            group_column(&self.group),
+            md5.as_bytes(),
+        ])
     }
-    Ok(())
 }
 
 // Writes the header of the transfers.
@@ -165,50 +153,35 @@ fn write_transfer_header<W: Out>(alloc: Global, out: &mut W) -> Result<(), Refus
     write_record(alloc, out, &fields)
 }
 
-// Writes the line of a transfer.
-fn write_transfer<'a, W: Out>(
-    alloc: Global,
-    out: &mut W,
-    transfer: &'a FinalTransfer,
-    names: &'a Names,
-) -> Result<(), Refusal>
-    requires { W.failed out.old ≡ false }
-    ensures { Wrote (W.held out.old) (W.held out.new) (W.failed out.new) (line (transfer_fields names.now transfer.now)) result }
-{
-    let kind: &'a [u8] = transfer_kind_name(transfer.kind).as_bytes();
-    let due = format!(in alloc; "{}", transfer.due)?;
-    let number = format!(in alloc; "{}", transfer.number)?;
-    let message = transfer.message.text(alloc)?;
-    let origin = origin_column(alloc, transfer.origin)?;
-    let md5 = hex::encode(alloc, &transfer.md5)?;
-    let fields = [
-        "transfer".as_bytes(),
-        names.name(transfer.from),
-        names.name(transfer.to),
-        kind,
-        due.as_bytes(),
-        number.as_bytes(),
-        message.as_bytes(),
-        origin.as_bytes(),
-        md5.as_bytes(),
-    ];
-    write_record(alloc, out, &fields)
-}
+impl Record for FinalTransfer {
+    ghost use Rattle.sqs_formats.specs.Finals.{transfer_fields};
 
-// Writes the lines of transfers, in order.
-fn write_transfers<W: Out>(
-    alloc: Global,
-    out: &mut W,
-    transfers: &[FinalTransfer],
-    names: &Names,
-) -> Result<(), Refusal>
-    requires { W.failed out.old ≡ false }
-    ensures { WroteSeveral (W.held out.old) (W.held out.new) (W.failed out.new) (lines (map (transfer_fields names.now) transfers.now)) result }
-{
-    for transfer in transfers {
-        write_transfer(alloc, out, transfer, names)?;
+    ghost fields = { λ names transfer. transfer_fields names transfer };
+
+    fn add_to<'a>(
+        &'a self,
+        alloc: Global,
+        text: &mut Lines,
+        names: &'a Names,
+    ) -> Result<(), AllocError> {
+        let kind: &'a [u8] = transfer_kind_name(self.kind).as_bytes();
+        let due = format!(in alloc; "{}", self.due)?;
+        let number = format!(in alloc; "{}", self.number)?;
+        let message = self.message.text(alloc)?;
+        let origin = origin_column(alloc, self.origin)?;
+        let md5 = hex::encode(alloc, &self.md5)?;
+        text.add(&[
+            "transfer".as_bytes(),
+            names.name(self.from),
+            names.name(self.to),
+            kind,
+            due.as_bytes(),
+            number.as_bytes(),
+            message.as_bytes(),
+            origin.as_bytes(),
+            md5.as_bytes(),
+        ])
     }
-    Ok(())
 }
 
 // Writes the header of the tasks.
@@ -220,41 +193,26 @@ fn write_task_header<W: Out>(alloc: Global, out: &mut W) -> Result<(), Refusal>
     write_record(alloc, out, &fields)
 }
 
-// Writes the line of a task.
-fn write_task<'a, W: Out>(
-    alloc: Global,
-    out: &mut W,
-    task: &'a FinalTask,
-    names: &'a Names,
-) -> Result<(), Refusal>
-    requires { W.failed out.old ≡ false }
-    ensures { Wrote (W.held out.old) (W.held out.new) (W.failed out.new) (line (task_fields names.now task.now)) result }
-{
-    let status: &'a [u8] = status_name(task.status).as_bytes();
-    let moved = format!(in alloc; "{}", task.moved)?;
-    let fields = [
-        "task".as_bytes(),
-        names.name(task.task),
-        status,
-        moved.as_bytes(),
-    ];
-    write_record(alloc, out, &fields)
-}
+impl Record for FinalTask {
+    ghost use Rattle.sqs_formats.specs.Finals.{task_fields};
 
-// Writes the lines of tasks, in order.
-fn write_tasks<W: Out>(
-    alloc: Global,
-    out: &mut W,
-    tasks: &[FinalTask],
-    names: &Names,
-) -> Result<(), Refusal>
-    requires { W.failed out.old ≡ false }
-    ensures { WroteSeveral (W.held out.old) (W.held out.new) (W.failed out.new) (lines (map (task_fields names.now) tasks.now)) result }
-{
-    for task in tasks {
-        write_task(alloc, out, task, names)?;
+    ghost fields = { λ names task. task_fields names task };
+
+    fn add_to<'a>(
+        &'a self,
+        alloc: Global,
+        text: &mut Lines,
+        names: &'a Names,
+    ) -> Result<(), AllocError> {
+        let status: &'a [u8] = status_name(self.status).as_bytes();
+        let moved = format!(in alloc; "{}", self.moved)?;
+        text.add(&[
+            "task".as_bytes(),
+            names.name(self.task),
+            status,
+            moved.as_bytes(),
+        ])
     }
-    Ok(())
 }
 
 // Writes the messages under their header.
@@ -268,7 +226,7 @@ fn write_message_part<W: Out>(
     ensures { WroteSeveral (W.held out.old) (W.held out.new) (W.failed out.new) (lines (message_header ∷ map (message_fields names.now) messages.now)) result }
 {
     write_message_header(alloc, out)?;
-    write_messages(alloc, out, messages, names)
+    write_records(alloc, out, messages, names)
 }
 
 // Writes the transfers under their header.
@@ -282,7 +240,7 @@ fn write_transfer_part<W: Out>(
     ensures { WroteSeveral (W.held out.old) (W.held out.new) (W.failed out.new) (lines (transfer_header ∷ map (transfer_fields names.now) transfers.now)) result }
 {
     write_transfer_header(alloc, out)?;
-    write_transfers(alloc, out, transfers, names)
+    write_records(alloc, out, transfers, names)
 }
 
 // Writes the tasks under their header.
@@ -296,7 +254,7 @@ fn write_task_part<W: Out>(
     ensures { WroteSeveral (W.held out.old) (W.held out.new) (W.failed out.new) (lines (task_header ∷ map (task_fields names.now) tasks.now)) result }
 {
     write_task_header(alloc, out)?;
-    write_tasks(alloc, out, tasks, names)
+    write_records(alloc, out, tasks, names)
 }
 
 /// Writes what is left at the end of a run: the messages, the transfers and the tasks, each part
@@ -304,8 +262,8 @@ fn write_task_part<W: Out>(
 ///
 /// # Errors
 ///
-/// `Memory` where a growth is refused: the lines before are written. `Write` where the writer
-/// fails: a front of the lines is written.
+/// `Memory` where a growth is refused, `Write` where the writer fails: a front of the lines is
+/// written.
 pub fn write_finals<W: Out>(
     alloc: Global,
     out: &mut W,

@@ -5,6 +5,7 @@ mod columns;
 mod finals;
 mod line;
 mod names;
+mod record;
 mod rows;
 mod sink;
 #[cfg(test)]
@@ -12,7 +13,7 @@ mod tests;
 mod to_writer;
 
 pub use finals::write_finals;
-pub use line::write_record;
+pub use line::Lines;
 pub use names::Names;
 pub use rows::{write_header, write_row, write_rows};
 pub use sink::{Failed, Out, write_all};

@@ -1,38 +1,98 @@
-//! A record as a line of CSV.
-ghost use Rattle.std.specs.Prelude.{◌≡◌, false, IfOk, map};
+//! Records as lines of CSV.
+ghost use Rattle.std.specs.Prelude.{◌≡◌, ◌++◌, [], false, IfOk, OnOk, map};
 ghost use Rattle.sqs_formats.specs.Rows.{line};
 ghost use Rattle.sim_records.specs.Writes.{Wrote};
 
 use crate::sink::{Out, write_all};
-use csv::WriterBuilder;
+use csv::{Writer, WriterBuilder};
 use sim_clock::Refusal;
 use std::alloc::{AllocError, Global};
+use std::marker::Model;
 
-// The bytes of a record, with quotes where a field needs them.
-pub(crate) fn record_line(alloc: Global, fields: &[&[u8]]) -> Result<Vec<u8>, AllocError>
-    ensures { IfOk result (λ v. v.items ≡ line (map (λ f. f.now) fields.now)) }
-{
-    let mut writer = WriterBuilder::new().from_writer(Vec::new(alloc));
-    if writer.write_fields(fields).is_err() {
-        return Err(AllocError);
+/// Lines of CSV that are being made, one after another. Contracts see it as their bytes.
+///
+/// After a growth that was refused it holds nothing and takes nothing.
+#[derive(Drop)]
+pub struct Lines {
+    writer: Option<Writer<Vec<u8>>>,
+}
+
+impl Model for Lines {
+    ghost use Rattle.std.specs.Prelude.{List, ℕ};
+    ghost use Rattle.sim_records.specs.Lines.{IsBetweenRecords, made};
+
+    ghost Value = { List ℕ };
+
+    ghost view = { λ l. made (λ v. v.items) l.writer };
+
+    ghost invariant = { λ l. IsBetweenRecords l.writer };
+}
+
+impl Lines {
+    /// No lines.
+    pub fn new(alloc: Global) -> Lines
+        ensures { result ≡ [] }
+    {
+        let writer = WriterBuilder::new().from_writer(Vec::new(alloc));
+        Lines {
+            writer: Some(writer),
+        }
     }
-    match writer.into_inner() {
-        Ok(text) => Ok(text),
-        Err(_) => Err(AllocError),
+
+    /// Adds the line of a record, with quotes where a field needs them.
+    ///
+    /// # Errors
+    ///
+    /// `AllocError` where a growth is refused, now or before.
+    pub fn add(&mut self, fields: &[&[u8]]) -> Result<(), AllocError>
+        ensures { OnOk result (self.new ≡ self.old ++ line (map (λ f. f.now) fields.now)) }
+    {
+        if let Some(writer) = &mut self.writer
+            && writer.write_fields(fields).is_ok()
+        {
+            return Ok(());
+        }
+        self.writer = None;
+        Err(AllocError)
+    }
+
+    /// The bytes of the lines.
+    ///
+    /// # Errors
+    ///
+    /// `AllocError` where a growth is refused, now or before.
+    pub fn into_bytes(self) -> Result<Vec<u8>, AllocError>
+        ensures { IfOk result (λ v. v.items ≡ self) }
+    {
+        let Some(writer) = self.writer else {
+            return Err(AllocError);
+        };
+        match writer.into_inner() {
+            Ok(bytes) => Ok(bytes),
+            Err(_) => Err(AllocError),
+        }
     }
 }
 
-/// Writes a record as a line of CSV, with quotes where a field needs them.
-///
-/// # Errors
-///
-/// `Memory` where a growth is refused: nothing is written. `Write` where the writer fails: a front
-/// of the line is written.
-pub fn write_record<W: Out>(alloc: Global, out: &mut W, fields: &[&[u8]]) -> Result<(), Refusal>
+// The line of a record.
+fn line_of(alloc: Global, fields: &[&[u8]]) -> Result<Vec<u8>, AllocError>
+    ensures { IfOk result (λ v. v.items ≡ line (map (λ f. f.now) fields.now)) }
+{
+    let mut lines = Lines::new(alloc);
+    lines.add(fields)?;
+    lines.into_bytes()
+}
+
+// Writes a record as a line.
+pub(crate) fn write_record<W: Out>(
+    alloc: Global,
+    out: &mut W,
+    fields: &[&[u8]],
+) -> Result<(), Refusal>
     requires { W.failed out.old ≡ false }
     ensures { Wrote (W.held out.old) (W.held out.new) (W.failed out.new) (line (map (λ f. f.now) fields.now)) result }
 {
-    let line = record_line(alloc, fields)?;
+    let line = line_of(alloc, fields)?;
     write_all(out, line.as_slice())?;
     Ok(())
 }

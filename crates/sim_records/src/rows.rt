@@ -1,11 +1,12 @@
 //! The log: its header, and a line for each row.
-ghost use Rattle.std.specs.Prelude.{◌≡◌, false, IfOk, map};
+ghost use Rattle.std.specs.Prelude.{◌≡◌, ◌++◌, false, IfOk, OnOk, map};
 ghost use Rattle.sqs_formats.specs.Rows.{line, lines, log_header, row_fields};
 ghost use Rattle.sim_records.specs.Writes.{Wrote, WroteSeveral};
 
 use crate::columns::{answer_name, detail_column, kind_name, message_column, receipt_column};
-use crate::line::{record_line, write_record};
+use crate::line::{Lines, write_record};
 use crate::names::Names;
+use crate::record::{Record, write_records};
 use crate::sink::{Out, write_all};
 use sim_clock::Refusal;
 use sqs_message::Row;
@@ -27,27 +28,43 @@ pub fn write_header<W: Out>(alloc: Global, out: &mut W) -> Result<(), Refusal>
     write_record(alloc, out, &fields)
 }
 
+impl Record for Row {
+    ghost use Rattle.sqs_formats.specs.Rows.{row_fields};
+
+    ghost fields = { λ names row. row_fields names row };
+
+    fn add_to<'a>(
+        &'a self,
+        alloc: Global,
+        text: &mut Lines,
+        names: &'a Names,
+    ) -> Result<(), AllocError> {
+        let kind: &'a [u8] = kind_name(self.kind).as_bytes();
+        let answer: &'a [u8] = answer_name(self.answer).as_bytes();
+        let at = format!(in alloc; "{}", self.key.at)?;
+        let message = message_column(alloc, self.message)?;
+        let receipt = receipt_column(alloc, &self.receipt)?;
+        let detail = detail_column(alloc, self.detail, names)?;
+        text.add(&[
+            at.as_bytes(),
+            names.name(self.queue),
+            names.name(self.agent),
+            kind,
+            answer,
+            message.as_bytes(),
+            receipt.as_bytes(),
+            detail.as_bytes(),
+        ])
+    }
+}
+
 // The line of a row.
-fn row_line<'a>(alloc: Global, row: &Row, names: &'a Names) -> Result<Vec<u8>, AllocError>
+fn row_line(alloc: Global, row: &Row, names: &Names) -> Result<Vec<u8>, AllocError>
     ensures { IfOk result (λ v. v.items ≡ line (row_fields names.now row.now)) }
 {
-    let kind: &'a [u8] = kind_name(row.kind).as_bytes();
-    let answer: &'a [u8] = answer_name(row.answer).as_bytes();
-    let at = format!(in alloc; "{}", row.key.at)?;
-    let message = message_column(alloc, row.message)?;
-    let receipt = receipt_column(alloc, &row.receipt)?;
-    let detail = detail_column(alloc, row.detail, names)?;
-    let fields = [
-        at.as_bytes(),
-        names.name(row.queue),
-        names.name(row.agent),
-        kind,
-        answer,
-        message.as_bytes(),
-        receipt.as_bytes(),
-        detail.as_bytes(),
-    ];
-    record_line(alloc, &fields)
+    let mut text = Lines::new(alloc);
+    row.add_to(alloc, &mut text, names)?;
+    text.into_bytes()
 }
 
 /// Writes the line of a row.
@@ -74,8 +91,8 @@ pub fn write_row<W: Out>(
 ///
 /// # Errors
 ///
-/// `Memory` where a growth is refused: the lines before are written. `Write` where the writer
-/// fails: a front of the lines is written.
+/// `Memory` where a growth is refused, `Write` where the writer fails: a front of the lines is
+/// written.
 pub fn write_rows<W: Out>(
     alloc: Global,
     out: &mut W,
@@ -85,8 +102,5 @@ pub fn write_rows<W: Out>(
     requires { W.failed out.old ≡ false }
     ensures { WroteSeveral (W.held out.old) (W.held out.new) (W.failed out.new) (lines (map (row_fields names.now) rows.now)) result }
 {
-    for row in rows {
-        write_row(alloc, out, row, names)?;
-    }
-    Ok(())
+    write_records(alloc, out, rows, names)
 }

@@ -1,40 +1,20 @@
 -- Several parts written in turn, and the lines of a comparison.
-use Rattle.std.proofs.Common.{arith, ◌≡◌, ◌∙◌, ℕ, zero, suc, min, Bor, ◌+◌, ◌<◌, Bool, true, false, cond, Option, Result, Err, List, [], ◌∷◌, ◌++◌, length, map, filter, take, drop, get_or, refl, sym, ap, subst, take-append-drop}
+use Rattle.std.proofs.Common.{arith, ◌≡◌, ◌∙◌, ℕ, zero, suc, min, Bor, ◌+◌, ◌<◌, Bool, true, false, cond, Option, List, [], ◌∷◌, ◌++◌, length, map, filter, take, get_or, refl, sym, ap, append_assoc}
 use Rattle.std.proofs.lemmas.Grind.{flat_map-append}
-use Rattle.std.proofs.lemmas.List.{drop_more}
 use Rattle.std.proofs.lemmas.Slice.Zip.{get_or-zip, length-zip}
 use Rattle.std.specs.List.{flat_map, zip}
-use Rattle.std.specs.Result.{IsErrAnd}
-use Rattle.std.specs.Io.KnownBytes.{Appends}
-use Rattle.sim_clock.specs.declared.refusal.Refusal.{Refusal}
 use Rattle.sqs_formats.specs.Rows.{line, lines}
 use Rattle.sqs_formats.specs.Report.{Column}
 use Rattle.sqs_formats.specs.Comparison.{compared, comparison, comparison_records, is_new, named, only_in_b}
-use Rattle.sim_records.specs.Writes.{WroteSeveral}
-use Rattle.sim_records.proofs.Writes.{several_after, several_handed_on, several_stopped}
+use Rattle.sim_records.proofs.Writes.{lines-take}
 use Rattle.sim_report.specs.Compared.{new_lines}
 
--- the parts before one, that one, and those after it
-parts-split : {X : Type 0} (f : X → List (List (List ℕ))) (xs : List X) (i : ℕ) (d x : X) → i < length xs → x ≡ get_or xs i d
-    → lines (flat_map f (take i xs)) ++ (lines (f x) ++ lines (flat_map f (drop (i + 1) xs))) ≡ lines (flat_map f xs)
-parts-split {X} f xs i d x h is =
-    let before = flat_map f (take i xs) in
-    let after = flat_map f (drop (i + 1) xs) in
-    let rest : f x ++ after ≡ flat_map f (drop i xs) = ap (λ (y : X). f y ++ after) is ∙ ap (flat_map f) (sym (drop_more xs i d h)) in
-    let whole : before ++ (f x ++ after) ≡ flat_map f xs =
-    ap (λ (ls : List (List (List ℕ))). before ++ ls) rest ∙ sym (flat_map-append f (take i xs) (drop i xs)) ∙ ap (flat_map f) (take-append-drop i xs) in
-    ap (λ (t : List ℕ). lines before ++ t) (sym (flat_map-append line (f x) after)) ∙ sym (flat_map-append line before (f x ++ after)) ∙ ap lines whole
-
--- one of several parts is not written, so the others are not either
-pub parts_stopped : {X : Type 0} (f : X → List (List (List ℕ))) (xs : List X) (i : ℕ) (d x : X) (a b c : Option (List ℕ)) (fl : Bool) (e : Refusal) (r : Result (Unit {0}) Refusal)
-    → i < length xs → x ≡ get_or xs i d → Appends a b (lines (flat_map f (take i xs))) → WroteSeveral b c fl (lines (f x)) (Err e)
-    → IsErrAnd r (λ met. met ≡ e) → WroteSeveral a c fl (lines (flat_map f xs)) r
-parts_stopped f xs i d x a b c fl e r h is p q met =
-    let before = lines (flat_map f (take i xs)) in
-    let others = lines (flat_map f (drop (i + 1) xs)) in
-    let stopped = several_after a b c fl before (lines (f x) ++ others) (Err e) p (several_stopped b c fl (lines (f x)) others e q) in
-    let all = subst (λ (t : List ℕ). WroteSeveral a c fl t (Err e)) (parts-split f xs i d x h is) stopped in
-    several_handed_on a c fl (lines (flat_map f xs)) e r met all
+-- the line of one more of several
+pub line-more : {X : Type 0} (f : X → List (List ℕ)) (xs : List X) (i : ℕ) (d x : X) (start before after : List ℕ) → i < length xs → x ≡ get_or xs i d
+    → before ≡ start ++ lines (map f (take i xs)) → after ≡ before ++ line (f x) → after ≡ start ++ lines (map f (take (i + 1) xs))
+line-more {X} f xs i d x start before after h is b a =
+    let this : line (f x) ≡ line (f (get_or xs i d)) = ap (λ (y : X). line (f y)) is in
+    rw (a, b, this, lines-take f xs i d h) (append_assoc start (lines (map f (take i xs))) (line (f (get_or xs i d))))
 
 new-lines-cons : (a : List Column) (c : Column) (rest : List (List (List ℕ))) (cs : List Column) (b : Bool) → rest ≡ map (λ c. only_in_b c.0) cs
     → cond b (only_in_b c.0 ∷ []) [] ++ rest ≡ map (λ c. only_in_b c.0) (cond b (c ∷ cs) cs)
@@ -47,9 +27,18 @@ new-lines-is a [] = refl
 new-lines-is a (c ∷ cs) = new-lines-cons a c (flat_map (new_lines a) cs) (filter (is_new a) cs) (is_new a c) (new-lines-is a cs)
 
 -- the two parts of a comparison
-pub comparison-parts : (a b : List Column) → lines (flat_map (λ c. compared c (named c.0 b)) a ++ flat_map (new_lines a) b) ≡ comparison a b
+comparison-parts : (a b : List Column) → lines (flat_map (λ c. compared c (named c.0 b)) a ++ flat_map (new_lines a) b) ≡ comparison a b
 unfolding comparison_records
 comparison-parts a b = ap (λ (ls : List (List (List ℕ))). lines (flat_map (λ c. compared c (named c.0 b)) a ++ ls)) (new-lines-is a b)
+
+-- the two parts of a comparison in turn
+pub comparison-in-turn : (a b : List Column) (none one two : List ℕ) → none ≡ [] → one ≡ none ++ lines (flat_map (λ c. compared c (named c.0 b)) a)
+    → two ≡ one ++ lines (flat_map (new_lines a) b) → two ≡ comparison a b
+comparison-in-turn a b none one two e first second =
+    let here = flat_map (λ (c : Column). compared c (named c.0 b)) a in
+    let there = flat_map (new_lines a) b in
+    let start : one ≡ lines here = first ∙ ap (λ (t : List ℕ). t ++ lines here) e in
+    second ∙ ap (λ (t : List ℕ). t ++ lines there) start ∙ sym (flat_map-append line here there) ∙ comparison-parts a b
 
 get_or-map : {X Y : Type 0} (f : X → Y) (xs : List X) (i : ℕ) (d : X) → get_or (map f xs) i (f d) ≡ f (get_or xs i d)
 get_or-map f [] i d = refl

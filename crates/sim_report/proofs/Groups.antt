@@ -1,28 +1,22 @@
 -- Lists that are counted by the number of their group.
 use Rattle.std.proofs.Common.{◌≡◌, ◌==◌, ℕ, zero, suc, ◌+◌, ◌<◌, ◌≤◌, Bool, true, false, cond, Option, List, [], ◌∷◌, ◌++◌, length, map, filter, set, take, drop, get_or, replicate, refl, sym, ap, ◌∙◌, arith}
 use Rattle.std.specs.List.{enumerate_from}
-use Rattle.std.specs.Prelude.{Result, Ok, Err, IfErr}
-use Rattle.std.specs.Result.{IsErrAnd}
 use Rattle.std.proofs.lemmas.Grind.{common_steps}
 use Rattle.std.proofs.lemmas.List.{append-nil, append_assoc, length-map}
 use Rattle.std.proofs.lemmas.List.FromFn.{length-enumerate_from}
-use Rattle.std.proofs.lemmas.List.Sums.{count_by-le-length, length-filter}
-use Rattle.std.proofs.lemmas.List.Elements.{All-contains, All-map, filter-append}
-use Rattle.sim_clock.specs.declared.refusal.Refusal.{Refusal}
-use Rattle.sim_clock.specs.declared.refusal.Refusal.TheVariants as refusals
-use Rattle.sqs_model.specs.Answers.{most_count}
+use Rattle.std.proofs.lemmas.List.Elements.{filter-append}
 use Rattle.std.proofs.lemmas.Bool.Decides.{nat_tests}
 use Rattle.sqs_message.specs.declared.row.Row.{Row}
 use Rattle.sqs_message.specs.declared.message.Place.{Place}
 use Rattle.sqs_message.specs.declared.message.Place.TheVariants.{Delayed, Visible, InFlight}
 use Rattle.sqs_model.specs.declared.finals.Finals.{Finals}
 use Rattle.sqs_model.specs.declared.finals.FinalMessage.{FinalMessage}
-use Rattle.sqs_formats.specs.Report.{Column, columns_of, count, counted_columns, counts_in, is_delayed, is_in_flight, is_visible, left, messages_of, numbers, queue_report, report, rows_of}
+use Rattle.sqs_formats.specs.Report.{Column, columns_of, is_delayed, is_in_flight, is_visible, left, messages_of, queue_report, report, rows_of}
 use Rattle.sim_report.specs.declared.left.Left.{Left}
 use Rattle.sim_report.specs.declared.queue.QueueCounts.{QueueCounts}
 use Rattle.sim_report.specs.Left.{left_of, left_with, lefts}
-use Rattle.sim_report.specs.Running.{HasFull, changed, columns_by, columns_of_all, fresh, queue_column, queue_counts, row_added, rows_added, running, with_row}
-use Rattle.sim_report.specs.Tally.{IsStop, tally_of}
+use Rattle.sim_report.specs.Running.{changed, columns_by, columns_of_all, fresh, queue_column, queue_counts, row_added, rows_added, running, with_row}
+use Rattle.sim_report.specs.Tally.{tally_of}
 use Rattle.sim_report.proofs.Tallies.{tallied-is}
 
 -- of each group, what its members make
@@ -185,39 +179,3 @@ column-is queues messages left i q l h here all there =
     ap (λ (x : QueueCounts). (x.name, columns_by x.tally l)) here
     ∙ ap (λ (x : Left). ((get_or queues i q).name, columns_by (get_or queues i q).tally x)) own
     ∙ sym (column-at queues messages i (q.name, columns_by q.tally l) q l h)
-
-get_or-up_to : (g : ℕ → ℕ) (most : ℕ) → ((n : ℕ) → g n ≤ most) → (ns : List ℕ) (c : ℕ) → get_or (map g ns) c 0 ≤ most
-get_or-up_to g most h [] c = omega arith
-get_or-up_to g most h (n ∷ ns) zero = h n
-get_or-up_to g most h (n ∷ ns) (suc c) = get_or-up_to g most h ns c
-
-filter-up_to : {X : Type 0} (p : X → Bool) (xs : List X) → length (filter p xs) ≤ length xs
-filter-up_to p xs = omega (arith, length-filter p xs, count_by-le-length p xs)
-
--- no count is above the number of rows
-counts-up_to : (rows : List Row) (queue : ℕ × List ℕ) (c : ℕ) → get_or (queue_counts rows queue).tally.counts c 0 ≤ length rows
-counts-up_to rows queue c =
-    let own = rows_of queue.0 rows in
-    get_or-up_to (λ n. count n own) (length rows) (λ n. omega (arith, filter-up_to (counts_in n) own, filter-up_to (λ row. row.queue == queue.0) rows)) (numbers 0 counted_columns) c
-
--- a count at the limit is of as many rows
-pub full-rows : (names : List (List ℕ)) (rows : List Row) → HasFull (running names rows) → most_count ≤ length rows
-unfolding running
-full-rows names rows h =
-    let few : QueueCounts → Type 0 = λ q. (c : ℕ) → get_or q.tally.counts c 0 ≤ length rows in
-    let all = All-map few (queue_counts rows) (enumerate_from 0 names) (λ k d _. counts-up_to rows (get_or (enumerate_from 0 names) k d)) in
-    let this = All-contains few (running names rows) h.0 all h.1 h.2.0 in
-    let here = h.2.1 in
-    omega arith
-
--- a weaker reason
-pub IsStop-weaker : (full : Type 0) (other : Type 0) (e : Refusal) → (full → other) → IsStop full e → IsStop other e
-IsStop-weaker full other refusals.Memory h s = tt
-IsStop-weaker full other refusals.CountLimit h s = h s
-IsStop-weaker full other e h s = absurd s
-
--- the refusal that a `?` hands on is the one that it met
-pub stop_handed_on : (full : Type 0) (other : Type 0) (e : Refusal) (r : Result (Unit {0}) Refusal)
-    → IsErrAnd r (λ met. met ≡ e) → (full → other) → IsStop full e → IfErr r (λ met. IsStop other met)
-stop_handed_on full other e (Ok u) p h s = tt
-stop_handed_on full other e (Err met) p h s = IsStop-weaker full other met h (rw p s)

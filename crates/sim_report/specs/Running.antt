@@ -1,13 +1,13 @@
 -- The running counts of all queues, and the columns that they become.
 use Rattle.std.specs.Prelude.{ℕ, zero, suc, List, [], ◌∷◌, ◌++◌, map, sum, fold, Option, Some}
-use Rattle.std.specs.List.{Contains, enumerate_from}
+use Rattle.std.specs.List.{enumerate_from}
 use Rattle.sqs_message.specs.declared.row.Row.{Row}
 use Rattle.sqs_model.specs.declared.finals.FinalMessage.{FinalMessage}
 use Rattle.sqs_formats.specs.Report.{Column, messages_of, rank, rows_of}
 use Rattle.sim_report.specs.declared.left.Left.{Left}
 use Rattle.sim_report.specs.declared.queue.QueueCounts.{QueueCounts}
 use Rattle.sim_report.specs.Left.{left_of}
-use Rattle.sim_report.specs.Tally.{IsFull, TallyState, tallied, tally_of}
+use Rattle.sim_report.specs.Tally.{TallyState, tallied, tally_of}
 
 -- one element of a list changed, where there is such a place
 abbrev pub changed : {X : Type 0} → (X → X) → ℕ → List X → List X
@@ -38,10 +38,6 @@ queue_counts rows queue = record { name = queue.1; tally = tally_of (rows_of que
 -- the report after these rows: of each queue, by its name, the counts over its rows among them
 unfoldable pub running : List (List ℕ) → List Row → List QueueCounts
 running queues rows = map (queue_counts rows) (enumerate_from 0 queues)
-
--- a count of a queue has reached the limit
-abbrev pub HasFull : List QueueCounts → Type 0
-HasFull queues = (q : QueueCounts) × Contains queues q × IsFull q.tally.counts
 
 -- the columns that a queue's counts become with what is left of it
 abbrev pub columns_by : TallyState → Left → List (Option ℕ)

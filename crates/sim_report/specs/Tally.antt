@@ -1,8 +1,5 @@
 -- The running counts of one queue.
-use Rattle.std.specs.Prelude.{◌≡◌, ℕ, ◌+◌, ◌-◌, ◌*◌, ◌/◌, ◌≤◌, max, List, [], ◌∷◌, ◌++◌, length, map, set, get_or, slice_get, Option, Some, None}
-use Rattle.sim_clock.specs.declared.refusal.Refusal.{Refusal}
-use Rattle.sim_clock.specs.declared.refusal.Refusal.TheVariants as refusals
-use Rattle.sqs_model.specs.Answers.{most_count}
+use Rattle.std.specs.Prelude.{ℕ, ◌+◌, ◌-◌, ◌*◌, ◌/◌, max, List, [], ◌∷◌, ◌++◌, length, map, set, get_or, slice_get, Option, Some, None}
 use Rattle.sqs_message.specs.declared.row.Row.{Row}
 use Rattle.sqs_formats.specs.Report.{age_when, ages, column, count, counted_columns, depth_max, is_column, numbers}
 
@@ -17,20 +14,6 @@ pub record TallyState : Type 0 where
 abbrev pub tally_of : List Row → TallyState
 tally_of rows =
     record { counts = map (λ n. count n rows) (numbers 0 counted_columns); depth_max = depth_max rows; ages = ages rows }
-
--- a count has reached the limit
-abbrev pub IsFull : List ℕ → Type 0
-IsFull counts = (c : ℕ) × (get_or counts c 0 ≡ most_count)
-
--- why rows are not counted: want of memory, or a count that would pass the limit, and then this holds
-abbrev pub IsStop : Type 0 → Refusal → Type 0
-IsStop full refusals.Memory = Unit {0}
-IsStop full refusals.CountLimit = full
-IsStop full r = ⊥
-
--- a count that may be kept
-abbrev pub IsCount : ℕ → Type 0
-IsCount n = n ≤ most_count
 
 -- the counts with one more row in a column, where the row has one of these columns
 abbrev pub counted : Option ℕ → List ℕ → List ℕ

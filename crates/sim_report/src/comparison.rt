@@ -1,6 +1,5 @@
 //! The comparison of two reports.
-ghost use Rattle.std.specs.Prelude.{◌≡◌, false, IfOk, flat_map, map};
-ghost use Rattle.sim_records.specs.Writes.{Wrote, WroteSeveral};
+ghost use Rattle.std.specs.Prelude.{◌≡◌, ◌++◌, IfOk, OnOk, flat_map, map};
 ghost use Rattle.sim_report.specs.Compared.{new_lines, only_line};
 ghost use Rattle.sqs_formats.specs.Comparison.{column_line, compared, comparison, difference_if, named};
 ghost use Rattle.sqs_formats.specs.Report.{columns};
@@ -10,8 +9,7 @@ ghost use Rattle.std.specs.Option.{option_map};
 
 use crate::columns::{QueueColumns, column_names, named};
 use crate::writing::number_text;
-use sim_clock::Refusal;
-use sim_records::{Out, write_record};
+use sim_records::Lines;
 use sqs_message::Text;
 use std::alloc::{AllocError, Global};
 
@@ -31,17 +29,16 @@ fn difference_text(
     Ok(Text::new(text.into_bytes()))
 }
 
-// Writes the line of a column of a queue.
-fn write_column_line<W: Out>(
+// Adds the line of a column of a queue.
+fn add_column(
     alloc: Global,
-    out: &mut W,
+    text: &mut Lines,
     queue: &[u8],
     column: &[u8],
     first: Option<u128>,
     second: Option<u128>,
-) -> Result<(), Refusal>
-    requires { W.failed out.old ≡ false }
-    ensures { Wrote (W.held out.old) (W.held out.new) (W.failed out.new) (line (column_line queue.now (column.now, (first, second)))) result }
+) -> Result<(), AllocError>
+    ensures { OnOk result (text.new ≡ text.old ++ line (column_line queue.now (column.now, (first, second)))) }
 {
     let before = number_text(alloc, first)?;
     let after = number_text(alloc, second)?;
@@ -54,19 +51,13 @@ fn write_column_line<W: Out>(
         after.as_bytes(),
         difference.as_bytes(),
     ];
-    write_record(alloc, out, &fields)
+    text.add(&fields)
 }
 
-// Writes the line of a queue that stands in one report only: how often it stands in the first and
+// Adds the line of a queue that stands in one report only: how often it stands in the first and
 // in the second, and the difference.
-fn write_only<W: Out>(
-    alloc: Global,
-    out: &mut W,
-    queue: &[u8],
-    counts: [&[u8]; 3],
-) -> Result<(), Refusal>
-    requires { W.failed out.old ≡ false }
-    ensures { Wrote (W.held out.old) (W.held out.new) (W.failed out.new) (line (only_line queue.now (map (λ n. n.now) counts.entry))) result }
+fn add_only(text: &mut Lines, queue: &[u8], counts: [&[u8]; 3]) -> Result<(), AllocError>
+    ensures { OnOk result (text.new ≡ text.old ++ line (only_line queue.now (map (λ n. n.now) counts.entry))) }
 {
     let [first, second, difference] = counts;
     let fields = [
@@ -77,109 +68,105 @@ fn write_only<W: Out>(
         second,
         difference,
     ];
-    write_record(alloc, out, &fields)
+    text.add(&fields)
 }
 
-// Writes the lines of the columns of a queue.
-fn write_column_lines<W: Out>(
+// Adds the lines of the columns of a queue.
+fn add_columns(
     alloc: Global,
-    out: &mut W,
+    text: &mut Lines,
     queue: &[u8],
     first: &[Option<u128>],
     second: &[Option<u128>],
-) -> Result<(), Refusal>
-    requires { W.failed out.old ≡ false }
-    ensures { WroteSeveral (W.held out.old) (W.held out.new) (W.failed out.new)
-        (lines (map (column_line queue.now) (zip columns (zip first.now second.now)))) result }
+) -> Result<(), AllocError>
+    ensures { OnOk result (text.new ≡ text.old ++ lines (map (column_line queue.now) (zip columns (zip first.now second.now)))) }
 {
     let names = column_names();
     let count = names.len().min(first.len()).min(second.len());
     for place in 0..count {
-        write_column_line(alloc, out, queue, names[place], first[place], second[place])?;
+        add_column(
+            alloc,
+            text,
+            queue,
+            names[place],
+            first[place],
+            second[place],
+        )?;
     }
     Ok(())
 }
 
-// Writes the lines of a queue of the first report, with the same queue of the second.
-fn write_compared<W: Out>(
+// Adds the lines of a queue of the first report, with the same queue of the second.
+fn add_compared(
     alloc: Global,
-    out: &mut W,
+    text: &mut Lines,
     first: &QueueColumns,
     second: Option<&QueueColumns>,
-) -> Result<(), Refusal>
-    requires { W.failed out.old ≡ false }
-    ensures { WroteSeveral (W.held out.old) (W.held out.new) (W.failed out.new)
-        (lines (compared first.now (option_map (λ q. q.now) second.entry))) result }
+) -> Result<(), AllocError>
+    ensures { OnOk result (text.new ≡ text.old ++ lines (compared first.now (option_map (λ q. q.now) second.entry))) }
 {
     match second {
         Some(second) => {
             let (first_columns, second_columns) = (&first.columns, &second.columns);
-            write_column_lines(alloc, out, first.name, first_columns, second_columns)
+            add_columns(alloc, text, first.name, first_columns, second_columns)
         }
-        None => write_only(alloc, out, first.name, [b"1", b"0", b"-1"]),
+        None => add_only(text, first.name, [b"1", b"0", b"-1"]),
     }
 }
 
-// Writes the line of a queue of the second report, where the first one lacks it.
-fn write_new<W: Out>(
-    alloc: Global,
-    out: &mut W,
+// Adds the line of a queue of the second report, where the first one lacks it.
+fn add_new(
+    text: &mut Lines,
     second: &QueueColumns,
     first: &[QueueColumns],
-) -> Result<(), Refusal>
-    requires { W.failed out.old ≡ false }
-    ensures { WroteSeveral (W.held out.old) (W.held out.new) (W.failed out.new) (lines (new_lines first.now second.now)) result }
+) -> Result<(), AllocError>
+    ensures { OnOk result (text.new ≡ text.old ++ lines (new_lines first.now second.now)) }
 {
     if named(second.name, first).is_none() {
-        write_only(alloc, out, second.name, [b"0", b"1", b"1"])?;
+        add_only(text, second.name, [b"0", b"1", b"1"])?;
     }
     Ok(())
 }
 
-// Writes the lines of the queues of the first report, in order.
-fn write_first<W: Out>(
+// Adds the lines of the queues of the first report, in order.
+fn add_first(
     alloc: Global,
-    out: &mut W,
+    text: &mut Lines,
     first: &[QueueColumns],
     second: &[QueueColumns],
-) -> Result<(), Refusal>
-    requires { W.failed out.old ≡ false }
-    ensures { WroteSeveral (W.held out.old) (W.held out.new) (W.failed out.new)
-        (lines (flat_map (λ q. compared q (named q.0 second.now)) first.now)) result }
+) -> Result<(), AllocError>
+    ensures { OnOk result (text.new ≡ text.old ++ lines (flat_map (λ q. compared q (named q.0 second.now)) first.now)) }
 {
     for queue in first {
-        write_compared(alloc, out, queue, named(queue.name, second))?;
+        add_compared(alloc, text, queue, named(queue.name, second))?;
     }
     Ok(())
 }
 
-// Writes the lines of the queues of the second report that the first one lacks, in order.
-fn write_second<W: Out>(
-    alloc: Global,
-    out: &mut W,
+// Adds the lines of the queues of the second report that the first one lacks, in order.
+fn add_second(
+    text: &mut Lines,
     first: &[QueueColumns],
     second: &[QueueColumns],
-) -> Result<(), Refusal>
-    requires { W.failed out.old ≡ false }
-    ensures { WroteSeveral (W.held out.old) (W.held out.new) (W.failed out.new)
-        (lines (flat_map (new_lines first.now) second.now)) result }
+) -> Result<(), AllocError>
+    ensures { OnOk result (text.new ≡ text.old ++ lines (flat_map (new_lines first.now) second.now)) }
 {
     for queue in second {
-        write_new(alloc, out, queue, first)?;
+        add_new(text, queue, first)?;
     }
     Ok(())
 }
 
-// Writes the comparison of two reports.
-pub(crate) fn write_comparison<W: Out>(
+// The lines of the comparison of two reports.
+pub(crate) fn comparison_lines(
     alloc: Global,
-    out: &mut W,
     first: &[QueueColumns],
     second: &[QueueColumns],
-) -> Result<(), Refusal>
-    requires { W.failed out.old ≡ false }
-    ensures { WroteSeveral (W.held out.old) (W.held out.new) (W.failed out.new) (comparison first.now second.now) result }
+) -> Result<Vec<u8>, AllocError>
+    ensures { IfOk result (λ v. v.items ≡ comparison first.now second.now) }
 {
-    write_first(alloc, out, first, second)?;
-    write_second(alloc, out, first, second)
+    let mut text = Lines::new(alloc);
+    add_first(alloc, &mut text, first, second)?;
+    add_second(&mut text, first, second)?;
+    text.into_bytes()
 }

@@ -1,12 +1,8 @@
 //! The queues with their running counts.
-ghost use Rattle.std.specs.Prelude.{◌≡◌, ◌<◌, ◌++◌, ℕ, List, IfErr, IfOk, length, map};
-ghost use Rattle.sim_report.specs.Running.{HasFull, fresh, row_added, rows_added, running};
-ghost use Rattle.sim_report.specs.Tally.{IsStop};
-ghost use Rattle.sqs_model.specs.Answers.{most_count};
-ghost use Rattle.sqs_message.specs.declared.row.Row.{Row};
+ghost use Rattle.std.specs.Prelude.{◌≡◌, IfOk, OnOk, map};
+ghost use Rattle.sim_report.specs.Running.{fresh, row_added, rows_added};
 
 use crate::tally::Tally;
-use sim_clock::Refusal;
 use sqs_message::{Row, Text};
 use std::alloc::{AllocError, Global};
 
@@ -30,9 +26,8 @@ pub(crate) fn fresh_queues(alloc: Global, names: Vec<Text>) -> Result<Vec<QueueC
 }
 
 // Counts a row at its queue, where that is one of these.
-fn add_row(queues: &mut [QueueCounts], row: &Row) -> Result<(), Refusal>
-    ensures added { IfOk result (λ _. queues.new ≡ row_added queues.old row.now) }
-    ensures stopped { IfErr result (λ e. IsStop (HasFull queues.old) e) }
+fn add_row(queues: &mut [QueueCounts], row: &Row) -> Result<(), AllocError>
+    ensures { OnOk result (queues.new ≡ row_added queues.old row.now) }
 {
     let place = row.queue as usize;
     if place < queues.len() {
@@ -42,10 +37,8 @@ fn add_row(queues: &mut [QueueCounts], row: &Row) -> Result<(), Refusal>
 }
 
 // Counts rows, one after another.
-pub(crate) fn add_rows(queues: &mut [QueueCounts], rows: &[Row]) -> Result<(), Refusal>
-    ensures added { IfOk result (λ _. queues.new ≡ rows_added queues.old rows.now) }
-    ensures stopped { (names : List (List ℕ)) (before : List Row) → queues.old ≡ running names before
-        → IfErr result (λ e. IsStop (most_count < length (before ++ rows.now)) e) }
+pub(crate) fn add_rows(queues: &mut [QueueCounts], rows: &[Row]) -> Result<(), AllocError>
+    ensures { OnOk result (queues.new ≡ rows_added queues.old rows.now) }
 {
     for row in rows {
         add_row(queues, row)?;

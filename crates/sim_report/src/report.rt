@@ -1,19 +1,17 @@
 //! The report of a run.
-ghost use Rattle.std.specs.Prelude.{◌≡◌, ◌<◌, ◌++◌, ℕ, List, [], false, length, IfErr, IfOk, IsOkUnless};
+ghost use Rattle.std.specs.Prelude.{◌≡◌, ◌++◌, ℕ, List, [], false, IfOk, OnOk};
 ghost use Rattle.sim_report.specs.Running.{running};
-ghost use Rattle.sim_report.specs.Tally.{IsStop};
-ghost use Rattle.sqs_model.specs.Answers.{most_count};
-ghost use Rattle.sim_records.specs.Writes.{WroteSeveral};
+ghost use Rattle.sim_records.specs.Writes.{Wrote};
 ghost use Rattle.sqs_message.specs.declared.row.Row.{Row};
 ghost use Rattle.sqs_formats.specs.Comparison.{comparison};
 ghost use Rattle.sqs_formats.specs.Report.{report, report_text};
 
 use crate::columns::{QueueColumns, columns_of};
-use crate::comparison::write_comparison;
+use crate::comparison::comparison_lines;
 use crate::queue::{QueueCounts, add_rows, fresh_queues};
-use crate::writing::write_columns;
+use crate::writing::report_lines;
 use sim_clock::Refusal;
-use sim_records::Out;
+use sim_records::{Out, write_all};
 use sqs_message::{Row, Text};
 use sqs_model::Finals;
 use std::alloc::{AllocError, Global};
@@ -40,10 +38,9 @@ impl Report {
     ///
     /// # Errors
     ///
-    /// `Memory` where a growth is refused.
-    pub fn new(alloc: Global, names: Vec<Text>) -> Result<Report, Refusal>
-        ensures opened { IfOk result (λ r. r ≡ running names.items []) }
-        ensures memory_only { IsOkUnless result Refusal.Memory }
+    /// `AllocError` where a growth is refused.
+    pub fn new(alloc: Global, names: Vec<Text>) -> Result<Report, AllocError>
+        ensures { IfOk result (λ r. r ≡ running names.items []) }
     {
         Ok(Report {
             queues: fresh_queues(alloc, names)?,
@@ -54,13 +51,11 @@ impl Report {
     ///
     /// # Errors
     ///
-    /// `CountLimit` where a count would pass 2^62 - 1, `Memory` where an age could not be kept.
-    /// The report may then have some of the rows, and is not to be used again.
-    pub fn add(&mut self, rows: &[Row]) -> Result<(), Refusal>
-        ensures added { (names : List (List ℕ)) (before : List Row) → self.old ≡ running names before
-            → IfOk result (λ _. self.new ≡ running names (before ++ rows.now)) }
-        ensures stopped { (names : List (List ℕ)) (before : List Row) → self.old ≡ running names before
-            → IfErr result (λ e. IsStop (most_count < length (before ++ rows.now)) e) }
+    /// `AllocError` where a growth is refused. The report may then have some of the rows, and is not
+    /// to be used again.
+    pub fn add(&mut self, rows: &[Row]) -> Result<(), AllocError>
+        ensures { (names : List (List ℕ)) (before : List Row) → self.old ≡ running names before
+            → OnOk result (self.new ≡ running names (before ++ rows.now)) }
     {
         add_rows(self.queues.as_mut_slice(), rows)
     }
@@ -69,8 +64,8 @@ impl Report {
     ///
     /// # Errors
     ///
-    /// `Memory` where a growth is refused: a front of the lines is written. `Write` where the
-    /// writer fails: a front of the lines is written.
+    /// `Memory` where a growth is refused: nothing is written. `Write` where the writer fails: a
+    /// front of the lines is written.
     pub fn write_report<W: Out>(
         &self,
         alloc: Global,
@@ -79,10 +74,12 @@ impl Report {
     ) -> Result<(), Refusal>
         requires { W.failed out.old ≡ false }
         ensures { (names : List (List ℕ)) (rows : List Row) → self.now ≡ running names rows
-            → WroteSeveral (W.held out.old) (W.held out.new) (W.failed out.new) (report_text (report names rows finals.now)) result }
+            → Wrote (W.held out.old) (W.held out.new) (W.failed out.new) (report_text (report names rows finals.now)) result }
     {
         let columns = self.columns(alloc, finals)?;
-        write_columns(alloc, out, columns.as_slice())
+        let text = report_lines(alloc, columns.as_slice())?;
+        write_all(out, text.as_slice())?;
+        Ok(())
     }
 
     // The columns of its queues, with what is left at the end of the run.
@@ -103,8 +100,8 @@ impl Report {
 ///
 /// # Errors
 ///
-/// `Memory` where a growth is refused, `Write` where the writer fails: a front of the lines is
-/// written.
+/// `Memory` where a growth is refused: nothing is written. `Write` where the writer fails: a front
+/// of the lines is written.
 pub fn compare<W: Out>(
     alloc: Global,
     out: &mut W,
@@ -116,10 +113,12 @@ pub fn compare<W: Out>(
     requires { W.failed out.old ≡ false }
     ensures { (names : List (List ℕ)) (rows : List Row) (others : List (List ℕ)) (other_rows : List Row)
         → first.now ≡ running names rows → second.now ≡ running others other_rows
-        → WroteSeveral (W.held out.old) (W.held out.new) (W.failed out.new)
+        → Wrote (W.held out.old) (W.held out.new) (W.failed out.new)
         (comparison (report names rows first_finals.now) (report others other_rows second_finals.now)) result }
 {
     let before = first.columns(alloc, first_finals)?;
     let after = second.columns(alloc, second_finals)?;
-    write_comparison(alloc, out, before.as_slice(), after.as_slice())
+    let text = comparison_lines(alloc, before.as_slice(), after.as_slice())?;
+    write_all(out, text.as_slice())?;
+    Ok(())
 }

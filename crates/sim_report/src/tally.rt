@@ -1,11 +1,10 @@
 //! The running counts of a queue.
-ghost use Rattle.std.specs.Prelude.{◌≡◌, ◌∷◌, [], All, IfErr, IfOk, map, Some};
-ghost use Rattle.sim_report.specs.Tally.{IsCount, IsFull, IsStop, counted, depth_by, rank_in, tallied};
+ghost use Rattle.std.specs.Prelude.{◌≡◌, ◌∷◌, [], IfOk, OnOk, map, Some};
+ghost use Rattle.sim_report.specs.Tally.{counted, depth_by, rank_in, tallied};
 
 use crate::ages::{nearest_rank, sorted, total};
 use crate::column::{age_of, column_of};
 use crate::left::Left;
-use sim_clock::Refusal;
 use sqs_message::Row;
 use std::alloc::{AllocError, Global};
 use std::marker::Model;
@@ -16,53 +15,47 @@ pub(crate) const COUNTED: usize = 18;
 /// How many columns do not.
 pub(crate) const OTHERS: usize = 9;
 
-// The greatest value of a count.
-const MOST_COUNT: u64 = 4611686018427387903;
-
 /// The running counts of a queue: what its columns need of the rows so far, without the rows.
 #[derive(Drop)]
 pub(crate) struct Tally {
     counts: [u64; COUNTED],
-    depth_max: u64,
+    depth_max: u128,
     ages: Vec<u64>,
 }
 
 impl Model for Tally {
-    ghost use Rattle.std.specs.Prelude.{All};
-    ghost use Rattle.sim_report.specs.Tally.{IsCount, TallyState};
+    ghost use Rattle.sim_report.specs.Tally.{TallyState};
 
     ghost Value = { TallyState };
 
     ghost view = { λ t. record { counts = t.counts; depth_max = t.depth_max; ages = t.ages.items } };
-
-    ghost invariant = { λ t. All IsCount t.counts };
 }
 
-// Counts one more row in a column, where it is one of these.
-fn count_in(counts: &mut [u64; COUNTED], column: Option<usize>) -> Result<(), Refusal>
-    requires { All IsCount counts.old }
-    ensures counted { IfOk result (λ _. counts.new ≡ counted column counts.old) }
-    ensures within { All IsCount counts.new }
-    ensures stopped { IfErr result (λ e. IsStop (IsFull counts.old) e) }
+// Counts one more row in a column, where it is one of these. A count that fills its word would
+// have to grow, and this is refused as any growth may be.
+fn count_in(counts: &mut [u64; COUNTED], column: Option<usize>) -> Result<(), AllocError>
+    ensures { OnOk result (counts.new ≡ counted column counts.old) }
 {
     if let Some(column) = column
         && column < COUNTED
     {
-        if counts[column] == MOST_COUNT {
-            return Err(Refusal::CountLimit);
-        }
-        counts[column] += 1;
+        let Some(more) = counts[column].checked_add(1) else {
+            return Err(AllocError);
+        };
+        counts[column] = more;
     }
     Ok(())
 }
 
 // How many messages came in by these counts, less those that went out.
-fn depth_of(counts: &[u64; COUNTED]) -> u64
-    requires { All IsCount counts.now }
+fn depth_of(counts: &[u64; COUNTED]) -> u128
     ensures { result ≡ depth_by counts.now }
 {
-    let came = counts[0] + counts[8];
-    let went = counts[4] + counts[5] + counts[6] + counts[7];
+    let came = u128::from(counts[0]) + u128::from(counts[8]);
+    let went = u128::from(counts[4])
+        + u128::from(counts[5])
+        + u128::from(counts[6])
+        + u128::from(counts[7]);
     came.saturating_sub(went)
 }
 
@@ -79,7 +72,7 @@ fn count_columns(alloc: Global, counts: &[u64; COUNTED]) -> Result<Vec<Option<u1
 
 // The columns that do not count rows.
 fn other_columns(
-    depth_max: u64,
+    depth_max: u128,
     left: Left,
     age_sum: u128,
     sorted: &[u64],
@@ -88,7 +81,7 @@ fn other_columns(
         ∷ rank_in 100 sorted.now ∷ rank_in 50 sorted.now ∷ rank_in 95 sorted.now ∷ rank_in 99 sorted.now ∷ [] }
 {
     [
-        Some(u128::from(depth_max)),
+        Some(depth_max),
         Some(u128::from(left.visible)),
         Some(u128::from(left.in_flight)),
         Some(u128::from(left.delayed)),
@@ -120,10 +113,9 @@ impl Tally {
     ///
     /// # Errors
     ///
-    /// `CountLimit` where a count would pass 2^62 - 1; `Memory` where an age could not be kept.
-    pub(crate) fn count_row(&mut self, row: &Row) -> Result<(), Refusal>
-        ensures counted { IfOk result (λ _. self.new ≡ tallied row.now self.old) }
-        ensures stopped { IfErr result (λ e. IsStop (IsFull self.old.counts) e) }
+    /// `AllocError` where a count has outgrown its word, or an age could not be kept.
+    pub(crate) fn count_row(&mut self, row: &Row) -> Result<(), AllocError>
+        ensures { OnOk result (self.new ≡ tallied row.now self.old) }
     {
         let column = column_of(row.kind, row.answer);
         count_in(&mut self.counts, column)?;

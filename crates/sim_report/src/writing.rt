@@ -1,13 +1,11 @@
 //! The lines of the report.
-ghost use Rattle.std.specs.Prelude.{◌≡◌, ◌∷◌, false, codes, IfOk, map};
+ghost use Rattle.std.specs.Prelude.{◌≡◌, ◌∷◌, ◌++◌, codes, IfOk, OnOk, map};
 ghost use Rattle.std.specs.Fmt.{decimal};
-ghost use Rattle.sqs_formats.specs.Rows.{line, lines, text_if};
+ghost use Rattle.sqs_formats.specs.Rows.{line, text_if};
 ghost use Rattle.sqs_formats.specs.Report.{columns, report_fields, report_text};
-ghost use Rattle.sim_records.specs.Writes.{Wrote, WroteSeveral};
 
 use crate::columns::{QueueColumns, column_names};
-use sim_clock::Refusal;
-use sim_records::{Out, write_record};
+use sim_records::Lines;
 use sqs_message::Text;
 use std::alloc::{AllocError, Global};
 
@@ -62,46 +60,31 @@ fn header_fields(alloc: Global) -> Result<Vec<&'static [u8]>, AllocError>
     Ok(fields)
 }
 
-// Writes the header of the report.
-fn write_report_header<W: Out>(alloc: Global, out: &mut W) -> Result<(), Refusal>
-    requires { W.failed out.old ≡ false }
-    ensures { Wrote (W.held out.old) (W.held out.new) (W.failed out.new)
-        (line (codes "report" ∷ codes "queue" ∷ columns)) result }
+// Adds the header of the report.
+fn add_header(alloc: Global, text: &mut Lines) -> Result<(), AllocError>
+    ensures { OnOk result (text.new ≡ text.old ++ line (codes "report" ∷ codes "queue" ∷ columns)) }
 {
     let fields = header_fields(alloc)?;
-    write_record(alloc, out, fields.as_slice())
+    text.add(fields.as_slice())
 }
 
-// Writes the line of a queue.
-fn write_queue<W: Out>(alloc: Global, out: &mut W, queue: &QueueColumns) -> Result<(), Refusal>
-    requires { W.failed out.old ≡ false }
-    ensures { Wrote (W.held out.old) (W.held out.new) (W.failed out.new) (line (report_fields queue.now)) result }
+// Adds the line of a queue.
+fn add_queue(alloc: Global, text: &mut Lines, queue: &QueueColumns) -> Result<(), AllocError>
+    ensures { OnOk result (text.new ≡ text.old ++ line (report_fields queue.now)) }
 {
     let texts = number_texts(alloc, queue.columns.as_slice())?;
     let fields = queue_fields(alloc, queue.name, texts.as_slice())?;
-    write_record(alloc, out, fields.as_slice())
+    text.add(fields.as_slice())
 }
 
-// Writes the lines of the queues, in order.
-fn write_queues<W: Out>(alloc: Global, out: &mut W, report: &[QueueColumns]) -> Result<(), Refusal>
-    requires { W.failed out.old ≡ false }
-    ensures { WroteSeveral (W.held out.old) (W.held out.new) (W.failed out.new) (lines (map report_fields report.now)) result }
+// The lines of a report: its header, and then those of the queues, in order.
+pub(crate) fn report_lines(alloc: Global, report: &[QueueColumns]) -> Result<Vec<u8>, AllocError>
+    ensures { IfOk result (λ v. v.items ≡ report_text report.now) }
 {
+    let mut text = Lines::new(alloc);
+    add_header(alloc, &mut text)?;
     for queue in report {
-        write_queue(alloc, out, queue)?;
+        add_queue(alloc, &mut text, queue)?;
     }
-    Ok(())
-}
-
-// Writes a report.
-pub(crate) fn write_columns<W: Out>(
-    alloc: Global,
-    out: &mut W,
-    report: &[QueueColumns],
-) -> Result<(), Refusal>
-    requires { W.failed out.old ≡ false }
-    ensures { WroteSeveral (W.held out.old) (W.held out.new) (W.failed out.new) (report_text report.now) result }
-{
-    write_report_header(alloc, out)?;
-    write_queues(alloc, out, report)
+    text.into_bytes()
 }

@@ -2,7 +2,8 @@ ghost use Rattle.std.specs.Prelude.{◌≡◌, false};
 ghost use Rattle.sim_records.specs.Writers.{has_failed};
 
 use super::{names, row, write_log};
-use crate::{Failed, Names, Out, ToWriter, write_all, write_record, write_rows};
+use crate::line::write_record;
+use crate::{Failed, Names, Out, ToWriter, write_all, write_rows};
 use sim_clock::Refusal;
 use sqs_message::{Detail, Row, RowAnswer, RowKind};
 use std::alloc::Global;

@@ -11,4 +11,4 @@ returns-in_err-write_message_header g c =
 pub returns : goal.returns
 returns g c =
     let rows = map (message_fields c.args.names.now) c.args.messages.now in
-    header_and_more _ _ _ _ _ message_header rows _ c.write_messages.result c.in_ok-write_message_header.ensures c.write_messages.ensures
+    header_and_more _ _ _ _ _ message_header rows _ c.write_records.result c.in_ok-write_message_header.ensures c.write_records.ensures

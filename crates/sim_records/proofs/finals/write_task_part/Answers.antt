@@ -11,4 +11,4 @@ returns-in_err-write_task_header g c =
 pub returns : goal.returns
 returns g c =
     let rows = map (task_fields c.args.names.now) c.args.tasks.now in
-    header_and_more _ _ _ _ _ task_header rows _ c.write_tasks.result c.in_ok-write_task_header.ensures c.write_tasks.ensures
+    header_and_more _ _ _ _ _ task_header rows _ c.write_records.result c.in_ok-write_task_header.ensures c.write_records.ensures

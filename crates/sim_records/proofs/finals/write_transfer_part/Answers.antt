@@ -11,4 +11,4 @@ returns-in_err-write_transfer_header g c =
 pub returns : goal.returns
 returns g c =
     let rows = map (transfer_fields c.args.names.now) c.args.transfers.now in
-    header_and_more _ _ _ _ _ transfer_header rows _ c.write_transfers.result c.in_ok-write_transfer_header.ensures c.write_transfers.ensures
+    header_and_more _ _ _ _ _ transfer_header rows _ c.write_records.result c.in_ok-write_transfer_header.ensures c.write_records.ensures

@@ -2,5 +2,5 @@ use Rattle.std.proofs.Common.{◌∙◌}
 use Rattle.sim_report.proofs.Groups.{running-none}
 use Rattle.sim_report.proofs.report.Report.new.Goals as goal
 
-pub returns-clause-opened : goal.returns-clause-opened
-returns-clause-opened c = c.in_ok-fresh_queues.ensures ∙ running-none c.args.names.items
+pub returns : goal.returns
+returns c = c.in_ok-fresh_queues.ensures ∙ running-none c.args.names.items

@@ -1,0 +1,14 @@
+use Rattle.std.proofs.Common.{◌≡◌, ◌++◌, ℕ, List, false, length, map}
+use Rattle.std.specs.Io.KnownBytes.{Appends}
+use Rattle.sqs_formats.specs.Rows.{lines}
+use Rattle.sim_records.proofs.record.write_records.Given as goal
+
+abbrev pub invariant-loop-rest : goal.invariant-loop-rest
+invariant-loop-rest g l = record {
+  whole : g.W.Out.failed l.out ≡ false;
+  front : (written : List ℕ) × Appends (g.W.Out.held l.initial.out) (g.W.Out.held l.out) written
+      × (written ++ lines (map (g.T.Record.fields l.names) l.rest) ≡ lines (map (g.T.Record.fields l.names) l.records));
+}
+
+abbrev pub decreases-loop-rest : goal.decreases-loop-rest
+decreases-loop-rest g l = length l.rest
