@@ -1,5 +1,5 @@
 //! What is left in sites at the end of a run.
-ghost use Rattle.std.specs.Prelude.{◌≡◌, ◌++◌, IfOk, IsOkUnless, List, OnOk, flat_map, map};
+ghost use Rattle.std.specs.Prelude.{◌≡◌, ◌++◌, IfOk, List, OnOk, flat_map, map};
 ghost use Rattle.std.specs.Ordering.{is_lt};
 ghost use Rattle.sim_clock.specs.Order.{key_cmp};
 ghost use Rattle.sim_windows.specs.Worlds.{alive};
@@ -8,7 +8,7 @@ ghost use Rattle.sqs_model.specs.Queue.{Queue as TheQueue};
 ghost use Rattle.sqs_model.specs.Site.{Site as TheSite};
 ghost use Rattle.sqs_rehearsal.specs.Left.{keyed, keyed_at, tasks_at};
 
-use sim_clock::{Key, Refusal};
+use sim_clock::Key;
 use sim_site::{Site, Task};
 use sqs_message::{Message, MessageId, body_md5};
 use sqs_model::{
@@ -17,13 +17,12 @@ use sqs_model::{
 };
 use sqs_queue::Queue;
 use sqs_redrive::{Load, Outbound};
-use std::alloc::Global;
+use std::alloc::{AllocError, Global};
 use std::cmp::Ordering;
 
 // A message of a queue.
-fn final_message(alloc: Global, site: u32, message: &Message) -> Result<FinalMessage, Refusal>
-    ensures left { (q : TheQueue) → q.site ≡ site → IfOk result (λ m. m ≡ final_message q message.now) }
-    ensures memory_only { IsOkUnless result Refusal.Memory }
+fn final_message(alloc: Global, site: u32, message: &Message) -> Result<FinalMessage, AllocError>
+    ensures { (q : TheQueue) → q.site ≡ site → IfOk result (λ m. m ≡ final_message q message.now) }
 {
     let group = match &message.group {
         None => None,
@@ -49,9 +48,8 @@ fn add_messages(
     alloc: Global,
     messages: &mut Vec<FinalMessage>,
     queue: &Queue,
-) -> Result<(), Refusal>
-    ensures added { OnOk result (messages.new.items ≡ messages.old.items ++ map (final_message queue.now) queue.now.records) }
-    ensures memory_only { IsOkUnless result Refusal.Memory }
+) -> Result<(), AllocError>
+    ensures { OnOk result (messages.new.items ≡ messages.old.items ++ map (final_message queue.now) queue.now.records) }
 {
     for message in queue.view() {
         messages.push(final_message(alloc, queue.site(), message)?)?;
@@ -60,9 +58,8 @@ fn add_messages(
 }
 
 // The messages of all queues, in order of arrival in each.
-fn messages_of(alloc: Global, sites: &[Site]) -> Result<Vec<FinalMessage>, Refusal>
-    ensures left { (w : List TheSite) → sites.now ≡ map alive w → IfOk result (λ m. m.items ≡ flat_map messages_at w) }
-    ensures memory_only { IsOkUnless result Refusal.Memory }
+fn messages_of(alloc: Global, sites: &[Site]) -> Result<Vec<FinalMessage>, AllocError>
+    ensures { (w : List TheSite) → sites.now ≡ map alive w → IfOk result (λ m. m.items ≡ flat_map messages_at w) }
 {
     let mut messages = Vec::new(alloc);
     for site in sites {
@@ -106,9 +103,8 @@ fn final_transfer(transfer: &Outbound) -> FinalTransfer
 fn add_transfers(
     list: &mut Vec<(Key, FinalTransfer)>,
     transfers: &[Outbound],
-) -> Result<(), Refusal>
-    ensures added { OnOk result (list.new.items ≡ list.old.items ++ map keyed transfers.now) }
-    ensures memory_only { IsOkUnless result Refusal.Memory }
+) -> Result<(), AllocError>
+    ensures { OnOk result (list.new.items ≡ list.old.items ++ map keyed transfers.now) }
 {
     for transfer in transfers {
         list.push((transfer.key(), final_transfer(transfer)))?;
@@ -117,9 +113,8 @@ fn add_transfers(
 }
 
 // The transfers under way to all sites, each with its key.
-fn keyed_transfers(alloc: Global, sites: &[Site]) -> Result<Vec<(Key, FinalTransfer)>, Refusal>
-    ensures left { (w : List TheSite) → sites.now ≡ map alive w → IfOk result (λ t. t.items ≡ flat_map keyed_at w) }
-    ensures memory_only { IsOkUnless result Refusal.Memory }
+fn keyed_transfers(alloc: Global, sites: &[Site]) -> Result<Vec<(Key, FinalTransfer)>, AllocError>
+    ensures { (w : List TheSite) → sites.now ≡ map alive w → IfOk result (λ t. t.items ≡ flat_map keyed_at w) }
 {
     let mut transfers = Vec::new(alloc);
     for site in sites {
@@ -139,9 +134,8 @@ fn order(first: Key, second: Key) -> Ordering
 fn without_keys(
     alloc: Global,
     keyed: Vec<(Key, FinalTransfer)>,
-) -> Result<Vec<FinalTransfer>, Refusal>
-    ensures transfers { IfOk result (λ t. t.items ≡ map (λ p. p.1) keyed.items) }
-    ensures memory_only { IsOkUnless result Refusal.Memory }
+) -> Result<Vec<FinalTransfer>, AllocError>
+    ensures { IfOk result (λ t. t.items ≡ map (λ p. p.1) keyed.items) }
 {
     let mut transfers = Vec::with_capacity(alloc, keyed.len())?;
     for pair in keyed {
@@ -151,9 +145,8 @@ fn without_keys(
 }
 
 // The transfers under way to all sites, in the order of their keys.
-fn transfers_of(alloc: Global, sites: &[Site]) -> Result<Vec<FinalTransfer>, Refusal>
-    ensures left { (w : List TheSite) → sites.now ≡ map alive w → IfOk result (λ t. t.items ≡ map final_transfer (in_key_order (flat_map (λ s. s.arriving) w))) }
-    ensures memory_only { IsOkUnless result Refusal.Memory }
+fn transfers_of(alloc: Global, sites: &[Site]) -> Result<Vec<FinalTransfer>, AllocError>
+    ensures { (w : List TheSite) → sites.now ≡ map alive w → IfOk result (λ t. t.items ≡ map final_transfer (in_key_order (flat_map (λ s. s.arriving) w))) }
 {
     let mut keyed = keyed_transfers(alloc, sites)?;
     keyed.reverse();
@@ -173,9 +166,8 @@ fn final_task(task: &Task) -> FinalTask
 }
 
 // Adds the move tasks of a site.
-fn add_tasks(list: &mut Vec<FinalTask>, tasks: &[Task]) -> Result<(), Refusal>
-    ensures added { OnOk result (list.new.items ≡ list.old.items ++ map final_task tasks.now) }
-    ensures memory_only { IsOkUnless result Refusal.Memory }
+fn add_tasks(list: &mut Vec<FinalTask>, tasks: &[Task]) -> Result<(), AllocError>
+    ensures { OnOk result (list.new.items ≡ list.old.items ++ map final_task tasks.now) }
 {
     for task in tasks {
         list.push(final_task(task))?;
@@ -184,9 +176,8 @@ fn add_tasks(list: &mut Vec<FinalTask>, tasks: &[Task]) -> Result<(), Refusal>
 }
 
 // The move tasks of all sites.
-fn site_tasks(alloc: Global, sites: &[Site]) -> Result<Vec<FinalTask>, Refusal>
-    ensures left { (w : List TheSite) → sites.now ≡ map alive w → IfOk result (λ t. t.items ≡ flat_map tasks_at w) }
-    ensures memory_only { IsOkUnless result Refusal.Memory }
+fn site_tasks(alloc: Global, sites: &[Site]) -> Result<Vec<FinalTask>, AllocError>
+    ensures { (w : List TheSite) → sites.now ≡ map alive w → IfOk result (λ t. t.items ≡ flat_map tasks_at w) }
 {
     let mut tasks = Vec::new(alloc);
     for site in sites {
@@ -196,9 +187,8 @@ fn site_tasks(alloc: Global, sites: &[Site]) -> Result<Vec<FinalTask>, Refusal>
 }
 
 // The move tasks of all sites, by number.
-fn tasks_of(alloc: Global, sites: &[Site]) -> Result<Vec<FinalTask>, Refusal>
-    ensures left { (w : List TheSite) → sites.now ≡ map alive w → IfOk result (λ t. t.items ≡ map final_task (in_number_order (flat_map (λ s. s.core.tasks) w))) }
-    ensures memory_only { IsOkUnless result Refusal.Memory }
+fn tasks_of(alloc: Global, sites: &[Site]) -> Result<Vec<FinalTask>, AllocError>
+    ensures { (w : List TheSite) → sites.now ≡ map alive w → IfOk result (λ t. t.items ≡ map final_task (in_number_order (flat_map (λ s. s.core.tasks) w))) }
 {
     let mut tasks = site_tasks(alloc, sites)?;
     tasks.reverse();
@@ -211,11 +201,10 @@ fn tasks_of(alloc: Global, sites: &[Site]) -> Result<Vec<FinalTask>, Refusal>
 ///
 /// # Errors
 ///
-/// `Memory` where a growth is refused.
+/// `AllocError` where a growth is refused.
 #[tactic(auto, unfolding(sqs_model::specs::Finals::finals_of))]
-pub fn finals_of(alloc: Global, sites: &[Site]) -> Result<Finals, Refusal>
-    ensures left { (w : List TheSite) → sites.now ≡ map alive w → IfOk result (λ finals. finals ≡ the_finals_of w) }
-    ensures memory_only { IsOkUnless result Refusal.Memory }
+pub fn finals_of(alloc: Global, sites: &[Site]) -> Result<Finals, AllocError>
+    ensures { (w : List TheSite) → sites.now ≡ map alive w → IfOk result (λ finals. finals ≡ the_finals_of w) }
 {
     let messages = messages_of(alloc, sites)?;
     let transfers = transfers_of(alloc, sites)?;

@@ -1,13 +1,11 @@
 //! What the whole run of a scenario leaves.
-ghost use Rattle.std.specs.Prelude.{◌≡◌, ◌<◌, ◌++◌, [], false, length, IfErr, IfOk, IsOkUnless};
+ghost use Rattle.std.specs.Prelude.{◌≡◌, ◌++◌, [], false, IfErr, IfOk};
 ghost use Rattle.sim_records.specs.Writes.{WroteSeveral};
 ghost use Rattle.sim_report.specs.Running.{running};
-ghost use Rattle.sim_report.specs.Tally.{IsStop};
 ghost use Rattle.sqs_formats.specs.Comparison.{comparison};
 ghost use Rattle.sqs_formats.specs.Finals.{finals_text};
 ghost use Rattle.sqs_formats.specs.Report.{report_text};
 ghost use Rattle.sqs_formats.specs.Rows.{log_text};
-ghost use Rattle.sqs_model.specs.Answers.{most_count};
 ghost use Rattle.sqs_model.specs.Scenario.{HasItsQueues};
 ghost use Rattle.sqs_rehearsal.specs.Outcomes.{IsOutcomeOf, Stops, report_in};
 
@@ -19,7 +17,7 @@ use sim_scenario::Scenario;
 use sim_windows::World;
 use sqs_message::{Row, Text};
 use sqs_model::Finals;
-use std::alloc::Global;
+use std::alloc::{AllocError, Global};
 use std::marker::Model;
 
 /// What the whole run of a scenario leaves: the rows of its log, and what is left in its queues, on
@@ -46,9 +44,8 @@ impl Model for Outcome {
 }
 
 // Copies of texts.
-fn copies(alloc: Global, texts: &[Text]) -> Result<Vec<Text>, Refusal>
-    ensures copied { IfOk result (λ copies. copies.items ≡ texts.now) }
-    ensures memory_only { IsOkUnless result Refusal.Memory }
+fn copies(alloc: Global, texts: &[Text]) -> Result<Vec<Text>, AllocError>
+    ensures { IfOk result (λ copies. copies.items ≡ texts.now) }
 {
     let mut copies = Vec::new(alloc);
     for text in texts {
@@ -58,9 +55,8 @@ fn copies(alloc: Global, texts: &[Text]) -> Result<Vec<Text>, Refusal>
 }
 
 // The report of queues of these names over rows, without what is left.
-fn report_of(alloc: Global, names: &[Text], rows: &[Row]) -> Result<Report, Refusal>
-    ensures counted { IfOk result (λ report. report ≡ running names.now rows.now) }
-    ensures stops { IfErr result (IsStop (most_count < length rows.now)) }
+fn report_of(alloc: Global, names: &[Text], rows: &[Row]) -> Result<Report, AllocError>
+    ensures { IfOk result (λ report. report ≡ running names.now rows.now) }
 {
     let mut report = Report::new(alloc, copies(alloc, names)?)?;
     report.add(rows)?;

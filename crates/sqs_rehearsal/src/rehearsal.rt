@@ -18,7 +18,8 @@ use std::alloc::Global;
 pub enum Fault {
     /// The scenario has a fault, from 10 to 20.
     Scenario(ScenarioFault),
-    /// Another refusal, from 21 on.
+    /// What ends a run, from 30 on: the run can't be split so, a count is at its limit, memory is
+    /// wanting or a writer failed.
     Refused(Refusal),
 }
 

@@ -9,4 +9,4 @@ loop-message-preserved c =
     let x = c.message-item.result in
     let site : q.site ≡ c.site.result = search rules in
     item_added (final_message q) c.view-message-items.result.now c.loop-message.message-index x x c.args.messages.now.items c.loop-message.messages.items c.push.new.self.items c.in_ok-final_message.field-0
-    c.loop-message-test.true c.message-item.is (c.in_ok-final_message.ensures.left q site) c.loop-message.invariant c.in_ok-push.ensures.items
+    c.loop-message-test.true c.message-item.is (c.in_ok-final_message.ensures q site) c.loop-message.invariant c.in_ok-push.ensures.items

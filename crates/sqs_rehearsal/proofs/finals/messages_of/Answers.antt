@@ -10,4 +10,4 @@ loop-site-preserved c =
     let x = c.site-item.result in
     let part = if_ok (λ s. q ≡ s.core.queue) (λ s. map (final_message q) q.records ≡ messages_at s) x (λ s h. ap (λ t. map (final_message t) t.records) h) c.queue.ensures in
     site_added messages_at w c.loop-site.site-index x x c.args.sites.now c.loop-site.messages.items c.add_messages.new.messages.items _ e c.loop-site-test.true c.site-item.is part (c.loop-site.invariant w e)
-    c.in_ok-add_messages.ensures.added
+    c.in_ok-add_messages.ensures

@@ -11,4 +11,4 @@ loop-site-preserved c =
     let x = c.site-item.result in
     let part = if_ok (λ s. q ≡ s.core.tasks) (λ s. map final_task q ≡ tasks_at s) x (λ s h. ap (map final_task) h) c.tasks.ensures in
     site_added tasks_at w c.loop-site.site-index x x c.args.sites.now c.loop-site.tasks.items c.add_tasks.new.list.items _ e c.loop-site-test.true c.site-item.is part (c.loop-site.invariant w e)
-    c.in_ok-add_tasks.ensures.added
+    c.in_ok-add_tasks.ensures

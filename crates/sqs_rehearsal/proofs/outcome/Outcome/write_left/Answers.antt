@@ -1,6 +1,7 @@
 use Rattle.std.proofs.Common.{◌++◌, Err, subst}
 use Rattle.sqs_formats.specs.Finals.{finals_text}
 use Rattle.sqs_formats.specs.Report.{report_text}
+use Rattle.sim_records.proofs.Writes.{several-one}
 use Rattle.sim_records.specs.Writes.{WroteSeveral}
 use Rattle.sqs_rehearsal.specs.Outcomes.{Outcome, report_in}
 use Rattle.sqs_rehearsal.proofs.Writing.{first_and_second, first_stopped}
@@ -22,5 +23,6 @@ returns g c =
     let new = g.W.Out.held c.write_report.new.out in
     let failed = g.W.Out.failed c.write_report.new.out in
     let result = c.write_report.result in
-    let whole = first_and_second _ _ _ _ _ _ _ _ result c.in_ok-write_finals.ensures (c.write_report.ensures _ _ c.self.invariant) in
+    let report = several-one _ _ _ _ result (c.write_report.ensures _ _ c.self.invariant) in
+    let whole = first_and_second _ _ _ _ _ _ _ _ result c.in_ok-write_finals.ensures report in
     subst (λ (o : Outcome). WroteSeveral old new failed (finals_text o.names o.finals ++ report_text (report_in o)) result) c.self.view_is whole
