@@ -10,7 +10,7 @@ use Rattle.sqs_formats.specs.Scenario.{scenario_of}
 use Rattle.sqs_model.specs.Scenario.{Scenario, least_latency}
 use Rattle.sqs_rehearsal.specs.Outcomes.{Stops}
 use Rattle.sqs_rehearsal.specs.Rehearsals.{Bars, Request, Stated, fault_of_reading}
-use Rattle.sqs_rehearsal.specs.Split.{Split, is_parted, is_within, or_else, split_fault, unless, window_fault, workers_fault}
+use Rattle.sqs_rehearsal.specs.Options.{Options, is_parted, is_within, or_else, split_fault, unless, window_fault, workers_fault}
 use Rattle.sqs_rehearsal.specs.declared.rehearsal.Fault.TheVariants as faults
 use Rattle.sim_clock.specs.declared.refusal.Refusal.TheVariants as refusals
 use Rattle.sim_scenario.specs.declared.fault.ReadError.TheVariants as errors
@@ -50,7 +50,7 @@ module _ (P : Refusal → Type 0) where
   of_both None b e p q h = q h
   of_both (Some r) b e p q h = p h
 
-  of_split : (s : Scenario) (o : Split) (e : Refusal) → P refusals.BadMap → ((w : ℕ) → P (refusals.WindowTooLong w (least_latency s))) → P refusals.BadWorkers
+  of_split : (s : Scenario) (o : Options) (e : Refusal) → P refusals.BadMap → ((w : ℕ) → P (refusals.WindowTooLong w (least_latency s))) → P refusals.BadWorkers
       → split_fault s o ≡ Some e → P e
   of_split s o e m w k h =
       (elim (is_parted (length s.queues) o.parts o.map) as (λ b. (if b then or_else (window_fault (least_latency s) o.window) (workers_fault o.workers) else Some refusals.BadMap) ≡ Some e → P e) [
@@ -59,17 +59,17 @@ module _ (P : Refusal → Type 0) where
       ]) h
 
 -- the fault of a split
-pub split_bars : (q : Request) (s : Stated q) (e : Refusal) → unless (split_fault s.scenario q.split) ≡ Err e → Bars q (faults.Refused e)
+pub split_bars : (q : Request) (s : Stated q) (e : Refusal) → unless (split_fault s.scenario q.options) ≡ Err e → Bars q (faults.Refused e)
 split_bars q s e h =
-    let found : split_fault s.scenario q.split ≡ Some e = of_unless (split_fault s.scenario q.split) e h in
-    of_split (λ r. split_fault s.scenario q.split ≡ Some r → Bars q (faults.Refused r)) s.scenario q.split e (λ h. (s, h)) (λ w h. (s, h)) (λ h. (s, h)) found found
+    let found : split_fault s.scenario q.options ≡ Some e = of_unless (split_fault s.scenario q.options) e h in
+    of_split (λ r. split_fault s.scenario q.options ≡ Some r → Bars q (faults.Refused r)) s.scenario q.options e (λ h. (s, h)) (λ w h. (s, h)) (λ h. (s, h)) found found
 
 pub split_allowed : (f : Option Refusal) (u : Unit {0}) → unless f ≡ Ok u → f ≡ None
 split_allowed None u h = refl
 split_allowed (Some r) u h = cc
 
 -- a run that was not carried to its end
-pub stop_bars : (q : Request) (s : Stated q) (e : Refusal) → split_fault s.scenario q.split ≡ None → Stops s.scenario e → Bars q (faults.Refused e)
+pub stop_bars : (q : Request) (s : Stated q) (e : Refusal) → split_fault s.scenario q.options ≡ None → Stops s.scenario e → Bars q (faults.Refused e)
 stop_bars q s refusals.Memory a p = tt
 stop_bars q s refusals.CountLimit a p = (s, a, p)
 stop_bars q s e a p = absurd p

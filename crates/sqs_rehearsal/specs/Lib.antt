@@ -1,4 +1,4 @@
-pub mod Split
+pub mod Options
 pub mod Outcomes
 pub mod Rehearsals
 pub mod Left

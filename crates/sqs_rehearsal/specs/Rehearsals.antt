@@ -9,7 +9,7 @@ use Rattle.sqs_model.specs.Accounts.{EachHasOnePlace, NoOtherHasPlace}
 use Rattle.sqs_model.specs.Limits.{IsOver}
 use Rattle.sqs_model.specs.Run.{IsRunOf, Run}
 use Rattle.sqs_model.specs.Scenario.{Scenario}
-use Rattle.sqs_rehearsal.specs.Split.{Split, split_fault}
+use Rattle.sqs_rehearsal.specs.Options.{Options, split_fault}
 use Rattle.sqs_rehearsal.specs.declared.rehearsal.Fault.{Fault}
 use Rattle.sim_scenario.specs.declared.fault.ReadError.{ReadError}
 use Rattle.sim_clock.specs.declared.refusal.Refusal.TheVariants as refusals
@@ -20,14 +20,14 @@ use Rattle.sqs_rehearsal.specs.declared.rehearsal.Fault.TheVariants as faults
 pub record Request : Type 0 where
   pub text : List ℕ
   pub scripts : List (List ℕ × List ℕ)
-  pub split : Split
+  pub options : Options
 
 -- a scenario that a request states, which can be split so, and its one-list run, in which every message accepted stands in exactly one place, and no other anywhere
 pub record Rehearsed (q : Request) : Type 0 where
   pub scenario : Scenario
   pub run : Run
   pub stated : scenario_of q.scripts q.text ≡ Ok scenario
-  pub allowed : split_fault scenario q.split ≡ None
+  pub allowed : split_fault scenario q.options ≡ None
   pub is_run : IsRunOf scenario run
   pub one_place : EachHasOnePlace run.sites run.rows
   pub no_other : NoOtherHasPlace run.sites run.rows
@@ -93,10 +93,10 @@ fault_of_reading (errors.Fault f) = faults.Scenario f
 
 -- why a request is refused before anything is written
 abbrev pub IsBarred : Request → Refusal → Type 0
-IsBarred q refusals.BadMap = (s : Stated q) × (split_fault s.scenario q.split ≡ Some refusals.BadMap)
-IsBarred q (refusals.WindowTooLong w least) = (s : Stated q) × (split_fault s.scenario q.split ≡ Some (refusals.WindowTooLong w least))
-IsBarred q refusals.BadWorkers = (s : Stated q) × (split_fault s.scenario q.split ≡ Some refusals.BadWorkers)
-IsBarred q refusals.CountLimit = (s : Stated q) × (split_fault s.scenario q.split ≡ None) × IsOver s.scenario
+IsBarred q refusals.BadMap = (s : Stated q) × (split_fault s.scenario q.options ≡ Some refusals.BadMap)
+IsBarred q (refusals.WindowTooLong w least) = (s : Stated q) × (split_fault s.scenario q.options ≡ Some (refusals.WindowTooLong w least))
+IsBarred q refusals.BadWorkers = (s : Stated q) × (split_fault s.scenario q.options ≡ Some refusals.BadWorkers)
+IsBarred q refusals.CountLimit = (s : Stated q) × (split_fault s.scenario q.options ≡ None) × IsOver s.scenario
 IsBarred q refusals.Memory = Unit {0}
 IsBarred q r = ⊥
 

@@ -3,11 +3,11 @@
 #![tactic(auto)]
 
 mod finals;
+mod options;
 mod outcome;
 mod rehearsal;
-mod split;
 
 pub use finals::finals_of;
+pub use options::Options;
 pub use outcome::{Outcome, compare};
 pub use rehearsal::{Fault, rehearse};
-pub use split::Split;

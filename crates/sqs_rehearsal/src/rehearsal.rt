@@ -3,10 +3,10 @@ ghost use Rattle.std.specs.Prelude.{◌≡◌, false, IfErr, IfOk, OnOk};
 ghost use Rattle.sim_records.specs.Writes.{WroteSeveral};
 ghost use Rattle.sqs_rehearsal.specs.Outcomes.{outcome_of};
 ghost use Rattle.sqs_rehearsal.specs.Rehearsals.{Bars, IsRefused, IsWritten, Rehearsed, Request, Writer};
-ghost use Rattle.sqs_rehearsal.specs.Split.{unless};
+ghost use Rattle.sqs_rehearsal.specs.Options.{unless};
 
+use crate::options::Options;
 use crate::outcome::Outcome;
-use crate::split::Split;
 use sim_clock::Refusal;
 use sim_records::Out;
 use sim_scenario::{ReadError, Scripts, read};
@@ -49,12 +49,17 @@ impl From<Refusal> for Fault {
 }
 
 // The outcome of a request.
-fn outcome(alloc: Global, text: &[u8], scripts: &Scripts, split: &Split) -> Result<Outcome, Fault>
-    ensures whole { IfOk result (λ o. (r : Rehearsed (record { text = text.now; scripts = scripts.now; split = split.now })) × (o ≡ outcome_of r.scenario r.run)) }
-    ensures barred { IfErr result (Bars (record { text = text.now; scripts = scripts.now; split = split.now })) }
+fn outcome(
+    alloc: Global,
+    text: &[u8],
+    scripts: &Scripts,
+    options: &Options,
+) -> Result<Outcome, Fault>
+    ensures whole { IfOk result (λ o. (r : Rehearsed (record { text = text.now; scripts = scripts.now; options = options.now })) × (o ≡ outcome_of r.scenario r.run)) }
+    ensures barred { IfErr result (Bars (record { text = text.now; scripts = scripts.now; options = options.now })) }
 {
     let scenario = read(alloc, text, scripts)?;
-    split.check(&scenario)?;
+    options.check(&scenario)?;
     let outcome = Outcome::of(alloc, scenario)?;
     Ok(outcome)
 }
@@ -92,15 +97,15 @@ pub fn rehearse<L: Out, R: Out>(
     alloc: Global,
     text: &[u8],
     scripts: &Scripts,
-    split: &Split,
+    options: &Options,
     log: &mut L,
     report: &mut R,
 ) -> Result<(), Fault>
     requires log { L.failed log.old ≡ false }
     requires report { R.failed report.old ≡ false }
-    ensures written { OnOk result (IsWritten (record { text = text.now; scripts = scripts.now; split = split.now }) (record { before = L.held log.old; after = L.held log.new; failed = L.failed log.new }) (record { before = R.held report.old; after = R.held report.new; failed = R.failed report.new })) }
-    ensures refused { IfErr result (IsRefused (record { text = text.now; scripts = scripts.now; split = split.now }) (record { before = L.held log.old; after = L.held log.new; failed = L.failed log.new }) (record { before = R.held report.old; after = R.held report.new; failed = R.failed report.new })) }
+    ensures written { OnOk result (IsWritten (record { text = text.now; scripts = scripts.now; options = options.now }) (record { before = L.held log.old; after = L.held log.new; failed = L.failed log.new }) (record { before = R.held report.old; after = R.held report.new; failed = R.failed report.new })) }
+    ensures refused { IfErr result (IsRefused (record { text = text.now; scripts = scripts.now; options = options.now }) (record { before = L.held log.old; after = L.held log.new; failed = L.failed log.new }) (record { before = R.held report.old; after = R.held report.new; failed = R.failed report.new })) }
 {
-    let outcome = outcome(alloc, text, scripts, split)?;
+    let outcome = outcome(alloc, text, scripts, options)?;
     write(alloc, &outcome, log, report)
 }

@@ -7,14 +7,14 @@ use Rattle.sqs_rehearsal.proofs.rehearsal.outcome.Goals as goal
 
 pub returns-in_err-check-clause-barred : goal.returns-in_err-check-clause-barred
 returns-in_err-check-clause-barred c =
-    let q : Request = record { text = c.args.text.now; scripts = c.args.scripts.now; split = c.args.split.now } in
+    let q : Request = record { text = c.args.text.now; scripts = c.args.scripts.now; options = c.args.options.now } in
     let s : Stated q = record { scenario = c.in_ok-scenario.scenario; stated = c.in_ok-scenario.ensures.value } in
     let e = c.in_err-check.field-0.0 in
     bars_on q c.from_residual-in_err-check.result (Refused e) c.from_residual-in_err-check.ensures.1 (split_bars q s e (search rules))
 
 pub returns-in_err-outcome-clause-barred : goal.returns-in_err-outcome-clause-barred
 returns-in_err-outcome-clause-barred c =
-    let q : Request = record { text = c.args.text.now; scripts = c.args.scripts.now; split = c.args.split.now } in
+    let q : Request = record { text = c.args.text.now; scripts = c.args.scripts.now; options = c.args.options.now } in
     let s : Stated q = record { scenario = c.in_ok-scenario.scenario; stated = c.in_ok-scenario.ensures.value } in
     let e = c.in_err-outcome.field-0.0 in
     let allowed = split_allowed _ c.in_ok-check.field-0 (search rules) in

@@ -6,7 +6,7 @@ use Rattle.sqs_model.specs.Scenario.{Scenario, least_latency}
 use Rattle.sim_clock.specs.declared.refusal.Refusal.TheVariants as refusals
 
 -- what was asked for: the window in milliseconds, the number of partitions, the partition of each queue, the number of workers
-pub record Split : Type 0 where
+pub record Options : Type 0 where
   pub window : Option ℕ
   pub parts : Option ℕ
   pub map : Option (List ℕ)
@@ -50,7 +50,7 @@ or_else None other = other
 or_else (Some r) other = Some r
 
 -- what is wrong with what was asked for: the map first, then the window, then the workers
-abbrev pub split_fault : Scenario → Split → Option Refusal
+abbrev pub split_fault : Scenario → Options → Option Refusal
 split_fault s o =
     if is_parted (length s.queues) o.parts o.map
     then or_else (window_fault (least_latency s) o.window) (workers_fault o.workers)

@@ -1,7 +1,7 @@
 //! How a rehearsal is split into partitions, windows and workers.
 ghost use Rattle.std.specs.Prelude.{◌≡◌, nat_lt};
 ghost use Rattle.std.specs.List.{list_all};
-ghost use Rattle.sqs_rehearsal.specs.Split.{is_parted, partitions_in, parts_of, split_fault, unless, window_fault, workers_fault};
+ghost use Rattle.sqs_rehearsal.specs.Options.{is_parted, partitions_in, parts_of, split_fault, unless, window_fault, workers_fault};
 
 use sim_clock::Refusal;
 use sim_scenario::{Scenario, least_latency};
@@ -9,7 +9,7 @@ use std::marker::Model;
 
 /// How a rehearsal is split. The answer does not depend on it.
 #[derive(Drop)]
-pub struct Split {
+pub struct Options {
     /// The window of the partitions, in milliseconds, at least 1; without one it is the least
     /// latency of the scenario's transfers, which no window may pass.
     pub window: Option<u64>,
@@ -21,11 +21,11 @@ pub struct Split {
     pub workers: u32,
 }
 
-impl Model for Split {
+impl Model for Options {
     ghost use Rattle.std.specs.Prelude.{option_map};
-    ghost use Rattle.sqs_rehearsal.specs.Split.{Split};
+    ghost use Rattle.sqs_rehearsal.specs.Options.{Options};
 
-    ghost Value = { Split };
+    ghost Value = { Options };
 
     ghost view = { λ s. record { window = s.window; parts = s.parts; map = option_map (λ v. v.items) s.map; workers = s.workers } };
 }
@@ -48,7 +48,7 @@ fn are_below(map: &[u32], parts: u64) -> bool
     map.iter().all(|part| u64::from(*part) < parts)
 }
 
-impl Split {
+impl Options {
     // How many partitions there are.
     fn parts(&self) -> u64
         ensures { result ≡ parts_of self.now.parts self.now.map }
