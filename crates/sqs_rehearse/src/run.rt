@@ -6,7 +6,7 @@ use crate::files::{Inputs, buffered, read_inputs};
 use sim_clock::Refusal;
 use sim_records::Out;
 use sqs_command_line::RunLine;
-use sqs_rehearsal::{Split, rehearse};
+use sqs_rehearsal::{Options, rehearse};
 use std::alloc::{AllocFailed, Global};
 use std::fs::File;
 use std::process::ExitCode;
@@ -29,12 +29,12 @@ fn short(number: u64) -> u32 {
 }
 
 // How a rehearsal is split.
-fn split(alloc: Global, asked: RunLine<'_>) -> Result<Split, AllocFailed<u32>> {
+fn split(alloc: Global, asked: RunLine<'_>) -> Result<Options, AllocFailed<u32>> {
     let map = match asked.map {
         None => None,
         Some(list) => Some(partitions(alloc, list)?),
     };
-    Ok(Split {
+    Ok(Options {
         window: asked.window,
         parts: asked.parts.map(short),
         map,
@@ -46,7 +46,7 @@ fn split(alloc: Global, asked: RunLine<'_>) -> Result<Split, AllocFailed<u32>> {
 fn write<'a, L: Out>(
     rt: &HostRuntime,
     inputs: &Inputs,
-    split: &Split,
+    split: &Options,
     log: &mut L,
 ) -> Result<(), Stop<'a>>
     requires { L.failed log.old ≡ false }

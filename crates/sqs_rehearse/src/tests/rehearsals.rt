@@ -6,7 +6,7 @@ use sim_clock::Refusal;
 use sim_records::ToWriter;
 use sim_scenario::{Scenario, Scripts, read};
 use sim_windows::World;
-use sqs_rehearsal::{Fault, Outcome, Split, compare, finals_of, rehearse};
+use sqs_rehearsal::{Fault, Options, Outcome, compare, finals_of, rehearse};
 use std::alloc::Global;
 use std::io::{Error, ErrorKind, Write};
 use std::process::Abort;
@@ -169,8 +169,8 @@ fn writer(alloc: Global, left: usize) -> ToWriter<ByteByByte>
 }
 
 /// How a rehearsal is split that has one partition and one worker.
-fn whole() -> Split {
-    Split {
+fn whole() -> Options {
+    Options {
         window: None,
         parts: None,
         map: None,
@@ -201,7 +201,7 @@ fn is_missing(answer: &Result<(), Fault>, place: &[u8]) -> bool {
 fn rehearsed(
     alloc: Global,
     text: &[u8],
-    split: &Split,
+    split: &Options,
     log: &mut ToWriter<ByteByByte>,
     ending: &mut ToWriter<ByteByByte>,
 ) -> Result<(), Fault>
@@ -213,7 +213,7 @@ fn rehearsed(
 }
 
 /// What a rehearsal writes, to writers that take all, and that it is not refused.
-fn try_written(rt: &impl Abort, alloc: Global, split: &Split, given: (&[u8], &[u8], &[u8])) {
+fn try_written(rt: &impl Abort, alloc: Global, split: &Options, given: (&[u8], &[u8], &[u8])) {
     let (text, log, ending) = given;
     try_stopped(rt, alloc, (text, split), (MANY, MANY), (None, log, ending));
 }
@@ -222,7 +222,7 @@ fn try_written(rt: &impl Abort, alloc: Global, split: &Split, given: (&[u8], &[u
 fn try_stopped(
     rt: &impl Abort,
     alloc: Global,
-    given: (&[u8], &Split),
+    given: (&[u8], &Options),
     left: (usize, usize),
     wanted: (Option<Refusal>, &[u8], &[u8]),
 ) {
@@ -252,7 +252,7 @@ fn worked_scenarios_to_the_byte(rt: HostRuntime) {
 
 #[test]
 fn the_longest_window_is_the_least_latency(rt: HostRuntime) {
-    let longest = Split {
+    let longest = Options {
         window: Some(1001),
         ..whole()
     };
@@ -261,14 +261,14 @@ fn the_longest_window_is_the_least_latency(rt: HostRuntime) {
 }
 
 /// A rehearsal that cannot be split so writes nothing.
-fn try_split(rt: &impl Abort, alloc: Global, split: &Split, refusal: Refusal) {
+fn try_split(rt: &impl Abort, alloc: Global, split: &Options, refusal: Refusal) {
     let wanted = (Some(refusal), b"".as_slice(), b"".as_slice());
     try_stopped(rt, alloc, (ONE_SEND, split), (MANY, MANY), wanted);
 }
 
 #[test]
 fn what_a_rehearsal_refuses(rt: HostRuntime) {
-    let too_long = Split {
+    let too_long = Options {
         window: Some(1002),
         ..whole()
     };
@@ -277,12 +277,12 @@ fn what_a_rehearsal_refuses(rt: HostRuntime) {
         least: 1001,
     };
     try_split(&rt, rt.alloc(), &too_long, why);
-    let no_map = Split {
+    let no_map = Options {
         map: Some(Vec::new(rt.alloc())),
         ..whole()
     };
     try_split(&rt, rt.alloc(), &no_map, Refusal::BadMap);
-    let crowd = Split {
+    let crowd = Options {
         workers: 65,
         ..whole()
     };
