@@ -14,3 +14,5 @@ mod tests;
 mod writing;
 
 pub use report::{Report, compare};
+pub use sim_records::write_finals;
+pub use sqs_model::Finals;

@@ -103,13 +103,6 @@ scripted_walk files o home t = do
   calls ← calls_either (has t (codes "script")) files (home_of o home) t
   Ok (Script calls)
 
--- whether bytes begin with {n}
-abbrev pub has_mark : List ℕ → Bool
-has_mark [] = false
-has_mark (a ∷ []) = false
-has_mark (a ∷ b ∷ []) = false
-has_mark (a ∷ (b ∷ (c ∷ rest))) = a == 123 && b == 110 && c == 125
-
 -- the body of a producer
 unfoldable pub body_walk : ℕ → Table → Answers (List ℕ)
 body_walk count t = do

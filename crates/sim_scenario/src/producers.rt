@@ -7,7 +7,8 @@ ghost use Rattle.sqs_formats.specs.Keys.{fault_at, only};
 ghost use Rattle.sqs_formats.specs.Actors.{actor_keys, is_producer_body, producer_keys, sending_keys};
 ghost use Rattle.sqs_model.specs.Actor.{filled};
 ghost use Rattle.sim_scenario.specs.Gives.{Gives, table as the_table};
-ghost use Rattle.sim_scenario.specs.ActorWalks.{body_walk, fifo_sending_walk, has_mark, producer_walk, sending_by, standard_sending_walk};
+ghost use Rattle.sqs_model.specs.Marks.{has_mark};
+ghost use Rattle.sim_scenario.specs.ActorWalks.{body_walk, fifo_sending_walk, producer_walk, sending_by, standard_sending_walk};
 
 use crate::fault::{ReadError, blame};
 use crate::keys::{
@@ -15,7 +16,7 @@ use crate::keys::{
 };
 use sim_clock::Refusal;
 use sqs_message::Text;
-use sqs_model::{ProducerSettings, Role};
+use sqs_model::{ProducerSettings, Role, has_mark};
 use std::alloc::{AllocError, Global};
 use toml::Table;
 
@@ -87,13 +88,6 @@ fn sending(
     } else {
         standard_sending(alloc, table, place)
     }
-}
-
-/// Whether bytes begin with `{n}`.
-fn has_mark(bytes: &[u8]) -> bool
-    ensures { result ≡ has_mark bytes.now }
-{
-    bytes.len() >= 3 && bytes[0] == b'{' && bytes[1] == b'n' && bytes[2] == b'}'
 }
 
 /// Whether a body has at most so many bytes where these digits stand for each `{n}`.

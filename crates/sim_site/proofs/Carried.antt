@@ -42,7 +42,7 @@ did_say a b c d x y rows sent same row =
 
 -- the same of what may be refused
 pub says_if :
-    (r : Result (Unit {0}) Refusal) (a b : Effects) (c d : Core) (x y : Row)
+    {E : Type 0} (r : Result (Unit {0}) E) (a b : Effects) (c d : Core) (x y : Row)
     → OnOk r (b.rows.items ≡ a.rows.items ++ x ∷ []) → b.sent ≡ a.sent → c ≡ d → x ≡ y → OnOk r (Did a b c (says d y))
 says_if (Ok u) a b c d x y rows sent same row = did_say a b c d x y rows sent same row
 says_if (Err e) a b c d x y rows sent same row = tt

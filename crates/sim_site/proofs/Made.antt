@@ -20,6 +20,7 @@ use Rattle.sqs_model.specs.Queue.{Queue, id_of}
 use Rattle.sqs_model.specs.Site.{Core, says, with_queue}
 use Rattle.sim_site.specs.Effects.{Did}
 use Rattle.sim_site.proofs.Carried.{says_if, then_if, did_say}
+use Rattle.std.specs.declared.alloc.AllocError.{AllocError}
 
 module _ (key : Key) (a : Actor) (c : Core) (before after : Effects) where
   pub send_did :
@@ -31,7 +32,7 @@ module _ (key : Key) (a : Actor) (c : Core) (before after : Effects) where
       rw h (says_if r before after (with_queue c q) (with_queue c q) x (send_row key a.number c body answer) rows sent refl row)
 
   pub delete_did :
-      (r : Result (Unit {0}) Refusal) (text : List ℕ) (rc : Receipt) (answer : Result Deleted Refusal) (q : Queue) (x : Row)
+      (r : Result (Unit {0}) AllocError) (text : List ℕ) (rc : Receipt) (answer : Result Deleted Refusal) (q : Queue) (x : Row)
       → read_receipt text ≡ Some rc → delete c.queue key.at rc ≡ (answer, q)
       → OnOk r (after.rows.items ≡ before.rows.items ++ x ∷ []) → after.sent ≡ before.sent → x ≡ deleted_row key a c text rc answer
       → OnOk r (Did before after (with_queue c q) (delete_made key a c text (read_receipt text)).effect)

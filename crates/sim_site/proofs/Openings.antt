@@ -4,7 +4,7 @@ use Rattle.std.proofs.lemmas.List.{map-append}
 use Rattle.sqs_model.specs.declared.agents.ActorSettings.{ActorSettings}
 use Rattle.sqs_redrive.specs.declared.settings.TaskSettings.{TaskSettings}
 use Rattle.sqs_model.specs.Actor.{Actor}
-use Rattle.sqs_model.specs.Scenario.{Scenario, opening_actor, opening_task}
+use Rattle.sqs_model.specs.Scenario.{opening_actor, opening_task}
 use Rattle.sim_site.specs.Kept.{numbered_settings}
 
 -- what was made of one more element is put at the end

@@ -3,7 +3,6 @@ use Rattle.std.proofs.Common.{◌≡◌, ℕ, Bool, true, false, List, [], ◌�
 use Rattle.std.specs.Prelude.{IfSome, OnOk, Result, find}
 use Rattle.std.specs.List.{list_any}
 use Rattle.sim_clock.specs.declared.key.Key.{Key}
-use Rattle.sim_clock.specs.declared.refusal.Refusal.{Refusal}
 use Rattle.sim_clock.specs.declared.refusal.Refusal.TheVariants as refusals
 use Rattle.sqs_message.specs.declared.row.Row.{Row}
 use Rattle.sqs_message.specs.declared.row.RowAnswer.TheVariants as answers
@@ -18,6 +17,7 @@ use Rattle.sim_site.specs.Effects.{Did}
 use Rattle.sim_site.specs.Reading.{cancelled_task, started_task}
 use Rattle.sim_site.specs.Tasks.{Rewritten}
 use Rattle.sim_site.proofs.Carried.{says_if}
+use Rattle.std.specs.declared.alloc.AllocError.{AllocError}
 
 -- one that is found
 pub record Found {A : Type 0} (p : A → Bool) (xs : List A) : Type 0 where
@@ -28,7 +28,7 @@ pub stands_found : {A : Type 0} (p : A → Bool) (xs : List A) (i : ℕ) → Sta
 stands_found p [] i s = absurd (omega (arith, s.within))
 stands_found p (x ∷ xs) i s = record { one = _; is = s.found x }
 
-module _ (key : Key) (a : Actor) (c : Core) (before after : Effects) (r : Result (Unit {0}) Refusal) (n : ℕ) (x : Row) (rows : OnOk r (after.rows.items ≡ before.rows.items ++ x ∷ [])) (sent : after.sent ≡ before.sent) where
+module _ (key : Key) (a : Actor) (c : Core) (before after : Effects) (r : Result (Unit {0}) AllocError) (n : ℕ) (x : Row) (rows : OnOk r (after.rows.items ≡ before.rows.items ++ x ∷ [])) (sent : after.sent ≡ before.sent) where
   pub start_refused :
       (i : ℕ) → Stands (is_task n) c.tasks i → list_any runs c.tasks ≡ true → x ≡ task_row key a c n kinds.Start (answers.Refused refusals.TaskRunning)
       → OnOk r (Did before after c (start_made key a c n (task_numbered n c)).effect)

@@ -1,5 +1,5 @@
 //! Sites.
-ghost use Rattle.std.specs.Prelude.{All, Err, IfErr, IfOk, IsOk, IsOkUnless, None, Ok, OnOk, Option, Result, Some, filter, map, ◌==◌, ◌≡◌, ◌≤◌};
+ghost use Rattle.std.specs.Prelude.{All, Err, IfErr, IfOk, Ok, OnOk, Some, [], map, ◌≡◌, ◌≤◌};
 ghost use Rattle.sim_actor.specs.Lives.{IsRole};
 ghost use Rattle.sim_clock.specs.Order.{least};
 ghost use Rattle.sqs_model.specs.Answers.{most_count};

@@ -94,7 +94,7 @@ impl Core {
         match sent {
             Sent::Repeat(id) => {
                 effects.say(arrival_row(key, site, origin, RowAnswer::Repeat, id))?;
-                Ok(())
+                return Ok(());
             }
             Sent::New(id) => {
                 effects.say(arrival_row(key, site, origin, RowAnswer::New, id))?;

@@ -79,7 +79,7 @@ impl Core {
         text: Text,
         effects: &mut Effects,
     ) -> Result<(), AllocError>
-        ensures did { (a : Actor) → a.number ≡ agent → OnOk result (Did effects.old effects.new self.new (delete_made key a self.old text (the_read_receipt text)).effect) }
+        ensures { (a : Actor) → a.number ≡ agent → OnOk result (Did effects.old effects.new self.new (delete_made key a self.old text (the_read_receipt text)).effect) }
     {
         let site = self.queue.site();
         match read_receipt(&text) {
@@ -210,7 +210,7 @@ impl Core {
         forward: Option<Outbound>,
         effects: &mut Effects,
     ) -> Result<(), AllocError>
-        ensures did { (a : Actor) → a.number ≡ agent → OnOk result (Did effects.old effects.new self.new (serve_made key a self.old id receipt failed forward).effect) }
+        ensures { (a : Actor) → a.number ≡ agent → OnOk result (Did effects.old effects.new self.new (serve_made key a self.old id receipt failed forward).effect) }
     {
         let site = self.queue.site();
         if failed {

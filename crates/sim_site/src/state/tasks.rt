@@ -71,7 +71,7 @@ impl Core {
         effects: &mut Effects,
     ) -> Result<(), AllocError>
         requires { key.at ≤ most_count }
-        ensures did { (a : Actor) → a.number ≡ agent → OnOk result (Did effects.old effects.new self.new (start_made key a self.old task (task_numbered task self.old)).effect) }
+        ensures { (a : Actor) → a.number ≡ agent → OnOk result (Did effects.old effects.new self.new (start_made key a self.old task (task_numbered task self.old)).effect) }
     {
         let site = self.queue.site();
         let Some(place) = place_of_task(&self.tasks, task) else {
@@ -93,7 +93,7 @@ impl Core {
         task: u32,
         effects: &mut Effects,
     ) -> Result<(), AllocError>
-        ensures did { (a : Actor) → a.number ≡ agent → OnOk result (Did effects.old effects.new self.new (cancel_made key a self.old task (task_numbered task self.old)).effect) }
+        ensures { (a : Actor) → a.number ≡ agent → OnOk result (Did effects.old effects.new self.new (cancel_made key a self.old task (task_numbered task self.old)).effect) }
     {
         let site = self.queue.site();
         let Some(place) = place_of_task(&self.tasks, task) else {

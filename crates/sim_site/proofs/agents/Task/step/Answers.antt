@@ -1,4 +1,4 @@
-use Rattle.std.proofs.Common.{ap, arith, length, sym, ◌+◌, ◌≡◌, ◌≤◌, ◌∙◌}
+use Rattle.std.proofs.Common.{Ok, ap, arith, length, sym, ◌+◌, ◌≡◌, ◌≤◌, ◌∙◌}
 use Rattle.sqs_model.specs.Answers.{most_count}
 use Rattle.sqs_model.specs.Task.{Task}
 use Rattle.sqs_redrive.specs.MoveTasks.{MoveTask}
@@ -16,8 +16,8 @@ returns-clause-stepped c =
     let e : after ≡ task_after c.args.key.at c.len-taken.result c.args.rest c.move_all.new.self =
     ap with_move c.step.ensures ∙ ap (task_after c.args.key.at c.len-taken.result c.args.rest) c.self-2.view_is in
     let counted : c.len-taken.result ≡ length c.args.loads.items = omega (arith, c.len-taken.ensures, c.args.loads.ok.0) in
-    did_step c.tell_end.result c.args.effects.now c.move_all.new.effects c.tell_end.new.effects c.args.key c.args.site c.len-taken.result c.args.self.now c.move_all.new.self after
-    c.args.loads.items c.args.rest c.in_ok-move_all.ensures.moved e counted c.tell_end.ensures.rows c.tell_end.ensures.sent
+    did_step (Ok tt) c.args.effects.now c.move_all.new.effects c.tell_end.new.effects c.args.key c.args.site c.len-taken.result c.args.self.now c.move_all.new.self after
+    c.args.loads.items c.args.rest c.in_ok-move_all.ensures.moved e counted c.in_ok-tell_end.ensures.rows c.in_ok-tell_end.ensures.sent
 
 pub returns-then-steps-ge-MOST_COUNT-clause-stops : goal.returns-then-steps-ge-MOST_COUNT-clause-stops
 returns-then-steps-ge-MOST_COUNT-clause-stops c = λ core n.

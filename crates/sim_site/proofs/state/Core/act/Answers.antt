@@ -35,7 +35,7 @@ returns-clause-did c = λ a e f.
       | in-Delete+in_ok-delete-in-Delete w ↦
           rw (w.self-is, w.effects-is)
           (subst (λ (x : Act). DidTurn c.args.effects.now w.delete.new.effects w.delete.new.self (Some told_by.Other) (turn_by x (act_made c.args.key a c.args.self.now x))) (sym w.in-Delete.is)
-          (record { effect = w.in_ok-delete-in-Delete.ensures.did a e; answer = delete_done_is c.args.key a c.args.self.now w.in-Delete.receipt (read_receipt w.in-Delete.receipt) }))
+          (record { effect = w.in_ok-delete-in-Delete.ensures a e; answer = delete_done_is c.args.key a c.args.self.now w.in-Delete.receipt (read_receipt w.in-Delete.receipt) }))
       | in-Change+in_ok-change-in-Change w ↦
           rw (w.self-is, w.effects-is)
           (subst (λ (x : Act). DidTurn c.args.effects.now w.change.new.effects w.change.new.self (Some told_by.Other) (turn_by x (act_made c.args.key a c.args.self.now x))) (sym w.in-Change.is)
@@ -43,13 +43,13 @@ returns-clause-did c = λ a e f.
       | in-Start+in_ok-start-in-Start w ↦
           rw (w.self-is, w.effects-is)
           (subst (λ (x : Act). DidTurn c.args.effects.now w.start.new.effects w.start.new.self (Some told_by.Other) (turn_by x (act_made c.args.key a c.args.self.now x))) (sym w.in-Start.is)
-          (record { effect = w.in_ok-start-in-Start.ensures.did a e; answer = start_done_is c.args.key a c.args.self.now w.in-Start.task (task_numbered w.in-Start.task c.args.self.now) }))
+          (record { effect = w.in_ok-start-in-Start.ensures a e; answer = start_done_is c.args.key a c.args.self.now w.in-Start.task (task_numbered w.in-Start.task c.args.self.now) }))
       | in-Cancel+in_ok-cancel-in-Cancel w ↦
           rw (w.self-is, w.effects-is)
           (subst (λ (x : Act). DidTurn c.args.effects.now w.cancel.new.effects w.cancel.new.self (Some told_by.Other) (turn_by x (act_made c.args.key a c.args.self.now x))) (sym w.in-Cancel.is)
-          (record { effect = w.in_ok-cancel-in-Cancel.ensures.did a e; answer = cancel_done_is c.args.key a c.args.self.now w.in-Cancel.task (task_numbered w.in-Cancel.task c.args.self.now) }))
+          (record { effect = w.in_ok-cancel-in-Cancel.ensures a e; answer = cancel_done_is c.args.key a c.args.self.now w.in-Cancel.task (task_numbered w.in-Cancel.task c.args.self.now) }))
       | in-Serve+in_ok-serve-in-Serve w ↦
           rw (w.self-is, w.effects-is)
           (subst (λ (x : Act). DidTurn c.args.effects.now w.serve.new.effects w.serve.new.self (Some told_by.Other) (turn_by x (act_made c.args.key a c.args.self.now x))) (sym w.in-Serve.is)
-          (record { effect = w.in_ok-serve-in-Serve.ensures.did a e; answer = serve_done_is c.args.key a c.args.self.now w.in-Serve.id w.in-Serve.receipt w.in-Serve.failed w.in-Serve.forward }))
+          (record { effect = w.in_ok-serve-in-Serve.ensures a e; answer = serve_done_is c.args.key a c.args.self.now w.in-Serve.id w.in-Serve.receipt w.in-Serve.failed w.in-Serve.forward }))
     ]

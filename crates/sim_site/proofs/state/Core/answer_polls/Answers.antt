@@ -17,7 +17,7 @@ loop-i-preserved c =
     let ps = c.in_ok-polls.polls.items in
     let p : Poll = c.index.result.now in
     let within : c.loop-i.i < length ps = omega (arith, c.loop-i-test.true, c.len-i-end.ensures) in
-    let gives : can_give c.loop-i.self.queue ≡ true = ap (λ (x : Core). can_give x.queue) (sym c.self-in-loop-i.view_is) ∙ sym c.in_ok-gives.ensures.gives ∙ c.if-not-gives.false in
+    let gives : can_give c.loop-i.self.queue ≡ true = ap (λ (x : Core). can_give x.queue) (sym c.self-in-loop-i.view_is) ∙ sym c.in_ok-gives.ensures ∙ c.if-not-gives.false in
     record {
       remains = remains_then c.args.effects.now c.loop-i.effects c.answer_poll.new.effects c.answer_poll.new.self _ _ (poll_answered c.args.key p c.loop-i.self (poll_given c.args.key p c.loop-i.self.queue)) (answer_polls c.args.key (drop (c.loop-i.i + 1) ps))
           c.loop-i.invariant.remains (polls_go c.args.key c.loop-i.self ps c.loop-i.i p within c.index.ensures gives) c.in_ok-answer_poll.ensures.did;
@@ -28,7 +28,7 @@ loop-i-preserved c =
 pub returns-then-not-gives-clause-did : goal.returns-then-not-gives-clause-did
 returns-then-not-gives-clause-did c =
     let ps = c.in_ok-polls.polls.items in
-    let stops : can_give c.loop-i.self.queue ≡ false = ap (λ (x : Core). can_give x.queue) (sym c.self-in-loop-i.view_is) ∙ sym c.in_ok-gives.ensures.gives ∙ c.if-not-gives.true in
+    let stops : can_give c.loop-i.self.queue ≡ false = ap (λ (x : Core). can_give x.queue) (sym c.self-in-loop-i.view_is) ∙ sym c.in_ok-gives.ensures ∙ c.if-not-gives.true in
     let same : ps ≡ c.args.self.now.polls = c.in_ok-polls.ensures ∙ c.deref.ensures.value ∙ ap (λ (x : Core). x.polls) c.self.view_is in
     subst (λ (qs : List Poll). Did c.args.effects.now c.loop-i.effects c.loop-i.self (answer_polls c.args.key qs c.args.self.now)) same
     (remains_none c.args.effects.now c.loop-i.effects c.loop-i.self _ (answer_polls c.args.key ps c.args.self.now) c.loop-i.invariant.remains (polls_stop c.args.key c.loop-i.self (drop c.loop-i.i ps) stops))
@@ -39,7 +39,7 @@ returns-in_err-answer_poll-clause-stops c =
     let p : Poll = c.index.result.now in
     let now = c.loop-i in
     let within : now.i < length ps = omega (arith, c.loop-i-test.true, c.len-i-end.ensures) in
-    let gives : can_give now.self.queue ≡ true = ap (λ (x : Core). can_give x.queue) (sym c.self-in-loop-i.view_is) ∙ sym c.in_ok-gives.ensures.gives ∙ c.if-not-gives.false in
+    let gives : can_give now.self.queue ≡ true = ap (λ (x : Core). can_give x.queue) (sym c.self-in-loop-i.view_is) ∙ sym c.in_ok-gives.ensures ∙ c.if-not-gives.false in
     let same : ps ≡ c.args.self.now.polls = c.in_ok-polls.ensures ∙ c.deref.ensures.value ∙ ap (λ (x : Core). x.polls) c.self.view_is in
     subst (λ (qs : List Poll). IfErr c.from_residual-in_err-answer_poll.result (Stops (answer_polls c.args.key qs c.args.self.now))) same
     (stops_up _ (PassesCount (answer_polls c.args.key ps c.args.self.now)) c.from_residual-in_err-answer_poll.result c.in_err-answer_poll.field-0.0 c.from_residual-in_err-answer_poll.ensures.1

@@ -1,13 +1,14 @@
 use Rattle.std.proofs.Common.{refl}
+use Rattle.std.specs.Prelude.{Ok}
 use Rattle.sim_site.proofs.Made.{change_back_did, change_kept_did, change_refused_did}
 use Rattle.sim_site.proofs.Said.{refused_same}
 use Rattle.sim_site.proofs.state.Core.change_by.Goals as goal
 
-pub returns-in-Err-clause-did : goal.returns-in-Err-clause-did
-returns-in-Err-clause-did c = λ a e.
+pub returns-in_ok-say-in-Err-clause-did : goal.returns-in_ok-say-in-Err-clause-did
+returns-in_ok-say-in-Err-clause-did c = λ a e.
     rw (← c.self.view_is)
-    (change_refused_did c.args.key a _ c.args.effects.now c.say.new.self c.say.result c.args.text c.args.timeout c.args.receipt c.in-Err.refusal c.change.new.self c.with_text.result
-    c.in-Err.ensures.answer (refused_same c.self.inside.queue c.change.new.self c.args.key.at c.args.receipt c.args.timeout c.in-Err.refusal c.in-Err.ensures.answer) c.say.ensures.rows c.say.ensures.sent (rw (e, c.with_text.ensures, c.row-row.ensures, c.site-site.ensures) refl))
+    (change_refused_did c.args.key a _ c.args.effects.now c.say.new.self (Ok tt) c.args.text c.args.timeout c.args.receipt c.in-Err.refusal c.change.new.self c.with_text.result
+    c.in-Err.ensures.answer (refused_same c.self.inside.queue c.change.new.self c.args.key.at c.args.receipt c.args.timeout c.in-Err.refusal c.in-Err.ensures.answer) c.in_ok-say-in-Err.ensures.rows c.in_ok-say-in-Err.ensures.sent (rw (e, c.with_text.ensures, c.row-row.ensures, c.site-site.ensures) refl))
 
 pub returns-then-timeout-eq0-clause-did : goal.returns-then-timeout-eq0-clause-did
 returns-then-timeout-eq0-clause-did c = λ a e.

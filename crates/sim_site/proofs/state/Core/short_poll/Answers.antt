@@ -29,8 +29,8 @@ returns-in-Some-clause-did c = λ a e.
     (λ f. short_refused c.args.key a (the_view c.self.inside) c.args.max c.args.timeout c.args.effects.now c.say.new.self c.args.hosts c.args.sampled (drawn_uniform 0 (c.args.hosts - 1) c.self.inside.draws).0 (drawn_uniform 0 (c.args.hosts - 1) c.self.inside.draws).1 c.in-Some.refusal c.receive_row.result
     (c.in-Some.ensures.refused c.args.key.at c.args.max (hosts_from c.args.hosts c.args.sampled (drawn_uniform 0 (c.args.hosts - 1) c.self.inside.draws).0)) c.in_ok-say.ensures.rows c.in_ok-say.ensures.sent (c.receive_row.ensures (the_view c.self.inside) (sym c.site-site.ensures) ∙ ap (λ n. receive_row c.args.key (the_view c.self.inside) n (answers.Refused c.in-Some.refusal)) (sym e)))
 
-pub returns-in-Ok-clause-did : goal.returns-in-Ok-clause-did
-returns-in-Ok-clause-did c = λ a e.
+pub returns-clause-did : goal.returns-clause-did
+returns-clause-did c = λ a e.
     let set = c.hosts_from-set.ensures ∙ ap (hosts_from c.args.hosts c.args.sampled) c.uniform-start.ensures.number in
     let received = c.in_ok-gots.ensures.received ∙ ap (λ r. (result_map_both (λ b. b.items) (λ x. x) r, c.received_by.new.queue)) c.in-Ok.is in
     let is = short_is c.args.key a (the_view c.self.inside) c.args.max c.args.timeout c.args.hosts c.args.sampled c.hosts_from-set.result (uniform 0 (c.args.hosts - 1) (next_word c.self.inside.draws)) c.received_by.new.queue c.uniform-start.new.self c.in-Ok.gots.items set received c.in_ok-gots.ensures.framed.site in
@@ -58,8 +58,8 @@ returns-in_err-gots-clause-stops c = λ a e f.
     (λ h. subst (λ s. PassesCount (receive_made c.args.key a core (record core { draws = drawn.1 }) c.args.max 0 c.args.timeout (receive core.queue c.args.key.at c.args.max c.args.timeout s true)).effect) set
     (receive_passes c.args.key a core (record core { draws = drawn.1 }) c.args.max 0 c.args.timeout c.hosts_from-set.result true h)) c.in_err-gots.ensures.stops)
 
-pub returns-in-Ok-clause-stops : goal.returns-in-Ok-clause-stops
-returns-in-Ok-clause-stops c = λ a e.
+pub returns-clause-stops : goal.returns-clause-stops
+returns-clause-stops c = λ a e.
     let set = c.hosts_from-set.ensures ∙ ap (hosts_from c.args.hosts c.args.sampled) c.uniform-start.ensures.number in
     let received = c.in_ok-gots.ensures.received ∙ ap (λ r. (result_map_both (λ b. b.items) (λ x. x) r, c.received_by.new.queue)) c.in-Ok.is in
     let is = short_is c.args.key a (the_view c.self.inside) c.args.max c.args.timeout c.args.hosts c.args.sampled c.hosts_from-set.result (uniform 0 (c.args.hosts - 1) (next_word c.self.inside.draws)) c.received_by.new.queue c.uniform-start.new.self c.in-Ok.gots.items set received c.in_ok-gots.ensures.framed.site in

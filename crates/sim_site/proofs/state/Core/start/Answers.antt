@@ -8,16 +8,16 @@ use Rattle.sim_site.specs.contracts.state.Core.{the_view}
 use Rattle.sim_site.proofs.Tasking.{start_done, start_refused}
 use Rattle.sim_site.proofs.state.Core.start.Goals as goal
 
-pub returns-then-any_runs-clause-did : goal.returns-then-any_runs-clause-did
-returns-then-any_runs-clause-did c = λ a e.
+pub returns-then-any_runs : goal.returns-then-any_runs
+returns-then-any_runs c = λ a e.
     let any : list_any runs c.self.inside.tasks.items ≡ true = ap (list_any runs) (sym c.deref-2.ensures.value) ∙ sym c.any_runs.ensures ∙ c.if-any_runs.true in
     let stands = subst (λ (ts : List Task). Stands (is_task c.args.task) ts c.in-Some.place) c.deref.ensures.value c.in-Some.ensures in
     rw (← c.self.view_is)
     (start_refused c.args.key a (the_view c.self.inside) c.args.effects.now c.say.new.self c.say.result c.args.task c.task_row.result c.say.ensures.rows c.say.ensures.sent
     c.in-Some.place stands any (c.task_row.ensures a (the_view c.self.inside) e (sym c.site-site.ensures)))
 
-pub returns-clause-did : goal.returns-clause-did
-returns-clause-did c = λ a e.
+pub returns : goal.returns
+returns c = λ a e.
     let none : list_any runs c.self.inside.tasks.items ≡ false = ap (list_any runs) (sym c.deref-2.ensures.value) ∙ sym c.any_runs.ensures ∙ c.if-any_runs.false in
     rw (← c.self.view_is)
     (start_done c.args.key a (the_view c.self.inside) c.args.effects.now c.say-2.new.self c.say-2.result c.args.task c.task_row-2.result c.say-2.ensures.rows c.say-2.ensures.sent
