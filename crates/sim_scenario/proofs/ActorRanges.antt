@@ -2,14 +2,14 @@
 use Rattle.std.proofs.Common.{◌≡◌, ℕ, ◌≤◌, Bool, codes, List, [], ◌∷◌, map, find, Option, Some, None, Ok, arith}
 use Rattle.std.specs.Str.{bytes_eq}
 use Rattle.std.proofs.lemmas.List.Elements.{All-nil}
-use Rattle.toml.specs.Data.{Data, as_integer, as_str}
+use Rattle.toml.specs.Data.{Data, as_str}
 use Rattle.sim_clock.specs.declared.refusal.Refusal.TheVariants.{OutOfRange}
 use Rattle.sqs_message.specs.declared.calls.ScriptCall.{ScriptCall}
 use Rattle.sqs_formats.specs.declared.faults.ScriptFault.{ScriptFault}
 use Rattle.sqs_formats.specs.declared.home.Home.{Home}
 use Rattle.sqs_formats.specs.Reading.{Reading, answer, first, needs, retold}
 use Rattle.sqs_formats.specs.Reading as reading
-use Rattle.sqs_formats.specs.Keys.{Says, Table, at, fault_at, integer, maybe, optional_when, place_of, required, required_when, some, text_that, typed}
+use Rattle.sqs_formats.specs.Keys.{Says, Table, at, fault_at, place_of, required, required_when, text_that, typed}
 use Rattle.sqs_formats.specs.Names.{is_script_name}
 use Rattle.sqs_formats.specs.Outline.{Outline, kind_at}
 use Rattle.sqs_formats.specs.Actors.{ActorKind, ConsumerKind, Files, ProducerKind, ScriptKind, Unread, actor, calls_by, calls_in, consuming, file_when, forward, home_of, producing, role, script_fault, scripted}

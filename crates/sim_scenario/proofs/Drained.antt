@@ -1,9 +1,9 @@
 -- The home of a move task is the dead-letter queue of some queue.
-use Rattle.std.proofs.Common.{◌≡◌, ◌∙◌, ℕ, zero, ◌+◌, ◌<◌, ◌||◌, Bool, true, false, codes, List, [], ◌∷◌, length, ◌++◌, Option, Some, None, Ok, refl, sym, ap, arith}
+use Rattle.std.proofs.Common.{◌≡◌, ◌∙◌, ℕ, zero, ◌+◌, ◌||◌, Bool, true, false, codes, List, [], ◌∷◌, ◌++◌, Option, Some, None, Ok, refl, sym, ap, arith}
 use Rattle.std.specs.Prelude.{All, Contains, get_or, map, unwrap_or, ◌≢◌}
 use Rattle.std.specs.Str.{bytes_eq}
 use Rattle.std.proofs.lemmas.Bool.{true≢false}
-use Rattle.std.proofs.lemmas.List.Elements.{All-get_or, All-map}
+use Rattle.std.proofs.lemmas.List.Elements.{All-map}
 use Rattle.std.proofs.lemmas.List.Quantifiers.{position-Some}
 use Rattle.std.proofs.lemmas.Slice.Eq.{bytes_eq-Decides}
 use Rattle.toml.specs.Data.{Data, Members, as_table, get_member}
@@ -12,7 +12,7 @@ use Rattle.sqs_redrive.specs.declared.settings.QueueSettings.{QueueSettings}
 use Rattle.sqs_redrive.specs.declared.settings.TaskSettings.{TaskSettings}
 use Rattle.sqs_model.specs.declared.agents.ActorSettings.{ActorSettings}
 use Rattle.sqs_formats.specs.Reading.{answer, reads}
-use Rattle.sqs_formats.specs.Keys.{Says, Table, at, each, is_among, is_there, item_place, item_when, members_or_none, text_in, text_when}
+use Rattle.sqs_formats.specs.Keys.{Table, at, each, is_among, is_there, item_place, item_when, members_or_none, text_in, text_when}
 use Rattle.sqs_formats.specs.Names.{is_queue_name}
 use Rattle.sqs_formats.specs.Outline.{Outline, place_among, queue_number}
 use Rattle.sqs_formats.specs.Queues.{policy, queue}

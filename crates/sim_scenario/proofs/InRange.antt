@@ -1,5 +1,5 @@
 -- What a text says without a fault is in range.
-use Rattle.std.proofs.Common.{length-append, ◌++◌, subst, ◌≡◌, ◌∙◌, ◌<◌, length, ℕ, ◌+◌, ◌≤◌, codes, List, map, Option, Some, None, Ok, sym, ap, arith}
+use Rattle.std.proofs.Common.{length-append, ◌++◌, subst, ◌≡◌, ◌∙◌, ◌<◌, length, ℕ, ◌+◌, ◌≤◌, codes, List, map, Option, Some, None, sym, ap, arith}
 use Rattle.std.specs.Prelude.{All}
 use Rattle.std.proofs.lemmas.List.Elements.{All-map, All-weaker}
 use Rattle.sqs_redrive.specs.declared.settings.Policy.{Policy}
@@ -12,8 +12,7 @@ use Rattle.sqs_model.specs.declared.agents.Role.TheVariants.{Consumer, Producer,
 use Rattle.sqs_model.specs.Progress.{IsSoundForward, IsSoundPolicy, IsSoundRole, IsSoundSettings, TakesTime}
 use Rattle.sqs_model.specs.Scenario.{Scenario}
 use Rattle.sqs_model.specs.Valid.{IsQueueSettings, IsTaskSettings, MayBeForward, MayBePolicy}
-use Rattle.sqs_formats.specs.Reading.{answer}
-use Rattle.sqs_formats.specs.Keys.{each, has, text_in}
+use Rattle.sqs_formats.specs.Keys.{has, text_in}
 use Rattle.sqs_formats.specs.Outline.{Outline}
 use Rattle.sqs_formats.specs.Queues.{queue}
 use Rattle.sqs_formats.specs.Actors.{Files, actor}

@@ -1,11 +1,11 @@
 -- What is read at the keys of an item, and of all items of a list.
-use Rattle.std.proofs.Common.{◌≡◌, ◌∙◌, ℕ, ◌+◌, Bool, true, false, codes, List, [], ◌∷◌, map, Option, Some, None, Ok, refl, subst}
+use Rattle.std.proofs.Common.{◌≡◌, ℕ, ◌+◌, codes, List, [], ◌∷◌, map, Option, Some, None, Ok, refl, subst}
 use Rattle.std.specs.List.{enumerate_from}
 use Rattle.std.specs.Prelude.{All}
 use Rattle.std.proofs.lemmas.List.Elements.{All-cons, All-nil}
 use Rattle.toml.specs.Data.{Data, Members, as_str, as_table}
 use Rattle.sqs_formats.specs.Reading.{answer}
-use Rattle.sqs_formats.specs.Keys.{Says, Table, at, each, item_place, item_when, maybe, members_or_none, optional_when, place_of, required, required_when, some, text_in, text_or_none, text_that, text_when, typed}
+use Rattle.sqs_formats.specs.Keys.{Says, Table, at, each, item_place, item_when, members_or_none, optional_when, place_of, required, required_when, some, text_in, text_or_none, text_that, text_when, typed}
 use Rattle.sim_scenario.proofs.Sound.{is_read, parts}
 
 -- the text at a key that has to be there is read on

@@ -1,7 +1,6 @@
 -- What each part of a text says of its name, and of the queues that it names.
-use Rattle.std.proofs.Common.{◌≡◌, ◌∙◌, ℕ, zero, suc, ◌+◌, ◌<◌, ◌==◌, Bool, true, false, not, codes, List, [], ◌∷◌, length, Option, Some, None, Ok, refl, sym, ap, arith}
+use Rattle.std.proofs.Common.{◌≡◌, ◌∙◌, ℕ, zero, suc, ◌+◌, ◌<◌, ◌==◌, Bool, true, false, not, codes, List, [], ◌∷◌, length, Option, Some, None, Ok, refl, sym, ap}
 use Rattle.std.specs.Prelude.{All, get_or, if◌then◌else◌, map, unwrap_or, ◌≢◌}
-use Rattle.std.specs.List.{enumerate_from}
 use Rattle.std.proofs.lemmas.Bool.{true≢false}
 use Rattle.std.proofs.lemmas.Bool.Decides.{Decides-eqb}
 use Rattle.std.proofs.lemmas.List.Elements.{All-head, All-nil, All-tail}

@@ -1,30 +1,20 @@
 -- Whatever a text names as a queue is a queue of it.
-use Rattle.std.proofs.Common.{◌≡◌, ℕ, ◌+◌, ◌<◌, ◌≤◌, Bool, true, false, codes, List, [], ◌∷◌, length, nat_le, Option, Some, None, Ok, unwrap_or, refl, ap, arith}
+use Rattle.std.proofs.Common.{◌≡◌, ℕ, ◌+◌, ◌<◌, ◌≤◌, Bool, true, false, List, [], ◌∷◌, length, nat_le, Option, Some, None, Ok, unwrap_or, refl, ap, arith}
 use Rattle.std.specs.Str.{bytes_eq}
 use Rattle.std.proofs.lemmas.List.Quantifiers.{position-Some}
 use Rattle.std.proofs.lemmas.Bool.Decides.{nat_tests}
-use Rattle.toml.specs.Data.{Data, Items, as_array, as_str}
+use Rattle.toml.specs.Data.{Data, Items, as_array}
 use Rattle.sim_clock.specs.declared.refusal.Refusal.TheVariants.{OutOfRange, TooMany}
 use Rattle.sqs_redrive.specs.declared.settings.Policy.{Policy}
-use Rattle.sqs_redrive.specs.declared.settings.QueueSettings.{QueueSettings}
-use Rattle.sqs_redrive.specs.declared.settings.TaskSettings.{TaskSettings}
-use Rattle.sqs_model.specs.declared.agents.ActorSettings.{ActorSettings}
-use Rattle.sqs_model.specs.declared.agents.Forwarding.{Forwarding}
-use Rattle.sqs_model.specs.declared.agents.Role.{Role}
-use Rattle.sqs_formats.specs.declared.faults.ScenarioFault.{ScenarioFault}
 use Rattle.sqs_formats.specs.Reading.{answer, needs, reads}
 use Rattle.sqs_formats.specs.Reading as reading
-use Rattle.sqs_formats.specs.Keys.{Says, Table, at, each, fault_at, has, in_order, list_of, maybe, optional, optional_when, place_of, required, required_when, some, typed}
-use Rattle.sqs_formats.specs.Outline.{Outline, kin_named, other_kin_named, other_when, queue_named, queue_number, queue_when, source_named}
-use Rattle.sqs_formats.specs.Queues.{policy, queue}
-use Rattle.sqs_formats.specs.Actors.{ActorKind, ConsumerKind, Files, ProducerKind, ScriptKind, Unread, actor, consuming, forward, producing, role, scripted}
-use Rattle.sqs_formats.specs.Tasks.{task}
+use Rattle.sqs_formats.specs.Keys.{Says, Table, at, each, fault_at, in_order, list_of, optional, optional_when, place_of, required, required_when, typed}
+use Rattle.sqs_formats.specs.Outline.{Outline, queue_number, queue_when}
+use Rattle.sqs_formats.specs.Queues.{policy}
 use Rattle.sqs_formats.specs.Scenario.{agent_list, queue_list}
 use Rattle.sqs_model.specs.Valid.{Between}
-use Rattle.sim_scenario.specs.Ranges.{ForwardsBelow, LeadsBelow, MayBeBelow, RoleBelow}
+use Rattle.sim_scenario.specs.Ranges.{LeadsBelow}
 use Rattle.sim_scenario.proofs.Sound.{is_read, parts, picked}
-use Rattle.sim_scenario.proofs.QueueWalks.{kin_read, other_read, source_read}
-use Rattle.sim_scenario.proofs.ActorRanges.{text_holds, typed_holds}
 
 -- a queue that is found is one of them
 pub below : (o : Outline) (s : List ℕ) (n : ℕ) → queue_number o s ≡ Some n → n < length o.queues

@@ -1,5 +1,5 @@
 -- Names of which none stands before are all different.
-use Rattle.std.proofs.Common.{◌≡◌, ◌∙◌, ℕ, ◌+◌, ◌<◌, ◌≤◌, ◌==◌, Bool, true, false, List, [], ◌∷◌, ◌++◌, length, Option, Some, None, refl, sym, ap, arith}
+use Rattle.std.proofs.Common.{◌≡◌, ◌∙◌, ℕ, ◌+◌, ◌<◌, ◌≤◌, Bool, true, false, List, [], ◌∷◌, ◌++◌, length, Option, Some, None, refl, sym, ap, arith}
 use Rattle.std.specs.Prelude.{All, drop, get_or, map, ◌≢◌}
 use Rattle.std.specs.List.{AllPairs, enumerate_from, position, position_or_len, zip}
 use Rattle.std.specs.Str.{bytes_eq}
@@ -11,10 +11,8 @@ use Rattle.std.proofs.lemmas.List.FromFn.{get_or-enumerate_from, length-enumerat
 use Rattle.std.proofs.lemmas.List.Quantifiers.{position-Some}
 use Rattle.std.proofs.lemmas.List.Sums.{fails_before_first}
 use Rattle.std.proofs.lemmas.Slice.Eq.{bytes_eq-Decides}
-use Rattle.sqs_formats.specs.Names.{is_fifo, is_queue_name}
 use Rattle.sqs_formats.specs.Outline.{is_first_of, place_among}
 use Rattle.sqs_redrive.specs.declared.settings.QueueSettings.{QueueSettings}
-use Rattle.sim_scenario.specs.Kinds.{is_fifo_kind}
 use Rattle.sim_scenario.specs.Naming.{IsNameOf}
 
 -- a text that stands at a place is found there, or before it

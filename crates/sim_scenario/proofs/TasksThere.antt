@@ -1,5 +1,5 @@
 -- The move tasks that a home's texts tell are those that take from it.
-use Rattle.std.proofs.Common.{◌≡◌, ◌∙◌, ℕ, zero, suc, ◌+◌, ◌<◌, ◌==◌, Bool, true, false, codes, List, [], ◌∷◌, length, Option, Some, None, Ok, refl, sym, ap, arith}
+use Rattle.std.proofs.Common.{◌≡◌, ◌∙◌, ℕ, ◌+◌, ◌==◌, Bool, true, false, codes, List, [], ◌∷◌, Option, Some, None, Ok, refl, sym, ap}
 use Rattle.std.specs.Prelude.{filter, get_or, map}
 use Rattle.std.specs.List.{enumerate_from, zip}
 use Rattle.std.specs.Str.{bytes_eq}
@@ -9,10 +9,9 @@ use Rattle.std.proofs.lemmas.List.Quantifiers.{position-Some}
 use Rattle.std.proofs.lemmas.Slice.Eq.{bytes_eq-Decides}
 use Rattle.toml.specs.Data.{Data, Members, as_table, get_member}
 use Rattle.sqs_redrive.specs.declared.settings.TaskSettings.{TaskSettings}
-use Rattle.sqs_formats.specs.declared.home.Home.{Home}
 use Rattle.sqs_formats.specs.declared.home.HomeTask.{HomeTask}
 use Rattle.sqs_formats.specs.Reading.{answer}
-use Rattle.sqs_formats.specs.Keys.{Says, Table, each, item_place, item_when, members_or_none, text_in, text_when}
+use Rattle.sqs_formats.specs.Keys.{each, item_place, item_when, members_or_none, text_in, text_when}
 use Rattle.sqs_formats.specs.Outline.{Outline, queue_number, queue_text}
 use Rattle.sqs_formats.specs.Actors.{task_there}
 use Rattle.sqs_formats.specs.Tasks.{task}

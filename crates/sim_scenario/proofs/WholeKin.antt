@@ -1,6 +1,6 @@
 -- What a whole text is sure of: its names, and the kinds of the queues that it names.
-use Rattle.std.proofs.Common.{◌≡◌, ◌∙◌, ℕ, ◌+◌, false, codes, List, [], length, Option, Some, None, Ok, refl, sym, ap}
-use Rattle.std.specs.Prelude.{All, get_or, map}
+use Rattle.std.proofs.Common.{◌≡◌, ◌∙◌, ℕ, codes, List, [], Option, Some, None, Ok, refl, sym, ap}
+use Rattle.std.specs.Prelude.{get_or, map}
 use Rattle.std.specs.List.{enumerate_from}
 use Rattle.std.proofs.lemmas.List.Elements.{All-map, All-weaker}
 use Rattle.sqs_redrive.specs.declared.settings.QueueSettings.{QueueSettings}
@@ -18,7 +18,7 @@ use Rattle.sqs_formats.specs.Queues.{dead_letter, queue}
 use Rattle.sqs_formats.specs.Actors.{Files, actor}
 use Rattle.sqs_formats.specs.Tasks.{task}
 use Rattle.sqs_formats.specs.Scenario.{Top}
-use Rattle.sim_scenario.specs.Kinds.{ForwardsToKin, MayBeOtherKin, NamesKin, RoleNamesKin, dead_letter_of, is_fifo_kind, is_fifo_queue}
+use Rattle.sim_scenario.specs.Kinds.{ForwardsToKin, MayBeOtherKin, NamesKin, RoleNamesKin, dead_letter_of, is_fifo_queue}
 use Rattle.sim_scenario.specs.TopWalks.{whole}
 use Rattle.sim_scenario.proofs.ItemsRead.{each_both, each_named}
 use Rattle.sim_scenario.proofs.KinRead.{ForwardKin, IsOfNamedKind, IsOtherKin, RoleSays, actor_says, kinds_are, queue_kin, queue_says, task_says}

@@ -1,12 +1,11 @@
 -- The names of a whole text.
-use Rattle.std.proofs.Common.{◌≡◌, ◌∙◌, ℕ, ◌+◌, true, codes, List, ◌++◌, length, Option, Ok, refl, sym, ap, subst, arith}
+use Rattle.std.proofs.Common.{◌≡◌, ◌∙◌, ℕ, ◌+◌, true, codes, List, ◌++◌, length, Option, refl, sym, ap, subst, arith}
 use Rattle.std.specs.Prelude.{All, map, ◌≢◌}
 use Rattle.std.specs.List.{AllPairs, enumerate_from}
 use Rattle.std.proofs.lemmas.List.Elements.{All-append, All-map}
 use Rattle.sqs_redrive.specs.declared.settings.QueueSettings.{QueueSettings}
 use Rattle.sqs_redrive.specs.declared.settings.TaskSettings.{TaskSettings}
 use Rattle.sqs_model.specs.declared.agents.ActorSettings.{ActorSettings}
-use Rattle.sqs_model.specs.Scenario.{Scenario}
 use Rattle.sqs_formats.specs.Names.{is_agent_name}
 use Rattle.sqs_formats.specs.Outline.{Outline, all_names, is_first_of, place_among}
 use Rattle.sqs_formats.specs.Queues.{queue}

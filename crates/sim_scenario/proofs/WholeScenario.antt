@@ -2,14 +2,13 @@
 use Rattle.std.proofs.Common.{codes, ◌≡◌, ◌∙◌, ℕ, ◌==◌, ◌||◌, ◌<◌, ◌≤◌, ◌+◌, length, Bool, true, false, List, [], Some, None, Result, Ok, Err, refl, ap, sym, arith}
 use Rattle.std.specs.Str.{is_utf8, IsUtf8}
 use Rattle.std.proofs.lemmas.Str.{IsUtf8-from_is_utf8}
-use Rattle.std.proofs.lemmas.List.{length-map}
 use Rattle.std.proofs.lemmas.Bool.Decides.{nat_tests}
 use Rattle.toml.specs.Data.{Members}
 use Rattle.toml.specs.Parse.{parse_document}
 use Rattle.sim_clock.specs.declared.refusal.Refusal.TheVariants.{NotToml, TooMany}
 use Rattle.sqs_formats.specs.declared.faults.ScenarioFault.{ScenarioFault}
 use Rattle.sqs_formats.specs.Reading.{answer}
-use Rattle.sqs_formats.specs.Keys.{Table, fault_at, text_in}
+use Rattle.sqs_formats.specs.Keys.{Table, fault_at}
 use Rattle.sqs_formats.specs.Outline.{Outline, outline_of}
 use Rattle.sqs_formats.specs.Actors.{Files}
 use Rattle.sqs_formats.specs.Scenario.{Top, agents, by_version, document, document_when, document_reads, is_small, scenario_in, scenario_of, scenario_when, top}

@@ -1,5 +1,5 @@
 //! The reader of a scenario: a text in, what it says or the first fault in it out.
-ghost use Rattle.std.specs.Prelude.{◌≡◌, ◌≤◌, ◌+◌, ◌++◌, IfOk, OnOk, Ok, length, map};
+ghost use Rattle.std.specs.Prelude.{◌≡◌, ◌≤◌, ◌+◌, ◌++◌, IfOk, OnOk, length, map};
 ghost use Rattle.toml.specs.View.{table_view, view};
 ghost use Rattle.sqs_formats.specs.Reading.{answer};
 ghost use Rattle.sqs_formats.specs.Outline.{outline_of};

@@ -1,6 +1,4 @@
-use Rattle.std.proofs.Common.{◌∙◌}
-use Rattle.std.proofs.lemmas.List.{length-map}
-use Rattle.toml.specs.View.{table_view, view}
+use Rattle.toml.specs.View.{table_view}
 use Rattle.sim_scenario.specs.TopWalks.{top_view}
 use Rattle.sim_scenario.proofs.WholeScenario.{document_fails, document_ok, top_walk_in_range}
 use Rattle.sim_scenario.proofs.reader.document.Goals as goal
