@@ -5,7 +5,9 @@ use sqs_redrive::{QueueSettings, TaskSettings};
 use std::marker::Model;
 
 /// A scenario that was read from a text without a fault. Agents are numbered: queues first, then
-/// actors, then move tasks. Contracts see it as the model's scenario.
+/// actors, then move tasks. Contracts see it as the model's scenario, and its invariant `IsInRange`
+/// says all that reading made sure of: ranges, distinct names, queues of the right kind, and roles
+/// that fit their homes.
 #[derive(Drop)]
 pub struct Scenario {
     horizon: u64,
