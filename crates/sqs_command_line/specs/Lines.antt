@@ -1,13 +1,16 @@
 -- Which line a subcommand and its arguments are.
-use Rattle.std.specs.Prelude.{List, None, Option, Some, codes, option_map, ℕ, ◌≡◌}
+use Rattle.std.specs.Prelude.{[], Err, List, None, Ok, Option, Result, Some, codes, option_map, ℕ, ◌<◌, ◌^◌, ◌≡◌, ◌⊎◌, ⊤}
 use Rattle.std.specs.Borrow.{Bor}
-use Rattle.std.specs.Str.Parse.{digits_value, without_leading_plus}
-use Rattle.clap.specs.Words.{Row, Text, first_of}
+use Rattle.std.specs.Str.Parse.{IsNumeral, digits_value, without_leading_plus}
+use Rattle.clap.specs.Words.{HasKind, Row, Text, fault_of, first_of, one_of, subcommand_of}
 use Rattle.sqs_command_line.specs.declared.asked.CheckLine.{CheckLine}
 use Rattle.sqs_command_line.specs.declared.asked.CompareLine.{CompareLine}
 use Rattle.sqs_command_line.specs.declared.asked.Line.{Line}
 use Rattle.sqs_command_line.specs.declared.asked.Line.TheVariants as lines
+use Rattle.sqs_command_line.specs.declared.asked.LineFault.{LineFault}
+use Rattle.sqs_command_line.specs.declared.asked.LineFault.TheVariants as faults
 use Rattle.sqs_command_line.specs.declared.asked.RunLine.{RunLine}
+use Rattle.sqs_command_line.specs.Programs.{program}
 
 -- the text of a borrowed word
 abbrev pub told : Option (Bor Text) → Option Text
@@ -17,12 +20,26 @@ told o = option_map (λ s. s.now) o
 abbrev pub number_of : Option Text → Option ℕ
 number_of o = option_map (λ t. digits_value 10 (without_leading_plus t)) o
 
+-- where there is a text, it is a decimal number of k bits
+abbrev pub IsNumber : ℕ → Option Text → Type 0
+IsNumber k None = ⊤
+IsNumber k (Some t) = IsNumeral 10 (without_leading_plus t) × (digits_value 10 (without_leading_plus t) < 2 ^ k)
+
+-- a number can't be read, since P does not hold
+abbrev pub IsUnread : Type 0 → LineFault → Type 0
+IsUnread P fault = (fault ≡ faults.Unread) × ¬ P
+
+-- the number of k bits that a text tells, or that it tells none
+abbrev pub TellsNumber : ℕ → Option Text → Result (Option ℕ) LineFault → Type 0
+TellsNumber k text (Ok number) = number ≡ number_of text
+TellsNumber k text (Err fault) = IsUnread (IsNumber k text) fault
+
 -- a rehearsal by its arguments
 pub record IsRun (rows : List Row) (l : RunLine) : Type 0 where
-  pub window : l.window ≡ number_of (first_of (codes "window") rows)
-  pub parts : l.parts ≡ number_of (first_of (codes "parts") rows)
+  pub window : l.window ≡ number_of (one_of (codes "window") rows)
+  pub parts : l.parts ≡ number_of (one_of (codes "parts") rows)
   pub map : told l.map ≡ first_of (codes "map") rows
-  pub workers : l.workers ≡ number_of (first_of (codes "workers") rows)
+  pub workers : l.workers ≡ number_of (one_of (codes "workers") rows)
   pub log : told l.log ≡ first_of (codes "log") rows
   pub scripts : told l.scripts ≡ first_of (codes "scripts") rows
   pub scenario : told l.scenario ≡ first_of (codes "scenario") rows
@@ -38,6 +55,10 @@ pub record IsCompare (rows : List Row) (l : CompareLine) : Type 0 where
   pub first : told l.first ≡ first_of (codes "first") rows
   pub second : told l.second ≡ first_of (codes "second") rows
 
+-- the numbers of a rehearsal can be read
+abbrev pub HasNumbers : List Row → Type 0
+HasNumbers rows = IsNumber 64 (one_of (codes "window") rows) × IsNumber 32 (one_of (codes "parts") rows) × IsNumber 32 (one_of (codes "workers") rows)
+
 -- a line by the subcommand's name and its arguments
 abbrev pub IsLine : Text → List Row → Line → Type 0
 IsLine name rows (lines.Run l) = (name ≡ codes "run") × IsRun rows l
@@ -48,3 +69,16 @@ IsLine name rows (lines.Compare l) = (name ≡ codes "compare") × IsCompare row
 abbrev pub IsLineOf : Option (Text × List Row) → Line → Type 0
 IsLineOf None l = ⊥
 IsLineOf (Some p) l = IsLine p.0 p.1 l
+
+-- a subcommand of the program whose numbers can be read
+abbrev pub IsReadable : Text × List Row → Type 0
+IsReadable p = ((p.0 ≡ codes "run") × HasNumbers p.1) ⊎ ((p.0 ≡ codes "check") ⊎ (p.0 ≡ codes "compare"))
+
+abbrev pub IsReadableOf : Option (Text × List Row) → Type 0
+IsReadableOf None = ⊥
+IsReadableOf (Some p) = IsReadable p
+
+-- why words are no line: a fault that `clap`'s rules find in them, or want of memory; else a number that can't be read
+abbrev pub IsFaultOf : List Text → LineFault → Type 0
+IsFaultOf words (faults.Words error) = HasKind (fault_of program words) error
+IsFaultOf words faults.Unread = (fault_of program words ≡ []) × ¬ IsReadableOf (subcommand_of program words)

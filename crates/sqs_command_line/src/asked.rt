@@ -7,10 +7,10 @@ pub struct RunLine<'a> {
     /// The window, in milliseconds.
     pub window: Option<u64>,
     /// How many partitions there are.
-    pub parts: Option<u64>,
+    pub parts: Option<u32>,
     /// The partition of each queue, in the form `0,1,0`.
     pub map: Option<&'a str>,
-    pub workers: Option<u64>,
+    pub workers: Option<u32>,
     /// The file for the log.
     pub log: Option<&'a str>,
     /// The folder of the scripts.
@@ -56,6 +56,11 @@ pub enum LineFault {
 }
 
 impl From<Error> for LineFault {
+    ghost use Rattle.std.specs.Prelude.{◌≡◌};
+    ghost use Rattle.sqs_command_line.specs.declared.asked.LineFault.TheVariants.{Words};
+
+    ghost from_gives = { λ error fault. fault ≡ Words error };
+
     fn from(error: Error) -> LineFault {
         LineFault::Words(error)
     }

@@ -1,7 +1,7 @@
 //! The line that some words are.
-ghost use Rattle.std.specs.Prelude.{◌≡◌, IfOk, map};
-ghost use Rattle.clap.specs.Words.{first_of, found_of, rows_of, subcommand_of, subcommand_rows_of};
-ghost use Rattle.sqs_command_line.specs.Lines.{IsCheck, IsCompare, IsLine, IsLineOf, IsRun, number_of};
+ghost use Rattle.std.specs.Prelude.{◌≡◌, [], IfErr, IfOk, MatchResult, map};
+ghost use Rattle.clap.specs.Words.{fault_of, found_of, one_of, rows_of, subcommand_of, subcommand_rows_of};
+ghost use Rattle.sqs_command_line.specs.Lines.{HasNumbers, IsCheck, IsCompare, IsFaultOf, IsLine, IsLineOf, IsReadable, IsReadableOf, IsRun, IsUnread, TellsNumber};
 ghost use Rattle.sqs_command_line.specs.Programs.{program};
 
 use crate::asked::{CheckLine, CompareLine, Line, LineFault, RunLine};
@@ -9,24 +9,31 @@ use crate::commands::command;
 use clap::ArgMatches;
 use std::alloc::Global;
 
-// The number of an option, where it was given.
-fn number(matches: &ArgMatches, id: &str) -> Result<Option<u64>, LineFault>
-    ensures { IfOk result (λ n. n ≡ number_of (first_of id.now (rows_of (found_of matches.now)))) }
+// The time that an option tells, where it was given.
+fn time(matches: &ArgMatches, id: &str) -> Result<Option<u64>, LineFault>
+    ensures { TellsNumber 64 (one_of id.now (rows_of (found_of matches.now))) result }
 {
-    match matches.get_str(id) {
-        None => Ok(None),
-        Some(text) => match text.parse::<u64>() {
-            Ok(number) => Ok(Some(number)),
-            Err(_) => Err(LineFault::Unread),
-        },
+    match matches.try_get_one::<u64>(id) {
+        Ok(time) => Ok(time),
+        Err(_) => Err(LineFault::Unread),
+    }
+}
+
+// The number that an option tells, where it was given.
+fn number(matches: &ArgMatches, id: &str) -> Result<Option<u32>, LineFault>
+    ensures { TellsNumber 32 (one_of id.now (rows_of (found_of matches.now))) result }
+{
+    match matches.try_get_one::<u32>(id) {
+        Ok(number) => Ok(number),
+        Err(_) => Err(LineFault::Unread),
     }
 }
 
 // What `run` asks for.
 fn run_line<'a>(matches: &ArgMatches<'a>) -> Result<RunLine<'a>, LineFault>
-    ensures { IfOk result (λ l. IsRun (rows_of (found_of matches.now)) l) }
+    ensures { MatchResult result (IsRun (rows_of (found_of matches.now))) (IsUnread (HasNumbers (rows_of (found_of matches.now)))) }
 {
-    let window = number(matches, "window")?;
+    let window = time(matches, "window")?;
     let parts = number(matches, "parts")?;
     let workers = number(matches, "workers")?;
     Ok(RunLine {
@@ -63,7 +70,7 @@ fn compare_line<'a>(matches: &ArgMatches<'a>) -> CompareLine<'a>
 
 // The line of a subcommand's name and matches.
 fn line_of_subcommand<'a>(name: &str, matches: &ArgMatches<'a>) -> Result<Line<'a>, LineFault>
-    ensures { IfOk result (λ l. IsLine name.now (rows_of (found_of matches.now)) l) }
+    ensures { MatchResult result (IsLine name.now (rows_of (found_of matches.now))) (IsUnread (IsReadable (name.now, rows_of (found_of matches.now)))) }
 {
     if name == "run" {
         return Ok(Line::Run(run_line(matches)?));
@@ -79,7 +86,7 @@ fn line_of_subcommand<'a>(name: &str, matches: &ArgMatches<'a>) -> Result<Line<'
 
 // The line that the matches are.
 fn line_of<'a>(matches: &ArgMatches<'a>) -> Result<Line<'a>, LineFault>
-    ensures { IfOk result (λ l. IsLineOf (subcommand_rows_of matches.now) l) }
+    ensures { MatchResult result (IsLineOf (subcommand_rows_of matches.now)) (IsUnread (IsReadableOf (subcommand_rows_of matches.now))) }
 {
     match matches.subcommand() {
         Some((name, found)) => line_of_subcommand(name, found),
@@ -91,10 +98,11 @@ fn line_of<'a>(matches: &ArgMatches<'a>) -> Result<Line<'a>, LineFault>
 ///
 /// # Errors
 ///
-/// `Words` where they are no line of the program, where help was asked for, or where memory was
-/// refused.
+/// `Words` where `clap`'s rules find a fault in the words, which has its kind, or they ask for help,
+/// or memory was refused. `Unread` only where a number in them is none of its type.
 pub fn line<'a>(alloc: Global, words: &'a [&'a str]) -> Result<Line<'a>, LineFault>
-    ensures { IfOk result (λ l. IsLineOf (subcommand_of program (map (λ w. w.now) words.entry.now)) l) }
+    ensures line { IfOk result (λ l. (fault_of program (map (λ w. w.now) words.entry.now) ≡ []) × IsLineOf (subcommand_of program (map (λ w. w.now) words.entry.now)) l) }
+    ensures fault { IfErr result (IsFaultOf (map (λ w. w.now) words.entry.now)) }
 {
     let command = match command(alloc) {
         Ok(command) => command,

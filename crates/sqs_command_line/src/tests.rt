@@ -43,6 +43,25 @@ fn run_with_all_options(rt: HostRuntime) -> Result<(), Fail> {
 }
 
 #[test]
+fn numbers_as_clap_reads_them(rt: HostRuntime) -> Result<(), Fail> {
+    let words = [
+        "sqs_rehearse",
+        "run",
+        "--window=4294967296",
+        "--parts=+4294967295",
+        "--workers=-0",
+    ];
+    let Ok(Line::Run(run)) = line(rt.alloc(), &words) else {
+        assert!(rt; false);
+        return Ok(());
+    };
+    assert_eq!(rt; run.window, Some(4_294_967_296));
+    assert_eq!(rt; run.parts, Some(4_294_967_295));
+    assert_eq!(rt; run.workers, Some(0));
+    Ok(())
+}
+
+#[test]
 fn check_and_compare(rt: HostRuntime) -> Result<(), Fail> {
     let words = ["sqs_rehearse", "check"];
     let Ok(Line::Check(check)) = line(rt.alloc(), &words) else {
@@ -72,6 +91,15 @@ fn words_that_are_no_line(rt: HostRuntime) -> Result<(), Fail> {
     assert!(rt;
         is_refused(
             line(rt.alloc(), &["sqs_rehearse", "run", "--workers", "x"]),
+            2
+        )
+    );
+    assert!(rt;
+        is_refused(
+            line(
+                rt.alloc(),
+                &["sqs_rehearse", "run", "--parts", "4294967296"]
+            ),
             2
         )
     );

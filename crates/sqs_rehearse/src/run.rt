@@ -23,11 +23,6 @@ fn partitions(alloc: Global, list: &str) -> Result<Vec<u32>, AllocFailed<u32>> {
     Ok(partitions)
 }
 
-// A number of a line, which has at most 32 bits.
-fn short(number: u64) -> u32 {
-    number.min(u64::from(u32::MAX)) as u32
-}
-
 // How a rehearsal is split.
 fn split(alloc: Global, asked: RunLine<'_>) -> Result<Options, AllocFailed<u32>> {
     let map = match asked.map {
@@ -36,9 +31,9 @@ fn split(alloc: Global, asked: RunLine<'_>) -> Result<Options, AllocFailed<u32>>
     };
     Ok(Options {
         window: asked.window,
-        parts: asked.parts.map(short),
+        parts: asked.parts,
         map,
-        workers: short(asked.workers.unwrap_or(1)),
+        workers: asked.workers.unwrap_or(1),
     })
 }
 

@@ -1,17 +1,23 @@
-use Rattle.std.proofs.Common.{Option, Some, ap, sym, ◌∙◌}
-use Rattle.std.specs.Borrow.{Bor}
-use Rattle.clap.specs.Words.{Text, found_of}
-use Rattle.clap.proofs.WalkLemmas.{first_value-rows}
-use Rattle.sqs_command_line.specs.Lines.{number_of, told}
+use Rattle.std.proofs.Common.{Ok, Err, Option, ap, refl, subst, ◌∙◌}
+use Rattle.std.specs.Str.Parse.{ExplainsUnsignedError, HasUnsignedDigitsIfOk, ParsesUnsigned}
+use Rattle.clap.specs.Words.{Text, found_of, one_text}
+use Rattle.clap.proofs.WalkLemmas.{one_text-rows}
+use Rattle.sqs_command_line.specs.Lines.{IsNumber, number_of}
+use Rattle.sqs_command_line.proofs.Answered.{told_number}
 use Rattle.sqs_command_line.proofs.reading.number.Goals as goal
-
-pub returns-in-None : goal.returns-in-None
-returns-in-None c =
-    ap (λ (o : Option (Bor Text)). number_of (told o)) (sym c.in-None.is)
-    ∙ ap number_of (c.get_str.ensures ∙ first_value-rows (found_of c.args.matches.now) c.args.id.now)
 
 pub returns-in-Ok : goal.returns-in-Ok
 returns-in-Ok c =
-    ap (λ n. Some n) c.in-Ok.ensures.value.0.1
-    ∙ ap (λ (o : Option (Bor Text)). number_of (told o)) (sym c.in-Some.is)
-    ∙ ap number_of (c.get_str.ensures ∙ first_value-rows (found_of c.args.matches.now) c.args.id.now)
+    let found = found_of c.args.matches.now in
+    told_number 32 (λ bs r. ParsesUnsigned 32 10 bs r × ExplainsUnsignedError 10 bs r × HasUnsignedDigitsIfOk bs r) (λ u x g. g.0)
+    (one_text found c.args.id.now) (Ok c.in-Ok.number) c.in-Ok.ensures.none c.in-Ok.ensures.value
+    ∙ ap number_of (one_text-rows found c.args.id.now)
+
+pub returns-in-Err : goal.returns-in-Err
+returns-in-Err c =
+    let found = found_of c.args.matches.now in (
+      refl,
+      subst (λ (t : Option Text). IsNumber 32 t → ⊥) (one_text-rows found c.args.id.now)
+          (told_number 32 (λ bs r. ParsesUnsigned 32 10 bs r × ExplainsUnsignedError 10 bs r × HasUnsignedDigitsIfOk bs r) (λ u x g. g.0)
+          (one_text found c.args.id.now) (Err c.in-Err.field-0) c.in-Err.ensures.none c.in-Err.ensures.value),
+    )

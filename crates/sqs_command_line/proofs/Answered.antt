@@ -1,0 +1,47 @@
+-- What the reading of a line answers, over plain values.
+use Rattle.std.proofs.Common.{[], Err, IfErr, IfOk, List, MatchResult, None, Ok, Option, Result, Some, ap, refl, subst, sym, true, ℕ, ◌≡◌}
+use Rattle.std.specs.Str.Parse.{ParsesUnsigned}
+use Rattle.clap.specs.Words.{Row, Text, fault_of, is_simple, subcommand_of}
+use Rattle.clap.specs.Faults.{is_simple_and_free}
+use Rattle.clap.specs.Matches.{TriesOne}
+use Rattle.clap.proofs.OnLiterals.{clap_on_literals}
+use Rattle.sqs_command_line.specs.Lines.{IsFaultOf, IsLineOf, IsNumber, IsReadableOf, IsUnread, number_of}
+use Rattle.sqs_command_line.specs.Programs.{program}
+use Rattle.sqs_command_line.specs.declared.asked.Line.{Line}
+use Rattle.sqs_command_line.specs.declared.asked.LineFault.{LineFault}
+
+pub program_is_simple : is_simple program ≡ true
+unfolding clap_on_literals
+program_is_simple = refl
+
+pub program_is_free : is_simple_and_free program ≡ true
+unfolding clap_on_literals
+program_is_free = refl
+
+-- a text that is there is read as a number of k bits, and is an error only where it is none
+pub told_number :
+    {E : Type 0} (k : ℕ) (G : List ℕ → Result ℕ E → Type 0) → ((u : List ℕ) (x : Result ℕ E) → G u x → ParsesUnsigned k 10 u x)
+    → (text : Option Text) (r : Result (Option ℕ) E)
+    → (text ≡ None → r ≡ Ok None) → ((t : List ℕ) → text ≡ Some t → TriesOne G t r)
+    → MatchResult r (λ n. n ≡ number_of text) (λ e. IsNumber k text → ⊥)
+told_number k G only None (Ok None) none value = refl
+told_number k G only None (Ok (Some v)) none value = absurd (let e = none refl in cc)
+told_number k G only None (Err e) none value = absurd (let e = none refl in cc)
+told_number k G only (Some t) (Ok (Some v)) none value = ap (λ n. Some n) (only t (Ok v) (value t refl)).1
+told_number k G only (Some t) (Ok None) none value = absurd (value t refl)
+told_number k G only (Some t) (Err e) none value = λ h. only t (Err e) (value t refl) h
+
+pub answered_line :
+    (words : List Text) (found : Option (Text × List Row)) (r : Result Line LineFault) → fault_of program words ≡ [] → found ≡ subcommand_of program words
+    → MatchResult r (IsLineOf found) (IsUnread (IsReadableOf found))
+    → IfOk r (λ l. (fault_of program words ≡ []) × IsLineOf (subcommand_of program words) l)
+answered_line words found (Ok l) none same h = (none, subst (λ (x : Option (Text × List Row)). IsLineOf x l) same h)
+answered_line words found (Err e) none same h = tt
+
+pub answered_fault :
+    (words : List Text) (found : Option (Text × List Row)) (r : Result Line LineFault) → fault_of program words ≡ [] → found ≡ subcommand_of program words
+    → MatchResult r (IsLineOf found) (IsUnread (IsReadableOf found))
+    → IfErr r (IsFaultOf words)
+answered_fault words found (Ok l) none same h = tt
+answered_fault words found (Err e) none same h =
+    subst (IsFaultOf words) (sym h.0) (none, λ readable. h.1 (subst IsReadableOf (sym same) readable))
