@@ -1,7 +1,6 @@
 //! Whether a text is a scenario.
-use crate::faults::{Stop, tell};
+use crate::faults::{Stop, tell, write_refusal};
 use crate::files::read_inputs;
-use sim_clock::Refusal;
 use sim_scenario::{least_latency, read};
 use sqs_command_line::CheckLine;
 use std::process::ExitCode;
@@ -16,7 +15,7 @@ fn checked<'a>(rt: &HostRuntime, asked: CheckLine<'a>) -> Result<(), Stop<'a>> {
     let least = least_latency(&scenario);
     match println!(rt; "ok queues={queues} actors={actors} tasks={tasks} least={least}") {
         Ok(()) => Ok(()),
-        Err(_) => Err(Stop::from(Refusal::Write)),
+        Err(error) => Err(Stop::from(write_refusal(&error))),
     }
 }
 

@@ -1,14 +1,16 @@
 //! What stops the program: a line on standard error, and the status that it ends with.
 ghost use Rattle.std.specs.Prelude.{◌≡◌, ◌++◌, IfOk, codes};
 ghost use Rattle.sqs_formats.specs.Output.{at_place, fault_line as the_fault_line};
-ghost use Rattle.sqs_rehearse.specs.Statuses.{status_of};
+ghost use Rattle.std.specs.IoError.{error_kind};
+ghost use Rattle.std.specs.Process.{exit_status};
+ghost use Rattle.sqs_rehearse.specs.Statuses.{fault_status, status_of, stop_status, write_refusal};
 
 use sim_clock::Refusal;
 use sim_scenario::ReadError;
 use sqs_formats::ScenarioFault;
 use sqs_rehearsal::Fault;
 use std::alloc::{AllocError, AllocFailed, Global};
-use std::io::Write;
+use std::io::{self, ErrorKind, Write};
 use std::process::ExitCode;
 
 /// Why the program stops.
@@ -16,35 +18,70 @@ use std::process::ExitCode;
 pub enum Stop<'a> {
     /// The input of this path can't be read; `-` is standard input.
     CannotRead(&'a str),
+    /// A word of the command line is not UTF-8.
+    NotUtf8,
+    /// A number of the command line can't be read.
+    Unread,
     /// The scenario or the rehearsal is refused.
     Refused(Fault),
 }
 
 impl<'a> From<AllocError> for Stop<'a> {
+    ghost use Rattle.std.specs.Prelude.{◌≡◌};
+    ghost use Rattle.sqs_rehearse.specs.declared.faults.Stop.TheVariants as stops;
+    ghost use Rattle.sqs_rehearsal.specs.declared.rehearsal.Fault.TheVariants as faults;
+    ghost use Rattle.sim_clock.specs.declared.refusal.Refusal.TheVariants.{Memory};
+
+    ghost from_gives = { λ _ stop. stop ≡ stops.Refused (faults.Refused Memory) };
+
     fn from(_refused: AllocError) -> Stop<'a> {
         Stop::Refused(Fault::Refused(Refusal::Memory))
     }
 }
 
 impl<'a, T: Drop> From<AllocFailed<T>> for Stop<'a> {
+    ghost use Rattle.std.specs.Prelude.{◌≡◌};
+    ghost use Rattle.sqs_rehearse.specs.declared.faults.Stop.TheVariants as stops;
+    ghost use Rattle.sqs_rehearsal.specs.declared.rehearsal.Fault.TheVariants as faults;
+    ghost use Rattle.sim_clock.specs.declared.refusal.Refusal.TheVariants.{Memory};
+
+    ghost from_gives = { λ _ stop. stop ≡ stops.Refused (faults.Refused Memory) };
+
     fn from(_refused: AllocFailed<T>) -> Stop<'a> {
         Stop::Refused(Fault::Refused(Refusal::Memory))
     }
 }
 
 impl<'a> From<Refusal> for Stop<'a> {
+    ghost use Rattle.std.specs.Prelude.{◌≡◌};
+    ghost use Rattle.sqs_rehearse.specs.declared.faults.Stop.TheVariants as stops;
+    ghost use Rattle.sqs_rehearsal.specs.declared.rehearsal.Fault.TheVariants as faults;
+
+    ghost from_gives = { λ refusal stop. stop ≡ stops.Refused (faults.Refused refusal) };
+
     fn from(refusal: Refusal) -> Stop<'a> {
         Stop::Refused(Fault::Refused(refusal))
     }
 }
 
 impl<'a> From<Fault> for Stop<'a> {
+    ghost use Rattle.std.specs.Prelude.{◌≡◌};
+    ghost use Rattle.sqs_rehearse.specs.declared.faults.Stop.TheVariants as stops;
+
+    ghost from_gives = { λ fault stop. stop ≡ stops.Refused fault };
+
     fn from(fault: Fault) -> Stop<'a> {
         Stop::Refused(fault)
     }
 }
 
 impl<'a> From<ReadError> for Stop<'a> {
+    ghost use Rattle.std.specs.Prelude.{◌≡◌};
+    ghost use Rattle.sqs_rehearse.specs.declared.faults.Stop.TheVariants as stops;
+    ghost use Rattle.sqs_rehearsal.specs.Rehearsals.{fault_of_reading};
+
+    ghost from_gives = { λ error stop. stop ≡ stops.Refused (fault_of_reading error) };
+
     fn from(error: ReadError) -> Stop<'a> {
         Stop::Refused(Fault::from(error))
     }
@@ -92,8 +129,20 @@ fn status(refusal: Refusal) -> u8
     }
 }
 
+/// The refusal of a writer's error: want of memory, or that it failed.
+pub fn write_refusal(error: &io::Error) -> Refusal
+    ensures { result ≡ write_refusal (error_kind error.now) }
+{
+    match error.kind() {
+        ErrorKind::OutOfMemory => Refusal::Memory,
+        _ => Refusal::Write,
+    }
+}
+
 // Tells a fault in a line, and gives the status.
-fn tell_fault(rt: &HostRuntime, fault: Fault) -> ExitCode {
+fn tell_fault(rt: &HostRuntime, fault: Fault) -> ExitCode
+    ensures { exit_status result ≡ fault_status fault }
+{
     match fault {
         Fault::Scenario(fault) => {
             if let Ok(line) = fault_line(rt.alloc(), &fault) {
@@ -110,11 +159,21 @@ fn tell_fault(rt: &HostRuntime, fault: Fault) -> ExitCode {
 }
 
 /// Tells what stopped the program in a line on standard error. Gives the status that it ends with.
-pub fn tell(rt: &HostRuntime, stop: Stop<'_>) -> ExitCode {
+pub fn tell(rt: &HostRuntime, stop: Stop<'_>) -> ExitCode
+    ensures { exit_status result ≡ stop_status stop.entry }
+{
     match stop {
         Stop::CannotRead(path) => {
             let _ = eprintln!(rt; "cannot read {path}");
             ExitCode::from(1)
+        }
+        Stop::NotUtf8 => {
+            let _ = eprintln!(rt; "error: a word of the command line is not UTF-8");
+            ExitCode::from(2)
+        }
+        Stop::Unread => {
+            let _ = eprintln!(rt; "error: a number of the command line can't be read");
+            ExitCode::from(2)
         }
         Stop::Refused(fault) => tell_fault(rt, fault),
     }

@@ -7,8 +7,16 @@ mod compare;
 mod faults;
 mod files;
 mod run;
+mod splits;
 #[cfg(test)]
 mod tests;
+
+ghost use Rattle.std.specs.Prelude.{◌≡◌, ◌⊎◌};
+ghost use Rattle.std.specs.IoError.{error_kind};
+ghost use Rattle.std.specs.Process.{exit_status};
+ghost use Rattle.clap.specs.Words.{kind_of};
+ghost use Rattle.sqs_rehearse.specs.Inputs.{words_stop};
+ghost use Rattle.sqs_rehearse.specs.Statuses.{usage_status};
 
 use clap::Error;
 use clap::error::ErrorKind;
@@ -19,25 +27,51 @@ use std::alloc::{AllocFailed, Global};
 use std::process::ExitCode;
 use std::{env, io};
 
+// Why the words can't be had: memory was refused, or one is not UTF-8.
+fn words_stop(error: &io::Error) -> Stop<'static>
+    ensures { result ≡ words_stop (error_kind error.now) }
+{
+    match error.kind() {
+        io::ErrorKind::OutOfMemory => Stop::from(Refusal::Memory),
+        _ => Stop::NotUtf8,
+    }
+}
+
 // The words that the program was called with.
-fn words(rt: &HostRuntime) -> io::Result<Vec<String>> {
+fn words(rt: &HostRuntime) -> Result<Vec<String>, Stop<'static>> {
+    let given = match env::args(rt) {
+        Ok(given) => given,
+        Err(error) => return Err(words_stop(&error)),
+    };
     let mut words = Vec::new(rt.alloc());
-    for word in env::args(rt)? {
+    for word in given {
         words.push(word)?;
     }
     Ok(words)
 }
 
-// Tells a usage fault, the help that was asked for, or want of memory.
-fn tell(rt: &HostRuntime, error: &Error) -> ExitCode {
-    if error.kind() == ErrorKind::OutOfMemory {
-        return faults::tell(rt, Stop::from(Refusal::Memory));
+// Prints the help that was asked for.
+fn help(rt: &HostRuntime, error: &Error) -> ExitCode
+    ensures { (exit_status result ≡ 0) ⊎ (exit_status result ≡ 4) }
+{
+    match error.print(rt) {
+        Ok(()) => ExitCode::SUCCESS,
+        Err(_) => faults::tell(rt, Stop::from(Refusal::Write)),
     }
-    let told = error.print(rt);
-    if told.is_ok() && !error.use_stderr() {
-        ExitCode::SUCCESS
-    } else {
-        ExitCode::from(2)
+}
+
+// Tells a usage fault, the help that was asked for, or want of memory. The status is 4 where help
+// can't be written.
+fn tell(rt: &HostRuntime, error: &Error) -> ExitCode
+    ensures { (exit_status result ≡ usage_status (kind_of error.now)) ⊎ ((usage_status (kind_of error.now) ≡ 0) × (exit_status result ≡ 4)) }
+{
+    match error.kind() {
+        ErrorKind::OutOfMemory => faults::tell(rt, Stop::from(Refusal::Memory)),
+        ErrorKind::DisplayHelp | ErrorKind::DisplayVersion => help(rt, error),
+        _ => {
+            let _ = error.print(rt);
+            ExitCode::from(2)
+        }
     }
 }
 
@@ -55,7 +89,7 @@ fn obey_words(rt: &HostRuntime, words: &[&str]) -> ExitCode {
     match line(rt.alloc(), words) {
         Ok(asked) => obey(rt, asked),
         Err(LineFault::Words(error)) => tell(rt, &error),
-        Err(LineFault::Unread) => ExitCode::from(2),
+        Err(LineFault::Unread) => faults::tell(rt, Stop::Unread),
     }
 }
 
@@ -69,8 +103,9 @@ fn borrowed(alloc: Global, words: &[String]) -> Result<Vec<&str>, AllocFailed<&s
 }
 
 fn main(rt: HostRuntime) -> ExitCode {
-    let Ok(words) = words(&rt) else {
-        return faults::tell(&rt, Stop::from(Refusal::Memory));
+    let words = match words(&rt) {
+        Ok(words) => words,
+        Err(stop) => return faults::tell(&rt, stop),
     };
     match borrowed(rt.alloc(), words.as_slice()) {
         Ok(given) => obey_words(&rt, given.as_slice()),

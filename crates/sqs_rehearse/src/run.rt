@@ -1,41 +1,14 @@
 //! A rehearsal of the program.
 ghost use Rattle.std.specs.Prelude.{◌≡◌, false};
 
-use crate::faults::{Stop, tell};
+use crate::faults::{Stop, tell, write_refusal};
 use crate::files::{Inputs, buffered, read_inputs};
-use sim_clock::Refusal;
+use crate::splits::split;
 use sim_records::Out;
 use sqs_command_line::RunLine;
 use sqs_rehearsal::{Options, rehearse};
-use std::alloc::{AllocFailed, Global};
 use std::fs::File;
 use std::process::ExitCode;
-
-// The partition of each queue by a list as `0,1,0`; none where it can't be read.
-fn partitions(alloc: Global, list: &str) -> Result<Vec<u32>, AllocFailed<u32>> {
-    let mut partitions = Vec::new(alloc);
-    for number in list.split(',') {
-        match number.parse::<u32>() {
-            Ok(partition) => partitions.push(partition)?,
-            Err(_) => return Ok(Vec::new(alloc)),
-        }
-    }
-    Ok(partitions)
-}
-
-// How a rehearsal is split.
-fn split(alloc: Global, asked: RunLine<'_>) -> Result<Options, AllocFailed<u32>> {
-    let map = match asked.map {
-        None => None,
-        Some(list) => Some(partitions(alloc, list)?),
-    };
-    Ok(Options {
-        window: asked.window,
-        parts: asked.parts,
-        map,
-        workers: asked.workers.unwrap_or(1),
-    })
-}
 
 // Rehearses with this writer for the log; the rest goes to standard output.
 fn write<'a, L: Out>(
@@ -69,8 +42,9 @@ fn rehearsed<'a>(rt: &HostRuntime, asked: RunLine<'a>) -> Result<(), Stop<'a>> {
             write(rt, &inputs, &split, &mut log)
         }
         Some(path) => {
-            let Ok(file) = File::create(rt, path) else {
-                return Err(Stop::from(Refusal::Write));
+            let file = match File::create(rt, path) {
+                Ok(file) => file,
+                Err(error) => return Err(Stop::from(write_refusal(&error))),
             };
             let mut log = buffered(rt, file)?;
             write(rt, &inputs, &split, &mut log)

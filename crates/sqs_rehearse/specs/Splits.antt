@@ -1,0 +1,35 @@
+-- How a rehearsal is split, by its line.
+use Rattle.std.specs.Prelude.{Bool, List, None, Option, Some, [], cond, length, nat_lt, option_and_then, option_map, unwrap_or, ℕ, ◌&&◌, ◌==◌, ◌∷◌, ◌^◌}
+use Rattle.std.specs.Char.{digit_value}
+use Rattle.std.specs.List.{list_all, slice_split}
+use Rattle.std.specs.Str.Parse.{digits_value, without_leading_plus}
+use Rattle.sqs_command_line.specs.declared.asked.RunLine.{RunLine}
+use Rattle.sqs_rehearsal.specs.Options.{Options}
+
+-- one decimal digit or more, and nothing else
+abbrev pub is_numeral : List ℕ → Bool
+is_numeral ds = nat_lt 0 (length ds) && list_all (λ d. nat_lt (digit_value d) 10) ds
+
+-- the number of 32 bits that a text tells: digits, with a plus before them or without
+abbrev pub number_of : List ℕ → Option ℕ
+number_of text =
+    let ds = without_leading_plus text in
+    cond (is_numeral ds && nat_lt (digits_value 10 ds) (2 ^ 32)) (Some (digits_value 10 ds)) None
+
+-- the numbers of texts, where each tells one
+abbrev pub numbers_of : List (List ℕ) → Option (List ℕ)
+numbers_of [] = Some []
+numbers_of (text ∷ rest) = option_and_then (λ n. option_map (λ ns. n ∷ ns) (numbers_of rest)) (number_of text)
+
+-- the list of a map as 0,1,0: the numbers between the commas; none where one of them is no number
+abbrev pub map_of : List ℕ → List ℕ
+map_of list = unwrap_or (numbers_of (slice_split (λ b. b == 44) list)) []
+
+-- the split that a line asks for: its numbers as they were read; one worker where it says nothing
+abbrev pub split_of : RunLine → Options
+split_of line = record {
+  window = line.window;
+  parts = line.parts;
+  map = option_map (λ list. map_of list.now) line.map;
+  workers = unwrap_or line.workers 1;
+}
