@@ -29,4 +29,4 @@ pub use scenario::{Scenario, ScenarioParts};
 pub use script::{ScriptError, read_script};
 pub use script_files::script_names;
 pub use scripted::Scripts;
-pub use sqs_formats::{Home, HomeTask, HomeTasks, ScenarioFault, ScriptFault};
+pub use sqs_formats::{ScenarioFault, ScriptFault};

@@ -10,7 +10,8 @@ use Rattle.sqs_redrive.specs.declared.settings.TaskSettings.{TaskSettings}
 use Rattle.sqs_model.specs.Answers.{most_count}
 use Rattle.sqs_model.specs.Progress.{Ascends}
 use Rattle.sqs_model.specs.Task.{Task}
-use Rattle.sqs_model.specs.Valid.{IsLatency, IsQueueSettings}
+use Rattle.sqs_model.specs.Site.{Poll}
+use Rattle.sqs_model.specs.Valid.{IsLatency, IsQueueSettings, MayBeTimeout}
 
 -- the greatest wait of a receive, in seconds
 abbrev pub most_wait : ℕ
@@ -41,6 +42,10 @@ pub record IsSetUp (settings : QueueSettings) (actors : List ActorSettings) (tas
   pub waits : All (λ a. HasShortWaits a.role) actors
   pub latencies : All (λ t. IsLatency t.1.latency) tasks
   pub numbered : Ascends (λ t. t.0) 0 tasks
+
+-- polls with timeouts that were allowed as they began to wait
+abbrev pub AreAllowed : List Poll → Type 0
+AreAllowed polls = All (λ p. MayBeTimeout p.timeout) polls
 
 -- samples every so often, of which so many were taken: the next is at a moment of 64 bits
 pub record IsSampled (sample samples : ℕ) : Type 0 where

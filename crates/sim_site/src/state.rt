@@ -46,13 +46,13 @@ pub struct Core {
 impl Model for Core {
     ghost use Rattle.std.specs.Prelude.{map};
     ghost use Rattle.sqs_model.specs.Site.{Core};
-    ghost use Rattle.sim_site.specs.Kept.{IsSampled, IsSetUp, numbered_settings};
+    ghost use Rattle.sim_site.specs.Kept.{AreAllowed, IsSampled, IsSetUp, numbered_settings};
 
     ghost Value = { Core };
 
     ghost view = { λ c. record { queue = c.queue; actors = c.actors.items; tasks = c.tasks.items; polls = c.polls.items; sent = c.sent; draws = c.draws; sample = c.sample; samples = c.samples } };
 
-    ghost invariant = { λ c. IsSetUp c.queue.settings (map (λ a. a.settings) c.actors.items) (map numbered_settings c.tasks.items) × IsSampled c.sample c.samples };
+    ghost invariant = { λ c. IsSetUp c.queue.settings (map (λ a. a.settings) c.actors.items) (map numbered_settings c.tasks.items) × IsSampled c.sample c.samples × AreAllowed c.polls.items };
 }
 
 impl Core {

@@ -4,7 +4,7 @@ ghost use Rattle.sim_clock.specs.Firsts.{without};
 ghost use Rattle.sqs_model.specs.Answers.{most_count};
 ghost use Rattle.sqs_model.specs.Available.{all_hosts};
 ghost use Rattle.sqs_model.specs.Polls.{answer_polls, poll_answered, poll_given};
-ghost use Rattle.sqs_model.specs.Valid.{IsQueueSettings};
+ghost use Rattle.sqs_model.specs.Valid.{IsQueueSettings, MayBeTimeout};
 ghost use Rattle.sqs_model.specs.Progress.{IsRecent};
 ghost use Rattle.sqs_model.specs.Places.{IsAbsent, Stands};
 ghost use Rattle.sqs_model.specs.Step.{ends_at, handle_poll_end};
@@ -77,6 +77,7 @@ fn host_count(queue: &Queue) -> u64
 impl Core {
     // The first poll is answered, which leaves the list, and its actor acts on it.
     fn answer_poll(&mut self, key: Key, poll: Poll, effects: &mut Effects) -> Result<(), Refusal>
+        requires allowed { MayBeTimeout poll.timeout }
         requires moment { key.at ≤ most_count }
         requires recent { IsRecent key.at self.old.queue }
         ensures did { OnOk result (Did effects.old effects.new self.new (poll_answered key poll self.old (poll_given key poll self.old.queue))) }
@@ -84,10 +85,10 @@ impl Core {
     {
         let set = all_hosts_of(host_count(&self.queue));
         let (max, timeout) = (poll.max, poll.timeout);
-        // The timeout was allowed when the poll began to wait.
         let gots = match received_by(&mut self.queue, key.at, max, timeout, set, false)? {
             Ok(gots) => gots,
-            Err(_) => return Err(Refusal::Memory),
+            // The timeout was allowed when the poll began to wait.
+            Err(_) => unreachable!(),
         };
         drop_first(&mut self.polls);
         self.give(key, poll.actor, timeout, gots.as_slice(), effects)?;

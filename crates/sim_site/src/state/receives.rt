@@ -9,7 +9,7 @@ ghost use Rattle.sqs_model.specs.Queue.{IsFramed};
 ghost use Rattle.sqs_model.specs.Receive.{answered, give_most, receive};
 ghost use Rattle.std.specs.Result.{result_map_both};
 ghost use Rattle.sqs_model.specs.Site.{Core, actor_numbered, number_of};
-ghost use Rattle.sqs_model.specs.Valid.{IsStandard};
+ghost use Rattle.sqs_model.specs.Valid.{IsStandard, MayBeTimeout};
 ghost use Rattle.sqs_model.specs.Receive.{to_give};
 ghost use Rattle.sim_site.specs.Effects.{DidMake, Stops, StopsWhere};
 ghost use Rattle.sim_site.specs.Kept.{most_wait};
@@ -79,6 +79,7 @@ pub fn received_by(
     requires short { short ≡ true → IsStandard queue.old.settings.kind }
     ensures received { IfOk result (λ answer. receive queue.old now max timeout hosts short ≡ (result_map_both (λ batch. batch.items) (λ refusal. refusal) answer, queue.new)) }
     ensures unchanged { IfOk result (λ answer. OnErr answer (queue.new ≡ queue.old)) }
+    ensures allowed { IfOk result (λ answer. IfOk answer (λ _. MayBeTimeout timeout)) }
     ensures framed { IsFramed queue.old queue.new }
     ensures stops { IfErr result (StopsWhere (Any (λ m. m.receives ≡ most_count) (to_give queue.old max hosts) × IsOk (receive queue.old now max timeout hosts short).0)) }
 {
@@ -114,6 +115,7 @@ impl Core {
         timeout: Option<u64>,
         effects: &mut Effects,
     ) -> Result<Answer, Refusal>
+        requires allowed { MayBeTimeout timeout }
         requires moment { key.at ≤ most_count }
         requires wait { wait ≤ most_wait }
         ensures did { (a : Actor) → a.number ≡ agent → actor_numbered agent self.old ≡ Some a → IfOk result (λ answer. DidMake effects.old effects.new self.new answer (receive_none key a self.old max wait timeout)) }
@@ -150,6 +152,7 @@ impl Core {
         gots: Vec<Got>,
         effects: &mut Effects,
     ) -> Result<Answer, Refusal>
+        requires allowed { MayBeTimeout timeout }
         requires moment { key.at ≤ most_count }
         requires wait { wait ≤ most_wait }
         ensures did { (a : Actor) → a.number ≡ agent → actor_numbered agent self.old ≡ Some a → IfOk result (λ answer. DidMake effects.old effects.new self.new answer (receive_some key a self.old max wait timeout self.old.queue gots.items)) }
