@@ -58,7 +58,11 @@ fn settle_actors(
 }
 
 // The same of tasks.
-fn settle_tasks(homes: &mut Vec<Home>, first: u32, tasks: Vec<TaskSettings>) -> Result<(), AllocError>
+fn settle_tasks(
+    homes: &mut Vec<Home>,
+    first: u32,
+    tasks: Vec<TaskSettings>,
+) -> Result<(), AllocError>
     requires homes { All (λ t. t.home < length homes.old.items) tasks.items }
     requires numbers { first + length tasks.items < 2 ^ 32 }
     ensures settled { OnOk result (AtHome (λ t. t.home) 0 (map tasks_in homes.old.items) [] → AtHome (λ t. t.home) 0 (map tasks_in homes.new.items) (enumerate_from first tasks.items)) }

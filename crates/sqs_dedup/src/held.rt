@@ -28,7 +28,11 @@ pub fn number_at(entries: &IndexMap<HeldKey, Held>, now: u64, key: &AskedKey) ->
 }
 
 // Adds the entry of a new key, which goes last.
-pub fn add(entries: &mut IndexMap<HeldKey, Held>, key: HeldKey, held: Held) -> Result<(), AllocError>
+pub fn add(
+    entries: &mut IndexMap<HeldKey, Held>,
+    key: HeldKey,
+    held: Held,
+) -> Result<(), AllocError>
     requires { get same_key entries.old key ≡ None }
     ensures added { OnOk result (entries.new.entries ≡ entries.old.entries ++ (key, held) ∷ []) }
     ensures unchanged { OnErr result (entries.new.entries ≡ entries.old.entries) }

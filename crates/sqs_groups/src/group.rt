@@ -7,9 +7,9 @@ ghost use Rattle.sqs_groups.specs.Groups.{group_writes, same_text_equivalence, s
 
 use indexmap::IndexSet;
 use sqs_message::{Message, Text};
+use std::alloc::AllocError;
 use std::hash::{Hash, Hasher};
 use std::marker::Model;
-use std::alloc::AllocError;
 
 /// The group of a message. Messages without one are of one group too.
 #[derive(Drop)]

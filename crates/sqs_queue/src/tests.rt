@@ -103,7 +103,7 @@ fn take_movable(queue: &mut Queue) -> Result<(usize, Rest), Refusal> {
 }
 
 fn can_give(queue: &Queue) -> Result<bool, Refusal> {
-    queue.can_give()
+    Ok(queue.can_give()?)
 }
 
 fn least_due(queue: &Queue) -> Option<Key> {

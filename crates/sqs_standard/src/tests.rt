@@ -336,7 +336,7 @@ fn try_changes(rt: &impl Abort, queue: &mut StandardQueue) {
         (6, receipt(0, 1), 43201, Some(Refusal::BadTimeout)),
         (6, receipt(0, 2), 1, Some(Refusal::ReceiptHandleIsInvalid)),
         (6, receipt(1, 1), 1, Some(Refusal::ReceiptHandleIsInvalid)),
-        (6, receipt(0, 0), 1, Some(Refusal::MessageNotInflight)),
+        (6, receipt(0, 0), 1, Some(Refusal::ReceiptHandleIsInvalid)),
         (6, receipt(0, 1), 43200, Some(Refusal::BadTimeout)),
         (5, receipt(0, 1), 43200, None),
         (6, receipt(0, 1), 2, None),

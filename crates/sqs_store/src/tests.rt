@@ -4,9 +4,9 @@ ghost use Rattle.sqs_model.specs.Answers.{most_count};
 ghost use Rattle.sqs_model.specs.Valid.{IsQueueSettings};
 
 use crate::{Store, is_out, may_be_received};
-use sqs_model::MOST_COUNT;
 use sim_clock::{Class, Key, Refusal};
 use sqs_message::{MessageId, Origin, Receipt, Text};
+use sqs_model::MOST_COUNT;
 use sqs_redrive::{Got, Kind, Latency, Load, Policy, QueueSettings, Sent};
 use std::alloc::{AllocError, Global};
 use std::process::Abort;
@@ -51,7 +51,7 @@ fn add(alloc: Global, store: &mut Store, now: u64, delay: u64) -> Result<(), Ref
         return Err(Refusal::CountLimit);
     }
     let message = store.next_message(now, text(alloc, 97)?, None, delay);
-    store.add(message)
+    Ok(store.add(message)?)
 }
 
 fn give(store: &mut Store, now: u64, timeout: u64) -> Result<Vec<Got>, Refusal>
@@ -79,7 +79,7 @@ fn take(store: &mut Store) -> Result<(Vec<(u32, Load)>, bool), Refusal> {
     if store.view().is_empty() {
         return Err(Refusal::Memory);
     }
-    store.take_at(&[0], None)
+    Ok(store.take_at(&[0], None)?)
 }
 
 // Where the first message goes, if it goes, and whether it has nowhere to go.
@@ -106,7 +106,7 @@ fn settle(
     }
     let origin = Origin { site: 3, number: 8 };
     let message = store.brought(origin, text(alloc, 98)?, None, enqueued, Some(3));
-    store.settle(now, message)
+    Ok(store.settle(now, message)?)
 }
 
 // Whether a release makes a message visible that stays.
@@ -239,7 +239,7 @@ fn add_once(alloc: Global, store: &mut Store, id: Text) -> Result<(), Refusal>
         return Err(Refusal::CountLimit);
     }
     let message = store.next_message(0, text(alloc, 97)?, None, 0);
-    store.add_once(0, None, id, message)
+    Ok(store.add_once(0, None, id, message)?)
 }
 
 fn living(store: &Store, now: u64, id: &Text) -> Option<u64> {

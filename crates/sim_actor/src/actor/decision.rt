@@ -5,9 +5,9 @@ ghost use Rattle.sqs_model.specs.Answers.{most_count};
 ghost use Rattle.sqs_model.specs.Draw.{drawn_uniform};
 ghost use Rattle.sim_actor.specs.Lives.{Becomes, Decides, IsFramed, Meets, greatest_count};
 
+use super::Actor;
 use super::producer::message;
 use super::script::call_made;
-use super::Actor;
 use sim_clock::Refusal;
 use sqs_model::{Act, Answer, MOST_COUNT, Role};
 use sqs_redrive::Batch;

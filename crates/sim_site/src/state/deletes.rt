@@ -16,8 +16,8 @@ use sim_clock::{Key, Refusal};
 use sqs_message::{Detail, MessageId, Receipt, Row, RowAnswer, RowKind, RowReceipt, Text};
 use sqs_model::LONGEST_TIMEOUT;
 use sqs_redrive::{Deleted, Outbound};
-use std::str;
 use std::alloc::AllocError;
+use std::str;
 
 // The receipt that a text is, if it is one.
 fn read_receipt(text: &Text) -> Option<Receipt>

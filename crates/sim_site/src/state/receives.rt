@@ -14,8 +14,8 @@ ghost use Rattle.sqs_model.specs.Receive.{to_give};
 ghost use Rattle.sim_site.specs.Effects.{DidMake, Stops, StopsWhere};
 ghost use Rattle.sim_site.specs.Kept.{most_wait};
 
-use super::sends::told_refusal;
 use super::Core;
+use super::sends::told_refusal;
 use crate::agents::Poll;
 use crate::effects::Effects;
 use crate::places::{place_of_actor, polled_at};

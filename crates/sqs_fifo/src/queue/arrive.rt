@@ -10,8 +10,8 @@ ghost use Rattle.sqs_fifo.specs.Fifo.{IsFifo};
 use super::FifoQueue;
 use sim_clock::Refusal;
 use sqs_message::{Origin, Text};
-use sqs_redrive::{Load, Sent};
 use sqs_model::MOST_COUNT;
+use sqs_redrive::{Load, Sent};
 
 impl FifoQueue {
     /// A transfer arrives: a message of a move task or of another queue's redrive is visible at

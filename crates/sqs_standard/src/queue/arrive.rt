@@ -8,8 +8,8 @@ ghost use Rattle.sqs_store.specs.Calls.{never_refused};
 
 use super::StandardQueue;
 use sim_clock::Refusal;
-use sqs_redrive::{Load, Sent};
 use sqs_model::MOST_COUNT;
+use sqs_redrive::{Load, Sent};
 
 impl StandardQueue {
     /// A transfer arrives: a message of a move task or of another queue's redrive is visible at

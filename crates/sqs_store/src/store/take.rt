@@ -8,8 +8,8 @@ ghost use Rattle.sqs_store.specs.Chosen.{AreWithin};
 use super::Store;
 use crate::parting::{kept_of, loads_of};
 use sqs_redrive::Load;
-use std::mem;
 use std::alloc::AllocError;
+use std::mem;
 
 impl Store {
     /// Takes out the messages at these places (`StartMessageMoveTask`), each for the task's queue
