@@ -39,11 +39,13 @@ impl Lines {
         }
     }
 
-    /// Adds the line of a record, with quotes where a field needs them.
+    /// Adds the line of a record, with quotes where a field needs them. It has as many fields as the
+    /// first.
     ///
     /// # Errors
     ///
-    /// `AllocError` where a growth is refused, now or before.
+    /// `AllocError` where a growth is refused, now or before, and where the record has another
+    /// number of fields.
     pub fn add(&mut self, fields: &[&[u8]]) -> Result<(), AllocError>
         ensures { OnOk result (self.new ≡ self.old ++ line (map (λ f. f.now) fields.now)) }
     {

@@ -12,6 +12,6 @@ use Rattle.sqs_model.specs.Step.{handled}
 abbrev pub HasNoneBefore : Key → Site → Type 0
 HasNoneBefore key s = All (λ due. is_lt (key_cmp due key) ≡ false) (dues s)
 
--- where nothing due at a sound site comes before a key, nothing does after its handling: rows of handlings of least dues stand in the order of keys
+-- where nothing due at a sound site comes before a key, nothing does after its handling
 abbrev pub HandlingLeavesNoneBefore : Type 0
 HandlingLeavesNoneBefore = (key : Key) (s : Site) → IsSound s.core → HasNoneBefore key s → HasNoneBefore key (handled key s).site
