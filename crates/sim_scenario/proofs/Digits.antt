@@ -1,5 +1,5 @@
 -- The value of some digits.
-use Rattle.std.proofs.Common.{◌≡◌, ℕ, ◌+◌, ◌*◌, ◌-◌, ◌<◌, ◌≤◌, List, [], ◌∷◌, fold, refl, arith, true, false, Some, None, nat_le}
+use Rattle.std.proofs.Common.{◌≡◌, ℕ, ◌+◌, ◌*◌, ◌-◌, ◌<◌, ◌≤◌, List, [], ◌∷◌, fold, refl, arith, false, None, nat_le}
 use Rattle.std.proofs.lemmas.Bool.Decides.{nat_tests}
 use Rattle.sqs_formats.specs.Script.{digits_value, only_if}
 
@@ -16,8 +16,3 @@ too_great s n rest e h =
     let more = grows n rest in
     let no : nat_le (digits_value s) 4294967295 ≡ false = grind (arith, nat_tests) in
     rw no refl
-
-pub small_enough : (s : List ℕ) (n : ℕ) → digits_value s ≡ n → n ≤ 4294967295 → Some n ≡ only_if (nat_le (digits_value s) 4294967295) (digits_value s)
-small_enough s n e h =
-    let yes : nat_le n 4294967295 ≡ true = grind (arith, nat_tests) in
-    rw (e, yes) refl

@@ -1,5 +1,5 @@
 -- What is left of a list of items, with what was read so far: the invariant of a loop over them.
-use Rattle.std.proofs.Common.{◌≡◌, ℕ, zero, suc, ◌+◌, ◌<◌, ◌≤◌, arith, List, [], ◌∷◌, ◌++◌, Option, Some, None, Result, Ok, length, get_or, drop, map, refl, ap, append_assoc, append-nil}
+use Rattle.std.proofs.Common.{◌≡◌, ℕ, zero, suc, ◌+◌, ◌<◌, ◌≤◌, arith, List, [], ◌∷◌, ◌++◌, Option, Some, None, Result, Ok, length, get_or, drop, map, refl, ap, append_assoc, append-nil, sym, ◌∙◌}
 use Rattle.std.proofs.lemmas.List.{drop_more}
 use Rattle.toml.specs.Data.{Data, Members, as_table}
 use Rattle.toml.specs.View.{view}
@@ -11,7 +11,7 @@ use Rattle.sim_scenario.specs.declared.fault.ReadError.{ReadError}
 use Rattle.sim_scenario.specs.declared.fault.ReadError.TheVariants as errors
 use Rattle.sim_scenario.specs.Gives.{Fails}
 use Rattle.sim_scenario.specs.Walk.{and_then}
-use Rattle.sim_scenario.specs.Walks.{table_walk}
+use Rattle.sim_scenario.specs.Walks.{item_walk, table_walk}
 
 abbrev pub Left : {X : Type 0} → List ℕ → (ℕ → Table → Says X) → ℕ → List X → List Data → Result (List X) ScenarioFault
 Left key read n xs ds = let r = each key read n ds in first r.faults (xs ++ r.value)
@@ -45,20 +45,30 @@ fails_data {X = X} key read n xs d ds e h =
     let s : Says (List X) = each key read (n + 1) ds in
     fails e r.faults (s.faults ++ []) r.value (xs ++ (r.value ∷ s.value)) h
 
-pub left_more : {X : Type 0} (key : List ℕ) (read : ℕ → Table → Says X) (vs : List Value) (i : ℕ) (v : Value) (xs : List X) (x : X) → i < length vs → get_or vs i v ≡ v
-    → answer (item_read key read i (view v)) ≡ Ok x → Left key read i xs (map view (drop i vs)) ≡ Left key read (i + 1) (xs ++ (x ∷ [])) (map view (drop (i + 1) vs))
-left_more key read vs i v xs x within here ok = rw (drop_more vs i v within, here) (more_data key read i xs (view v) (map view (drop (i + 1) vs)) x ok)
-
-pub left_fails : {X : Type 0} (key : List ℕ) (read : ℕ → Table → Says X) (vs : List Value) (i : ℕ) (v : Value) (xs : List X) (e : ReadError) → i < length vs → get_or vs i v ≡ v
-    → Fails e (answer (item_read key read i (view v))) → Fails e (Left key read i xs (map view (drop i vs)))
-left_fails key read vs i v xs e within here h = rw (drop_more vs i v within, here) (fails_data key read i xs (view v) (map view (drop (i + 1) vs)) e h)
-
 -- an item is walked as it is read
-pub item_is : {X : Type 0} (place : List ℕ) (read : Table → Says X) (walk : Table → Result X ScenarioFault) → ((t : Table) → walk t ≡ answer (read t))
+item_is : {X : Type 0} (place : List ℕ) (read : Table → Says X) (walk : Table → Result X ScenarioFault) → ((t : Table) → walk t ≡ answer (read t))
     → (o : Option Members) → and_then (table_walk place o) walk ≡ answer (item_when place read o)
 unfolding and_then answer
 item_is place read walk same None = refl
 item_is place read walk same (Some ms) = same _
+
+-- the loop's step: an item that was walked, with what was read before it
+pub left_more : {X : Type 0} (key : List ℕ) (read : ℕ → Table → Says X) (walk : ℕ → Table → Result X ScenarioFault) → ((n : ℕ) (t : Table) → walk n t ≡ answer (read n t))
+    → (vs : List Value) (i : ℕ) (v : Value) (xs : List X) (x : X) → i < length vs → get_or vs i v ≡ v → item_walk key (walk i) i (view v) ≡ Ok x
+    → Left key read i xs (map view (drop i vs)) ≡ Left key read (i + 1) (xs ++ (x ∷ [])) (map view (drop (i + 1) vs))
+unfolding item_walk
+left_more key read walk same vs i v xs x within here ok =
+    let is = item_is (item_place key i) (read i) (walk i) (same i) (as_table (view v)) in
+    rw (drop_more vs i v within, here) (more_data key read i xs (view v) (map view (drop (i + 1) vs)) x (sym is ∙ ok))
+
+-- its end, where an item has a fault
+pub left_fails : {X : Type 0} (key : List ℕ) (read : ℕ → Table → Says X) (walk : ℕ → Table → Result X ScenarioFault) → ((n : ℕ) (t : Table) → walk n t ≡ answer (read n t))
+    → (vs : List Value) (i : ℕ) (v : Value) (xs : List X) (e : ReadError) → i < length vs → get_or vs i v ≡ v → Fails e (item_walk key (walk i) i (view v))
+    → Fails e (Left key read i xs (map view (drop i vs)))
+unfolding item_walk
+left_fails key read walk same vs i v xs e within here h =
+    let is = item_is (item_place key i) (read i) (walk i) (same i) (as_table (view v)) in
+    rw (drop_more vs i v within, here) (fails_data key read i xs (view v) (map view (drop (i + 1) vs)) e (rw (← is) h))
 
 past : {X : Type 0} (i : ℕ) (xs : List X) → length xs ≤ i → drop i xs ≡ []
 past zero [] h = refl

@@ -20,16 +20,6 @@ elsewhere : (home : List ℕ) (n : ℕ) (name task_home : List ℕ) (rest : List
     → tasks_at home ((n, (name, task_home)) ∷ rest) ≡ tasks_at home rest
 elsewhere home n name task_home rest e = rw e refl
 
--- the task at a place stands there
-pub behind_here : (home : List ℕ) (first i : ℕ) (names homes : List (List ℕ)) (name task_home : List ℕ) → i < length names → i < length homes
-    → get_or names i name ≡ name → get_or homes i task_home ≡ task_home → bytes_eq task_home home ≡ true
-    → Behind home first i names homes ≡ record { number = first + i; name = name } ∷ Behind home first (i + 1) names homes
-behind_here home first i names homes name task_home h k is_name is_home e =
-    let next : first + i + 1 ≡ first + (i + 1) = omega arith in
-    rw (drop_more names i name h, drop_more homes i task_home k, is_name, is_home)
-    (here home (first + i) name task_home (enumerate_from (first + i + 1) (zip (drop (i + 1) names) (drop (i + 1) homes))) e
-    ∙ ap (λ n. record { number = first + i; name = name } ∷ tasks_at home (enumerate_from n (zip (drop (i + 1) names) (drop (i + 1) homes)))) next)
-
 -- the task at a place stands elsewhere
 pub behind_elsewhere : (home : List ℕ) (first i : ℕ) (names homes : List (List ℕ)) (task_home : List ℕ) → i < length names → i < length homes
     → get_or homes i task_home ≡ task_home → bytes_eq task_home home ≡ false

@@ -10,20 +10,20 @@ use Rattle.sqs_model.specs.declared.agents.Forwarding.{Forwarding}
 use Rattle.sqs_model.specs.declared.agents.Role.{Role}
 use Rattle.sqs_model.specs.declared.agents.Role.TheVariants.{Consumer, Producer, Script}
 use Rattle.sqs_model.specs.Progress.{IsSoundForward, IsSoundPolicy, IsSoundRole, IsSoundSettings, TakesTime}
-use Rattle.sqs_model.specs.Scenario.{Scenario}
+use Rattle.sqs_model.specs.Scenario.{LeadsWithin, MayBeWithin, Scenario}
 use Rattle.sqs_model.specs.Valid.{IsQueueSettings, IsTaskSettings, MayBeForward, MayBePolicy}
-use Rattle.sqs_formats.specs.Keys.{has, text_in}
+use Rattle.sqs_formats.specs.Keys.{text_in}
 use Rattle.sqs_formats.specs.Outline.{Outline}
 use Rattle.sqs_formats.specs.Queues.{queue}
 use Rattle.sqs_formats.specs.Actors.{Files, actor}
 use Rattle.sqs_formats.specs.Tasks.{task}
 use Rattle.sqs_formats.specs.Scenario.{Top}
 use Rattle.std.proofs.lemmas.List.{length-map}
-use Rattle.sim_scenario.specs.Ranges.{ForwardsBelow, IsInRange, IsLinked, IsRoleInRange, LeadsBelow, MayBeBelow, RoleBelow}
-use Rattle.sim_scenario.proofs.Links.{below, each_length, policy_below}
-use Rattle.sim_scenario.proofs.KinRead.{ForwardKin, IsOtherKin, RoleSays, actor_says, queue_says, task_says}
-use Rattle.sim_scenario.proofs.ActorRanges.{actor_in_range}
-use Rattle.sim_scenario.proofs.QueueRanges.{each_holds, queue_in_range, task_in_range}
+use Rattle.sim_scenario.specs.Ranges.{ForwardsWithin, IsInRange, IsLinked, IsRoleInRange, RoleWithin}
+use Rattle.sim_scenario.proofs.Links.{below, each_length}
+use Rattle.sim_scenario.proofs.KinRead.{IsOtherKin, queue_says, task_says}
+use Rattle.sim_scenario.proofs.ActorsRead.{ForwardKin, RoleSays, actor_says}
+use Rattle.sim_scenario.proofs.QueueRanges.{each_holds}
 use Rattle.sim_scenario.proofs.Drained.{whole_drains}
 use Rattle.sim_scenario.proofs.WholeNames.{whole_named}
 use Rattle.sim_scenario.proofs.WholeHomes.{whole_fits}
@@ -52,34 +52,34 @@ names_count : (queues : List (List ℕ × QueueSettings)) (actors : List (List �
 names_count queues actors tasks = simp (length-append, length-map) (omega arith)
 
 -- whatever names a queue names one of an outline's, and so of the scenario's
-other_below : (o : Outline) (home : ℕ) (v : Option ℕ) → IsOtherKin o home v → MayBeBelow (length o.queues) v
-other_below o home None h = tt
-other_below o home (Some n) h = h.0
+other_within : (o : Outline) (home : ℕ) (v : Option ℕ) → IsOtherKin o home v → MayBeWithin (length o.queues) v
+other_within o home None h = tt
+other_within o home (Some n) h = h.0
 
-forwards_below : (o : Outline) (home : ℕ) (f : Option Forwarding) → ForwardKin o home f → ForwardsBelow (length o.queues) f
-forwards_below o home None h = tt
-forwards_below o home (Some f) h = h.0
+forwards_within : (o : Outline) (home : ℕ) (f : Option Forwarding) → ForwardKin o home f → ForwardsWithin (length o.queues) f
+forwards_within o home None h = tt
+forwards_within o home (Some f) h = h.0
 
-role_below : (o : Outline) (home : ℕ) (r : Role) → RoleSays o home r → RoleBelow (length o.queues) r
-role_below o home (Script calls) h = tt
-role_below o home (Producer p) h = tt
-role_below o home (Consumer c) h = forwards_below o home c.forward h
+role_within : (o : Outline) (home : ℕ) (r : Role) → RoleSays o home r → RoleWithin (length o.queues) r
+role_within o home (Script calls) h = tt
+role_within o home (Producer p) h = tt
+role_within o home (Consumer c) h = forwards_within o home c.forward h
 
 linked_by : (count : ℕ) (s : Scenario) → length s.queues ≡ count
-    → All (λ q. LeadsBelow count q.policy) s.queues → All (λ a. (a.home < count) × RoleBelow count a.role) s.actors → All (λ t. (t.home < count) × MayBeBelow count t.to) s.tasks → IsLinked s
+    → All (λ q. LeadsWithin count q.policy) s.queues → All (λ a. (a.home < count) × RoleWithin count a.role) s.actors → All (λ t. (t.home < count) × MayBeWithin count t.to) s.tasks → IsLinked s
 linked_by count s same q a t = record {
-  policies = subst (λ (n : ℕ). All (λ (q : QueueSettings). LeadsBelow n q.policy) s.queues) (sym same) q;
-  actors = subst (λ (n : ℕ). All (λ (a : ActorSettings). (a.home < n) × RoleBelow n a.role) s.actors) (sym same) a;
-  tasks = subst (λ (n : ℕ). All (λ (t : TaskSettings). (t.home < n) × MayBeBelow n t.to) s.tasks) (sym same) t;
+  policies = subst (λ (n : ℕ). All (λ (q : QueueSettings). LeadsWithin n q.policy) s.queues) (sym same) q;
+  actors = subst (λ (n : ℕ). All (λ (a : ActorSettings). (a.home < n) × RoleWithin n a.role) s.actors) (sym same) a;
+  tasks = subst (λ (n : ℕ). All (λ (t : TaskSettings). (t.home < n) × MayBeWithin n t.to) s.tasks) (sym same) t;
 }
 
 pub whole_in_range : (files : Files) (top : Top) (o : Outline) (queues : List (List ℕ × QueueSettings)) (judged : List (Option ℕ)) (actors : List (List ℕ × ActorSettings)) (tasks : List (List ℕ × TaskSettings))
     → IsTop top → AreRead files top o queues judged actors tasks → IsInRange (whole top queues actors tasks)
 whole_in_range files top o queues judged actors tasks numbers are =
     let outlined : length o.queues ≡ length top.queues = ap (λ (o : Outline). length o.queues) are.outlined ∙ length-map top.queues (text_in (codes "name")) in
-    let q = each_holds (λ (x : List ℕ × QueueSettings). IsQueueSettings x.1) (codes "queue") (queue o) 0 top.queues queues (queue_in_range o) are.queues_are in
-    let a = each_holds (λ (x : List ℕ × ActorSettings). IsRoleInRange x.1.role) (codes "actor") (actor files o) 0 top.actors actors (actor_in_range files o) are.actors_are in
-    let t = each_holds (λ (x : List ℕ × TaskSettings). IsTaskSettings x.1) (codes "task") (task o) 0 top.tasks tasks (task_in_range o) are.tasks_are in
+    let q = each_holds (λ (x : List ℕ × QueueSettings). IsQueueSettings x.1) (codes "queue") (queue o) 0 top.queues queues (λ n t x e. (queue_says o n t x e).range) are.queues_are in
+    let a = each_holds (λ (x : List ℕ × ActorSettings). IsRoleInRange x.1.role) (codes "actor") (actor files o) 0 top.actors actors (λ n t x e. (actor_says files o n t x e).range) are.actors_are in
+    let t = each_holds (λ (x : List ℕ × TaskSettings). IsTaskSettings x.1) (codes "task") (task o) 0 top.tasks tasks (λ n t x e. (task_says o n t x e).range) are.tasks_are in
     let settings = All-map IsQueueSettings (λ (x : List ℕ × QueueSettings). x.1) queues q in
     let roles = All-map (λ (a : ActorSettings). IsRoleInRange a.role) (λ (x : List ℕ × ActorSettings). x.1) actors a in
     let moves = All-map IsTaskSettings (λ (x : List ℕ × TaskSettings). x.1) tasks t in
@@ -91,9 +91,9 @@ whole_in_range files top o queues judged actors tasks numbers are =
     let task_count : length (map (λ (x : List ℕ × TaskSettings). x.1) tasks) ≡ length top.tasks =
     length-map tasks (λ (x : List ℕ × TaskSettings). x.1) ∙ each_length (codes "task") (task o) 0 top.tasks tasks are.tasks_are in
     let some : 1 ≤ length o.queues = omega (arith, numbers.few_queues.0) in
-    let lq = each_holds (λ (x : List ℕ × QueueSettings). LeadsBelow count x.1.policy) (codes "queue") (queue o) 0 top.queues queues (λ n t x e. policy_below o (has t (codes "dead_letter")) t x.1.policy some (queue_says o n t x e).policy) are.queues_are in
-    let la = each_holds (λ (x : List ℕ × ActorSettings). (x.1.home < count) × RoleBelow count x.1.role) (codes "actor") (actor files o) 0 top.actors actors (λ n t x e. let says = actor_says files o n t x e in (below o _ x.1.home says.home, role_below o x.1.home x.1.role says.role)) are.actors_are in
-    let lt = each_holds (λ (x : List ℕ × TaskSettings). (x.1.home < count) × MayBeBelow count x.1.to) (codes "task") (task o) 0 top.tasks tasks (λ n t x e. let says = task_says o n t x e in (below o _ x.1.home says.home, other_below o x.1.home x.1.to says.to)) are.tasks_are in
+    let lq = each_holds (λ (x : List ℕ × QueueSettings). LeadsWithin count x.1.policy) (codes "queue") (queue o) 0 top.queues queues (λ n t x e. (queue_says o n t x e).leads some) are.queues_are in
+    let la = each_holds (λ (x : List ℕ × ActorSettings). (x.1.home < count) × RoleWithin count x.1.role) (codes "actor") (actor files o) 0 top.actors actors (λ n t x e. let says = actor_says files o n t x e in (below o _ x.1.home says.home, role_within o x.1.home x.1.role says.role)) are.actors_are in
+    let lt = each_holds (λ (x : List ℕ × TaskSettings). (x.1.home < count) × MayBeWithin count x.1.to) (codes "task") (task o) 0 top.tasks tasks (λ n t x e. let says = task_says o n t x e in (below o _ x.1.home says.home, other_within o x.1.home x.1.to says.to)) are.tasks_are in
     record {
       horizon = numbers.horizon;
       seed = numbers.seed;
@@ -110,9 +110,9 @@ whole_in_range files top o queues judged actors tasks numbers are =
       few_agents = rw (actor_count, task_count) numbers.few_agents;
       named = names_count queues actors tasks;
       linked = linked_by count _ (queue_count ∙ sym outlined)
-          (All-map (λ (q : QueueSettings). LeadsBelow count q.policy) (λ (x : List ℕ × QueueSettings). x.1) queues lq)
-          (All-map (λ (a : ActorSettings). (a.home < count) × RoleBelow count a.role) (λ (x : List ℕ × ActorSettings). x.1) actors la)
-          (All-map (λ (t : TaskSettings). (t.home < count) × MayBeBelow count t.to) (λ (x : List ℕ × TaskSettings). x.1) tasks lt);
+          (All-map (λ (q : QueueSettings). LeadsWithin count q.policy) (λ (x : List ℕ × QueueSettings). x.1) queues lq)
+          (All-map (λ (a : ActorSettings). (a.home < count) × RoleWithin count a.role) (λ (x : List ℕ × ActorSettings). x.1) actors la)
+          (All-map (λ (t : TaskSettings). (t.home < count) × MayBeWithin count t.to) (λ (x : List ℕ × TaskSettings). x.1) tasks lt);
       kin = whole_names_kin files top o queues judged actors tasks are;
       names = whole_named files top o queues judged actors tasks are;
       drained = whole_drains files top o queues judged actors tasks are;

@@ -15,14 +15,15 @@ pub mod ProducerBody
 pub mod Sound
 pub mod WholeScenario
 pub mod QueueRanges
-pub mod ActorRanges
 pub mod ScriptRanges
 pub mod InRange
 pub mod LowestWays
+pub mod WayRanges
 pub mod AskedNames
 pub mod Links
 pub mod ItemsRead
 pub mod KinRead
+pub mod ActorsRead
 pub mod WholeKin
 pub mod Naming
 pub mod WholeNames

@@ -1,19 +1,16 @@
 -- Whatever a text names as a queue is a queue of it.
-use Rattle.std.proofs.Common.{◌≡◌, ℕ, ◌+◌, ◌<◌, ◌≤◌, Bool, true, false, List, [], ◌∷◌, length, nat_le, Option, Some, None, Ok, unwrap_or, refl, ap, arith}
+use Rattle.std.proofs.Common.{◌≡◌, ℕ, ◌+◌, ◌<◌, ◌≤◌, List, [], ◌∷◌, length, nat_le, Option, Some, None, Ok, refl, ap, arith}
 use Rattle.std.specs.Str.{bytes_eq}
 use Rattle.std.proofs.lemmas.List.Quantifiers.{position-Some}
 use Rattle.std.proofs.lemmas.Bool.Decides.{nat_tests}
 use Rattle.toml.specs.Data.{Data, Items, as_array}
 use Rattle.sim_clock.specs.declared.refusal.Refusal.TheVariants.{OutOfRange, TooMany}
-use Rattle.sqs_redrive.specs.declared.settings.Policy.{Policy}
 use Rattle.sqs_formats.specs.Reading.{answer, needs, reads}
 use Rattle.sqs_formats.specs.Reading as reading
 use Rattle.sqs_formats.specs.Keys.{Says, Table, at, each, fault_at, in_order, list_of, optional, optional_when, place_of, required, required_when, typed}
 use Rattle.sqs_formats.specs.Outline.{Outline, queue_number, queue_when}
-use Rattle.sqs_formats.specs.Queues.{policy}
 use Rattle.sqs_formats.specs.Scenario.{agent_list, queue_list}
 use Rattle.sqs_model.specs.Valid.{Between}
-use Rattle.sim_scenario.specs.Ranges.{LeadsBelow}
 use Rattle.sim_scenario.proofs.Sound.{is_read, parts, picked}
 
 -- a queue that is found is one of them
@@ -24,19 +21,6 @@ pub found : (place : List ℕ) (x : Option ℕ) (n : ℕ) → answer (queue_when
 unfolding answer
 found place None n e = cc e
 found place (Some m) n e = let same : m ≡ n = cc e in ap (λ (k : ℕ). Some k) same
-
--- a policy leads to a queue
-lead_below : (x : Option ℕ) (m : ℕ) → 1 ≤ m → ((n : ℕ) → x ≡ Some n → n < m) → unwrap_or x 0 < m
-lead_below None m h k = omega arith
-lead_below (Some n) m h k = k n refl
-
-pub policy_below : (o : Outline) (b : Bool) (t : Table) (p : Option Policy) → 1 ≤ length o.queues → answer (policy o b t) ≡ Ok p → LeadsBelow (length o.queues) p
-policy_below o false t p h e = rw (← is_read _ _ e) tt
-policy_below o true t p h e =
-    let name = parts _ _ _ e in
-    let most = parts _ _ _ name.2 in
-    let within = parts _ _ _ most.2 in
-    rw (← is_read _ _ within.2) (lead_below (queue_number o name.0) (length o.queues) h (below o name.0))
 
 -- as many are read as there are items
 pub each_length : {X : Type 0} (key : List ℕ) (read : ℕ → Table → Says X) (n : ℕ) (ds : List Data) (xs : List X) → answer (each key read n ds) ≡ Ok xs → length xs ≡ length ds

@@ -65,7 +65,7 @@ same_latency home l (Some m) (g ∷ goals) =
     let e : min l.least (min l.least m) ≡ min l.least m = omega arith in
     ap (λ (n : ℕ). lowest (Some n) (map (λ to. edge home to l) goals)) e ∙ same_latency home l (Some m) goals
 
-abbrev sources_from : ℕ → ℕ → List QueueSettings → List ℕ
+abbrev pub sources_from : ℕ → ℕ → List QueueSettings → List ℕ
 sources_from d n qs = map (λ x. x.0) (filter (λ x. leads_to d x.1.policy) (enumerate_from n qs))
 
 sources_by : (b : Bool) (d n : ℕ) (q : QueueSettings) (qs : List QueueSettings) → leads_to d q.policy ≡ b
@@ -93,9 +93,6 @@ no_source : (d n : ℕ) (qs : List QueueSettings) → list_any (λ q. leads_to d
 no_source d n [] e = refl
 no_source d n (q ∷ qs) e =
     sources_by (leads_to d q.policy) d n q qs refl ∙ none_by (leads_to d q.policy) (list_any (λ (q : QueueSettings). leads_to d q.policy) qs) n (sources_from d (n + 1) qs) (no_source d (n + 1) qs) e
-
-pub task_to : (s : Scenario) (t : TaskSettings) (to : ℕ) (least : Option ℕ) → t.to ≡ Some to → lowered least t.latency.least ≡ lowest least (task_edges s t)
-task_to s t to least e = rw e refl
 
 pub task_led : (s : Scenario) (t : TaskSettings) (qs : List QueueSettings) (least : Option ℕ) → s.queues ≡ qs → t.to ≡ None → list_any (λ q. leads_to t.home q.policy) qs ≡ true
     → lowered least t.latency.least ≡ lowest least (task_edges s t)

@@ -1,5 +1,5 @@
 -- The calls of records.
-use Rattle.std.proofs.Common.{◌≡◌, ◌≢◌, ℕ, suc, ◌+◌, ◌*◌, ◌<◌, ◌≤◌, ◌&&◌, Bool, true, false, Bor, List, [], ◌∷◌, ◌++◌, Option, Some, None, Result, Ok, Err, length, get_or, drop, map, nat_le, option_map, is_some, unwrap_or, cond, refl, ap, sym, ◌∙◌, append_assoc, append-nil, arith}
+use Rattle.std.proofs.Common.{◌≡◌, ◌≢◌, ℕ, suc, ◌+◌, ◌*◌, ◌<◌, ◌≤◌, ◌&&◌, Bool, true, false, List, [], ◌∷◌, ◌++◌, Option, Some, None, Result, Ok, Err, length, get_or, drop, map, nat_le, refl, ap, sym, ◌∙◌, append_assoc, append-nil, arith}
 use Rattle.std.proofs.lemmas.List.{drop_more}
 use Rattle.std.proofs.lemmas.Bool.Decides.{nat_tests}
 use Rattle.std.proofs.Math.ListN.{drop_of_length-le}
@@ -8,30 +8,16 @@ use Rattle.csv.specs.Reading.{default_config, records, strip_bom}
 use Rattle.csv.specs.Records.{fields_of}
 use Rattle.csv.specs.declared.record.ByteRecord.{ByteRecord}
 use Rattle.sim_clock.specs.declared.refusal.Refusal.TheVariants.{BadScript, TooMany}
-use Rattle.sqs_message.specs.declared.calls.Call.{Call}
 use Rattle.sqs_message.specs.declared.calls.ScriptCall.{ScriptCall}
 use Rattle.sqs_formats.specs.declared.faults.ScriptFault.{ScriptFault}
 use Rattle.sqs_formats.specs.declared.home.Home.{Home}
 use Rattle.sqs_formats.specs.Reading.{Reading, first, answer, needs, ◌>>=◌}
-use Rattle.sqs_formats.specs.Script.{after_header, at_record, call_at, call_of, calls_from, free_after, only_if, same_fields, script, waits, whole}
+use Rattle.sqs_formats.specs.Script.{after_header, at_record, call_at, call_of, calls_from, free_after, same_fields, script, waits, whole}
 use Rattle.sim_scenario.specs.Walk.{and_then}
 use Rattle.sim_scenario.specs.ScriptGives.{Fails, header_walk, records_walk}
 use Rattle.sim_scenario.specs.declared.script.ScriptError.{ScriptError}
 use Rattle.sim_scenario.specs.declared.script.ScriptError.TheVariants as errors
 use Rattle.sim_scenario.proofs.Then.{part}
-
--- a task that is called, by its tests in the code's order
-pub task_called : (given empty : Bool) (n : Option ℕ) (call : ℕ → Call) → only_if (given && is_some n && empty) (call (unwrap_or n 0)) ≡ option_map call (cond (given && empty) n None)
-task_called true true None call = refl
-task_called true true (Some n) call = refl
-task_called true false None call = refl
-task_called true false (Some n) call = refl
-task_called false empty n call = refl
-
--- the fields of a row beside names
-pub same_step : (fs : List (List ℕ)) (names : List (Bor (List ℕ))) (i : ℕ) (d : Bor (List ℕ)) → i < length names → length fs ≡ length names
-    → same_fields (drop i fs) (map (λ n. n.now) (drop i names)) ≡ (bytes_eq (get_or fs i []) (get_or names i d).now && same_fields (drop (i + 1) fs) (map (λ n. n.now) (drop (i + 1) names)))
-same_step fs names i d within same = rw (drop_more fs i [] (omega arith), drop_more names i d within) refl
 
 and_false : (b : Bool) → false ≡ (b && false)
 and_false true = refl

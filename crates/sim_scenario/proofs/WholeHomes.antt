@@ -22,7 +22,7 @@ use Rattle.sqs_formats.specs.Scenario.{Top}
 use Rattle.sim_scenario.specs.AtHome.{FitsHome, IsCallAt, IsSendingAt, tasks_of}
 use Rattle.sim_scenario.specs.Kinds.{is_fifo_queue}
 use Rattle.sim_scenario.specs.TopWalks.{whole}
-use Rattle.sim_scenario.proofs.KinRead.{RoleSays, actor_says}
+use Rattle.sim_scenario.proofs.ActorsRead.{RoleSays, actor_says}
 use Rattle.sim_scenario.proofs.Links.{each_length}
 use Rattle.sim_scenario.proofs.QueueRanges.{each_holds}
 use Rattle.sim_scenario.proofs.TasksThere.{by_home, by_text, tasks_there}

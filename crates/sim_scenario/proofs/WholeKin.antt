@@ -21,7 +21,8 @@ use Rattle.sqs_formats.specs.Scenario.{Top}
 use Rattle.sim_scenario.specs.Kinds.{ForwardsToKin, MayBeOtherKin, NamesKin, RoleNamesKin, dead_letter_of, is_fifo_queue}
 use Rattle.sim_scenario.specs.TopWalks.{whole}
 use Rattle.sim_scenario.proofs.ItemsRead.{each_both, each_named}
-use Rattle.sim_scenario.proofs.KinRead.{ForwardKin, IsOfNamedKind, IsOtherKin, RoleSays, actor_says, kinds_are, queue_kin, queue_says, task_says}
+use Rattle.sim_scenario.proofs.KinRead.{IsOfNamedKind, IsOtherKin, kinds_are, queue_kin, queue_says, task_says}
+use Rattle.sim_scenario.proofs.ActorsRead.{ForwardKin, RoleSays, actor_says}
 use Rattle.sim_scenario.proofs.QueueRanges.{each_holds}
 
 -- the agents of a text were read with its outline

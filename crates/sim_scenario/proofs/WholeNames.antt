@@ -15,7 +15,8 @@ use Rattle.sqs_formats.specs.Scenario.{Top}
 use Rattle.sim_scenario.specs.Naming.{AreNamed, IsNameOf}
 use Rattle.sim_scenario.specs.TopWalks.{whole}
 use Rattle.sim_scenario.proofs.ItemsRead.{each_named, each_numbered}
-use Rattle.sim_scenario.proofs.KinRead.{actor_says, queue_says, task_says}
+use Rattle.sim_scenario.proofs.KinRead.{queue_says, task_says}
+use Rattle.sim_scenario.proofs.ActorsRead.{actor_says}
 use Rattle.sim_scenario.proofs.Naming.{drop_named, enumerate_append, firsts_differ, zip_named}
 use Rattle.sim_scenario.proofs.QueueRanges.{each_holds}
 use Rattle.sim_scenario.proofs.WholeKin.{AreRead}

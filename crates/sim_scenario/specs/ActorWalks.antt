@@ -1,5 +1,5 @@
 -- The walks over actors: each part in turn, up to the first fault.
-use Rattle.std.specs.Prelude.{ℕ, ◌+◌, ◌==◌, ◌&&◌, Bool, true, false, codes, List, [], ◌∷◌, ◌++◌, Option, Some, None, Ok, filter, find, length, map}
+use Rattle.std.specs.Prelude.{ℕ, ◌+◌, ◌==◌, Bool, true, false, codes, List, [], ◌++◌, Option, Some, None, Ok, filter, find, length, map}
 use Rattle.std.specs.Str.{bytes_eq}
 use Rattle.sim_clock.specs.declared.refusal.Refusal.TheVariants.{OutOfRange}
 use Rattle.sqs_message.specs.declared.calls.ScriptCall.{ScriptCall}

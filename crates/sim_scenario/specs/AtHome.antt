@@ -5,6 +5,7 @@ use Rattle.sqs_message.specs.declared.calls.Call.TheVariants.{Cancel, Change, De
 use Rattle.sqs_model.specs.declared.agents.ProducerSettings.{ProducerSettings}
 use Rattle.sqs_model.specs.declared.agents.Role.{Role}
 use Rattle.sqs_model.specs.declared.agents.Role.TheVariants.{Consumer, Producer, Script}
+use Rattle.sqs_model.specs.Longest.{longest_delay}
 use Rattle.sqs_model.specs.Scenario.{Scenario, numbered_tasks}
 use Rattle.sqs_model.specs.Valid.{Between}
 use Rattle.sim_scenario.specs.Kinds.{is_fifo_queue}
@@ -14,10 +15,10 @@ abbrev pub HasGroups : Option ℕ → Type 0
 HasGroups None = ⊥
 HasGroups (Some n) = Between 1 1000 n
 
--- a delay of at most 900 seconds, if there is one
+-- a delay in seconds that is not too long, if there is one
 abbrev pub MayDelay : Option ℕ → Type 0
 MayDelay None = Unit {0}
-MayDelay (Some seconds) = seconds ≤ 900
+MayDelay (Some seconds) = seconds ≤ longest_delay
 
 -- a producer sends to groups at a FIFO home, with no delay of its own; at a standard home it gives no groups and no ids
 abbrev pub IsSendingAt : Bool → ProducerSettings → Type 0

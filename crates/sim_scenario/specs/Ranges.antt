@@ -5,9 +5,8 @@ use Rattle.sqs_formats.specs.Script.{waits}
 use Rattle.sqs_model.specs.declared.agents.Forwarding.{Forwarding}
 use Rattle.sqs_model.specs.declared.agents.Role.{Role}
 use Rattle.sqs_model.specs.declared.agents.Role.TheVariants.{Consumer, Producer, Script}
-use Rattle.sqs_redrive.specs.declared.settings.Policy.{Policy}
 use Rattle.sqs_model.specs.Progress.{Ascends, IsSoundScenario}
-use Rattle.sqs_model.specs.Scenario.{Scenario}
+use Rattle.sqs_model.specs.Scenario.{LeadsWithin, MayBeWithin, Scenario}
 use Rattle.sim_scenario.specs.AtHome.{FitsHome}
 use Rattle.sim_scenario.specs.Kinds.{NamesKin, TasksDrain}
 use Rattle.sim_scenario.specs.Naming.{AreNamed}
@@ -25,32 +24,22 @@ IsRoleInRange (Script calls) = IsScript calls
 IsRoleInRange (Producer p) = IsProducer p
 IsRoleInRange (Consumer c) = IsConsumer c
 
--- a number below a bound, if there is one
-abbrev pub MayBeBelow : ℕ → Option ℕ → Type 0
-MayBeBelow bound None = Unit {0}
-MayBeBelow bound (Some n) = n < bound
-
--- the same of where a policy leads
-abbrev pub LeadsBelow : ℕ → Option Policy → Type 0
-LeadsBelow bound None = Unit {0}
-LeadsBelow bound (Some p) = p.dead_letter < bound
-
--- and of where a consumer forwards to
-abbrev pub ForwardsBelow : ℕ → Option Forwarding → Type 0
-ForwardsBelow bound None = Unit {0}
-ForwardsBelow bound (Some f) = f.to < bound
+-- the queue that a consumer forwards to, if there is one, is one of so many
+abbrev pub ForwardsWithin : ℕ → Option Forwarding → Type 0
+ForwardsWithin queues None = Unit {0}
+ForwardsWithin queues (Some f) = f.to < queues
 
 -- the same of any actor
-abbrev pub RoleBelow : ℕ → Role → Type 0
-RoleBelow bound (Script calls) = Unit {0}
-RoleBelow bound (Producer p) = Unit {0}
-RoleBelow bound (Consumer c) = ForwardsBelow bound c.forward
+abbrev pub RoleWithin : ℕ → Role → Type 0
+RoleWithin queues (Script calls) = Unit {0}
+RoleWithin queues (Producer p) = Unit {0}
+RoleWithin queues (Consumer c) = ForwardsWithin queues c.forward
 
 -- whatever names a queue names one of the scenario
 pub record IsLinked (s : Scenario) : Type 0 where
-  pub policies : All (λ q. LeadsBelow (length s.queues) q.policy) s.queues
-  pub actors : All (λ a. (a.home < length s.queues) × RoleBelow (length s.queues) a.role) s.actors
-  pub tasks : All (λ t. (t.home < length s.queues) × MayBeBelow (length s.queues) t.to) s.tasks
+  pub policies : All (λ q. LeadsWithin (length s.queues) q.policy) s.queues
+  pub actors : All (λ a. (a.home < length s.queues) × RoleWithin (length s.queues) a.role) s.actors
+  pub tasks : All (λ t. (t.home < length s.queues) × MayBeWithin (length s.queues) t.to) s.tasks
 
 -- a scenario in range, in which time moves on
 pub record IsInRange (s : Scenario) : Type 0 where

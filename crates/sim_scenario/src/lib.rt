@@ -4,11 +4,11 @@
 
 mod actors;
 mod consumers;
-mod edges;
 mod fault;
 mod items;
 mod keys;
 mod kin;
+mod least;
 mod lists;
 mod names;
 mod outline;
@@ -21,12 +21,14 @@ mod script;
 mod script_files;
 mod scripted;
 mod top;
+mod ways;
 
-pub use edges::least_latency;
 pub use fault::ReadError;
+pub use least::least_latency;
 pub use reader::read;
 pub use scenario::{Scenario, ScenarioParts};
 pub use script::{ScriptError, read_script};
 pub use script_files::script_names;
 pub use scripted::Scripts;
 pub use sqs_formats::{ScenarioFault, ScriptFault};
+pub use ways::edges;

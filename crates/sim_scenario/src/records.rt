@@ -359,20 +359,14 @@ fn named_task(home: &Home, record: &Record<'_>) -> Option<u32>
 fn start(home: &Home, record: &Record<'_>) -> Option<Call>
     ensures { result ≡ task_call home.now (record_view record.now) (λ t. Start t) }
 {
-    match named_task(home, record) {
-        None => None,
-        Some(task) => Some(Call::Start { task }),
-    }
+    named_task(home, record).map(|task| Call::Start { task })
 }
 
 /// The cancel that a record states.
 fn cancel(home: &Home, record: &Record<'_>) -> Option<Call>
     ensures { result ≡ task_call home.now (record_view record.now) (λ t. Cancel t) }
 {
-    match named_task(home, record) {
-        None => None,
-        Some(task) => Some(Call::Cancel { task }),
-    }
+    named_task(home, record).map(|task| Call::Cancel { task })
 }
 
 /// The call of a task that a record states.

@@ -29,12 +29,12 @@ use Rattle.sqs_model.specs.Site.{Site}
 use Rattle.sqs_model.specs.Valid.{IsLatency, IsTaskSettings}
 use Rattle.sim_actor.specs.Lives.{IsRole}
 use Rattle.sim_scenario.specs.declared.scenario.ScenarioParts.{ScenarioParts}
-use Rattle.sim_scenario.specs.Ranges.{IsInRange, MayBeBelow, IsRoleInRange as IsScenarioRole}
+use Rattle.sim_scenario.specs.Ranges.{IsInRange, IsRoleInRange as IsScenarioRole}
 use Rattle.sim_site.specs.Kept.{HasShortWaits, WaitsWithin}
 use Rattle.sim_windows.specs.declared.opening.Home.{Home}
 use Rattle.sim_windows.specs.Homes.{AtHome, IsFit, IsSettled, IsVacant, actors_in, tasks_in}
 use Rattle.sim_windows.specs.Worlds.{AreOfPast, IsNumbered, IsOfPast, IsWorld, alive, living}
-use Rattle.sim_windows.proofs.Places.{living_alive}
+use Rattle.sim_partition.proofs.Living.{living_alive}
 
 -- one more agent, with its number
 pub enumerate_push : {A : Type 0} (n k : ℕ) (xs : List A) (x : A) → k ≡ n + length xs → enumerate_from n (xs ++ x ∷ []) ≡ enumerate_from n xs ++ (k, x) ∷ []
@@ -276,5 +276,5 @@ pub has_queues : (s : Scenario) → IsInRange s → HasItsQueues s
 has_queues s r =
     record {
       policies = r.linked.policies;
-      tasks = All-weaker (λ (t : TaskSettings). (t.home < length s.queues) × MayBeBelow (length s.queues) t.to) (λ t. MayBeWithin (length s.queues) t.to) (λ t h. h.1) s.tasks r.linked.tasks;
+      tasks = All-weaker (λ (t : TaskSettings). (t.home < length s.queues) × MayBeWithin (length s.queues) t.to) (λ t. MayBeWithin (length s.queues) t.to) (λ t h. h.1) s.tasks r.linked.tasks;
     }

@@ -1,7 +1,7 @@
 -- How a run goes on, handling by handling.
-use Rattle.std.specs.Prelude.{All, List, None, Option, Some, suc, zero, ℕ, ◌+◌, ◌<◌, ◌≡◌, ◌≤◌}
+use Rattle.std.specs.Prelude.{All, List, None, Option, Some, suc, zero, ℕ, ◌+◌, ◌-◌, ◌<◌, ◌≡◌, ◌≤◌}
 use Rattle.std.proofs.Common.{[], ap, arith, inl, inr, refl, sym, ◌∙◌}
-use Rattle.std.proofs.lemmas.Bool.{cases_lt, le-leb}
+use Rattle.std.proofs.lemmas.Bool.{cases_lt, le-leb, lt-leb}
 use Rattle.std.proofs.lemmas.List.Elements.{All-weaker}
 use Rattle.sim_clock.specs.declared.key.Key.{Key}
 use Rattle.sqs_redrive.specs.declared.transfers.Outbound.{Outbound}
@@ -11,7 +11,7 @@ use Rattle.sqs_model.specs.Run.{Run, Stepped, after, delivered, handled_among, n
 use Rattle.sqs_model.specs.Site.{Site}
 use Rattle.sqs_model.proofs.Counts.{tick, tick_now, tick_past}
 use Rattle.sqs_model.proofs.WorldMoves.{FallsAmong, among_falls, delivered_count, delivered_sound, tick_key, world_count, world_in, world_none}
-use Rattle.sim_windows.specs.Worlds.{Continues, IsFrom, continued}
+use Rattle.sim_windows.specs.Worlds.{Continues, IsFrom, IsLater, continued, due_at}
 
 -- a world whose least due is handled, by a moment
 pub record Falls (key : Key) (e : ℕ) (sites later : List Site) : Type 0 where
@@ -94,6 +94,18 @@ continues_on horizon a b c f g =
       steps = g.steps + f.steps;
       reached = sym (joined horizon g.steps f.steps a) ∙ ap (continued horizon g.steps) f.reached ∙ g.reached;
     }
+
+-- nothing is due by a horizon that the least is past
+pub none_by : (horizon : ℕ) (key : Key) (w : List Site) → world_due w ≡ Some key → horizon < key.at → next_due horizon w ≡ None
+none_by horizon key w d l = rw (d, lt-leb key.at horizon l) refl
+
+-- what is due later is sooner to a horizon
+sooner_by : (horizon : ℕ) (key : Key) (o : Option Key) → key.at ≤ horizon → IsLater key.at o → horizon + 1 - due_at horizon o < horizon + 1 - key.at
+sooner_by horizon key None l h = omega arith
+sooner_by horizon key (Some k) l h = omega (arith, h)
+
+pub sooner : (horizon : ℕ) (key : Key) (w : List Site) (o : Option Key) → world_due w ≡ Some key → key.at ≤ horizon → IsLater key.at o → horizon + 1 - due_at horizon o < horizon + 1 - due_at horizon (world_due w)
+sooner horizon key w o d l h = rw d (sooner_by horizon key o l h)
 
 -- the run from an opening is such a run
 pub after_is : (horizon n : ℕ) (sites : List Site) → after horizon n sites ≡ continued horizon n (record { sites = sites; rows = [] })

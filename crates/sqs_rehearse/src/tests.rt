@@ -1,4 +1,5 @@
 //! The crates below the program, called as the program calls them.
+mod machines;
 mod rehearsals;
 mod scenarios;
 mod sites;

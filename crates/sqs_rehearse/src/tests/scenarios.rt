@@ -2,11 +2,12 @@
 //! the formats.
 use sim_clock::Refusal;
 use sim_scenario::{
-    ReadError, Scenario, ScenarioParts, ScriptError, Scripts, least_latency, read, read_script,
-    script_names,
+    ReadError, Scenario, ScenarioParts, ScriptError, Scripts, edges, least_latency, read,
+    read_script, script_names,
 };
 use sqs_formats::{Home, HomeTask, HomeTasks};
 use sqs_message::{Call, ScriptCall, Text};
+use sqs_redrive::Edge;
 use std::alloc::{AllocError, Global};
 use std::process::Abort;
 use std::test::Fail;
@@ -215,6 +216,35 @@ fn scenarios_are_read(rt: HostRuntime) -> Result<(), Fail> {
     ];
     for &(text, wanted) in table {
         try_scenario(&rt, rt.alloc(), &scripts, text, wanted);
+    }
+    Ok(())
+}
+
+// A way from one queue to another, and the least time that it takes.
+fn way(from: u32, to: u32, least: u64) -> Edge {
+    Edge { from, to, least }
+}
+
+// The queues are 0 to 3: orders and returns, whose dead letters go to dead, and archive.
+#[test]
+fn scenarios_give_their_ways(rt: HostRuntime) -> Result<(), Fail> {
+    let text =
+        b"version = 2\nhorizon = 90\n[[queue]]\nname = 'orders'\ndead_letter = 'dead'\nmax_receives = 3\nlatency_min_ms = 10\nlatency_max_ms = 15\n[[queue]]\nname = 'returns'\ndead_letter = 'dead'\nmax_receives = 3\nlatency_min_ms = 20\nlatency_max_ms = 25\n[[queue]]\nname = 'dead'\n[[queue]]\nname = 'archive'\n[[actor]]\nname = 'packer'\nkind = 'consumer'\nqueue = 'orders'\nservice_min_ms = 1\nservice_max_ms = 2\nforward = 'archive'\nlatency_min_ms = 30\nlatency_max_ms = 35\n[[actor]]\nname = 'reader'\nkind = 'consumer'\nqueue = 'dead'\nservice_min_ms = 1\nservice_max_ms = 2\n[[actor]]\nname = 'sorter'\nkind = 'consumer'\nqueue = 'archive'\nservice_min_ms = 1\nservice_max_ms = 2\nforward = 'returns'\nlatency_min_ms = 40\nlatency_max_ms = 45\n[[task]]\nname = 'away'\nqueue = 'dead'\nto = 'archive'\nlatency_min_ms = 50\nlatency_max_ms = 55\n[[task]]\nname = 'back'\nqueue = 'dead'\nlatency_min_ms = 60\nlatency_max_ms = 65\n".as_slice();
+    let wanted = [
+        way(0, 2, 10),
+        way(1, 2, 20),
+        way(0, 3, 30),
+        way(3, 1, 40),
+        way(2, 3, 50),
+        way(2, 0, 60),
+        way(2, 1, 60),
+    ];
+    match read(rt.alloc(), text, &Scripts::new(Vec::new(rt.alloc()))) {
+        Ok(scenario) => {
+            let ways = edges(rt.alloc(), &scenario)?;
+            assert!(rt; ways.as_slice() == wanted.as_slice());
+        }
+        Err(_) => assert!(rt; false),
     }
     Ok(())
 }

@@ -1,29 +1,22 @@
 use Rattle.std.proofs.Common.{rules, ◌≡◌, ◌∙◌, sym, codes, ◌++◌, ◌∷◌, [], arith}
 use Rattle.sqs_formats.specs.Reading.{answer}
 use Rattle.sqs_formats.specs.Queues.{dead_letter}
-use Rattle.sim_scenario.specs.Walks.{item_walk, dead_letter_walk}
-use Rattle.sim_scenario.proofs.EachItem.{item_is, left_fails, left_more, left_none}
+use Rattle.sim_scenario.specs.Walks.{dead_letter_walk}
+use Rattle.sim_scenario.proofs.EachItem.{left_fails, left_more, left_none}
 use Rattle.sim_scenario.proofs.QueueWalks.{dead_letter_walk_is}
 use Rattle.sim_scenario.proofs.lists.dead_letters.Goals as goal
 
 pub loop-i-preserved : goal.loop-i-preserved
-unfolding item_walk
 loop-i-preserved c =
     let o = c.args.outline.now in
-    let v = c.index-values-i.result in
-    let i = c.loop-i.i in
     let pushed : c.push.new.self.items ≡ c.loop-i.dead_letters.items ++ c.in-Ok.item ∷ [] = search rules in
-    let ok = sym (item_is _ (dead_letter o i) (dead_letter_walk o i) (dead_letter_walk_is o i) _) ∙ c.in-Ok.ensures in
-    rw pushed (c.loop-i.invariant ∙ left_more (codes "queue") (dead_letter o) c.args.values.now i v c.loop-i.dead_letters.items c.in-Ok.item c.loop-i-test.true (sym c.index-values-i.is) ok)
+    rw pushed (c.loop-i.invariant ∙ left_more (codes "queue") (dead_letter o) (dead_letter_walk o) (dead_letter_walk_is o) c.args.values.now c.loop-i.i c.index-values-i.result c.loop-i.dead_letters.items c.in-Ok.item c.loop-i-test.true (sym c.index-values-i.is) c.in-Ok.ensures)
 
 pub returns-in-Err : goal.returns-in-Err
-unfolding answer item_walk
+unfolding answer
 returns-in-Err c =
     let o = c.args.outline.now in
-    let v = c.index-values-i.result in
-    let i = c.loop-i.i in
-    rw c.loop-i.invariant (left_fails (codes "queue") (dead_letter o) c.args.values.now i v c.loop-i.dead_letters.items c.in-Err.e c.loop-i-test.true (sym c.index-values-i.is)
-    (rw (← item_is _ (dead_letter o i) (dead_letter_walk o i) (dead_letter_walk_is o i) _) c.in-Err.ensures))
+    rw c.loop-i.invariant (left_fails (codes "queue") (dead_letter o) (dead_letter_walk o) (dead_letter_walk_is o) c.args.values.now c.loop-i.i c.index-values-i.result c.loop-i.dead_letters.items c.in-Err.e c.loop-i-test.true (sym c.index-values-i.is) c.in-Err.ensures)
 
 pub returns : goal.returns
 unfolding answer

@@ -1,29 +1,22 @@
 use Rattle.std.proofs.Common.{rules, ◌≡◌, ◌∙◌, sym, codes, ◌++◌, ◌∷◌, [], arith}
 use Rattle.sqs_formats.specs.Reading.{answer}
 use Rattle.sqs_formats.specs.Tasks.{task}
-use Rattle.sim_scenario.specs.Walks.{item_walk, task_walk}
-use Rattle.sim_scenario.proofs.EachItem.{item_is, left_fails, left_more, left_none}
+use Rattle.sim_scenario.specs.Walks.{task_walk}
+use Rattle.sim_scenario.proofs.EachItem.{left_fails, left_more, left_none}
 use Rattle.sim_scenario.proofs.QueueWalks.{task_walk_is}
 use Rattle.sim_scenario.proofs.lists.tasks.Goals as goal
 
 pub loop-i-preserved : goal.loop-i-preserved
-unfolding item_walk
 loop-i-preserved c =
     let o = c.args.outline.now in
-    let v = c.index-values-i.result in
-    let i = c.loop-i.i in
     let pushed : c.push.new.self.items ≡ c.loop-i.tasks.items ++ c.in-Ok.item ∷ [] = search rules in
-    let ok = sym (item_is _ (task o i) (task_walk o i) (task_walk_is o i) _) ∙ c.in-Ok.ensures in
-    rw pushed (c.loop-i.invariant ∙ left_more (codes "task") (task o) c.args.values.now i v c.loop-i.tasks.items c.in-Ok.item c.loop-i-test.true (sym c.index-values-i.is) ok)
+    rw pushed (c.loop-i.invariant ∙ left_more (codes "task") (task o) (task_walk o) (task_walk_is o) c.args.values.now c.loop-i.i c.index-values-i.result c.loop-i.tasks.items c.in-Ok.item c.loop-i-test.true (sym c.index-values-i.is) c.in-Ok.ensures)
 
 pub returns-in-Err : goal.returns-in-Err
-unfolding answer item_walk
+unfolding answer
 returns-in-Err c =
     let o = c.args.outline.now in
-    let v = c.index-values-i.result in
-    let i = c.loop-i.i in
-    rw c.loop-i.invariant (left_fails (codes "task") (task o) c.args.values.now i v c.loop-i.tasks.items c.in-Err.e c.loop-i-test.true (sym c.index-values-i.is)
-    (rw (← item_is _ (task o i) (task_walk o i) (task_walk_is o i) _) c.in-Err.ensures))
+    rw c.loop-i.invariant (left_fails (codes "task") (task o) (task_walk o) (task_walk_is o) c.args.values.now c.loop-i.i c.index-values-i.result c.loop-i.tasks.items c.in-Err.e c.loop-i-test.true (sym c.index-values-i.is) c.in-Err.ensures)
 
 pub returns : goal.returns
 unfolding answer

@@ -4,7 +4,7 @@ use Rattle.sqs_model.specs.Dues.{world_due}
 use Rattle.sqs_model.specs.Progress.{IsSound}
 use Rattle.sqs_model.specs.Run.{Run}
 use Rattle.sim_windows.specs.Worlds.{living}
-use Rattle.sim_windows.proofs.Places.{due_living}
+use Rattle.sim_partition.proofs.Living.{due_living}
 use Rattle.sim_windows.proofs.world.World.least_due.Goals as goal
 
 pub returns-clause-due : goal.returns-clause-due

@@ -4,7 +4,7 @@ use Rattle.sqs_model.specs.Scenario.{Scenario, opening}
 use Rattle.sqs_model.specs.Site.{Site}
 use Rattle.sim_windows.specs.Worlds.{IsWorld, alive, living}
 use Rattle.sim_windows.proofs.Openings.{Opens, has_queues, opens, whole_of}
-use Rattle.sim_windows.proofs.Places.{living_alive}
+use Rattle.sim_partition.proofs.Living.{living_alive}
 use Rattle.sim_windows.proofs.world.World.open.Goals as goal
 
 pub open_sites-requires-clause-homes : goal.open_sites-requires-clause-homes

@@ -1,0 +1,73 @@
+//! The partition of each queue.
+ghost use Rattle.std.specs.Prelude.{◌≡◌, ◌<◌, ◌≤◌, Err, Ok, if◌then◌else◌, nat_lt, ℕ};
+ghost use Rattle.std.specs.List.{list_all};
+ghost use Rattle.sim_exchange.specs.Layout.{is_layout, owner_of};
+
+use sim_clock::Refusal;
+use std::marker::Model;
+
+/// The partition of each queue.
+#[derive(Drop)]
+pub struct PartMap {
+    parts: u32,
+    owners: Vec<u32>,
+}
+
+impl Model for PartMap {
+    ghost use Rattle.sim_exchange.specs.Layout.{IsLayout, Layout};
+
+    ghost Value = { Layout };
+
+    ghost view = { λ m. record { parts = m.parts; owners = m.owners.items } };
+
+    ghost invariant = { λ m. IsLayout (record { parts = m.parts; owners = m.owners.items }) };
+}
+
+impl PartMap {
+    /// So many partitions, and the partition of each of so many queues, by its number.
+    ///
+    /// # Errors
+    ///
+    /// `BadMap` where there are not 1 to 256 partitions, or the list does not give each queue one of
+    /// them.
+    pub fn new(queues: usize, parts: u32, owners: Vec<u32>) -> Result<PartMap, Refusal>
+        ensures { result ≡ (if is_layout queues (record { parts = parts; owners = owners.items }) then Ok (record { parts = parts; owners = owners.items }) else Err Refusal.BadMap) }
+    {
+        if is_whole(queues, parts, &owners) {
+            Ok(PartMap { parts, owners })
+        } else {
+            Err(Refusal::BadMap)
+        }
+    }
+
+    /// How many partitions there are, 1 to 256.
+    pub fn parts(&self) -> u32
+        ensures parts { result ≡ self.now.parts }
+        ensures range { (1 ≤ result) × (result ≤ 256) }
+        ensures below { (queue : ℕ) → owner_of self.now queue < self.now.parts }
+    {
+        self.parts
+    }
+
+    /// The partition of a queue; the first for a number past the queues.
+    pub fn part_of(&self, queue: u32) -> u32
+        ensures owner { result ≡ owner_of self.now queue }
+        ensures below { result < self.now.parts }
+    {
+        self.owners.get(queue as usize).copied().unwrap_or(0)
+    }
+}
+
+// Whether there are 1 to 256 partitions, and each of so many queues has one of them.
+fn is_whole(queues: usize, parts: u32, owners: &[u32]) -> bool
+    ensures { result ≡ is_layout queues (record { parts = parts; owners = owners.now }) }
+{
+    1 <= parts && parts <= 256 && owners.len() == queues && are_below(owners, parts)
+}
+
+// Whether each of some numbers is below a number.
+fn are_below(owners: &[u32], parts: u32) -> bool
+    ensures { result ≡ list_all (λ p. nat_lt p parts) owners.now }
+{
+    owners.iter().all(|owner| *owner < parts)
+}

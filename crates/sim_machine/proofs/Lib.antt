@@ -1,0 +1,25 @@
+pub mod Runs
+pub mod Landing
+pub mod Confluence
+pub mod Parts
+pub mod Worlds
+pub mod OneList
+pub mod Machines
+pub mod Whole
+pub mod Sites
+pub mod Bounds
+pub mod Merge
+pub mod Rows
+pub mod Merged
+pub mod Finished
+pub mod Prefixes
+pub mod EarlyRows
+pub mod Progress
+pub mod Holding
+pub mod Rounds
+pub mod Exchange
+mod Worked
+pub mod ReadByParts
+pub mod RunCounts
+pub mod Keeping
+pub mod GoingOn

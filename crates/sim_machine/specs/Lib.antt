@@ -1,0 +1,9 @@
+pub mod Parts
+pub mod Machine
+pub mod Bounds
+pub mod Merge
+pub mod Theorems
+pub mod Prefixes
+pub mod Rounds
+pub mod Exchange
+pub mod Kept

@@ -1,0 +1,113 @@
+-- What a machine's partition has handled is what the one-list run handles first at its sites; and the rows before the least bound are all there at a barrier.
+use Rattle.std.specs.List.{range_with_len}
+use Rattle.std.specs.Prelude.{Bool, List, None, Option, Some, [], false, filter, if◌then◌else◌, map, nat_lt, suc, true, zero, ℕ, ◌++◌, ◌<◌, ◌∷◌, ◌≡◌, ◌≤◌, not, ◌&&◌, max}
+use Rattle.sim_clock.specs.declared.key.Key.{Key}
+use Rattle.sqs_message.specs.declared.row.Row.{Row}
+use Rattle.sqs_model.specs.Dues.{least_due}
+use Rattle.sqs_model.specs.Limits.{rows_count, run_count, sites_count}
+use Rattle.sqs_model.specs.Progress.{IsSoundScenario}
+use Rattle.sqs_model.specs.Run.{IsRunOf, Run, after, handled_among, is_due, next_due}
+use Rattle.sqs_model.specs.Scenario.{Scenario, edges, opening}
+use Rattle.sqs_model.specs.Site.{Core, Site, number_of}
+use Rattle.sim_machine.specs.Bounds.{AreDistances, own_bound}
+use Rattle.sim_machine.specs.declared.picks.Pick.{Pick}
+use Rattle.sim_machine.specs.declared.picks.Pick.TheVariants.{Barrier, Part}
+use Rattle.sim_machine.specs.Machine.{Machine, has_ready, is_finished, of_name, played_all, takes_effect}
+use Rattle.sim_machine.specs.Merge.{merged_all, row_cmp}
+use Rattle.sim_machine.specs.Parts.{Entry, entry_of, part_of}
+use Rattle.sim_machine.specs.Theorems.{machine_of, rows_by}
+
+-- the partition of the first site whose least due this key is
+abbrev pub turn_of : (ℕ → ℕ) → Key → List Site → ℕ
+turn_of owner key [] = 0
+turn_of owner key (s ∷ ss) = if is_due key (least_due s) then owner (number_of s.core) else turn_of owner key ss
+
+-- what one more handling of the one-list run tells, with its partition
+abbrev pub told_next : (ℕ → ℕ) → List Site → Option Key → List (ℕ × Entry)
+told_next owner sites None = []
+told_next owner sites (Some key) = (turn_of owner key sites, entry_of key (handled_among key sites)) ∷ []
+
+-- what the first so many handlings of the one-list run told, each with its partition
+abbrev pub told_after : (ℕ → ℕ) → ℕ → ℕ → List Site → List (ℕ × Entry)
+told_after owner horizon zero sites = []
+told_after owner horizon (suc n) sites =
+    told_after owner horizon n sites ++ told_next owner (after horizon n sites).sites (next_due horizon (after horizon n sites).sites)
+
+-- the sites of a partition, but for what is on its way to them
+abbrev pub cores_of : (ℕ → ℕ) → ℕ → List Site → List Core
+cores_of owner p sites = map (λ s. s.core) (part_of owner p sites)
+
+-- after so many handlings of the one-list run, a partition has handled there what it has handled in a machine, and its sites are the same
+pub record IsAsAfter (owner : ℕ → ℕ) (horizon : ℕ) (start : List Site) (p : ℕ) (m : Machine) : Type 0 where
+  pub steps : ℕ
+  pub told : of_name p (told_after owner horizon steps start) ≡ of_name p m.told
+  pub cores : cores_of owner p (after horizon steps start).sites ≡ cores_of owner p m.sites
+
+-- whether a row is from before a moment
+abbrev pub is_before : ℕ → Row → Bool
+is_before moment r = nat_lt r.key.at moment
+
+-- the rows from before a moment of a machine's partitions, merged
+abbrev pub rows_before : ℕ → ℕ → Machine → List Row
+rows_before parts moment m = merged_all row_cmp (map (λ p. filter (is_before moment) (rows_by m.told p)) (range_with_len 0 parts))
+
+-- whether a row is from before one moment and not from before another
+abbrev pub is_between : ℕ → ℕ → Row → Bool
+is_between from to r = is_before to r && not (is_before from r)
+
+-- the rows between two moments of a machine's partitions, merged
+abbrev pub rows_between : ℕ → ℕ → ℕ → Machine → List Row
+rows_between parts from to m = merged_all row_cmp (map (λ p. filter (is_between from to) (rows_by m.told p)) (range_with_len 0 parts))
+
+-- the rows from a moment on of a machine's partitions, merged
+abbrev pub rows_from : ℕ → ℕ → Machine → List Row
+rows_from parts from m = merged_all row_cmp (map (λ p. filter (λ r. not (is_before from r)) (rows_by m.told p)) (range_with_len 0 parts))
+
+-- no partition of a machine may go on, and no bound is before a moment
+pub record IsThrough (owner : ℕ → ℕ) (parts moment : ℕ) (m : Machine) : Type 0 where
+  pub stopped : has_ready owner m ≡ false
+  pub bounds : (p : ℕ) → p < parts → moment ≤ m.bounds p
+
+-- the greatest count that a partition of a machine has come to: in a site, or of the receives that a row tells
+abbrev pub part_count : (ℕ → ℕ) → ℕ → Machine → ℕ
+part_count owner p m = max (sites_count (part_of owner p m.sites)) (rows_count (rows_by m.told p))
+
+-- what holds of every state of a scenario's machine with a rule of bounds
+pub record Holds (s : Scenario) (owner : ℕ → ℕ) (parts : ℕ) (rule : List Site → ℕ → ℕ) : Type 0 where
+  -- each partition has handled what the one-list run handles first at its sites
+  pub first : (picks : List Pick) (p : ℕ) → IsAsAfter owner s.horizon (opening s) p (machine_of owner rule s picks)
+  -- where no partition may go on, the rows from before all bounds are those of the one-list run
+  pub early : (picks : List Pick) (moment : ℕ) (r : Run) → IsRunOf s r → IsThrough owner parts moment (machine_of owner rule s picks) → rows_before parts moment (machine_of owner rule s picks) ≡ filter (is_before moment) r.rows
+  -- where its rows from before a moment were handed on, those from then up to all bounds are what follows
+  pub next : (picks : List Pick) (from to : ℕ) (r : Run) → IsRunOf s r → from ≤ to → IsThrough owner parts to (machine_of owner rule s picks) → filter (is_before from) r.rows ++ rows_between parts from to (machine_of owner rule s picks) ≡ filter (is_before to) r.rows
+  -- and at the end all rows from then on
+  pub last : (picks : List Pick) (from : ℕ) (r : Run) → IsRunOf s r → is_finished s.horizon (machine_of owner rule s picks) ≡ true → filter (is_before from) r.rows ++ rows_from parts from (machine_of owner rule s picks) ≡ r.rows
+  -- no count is greater than the one-list run's
+  pub counts : (picks : List Pick) (p : ℕ) → (n : ℕ) × (part_count owner p (machine_of owner rule s picks) ≤ run_count (after s.horizon n (opening s)))
+
+-- and with a bound of each partition's own
+abbrev pub HoldsAtOwnBounds : Type 0
+HoldsAtOwnBounds =
+    (s : Scenario) → IsSoundScenario s → (owner : ℕ → ℕ) (parts : ℕ) → ((n : ℕ) → owner n < parts) → (distance : ℕ → ℕ → Option ℕ) → AreDistances owner (edges s) distance
+    → Holds s owner parts (own_bound owner distance parts s.horizon)
+
+-- whether every state leads to an end
+abbrev pub ComesToEnd : Scenario → (ℕ → ℕ) → (List Site → ℕ → ℕ) → Type 0
+ComesToEnd s owner rule = (picks : List Pick) → (more : List Pick) × (is_finished s.horizon (played_all owner s.horizon rule more (machine_of owner rule s picks)) ≡ true)
+
+-- so it does with a bound of each partition's own
+abbrev pub EndsAtOwnBounds : Type 0
+EndsAtOwnBounds =
+    (s : Scenario) → IsSoundScenario s → (owner : ℕ → ℕ) (parts : ℕ) → ((n : ℕ) → owner n < parts) → (distance : ℕ → ℕ → Option ℕ) → AreDistances owner (edges s) distance
+    → ComesToEnd s owner (own_bound owner distance parts s.horizon)
+
+-- whether a pick is of one of so many partitions, or a barrier
+abbrev pub IsPickOf : ℕ → Pick → Type 0
+IsPickOf parts (Part p) = p < parts
+IsPickOf parts Barrier = Unit {0}
+
+-- a machine that is not finished has a pick that takes effect
+abbrev pub MachinesGoOn : Type 0
+MachinesGoOn =
+    (owner : ℕ → ℕ) (parts horizon : ℕ) (m : Machine) → ((n : ℕ) → owner n < parts) → is_finished horizon m ≡ false
+    → (x : Pick) × IsPickOf parts x × (takes_effect owner horizon m x ≡ true)

@@ -1,0 +1,12 @@
+//! A run of a scenario in partitions, pick by pick: whatever is picked, it comes to the run of the
+//! whole scenario on one list.
+#![tactic(auto)]
+
+mod machine;
+#[cfg(test)]
+mod tests;
+
+pub use machine::{Machine, open_stage};
+pub use sim_exchange::PartMap;
+pub use sim_machine::Pick;
+pub use sim_stage::Ended;

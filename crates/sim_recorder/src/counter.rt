@@ -1,0 +1,40 @@
+//! A report as a run goes on.
+ghost use Rattle.std.specs.Prelude.{◌≡◌};
+ghost use Rattle.sim_clock.specs.declared.refusal.Refusal.TheVariants.{Memory};
+
+use sim_clock::Refusal;
+use sim_report::Report;
+use sim_sink::RowSink;
+use sqs_message::Row;
+
+/// Adds rows to a report, and keeps nothing else of them.
+///
+/// It refuses rows only with `Memory`. The report may then have some of them, and is not to be
+/// used again.
+#[derive(Drop)]
+pub struct Counter<'a> {
+    /// The report of the rows so far.
+    pub report: &'a mut Report,
+}
+
+impl RowSink for Counter<'_> {
+    ghost use Rattle.sim_recorder.specs.Laws.{counted_both, counted_none};
+    ghost use Rattle.sim_recorder.specs.Sinks.{Counted};
+
+    ghost ready = { λ _. Unit {0} };
+
+    ghost took = { λ before rows after. Counted before rows after };
+
+    ghost broke = { λ _ _ refusal _. refusal ≡ Memory };
+
+    fn take(&mut self, rows: &[Row]) -> Result<(), Refusal> {
+        self.report.add(rows)?;
+        Ok(())
+    }
+
+    ghost unchanged = { λ counter. counted_none counter };
+
+    ghost took_both = { λ a b c xs ys first second. counted_both a b c xs ys first second };
+
+    ghost broke_later = { λ _ _ _ _ _ _ _ broke. broke };
+}

@@ -1,0 +1,10 @@
+//! Sinks of a run's rows: a report alone, or a log and a report.
+#![tactic(auto)]
+
+mod counter;
+mod recorder;
+#[cfg(test)]
+mod tests;
+
+pub use counter::Counter;
+pub use recorder::Recorder;

@@ -1,0 +1,12 @@
+pub mod Places
+pub mod Picked
+pub mod Least
+pub mod Standing
+pub mod Stepping
+pub mod Meetings
+pub mod Delivering
+pub mod Playing
+pub mod Opening
+pub mod Joined
+pub mod Ending
+pub mod Rounds

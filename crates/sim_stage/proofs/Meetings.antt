@@ -1,0 +1,242 @@
+-- A machine at a barrier.
+use Rattle.std.specs.List.{range_with_len}
+use Rattle.std.specs.Ordering.{is_lt, on}
+use Rattle.std.specs.Prelude.{All, Bool, List, None, Ok, Option, Result, [], false, filter, get_or, if◌then◌else◌, length, map, not, true, ℕ, ◌++◌, ◌+◌, ◌<◌, ◌==◌, ◌∷◌, ◌≡◌, ◌≤◌, ◌||◌}
+use Rattle.std.specs.declared.cmp.Ordering.{Ordering}
+use Rattle.std.proofs.Common.{ap, arith, inl, inr, refl, subst, sym, true≢false, ◌∙◌}
+use Rattle.std.proofs.lemmas.Bool.{cases_lt, eqb-true}
+use Rattle.std.proofs.lemmas.List.FromFn.{length-map-range_with_len}
+use Rattle.std.proofs.lemmas.List.Elements.{All-cons, All-head, All-nil, All-tail, All-weaker}
+use Rattle.sim_clock.specs.declared.refusal.Refusal.{Refusal}
+use Rattle.sim_clock.specs.Order.{due_before, inserted_by, key_cmp}
+use Rattle.sim_exchange.specs.Layout.{owner_of}
+use Rattle.sim_exchange.specs.Table.{Table, distance_in}
+use Rattle.sim_machine.specs.Bounds.{bound_by, least_bound, moment_of, own_bound}
+use Rattle.sim_machine.specs.Exchange.{exchanged, sorted, sorted_into, to_part}
+use Rattle.sim_machine.specs.Kept.{KeepsBounds}
+use Rattle.sim_machine.specs.Machine.{Machine, flushed, has_ready, is_finished, with_barrier}
+use Rattle.sim_machine.specs.Merge.{merged_all, row_cmp}
+use Rattle.sim_machine.specs.Parts.{part_due, part_of}
+use Rattle.sim_machine.specs.Prefixes.{Holds, is_before, is_between}
+use Rattle.sim_machine.specs.Theorems.{rows_by}
+use Rattle.sim_machine.specs.declared.picks.Pick.{Pick}
+use Rattle.sim_machine.specs.declared.picks.Pick.TheVariants.{Barrier}
+use Rattle.sim_machine.proofs.EarlyRows.{part_empty}
+use Rattle.sim_machine.proofs.Exchange.{parts_get_sorted}
+use Rattle.sim_machine.proofs.Holding.{holds_at_own_bounds}
+use Rattle.sim_machine.proofs.Keeping.{machines_keep_bounds}
+use Rattle.sim_partition.specs.Sites.{IsOfPast, due_in}
+use Rattle.sim_partition.proofs.Delivered.{past_delivered}
+use Rattle.sim_partition.proofs.Handled.{Timely}
+use Rattle.sim_partition.proofs.Moments.{past_later}
+use Rattle.sim_stage.specs.Meeting.{AreReached, delivered_each, due_moments}
+use Rattle.sim_stage.specs.Stages.{AreNext, IsForward, Shows, Standing, Stands, Took, bounded_by, delivered_by, is_from, machine_in, settled_by}
+use Rattle.sim_stage.proofs.Least.{least_from, least_of_all, least_within, none_earlier, same_bounds}
+use Rattle.sim_stage.proofs.Picked.{filter_both, from_later}
+use Rattle.sim_stage.proofs.Places.{at_place, delivered_places, over, reached_places, same_from}
+use Rattle.sim_stage.proofs.Standing.{below, more_picks, stands_on}
+use Rattle.sqs_model.specs.Dues.{world_due}
+use Rattle.sqs_model.specs.Progress.{AreTimely}
+use Rattle.sqs_model.specs.Run.{IsRunOf, Run, delivered}
+use Rattle.sqs_model.specs.Scenario.{Scenario}
+use Rattle.sqs_model.specs.Site.{Site}
+use Rattle.sqs_redrive.specs.declared.transfers.Outbound.{Outbound}
+use Rattle.sqs_redrive.specs.Transfers.{transfer_key}
+
+module _ {A : Type 0} (P : A → Type 0) (R : A → A → Ordering) where
+  all_inserted : (x : A) (xs : List A) → P x → All P xs → All P (inserted_by R x xs)
+  all_inserted x [] p h = All-cons P x [] p (All-nil P)
+  all_inserted x (y ∷ ys) p h =
+      elim (is_lt (R x y)) as (λ b. All P (if b then x ∷ (y ∷ ys) else y ∷ inserted_by R x ys)) [
+        | true ↦ All-cons P x (y ∷ ys) p h
+        | false ↦ All-cons P y (inserted_by R x ys) (All-head P y ys h) (all_inserted x ys p (All-tail P y ys h))
+      ]
+
+module _ (P : Outbound → Type 0) where
+  all_into : (done os : List Outbound) → All P done → All P os → All P (sorted_into done os)
+  all_into done [] h k = h
+  all_into done (x ∷ xs) h k = all_into (inserted_by (on transfer_key key_cmp) x done) xs (all_inserted P (on transfer_key key_cmp) x done (All-head P x xs k) h) (All-tail P x xs k)
+
+  -- what holds of those to a partition holds of them sorted
+  all_to : (owner : ℕ → ℕ) (p : ℕ) (os : List Outbound) → All (λ x. owner x.to ≡ p → P x) os → All P (to_part owner p os)
+  all_to owner p [] h = All-nil P
+  all_to owner p (x ∷ xs) h =
+      elim (owner x.to == p) as (λ b. (owner x.to == p) ≡ b → All P (if b then x ∷ to_part owner p xs else to_part owner p xs)) [
+        | true ↦ λ e. All-cons P x (to_part owner p xs) (All-head (λ (y : Outbound). owner y.to ≡ p → P y) x xs h (eqb-true (owner x.to) p e)) (all_to owner p xs (All-tail (λ (y : Outbound). owner y.to ≡ p → P y) x xs h))
+        | false ↦ λ e. all_to owner p xs (All-tail (λ (y : Outbound). owner y.to ≡ p → P y) x xs h)
+      ] refl
+
+  pub all_sent : (owner : ℕ → ℕ) (p : ℕ) (os : List Outbound) → All (λ x. owner x.to ≡ p → P x) os → All P (sorted (to_part owner p os))
+  all_sent owner p os h = all_into [] (to_part owner p os) (All-nil P) (all_to owner p os h)
+
+-- bounds that are set by what is due in the partitions of a world
+pub bounds_set :
+    (owner : ℕ → ℕ) (table : Table) (horizon n : ℕ) (sites : List Site) (live : List (Result (List Site) Refusal)) → live ≡ map (λ p. Ok (part_of owner p sites)) (range_with_len 0 n)
+    → (parts : ℕ) → parts ≡ n → (bounds : List ℕ)
+    → bounds ≡ map (λ p. bound_by (distance_in table) horizon (λ q. get_or (due_moments live) q None) p parts) (range_with_len 0 parts)
+    → bounds ≡ map (own_bound owner (distance_in table) n horizon sites) (range_with_len 0 n)
+bounds_set owner table horizon n sites live is parts e bounds h =
+    let dues : List (Option ℕ) = due_moments live in
+    let due_is : dues ≡ map (λ p. moment_of (part_due owner p sites)) (range_with_len 0 n) =
+    ap (map (λ (p : Result (List Site) Refusal). moment_of (due_in p))) is
+    ∙ over (λ (p : Result (List Site) Refusal). moment_of (due_in p)) (λ p. Ok (part_of owner p sites)) 0 n in
+    let at : (q : ℕ) → q < n → get_or dues q None ≡ moment_of (part_due owner q sites) =
+    λ q l. ap (λ xs. get_or xs q None) due_is ∙ at_place (λ p. moment_of (part_due owner p sites)) n q None l in
+    h ∙ ap (λ k. map (λ p. bound_by (distance_in table) horizon (λ q. get_or dues q None) p k) (range_with_len 0 k)) e
+    ∙ same_from (λ p. bound_by (distance_in table) horizon (λ q. get_or dues q None) p n) (own_bound owner (distance_in table) n horizon sites) 0 n
+    (λ p l k. same_bounds (distance_in table) horizon (λ q. get_or dues q None) (λ q. moment_of (part_due owner q sites)) p n at)
+
+module _ (s : Scenario) (done : List Pick) (g : Standing) (st : Stands s done g) where
+  abbrev o : ℕ → ℕ
+  o = owner_of g.layout
+
+  abbrev n : ℕ
+  n = g.layout.parts
+
+  abbrev rule : List Site → ℕ → ℕ
+  rule = own_bound (owner_of g.layout) (distance_in g.distances) g.layout.parts s.horizon
+
+  abbrev m : Machine
+  m = machine_in g.layout g.distances s done
+
+  keeps : KeepsBounds o s.horizon rule m
+  keeps = machines_keep_bounds s st.sound o n (below s done g st) (distance_in g.distances) st.distances done
+
+  -- the sites of the partitions
+  abbrev pub parts_in : List (List Site)
+  parts_in = map (λ p. part_of (owner_of g.layout) p (machine_in g.layout g.distances s done).sites) (range_with_len 0 g.layout.parts)
+
+  pub live : g.parts ≡ map (λ w. Ok w) parts_in
+  live = st.shows.parts ∙ sym (over (λ (w : List Site). let x : Result (List Site) Refusal = Ok w in x) (λ p. part_of o p m.sites) 0 n)
+
+  abbrev sent_to : ℕ → List Outbound
+  sent_to p = sorted (to_part (owner_of g.layout) p (machine_in g.layout g.distances s done).waiting)
+
+  timely_to : (p : ℕ) → AreTimely (sent_to p)
+  timely_to p = all_sent Timely o p m.waiting (All-weaker Timely (λ (x : Outbound). o x.to ≡ p → Timely x) (λ x h e. h) m.waiting st.forward.timely)
+
+  reached_to : (p : ℕ) → p < n → All (λ x. All (IsOfPast x.at) (part_of o p m.sites)) (sent_to p)
+  reached_to p l =
+      all_sent (λ (x : Outbound). All (IsOfPast x.at) (part_of o p m.sites)) o p m.waiting
+      (All-weaker (λ (x : Outbound). m.bounds (o x.to) ≤ x.at) (λ (x : Outbound). o x.to ≡ p → All (IsOfPast x.at) (part_of o p m.sites))
+      (λ x h e. past_later (m.bounds p) x.at (part_of o p m.sites) (subst (λ q. m.bounds q ≤ x.at) e h) (st.forward.past p l)) m.waiting keeps.late)
+
+  -- what waits may be delivered
+  pub are_reached : AreReached g.parts (exchanged (owner_of g.layout) g.layout.parts g.waiting)
+  are_reached =
+      let all : AreReached (map (λ p. let x : Result (List Site) Refusal = Ok (part_of o p m.sites) in x) (range_with_len 0 n)) (map sent_to (range_with_len 0 n)) =
+      reached_places (λ p. Ok (part_of o p m.sites)) sent_to 0 n (λ p l k. record { past = reached_to p (omega arith); timely = timely_to p }) in
+      subst (λ os. AreReached g.parts (exchanged o n os)) (sym st.shows.waiting) (subst (λ ps. AreReached ps (map sent_to (range_with_len 0 n))) (sym st.shows.parts) all)
+
+  -- the partitions with what waited
+  pub delivered_in : map (λ w. let x : Result (List Site) Refusal = Ok w in x) (delivered_each (exchanged o n g.waiting) parts_in) ≡ map (λ p. Ok (part_of o p (flushed m))) (range_with_len 0 n)
+  delivered_in =
+      ap (λ os. map (λ w. let x : Result (List Site) Refusal = Ok w in x) (delivered_each (exchanged o n os) parts_in)) st.shows.waiting
+      ∙ ap (map (λ w. let x : Result (List Site) Refusal = Ok w in x)) (delivered_places sent_to (λ p. part_of o p m.sites) 0 n)
+      ∙ over (λ w. let x : Result (List Site) Refusal = Ok w in x) (λ p. delivered (sent_to p) (part_of o p m.sites)) 0 n
+      ∙ same_from (λ p. let x : Result (List Site) Refusal = Ok (delivered (sent_to p) (part_of o p m.sites)) in x) (λ p. Ok (part_of o p (flushed m))) 0 n
+      (λ p l k. ap (λ w. let x : Result (List Site) Refusal = Ok w in x) (sym (parts_get_sorted o p m.waiting m.sites)))
+
+  pub many_delivered : length (delivered_by g parts_in).parts ≡ g.layout.parts
+  many_delivered = ap (λ xs. length xs) delivered_in ∙ length-map-range_with_len (λ p. let x : Result (List Site) Refusal = Ok (part_of o p (flushed m)) in x) 0 n
+
+  -- the bounds that are set by what is due then
+  pub bounds_in :
+      (parts : ℕ) → parts ≡ n → (bounds : List ℕ)
+      → bounds ≡ map (λ p. bound_by (distance_in g.distances) s.horizon (λ q. get_or (due_moments (delivered_by g parts_in).parts) q None) p parts) (range_with_len 0 parts)
+      → bounds ≡ map (rule (flushed m)) (range_with_len 0 n)
+  bounds_in = bounds_set o g.distances s.horizon n (flushed m) (delivered_by g parts_in).parts delivered_in
+
+  module _ (stopped : has_ready (owner_of g.layout) (machine_in g.layout g.distances s done) ≡ false) (going : is_finished s.horizon (machine_in g.layout g.distances s done) ≡ false) where
+    at_barrier : machine_in g.layout g.distances s (done ++ Barrier ∷ []) ≡ with_barrier rule m
+    at_barrier =
+        more_picks s done g st (Barrier ∷ [])
+        ∙ ap (λ b. if b || is_finished s.horizon m then m else with_barrier rule m) stopped
+        ∙ ap (λ b. if b then m else with_barrier rule m) going
+
+    module _ (moment : ℕ) (least : moment ≡ least_bound s.horizon m.bounds n) where
+      within : moment ≤ s.horizon + 1
+      within = subst (λ k. k ≤ s.horizon + 1) (sym least) (least_within s.horizon m.bounds n)
+
+      no_later : (p : ℕ) → p < n → moment ≤ m.bounds p
+      no_later p l = subst (λ k. k ≤ m.bounds p) (sym least) (least_of_all s.horizon m.bounds n p l)
+
+      -- all that was settled is from before it
+      forward_to : g.settled ≤ moment
+      forward_to = subst (λ k. g.settled ≤ k) (sym least) (least_from g.settled s.horizon m.bounds n st.forward.within st.forward.reached)
+
+      past_in : (p : ℕ) → p < n → All (IsOfPast (rule (flushed m) p)) (part_of o p (flushed m))
+      past_in p l =
+          subst (All (IsOfPast (rule (flushed m) p))) (sym (parts_get_sorted o p m.waiting m.sites))
+          (past_later (m.bounds p) (rule (flushed m) p) (delivered (sent_to p) (part_of o p m.sites)) (keeps.grows stopped p)
+          (past_delivered (m.bounds p) (sent_to p) (part_of o p m.sites) (timely_to p) (st.forward.past p l)))
+
+      none_in : (p : ℕ) → due_before moment (part_due o p (flushed m)) ≡ None
+      none_in p =
+          elim (cases_lt p n) as (λ _. due_before moment (part_due o p (flushed m)) ≡ None) [
+            | inl l ↦ none_earlier moment (m.bounds p) (part_due o p (flushed m)) (no_later p l) (keeps.stopped stopped p)
+            | inr k ↦ ap (λ w. due_before moment (world_due w)) (part_empty o n p (below s done g st) (omega arith) (flushed m))
+          ]
+
+      -- what is settled there follows what was
+      pub next_in : AreNext s g.settled moment (merged_all row_cmp (map (filter (is_before moment)) g.rows))
+      next_in r w =
+          let holds : Holds s o n rule = holds_at_own_bounds s st.sound o n (below s done g st) (distance_in g.distances) st.distances in
+          let between : map (filter (is_before moment)) g.rows ≡ map (λ p. filter (is_between g.settled moment) (rows_by m.told p)) (range_with_len 0 n) =
+          ap (map (filter (is_before moment))) st.shows.rows
+          ∙ over (filter (is_before moment)) (λ p. filter (is_from g.settled) (rows_by m.told p)) 0 n
+          ∙ same_from (λ p. filter (is_before moment) (filter (is_from g.settled) (rows_by m.told p))) (λ p. filter (is_between g.settled moment) (rows_by m.told p)) 0 n
+          (λ p l k. filter_both (is_before moment) (is_from g.settled) (rows_by m.told p)) in
+          ap (λ z. filter (is_before g.settled) r.rows ++ merged_all row_cmp z) between
+          ∙ holds.next done g.settled moment r w forward_to (record { stopped = stopped; bounds = no_later })
+
+      -- it stands as the definitions' machine does after the barrier
+      pub meets : (bounds : List ℕ) → bounds ≡ map (rule (flushed m)) (range_with_len 0 n) → Stands s (done ++ Barrier ∷ []) (bounded_by (delivered_by (settled_by g moment) parts_in) bounds)
+      meets bounds h =
+          let g' : Standing = bounded_by (delivered_by (settled_by g moment) parts_in) bounds in
+          let shows : Shows g' (with_barrier rule m) = record {
+            parts = delivered_in;
+            bounds = h;
+            rows =
+                ap (map (filter (is_from moment))) st.shows.rows
+                ∙ over (filter (is_from moment)) (λ p. filter (is_from g.settled) (rows_by m.told p)) 0 n
+                ∙ same_from (λ p. filter (is_from moment) (filter (is_from g.settled) (rows_by m.told p))) (λ p. filter (is_from moment) (rows_by m.told p)) 0 n (λ p l k. from_later g.settled moment forward_to (rows_by m.told p));
+            waiting = refl;
+          } in
+          let forward : IsForward g.layout s.horizon moment (with_barrier rule m) = record {
+            past = past_in;
+            timely = All-nil Timely;
+            within = within;
+            reached = λ p l. let a : moment ≤ m.bounds p = no_later p l in let b : m.bounds p ≤ rule (flushed m) p = keeps.grows stopped p in omega arith;
+            none = none_in;
+          } in
+          record {
+            sound = st.sound;
+            layout = st.layout;
+            horizon = st.horizon;
+            range = st.range;
+            parts = st.parts;
+            distances = st.distances;
+            shows = subst (Shows g') (sym at_barrier) shows;
+            forward = subst (IsForward g.layout s.horizon moment) (sym at_barrier) forward;
+          }
+
+-- a barrier that is none
+pub barrier_none :
+    (s : Scenario) (done : List Pick) (g : Standing) (st : Stands s done g)
+    → (has_ready (owner_of g.layout) (machine_in g.layout g.distances s done) || is_finished s.horizon (machine_in g.layout g.distances s done)) ≡ true
+    → Took g g s done Barrier false
+barrier_none s done g st h =
+    let m : Machine = machine_in g.layout g.distances s done in
+    let rule : List Site → ℕ → ℕ = own_bound (owner_of g.layout) (distance_in g.distances) g.layout.parts s.horizon in
+    record {
+      stands = stands_on s done g st (Barrier ∷ []) (sym (more_picks s done g st (Barrier ∷ []) ∙ ap (λ b. if b then m else with_barrier rule m) h));
+      same = record { layout = refl; distances = refl };
+      effect = sym (ap (λ b. not b) h);
+    }
+
+-- what takes effect at a barrier
+pub goes_on : (a b : Bool) → not (a || b) ≡ true → (a ≡ false) × (b ≡ false)
+goes_on true b h = absurd (true≢false (sym h))
+goes_on false true h = absurd (true≢false (sym h))
+goes_on false false h = (refl, refl)

@@ -1,0 +1,97 @@
+-- A partition that ran to its bound by itself, and what it did handed back: so a machine stands some picks on.
+use Rattle.std.specs.Prelude.{All, Err, List, None, Ok, Option, Result, Some, [], get_or, length, set, suc, zero, ℕ, ◌++◌, ◌<◌, ◌∷◌, ◌≡◌}
+use Rattle.std.proofs.Common.{ap, append_assoc, arith, refl, subst, sym, ◌∙◌}
+use Rattle.std.proofs.lemmas.List.{append-nil, get_or-set_same, length-set, set-get_or, set-set}
+use Rattle.sim_clock.specs.declared.key.Key.{Key}
+use Rattle.sim_clock.specs.declared.refusal.Refusal.{Refusal}
+use Rattle.sim_clock.specs.Order.{due_before}
+use Rattle.sim_exchange.specs.Layout.{owner_of}
+use Rattle.sim_machine.specs.Machine.{ready}
+use Rattle.sim_machine.specs.Parts.{part_of}
+use Rattle.sim_machine.specs.Rounds.{PartRun, part_after, part_begun, part_on, part_ran, part_ran_at}
+use Rattle.sim_machine.specs.declared.picks.Pick.{Pick}
+use Rattle.sim_machine.specs.declared.picks.Pick.TheVariants.{Part}
+use Rattle.sim_machine.proofs.Worlds.{before_some}
+use Rattle.sim_partition.specs.Sites.{AreOfPast, IsOfPast, due_in}
+use Rattle.sim_partition.proofs.Handled.{past_among}
+use Rattle.sim_partition.proofs.Moments.{IsAfter, from_handled, past_from}
+use Rattle.sim_stage.specs.Stages.{Standing, Stands, StandsOn, machine_in}
+use Rattle.sim_stage.proofs.Standing.{many_parts, many_rows, part_at, ready_at}
+use Rattle.sim_stage.proofs.Stepping.{stepped_by, steps}
+use Rattle.sqs_message.specs.declared.row.Row.{Row}
+use Rattle.sqs_model.specs.Dues.{world_due}
+use Rattle.sqs_model.specs.Progress.{IsSound}
+use Rattle.sqs_model.specs.Run.{Stepped, handled_among}
+use Rattle.sqs_model.specs.Scenario.{Scenario}
+use Rattle.sqs_model.specs.Site.{Site}
+
+-- how a machine stands after so much of a partition
+abbrev pub ran_by : Standing → ℕ → PartRun → Standing
+ran_by g p r = record g { parts = set g.parts p (Ok r.sites); rows = set g.rows p (get_or g.rows p [] ++ r.rows); waiting = g.waiting ++ r.sent }
+
+-- it stands so after some picks, and the partition moves on in time
+pub record RunsOn (s : Scenario) (g : Standing) (p : ℕ) (r : PartRun) : Type 0 where
+  pub on : StandsOn s (ran_by g p r)
+  pub sound : All (λ x. IsSound x.core) r.sites
+  pub past : AreOfPast r.sites (world_due r.sites)
+
+same_sites : (v w : List Site) → (let x : Result (List Site) Refusal = Ok v in x) ≡ Ok w → v ≡ w
+same_sites v w e = cc
+
+none_ran : (g : Standing) (p : ℕ) (w : List Site) (d : Result (List Site) Refusal) → get_or g.parts p d ≡ Ok w → ran_by g p (part_begun w) ≡ g
+none_ran g p w d e =
+    let parts : set g.parts p (Ok w) ≡ g.parts = ap (set g.parts p) (sym e) ∙ set-get_or g.parts p d in
+    let rows : set g.rows p (get_or g.rows p [] ++ []) ≡ g.rows = ap (set g.rows p) (append-nil (get_or g.rows p [])) ∙ set-get_or g.rows p [] in
+    ap (λ (z : List (Result (List Site) Refusal)). let x : Standing = record g { parts = z; rows = set g.rows p (get_or g.rows p [] ++ []); waiting = g.waiting ++ [] } in x) parts
+    ∙ ap (λ (z : List (List Row)). let x : Standing = record g { rows = z; waiting = g.waiting ++ [] } in x) rows
+    ∙ ap (λ z. let x : Standing = record g { waiting = z } in x) (append-nil g.waiting)
+
+more_ran : (g : Standing) (p : ℕ) (r : PartRun) (t : Stepped) → p < length g.rows → stepped_by (ran_by g p r) p t ≡ ran_by g p (part_on r t)
+more_ran g p r t l =
+    let a : List Row = get_or g.rows p [] ++ r.rows in
+    let rows : set (set g.rows p a) p (get_or (set g.rows p a) p [] ++ t.rows) ≡ set g.rows p (get_or g.rows p [] ++ (r.rows ++ t.rows)) =
+    set-set g.rows p a (get_or (set g.rows p a) p [] ++ t.rows)
+    ∙ ap (λ z. set g.rows p (z ++ t.rows)) (get_or-set_same g.rows p a [] l)
+    ∙ ap (set g.rows p) (append_assoc (get_or g.rows p []) r.rows t.rows) in
+    ap (λ (z : List (Result (List Site) Refusal)). let x : Standing = record g { parts = z; rows = set (set g.rows p a) p (get_or (set g.rows p a) p [] ++ t.rows); waiting = g.waiting ++ r.sent ++ t.sent } in x) (set-set g.parts p (Ok r.sites) (Ok t.sites))
+    ∙ ap (λ (z : List (List Row)). let x : Standing = record g { parts = set g.parts p (Ok t.sites); rows = z; waiting = g.waiting ++ r.sent ++ t.sent } in x) rows
+    ∙ ap (λ z. let x : Standing = record g { parts = set g.parts p (Ok t.sites); rows = set g.rows p (get_or g.rows p [] ++ (r.rows ++ t.rows)); waiting = z } in x) (append_assoc g.waiting r.sent t.sent)
+
+module _ (s : Scenario) (g : Standing) (p bound : ℕ) (l : p < g.layout.parts) (b : get_or g.bounds p 0 ≡ bound) where
+  one_more : (r : PartRun) → RunsOn s g p r → (key : Key) → due_before bound (world_due r.sites) ≡ Some key → RunsOn s g p (part_on r (handled_among key r.sites))
+  one_more r h key e =
+      let g' : Standing = ran_by g p r in
+      let st : Stands s h.on.picks g' = h.on.stands in
+      let d : Result (List Site) Refusal = Ok [] in
+      let w : List Site = part_of (owner_of g.layout) p (machine_in g.layout g.distances s h.on.picks).sites in
+      let lp : p < length g.parts = omega (arith, l, many_parts s h.on.picks g' st, length-set g.parts p (Ok r.sites)) in
+      let lr : p < length g.rows = omega (arith, l, many_rows s h.on.picks g' st, length-set g.rows p (get_or g.rows p [] ++ r.rows)) in
+      let there : get_or g'.parts p d ≡ Ok r.sites = get_or-set_same g.parts p (Ok r.sites) d lp in
+      let is : r.sites ≡ w = same_sites r.sites w (sym there ∙ part_at s h.on.picks g' st p d l) in
+      let due : world_due r.sites ≡ Some key = before_some bound (world_due r.sites) key e in
+      let ready_is : ready (owner_of g.layout) p (machine_in g.layout g.distances s h.on.picks) ≡ Some key =
+      sym (ready_at s h.on.picks g' st p d 0 l) ∙ ap (λ k. due_before k (due_in (get_or g'.parts p d))) b ∙ ap (λ x. due_before bound (due_in x)) there ∙ e in
+      let past : All (IsOfPast key.at) r.sites = subst (AreOfPast r.sites) due h.past in
+      let made : Stands s (h.on.picks ++ Part p ∷ []) (stepped_by g' p (handled_among key w)) = steps s h.on.picks g' st p l key ready_is (subst (All (IsOfPast key.at)) is past) in
+      let after : IsAfter key (handled_among key r.sites).sites = from_handled key r.sites h.sound due in
+      record {
+        on = record {
+          picks = h.on.picks ++ Part p ∷ [];
+          stands =
+              subst (Stands s (h.on.picks ++ Part p ∷ [])) (more_ran g p r (handled_among key r.sites) lr)
+              (subst (λ v. Stands s (h.on.picks ++ Part p ∷ []) (stepped_by g' p (handled_among key v))) (sym is) made);
+        };
+        sound = after.sound;
+        past = past_from key.at (handled_among key r.sites).sites (world_due (handled_among key r.sites).sites) after.from (past_among key r.sites past).0;
+      }
+
+  one_more_at : (r : PartRun) → RunsOn s g p r → (d : Option Key) → due_before bound (world_due r.sites) ≡ d → RunsOn s g p (part_ran_at r d)
+  one_more_at r h None e = h
+  one_more_at r h (Some key) e = one_more r h key e
+
+  -- as many handlings as it took
+  pub runs_on : (n : ℕ) (w : List Site) (d : Result (List Site) Refusal) → StandsOn s g → get_or g.parts p d ≡ Ok w → All (λ x. IsSound x.core) w → AreOfPast w (world_due w) → RunsOn s g p (part_after bound n w)
+  runs_on zero w d on e sound past = record { on = subst (StandsOn s) (sym (none_ran g p w d e)) on; sound = sound; past = past }
+  runs_on (suc n) w d on e sound past =
+      let r : PartRun = part_after bound n w in
+      one_more_at r (runs_on n w d on e sound past) (due_before bound (world_due r.sites)) refl

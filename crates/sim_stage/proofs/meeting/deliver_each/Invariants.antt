@@ -1,0 +1,12 @@
+use Rattle.std.proofs.Common.{List, Ok, drop, length, map, ◌≡◌}
+use Rattle.sim_stage.specs.Meeting.{AreReached, delivered_each}
+use Rattle.sqs_model.specs.Site.{Site}
+use Rattle.sim_stage.proofs.meeting.deliver_each.Given as goal
+
+-- those so far have got theirs, and the others may get theirs
+abbrev pub invariant-loop-transfers : goal.invariant-loop-transfers
+invariant-loop-transfers l = record {
+  place : l.place ≡ length l.yielded;
+  reached : AreReached (drop l.place l.parts.items) (map (λ v. v.items) l.transfers-iterator.rest.items);
+  delivered : (ws : List (List Site)) → l.initial.parts.items ≡ map (λ w. Ok w) ws → l.parts.items ≡ map (λ w. Ok w) (delivered_each (map (λ v. v.items) l.yielded) ws);
+}

@@ -1,0 +1,24 @@
+use Rattle.std.specs.Prelude.{All, List, Ok, Result, Vec, map, ℕ, ◌++◌, ◌∷◌, [], ◌≡◌}
+use Rattle.std.proofs.Common.{Global, append_assoc, ap, subst, sym, ◌∙◌}
+use Rattle.std.proofs.lemmas.List.Elements.{All-tail}
+use Rattle.sim_clock.specs.declared.refusal.Refusal.{Refusal}
+use Rattle.sim_partition.specs.Sites.{IsPart, living}
+use Rattle.sim_stage.proofs.Places.{map_push}
+use Rattle.sqs_model.specs.Site.{Site}
+use Rattle.sim_site.specs.declared.site.Site.{Site as RustSite}
+use Rattle.sim_stage.proofs.parting.open_parts.Goals as goal
+
+pub loop-sites-preserved : goal.loop-sites-preserved
+loop-sites-preserved c =
+    let l = c.loop-sites in
+    let v = l.invariant in
+    let fits : Vec RustSite Global → Type 0 = λ x. IsPart x.items in
+    let opened : Vec RustSite Global → Result (List Site) Refusal = λ x. Ok (living x.items) in
+    let sites = c.in-Some.sites in
+    let more = c.next.new.self.rest.items in
+    let steps : l.sites-iterator.rest.items ≡ sites ∷ more = c.in-Some.ensures.steps.0 in
+    record {
+      rest = append_assoc l.yielded (sites ∷ []) more ∙ ap (λ r. l.yielded ++ r) (sym steps) ∙ v.rest;
+      fit = All-tail fits sites more (subst (All fits) steps v.fit);
+      made = c.in_ok-push.ensures.items ∙ ap (λ z. z ++ c.in_ok-new.field-0 ∷ []) v.made ∙ ap (λ z. map opened l.yielded ++ z ∷ []) c.in_ok-new.ensures ∙ sym (map_push opened l.yielded sites);
+    }

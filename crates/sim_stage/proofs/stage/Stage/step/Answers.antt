@@ -1,0 +1,119 @@
+use Rattle.std.specs.Option.{is_some}
+use Rattle.std.specs.Prelude.{All, IfOk, List, Ok, Result, Some, Vec, [], get_or, length, map, set, true, ℕ, ◌++◌, ◌<◌, ◌∷◌, ◌≡◌}
+use Rattle.std.proofs.Common.{Global, ap, arith, refl, subst, sym, ◌∙◌}
+use Rattle.std.proofs.lemmas.List.{get_or-map, length-map, map-set}
+use Rattle.std.proofs.lemmas.Result.{err_from_is_err_and}
+use Rattle.sim_clock.specs.declared.key.Key.{Key}
+use Rattle.sim_clock.specs.declared.refusal.Refusal.{Refusal}
+use Rattle.sim_exchange.specs.Layout.{owner_of}
+use Rattle.sim_machine.specs.Machine.{Machine, ready}
+use Rattle.sim_machine.specs.Parts.{part_of}
+use Rattle.sim_machine.specs.declared.picks.Pick.{Pick}
+use Rattle.sim_machine.specs.declared.picks.Pick.TheVariants.{Part}
+use Rattle.sim_machine.proofs.Machines.{not_some}
+use Rattle.sim_partition.specs.Sites.{AreOfPast, HasDue, IsOfPast}
+use Rattle.sim_partition.specs.Steps.{StopsStep}
+use Rattle.sim_stage.specs.Stages.{Standing, Stands, machine_in, standing_of}
+use Rattle.sim_stage.proofs.Standing.{many_parts, many_rows, none_past, part_at, ready_at}
+use Rattle.sim_stage.proofs.Stepping.{due_is, has_due, some_key, stepped_by, steps, stops_over, took_none}
+use Rattle.sqs_message.specs.declared.row.Row.{Row}
+use Rattle.sqs_model.specs.Dues.{world_due}
+use Rattle.sqs_model.specs.Run.{Stepped, handled_among}
+use Rattle.sqs_model.specs.Scenario.{Scenario}
+use Rattle.sqs_model.specs.Site.{Site}
+use Rattle.sim_stage.proofs.stage.Stage.step.Goals.{then-place-len-via-then-place-len, then-place-len-via-else-place-len+then-not-is_ready}
+use Rattle.sim_stage.proofs.stage.Stage.step.Goals as goal
+
+nobody : Result (List Site) Refusal
+nobody = Ok []
+
+pub returns-then-place-len-clause-took : goal.returns-then-place-len-clause-took
+returns-then-place-len-clause-took c = λ s done st.
+    let g : Standing = standing_of c.args.self.now in
+    let p = c.args.part in
+    let m : Machine = machine_in g.layout g.distances s done in
+    elim c.then-place-len.branch [
+      | then-place-len-via-then-place-len w ↦ took_none s done g st p (none_past s done g st p (omega (arith, w.if-place-len.true, c.len.ensures, c.args.self.now.parts.ok.0, many_parts s done g st)))
+      | then-place-len-via-else-place-len+then-not-is_ready w ↦
+          let within : p < g.layout.parts = omega (arith, w.if-place-len.false, c.len.ensures, c.args.self.now.parts.ok.0, many_parts s done g st) in
+          took_none s done g st p (not_some (ready (owner_of g.layout) p m) (ap is_some (sym (ready_at s done g st p nobody 0 within)) ∙ sym (w.is_ready.ensures.ready nobody) ∙ w.if-not-is_ready.true))
+    ]
+
+-- a partition that has something to handle
+record Here (s : Scenario) (done : List Pick) (g : Standing) (p : ℕ) (d : Result (List Site) Refusal) : Type 0 where
+  within : p < g.layout.parts
+  lives : d ≡ Ok (part_of (owner_of g.layout) p (machine_in g.layout g.distances s done).sites)
+  key : Key
+  ready_is : ready (owner_of g.layout) p (machine_in g.layout g.distances s done) ≡ Some key
+
+here :
+    (s : Scenario) (done : List Pick) (g : Standing) (st : Stands s done g) (p : ℕ) (d : Result (List Site) Refusal) → p < length g.parts → d ≡ get_or g.parts p d
+    → is_some (ready (owner_of g.layout) p (machine_in g.layout g.distances s done)) ≡ true → Here s done g p d
+here s done g st p d l is r =
+    let within : p < g.layout.parts = omega (arith, l, many_parts s done g st) in
+    let k : (key : Key) × (ready (owner_of g.layout) p (machine_in g.layout g.distances s done) ≡ Some key) = some_key (ready (owner_of g.layout) p (machine_in g.layout g.distances s done)) r in
+    record { within = within; lives = is ∙ part_at s done g st p d within; key = k.0; ready_is = k.1 }
+
+pub step-requires : goal.step-requires
+step-requires c =
+    let st = c.requires.stands in
+    let s : Scenario = c.requires.scenario in
+    let done : List Pick = c.requires.picks in
+    let g : Standing = standing_of c.args.self.now in
+    let p = c.args.part in
+    let d : Result (List Site) Refusal = c.index_mut.result.now in
+    let l : p < length g.parts = omega (arith, c.if-place-len.false, c.len.ensures, c.args.self.now.parts.ok.0) in
+    let within : p < g.layout.parts = omega (arith, l, many_parts s done g st) in
+    let h : Here s done g p d = here s done g st p d l c.index_mut.ensures.value (ap is_some (sym (ready_at s done g st p nobody 0 within)) ∙ sym (c.is_ready.ensures.ready nobody) ∙ c.if-not-is_ready.false) in
+    record { due = subst (λ (x : Result (List Site) Refusal). IfOk x HasDue) (sym h.lives) (has_due s done g st p within h.key h.ready_is) }
+
+pub returns-in_err-handled-clause-stops : goal.returns-in_err-handled-clause-stops
+returns-in_err-handled-clause-stops c = λ s done st.
+    let g : Standing = standing_of c.args.self.now in
+    let p = c.args.part in
+    let d : Result (List Site) Refusal = c.index_mut.result.now in
+    let l : p < length g.parts = omega (arith, c.if-place-len.false, c.len.ensures, c.args.self.now.parts.ok.0) in
+    let within : p < g.layout.parts = omega (arith, l, many_parts s done g st) in
+    let h : Here s done g p d = here s done g st p d l c.index_mut.ensures.value (ap is_some (sym (ready_at s done g st p nobody 0 within)) ∙ sym (c.is_ready.ensures.ready nobody) ∙ c.if-not-is_ready.false) in
+    let refusal : Refusal = c.in_err-handled.field-0.0 in
+    let told = err_from_is_err_and c.from_residual.result c.from_residual.ensures.1 in
+    let stops : (key : Key) → world_due (part_of (owner_of g.layout) p (machine_in g.layout g.distances s done).sites) ≡ Some key → StopsStep (handled_among key (part_of (owner_of g.layout) p (machine_in g.layout g.distances s done).sites)) refusal =
+    subst (λ (x : Result (List Site) Refusal). IfOk x (λ w. (key : Key) → world_due w ≡ Some key → StopsStep (handled_among key w) refusal)) h.lives c.in_err-handled.ensures.stops in
+    rw (told.1, told.2) (stops_over s done g st p within h.key h.ready_is refusal (stops h.key (due_is s done g st p within h.key h.ready_is)))
+
+pub returns-clause-took : goal.returns-clause-took
+returns-clause-took c = λ s done st.
+    let g : Standing = standing_of c.args.self.now in
+    let p = c.args.part in
+    let d : Result (List Site) Refusal = c.index_mut.result.now in
+    let l : p < length g.parts = omega (arith, c.if-place-len.false, c.len.ensures, c.args.self.now.parts.ok.0) in
+    let within : p < g.layout.parts = omega (arith, l, many_parts s done g st) in
+    let ready_some : is_some (ready (owner_of g.layout) p (machine_in g.layout g.distances s done)) ≡ true =
+    ap is_some (sym (ready_at s done g st p nobody 0 within)) ∙ sym (c.is_ready.ensures.ready nobody) ∙ c.if-not-is_ready.false in
+    let h : Here s done g p d = here s done g st p d l c.index_mut.ensures.value ready_some in
+    let w : List Site = part_of (owner_of g.layout) p (machine_in g.layout g.distances s done).sites in
+    let t : Stepped = handled_among h.key w in
+    let due : world_due w ≡ Some h.key = due_is s done g st p within h.key h.ready_is in
+    let made : (c.step.new.self ≡ Ok t.sites) × (c.in_ok-handled.handled.rows.items ≡ t.rows) × (c.in_ok-handled.handled.outbound.items ≡ t.sent) =
+    subst (λ (x : Result (List Site) Refusal). IfOk x (λ v. (key : Key) → world_due v ≡ Some key → (c.step.new.self ≡ Ok (handled_among key v).sites) × (c.in_ok-handled.handled.rows.items ≡ (handled_among key v).rows) × (c.in_ok-handled.handled.outbound.items ≡ (handled_among key v).sent))) h.lives c.in_ok-handled.ensures.handled h.key due in
+    let past : All (IsOfPast h.key.at) w =
+    subst (AreOfPast w) due (subst (λ (x : Result (List Site) Refusal). IfOk x (λ v. AreOfPast v (world_due v))) (sym c.index_mut.ensures.value ∙ h.lives) (c.is_ready.ensures.past d)) in
+    let rows : List (Vec Row Global) = c.args.self.now.rows.items in
+    let many : p < length rows = omega (arith, within, many_rows s done g st, length-map rows (λ (v : Vec Row Global). v.items)) in
+    let more : c.append.new.self.items ≡ get_or g.rows p [] ++ t.rows =
+    c.in_ok-append.ensures.items
+    ∙ ap (λ (v : Vec Row Global). v.items ++ c.in_ok-handled.handled.rows.items) c.index_mut-2.ensures.value
+    ∙ ap (λ z. z ++ c.in_ok-handled.handled.rows.items) (sym (get_or-map (λ (v : Vec Row Global). v.items) rows p c.index_mut-2.result.now [] many))
+    ∙ ap (λ z. get_or g.rows p [] ++ z) made.1 in
+    let after : Standing = record g { parts = set g.parts p c.step.new.self; rows = map (λ (v : Vec Row Global). v.items) (set rows p c.append.new.self); waiting = c.append-2.new.self.items } in
+    let same : after ≡ stepped_by g p t =
+    ap (λ (z : Result (List Site) Refusal). let x : Standing = record g { parts = set g.parts p z; rows = map (λ (v : Vec Row Global). v.items) (set rows p c.append.new.self); waiting = c.append-2.new.self.items } in x) made.0
+    ∙ ap (λ (z : List (List Row)). let x : Standing = record g { parts = set g.parts p (Ok t.sites); rows = z; waiting = c.append-2.new.self.items } in x)
+    (map-set (λ (v : Vec Row Global). v.items) rows p c.append.new.self ∙ ap (set g.rows p) more)
+    ∙ ap (λ z. let x : Standing = record g { parts = set g.parts p (Ok t.sites); rows = set g.rows p (get_or g.rows p [] ++ t.rows); waiting = z } in x)
+    (c.in_ok-append-2.ensures.items ∙ ap (λ z. g.waiting ++ z) made.2) in
+    record {
+      stands = subst (Stands s (done ++ Part p ∷ [])) (sym same) (steps s done g st p within h.key h.ready_is past);
+      same = record { layout = refl; distances = refl };
+      effect = sym ready_some;
+    }

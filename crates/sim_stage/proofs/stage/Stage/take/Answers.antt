@@ -1,0 +1,14 @@
+use Rattle.std.specs.Prelude.{IfOk}
+use Rattle.std.proofs.Common.{subst, sym}
+use Rattle.std.proofs.lemmas.Result.{IfOk-weaker}
+use Rattle.sim_machine.specs.declared.picks.Pick.{Pick}
+use Rattle.sim_stage.specs.Stages.{AreSettled, Took, standing_of}
+use Rattle.sim_stage.proofs.stage.Stage.take.Goals as goal
+
+pub returns-in-Part-clause-took : goal.returns-in-Part-clause-took
+returns-in-Part-clause-took c = λ s done st.
+    subst (λ (x : Pick). IfOk c.step.result (λ took. Took (standing_of c.args.self.now) (standing_of c.step.new.self) s done x took)) (sym c.in-Part.is) (c.step.ensures.took s done st)
+
+pub returns-in-Part-clause-settled : goal.returns-in-Part-clause-settled
+returns-in-Part-clause-settled c = λ s done st told.
+    IfOk-weaker c.step.result _ _ (λ took same. subst (λ moment. AreSettled s moment c.args.told.now.items) (sym same) told) c.step.ensures.settled

@@ -1,0 +1,304 @@
+//! What is kept of a machine of partitions while it lives, and what it does pick by pick.
+ghost use Rattle.std.specs.List.{list_all, range_with_len};
+ghost use Rattle.std.specs.Option.{is_some};
+ghost use Rattle.std.specs.Prelude.{◌≡◌, ◌≤◌, ◌++◌, ◌+◌, ◌<◌, ◌^◌, ◌∷◌, [], IfErr, IfOk, List, Ok, OnOk, Result, filter, get_or, length, map, nat_le, not, true};
+ghost use Rattle.sim_clock.specs.declared.refusal.Refusal.{Refusal as TheRefusal};
+ghost use Rattle.sim_clock.specs.Order.{due_before};
+ghost use Rattle.sim_machine.specs.Bounds.{least_bound};
+ghost use Rattle.sim_machine.specs.Exchange.{exchanged};
+ghost use Rattle.sim_machine.specs.Machine.{has_ready, is_finished};
+ghost use Rattle.sim_machine.specs.Merge.{merged_all, row_cmp};
+ghost use Rattle.sim_machine.specs.Prefixes.{is_before as is_row_before};
+ghost use Rattle.sim_machine.specs.declared.picks.Pick.{Pick as ThePick};
+ghost use Rattle.sim_machine.specs.declared.picks.Pick.TheVariants.{Barrier, Part};
+ghost use Rattle.sim_partition.specs.Sites.{AreOfPast, due_in};
+ghost use Rattle.sqs_model.specs.Dues.{world_due};
+ghost use Rattle.sim_site.specs.Effects.{StopsWhere};
+ghost use Rattle.sim_exchange.specs.Layout.{owner_of};
+ghost use Rattle.sqs_model.specs.Limits.{IsOver};
+ghost use Rattle.sqs_model.specs.Run.{due_by};
+ghost use Rattle.sqs_model.specs.Scenario.{Scenario as TheScenario};
+ghost use Rattle.sqs_model.specs.Site.{Site as TheSite};
+ghost use Rattle.sim_stage.specs.Meeting.{AreReached};
+ghost use Rattle.sim_stage.specs.Stages.{AreNext, AreSettled, HasBounds, HasRest, IsOpened, IsSame, IsStanding, Played, Stands, Took, delivered_by, machine_in, settled_by, standing_of, takes_effect_in};
+
+use crate::joining::join_sites;
+use crate::meeting::{bounds_of, deliver_each, dues_of};
+use crate::settling::settle;
+use sim_clock::{Key, Refusal};
+use sim_exchange::{Distances, PartMap, exchange, merge_rows};
+use sim_machine::Pick;
+use sim_partition::Partition;
+use sim_site::Site;
+use sqs_message::Row;
+use sqs_redrive::Outbound;
+use std::alloc::{AllocError, Global};
+use std::mem;
+
+/// The partitions of a world with the bound of each, the rows that each made and that are not
+/// settled yet, and the transfers that wait for a barrier; and the moment up to which all is settled.
+#[derive(Drop)]
+pub struct Stage {
+    pub alloc: Global,
+    pub layout: PartMap,
+    pub distances: Distances,
+    pub horizon: u64,
+    pub parts: Vec<Partition>,
+    pub bounds: Vec<u64>,
+    pub rows: Vec<Vec<Row>>,
+    pub waiting: Vec<Outbound>,
+    pub settled: u64,
+}
+
+/// What a machine comes to: its rows, in the order of keys, and the sites, by number.
+#[derive(Drop)]
+pub struct Ended {
+    pub rows: Vec<Row>,
+    pub sites: Vec<Site>,
+}
+
+// Whether something is due before a bound.
+fn is_before(due: Option<Key>, bound: u64) -> bool
+    ensures { result ≡ is_some (due_before bound due) }
+{
+    match due {
+        None => false,
+        Some(key) => key.at < bound,
+    }
+}
+
+// Whether something is due by the horizon.
+fn is_by(due: Option<Key>, horizon: u64) -> bool
+    ensures { result ≡ is_some (due_by horizon due) }
+{
+    match due {
+        None => false,
+        Some(key) => key.at <= horizon,
+    }
+}
+
+// The least of some bounds and the moment after the horizon.
+pub fn least_of(bounds: &[u64], horizon: u64) -> u64
+    requires { horizon + 1 < 2 ^ 64 }
+    ensures { result ≡ least_bound horizon (λ p. get_or bounds.now p 0) (length bounds.now) }
+{
+    let mut least = horizon + 1;
+    for bound in bounds {
+        least = least.min(*bound);
+    }
+    least
+}
+
+// Whether each transfer comes after the horizon.
+fn are_past(waiting: &[Outbound], horizon: u64) -> bool
+    ensures { result ≡ list_all (λ o. not (nat_le o.at horizon)) waiting.now }
+{
+    waiting.iter().all(|transfer| transfer.at > horizon)
+}
+
+// So many lists of rows, none of which has any.
+fn no_rows(alloc: Global, parts: usize) -> Result<Vec<Vec<Row>>, AllocError>
+    ensures { IfOk result (λ lists. map (λ l. l.items) lists.items ≡ map (λ p. []) (range_with_len 0 parts)) }
+{
+    let mut lists = Vec::new(alloc);
+    for _ in 0..parts {
+        lists.push(Vec::new(alloc))?;
+    }
+    Ok(lists)
+}
+
+impl Stage {
+    /// A stage of these partitions, at which nothing was done. The error is want of memory.
+    pub fn new(
+        alloc: Global,
+        layout: PartMap,
+        distances: Distances,
+        horizon: u64,
+        parts: Vec<Partition>,
+    ) -> Result<Stage, AllocError>
+        requires parts { length parts.items ≡ distances.parts }
+        requires range { distances.parts < 2 ^ 32 }
+        requires horizon { horizon + 1 < 2 ^ 64 }
+        ensures { IfOk result (λ g. IsOpened layout distances horizon parts.items (standing_of g)) }
+    {
+        let dues = dues_of(alloc, &parts)?;
+        let bounds = bounds_of(alloc, &distances, &dues, horizon)?;
+        let rows = no_rows(alloc, parts.len())?;
+        Ok(Stage {
+            alloc,
+            layout,
+            distances,
+            horizon,
+            parts,
+            bounds,
+            rows,
+            waiting: Vec::new(alloc),
+            settled: 0,
+        })
+    }
+
+    // Whether a partition, by its place, has something due before its bound.
+    fn is_ready(&self, place: usize) -> bool
+        requires parts { place < length self.now.parts.items }
+        requires bounds { place < length self.now.bounds.items }
+        ensures ready { (d : Result (List TheSite) TheRefusal) → result ≡ is_some (due_before (get_or self.now.bounds.items place 0) (due_in (get_or self.now.parts.items place d))) }
+        ensures past { (d : Result (List TheSite) TheRefusal) → IfOk (get_or self.now.parts.items place d) (λ w. AreOfPast w (world_due w)) }
+    {
+        is_before(self.parts[place].least_due(), self.bounds[place])
+    }
+
+    // Whether any partition has.
+    fn has_ready(&self) -> bool
+        requires { IsStanding (standing_of self.now) }
+        ensures { (s : TheScenario) (done : List ThePick) → Stands s done (standing_of self.now) → result ≡ has_ready (owner_of self.now.layout) (machine_in self.now.layout self.now.distances s done) }
+    {
+        for place in 0..self.parts.len() {
+            if self.is_ready(place) {
+                return true;
+            }
+        }
+        false
+    }
+
+    /// Whether nothing is left by the horizon, due or waiting.
+    pub fn is_finished(&self) -> bool
+        requires { IsStanding (standing_of self.now) }
+        ensures { (s : TheScenario) (done : List ThePick) → Stands s done (standing_of self.now) → result ≡ is_finished s.horizon (machine_in self.now.layout self.now.distances s done) }
+    {
+        for part in &self.parts {
+            if is_by(part.least_due(), self.horizon) {
+                return false;
+            }
+        }
+        are_past(&self.waiting, self.horizon)
+    }
+
+    // The least due of a partition is handled, if it comes before the partition's bound. Answers
+    // whether it did.
+    fn step(&mut self, part: u32) -> Result<bool, Refusal>
+        requires { IsStanding (standing_of self.old) }
+        ensures took { (s : TheScenario) (done : List ThePick) → Stands s done (standing_of self.old) → IfOk result (λ took. Took (standing_of self.old) (standing_of self.new) s done (Part part) took) }
+        ensures settled { IfOk result (λ _. self.new.settled ≡ self.old.settled) }
+        ensures stops { (s : TheScenario) (done : List ThePick) → Stands s done (standing_of self.old) → IfErr result (StopsWhere (IsOver s)) }
+    {
+        let place = part as usize;
+        if place >= self.parts.len() || !self.is_ready(place) {
+            return Ok(false);
+        }
+        let mut handled = self.parts[place].step()?;
+        self.rows[place].append(&mut handled.rows)?;
+        self.waiting.append(&mut handled.outbound)?;
+        Ok(true)
+    }
+
+    // Each partition gets what waits for it.
+    fn deliver(&mut self) -> Result<(), Refusal>
+        requires reached { AreReached self.old.parts.items (exchanged (owner_of self.old.layout) self.old.layout.parts self.old.waiting.items) }
+        ensures delivered { (ws : List (List TheSite)) → self.old.parts.items ≡ map (λ w. Ok w) ws → OnOk result (standing_of self.new ≡ delivered_by (standing_of self.old) ws) }
+        ensures memory { (ws : List (List TheSite)) → self.old.parts.items ≡ map (λ w. Ok w) ws → IfErr result (λ refusal. refusal ≡ Refusal.Memory) }
+    {
+        let waiting = mem::replace(&mut self.waiting, Vec::new(self.alloc));
+        let mut sent = Vec::new(self.alloc);
+        sent.push(waiting)?;
+        let lists = exchange(self.alloc, sent, &self.layout)?;
+        deliver_each(&mut self.parts, lists)
+    }
+
+    // The rows from before a moment are settled. Answers them, in the order of keys.
+    fn settle(&mut self, moment: u64) -> Result<Vec<Row>, AllocError>
+        ensures settled { IfOk result (λ _. standing_of self.new ≡ settled_by (standing_of self.old) moment) }
+        ensures rows { IfOk result (λ rows. rows.items ≡ merged_all row_cmp (map (filter (is_row_before moment)) (standing_of self.old).rows)) }
+    {
+        let rows = mem::replace(&mut self.rows, Vec::new(self.alloc));
+        let settled = settle(self.alloc, rows, moment)?;
+        self.rows = settled.kept;
+        self.settled = moment;
+        Ok(settled.rows)
+    }
+
+    // The bounds are set anew.
+    fn set_bounds(&mut self) -> Result<(), AllocError>
+        requires parts { length self.old.parts.items ≡ self.old.distances.parts }
+        requires range { self.old.distances.parts < 2 ^ 32 }
+        requires horizon { self.old.horizon + 1 < 2 ^ 64 }
+        ensures { OnOk result (HasBounds (standing_of self.old) (standing_of self.new)) }
+    {
+        let dues = dues_of(self.alloc, &self.parts)?;
+        self.bounds = bounds_of(self.alloc, &self.distances, &dues, self.horizon)?;
+        Ok(())
+    }
+
+    /// What waits is delivered, what nothing can come before any more is settled, and the bounds are
+    /// set anew. Answers the rows that are settled, in the order of keys; they follow those before.
+    pub fn meet(&mut self) -> Result<Vec<Row>, Refusal>
+        requires stands { IsStanding (standing_of self.old) }
+        ensures met { (s : TheScenario) (done : List ThePick) → Stands s done (standing_of self.old) → takes_effect_in (standing_of self.old) s done Barrier ≡ true → IfOk result (λ _. Stands s (done ++ Barrier ∷ []) (standing_of self.new) × IsSame (standing_of self.old) (standing_of self.new)) }
+        ensures next { (s : TheScenario) (done : List ThePick) → Stands s done (standing_of self.old) → takes_effect_in (standing_of self.old) s done Barrier ≡ true → IfOk result (λ rows. AreNext s self.old.settled self.new.settled rows.items) }
+        ensures memory { IfErr result (λ refusal. refusal ≡ Refusal.Memory) }
+    {
+        let moment = least_of(&self.bounds, self.horizon);
+        let rows = self.settle(moment)?;
+        self.deliver()?;
+        self.set_bounds()?;
+        Ok(rows)
+    }
+
+    // A barrier, if no partition may go on and something is left; the rows that are settled are added
+    // to those before. Answers whether it was one.
+    fn barrier(&mut self, told: &mut Vec<Row>) -> Result<bool, Refusal>
+        requires { IsStanding (standing_of self.old) }
+        ensures settled { (s : TheScenario) (done : List ThePick) → Stands s done (standing_of self.old) → AreSettled s self.old.settled told.old.items → IfOk result (λ _. AreSettled s self.new.settled told.new.items) }
+        ensures took { (s : TheScenario) (done : List ThePick) → Stands s done (standing_of self.old) → IfOk result (λ took. Took (standing_of self.old) (standing_of self.new) s done Barrier took) }
+        ensures memory { IfErr result (λ refusal. refusal ≡ Refusal.Memory) }
+    {
+        if self.has_ready() || self.is_finished() {
+            return Ok(false);
+        }
+        let mut rows = self.meet()?;
+        told.append(&mut rows)?;
+        Ok(true)
+    }
+
+    // Does one thing more. Answers whether it took effect.
+    fn take(&mut self, pick: Pick, told: &mut Vec<Row>) -> Result<bool, Refusal>
+        requires { IsStanding (standing_of self.old) }
+        ensures settled { (s : TheScenario) (done : List ThePick) → Stands s done (standing_of self.old) → AreSettled s self.old.settled told.old.items → IfOk result (λ _. AreSettled s self.new.settled told.new.items) }
+        ensures took { (s : TheScenario) (done : List ThePick) → Stands s done (standing_of self.old) → IfOk result (λ took. Took (standing_of self.old) (standing_of self.new) s done pick took) }
+        ensures stops { (s : TheScenario) (done : List ThePick) → Stands s done (standing_of self.old) → IfErr result (StopsWhere (IsOver s)) }
+    {
+        match pick {
+            Pick::Part(part) => self.step(part),
+            Pick::Barrier => self.barrier(told),
+        }
+    }
+
+    /// Does some things more, one after another; the rows that are settled are added to those
+    /// before. Answers how many took effect.
+    pub fn play(&mut self, picks: &[Pick], told: &mut Vec<Row>) -> Result<u64, Refusal>
+        requires { IsStanding (standing_of self.old) }
+        ensures settled { (s : TheScenario) (done : List ThePick) → Stands s done (standing_of self.old) → AreSettled s self.old.settled told.old.items → IfOk result (λ _. AreSettled s self.new.settled told.new.items) }
+        ensures played { (s : TheScenario) (done : List ThePick) → Stands s done (standing_of self.old) → IfOk result (λ count. Played (standing_of self.old) (standing_of self.new) s done picks.now count) }
+        ensures stops { (s : TheScenario) (done : List ThePick) → Stands s done (standing_of self.old) → IfErr result (StopsWhere (IsOver s)) }
+    {
+        let mut effects = 0;
+        for pick in picks {
+            if self.take(*pick, told)? {
+                effects += 1;
+            }
+        }
+        Ok(effects)
+    }
+
+    /// The rows that are not settled, in the order of keys, and all sites by number, with what waits on
+    /// its way to them. The error is want of memory.
+    pub fn into_run(mut self) -> Result<Ended, Refusal>
+        requires { IsStanding (standing_of self) }
+        ensures ended { (s : TheScenario) (done : List ThePick) → Stands s done (standing_of self) → is_finished s.horizon (machine_in self.layout self.distances s done) ≡ true → IfOk result (λ ended. HasRest s self.settled ended.rows.items ended.sites.items) }
+        ensures memory { IfErr result (λ refusal. refusal ≡ Refusal.Memory) }
+    {
+        self.deliver()?;
+        let rows = merge_rows(self.alloc, self.rows)?;
+        let sites = join_sites(self.alloc, self.parts, &self.layout)?;
+        Ok(Ended { rows, sites })
+    }
+}

@@ -1,0 +1,11 @@
+//! What is kept of the places of a list so that the list is not gone over: a tree of marks, by which
+//! the least of what is due, its place, and the next place with a message on a host are found.
+#![tactic(auto)]
+
+mod mark;
+mod marks;
+#[cfg(test)]
+mod tests;
+
+pub use mark::Mark;
+pub use marks::Marks;
