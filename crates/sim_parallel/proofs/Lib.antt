@@ -1,0 +1,5 @@
+pub mod Back
+pub mod Fronts
+pub mod Refused
+pub mod Ranges
+pub mod Ran

@@ -1,0 +1,118 @@
+-- Why a round is refused: want of memory, or a count that the scenario's run takes past the limit.
+use Rattle.std.specs.Prelude.{Err, List, None, Ok, Option, Result, Some, [], get_or, length, suc, ℕ, ◌++◌, ◌<◌, ◌∷◌, ◌≡◌, ◌≤◌, ◌⊎◌}
+use Rattle.std.proofs.Common.{ap, arith, inl, inr, refl, subst, sym, ◌∙◌}
+use Rattle.sim_clock.specs.declared.refusal.Refusal.{Refusal}
+use Rattle.sim_clock.specs.declared.refusal.Refusal.TheVariants as refusals
+use Rattle.sim_exchange.specs.Layout.{owner_of}
+use Rattle.sim_exchange.specs.Table.{distance_in}
+use Rattle.sim_machine.specs.Bounds.{own_bound}
+use Rattle.sim_machine.specs.Machine.{Machine}
+use Rattle.sim_machine.specs.Parts.{part_of}
+use Rattle.sim_machine.specs.Prefixes.{part_count}
+use Rattle.sim_machine.specs.Rounds.{PartRun, part_after, picks_of}
+use Rattle.sim_machine.specs.Theorems.{rows_by}
+use Rattle.sim_machine.specs.declared.picks.Pick.{Pick}
+use Rattle.sim_machine.proofs.Holding.{holds_at_own_bounds}
+use Rattle.sim_machine.proofs.Rounds.{HasRun, part_runs}
+use Rattle.sim_partition.specs.Steps.{StopsRun, ran_count}
+use Rattle.sim_site.specs.Effects.{StopsWhere}
+use Rattle.sim_site.proofs.Passing.{more_passes, rows_after, stops_for}
+use Rattle.sim_stage.specs.Stages.{Standing, Stands, machine_in}
+use Rattle.sim_stage.proofs.Standing.{below, bound_at, many_parts, more_picks, part_at}
+use Rattle.sim_workers.specs.Pieces.{Comes}
+use Rattle.sim_workers.specs.Rounds.{AllCome, IsRefusedRound, graver, gravest_from, gravest_of}
+use Rattle.sim_workers.specs.declared.piece.Came.{Came}
+use Rattle.sqs_model.specs.Answers.{most_count}
+use Rattle.sqs_model.specs.Limits.{IsOver, rows_count, run_count, sites_count}
+use Rattle.sqs_model.specs.Run.{after}
+use Rattle.sqs_model.specs.Scenario.{Scenario, opening}
+use Rattle.sqs_model.specs.Site.{Site}
+
+-- a partition that is refused
+pub record IsSpent (bs : List ℕ) (ps : List (Result (List Site) Refusal)) (d : Result (List Site) Refusal) (e : Refusal) : Type 0 where
+  pub place : ℕ
+  pub within : place < length ps
+  pub comes : Comes (get_or bs place 0) (get_or ps place d) (Err e)
+
+further : (b : ℕ) (bs : List ℕ) (p : Result (List Site) Refusal) (ps : List (Result (List Site) Refusal)) (d : Result (List Site) Refusal) (e : Refusal) → IsSpent bs ps d e → IsSpent (b ∷ bs) (p ∷ ps) d e
+further b bs p ps d e h = record { place = suc h.place; within = omega (arith, h.within); comes = h.comes }
+
+graver_is : (f x : Refusal) → (graver f x ≡ f) ⊎ (graver f x ≡ x)
+graver_is f refusals.Memory = inr refl
+graver_is f x = inl refl
+
+gravest_is : (before : Option Refusal) (x e : Refusal) → gravest_of before x ≡ e → (before ≡ Some e) ⊎ (x ≡ e)
+gravest_is None x e h = inr h
+gravest_is (Some f) x e h = elim (graver_is f x) as (λ _. (let o : Option Refusal = Some f in o ≡ Some e) ⊎ (x ≡ e)) [ inl k ↦ inl (ap (λ (y : Refusal). Some y) (sym k ∙ h)) | inr k ↦ inr (sym k ∙ h) ]
+
+same_refusal : (x e : Refusal) → (let o : Option Refusal = Some x in o) ≡ Some e → x ≡ e
+same_refusal x e h = cc
+
+spent_among :
+    (bs : List ℕ) (ps : List (Result (List Site) Refusal)) (os : List (Result Came Refusal)) (d : Result (List Site) Refusal) (before : Option Refusal) (e : Refusal)
+    → AllCome bs ps os → gravest_from before os ≡ Some e → (before ≡ Some e) ⊎ IsSpent bs ps d e
+spent_among [] [] [] d before e h g = inl g
+spent_among [] [] (o ∷ os) d before e h g = absurd h
+spent_among [] (p ∷ ps) [] d before e h g = absurd h
+spent_among [] (p ∷ ps) (o ∷ os) d before e h g = absurd h
+spent_among (b ∷ bs) [] [] d before e h g = absurd h
+spent_among (b ∷ bs) [] (o ∷ os) d before e h g = absurd h
+spent_among (b ∷ bs) (p ∷ ps) [] d before e h g = absurd h
+spent_among (b ∷ bs) (p ∷ ps) (Ok c ∷ os) d before e h g =
+    elim (spent_among bs ps os d before e h.1 g) as (λ _. (before ≡ Some e) ⊎ IsSpent (b ∷ bs) (p ∷ ps) d e) [ inl k ↦ inl k | inr k ↦ inr (further b bs p ps d e k) ]
+spent_among (b ∷ bs) (p ∷ ps) (Err x ∷ os) d before e h g =
+    elim (spent_among bs ps os d (Some (gravest_of before x)) e h.1 g) as (λ _. (before ≡ Some e) ⊎ IsSpent (b ∷ bs) (p ∷ ps) d e) [
+      | inl k ↦
+          elim (gravest_is before x e (same_refusal (gravest_of before x) e k)) as (λ _. (before ≡ Some e) ⊎ IsSpent (b ∷ bs) (p ∷ ps) d e) [
+            | inl i ↦ inl i
+            | inr i ↦ inr (record { place = 0; within = omega arith; comes = subst (λ y. Comes b p (Err y)) i h.0 })
+          ]
+      | inr k ↦ inr (further b bs p ps d e k)
+    ]
+
+no_refusal : (e : Refusal) → (let o : Option Refusal = None in o) ≡ Some e → ⊥
+no_refusal e h = cc
+
+module _ (s : Scenario) (done : List Pick) (g : Standing) (st : Stands s done g) where
+  abbrev o : ℕ → ℕ
+  o = owner_of g.layout
+
+  abbrev rule : List Site → ℕ → ℕ
+  rule = own_bound (owner_of g.layout) (distance_in g.distances) g.layout.parts s.horizon
+
+  abbrev m : Machine
+  m = machine_in g.layout g.distances s done
+
+  -- where a partition's run passes a count, the scenario's does
+  part_over : (p : ℕ) (e : Refusal) → StopsRun (m.bounds p) (part_of o p m.sites) e → StopsWhere (IsOver s) e
+  part_over p e h =
+      let w : List Site = part_of o p m.sites in
+      let bound : ℕ = m.bounds p in
+      stops_for ((n : ℕ) × (most_count < ran_count (part_after bound n w))) (IsOver s) e
+      (λ passes.
+      let picks : List Pick = picks_of p passes.0 in
+      let r : PartRun = part_after bound passes.0 w in
+      let x : Machine = machine_in g.layout g.distances s (done ++ picks) in
+      let ran : HasRun o s.horizon rule p m r x = subst (λ (y : Machine). HasRun o s.horizon rule p m r y) (sym (more_picks s done g st picks)) (part_runs o s.horizon rule p passes.0 m) in
+      let counts : (n : ℕ) × (part_count o p x ≤ run_count (after s.horizon n (opening s))) =
+      (holds_at_own_bounds s st.sound o g.layout.parts (below s done g st) (distance_in g.distances) st.distances).counts (done ++ picks) p in
+      let sites : sites_count r.sites ≤ sites_count (part_of o p x.sites) = omega (arith, ap sites_count ran.sites) in
+      let rows : rows_count r.rows ≤ rows_count (rows_by x.told p) = subst (λ z. rows_count r.rows ≤ rows_count z) (sym ran.rows) (rows_after (rows_by m.told p) r.rows) in
+      let more : most_count < part_count o p x = more_passes (sites_count r.sites) (rows_count r.rows) (sites_count (part_of o p x.sites)) (rows_count (rows_by x.told p)) sites rows passes.1 in
+      (counts.0, omega (arith, counts.1))) h
+
+  spent_over : (d : Result (List Site) Refusal) (e : Refusal) → IsSpent g.bounds g.parts d e → StopsWhere (IsOver s) e
+  spent_over d e h =
+      let l : h.place < g.layout.parts = omega (arith, h.within, many_parts s done g st) in
+      part_over h.place e
+      (subst (λ p. Comes (m.bounds h.place) p (Err e)) (part_at s done g st h.place d l) (subst (λ b. Comes b (get_or g.parts h.place d) (Err e)) (bound_at s done g st h.place 0 l) h.comes))
+
+  -- so it is of a round
+  pub round_over : (e : Refusal) → IsRefusedRound g.bounds g.parts e → StopsWhere (IsOver s) e
+  round_over e (inl memory) = subst (StopsWhere (IsOver s)) (sym memory) tt
+  round_over e (inr refused) =
+      let d : Result (List Site) Refusal = Ok [] in
+      elim (spent_among g.bounds g.parts refused.outcomes d None e refused.come refused.graver) as (λ _. StopsWhere (IsOver s) e) [
+        | inl k ↦ absurd (no_refusal e k)
+        | inr k ↦ spent_over d e k
+      ]

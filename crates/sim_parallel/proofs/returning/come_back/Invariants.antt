@@ -1,0 +1,21 @@
+use Rattle.std.proofs.Common.{List, Result, drop, length, map, ◌++◌, ◌≡◌}
+use Rattle.sim_clock.specs.declared.refusal.Refusal.{Refusal}
+use Rattle.sim_parallel.specs.Runs.{with_parts}
+use Rattle.sim_stage.specs.Stages.{IsSame, StandsOn, standing_of}
+use Rattle.sim_workers.specs.Rounds.{HaveCome}
+use Rattle.sqs_model.specs.Scenario.{Scenario}
+use Rattle.sqs_model.specs.Site.{Site}
+use Rattle.sim_parallel.proofs.returning.come_back.Given as goal
+
+-- those so far are back, and the others are still out
+abbrev pub invariant-loop-one : goal.invariant-loop-one
+invariant-loop-one l = record {
+  rest : l.yielded ++ l.one-iterator.rest.items ≡ l.fn.came.items;
+  place : l.place ≡ length l.yielded;
+  parts : l.stage.parts.items ≡ map (λ c. c.part) l.yielded;
+  rows : length l.stage.rows.items ≡ length l.initial.stage.rows.items;
+  bounds : l.stage.bounds.items ≡ l.initial.stage.bounds.items;
+  same : IsSame (standing_of l.initial.stage) (standing_of l.stage);
+  settled : l.stage.settled ≡ l.initial.stage.settled;
+  back : (s : Scenario) (parts : List (Result (List Site) Refusal)) → StandsOn s (with_parts parts (standing_of l.initial.stage)) → HaveCome l.initial.stage.bounds.items parts l.fn.came.items → StandsOn s (with_parts (l.stage.parts.items ++ drop l.place parts) (standing_of l.stage));
+}

@@ -1,0 +1,151 @@
+//! A whole run: its threads, started once, and its rounds.
+ghost use Rattle.std.specs.Prelude.{◌≡◌, ◌≤◌, ◌<◌, Err, IfErr, IfOk, OnOk, length, vec_capacity, vec_len};
+ghost use Rattle.sim_handoff.specs.Seats.{owner_record, owner_table, places_of, table_of};
+ghost use Rattle.sim_stage.specs.Stages.{IsStanding, StandsOn, standing_of};
+ghost use Rattle.sim_windows.specs.Sinks.{HasTaken};
+ghost use Rattle.sim_parallel.specs.Runs.{RanOn, StopsAnyhow};
+ghost use Rattle.sim_workers.specs.Owners.{IsAllFree};
+ghost use Rattle.sqs_model.specs.Scenario.{Scenario as TheScenario, least_latency as the_least_latency};
+
+use crate::rounds::run_stage;
+use sim_clock::Refusal;
+use sim_exchange::PartMap;
+use sim_handoff::{Handoff, Owner};
+use sim_picks::open_stage;
+use sim_scenario::{Scenario, least_latency};
+use sim_sink::RowSink;
+use sim_site::Site;
+use sim_stage::Stage;
+use sim_workers::{Gate, Running, join_all, start_all};
+use std::alloc::Global;
+use std::sync::Wait;
+use std::thread;
+use std::thread::{JoinHandle, Threads};
+
+// Starts the threads, runs, and joins all threads that were started. Where the start of one is
+// refused, it does not run. Gives the two references back.
+fn run_in_scope<'a, 'b, G: Gate<Running> + Sync, K: RowSink, W: Threads + Wait + Sync>(
+    rt: &W,
+    handoff: &Handoff<Running>,
+    mut owner: Owner<Running>,
+    gate: &G,
+    mut handles: Vec<JoinHandle<()>>,
+    threads: usize,
+    stage: Stage,
+    sink: &'a mut K,
+    outcome: &'b mut Result<Vec<Site>, Refusal>,
+) -> (&'a mut K, &'b mut Result<Vec<Site>, Refusal>)
+    requires here { owner_table owner ≡ table_of handoff.now }
+    requires places { length stage.parts.items ≡ places_of handoff.now }
+    requires free { IsAllFree (owner_record owner) }
+    requires stands { IsStanding (standing_of stage) }
+    requires fresh { stage.settled ≡ 0 }
+    requires ready { K.ready sink.old }
+    requires room { (vec_len handles ≡ 0) × (threads ≤ vec_capacity handles) }
+    requires none { outcome.old ≡ Err Refusal.NoWorker }
+    ensures same_sink { result.0.ghost_name ≡ sink.entry.ghost_name }
+    ensures same_outcome { result.1.ghost_name ≡ outcome.entry.ghost_name }
+    ensures ran { (s : TheScenario) → StandsOn s (standing_of stage) → RanOn K.ready K.took K.broke s sink.entry.now result.1.now result.0.now }
+{
+    thread::scope(
+        thread::scope_env(),
+        rt,
+        move |scope| -> (&mut K, &mut Result<Vec<Site>, Refusal>)
+            requires here { owner_table owner ≡ table_of handoff.now }
+            requires places { length stage.parts.items ≡ places_of handoff.now }
+            requires free { IsAllFree (owner_record owner) }
+            requires stands { IsStanding (standing_of stage) }
+            requires fresh { stage.settled ≡ 0 }
+            requires ready { K.ready sink.now }
+            requires room { (vec_len handles ≡ 0) × (threads ≤ vec_capacity handles) }
+            requires none { outcome.now ≡ Err Refusal.NoWorker }
+            ensures same_sink { result.0.ghost_name ≡ sink.entry.ghost_name }
+            ensures same_outcome { result.1.ghost_name ≡ outcome.entry.ghost_name }
+            ensures ran { (s : TheScenario) → StandsOn s (standing_of stage) → RanOn K.ready K.took K.broke s sink.entry.now result.1.now result.0.now }
+        {
+            let mut hand = owner.hand(handoff);
+            let ready = start_all(scope, rt, handoff, &mut owner, gate, &mut handles, threads);
+            if ready {
+                *outcome = run_stage(rt, handoff, &mut owner, &mut hand, gate, stage, sink);
+            }
+            owner.stop(handoff);
+            join_all(rt, handles);
+            (sink, outcome)
+        },
+    )
+}
+
+// Runs a stage with these threads to be. Where the start of one is refused, the sink takes nothing.
+fn run_threads<G: Gate<Running> + Sync, K: RowSink, W: Threads + Wait + Sync>(
+    rt: &W,
+    handoff: &Handoff<Running>,
+    owner: Owner<Running>,
+    gate: &G,
+    handles: Vec<JoinHandle<()>>,
+    threads: usize,
+    stage: Stage,
+    sink: &mut K,
+) -> Result<Vec<Site>, Refusal>
+    requires here { owner_table owner ≡ table_of handoff.now }
+    requires places { length stage.parts.items ≡ places_of handoff.now }
+    requires free { IsAllFree (owner_record owner) }
+    requires stands { IsStanding (standing_of stage) }
+    requires fresh { stage.settled ≡ 0 }
+    requires ready { K.ready sink.old }
+    requires room { (vec_len handles ≡ 0) × (threads ≤ vec_capacity handles) }
+    ensures { (s : TheScenario) → StandsOn s (standing_of stage) → RanOn K.ready K.took K.broke s sink.old result sink.new }
+{
+    let mut outcome = Err(Refusal::NoWorker);
+    run_in_scope(
+        rt,
+        handoff,
+        owner,
+        gate,
+        handles,
+        threads,
+        stage,
+        sink,
+        &mut outcome,
+    );
+    outcome
+}
+
+/// Runs a scenario to its horizon, its queues in partitions by a map, with so many workers: one on the
+/// caller's thread, the others each on a thread of its own, started once. Each partition runs to a bound
+/// of its own, set anew at each barrier; the rows that nothing can come before any more go to the sink
+/// there. Answers the sites of the last world, by number. All threads are joined by then. The window, in
+/// milliseconds, is checked and bounds nothing.
+///
+/// # Errors
+///
+/// `WindowTooLong` where the window is longer than the least latency of the scenario's transfers, and
+/// `NoWorker` where the start of a thread is refused: the sink took nothing. `Memory` where a growth is
+/// refused, and `CountLimit`, only where the run takes a count past 2^62 - 1: the sink took rows that
+/// the run's begin with, none of the round in which this came. Else the sink's refusal, at such rows.
+pub fn run_workers<G: Gate<Running> + Sync, K: RowSink, W: Threads + Wait + Sync>(
+    rt: &W,
+    alloc: Global,
+    scenario: Scenario,
+    layout: PartMap,
+    window: u64,
+    workers: usize,
+    gate: &G,
+    sink: &mut K,
+) -> Result<Vec<Site>, Refusal>
+    requires ready { K.ready sink.old }
+    ensures ready { OnOk result (K.ready sink.new) }
+    ensures whole { IfOk result (λ sites. HasTaken K.took scenario sink.old sink.new sites.items) }
+    ensures window { the_least_latency scenario < window → result ≡ Err (Refusal.WindowTooLong window (the_least_latency scenario)) }
+    ensures stops { window ≤ the_least_latency scenario → IfErr result (λ refusal. StopsAnyhow K.ready K.took K.broke scenario sink.old refusal sink.new) }
+    ensures untaken { the_least_latency scenario < window → sink.new ≡ sink.old }
+{
+    let least = least_latency(&scenario);
+    if window > least {
+        return Err(Refusal::WindowTooLong { window, least });
+    }
+    let stage = open_stage(alloc, scenario, layout)?;
+    let (handoff, owner) = Handoff::make(alloc, stage.parts.len())?;
+    let threads = workers.saturating_sub(1);
+    let handles = Vec::with_capacity(alloc, threads)?;
+    run_threads(rt, &handoff, owner, gate, handles, threads, stage, sink)
+}
