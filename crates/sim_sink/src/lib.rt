@@ -1,6 +1,10 @@
 //! Where the rows of a run go as it goes on.
 #![tactic(auto)]
 
+mod limit;
 mod sink;
+#[cfg(test)]
+mod tests;
 
+pub use limit::Limit;
 pub use sink::RowSink;

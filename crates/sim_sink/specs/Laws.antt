@@ -1,0 +1,15 @@
+-- What it took in turn it took together.
+use Rattle.std.proofs.Common.{◌++◌, [], List, arith, length-append}
+use Rattle.sim_clock.specs.declared.refusal.Refusal.{Refusal}
+use Rattle.sim_sink.specs.Limits.{Broke, Took}
+use Rattle.sim_sink.specs.declared.limit.Limit.{Limit}
+use Rattle.sqs_message.specs.declared.row.Row.{Row}
+
+pub took_none : (sink : Limit) → Took sink [] sink
+took_none sink = omega arith
+
+pub took_both : (a b c : Limit) (xs ys : List Row) → Took a xs b → Took b ys c → Took a (xs ++ ys) c
+took_both a b c xs ys first second = omega (arith, length-append xs ys, first, second)
+
+pub broke_later : (a b : Limit) (xs ys : List Row) (refusal : Refusal) → Took a xs b → Broke b ys refusal → Broke a (xs ++ ys) refusal
+broke_later a b xs ys refusal first broke = (omega (arith, length-append xs ys, first, broke.0), broke.1)
