@@ -15,7 +15,7 @@ use sim_exchange::{Distances, PartMap};
 use sim_machine::Pick;
 use sim_scenario::{Scenario, edges, least_latency};
 use sim_stage::{Ended, Stage, least_of, open_parts, split_sites};
-use sim_windows::World;
+use sim_windows::opening_sites;
 use sqs_message::Row;
 use std::alloc::{AllocError, Global};
 use std::marker::Model;
@@ -29,8 +29,7 @@ pub fn open_stage(alloc: Global, scenario: Scenario, layout: PartMap) -> Result<
     let ways = edges(alloc, &scenario)?;
     let distances = Distances::new(alloc, ways.as_slice(), &layout)?;
     let horizon = scenario.horizon();
-    let world = World::open(alloc, scenario)?;
-    let (sites, _) = world.into_parts();
+    let sites = opening_sites(alloc, scenario)?;
     let lists = split_sites(alloc, sites, &layout)?;
     let parts = open_parts(alloc, lists)?;
     Stage::new(alloc, layout, distances, horizon, parts)

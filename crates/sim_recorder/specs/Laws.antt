@@ -34,39 +34,41 @@ counted_both a b c xs ys first second =
     record { same = second.same ∙ first.same; added = added_both a.report.now b.report.now c.report.now xs ys first.added second.added }
 
 -- the same from first to last
-same_both : {W : Type 0} (a b c : Recorder W) → IsSame a b → IsSame b c → IsSame a c
+same_both : {W P : Type 0} (a b c : Recorder W P) → IsSame a b → IsSame b c → IsSame a c
 same_both a b c first second =
     record { names = second.names ∙ first.names; writer = second.writer ∙ first.writer; report = second.report ∙ first.report }
 
 -- the lines of some rows, and then those of others
-lines_both : {W : Type 0} (a b : Recorder W) (xs ys : List Row) → IsSame a b → lines_of a xs ++ lines_of b ys ≡ lines_of a (xs ++ ys)
+lines_both : {W P : Type 0} (a b : Recorder W P) (xs ys : List Row) → IsSame a b → lines_of a xs ++ lines_of b ys ≡ lines_of a (xs ++ ys)
 lines_both a b xs ys same = rw (same.names, map-append, flat_map-append line) refl
 
-module _ {W : Type 0} (held : W → Option (List ℕ)) where
+module _ {W P : Type 0} (held : W → Option (List ℕ)) (failed : W → Bool) where
   -- a recorder as it was took nothing
-  pub recorded_none : (recorder : Recorder W) → Recorded held recorder [] recorder
+  pub recorded_none : (recorder : Recorder W P) → Recorded held failed recorder [] recorder
   recorded_none recorder =
       record {
         same = record { names = refl; writer = refl; report = refl };
         written = appends-none (held recorder.out.now);
+        works = λ works. works;
         added = added_none recorder.report.now;
       }
 
   -- a recorder took some rows, and then others
-  pub recorded_both : (a b c : Recorder W) (xs ys : List Row) → Recorded held a xs b → Recorded held b ys c → Recorded held a (xs ++ ys) c
+  pub recorded_both : (a b c : Recorder W P) (xs ys : List Row) → Recorded held failed a xs b → Recorded held failed b ys c → Recorded held failed a (xs ++ ys) c
   recorded_both a b c xs ys first second =
       record {
         same = same_both a b c first.same second.same;
         written =
             subst (λ (t : List ℕ). Appends (held a.out.now) (held c.out.now) t) (lines_both a b xs ys first.same)
             (appends-more _ _ _ _ _ first.written second.written);
+        works = λ works. second.works (first.works works);
         added = added_both a.report.now b.report.now c.report.now xs ys first.added second.added;
       }
 
   -- a recorder took some rows, and then stopped at others
-  pub stopped_later : (failed : W → Bool) (a b c : Recorder W) (xs ys : List Row) (refusal : Refusal)
-      → Recorded held a xs b → StoppedAt held failed b ys refusal c → StoppedAt held failed a (xs ++ ys) refusal c
-  stopped_later failed a b c xs ys refusal first second =
+  pub stopped_later : (a b c : Recorder W P) (xs ys : List Row) (refusal : Refusal)
+      → Recorded held failed a xs b → StoppedAt held failed b ys refusal c → StoppedAt held failed a (xs ++ ys) refusal c
+  stopped_later a b c xs ys refusal first second =
       record {
         same = same_both a b c first.same second.same;
         written =

@@ -5,6 +5,8 @@ mod counter;
 mod recorder;
 #[cfg(test)]
 mod tests;
+mod watch;
 
 pub use counter::Counter;
 pub use recorder::Recorder;
+pub use watch::{Unwatched, Watch};

@@ -6,7 +6,7 @@ ghost use Rattle.sqs_formats.specs.Rows.{lines, row_fields};
 ghost use Rattle.sim_records.specs.Writers.{has_failed};
 ghost use Rattle.sim_recorder.specs.Sinks.{Added};
 
-use crate::{Counter, Recorder};
+use crate::{Counter, Recorder, Unwatched};
 use sim_clock::{Class, Key, Refusal};
 use sim_records::{Names, Out, ToWriter};
 use sim_report::{Finals, Report};
@@ -125,11 +125,14 @@ fn record<W: Out>(
     ensures written { OnOk result (Appends (W.held out.old) (W.held out.new) (lines (map (row_fields names.now) (first.now ++ second.now)))) }
     ensures added { OnOk result (Added report.old (first.now ++ second.now) report.new) }
 {
+    let mut watch = Unwatched;
     let mut recorder = Recorder {
         alloc,
         names,
         out,
         report,
+        watch: &mut watch,
+        horizon: 1000,
     };
     in_two_batches(&mut recorder, first, second)
 }

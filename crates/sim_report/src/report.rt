@@ -73,7 +73,8 @@ impl Report {
         finals: &Finals,
     ) -> Result<(), Refusal>
         requires { W.failed out.old ≡ false }
-        ensures { (names : List (List ℕ)) (rows : List Row) → self.now ≡ running names rows
+        ensures works { OnOk result (W.failed out.new ≡ false) }
+        ensures written { (names : List (List ℕ)) (rows : List Row) → self.now ≡ running names rows
             → Wrote (W.held out.old) (W.held out.new) (W.failed out.new) (report_text (report names rows finals.now)) result }
     {
         let columns = self.columns(alloc, finals)?;
@@ -111,7 +112,8 @@ pub fn compare<W: Out>(
     second_finals: &Finals,
 ) -> Result<(), Refusal>
     requires { W.failed out.old ≡ false }
-    ensures { (names : List (List ℕ)) (rows : List Row) (others : List (List ℕ)) (other_rows : List Row)
+    ensures works { OnOk result (W.failed out.new ≡ false) }
+    ensures written { (names : List (List ℕ)) (rows : List Row) (others : List (List ℕ)) (other_rows : List Row)
         → first.now ≡ running names rows → second.now ≡ running others other_rows
         → Wrote (W.held out.old) (W.held out.new) (W.failed out.new)
         (comparison (report names rows first_finals.now) (report others other_rows second_finals.now)) result }

@@ -1,4 +1,5 @@
 pub mod Openings
 pub mod Places
 pub mod Runs
+pub mod Sinking
 pub mod Stopping

@@ -1,3 +1,3 @@
 pub mod Homes
-pub mod Worlds
 pub mod Sinks
+pub mod Worlds

@@ -1,7 +1,9 @@
-//! The world of sites that a scenario opens with, and its run, due by due.
+//! The sites that a scenario opens with, and the run of a scenario on one thread, due by due.
 #![tactic(auto)]
 
+mod alone;
 mod opening;
-mod world;
 
-pub use world::World;
+pub use alone::run_alone;
+pub use opening::opening_sites;
+pub use sim_sink::RowSink;

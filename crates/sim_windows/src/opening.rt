@@ -1,13 +1,12 @@
-//! The world that a scenario opens with.
+//! The sites that a scenario opens with.
 ghost use Rattle.std.specs.List.{enumerate_from};
 ghost use Rattle.std.specs.Prelude.{◌≡◌, ◌+◌, ◌<◌, ◌≤◌, ◌^◌, [], All, IfOk, List, OnOk, length, map, ℕ};
 ghost use Rattle.sqs_model.specs.Answers.{most_count};
 ghost use Rattle.sqs_model.specs.Scenario.{HasItsQueues, Scenario as TheScenario, numbered_actors, numbered_tasks, opening};
 ghost use Rattle.sqs_model.specs.Valid.{IsQueueSettings};
 ghost use Rattle.sim_windows.specs.Homes.{AtHome, IsFit, IsSettled, IsVacant, actors_in, tasks_in};
-ghost use Rattle.sim_windows.specs.Worlds.{alive};
+ghost use Rattle.sim_windows.specs.Worlds.{IsWorld, alive};
 
-use crate::world::World;
 use sim_scenario::Scenario;
 use sim_site::Site;
 use sqs_model::ActorSettings;
@@ -133,26 +132,24 @@ fn open_sites(
     Ok(sites)
 }
 
-impl World {
-    /// The world that a scenario opens with: a site for each of its queues, by number, at which
-    /// nothing was done and to which nothing is on its way.
-    ///
-    /// # Errors
-    ///
-    /// `Memory` where a growth is refused.
-    pub fn open(alloc: Global, scenario: Scenario) -> Result<World, AllocError>
-        ensures opened { IfOk result (λ world. world ≡ record { sites = opening scenario; rows = [] }) }
-        ensures has_queues { IfOk result (λ _. HasItsQueues scenario) }
-    {
-        let parts = scenario.into_parts();
-        let homes = settled_homes(alloc, parts.queues.len(), parts.actors, parts.tasks)?;
-        let sites = open_sites(
-            alloc,
-            parts.queues.as_slice(),
-            homes,
-            parts.seed,
-            parts.sample,
-        )?;
-        Ok(World::new(alloc, sites))
-    }
+/// The sites that a scenario opens with: one for each of its queues, by number, at which nothing was
+/// done and to which nothing is on its way.
+///
+/// # Errors
+///
+/// `AllocError` where a growth is refused.
+pub fn opening_sites(alloc: Global, scenario: Scenario) -> Result<Vec<Site>, AllocError>
+    ensures opened { IfOk result (λ sites. sites.items ≡ map alive (opening scenario)) }
+    ensures world { IfOk result (λ sites. IsWorld sites.items) }
+    ensures has_queues { IfOk result (λ _. HasItsQueues scenario) }
+{
+    let parts = scenario.into_parts();
+    let homes = settled_homes(alloc, parts.queues.len(), parts.actors, parts.tasks)?;
+    open_sites(
+        alloc,
+        parts.queues.as_slice(),
+        homes,
+        parts.seed,
+        parts.sample,
+    )
 }

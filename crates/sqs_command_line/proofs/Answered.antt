@@ -1,14 +1,17 @@
 -- What the reading of a line answers, over plain values.
 use Rattle.std.proofs.Common.{[], Err, IfErr, IfOk, List, MatchResult, None, Ok, Option, Result, Some, ap, refl, subst, sym, true, ℕ, ◌≡◌}
+use Rattle.std.specs.Result.{IsErrAnd}
 use Rattle.std.specs.Str.Parse.{ParsesUnsigned}
-use Rattle.clap.specs.Words.{Row, Text, fault_of, is_simple, subcommand_of}
+use Rattle.clap.specs.Words.{HasKind, Row, Text, fault_of, is_simple, subcommand_of}
 use Rattle.clap.specs.Faults.{is_simple_and_free}
+use Rattle.clap.specs.declared.error.Error.{Error}
 use Rattle.clap.specs.Matches.{TriesOne}
 use Rattle.clap.proofs.OnLiterals.{clap_on_literals}
 use Rattle.sqs_command_line.specs.Lines.{IsFaultOf, IsLineOf, IsNumber, IsReadableOf, IsUnread, number_of}
 use Rattle.sqs_command_line.specs.Programs.{program}
 use Rattle.sqs_command_line.specs.declared.asked.Line.{Line}
 use Rattle.sqs_command_line.specs.declared.asked.LineFault.{LineFault}
+use Rattle.sqs_command_line.specs.declared.asked.LineFault.TheVariants as faults
 
 pub program_is_simple : is_simple program ≡ true
 unfolding clap_on_literals
@@ -45,3 +48,8 @@ pub answered_fault :
 answered_fault words found (Ok l) none same h = tt
 answered_fault words found (Err e) none same h =
     subst (IsFaultOf words) (sym h.0) (none, λ readable. h.1 (subst IsReadableOf (sym same) readable))
+
+-- the fault that a `?` hands on is the one that the rules find
+pub handed_fault : {X : Type 0} (words : List Text) (r : Result X LineFault) (e : Error) → IsErrAnd r (λ met. met ≡ faults.Words e) → HasKind (fault_of program words) e → IfErr r (IsFaultOf words)
+handed_fault words (Ok x) e p k = absurd p
+handed_fault words (Err met) e p k = rw p k

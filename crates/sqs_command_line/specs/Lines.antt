@@ -1,5 +1,5 @@
 -- Which line a subcommand and its arguments are.
-use Rattle.std.specs.Prelude.{[], Err, List, None, Ok, Option, Result, Some, codes, option_map, ℕ, ◌<◌, ◌^◌, ◌≡◌, ◌⊎◌, ⊤}
+use Rattle.std.specs.Prelude.{[], Bool, Err, List, None, Ok, Option, Result, Some, codes, false, option_map, ℕ, ◌<◌, ◌^◌, ◌≡◌, ◌⊎◌, true, ⊤}
 use Rattle.std.specs.Borrow.{Bor}
 use Rattle.std.specs.Str.Parse.{IsNumeral, digits_value, without_leading_plus}
 use Rattle.clap.specs.Words.{HasKind, Row, Text, fault_of, first_of, one_of, subcommand_of}
@@ -34,6 +34,12 @@ abbrev pub TellsNumber : ℕ → Option Text → Result (Option ℕ) LineFault �
 TellsNumber k text (Ok number) = number ≡ number_of text
 TellsNumber k text (Err fault) = IsUnread (IsNumber k text) fault
 
+-- whether an option without a value was given, by the text that it then has
+pub record IsFlag (text : Option Text) (flag : Bool) : Type 0 where
+  pub absent : text ≡ None → flag ≡ false
+  pub given : text ≡ Some (codes "true") → flag ≡ true
+  pub left_out : text ≡ Some (codes "false") → flag ≡ false
+
 -- a rehearsal by its arguments
 pub record IsRun (rows : List Row) (l : RunLine) : Type 0 where
   pub window : l.window ≡ number_of (one_of (codes "window") rows)
@@ -42,6 +48,7 @@ pub record IsRun (rows : List Row) (l : RunLine) : Type 0 where
   pub workers : l.workers ≡ number_of (one_of (codes "workers") rows)
   pub log : told l.log ≡ first_of (codes "log") rows
   pub scripts : told l.scripts ≡ first_of (codes "scripts") rows
+  pub quiet : IsFlag (one_of (codes "quiet") rows) l.quiet
   pub scenario : told l.scenario ≡ first_of (codes "scenario") rows
 
 -- a reading by its arguments

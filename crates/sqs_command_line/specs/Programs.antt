@@ -1,7 +1,7 @@
 -- The program's commands and their arguments.
 use Rattle.std.specs.Prelude.{Bool, Some, codes, false, pos, true}
 use Rattle.clap.specs.Words.{App, Rule, Text, new_app, new_rule, with_rule, with_subcommand}
-use Rattle.clap.specs.declared.builder.ArgAction.TheVariants.{Set}
+use Rattle.clap.specs.declared.builder.ArgAction.TheVariants.{Set, SetTrue}
 use Rattle.clap.specs.declared.builder.value_parser.ValueParser.TheVariants as parsers
 
 -- an option with a value, as --log FILE
@@ -16,6 +16,10 @@ number_rule name = record (option_rule name) { parser = Some (parsers.Signed (po
 abbrev pub time_rule : Text → Rule
 time_rule name = record (option_rule name) { parser = Some (parsers.Unsigned 1 18446744073709551615) }
 
+-- an option without a value, as --quiet
+abbrev pub flag_rule : Text → Rule
+flag_rule name = record (new_rule name) { long = Some name; action = Some SetTrue }
+
 -- a word by its place
 abbrev pub place_rule : Bool → Text → Rule
 place_rule required name = record (new_rule name) { required = required; action = Some Set }
@@ -25,9 +29,13 @@ abbrev pub run_options : App
 run_options =
     with_rule (with_rule (with_rule (with_rule (new_app (codes "run")) (time_rule (codes "window"))) (number_rule (codes "parts"))) (option_rule (codes "map"))) (number_rule (codes "workers"))
 
--- .. [--log FILE] [--scripts DIR] [SCENARIO]
+-- .. [--log FILE] [--scripts DIR]
+abbrev pub run_files : App
+run_files = with_rule (with_rule run_options (option_rule (codes "log"))) (option_rule (codes "scripts"))
+
+-- .. [--quiet] [SCENARIO]
 abbrev pub run_app : App
-run_app = with_rule (with_rule (with_rule run_options (option_rule (codes "log"))) (option_rule (codes "scripts"))) (place_rule false (codes "scenario"))
+run_app = with_rule (with_rule run_files (flag_rule (codes "quiet"))) (place_rule false (codes "scenario"))
 
 -- check [--scripts DIR] [SCENARIO]
 abbrev pub check_app : App

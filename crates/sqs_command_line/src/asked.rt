@@ -15,6 +15,8 @@ pub struct RunLine<'a> {
     pub log: Option<&'a str>,
     /// The folder of the scripts.
     pub scripts: Option<&'a str>,
+    /// Whether nothing is told of how far it has come.
+    pub quiet: bool,
     /// The file of the scenario.
     pub scenario: Option<&'a str>,
 }

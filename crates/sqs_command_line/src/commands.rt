@@ -2,7 +2,7 @@
 ghost use Rattle.std.specs.Prelude.{◌≡◌, IfOk, false};
 ghost use Rattle.clap.specs.Words.{app_of, new_app, rule_of};
 ghost use Rattle.clap.specs.declared.builder.command.Command.TheViews.{out-Command as fields_of};
-ghost use Rattle.sqs_command_line.specs.Programs.{check_app, compare_app, number_rule, option_rule, place_rule, program, run_app, run_options, time_rule};
+ghost use Rattle.sqs_command_line.specs.Programs.{check_app, compare_app, flag_rule, number_rule, option_rule, place_rule, program, run_app, run_files, run_options, time_rule};
 
 use clap::{Arg, ArgAction, Command};
 use std::alloc::{AllocError, Global};
@@ -45,6 +45,17 @@ fn time<'a>(alloc: Global, name: &'a str, help: &'a str) -> Arg<'a>
         .long(name)
         .action(ArgAction::Set)
         .value_parser(clap::value_parser!(u64).range(1..))
+        .help(help)
+}
+
+// An option without a value.
+fn flag<'a>(alloc: Global, name: &'a str, help: &'a str) -> Arg<'a>
+    ensures rule { rule_of result ≡ flag_rule name.entry.now }
+    ensures local { result.global ≡ false }
+{
+    Arg::new(alloc, name)
+        .long(name)
+        .action(ArgAction::SetTrue)
         .help(help)
 }
 
@@ -96,9 +107,9 @@ fn run_options<'a>(alloc: Global) -> Result<Command<'a>, AllocError>
     Ok(command)
 }
 
-// The command of a rehearsal.
-fn run_command<'a>(alloc: Global) -> Result<Command<'a>, AllocError>
-    ensures app { IfOk result (λ c. app_of c ≡ run_app) }
+// The command of a rehearsal, with the options of what it reads and writes too.
+fn run_files<'a>(alloc: Global) -> Result<Command<'a>, AllocError>
+    ensures app { IfOk result (λ c. app_of c ≡ run_files) }
     ensures local { IfOk result (λ c. (fields_of c).has_globals ≡ false) }
 {
     let command = run_options(alloc)?;
@@ -108,6 +119,20 @@ fn run_command<'a>(alloc: Global) -> Result<Command<'a>, AllocError>
         "Write the log to this file [default: standard output]",
     ))?;
     let command = command.arg(option(alloc, "scripts", SCRIPTS_HELP))?;
+    Ok(command)
+}
+
+// The command of a rehearsal.
+fn run_command<'a>(alloc: Global) -> Result<Command<'a>, AllocError>
+    ensures app { IfOk result (λ c. app_of c ≡ run_app) }
+    ensures local { IfOk result (λ c. (fields_of c).has_globals ≡ false) }
+{
+    let command = run_files(alloc)?;
+    let command = command.arg(flag(
+        alloc,
+        "quiet",
+        "Tell no progress, also where standard error is a terminal",
+    ))?;
     let command = command.arg(place(alloc, "scenario", false, SCENARIO_HELP))?;
     Ok(command)
 }

@@ -43,6 +43,7 @@ fn run_line<'a>(matches: &ArgMatches<'a>) -> Result<RunLine<'a>, LineFault>
         workers,
         log: matches.get_str("log"),
         scripts: matches.get_str("scripts"),
+        quiet: matches.get_flag("quiet"),
         scenario: matches.get_str("scenario"),
     })
 }

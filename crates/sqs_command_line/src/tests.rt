@@ -26,6 +26,7 @@ fn run_with_all_options(rt: HostRuntime) -> Result<(), Fail> {
         "out.csv",
         "--scripts",
         "calls",
+        "--quiet",
         "network.toml",
     ];
     let Ok(Line::Run(run)) = line(rt.alloc(), &words) else {
@@ -38,6 +39,7 @@ fn run_with_all_options(rt: HostRuntime) -> Result<(), Fail> {
     assert_eq!(rt; run.workers, Some(4));
     assert_eq!(rt; run.log, Some("out.csv"));
     assert_eq!(rt; run.scripts, Some("calls"));
+    assert!(rt; run.quiet);
     assert_eq!(rt; run.scenario, Some("network.toml"));
     Ok(())
 }
@@ -58,6 +60,7 @@ fn numbers_as_clap_reads_them(rt: HostRuntime) -> Result<(), Fail> {
     assert_eq!(rt; run.window, Some(4_294_967_296));
     assert_eq!(rt; run.parts, Some(4_294_967_295));
     assert_eq!(rt; run.workers, Some(0));
+    assert!(rt; !run.quiet);
     Ok(())
 }
 

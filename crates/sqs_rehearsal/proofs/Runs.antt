@@ -1,30 +1,34 @@
--- The run of a world that a scenario opens with is the scenario's run.
-use Rattle.std.proofs.Common.{◌≡◌, ◌<◌, ℕ, [], sym, subst, ap, ◌∙◌}
-use Rattle.sqs_model.specs.Run.{IsRunOf, Run, after}
-use Rattle.sqs_model.proofs.WorldAccounts.{each_keeps, no_other}
+-- What is known of the run of a scenario.
+use Rattle.std.proofs.Common.{◌≡◌, ℕ, List, None, Ok, ap, arith, sym, subst, ◌+◌, ◌∙◌}
+use Rattle.std.specs.Prelude.{IsNone}
+use Rattle.sim_scenario.specs.Ranges.{IsInRange}
+use Rattle.sim_windows.proofs.Openings.{has_queues}
+use Rattle.sim_windows.proofs.Runs.{stays}
 use Rattle.sqs_model.specs.Accounts.{EachHasOnePlace, NoOtherHasPlace}
+use Rattle.sqs_model.specs.Run.{IsRunOf, Run, after, next_due}
 use Rattle.sqs_model.specs.Scenario.{HasItsQueues, Scenario, opening}
-use Rattle.sim_clock.specs.declared.refusal.Refusal.{Refusal}
-use Rattle.sqs_model.specs.Answers.{most_count}
-use Rattle.sqs_model.specs.Limits.{IsOver, run_count}
-use Rattle.sim_site.proofs.Passing.{stops_for}
-use Rattle.sqs_rehearsal.specs.Outcomes.{Stops}
-use Rattle.sim_windows.specs.Worlds.{Ends, StopsRun, continued}
-use Rattle.sim_windows.proofs.Runs.{after_is}
+use Rattle.sqs_model.specs.Site.{Site}
+use Rattle.sqs_model.proofs.Ends.{ends}
+use Rattle.sqs_model.proofs.WorldAccounts.{each_keeps, no_other}
+use Rattle.sqs_rehearsal.specs.Options.{split_fault}
+use Rattle.sqs_rehearsal.specs.Rehearsals.{Rehearsed, Request, Stated}
 
-pub run_from_opening : (s : Scenario) (horizon : ℕ) (opened w : Run) → horizon ≡ s.horizon → opened ≡ record { sites = opening s; rows = [] } → Ends horizon opened w → IsRunOf s w
-run_from_opening s horizon opened w h e ends =
-    let n = ends.continues.steps in
-    let reached = after_is horizon n (opening s) ∙ ap (continued horizon n) (sym e) ∙ ends.continues.reached in
-    rw (← h) (record { steps = n; reached = reached; ended = ends.ended })
+-- a run stays as it is after its end
+stays_at : (s : Scenario) (r : Run) (is : IsRunOf s r) (n : ℕ) → after s.horizon (n + is.steps) (opening s) ≡ r
+stays_at s r is n =
+    let start : List Site = opening s in
+    let ended : IsNone (next_due s.horizon (after s.horizon is.steps start).sites) = subst (λ (y : Run). IsNone (next_due s.horizon y.sites)) (sym is.reached) is.ended in
+    stays s.horizon n is.steps start ended ∙ is.reached
 
--- where the run of that world stops, the scenario does
-pub stops_from_opening : (s : Scenario) (horizon : ℕ) (opened : Run) (e : Refusal) → horizon ≡ s.horizon → opened ≡ record { sites = opening s; rows = [] } → StopsRun horizon opened e → Stops s e
-stops_from_opening s horizon opened refusal h e p =
-    let reached : (n : ℕ) → after horizon n (opening s) ≡ continued horizon n opened = λ n. after_is horizon n (opening s) ∙ ap (continued horizon n) (sym e) in
-    let over : ((n : ℕ) × (most_count < run_count (continued horizon n opened))) → IsOver s =
-    λ passes. rw (← h) (passes.0, subst (λ (r : Run). most_count < run_count r) (sym (reached passes.0)) passes.1) in
-    stops_for ((n : ℕ) × (most_count < run_count (continued horizon n opened))) (IsOver s) refusal over p
+-- a scenario has one run
+pub one_run : (s : Scenario) (r x : Run) → IsRunOf s r → IsRunOf s x → r ≡ x
+one_run s r x is also =
+    let swap : also.steps + is.steps ≡ is.steps + also.steps = omega arith in
+    sym (stays_at s r is also.steps) ∙ ap (λ (n : ℕ). after s.horizon n (opening s)) swap ∙ stays_at s x also is.steps
+
+-- one that was read has a run
+pub some_run : (s : Scenario) → IsInRange s → (r : Run) × IsRunOf s r
+some_run s range = ends s range.sound
 
 -- where the messages of a whole run stand
 pub stands_once : (s : Scenario) (r : Run) → HasItsQueues s → IsRunOf s r → EachHasOnePlace r.sites r.rows
@@ -32,3 +36,17 @@ stands_once s r q is = subst (λ (x : Run). EachHasOnePlace x.sites x.rows) is.r
 
 pub stands_alone : (s : Scenario) (r : Run) → HasItsQueues s → IsRunOf s r → NoOtherHasPlace r.sites r.rows
 stands_alone s r q is = subst (λ (x : Run). NoOtherHasPlace x.sites x.rows) is.reached (no_other s q is.steps)
+
+-- the run of a scenario that a request states and that can be split so
+abbrev pub rehearsed : (q : Request) (s : Stated q) → IsInRange s.scenario → split_fault s.scenario q.options ≡ None → (r : Run) → IsRunOf s.scenario r → Rehearsed q
+rehearsed q s range allowed r is =
+    let there : HasItsQueues s.scenario = has_queues s.scenario range in
+    record {
+      scenario = s.scenario;
+      run = r;
+      stated = s.stated;
+      allowed = allowed;
+      is_run = is;
+      one_place = stands_once s.scenario r there is;
+      no_other = stands_alone s.scenario r there is;
+    }

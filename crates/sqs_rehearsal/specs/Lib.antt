@@ -1,4 +1,6 @@
 pub mod Options
 pub mod Outcomes
+pub mod Writers
+pub mod Logs
 pub mod Rehearsals
 pub mod Left

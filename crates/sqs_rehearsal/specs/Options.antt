@@ -1,8 +1,10 @@
 -- How a rehearsal is split into partitions, windows and workers, and what is wrong with that.
-use Rattle.std.specs.List.{list_all}
-use Rattle.std.specs.Prelude.{Bool, Err, List, None, Ok, Option, Result, Some, fold, if◌then◌else◌, length, max, nat_le, nat_lt, true, ℕ, ◌&&◌, ◌+◌, ◌==◌}
+use Rattle.std.specs.List.{range_with_len}
+use Rattle.std.specs.Prelude.{Bool, Err, List, None, Ok, Option, Result, Some, fold, if◌then◌else◌, length, map, max, nat_le, nat_lt, unwrap_or, ℕ, ◌%◌, ◌&&◌, ◌+◌, ◌≡◌, ◌⊎◌}
 use Rattle.sim_clock.specs.declared.refusal.Refusal.{Refusal}
+use Rattle.sim_exchange.specs.Layout.{Layout, is_layout}
 use Rattle.sqs_model.specs.Scenario.{Scenario, least_latency}
+use Rattle.sqs_rehearsal.specs.declared.options.Split.{Split}
 use Rattle.sim_clock.specs.declared.refusal.Refusal.TheVariants as refusals
 
 -- what was asked for: the window in milliseconds, the number of partitions, the partition of each queue, the number of workers
@@ -22,18 +24,19 @@ parts_of (Some n) map = n
 parts_of None (Some ps) = partitions_in ps
 parts_of None None = 1
 
+-- the partitions of so many queues that take turns
+abbrev pub in_turn : ℕ → ℕ → List ℕ
+in_turn parts queues = map (λ q. q % parts) (range_with_len 0 queues)
+
+-- how many partitions there are, and which of them each of so many queues has
+abbrev pub layout_of : ℕ → Options → Layout
+layout_of queues o =
+    let parts = parts_of o.parts o.map in
+    record { parts = parts; owners = unwrap_or o.map (in_turn parts queues) }
+
 -- whether a number is in a range, both ends included
 abbrev pub is_within : ℕ → ℕ → ℕ → Bool
 is_within low high n = nat_le low n && nat_le n high
-
--- whether each queue has one of the partitions; without a map they take turns
-abbrev pub is_map : ℕ → ℕ → Option (List ℕ) → Bool
-is_map queues parts None = true
-is_map queues parts (Some ps) = length ps == queues && list_all (λ p. nat_lt p parts) ps
-
--- whether there are 1 to 256 partitions, and each queue has one of them
-abbrev pub is_parted : ℕ → Option ℕ → Option (List ℕ) → Bool
-is_parted queues parts map = is_within 1 256 (parts_of parts map) && is_map queues (parts_of parts map) map
 
 -- a window that is longer than the least latency
 abbrev pub window_fault : ℕ → Option ℕ → Option Refusal
@@ -52,7 +55,7 @@ or_else (Some r) other = Some r
 -- what is wrong with what was asked for: the map first, then the window, then the workers
 abbrev pub split_fault : Scenario → Options → Option Refusal
 split_fault s o =
-    if is_parted (length s.queues) o.parts o.map
+    if is_layout (length s.queues) (layout_of (length s.queues) o)
     then or_else (window_fault (least_latency s) o.window) (workers_fault o.workers)
     else Some refusals.BadMap
 
@@ -60,3 +63,12 @@ split_fault s o =
 abbrev pub unless : Option Refusal → Result (Unit {0}) Refusal
 unless None = Ok tt
 unless (Some r) = Err r
+
+-- why a scenario can't be split so: that, or want of memory
+abbrev pub IsUnsplit : Scenario → Options → Refusal → Type 0
+IsUnsplit s o e = (e ≡ refusals.Memory) ⊎ (split_fault s o ≡ Some e)
+
+-- how a scenario is split: without a window it has the greatest that it may have
+abbrev pub split_of : Scenario → Options → Split
+split_of s o =
+    record { layout = layout_of (length s.queues) o; window = unwrap_or o.window (least_latency s); workers = o.workers }

@@ -1,15 +1,15 @@
 -- What a rehearsal writes, or why it is refused.
-use Rattle.std.specs.Prelude.{Bool, Err, List, None, Ok, Option, Some, false, true, ℕ, ◌≡◌, ◌⊎◌}
-use Rattle.std.specs.Io.KnownBytes.{Appends}
+use Rattle.std.specs.Prelude.{Bool, Err, List, None, Ok, Some, false, true, ℕ, ◌≡◌, ◌⊎◌}
 use Rattle.sim_clock.specs.declared.refusal.Refusal.{Refusal}
-use Rattle.sim_records.specs.Writes.{AppendsFront}
 use Rattle.sqs_formats.specs.Output.{ending_of, log_of}
+use Rattle.sqs_formats.specs.Rows.{line, log_header}
 use Rattle.sqs_formats.specs.Scenario.{scenario_of}
 use Rattle.sqs_model.specs.Accounts.{EachHasOnePlace, NoOtherHasPlace}
 use Rattle.sqs_model.specs.Limits.{IsOver}
 use Rattle.sqs_model.specs.Run.{IsRunOf, Run}
 use Rattle.sqs_model.specs.Scenario.{Scenario}
 use Rattle.sqs_rehearsal.specs.Options.{Options, split_fault}
+use Rattle.sqs_rehearsal.specs.Writers.{Got, GotFront, GotNothing, Writer}
 use Rattle.sqs_rehearsal.specs.declared.rehearsal.Fault.{Fault}
 use Rattle.sim_scenario.specs.declared.fault.ReadError.{ReadError}
 use Rattle.sim_clock.specs.declared.refusal.Refusal.TheVariants as refusals
@@ -32,26 +32,6 @@ pub record Rehearsed (q : Request) : Type 0 where
   pub one_place : EachHasOnePlace run.sites run.rows
   pub no_other : NoOtherHasPlace run.sites run.rows
 
--- what a writer holds before and after, and whether it has failed
-pub record Writer : Type 0 where
-  pub before : Option (List ℕ)
-  pub after : Option (List ℕ)
-  pub failed : Bool
-
--- a writer that got just this text
-pub record Got (w : Writer) (text : List ℕ) : Type 0 where
-  pub bytes : Appends w.before w.after text
-  pub whole : w.failed ≡ false
-
--- a writer that got a front of this text
-abbrev pub GotFront : Writer → List ℕ → Type 0
-GotFront w text = AppendsFront w.before w.after text
-
--- a writer that got nothing
-pub record GotNothing (w : Writer) : Type 0 where
-  pub nothing : w.after ≡ w.before
-  pub whole : w.failed ≡ false
-
 -- the whole of a rehearsal: the log writer got the log, the other finals and report
 pub record IsWritten (q : Request) (log report : Writer) : Type 0 where
   pub of : Rehearsed q
@@ -61,16 +41,25 @@ pub record IsWritten (q : Request) (log report : Writer) : Type 0 where
 -- a rehearsal that stopped while the log was written: the log writer got a front of it, and whether it failed; the other got nothing
 pub record StoppedInLog (q : Request) (log report : Writer) (failed : Bool) : Type 0 where
   pub of : Rehearsed q
-  pub log_front : GotFront log (log_of of.scenario of.run)
-  pub log_failed : log.failed ≡ failed
+  pub log_front : GotFront log (log_of of.scenario of.run) failed
+  pub no_report : GotNothing report
+
+-- one whose run stopped since a count would pass the limit
+pub record StoppedByLimit (q : Request) (log report : Writer) : Type 0 where
+  pub stopped : StoppedInLog q log report false
+  pub over : IsOver stopped.of.scenario
+
+-- one of which no worker could be started: the log writer got the header, the other nothing
+pub record StoppedAtStart (q : Request) (log report : Writer) : Type 0 where
+  pub of : Rehearsed q
+  pub header : Got log (line log_header)
   pub no_report : GotNothing report
 
 -- one that stopped after the log: the other writer got a front of finals and report, and whether it failed
 pub record StoppedAfterLog (q : Request) (log report : Writer) (failed : Bool) : Type 0 where
   pub of : Rehearsed q
   pub whole_log : Got log (log_of of.scenario of.run)
-  pub report_front : GotFront report (ending_of of.scenario of.run)
-  pub report_failed : report.failed ≡ failed
+  pub report_front : GotFront report (ending_of of.scenario of.run) failed
 
 -- one that stopped on its way: the log is written first, and the rest after all of it
 abbrev pub IsPartWritten : Request → Writer → Writer → Bool → Type 0
@@ -96,7 +85,6 @@ abbrev pub IsBarred : Request → Refusal → Type 0
 IsBarred q refusals.BadMap = (s : Stated q) × (split_fault s.scenario q.options ≡ Some refusals.BadMap)
 IsBarred q (refusals.WindowTooLong w least) = (s : Stated q) × (split_fault s.scenario q.options ≡ Some (refusals.WindowTooLong w least))
 IsBarred q refusals.BadWorkers = (s : Stated q) × (split_fault s.scenario q.options ≡ Some refusals.BadWorkers)
-IsBarred q refusals.CountLimit = (s : Stated q) × (split_fault s.scenario q.options ≡ None) × IsOver s.scenario
 IsBarred q refusals.Memory = Unit {0}
 IsBarred q r = ⊥
 
@@ -109,4 +97,6 @@ Bars q (faults.Refused r) = IsBarred q r
 abbrev pub IsRefused : Request → Writer → Writer → Fault → Type 0
 IsRefused q log report (faults.Refused refusals.Write) = IsPartWritten q log report true
 IsRefused q log report (faults.Refused refusals.Memory) = IsUnwritten log report ⊎ IsPartWritten q log report false
+IsRefused q log report (faults.Refused refusals.CountLimit) = StoppedByLimit q log report
+IsRefused q log report (faults.Refused refusals.NoWorker) = StoppedAtStart q log report
 IsRefused q log report f = Bars q f × IsUnwritten log report

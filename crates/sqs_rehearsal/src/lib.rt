@@ -3,11 +3,14 @@
 #![tactic(auto)]
 
 mod finals;
+mod logging;
 mod options;
 mod outcome;
 mod rehearsal;
 
 pub use finals::finals_of;
-pub use options::Options;
+pub use options::{Options, Split};
 pub use outcome::{Outcome, compare};
-pub use rehearsal::{Fault, rehearse};
+pub use rehearsal::{Fault, rehearse, rehearse_watched};
+pub use sim_parallel::{Done, Gate, Open, Piece, Running};
+pub use sim_recorder::{Unwatched, Watch};

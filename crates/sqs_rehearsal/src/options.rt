@@ -1,10 +1,14 @@
 //! How a rehearsal is split into partitions, windows and workers.
-ghost use Rattle.std.specs.Prelude.{◌≡◌, nat_lt};
-ghost use Rattle.std.specs.List.{list_all};
-ghost use Rattle.sqs_rehearsal.specs.Options.{is_parted, partitions_in, parts_of, split_fault, unless, window_fault, workers_fault};
+ghost use Rattle.std.specs.Prelude.{◌≡◌, ◌≤◌, ◌⊎◌, IfErr, IfOk, None, false, true};
+ghost use Rattle.sim_clock.specs.declared.refusal.Refusal.TheVariants.{BadMap, Memory};
+ghost use Rattle.sim_exchange.specs.Layout.{is_layout};
+ghost use Rattle.sqs_model.specs.Scenario.{least_latency as the_least_latency};
+ghost use Rattle.sqs_rehearsal.specs.Options.{IsUnsplit, in_turn, layout_of, partitions_in, parts_of, split_fault, split_of, unless, window_fault, workers_fault};
 
 use sim_clock::Refusal;
+use sim_exchange::PartMap;
 use sim_scenario::{Scenario, least_latency};
+use std::alloc::{AllocError, Global};
 use std::marker::Model;
 
 /// How a rehearsal is split. The answer does not depend on it.
@@ -30,6 +34,17 @@ impl Model for Options {
     ghost view = { λ s. record { window = s.window; parts = s.parts; map = option_map (λ v. v.items) s.map; workers = s.workers } };
 }
 
+/// How the run of a scenario is split.
+#[derive(Drop)]
+pub struct Split {
+    /// The partition of each queue.
+    pub layout: PartMap,
+    /// The window, in milliseconds.
+    pub window: u64,
+    /// How many workers there are.
+    pub workers: usize,
+}
+
 // One more than the greatest of some partitions; none for an empty list.
 fn partitions_in(map: &[u32]) -> u64
     ensures { result ≡ partitions_in map.now }
@@ -41,11 +56,17 @@ fn partitions_in(map: &[u32]) -> u64
     needed
 }
 
-// Whether all partitions of a list are below their number.
-fn are_below(map: &[u32], parts: u64) -> bool
-    ensures { result ≡ list_all (λ p. nat_lt p parts) map.now }
+// The partitions of so many queues that take turns.
+fn in_turn(alloc: Global, parts: u64, queues: usize) -> Result<Vec<u32>, AllocError>
+    requires some { 1 ≤ parts }
+    requires few { parts ≤ 256 }
+    ensures { IfOk result (λ owners. owners.items ≡ in_turn parts queues) }
 {
-    map.iter().all(|part| u64::from(*part) < parts)
+    let mut owners = Vec::with_capacity(alloc, queues)?;
+    for queue in 0..queues {
+        owners.push((queue as u64 % parts) as u32)?;
+    }
+    Ok(owners)
 }
 
 impl Options {
@@ -62,18 +83,20 @@ impl Options {
         }
     }
 
-    // Whether there are 1 to 256 partitions, and each of so many queues has one of them.
-    fn is_parted(&self, queues: usize) -> bool
-        ensures { result ≡ is_parted queues self.now.parts self.now.map }
+    // The partition of each of so many queues.
+    fn layout(&self, alloc: Global, queues: usize) -> Result<PartMap, Refusal>
+        ensures laid { IfOk result (λ layout. (is_layout queues (layout_of queues self.now) ≡ true) × (layout ≡ layout_of queues self.now)) }
+        ensures refused { IfErr result (λ refusal. (refusal ≡ Memory) ⊎ ((is_layout queues (layout_of queues self.now) ≡ false) × (refusal ≡ BadMap))) }
     {
         let parts = self.parts();
         if parts < 1 || parts > 256 {
-            return false;
+            return Err(Refusal::BadMap);
         }
-        match &self.map {
-            None => true,
-            Some(map) => map.len() == queues && are_below(map.as_slice(), parts),
-        }
+        let owners = match &self.map {
+            None => in_turn(alloc, parts, queues)?,
+            Some(map) => map.as_slice().to_vec(alloc)?,
+        };
+        PartMap::new(queues, parts as u32, owners)
     }
 
     // Whether the window is longer than the least latency.
@@ -96,20 +119,27 @@ impl Options {
         Ok(())
     }
 
-    /// Whether a scenario can be rehearsed so.
+    /// How a scenario is split.
     ///
     /// # Errors
     ///
     /// `BadMap` where there are not 1 to 256 partitions, or the map does not give each queue one of
     /// them; else `WindowTooLong` where the window is longer than the least latency; else
-    /// `BadWorkers` where there are not 1 to 64 workers.
-    pub fn check(&self, scenario: &Scenario) -> Result<(), Refusal>
-        ensures { result ≡ unless (split_fault scenario.now self.now) }
+    /// `BadWorkers` where there are not 1 to 64 workers. `Memory` where a growth is refused.
+    pub fn split(&self, alloc: Global, scenario: &Scenario) -> Result<Split, Refusal>
+        ensures allowed { IfOk result (λ _. split_fault scenario.now self.now ≡ None) }
+        ensures split { IfOk result (λ split. split ≡ split_of scenario.now self.now) }
+        ensures window { IfOk result (λ split. split.window ≤ the_least_latency scenario.now) }
+        ensures refused { IfErr result (IsUnsplit scenario.now self.now) }
     {
-        if !self.is_parted(scenario.queues().len()) {
-            return Err(Refusal::BadMap);
-        }
-        self.check_window(least_latency(scenario))?;
-        self.check_workers()
+        let layout = self.layout(alloc, scenario.queues().len())?;
+        let least = least_latency(scenario);
+        self.check_window(least)?;
+        self.check_workers()?;
+        Ok(Split {
+            layout,
+            window: self.window.unwrap_or(least),
+            workers: self.workers as usize,
+        })
     }
 }

@@ -1,50 +1,36 @@
 //! What the whole run of a scenario leaves.
-ghost use Rattle.std.specs.Prelude.{◌≡◌, ◌++◌, [], false, IfErr, IfOk};
+ghost use Rattle.std.specs.Prelude.{◌≡◌, [], false, map, IfErr, IfOk, OnOk};
 ghost use Rattle.sim_records.specs.Writes.{WroteSeveral};
 ghost use Rattle.sim_report.specs.Running.{running};
+ghost use Rattle.sim_windows.specs.Worlds.{alive};
 ghost use Rattle.sqs_formats.specs.Comparison.{comparison};
-ghost use Rattle.sqs_formats.specs.Finals.{finals_text};
-ghost use Rattle.sqs_formats.specs.Report.{report_text};
-ghost use Rattle.sqs_formats.specs.Rows.{log_text};
-ghost use Rattle.sqs_model.specs.Scenario.{HasItsQueues};
-ghost use Rattle.sqs_rehearsal.specs.Outcomes.{IsOutcomeOf, Stops, report_in};
+ghost use Rattle.sqs_formats.specs.Output.{ending_of, queue_names, report_of};
+ghost use Rattle.sqs_model.specs.Run.{Run};
+ghost use Rattle.sqs_model.specs.Scenario.{Scenario as TheScenario};
+ghost use Rattle.sqs_rehearsal.specs.Outcomes.{HasCounted, IsLeftBy, IsOutcomeOf, Stops};
 
 use crate::finals::finals_of;
 use sim_clock::Refusal;
-use sim_records::{Names, Out, write_finals, write_header, write_rows};
+use sim_recorder::Counter;
+use sim_records::{Names, Out, write_finals};
 use sim_report::Report;
 use sim_scenario::Scenario;
-use sim_windows::World;
-use sqs_message::{Row, Text};
+use sim_site::Site;
+use sim_windows::run_alone;
+use sqs_message::Text;
 use sqs_model::Finals;
 use std::alloc::{AllocError, Global};
-use std::marker::Model;
 
-/// What the whole run of a scenario leaves: the rows of its log, and what is left in its queues, on
+/// What the whole run of a scenario leaves: the report of its rows, and what is left in its queues, on
 /// the way and in its move tasks at the end.
 #[derive(Drop)]
 pub struct Outcome {
-    names: Names,
-    queues: usize,
-    rows: Vec<Row>,
-    finals: Finals,
     report: Report,
+    finals: Finals,
 }
 
-impl Model for Outcome {
-    ghost use Rattle.std.specs.Prelude.{◌≡◌, take};
-    ghost use Rattle.sim_report.specs.Running.{running};
-    ghost use Rattle.sqs_rehearsal.specs.Outcomes.{Outcome};
-
-    ghost Value = { Outcome };
-
-    ghost view = { λ o. record { names = o.names; queues = o.queues; rows = o.rows.items; finals = o.finals } };
-
-    ghost invariant = { λ o. o.report ≡ running (take o.queues o.names) o.rows.items };
-}
-
-// Copies of texts.
-fn copies(alloc: Global, texts: &[Text]) -> Result<Vec<Text>, AllocError>
+/// Copies of texts. The error is want of memory.
+pub fn copies(alloc: Global, texts: &[Text]) -> Result<Vec<Text>, AllocError>
     ensures { IfOk result (λ copies. copies.items ≡ texts.now) }
 {
     let mut copies = Vec::new(alloc);
@@ -54,22 +40,32 @@ fn copies(alloc: Global, texts: &[Text]) -> Result<Vec<Text>, AllocError>
     Ok(copies)
 }
 
-// The report of queues of these names over rows, without what is left.
-fn report_of(alloc: Global, names: &[Text], rows: &[Row]) -> Result<Report, AllocError>
-    ensures { IfOk result (λ report. report ≡ running names.now rows.now) }
+/// The report of no rows of a scenario. The error is want of memory.
+pub fn fresh_report(alloc: Global, scenario: &Scenario) -> Result<Report, AllocError>
+    ensures { IfOk result (λ report. report ≡ running (queue_names scenario.now) []) }
 {
-    let mut report = Report::new(alloc, copies(alloc, names)?)?;
-    report.add(rows)?;
-    Ok(report)
+    let queues = scenario.queues().len();
+    let names = copies(alloc, &scenario.names()[..queues])?;
+    Report::new(alloc, names)
 }
 
-// Hands on what a writer has taken.
-fn flush<W: Out>(out: &mut W) -> Result<(), Refusal>
+/// Hands on what a writer has taken.
+pub fn flush<W: Out>(out: &mut W) -> Result<(), Refusal>
     requires { W.failed out.old ≡ false }
     ensures { WroteSeveral (W.held out.old) (W.held out.new) (W.failed out.new) [] result }
 {
     out.flush()?;
     Ok(())
+}
+
+// Runs a scenario to its horizon on this thread, and counts its rows.
+fn run_counted(alloc: Global, scenario: Scenario, report: &mut Report) -> Result<Vec<Site>, Refusal>
+    requires fresh { report.old ≡ running (queue_names scenario) [] }
+    ensures whole { IfOk result (λ sites. HasCounted scenario report.new sites.items) }
+    ensures stops { IfErr result (Stops scenario) }
+{
+    let mut counter = Counter { report };
+    run_alone(alloc, scenario, &mut counter)
 }
 
 impl Outcome {
@@ -80,30 +76,25 @@ impl Outcome {
     /// `CountLimit`, only where the one-list run takes a count past 2^62 - 1; `Memory`.
     pub fn of(alloc: Global, scenario: Scenario) -> Result<Outcome, Refusal>
         ensures whole { IfOk result (IsOutcomeOf scenario) }
-        ensures has_queues { IfOk result (λ _. HasItsQueues scenario) }
         ensures stops { IfErr result (Stops scenario) }
     {
-        let horizon = scenario.horizon();
-        let queues = scenario.queues().len();
-        let names = copies(alloc, scenario.names())?;
-        let world = World::open(alloc, scenario)?;
-        let (sites, rows) = world.run(horizon)?.into_parts();
-        let finals = finals_of(alloc, sites.as_slice())?;
-        let report = report_of(alloc, &names[..queues], rows.as_slice())?;
-        Ok(Outcome {
-            names: Names::new(names),
-            queues,
-            rows,
-            finals,
-            report,
-        })
+        let mut report = fresh_report(alloc, &scenario)?;
+        let sites = run_counted(alloc, scenario, &mut report)?;
+        let outcome = Outcome::at_end(alloc, report, sites.as_slice())?;
+        Ok(outcome)
     }
 
-    /// The rows of the log, in order.
-    pub fn rows(&self) -> &[Row]
-        ensures { result.now ≡ self.now.rows }
+    /// The outcome of a run by the report of its rows and the sites of its last world. The error is
+    /// want of memory.
+    pub(crate) fn at_end(
+        alloc: Global,
+        report: Report,
+        sites: &[Site],
+    ) -> Result<Outcome, AllocError>
+        ensures { (s : TheScenario) (r : Run) → report ≡ running (queue_names s) r.rows → sites.now ≡ map alive r.sites → IfOk result (IsLeftBy s r) }
     {
-        self.rows.as_slice()
+        let finals = finals_of(alloc, sites)?;
+        Ok(Outcome { report, finals })
     }
 
     /// What is left at the end.
@@ -113,49 +104,33 @@ impl Outcome {
         &self.finals
     }
 
-    /// Writes the log, its header first, and flushes the writer.
-    ///
-    /// # Errors
-    ///
-    /// `Memory` where a growth is refused, `Write` where the writer fails: a front of the log is
-    /// written.
-    pub fn write_log<W: Out>(&self, alloc: Global, out: &mut W) -> Result<(), Refusal>
-        requires { W.failed out.old ≡ false }
-        ensures { WroteSeveral (W.held out.old) (W.held out.new) (W.failed out.new) (log_text self.now.names self.now.rows) result }
-    {
-        self.write_rows(alloc, out)?;
-        flush(out)
-    }
-
-    // Writes the log.
-    fn write_rows<W: Out>(&self, alloc: Global, out: &mut W) -> Result<(), Refusal>
-        requires { W.failed out.old ≡ false }
-        ensures { WroteSeveral (W.held out.old) (W.held out.new) (W.failed out.new) (log_text self.now.names self.now.rows) result }
-    {
-        write_header(alloc, out)?;
-        write_rows(alloc, out, self.rows.as_slice(), &self.names)
-    }
-
-    /// Writes what is left at the end and the report, and flushes the writer.
+    /// Writes what is left at the end and the report, and flushes the writer. The names are those of
+    /// all agents.
     ///
     /// # Errors
     ///
     /// `Memory` where a growth is refused, `Write` where the writer fails: a front of the two is
     /// written.
-    pub fn write_ending<W: Out>(&self, alloc: Global, out: &mut W) -> Result<(), Refusal>
+    pub fn write_ending<W: Out>(
+        &self,
+        alloc: Global,
+        names: &Names,
+        out: &mut W,
+    ) -> Result<(), Refusal>
         requires { W.failed out.old ≡ false }
-        ensures { WroteSeveral (W.held out.old) (W.held out.new) (W.failed out.new) (finals_text self.now.names self.now.finals ++ report_text (report_in self.now)) result }
+        ensures { (s : TheScenario) (r : Run) → names.now ≡ s.names → IsLeftBy s r self.now → WroteSeveral (W.held out.old) (W.held out.new) (W.failed out.new) (ending_of s r) result }
     {
-        self.write_left(alloc, out)?;
+        self.write_left(alloc, names, out)?;
         flush(out)
     }
 
     // Writes what is left at the end, and the report.
-    fn write_left<W: Out>(&self, alloc: Global, out: &mut W) -> Result<(), Refusal>
+    fn write_left<W: Out>(&self, alloc: Global, names: &Names, out: &mut W) -> Result<(), Refusal>
         requires { W.failed out.old ≡ false }
-        ensures { WroteSeveral (W.held out.old) (W.held out.new) (W.failed out.new) (finals_text self.now.names self.now.finals ++ report_text (report_in self.now)) result }
+        ensures works { OnOk result (W.failed out.new ≡ false) }
+        ensures written { (s : TheScenario) (r : Run) → names.now ≡ s.names → IsLeftBy s r self.now → WroteSeveral (W.held out.old) (W.held out.new) (W.failed out.new) (ending_of s r) result }
     {
-        write_finals(alloc, out, &self.finals, &self.names)?;
+        write_finals(alloc, out, &self.finals, names)?;
         self.report.write_report(alloc, out, &self.finals)
     }
 }
@@ -173,7 +148,7 @@ pub fn compare<W: Out>(
     second: &Outcome,
 ) -> Result<(), Refusal>
     requires { W.failed out.old ≡ false }
-    ensures { WroteSeveral (W.held out.old) (W.held out.new) (W.failed out.new) (comparison (report_in first.now) (report_in second.now)) result }
+    ensures { (s t : TheScenario) (r u : Run) → IsLeftBy s r first.now → IsLeftBy t u second.now → WroteSeveral (W.held out.old) (W.held out.new) (W.failed out.new) (comparison (report_of s r) (report_of t u)) result }
 {
     sim_report::compare(
         alloc,

@@ -1,17 +1,22 @@
 //! A rehearsal, from bytes to bytes.
-ghost use Rattle.std.specs.Prelude.{◌≡◌, false, IfErr, IfOk, OnOk};
-ghost use Rattle.sim_records.specs.Writes.{WroteSeveral};
-ghost use Rattle.sqs_rehearsal.specs.Outcomes.{outcome_of};
-ghost use Rattle.sqs_rehearsal.specs.Rehearsals.{Bars, IsRefused, IsWritten, Rehearsed, Request, Writer};
-ghost use Rattle.sqs_rehearsal.specs.Options.{unless};
+ghost use Rattle.std.specs.Prelude.{◌≡◌, false, IfErr, Ok, OnOk};
+ghost use Rattle.sqs_formats.specs.Scenario.{scenario_of};
+ghost use Rattle.sqs_rehearsal.specs.Rehearsals.{IsRefused, IsWritten, Request};
+ghost use Rattle.sqs_rehearsal.specs.declared.rehearsal.Fault.TheVariants.{Refused};
+ghost use Rattle.sqs_rehearsal.specs.Writers.{Writer};
 
+use crate::logging::run_logged;
 use crate::options::Options;
-use crate::outcome::Outcome;
+use crate::outcome::{Outcome, copies, fresh_report};
 use sim_clock::Refusal;
-use sim_records::Out;
-use sim_scenario::{ReadError, Scripts, read};
+use sim_parallel::{Gate, Running};
+use sim_recorder::{Unwatched, Watch};
+use sim_records::{Names, Out};
+use sim_scenario::{ReadError, Scenario, Scripts, read};
 use sqs_formats::ScenarioFault;
 use std::alloc::Global;
+use std::sync::Wait;
+use std::thread::Threads;
 
 /// Why a rehearsal is refused.
 #[derive(Drop)]
@@ -48,56 +53,94 @@ impl From<Refusal> for Fault {
     }
 }
 
-// The outcome of a request.
-fn outcome(
+// Rehearses a scenario that was read.
+fn rehearse_scenario<G: Gate<Running> + Sync, L: Out, R: Out, P: Watch, W: Threads + Wait + Sync>(
+    rt: &W,
     alloc: Global,
-    text: &[u8],
-    scripts: &Scripts,
+    scenario: Scenario,
     options: &Options,
-) -> Result<Outcome, Fault>
-    ensures whole { IfOk result (λ o. (r : Rehearsed (record { text = text.now; scripts = scripts.now; options = options.now })) × (o ≡ outcome_of r.scenario r.run)) }
-    ensures barred { IfErr result (Bars (record { text = text.now; scripts = scripts.now; options = options.now })) }
-{
-    let scenario = read(alloc, text, scripts)?;
-    options.check(&scenario)?;
-    let outcome = Outcome::of(alloc, scenario)?;
-    Ok(outcome)
-}
-
-// Writes an outcome: its log to one writer, and then what is left at the end and the report to the
-// other.
-fn write<L: Out, R: Out>(
-    alloc: Global,
-    outcome: &Outcome,
+    gate: &G,
     log: &mut L,
     report: &mut R,
-) -> Result<(), Fault>
+    watch: &mut P,
+) -> Result<(), Refusal>
     requires log { L.failed log.old ≡ false }
     requires report { R.failed report.old ≡ false }
-    ensures written { (q : Request) (r : Rehearsed q) → outcome.now ≡ outcome_of r.scenario r.run → OnOk result (IsWritten q (record { before = L.held log.old; after = L.held log.new; failed = L.failed log.new }) (record { before = R.held report.old; after = R.held report.new; failed = R.failed report.new })) }
-    ensures refused { (q : Request) (r : Rehearsed q) → outcome.now ≡ outcome_of r.scenario r.run → IfErr result (IsRefused q (record { before = L.held log.old; after = L.held log.new; failed = L.failed log.new }) (record { before = R.held report.old; after = R.held report.new; failed = R.failed report.new })) }
+    ensures written { (q : Request) → scenario_of q.scripts q.text ≡ Ok scenario → q.options ≡ options.now → OnOk result (IsWritten q (record { before = L.held log.old; after = L.held log.new; failed = L.failed log.new }) (record { before = R.held report.old; after = R.held report.new; failed = R.failed report.new })) }
+    ensures refused { (q : Request) → scenario_of q.scripts q.text ≡ Ok scenario → q.options ≡ options.now → IfErr result (λ refusal. IsRefused q (record { before = L.held log.old; after = L.held log.new; failed = L.failed log.new }) (record { before = R.held report.old; after = R.held report.new; failed = R.failed report.new }) (Refused refusal)) }
 {
-    outcome.write_log(alloc, log)?;
-    outcome.write_ending(alloc, report)?;
-    Ok(())
+    let split = options.split(alloc, &scenario)?;
+    let names = Names::new(copies(alloc, scenario.names())?);
+    let mut counts = fresh_report(alloc, &scenario)?;
+    let sites = run_logged(
+        rt,
+        alloc,
+        scenario,
+        split,
+        gate,
+        &names,
+        log,
+        &mut counts,
+        watch,
+    )?;
+    let outcome = Outcome::at_end(alloc, counts, sites.as_slice())?;
+    outcome.write_ending(alloc, &names, report)
 }
 
-/// Rehearses a scenario: reads its text, with its scripts by their names, runs it, and writes the
-/// log to one writer, and what is left at the end and the report to the other. Both are flushed.
-/// How the run is split does not change what is written.
+/// Rehearses a scenario as `rehearse` does, and tells a watch how far the run has come, whenever rows are
+/// written.
 ///
 /// # Errors
 ///
-/// Nothing is written where the scenario has a fault, 10 to 20; where it can't be split so, `BadMap`,
-/// `WindowTooLong` or `BadWorkers`, the first of these that holds; nor after `CountLimit`, which
-/// comes only where the one-list run takes a count past 2^62 - 1. After `Write`, where a writer
-/// failed, and after `Memory` the log writer has got a front of the log, and the other a front of
-/// the rest, or nothing where the log was not written whole.
-pub fn rehearse<L: Out, R: Out>(
+/// Those of `rehearse`.
+pub fn rehearse_watched<
+    G: Gate<Running> + Sync,
+    L: Out,
+    R: Out,
+    P: Watch,
+    W: Threads + Wait + Sync,
+>(
+    rt: &W,
     alloc: Global,
     text: &[u8],
     scripts: &Scripts,
     options: &Options,
+    gate: &G,
+    log: &mut L,
+    report: &mut R,
+    watch: &mut P,
+) -> Result<(), Fault>
+    requires log { L.failed log.old ≡ false }
+    requires report { R.failed report.old ≡ false }
+    ensures written { OnOk result (IsWritten (record { text = text.now; scripts = scripts.now; options = options.now }) (record { before = L.held log.old; after = L.held log.new; failed = L.failed log.new }) (record { before = R.held report.old; after = R.held report.new; failed = R.failed report.new })) }
+    ensures refused { IfErr result (IsRefused (record { text = text.now; scripts = scripts.now; options = options.now }) (record { before = L.held log.old; after = L.held log.new; failed = L.failed log.new }) (record { before = R.held report.old; after = R.held report.new; failed = R.failed report.new })) }
+{
+    let scenario = read(alloc, text, scripts)?;
+    rehearse_scenario(rt, alloc, scenario, options, gate, log, report, watch)?;
+    Ok(())
+}
+
+/// Rehearses a scenario: reads its text, with its scripts by their names, runs it with so many workers,
+/// its queues in partitions, writes the log to one writer as the run goes on, and then what is left at
+/// the end and the report to the other. Both are flushed. How the run is split does not change what is
+/// written. Each piece of a partition's run goes through the gate; `sim_parallel::Open` only runs it.
+///
+/// # Errors
+///
+/// Nothing is written where the scenario has a fault, 10 to 20, nor where it can't be split so:
+/// `BadMap`, `WindowTooLong` or `BadWorkers`, the first of these that holds. After `NoWorker`, where a
+/// thread could not be started, the log writer has got the header and the other nothing. After
+/// `CountLimit`, which comes only where the one-list run takes a count past 2^62 - 1, the log writer
+/// has got a front of the log, and the other nothing. After `Write`, where a writer failed, and after
+/// `Memory` the log writer has got a front of the log, and the other a front of the rest, or nothing
+/// where the log was not written whole.
+pub fn rehearse<G: Gate<Running> + Sync, L: Out, R: Out, W: Threads + Wait + Sync>(
+    rt: &W,
+    alloc: Global,
+    text: &[u8],
+    scripts: &Scripts,
+    options: &Options,
+    gate: &G,
     log: &mut L,
     report: &mut R,
 ) -> Result<(), Fault>
@@ -106,6 +149,8 @@ pub fn rehearse<L: Out, R: Out>(
     ensures written { OnOk result (IsWritten (record { text = text.now; scripts = scripts.now; options = options.now }) (record { before = L.held log.old; after = L.held log.new; failed = L.failed log.new }) (record { before = R.held report.old; after = R.held report.new; failed = R.failed report.new })) }
     ensures refused { IfErr result (IsRefused (record { text = text.now; scripts = scripts.now; options = options.now }) (record { before = L.held log.old; after = L.held log.new; failed = L.failed log.new }) (record { before = R.held report.old; after = R.held report.new; failed = R.failed report.new })) }
 {
-    let outcome = outcome(alloc, text, scripts, options)?;
-    write(alloc, &outcome, log, report)
+    let mut watch = Unwatched;
+    rehearse_watched(
+        rt, alloc, text, scripts, options, gate, log, report, &mut watch,
+    )
 }

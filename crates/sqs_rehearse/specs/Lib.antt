@@ -1,3 +1,4 @@
 pub mod Inputs
+pub mod Progress
 pub mod Splits
 pub mod Statuses

@@ -6,6 +6,7 @@ mod check;
 mod compare;
 mod faults;
 mod files;
+mod progress;
 mod run;
 mod splits;
 #[cfg(test)]
@@ -25,6 +26,8 @@ use sim_clock::Refusal;
 use sqs_command_line::{Line, LineFault, line};
 use std::alloc::{AllocFailed, Global};
 use std::process::ExitCode;
+use std::sync::Wait;
+use std::thread::Threads;
 use std::{env, io};
 
 // Why the words can't be had: memory was refused, or one is not UTF-8.
@@ -76,18 +79,18 @@ fn tell(rt: &HostRuntime, error: &Error) -> ExitCode
 }
 
 // Does what a line asks for.
-fn obey(rt: &HostRuntime, asked: Line<'_>) -> ExitCode {
+fn obey<W: Threads + Wait + Sync>(rt: &HostRuntime, threads: &W, asked: Line<'_>) -> ExitCode {
     match asked {
         Line::Check(asked) => check::check(rt, asked),
-        Line::Run(asked) => run::run(rt, asked),
+        Line::Run(asked) => run::run(rt, threads, asked),
         Line::Compare(asked) => compare::compare(rt, asked),
     }
 }
 
 // Does what the words ask for.
-fn obey_words(rt: &HostRuntime, words: &[&str]) -> ExitCode {
+fn obey_words<W: Threads + Wait + Sync>(rt: &HostRuntime, threads: &W, words: &[&str]) -> ExitCode {
     match line(rt.alloc(), words) {
-        Ok(asked) => obey(rt, asked),
+        Ok(asked) => obey(rt, threads, asked),
         Err(LineFault::Words(error)) => tell(rt, &error),
         Err(LineFault::Unread) => faults::tell(rt, Stop::Unread),
     }
@@ -108,7 +111,7 @@ fn main(rt: HostRuntime) -> ExitCode {
         Err(stop) => return faults::tell(&rt, stop),
     };
     match borrowed(rt.alloc(), words.as_slice()) {
-        Ok(given) => obey_words(&rt, given.as_slice()),
+        Ok(given) => obey_words(&rt, &rt, given.as_slice()),
         Err(_) => faults::tell(&rt, Stop::from(Refusal::Memory)),
     }
 }

@@ -3,43 +3,56 @@ ghost use Rattle.std.specs.Prelude.{◌≡◌, false};
 
 use crate::faults::{Stop, tell, write_refusal};
 use crate::files::{Inputs, buffered, read_inputs};
+use crate::progress::Progress;
 use crate::splits::split;
 use sim_records::Out;
 use sqs_command_line::RunLine;
-use sqs_rehearsal::{Options, rehearse};
+use sqs_rehearsal::{Open, Options, rehearse_watched};
 use std::fs::File;
 use std::process::ExitCode;
+use std::sync::Wait;
+use std::thread::Threads;
 
 // Rehearses with this writer for the log; the rest goes to standard output.
-fn write<'a, L: Out>(
+fn write<'a, L: Out, W: Threads + Wait + Sync>(
     rt: &HostRuntime,
+    threads: &W,
     inputs: &Inputs,
     split: &Options,
     log: &mut L,
+    mut progress: Progress<'_>,
 ) -> Result<(), Stop<'a>>
     requires { L.failed log.old ≡ false }
 {
-    let alloc = rt.alloc();
     let mut report = buffered(rt, rt.stdout())?;
-    rehearse(
-        alloc,
+    let answer = rehearse_watched(
+        threads,
+        rt.alloc(),
         inputs.text.as_slice(),
         &inputs.scripts,
         split,
+        &Open,
         log,
         &mut report,
-    )?;
-    Ok(())
+        &mut progress,
+    );
+    progress.end();
+    Ok(answer?)
 }
 
 // Rehearses what a line asks for.
-fn rehearsed<'a>(rt: &HostRuntime, asked: RunLine<'a>) -> Result<(), Stop<'a>> {
+fn rehearsed<'a, W: Threads + Wait + Sync>(
+    rt: &HostRuntime,
+    threads: &W,
+    asked: RunLine<'a>,
+) -> Result<(), Stop<'a>> {
     let inputs = read_inputs(rt, asked.scenario, asked.scripts)?;
     let split = split(rt.alloc(), asked)?;
+    let progress = Progress::new(rt, asked.quiet, asked.log.is_some());
     match asked.log {
         None => {
             let mut log = buffered(rt, rt.stdout())?;
-            write(rt, &inputs, &split, &mut log)
+            write(rt, threads, &inputs, &split, &mut log, progress)
         }
         Some(path) => {
             let file = match File::create(rt, path) {
@@ -47,15 +60,19 @@ fn rehearsed<'a>(rt: &HostRuntime, asked: RunLine<'a>) -> Result<(), Stop<'a>> {
                 Err(error) => return Err(Stop::from(write_refusal(&error))),
             };
             let mut log = buffered(rt, file)?;
-            write(rt, &inputs, &split, &mut log)
+            write(rt, threads, &inputs, &split, &mut log, progress)
         }
     }
 }
 
-/// Rehearses a scenario: its log goes to a file or else to standard output, what is left at the end
-/// and the report to standard output.
-pub fn run(rt: &HostRuntime, asked: RunLine<'_>) -> ExitCode {
-    match rehearsed(rt, asked) {
+/// Rehearses a scenario, with its workers on threads of these: its log goes to a file or else to
+/// standard output, what is left at the end and the report to standard output.
+pub fn run<W: Threads + Wait + Sync>(
+    rt: &HostRuntime,
+    threads: &W,
+    asked: RunLine<'_>,
+) -> ExitCode {
+    match rehearsed(rt, threads, asked) {
         Ok(()) => ExitCode::SUCCESS,
         Err(stop) => tell(rt, stop),
     }

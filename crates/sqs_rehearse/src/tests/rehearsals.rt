@@ -2,134 +2,19 @@
 ghost use Rattle.std.specs.Prelude.{◌≡◌, false};
 ghost use Rattle.sim_records.specs.Writers.{has_failed};
 
+use crate::tests::machines::{names, scenario};
+use crate::tests::worked::{NO_ACTOR, ONE_GROUP, ONE_SEND, TWO_DELETES, Worked};
 use sim_clock::Refusal;
-use sim_records::ToWriter;
-use sim_scenario::{Scenario, Scripts, read};
-use sim_windows::World;
-use sqs_rehearsal::{Fault, Options, Outcome, compare, finals_of, rehearse};
+use sim_records::{Names, ToWriter};
+use sim_scenario::{Scenario, Scripts};
+use sim_sink::Limit;
+use sim_windows::run_alone;
+use sqs_rehearsal::{Fault, Open, Options, Outcome, compare, finals_of, rehearse};
 use std::alloc::Global;
 use std::io::{Error, ErrorKind, Write};
 use std::process::Abort;
-use std::test::Fail;
-
-/// One queue to which one message is sent.
-const ONE_SEND: &[u8] = b"version = 1
-horizon = 1000
-[[queue]]
-name = \"q\"
-[[actor]]
-name = \"s\"
-kind = \"script\"
-queue = \"q\"
-calls = \"\"\"
-at,call,body,group,id,delay,receipt,max,wait,timeout,task
-0,send,abc,,,,,,,,
-\"\"\"
-";
-
-/// The same with nobody to send it.
-const NO_ACTOR: &[u8] = b"version = 1
-horizon = 1000
-[[queue]]
-name = \"q\"
-";
-
-/// A message is received twice, and deleted by the older receipt and by the newest.
-const TWO_DELETES: &[u8] = b"version = 1
-horizon = 2000
-[[queue]]
-name = \"q\"
-visibility_s = 1
-[[actor]]
-name = \"s\"
-kind = \"script\"
-queue = \"q\"
-calls = \"\"\"
-at,call,body,group,id,delay,receipt,max,wait,timeout,task
-0,send,abc,,,,,,,,
-100,receive,,,,,,,,,
-1200,receive,,,,,,,,,
-1300,delete,,,,,r-0-0-1,,,,
-1400,delete,,,,,r-0-0-2,,,,
-\"\"\"
-";
-
-/// A FIFO queue takes a message once, and gives the next of its group when that one is deleted.
-const ONE_GROUP: &[u8] = b"version = 1
-horizon = 1000
-[[queue]]
-name = \"q.fifo\"
-[[actor]]
-name = \"s\"
-kind = \"script\"
-queue = \"q.fifo\"
-calls = \"\"\"
-at,call,body,group,id,delay,receipt,max,wait,timeout,task
-0,send,abc,g,x,,,,,,
-100,send,abc,g,x,,,,,,
-200,receive,,,,,,,,,
-300,send,abc,g,y,,,,,,
-400,receive,,,,,,,,,
-500,delete,,,,,r-0-0-1,,,,
-600,receive,,,,,,,,,
-\"\"\"
-";
-
-const ONE_SEND_LOG: &[u8] = b"at,queue,agent,call,answer,message,receipt,detail
-0,q,s,send,new,m-0-0,,900150983cd24fb0d6963f7d28e17f72
-";
-
-const ONE_SEND_ENDING: &[u8] = b"final,queue,message,origin,place,due,enqueued,receives,group,md5
-final,q,m-0-0,o-0-0,visible,,0,0,,900150983cd24fb0d6963f7d28e17f72
-transfer,from,to,kind,due,number,message,origin,md5
-task,name,status,moved
-report,queue,sends,repeats,receives,empties,deletes,expiries,redrives,moves,arrivals,OverLimit,MessageNotInflight,ReceiptHandleIsInvalid,BadTimeout,MissingGroup,MissingDeduplication,BadDelay,TaskRunning,NoTask,depth_max,visible,in_flight,delayed,age_sum,age_max,age_p50,age_p95,age_p99
-report,q,1,0,0,0,0,0,0,0,0,0,0,0,0,0,0,0,0,0,1,1,0,0,0,,,,
-";
-
-const NO_ACTOR_LOG: &[u8] = b"at,queue,agent,call,answer,message,receipt,detail
-";
-
-const NO_ACTOR_ENDING: &[u8] = b"final,queue,message,origin,place,due,enqueued,receives,group,md5
-transfer,from,to,kind,due,number,message,origin,md5
-task,name,status,moved
-report,queue,sends,repeats,receives,empties,deletes,expiries,redrives,moves,arrivals,OverLimit,MessageNotInflight,ReceiptHandleIsInvalid,BadTimeout,MissingGroup,MissingDeduplication,BadDelay,TaskRunning,NoTask,depth_max,visible,in_flight,delayed,age_sum,age_max,age_p50,age_p95,age_p99
-report,q,0,0,0,0,0,0,0,0,0,0,0,0,0,0,0,0,0,0,0,0,0,0,0,,,,
-";
-
-const TWO_DELETES_LOG: &[u8] = b"at,queue,agent,call,answer,message,receipt,detail
-0,q,s,send,new,m-0-0,,900150983cd24fb0d6963f7d28e17f72
-100,q,s,receive,ok,m-0-0,r-0-0-1,o-0-0
-1100,q,q,release,visible,m-0-0,,
-1200,q,s,receive,ok,m-0-0,r-0-0-2,o-0-0
-1300,q,s,delete,kept,m-0-0,r-0-0-1,
-1400,q,s,delete,deleted,m-0-0,r-0-0-2,1400
-";
-
-const TWO_DELETES_ENDING: &[u8] = b"final,queue,message,origin,place,due,enqueued,receives,group,md5
-transfer,from,to,kind,due,number,message,origin,md5
-task,name,status,moved
-report,queue,sends,repeats,receives,empties,deletes,expiries,redrives,moves,arrivals,OverLimit,MessageNotInflight,ReceiptHandleIsInvalid,BadTimeout,MissingGroup,MissingDeduplication,BadDelay,TaskRunning,NoTask,depth_max,visible,in_flight,delayed,age_sum,age_max,age_p50,age_p95,age_p99
-report,q,1,0,2,0,1,0,0,0,0,0,0,0,0,0,0,0,0,0,1,0,0,0,1400,1400,1400,1400,1400
-";
-
-const ONE_GROUP_LOG: &[u8] = b"at,queue,agent,call,answer,message,receipt,detail
-0,q.fifo,s,send,new,m-0-0,,900150983cd24fb0d6963f7d28e17f72
-100,q.fifo,s,send,repeat,m-0-0,,900150983cd24fb0d6963f7d28e17f72
-200,q.fifo,s,receive,ok,m-0-0,r-0-0-1,o-0-0
-300,q.fifo,s,send,new,m-0-1,,900150983cd24fb0d6963f7d28e17f72
-400,q.fifo,s,receive,empty,,,
-500,q.fifo,s,delete,deleted,m-0-0,r-0-0-1,500
-600,q.fifo,s,receive,ok,m-0-1,r-0-1-1,o-0-1
-";
-
-const ONE_GROUP_ENDING: &[u8] = b"final,queue,message,origin,place,due,enqueued,receives,group,md5
-final,q.fifo,m-0-1,o-0-1,inflight,30600,300,1,g,900150983cd24fb0d6963f7d28e17f72
-transfer,from,to,kind,due,number,message,origin,md5
-task,name,status,moved
-report,queue,sends,repeats,receives,empties,deletes,expiries,redrives,moves,arrivals,OverLimit,MessageNotInflight,ReceiptHandleIsInvalid,BadTimeout,MissingGroup,MissingDeduplication,BadDelay,TaskRunning,NoTask,depth_max,visible,in_flight,delayed,age_sum,age_max,age_p50,age_p95,age_p99
-report,q.fifo,2,1,2,1,1,0,0,0,0,0,0,0,0,0,0,0,0,0,2,0,1,0,500,500,500,500,500
-";
+use std::sync::Wait;
+use std::thread::Threads;
 
 /// Takes a byte a call, and fails its call after so many; a flush is a call.
 #[derive(Drop)]
@@ -169,7 +54,7 @@ fn writer(alloc: Global, left: usize) -> ToWriter<ByteByByte>
 }
 
 /// How a rehearsal is split that has one partition and one worker.
-fn whole() -> Options {
+pub fn whole() -> Options {
     Options {
         window: None,
         parts: None,
@@ -198,7 +83,8 @@ fn is_missing(answer: &Result<(), Fault>, place: &[u8]) -> bool {
 }
 
 /// A rehearsal without script files.
-fn rehearsed(
+fn rehearsed<W: Threads + Wait + Sync>(
+    rt: &W,
     alloc: Global,
     text: &[u8],
     split: &Options,
@@ -209,18 +95,23 @@ fn rehearsed(
     requires ending { has_failed ending.old ≡ false }
 {
     let scripts = Scripts::new(Vec::new(alloc));
-    rehearse(alloc, text, &scripts, split, log, ending)
+    rehearse(rt, alloc, text, &scripts, split, &Open, log, ending)
 }
 
 /// What a rehearsal writes, to writers that take all, and that it is not refused.
-fn try_written(rt: &impl Abort, alloc: Global, split: &Options, given: (&[u8], &[u8], &[u8])) {
-    let (text, log, ending) = given;
-    try_stopped(rt, alloc, (text, split), (MANY, MANY), (None, log, ending));
+pub fn try_written<W: Threads + Wait + Sync + Abort>(
+    rt: &W,
+    alloc: Global,
+    split: &Options,
+    given: Worked,
+) {
+    let wanted = (None, given.log, given.ending);
+    try_stopped(rt, alloc, (given.text, split), (MANY, MANY), wanted);
 }
 
 /// What a rehearsal answers and writes, to writers that fail after so many calls.
-fn try_stopped(
-    rt: &impl Abort,
+pub fn try_stopped<W: Threads + Wait + Sync + Abort>(
+    rt: &W,
     alloc: Global,
     given: (&[u8], &Options),
     left: (usize, usize),
@@ -228,24 +119,34 @@ fn try_stopped(
 ) {
     let mut log = writer(alloc, left.0);
     let mut ending = writer(alloc, left.1);
-    let answer = rehearsed(alloc, given.0, given.1, &mut log, &mut ending);
+    let answer = rehearsed(rt, alloc, given.0, given.1, &mut log, &mut ending);
     assert!(rt; has_answered(&answer, &wanted.0), "{:?}", wanted.0);
     assert_eq!(rt; log.into_inner().held.as_slice(), wanted.1);
     assert_eq!(rt; ending.into_inner().held.as_slice(), wanted.2);
 }
 
+/// How many calls a writer takes that takes all.
 const MANY: usize = 1_000_000;
+
+/// A log writer that fails after so many calls is left with so much of the log, and nothing else is
+/// written.
+pub fn try_each_failing_log<W: Threads + Wait + Sync + Abort>(
+    rt: &W,
+    alloc: Global,
+    split: &Options,
+    given: Worked,
+) {
+    let failed = Some(Refusal::Write);
+    for left in 0..=given.log.len() {
+        let wanted = (failed, &given.log[..left], b"".as_slice());
+        try_stopped(rt, alloc, (given.text, split), (left, MANY), wanted);
+    }
+}
 
 #[test]
 fn worked_scenarios_to_the_byte(rt: HostRuntime) {
-    let table: &[(&[u8], &[u8], &[u8])] = &[
-        (ONE_SEND, ONE_SEND_LOG, ONE_SEND_ENDING),
-        (NO_ACTOR, NO_ACTOR_LOG, NO_ACTOR_ENDING),
-        (TWO_DELETES, TWO_DELETES_LOG, TWO_DELETES_ENDING),
-        (ONE_GROUP, ONE_GROUP_LOG, ONE_GROUP_ENDING),
-    ];
     let split = whole();
-    for &given in table {
+    for given in [ONE_SEND, NO_ACTOR, TWO_DELETES, ONE_GROUP] {
         try_written(&rt, rt.alloc(), &split, given);
     }
 }
@@ -256,14 +157,18 @@ fn the_longest_window_is_the_least_latency(rt: HostRuntime) {
         window: Some(1001),
         ..whole()
     };
-    let given = (ONE_SEND, ONE_SEND_LOG, ONE_SEND_ENDING);
-    try_written(&rt, rt.alloc(), &longest, given);
+    try_written(&rt, rt.alloc(), &longest, ONE_SEND);
 }
 
 /// A rehearsal that cannot be split so writes nothing.
-fn try_split(rt: &impl Abort, alloc: Global, split: &Options, refusal: Refusal) {
+fn try_split<W: Threads + Wait + Sync + Abort>(
+    rt: &W,
+    alloc: Global,
+    split: &Options,
+    refusal: Refusal,
+) {
     let wanted = (Some(refusal), b"".as_slice(), b"".as_slice());
-    try_stopped(rt, alloc, (ONE_SEND, split), (MANY, MANY), wanted);
+    try_stopped(rt, alloc, (ONE_SEND.text, split), (MANY, MANY), wanted);
 }
 
 #[test]
@@ -293,53 +198,37 @@ fn what_a_rehearsal_refuses(rt: HostRuntime) {
 fn a_fault_has_its_place(rt: HostRuntime) {
     let mut log = writer(rt.alloc(), MANY);
     let mut ending = writer(rt.alloc(), MANY);
-    let answer = rehearsed(rt.alloc(), b"version = 1", &whole(), &mut log, &mut ending);
+    let text = b"version = 1";
+    let answer = rehearsed(&rt, rt.alloc(), text, &whole(), &mut log, &mut ending);
     assert!(rt; is_missing(&answer, b"horizon"));
 }
 
 #[test]
 fn each_failing_call_leaves_what_came_before(rt: HostRuntime) {
     let split = whole();
-    let failed = Some(Refusal::Write);
-    for left in 0..=ONE_SEND_LOG.len() {
-        let wanted = (failed, &ONE_SEND_LOG[..left], b"".as_slice());
-        try_stopped(&rt, rt.alloc(), (ONE_SEND, &split), (left, MANY), wanted);
-    }
-    for left in 0..=ONE_SEND_ENDING.len() {
-        let wanted = (failed, ONE_SEND_LOG, &ONE_SEND_ENDING[..left]);
-        try_stopped(&rt, rt.alloc(), (ONE_SEND, &split), (MANY, left), wanted);
+    try_each_failing_log(&rt, rt.alloc(), &split, ONE_SEND);
+    for left in 0..=ONE_SEND.ending.len() {
+        let wanted = (Some(Refusal::Write), ONE_SEND.log, &ONE_SEND.ending[..left]);
+        try_stopped(
+            &rt,
+            rt.alloc(),
+            (ONE_SEND.text, &split),
+            (MANY, left),
+            wanted,
+        );
     }
 }
 
 /// The outcome of a scenario; none for want of memory, or where the text is none.
 fn outcome(alloc: Global, text: &[u8]) -> Option<Outcome> {
-    let scripts = Scripts::new(Vec::new(alloc));
-    let scenario = read(alloc, text, &scripts).ok()?;
-    Outcome::of(alloc, scenario).ok()
+    Outcome::of(alloc, scenario(alloc, text)?).ok()
 }
 
-/// Whether a call answered Ok, and the writer holds these bytes.
-fn is_written(out: &ToWriter<Vec<u8>>, answer: &Result<(), Refusal>, bytes: &[u8]) -> bool {
-    answer.is_ok() && out.get_ref().as_slice() == bytes
-}
-
-/// The log of an outcome.
-fn try_log(rt: &impl Abort, alloc: Global, outcome: &Outcome, log: &[u8]) {
+/// What an outcome leaves, and its report, and that all of it was written.
+fn try_ending(rt: &impl Abort, alloc: Global, outcome: &Outcome, names: &Names, ending: &[u8]) {
     let mut out = ToWriter::new(Vec::new(alloc));
-    let answer = outcome.write_log(alloc, &mut out);
-    assert!(rt; is_written(&out, &answer, log));
-}
-
-/// What is left in an outcome, and its report.
-fn try_ending(rt: &impl Abort, alloc: Global, outcome: &Outcome, ending: &[u8]) {
-    let mut out = ToWriter::new(Vec::new(alloc));
-    let answer = outcome.write_ending(alloc, &mut out);
-    assert!(rt; is_written(&out, &answer, ending));
-}
-
-/// Whether an outcome has so many rows, and so many messages are left in it.
-fn has_counts(outcome: &Outcome, rows: usize, messages: usize) -> bool {
-    outcome.rows().len() == rows && outcome.finals().messages.as_slice().len() == messages
+    assert_eq!(rt; outcome.write_ending(alloc, names, &mut out), Ok(()));
+    assert_eq!(rt; out.into_inner().as_slice(), ending);
 }
 
 /// The comparison of two outcomes, and whether all of it was written.
@@ -361,20 +250,21 @@ fn begins_with(text: &[u8], line: &[u8]) -> bool {
 
 #[test]
 fn outcomes_are_written(rt: HostRuntime) {
-    let outcome = outcome(rt.alloc(), ONE_SEND);
-    match &outcome {
-        Some(outcome) => {
-            assert!(rt; has_counts(outcome, 1, 1));
-            try_log(&rt, rt.alloc(), outcome, ONE_SEND_LOG);
-            try_ending(&rt, rt.alloc(), outcome, ONE_SEND_ENDING);
+    let given = scenario(rt.alloc(), ONE_SEND.text);
+    let names = given.and_then(|scenario| names(rt.alloc(), &scenario));
+    match (outcome(rt.alloc(), ONE_SEND.text), names) {
+        (Some(outcome), Some(names)) => {
+            assert_eq!(rt; outcome.finals().messages.as_slice().len(), 1);
+            try_ending(&rt, rt.alloc(), &outcome, &names, ONE_SEND.ending);
         }
-        None => assert!(rt; false),
+        _ => assert!(rt; false),
     }
 }
 
 #[test]
 fn outcomes_are_compared(rt: HostRuntime) {
-    let outcomes = (outcome(rt.alloc(), ONE_SEND), outcome(rt.alloc(), NO_ACTOR));
+    let sent = outcome(rt.alloc(), ONE_SEND.text);
+    let outcomes = (sent, outcome(rt.alloc(), NO_ACTOR.text));
     match &outcomes {
         (Some(first), Some(second)) => {
             let (text, is_whole) = compared(rt.alloc(), first, second);
@@ -386,22 +276,23 @@ fn outcomes_are_compared(rt: HostRuntime) {
     }
 }
 
-/// How many messages are left in the sites of a scenario's world when it has run.
+/// How many messages are left in the sites of a scenario when it has run on one thread.
 fn messages_left(alloc: Global, scenario: Scenario) -> Result<usize, Refusal> {
-    let horizon = scenario.horizon();
-    let (sites, _) = World::open(alloc, scenario)?.run(horizon)?.into_parts();
+    let sites = run_alone(alloc, scenario, &mut Limit { left: u64::MAX })?;
     let finals = finals_of(alloc, sites.as_slice())?;
     Ok(finals.messages.as_slice().len())
 }
 
 #[test]
 fn messages_are_left(rt: HostRuntime) {
-    let scripts = Scripts::new(Vec::new(rt.alloc()));
-    match read(rt.alloc(), ONE_SEND, &scripts) {
-        Ok(scenario) => {
-            assert_eq!(rt; whole().check(&scenario), Ok(()));
+    match scenario(rt.alloc(), ONE_SEND.text) {
+        Some(scenario) => {
+            match whole().split(rt.alloc(), &scenario) {
+                Ok(split) => assert_eq!(rt; (split.window, split.workers), (1001, 1)),
+                Err(_) => assert!(rt; false),
+            }
             assert_eq!(rt; messages_left(rt.alloc(), scenario), Ok(1));
         }
-        Err(_) => assert!(rt; false),
+        None => assert!(rt; false),
     }
 }

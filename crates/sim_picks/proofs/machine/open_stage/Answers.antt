@@ -14,15 +14,10 @@ use Rattle.sim_scenario.specs.Ranges.{IsInRange}
 use Rattle.sim_stage.specs.Stages.{IsOpened, Standing, Stands, standing_of}
 use Rattle.sim_stage.proofs.Opening.{opens}
 use Rattle.sqs_model.specs.Answers.{most_count}
-use Rattle.sqs_model.specs.Run.{Run}
 use Rattle.sqs_model.specs.Scenario.{Scenario, opening}
 use Rattle.sqs_model.specs.Site.{Site}
 use Rattle.sim_picks.proofs.Opening.{of_lists, opens_many, opens_numbered, opens_part, opens_parts}
 use Rattle.sim_picks.proofs.machine.open_stage.Goals as goal
-
--- the sites that a world opens with
-sites_are : (s : Scenario) (world : Run) (sites : List (Result Site Refusal)) → sites ≡ map alive world.sites → world ≡ record { sites = opening s; rows = [] } → sites ≡ map alive (opening s)
-sites_are s world sites e h = e ∙ ap (λ (w : Run). map alive w.sites) h
 
 -- no run is longer than counts reach
 short : (s : Scenario) → IsInRange s → s.horizon ≤ most_count
@@ -32,20 +27,20 @@ pub split_sites-requires : goal.split_sites-requires
 split_sites-requires c =
     let s : Scenario = c.args.scenario in
     let r : IsInRange s = c.horizon-horizon.ensures.range in
-    let sites : c.into_parts-sites.result.0.items ≡ map alive (opening s) = sites_are s c.in_ok-world.world c.into_parts-sites.result.0.items c.into_parts-sites.ensures.sites c.in_ok-world.ensures.opened in
+    let sites : c.in_ok-sites.sites.items ≡ map alive (opening s) = c.in_ok-sites.ensures.opened in
     omega (arith, ap (λ xs. length xs) sites, length-map (opening s) alive, opens_many s, r.few_queues.1)
 
 pub open_parts-requires : goal.open_parts-requires
 open_parts-requires c =
     let s : Scenario = c.args.scenario in
     let r : IsInRange s = c.horizon-horizon.ensures.range in
-    let sites : c.into_parts-sites.result.0.items ≡ map alive (opening s) = sites_are s c.in_ok-world.world c.into_parts-sites.result.0.items c.into_parts-sites.ensures.sites c.in_ok-world.ensures.opened in
+    let sites : c.in_ok-sites.sites.items ≡ map alive (opening s) = c.in_ok-sites.ensures.opened in
     of_lists IsPart c.in_ok-lists.lists.items (λ p. map alive (part_of (owner_of c.args.layout) p (opening s))) c.args.layout.parts (c.in_ok-lists.ensures (opening s) sites (opens_numbered s)) (λ p. opens_part s r.sound (owner_of c.args.layout) p)
 
 pub new-requires-2-clause-parts : goal.new-requires-2-clause-parts
 new-requires-2-clause-parts c =
     let s : Scenario = c.args.scenario in
-    let sites : c.into_parts-sites.result.0.items ≡ map alive (opening s) = sites_are s c.in_ok-world.world c.into_parts-sites.result.0.items c.into_parts-sites.ensures.sites c.in_ok-world.ensures.opened in
+    let sites : c.in_ok-sites.sites.items ≡ map alive (opening s) = c.in_ok-sites.ensures.opened in
     let parts = opens_parts s (owner_of c.args.layout) c.args.layout.parts c.in_ok-lists.lists.items c.in_ok-parts.parts.items (c.in_ok-lists.ensures (opening s) sites (opens_numbered s)) c.in_ok-parts.ensures in
     ap (λ xs. length xs) parts ∙ length-map-range_with_len (λ p. let x : Result (List Site) Refusal = Ok (part_of (owner_of c.args.layout) p (opening s)) in x) 0 c.args.layout.parts ∙ sym c.in_ok-distances.ensures.parts
 
@@ -54,7 +49,7 @@ returns-clause-stands c =
     let s : Scenario = c.args.scenario in
     let r : IsInRange s = c.horizon-horizon.ensures.range in
     let ok : IsLayout c.args.layout = subst IsLayout c.layout.view_is c.layout.invariant in
-    let sites : c.into_parts-sites.result.0.items ≡ map alive (opening s) = sites_are s c.in_ok-world.world c.into_parts-sites.result.0.items c.into_parts-sites.ensures.sites c.in_ok-world.ensures.opened in
+    let sites : c.in_ok-sites.sites.items ≡ map alive (opening s) = c.in_ok-sites.ensures.opened in
     let parts = opens_parts s (owner_of c.args.layout) c.args.layout.parts c.in_ok-lists.lists.items c.in_ok-parts.parts.items (c.in_ok-lists.ensures (opening s) sites (opens_numbered s)) c.in_ok-parts.ensures in
     IfOk-weaker c.new-2.result (λ g. IsOpened c.args.layout c.in_ok-distances.distances c.horizon-horizon.result c.in_ok-parts.parts.items (standing_of g)) (λ g. Stands s [] (standing_of g))
     (λ g o.

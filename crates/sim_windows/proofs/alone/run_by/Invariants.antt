@@ -1,0 +1,18 @@
+use Rattle.std.proofs.Common.{◌+◌, ◌-◌}
+use Rattle.std.specs.Prelude.{IsOk}
+use Rattle.sqs_model.specs.Dues.{world_due}
+use Rattle.sim_windows.specs.Sinks.{HasRun}
+use Rattle.sim_windows.specs.Worlds.{due_at, sites_in}
+use Rattle.sim_windows.proofs.alone.run_by.Given as goal
+
+abbrev pub invariant-loop-key : goal.invariant-loop-key
+invariant-loop-key g l =
+    record {
+      ready : g.K.RowSink.ready l.sink;
+      lives : IsOk l.partition;
+      ran : HasRun g.K.RowSink.took l.horizon (sites_in l.initial.partition) l.initial.sink (sites_in l.partition) l.sink;
+    }
+
+-- the time to the horizon
+abbrev pub decreases-loop-key : goal.decreases-loop-key
+decreases-loop-key g l = l.horizon + 1 - due_at l.horizon (world_due (sites_in l.partition))

@@ -1,0 +1,94 @@
+//! The run of a scenario, whose log is written as it goes on.
+ghost use Rattle.std.specs.Prelude.{◌≡◌, ◌≤◌, [], false, IfErr, IfOk, OnOk};
+ghost use Rattle.sim_report.specs.Running.{running};
+ghost use Rattle.sqs_formats.specs.Output.{log_of, queue_names};
+ghost use Rattle.sqs_formats.specs.Rows.{line, log_header};
+ghost use Rattle.sqs_model.specs.Run.{IsRunOf, Run};
+ghost use Rattle.sqs_model.specs.Scenario.{least_latency};
+ghost use Rattle.sqs_rehearsal.specs.Logs.{HasLogged, StopsLogging, rows_text};
+ghost use Rattle.sqs_rehearsal.specs.Writers.{Writer};
+
+use crate::options::Split;
+use crate::outcome::flush;
+use sim_clock::Refusal;
+use sim_parallel::{Gate, Running, run_workers};
+use sim_recorder::{Recorder, Watch};
+use sim_records::{Names, Out, write_header};
+use sim_report::Report;
+use sim_scenario::Scenario;
+use sim_site::Site;
+use std::alloc::Global;
+use std::sync::Wait;
+use std::thread::Threads;
+
+// Runs a scenario. Its rows go to a log, and are counted; the watch is told how far it has come.
+fn run_rows<'a, G: Gate<Running> + Sync, L: Out, P: Watch, W: Threads + Wait + Sync>(
+    rt: &W,
+    alloc: Global,
+    scenario: Scenario,
+    split: Split,
+    gate: &G,
+    names: &'a Names,
+    log: &'a mut L,
+    report: &'a mut Report,
+    watch: &'a mut P,
+) -> Result<Vec<Site>, Refusal>
+    requires works { L.failed log.old ≡ false }
+    requires names { names.now ≡ scenario.names }
+    requires fresh { report.old ≡ running (queue_names scenario) [] }
+    requires window { split.window ≤ least_latency scenario }
+    ensures whole { IfOk result (λ sites. HasLogged scenario (rows_text scenario) (record { before = L.held log.old; after = L.held log.new; failed = L.failed log.new }) report.new sites.items) }
+    ensures stops { (r : Run) → IsRunOf scenario r → IfErr result (StopsLogging scenario [] (rows_text scenario r) (record { before = L.held log.old; after = L.held log.new; failed = L.failed log.new })) }
+{
+    let horizon = scenario.horizon();
+    let mut recorder = Recorder {
+        alloc,
+        names,
+        out: log,
+        report,
+        watch,
+        horizon,
+    };
+    run_workers(
+        rt,
+        alloc,
+        scenario,
+        split.layout,
+        split.window,
+        split.workers,
+        gate,
+        &mut recorder,
+    )
+}
+
+/// Runs a scenario and writes its log, the header first, while its rows are counted. The log is flushed
+/// at the end. The names are those of all agents.
+///
+/// # Errors
+///
+/// `Memory` where a growth is refused, `CountLimit`, only where the one-list run takes a count past
+/// 2^62 - 1, and `Write` where the writer fails: a front of the log is written. `NoWorker` where the
+/// start of a thread is refused: the header is written.
+pub fn run_logged<G: Gate<Running> + Sync, L: Out, P: Watch, W: Threads + Wait + Sync>(
+    rt: &W,
+    alloc: Global,
+    scenario: Scenario,
+    split: Split,
+    gate: &G,
+    names: &Names,
+    log: &mut L,
+    report: &mut Report,
+    watch: &mut P,
+) -> Result<Vec<Site>, Refusal>
+    requires works { L.failed log.old ≡ false }
+    requires names { names.now ≡ scenario.names }
+    requires fresh { report.old ≡ running (queue_names scenario) [] }
+    requires window { split.window ≤ least_latency scenario }
+    ensures whole { IfOk result (λ sites. HasLogged scenario (log_of scenario) (record { before = L.held log.old; after = L.held log.new; failed = L.failed log.new }) report.new sites.items) }
+    ensures stops { (r : Run) → IsRunOf scenario r → IfErr result (StopsLogging scenario (line log_header) (log_of scenario r) (record { before = L.held log.old; after = L.held log.new; failed = L.failed log.new })) }
+{
+    write_header(alloc, log)?;
+    let sites = run_rows(rt, alloc, scenario, split, gate, names, log, report, watch)?;
+    flush(log)?;
+    Ok(sites)
+}
