@@ -3,7 +3,7 @@ use Rattle.sqs_model.specs.Dues.{world_due}
 use Rattle.std.specs.declared.cmp.Ordering.{Ordering}
 use Rattle.std.specs.List.{range_with_len}
 use Rattle.std.specs.Ordering.{is_lt, nat_cmp, ordering_then}
-use Rattle.std.specs.Prelude.{Bool, IsNone, List, None, Option, Some, [], cond, false, filter, if◌then◌else◌, true, ℕ, ◌++◌, ◌<◌, ◌==◌, ◌∷◌, ◌≡◌, ◌≤◌, not, ◌&&◌, map}
+use Rattle.std.specs.Prelude.{Bool, IsNone, List, None, Option, [], cond, false, filter, if◌then◌else◌, true, ℕ, ◌++◌, ◌<◌, ◌==◌, ◌∷◌, ◌≡◌, ◌≤◌, not, ◌&&◌, map}
 use Rattle.std.proofs.Common.{ap, append-nil, append_assoc, arith, refl, subst, sym, ◌∙◌, true≢false, Less, Equal, Greater, inl, inr}
 use Rattle.std.proofs.lemmas.Bool.{le-ltb, lt-ltb, ltb-false, ltb-true, cases_lt, ne_eqb}
 use Rattle.std.proofs.lemmas.List.Elements.{filter-append}
@@ -16,16 +16,16 @@ use Rattle.sqs_model.specs.Run.{IsWholeRun, Run, Stepped, after, handled_here, h
 use Rattle.sqs_model.specs.Site.{Site, number_of}
 use Rattle.sqs_model.specs.Ways.{IsRowOf}
 use Rattle.sqs_model.specs.Step.{handled}
-use Rattle.sim_machine.specs.Machine.{Machine, flushed, has_ready}
+use Rattle.sim_machine.specs.Machine.{Machine, flushed}
 use Rattle.sim_machine.specs.Merge.{merged_all, row_cmp}
 use Rattle.sim_machine.specs.Parts.{Entry, handled_in, has_due, part_due, part_of}
 use Rattle.sim_machine.proofs.Landing.{part_stepped, told_at, told_by}
 use Rattle.sim_machine.specs.Machine.{of_name}
 use Rattle.sim_machine.proofs.Runs.{IsRun, log, play}
-use Rattle.sim_machine.specs.Prefixes.{is_before, is_between}
+use Rattle.sim_machine.specs.Prefixes.{IsThrough, is_before, is_between}
 use Rattle.sim_machine.specs.Theorems.{rows_by, rows_of}
 use Rattle.sim_machine.proofs.Confluence.{Joined, joined}
-use Rattle.sim_machine.proofs.Machines.{Follows, MayNow, none_ready, same_before}
+use Rattle.sim_machine.proofs.Machines.{Follows, MayNow, early_before}
 use Rattle.sim_machine.proofs.Merge.{after_first, each_filter, merged_whole}
 use Rattle.sim_machine.proofs.Merged.{Owned, below, log_owned, map_same, part_rows, run_order, sent_later, tied_queue}
 use Rattle.sim_machine.proofs.OneList.{ended_run}
@@ -40,10 +40,6 @@ part_empty owner parts p o l [] = refl
 part_empty owner parts p o l (s ∷ ss) =
     let k : owner (number_of s.core) < parts = o (number_of s.core) in
     ap (λ b. cond b (s ∷ part_of owner p ss) (part_of owner p ss)) (ne_eqb (owner (number_of s.core)) p (λ e. absurd (omega arith))) ∙ part_empty owner parts p o l ss
-
-before_lower : (m e : ℕ) (d : Option Key) → m ≤ e → due_before e d ≡ None → due_before m d ≡ None
-before_lower m e None l h = refl
-before_lower m e (Some k) l h = let n : e ≤ k.at = not_before e k h in rw (le-ltb k.at m (omega arith)) refl
 
 -- a list in order, of which some are picked
 before_each : (x : Row) (xs : List Row) → Each (λ y. is_lt (row_cmp y x) ≡ false) xs → IsBefore row_cmp x xs
@@ -159,19 +155,19 @@ module _ (owner home : ℕ → ℕ) (edges : List Edge) (Fine : Site → Type 0)
             | false ↦ late_rows p xs h.1
           ]
 
-      -- where no partition may go on and no bound is before the moment, rows that a test picks from before it are those of the one-list run
+      -- where nothing is due before the moment and no bound is before it, rows that a test picks from before it are those of the one-list run
       pub picked_rows :
           (parts : ℕ) → ((n : ℕ) → owner n < parts) → (start : List Site) → Each Fine start → AreNumbered 0 start
           → (r : Run) → IsWholeRun horizon start r → (told : List (ℕ × Entry)) → IsTold owner home edges Fine Fits laws horizon start r told
-          → (m : Machine) → Follows owner home edges Fine Fits laws horizon start m → has_ready owner m ≡ false → ((p : ℕ) → p < parts → moment ≤ m.bounds p)
+          → (m : Machine) → Follows owner home edges Fine Fits laws horizon start m → IsThrough owner parts moment m
           → merged_all row_cmp (map (λ p. filter f (rows_by m.told p)) (range_with_len 0 parts)) ≡ filter f r.rows
-      picked_rows parts o start fine a r w told t m g ready l =
+      picked_rows parts o start fine a r w told t m g through =
           let step = part_stepped owner in
           let event = told_by owner in
           let from : AllFrom (flushed m) =
           λ p.
           elim (cases_lt p parts) as (λ _. due_before moment (part_due owner p (flushed m)) ≡ None) [
-            | inl k ↦ before_lower moment (m.bounds p) (part_due owner p (flushed m)) (l p k) (same_before owner home edges Fine Fits laws horizon m p g.late ∙ none_ready owner home edges Fine Fits laws horizon m.bounds p m.sites ready)
+            | inl k ↦ early_before owner home edges Fine Fits laws horizon m p moment (through.bounds p k) g.late ∙ through.none p k
             | inr k ↦ ap (λ z. due_before moment (world_due z)) (part_empty owner parts p o k (flushed m))
           ] in
           let j : Joined step event Now (apart owner home edges Fine Fits laws horizon) g.names t.names start = joined step event Now (apart owner home edges Fine Fits laws horizon) t.names g.names start t.runs g.runs in

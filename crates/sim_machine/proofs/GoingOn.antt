@@ -1,6 +1,6 @@
 -- A machine that is not finished has a pick that takes effect.
 use Rattle.std.specs.Option.{is_some}
-use Rattle.std.specs.Prelude.{false, not, true, ℕ, ◌<◌, ◌≡◌, ◌≤◌, ◌||◌}
+use Rattle.std.specs.Prelude.{false, not, true, ℕ, ◌<◌, ◌≡◌, ◌||◌}
 use Rattle.std.proofs.Common.{ap, arith, inl, inr, refl, sym, true≢false, ◌∙◌}
 use Rattle.std.proofs.lemmas.Bool.{cases_lt}
 use Rattle.sim_clock.specs.Order.{due_before}

@@ -36,7 +36,7 @@ module _ (s : Scenario) (sound : IsSoundScenario s) (owner : ℕ → ℕ) where
       record {
         first = λ picks p. as_after owner (home_of s) (edges s) (FineOf s) (FitsOf s) (laws s sound owner) s.horizon (opening s) (machine_of owner rule s picks) p run.1.steps (opens_fine s sound) ended (machine_follows s sound owner rule r picks);
         early = λ picks moment x w through.
-            picked_rows owner (home_of s) (edges s) (FineOf s) (FitsOf s) (laws s sound owner) s.horizon moment (is_before moment) (λ y e. e) parts o (opening s) (opens_fine s sound) (opens_numbered s) x w (told_of x w).0 (told_of x w).1 (machine_of owner rule s picks) (machine_follows s sound owner rule r picks) through.stopped through.bounds;
+            picked_rows owner (home_of s) (edges s) (FineOf s) (FitsOf s) (laws s sound owner) s.horizon moment (is_before moment) (λ y e. e) parts o (opening s) (opens_fine s sound) (opens_numbered s) x w (told_of x w).0 (told_of x w).1 (machine_of owner rule s picks) (machine_follows s sound owner rule r picks) through;
         last = λ picks from x w f.
             let order : InOrder (home_of s) (edges s) (FineOf s) (FitsOf s) (laws s sound owner) (after s.horizon w.steps (opening s)) =
             run_order owner (home_of s) (edges s) (FineOf s) (FitsOf s) (laws s sound owner) s.horizon w.steps (opening s) (opens_fine s sound) (opens_numbered s) in
@@ -52,7 +52,7 @@ module _ (s : Scenario) (sound : IsSoundScenario s) (owner : ℕ → ℕ) where
             let order : InOrder (home_of s) (edges s) (FineOf s) (FitsOf s) (laws s sound owner) (after s.horizon w.steps (opening s)) =
             run_order owner (home_of s) (edges s) (FineOf s) (FitsOf s) (laws s sound owner) s.horizon w.steps (opening s) (opens_fine s sound) (opens_numbered s) in
             ap (λ z. filter (is_before from) x.rows ++ z)
-            (picked_rows owner (home_of s) (edges s) (FineOf s) (FitsOf s) (laws s sound owner) s.horizon to (is_between from to) (λ y e. and_first owner (is_before to y) (not (is_before from y)) e) parts o (opening s) (opens_fine s sound) (opens_numbered s) x w (told_of x w).0 (told_of x w).1 (machine_of owner rule s picks) (machine_follows s sound owner rule r picks) through.stopped through.bounds)
+            (picked_rows owner (home_of s) (edges s) (FineOf s) (FitsOf s) (laws s sound owner) s.horizon to (is_between from to) (λ y e. and_first owner (is_before to y) (not (is_before from y)) e) parts o (opening s) (opens_fine s sound) (opens_numbered s) x w (told_of x w).0 (told_of x w).1 (machine_of owner rule s picks) (machine_follows s sound owner rule r picks) through)
             ∙ rows_split from to x.rows l (subst (λ (z : Run). IsInOrder row_cmp z.rows) w.reached order.order);
       }
 

@@ -23,7 +23,7 @@ use Rattle.sim_machine.proofs.Finished.{FollowsRun, laws, machine_follows}
 use Rattle.sim_machine.proofs.Holding.{own_safe}
 use Rattle.sim_machine.proofs.EarlyRows.{rows_keyed, step_from}
 use Rattle.sim_machine.proofs.Landing.{part_stepped}
-use Rattle.sim_machine.proofs.Machines.{MayNow, flushed_next, may_now, none_ready, same_before}
+use Rattle.sim_machine.proofs.Machines.{MayNow, early_before, flushed_next, may_now, none_ready, same_before}
 use Rattle.sim_machine.proofs.Sites.{FineOf, FitsOf}
 use Rattle.sim_machine.proofs.Worlds.{before_some, not_before}
 
@@ -61,7 +61,7 @@ machines_keep_bounds s sound owner parts o distance d picks =
     record {
       capped = f.capped;
       late = all_each (λ (x : Outbound). m.bounds (owner x.to) ≤ x.at) (λ (x : Outbound). m.bounds (owner x.to) ≤ x.at) (λ x h. h) m.waiting f.late;
-      stopped = none;
+      early = λ p moment l. early_before owner (home_of s) (edges s) (FineOf s) (FitsOf s) (laws s sound owner) s.horizon m p moment l f.late;
       grows = λ h p. bound_grows owner (home_of s) (edges s) (FineOf s) (FitsOf s) (laws s sound owner) s.horizon distance m.bounds (flushed m) p parts (f.capped p) (none h) (λ q l e. apart q p l e);
     }
 

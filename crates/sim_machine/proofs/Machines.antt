@@ -77,9 +77,13 @@ module _ (owner home : ℕ → ℕ) (edges : List Edge) (Fine : Site → Type 0)
     pub safe : (w : List Site) → Each Fine w → Safe (rule w) w
     pub capped : (w : List Site) (p : ℕ) → rule w p ≤ horizon + 1
 
+  -- what a partition has due before a moment that its bound is not before, it has in the flushed world
+  pub early_before : (m : Machine) (p moment : ℕ) → moment ≤ m.bounds p → Each (IsLate m.bounds) m.waiting → due_before moment (part_due owner p (flushed m)) ≡ due_before moment (part_due owner p m.sites)
+  early_before m p moment l h = before_delivered owner p moment m.waiting m.sites (comes_by owner home edges Fine Fits laws m.bounds p moment m.waiting l h)
+
   -- what a partition may handle, it may handle in the flushed world
   pub same_before : (m : Machine) (p : ℕ) → Each (IsLate m.bounds) m.waiting → due_before (m.bounds p) (part_due owner p (flushed m)) ≡ ready owner p m
-  same_before m p h = before_delivered owner p (m.bounds p) m.waiting m.sites (comes_by owner home edges Fine Fits laws m.bounds p (m.bounds p) m.waiting (omega arith) h)
+  same_before m p h = early_before m p (m.bounds p) (omega arith) h
 
   same_rows : (k : Key) (t u : Stepped) → t.rows ≡ u.rows → t.sent ≡ u.sent → entry_of k t ≡ entry_of k u
   same_rows k t u r s =

@@ -1,8 +1,9 @@
 -- Runs of partitions by themselves are picks of the machine.
 use Rattle.std.specs.Prelude.{List, None, Option, Some, [], cond, false, flat_map, suc, zero, ℕ, ◌+◌, ◌++◌, ◌<◌, ◌==◌, ◌∷◌, ◌≡◌, ◌≤◌}
 use Rattle.std.proofs.Common.{ap, append-nil, append_assoc, arith, refl, subst, sym, ◌∙◌}
-use Rattle.std.proofs.lemmas.Bool.{eq-eqb, ne_eqb}
+use Rattle.std.proofs.lemmas.Bool.{eq-eqb, lt-ltb, ne_eqb}
 use Rattle.std.proofs.lemmas.List.Elements.{filter-append}
+use Rattle.std.proofs.Math.Numerals.{suc-eq-add-one}
 use Rattle.sim_clock.specs.declared.key.Key.{Key}
 use Rattle.sim_clock.specs.Order.{due_before}
 use Rattle.sqs_model.specs.Dues.{world_due}
@@ -17,7 +18,16 @@ use Rattle.sim_machine.specs.Rounds.{AreApart, HasParts, HaveRun, IsApart, IsRou
 use Rattle.sim_machine.specs.Theorems.{rows_by, rows_of}
 use Rattle.sim_machine.proofs.Confluence.{turned}
 use Rattle.sim_machine.proofs.EarlyRows.{rows_append}
+use Rattle.sim_machine.proofs.Machines.{before_at}
 use Rattle.sim_machine.proofs.Parts.{Own, others, own}
+use Rattle.sim_machine.proofs.Worlds.{before_some}
+
+-- what is due before a moment is due before a later one
+pub some_later : (early late : ℕ) (d : Option Key) (key : Key) → early ≤ late → due_before early d ≡ Some key → due_before late d ≡ Some key
+some_later early late d key l e =
+    let is : d ≡ Some key = before_some early d key e in
+    let at : key.at < early = before_at early d key e in
+    ap (due_before late) is ∙ rw (lt-ltb key.at late (omega arith)) refl
 
 module _ (owner : ℕ → ℕ) (horizon : ℕ) (rule : List Site → ℕ → ℕ) where
   abbrev plays : List Pick → Machine → Machine
@@ -75,6 +85,27 @@ module _ (owner : ℕ → ℕ) (horizon : ℕ) (rule : List Site → ℕ → ℕ
       let same : ready owner p x ≡ due_before (m.bounds p) (world_due r.sites) = ap (λ b. due_before (b p) (world_due (part_of owner p x.sites))) h.bounds ∙ ap (λ z. due_before (m.bounds p) (world_due z)) h.sites in
       let s : HasRun p m (part_ran (m.bounds p) r) (part_played owner p x (due_before (m.bounds p) (world_due r.sites))) = step_run p m x r (due_before (m.bounds p) (world_due r.sites)) h same in
       subst (HasRun p m (part_ran (m.bounds p) r)) (sym (pick_last p n m ∙ ap (part_played owner p x) same)) s
+
+  -- one that runs less far makes what some picks of it make
+  pub part_runs_to : (p bound n : ℕ) (m : Machine) → bound ≤ m.bounds p → (k : ℕ) × HasRun p m (part_after bound n (part_of owner p m.sites)) (plays (picks_of p k) m)
+  part_runs_to p bound zero m l = (0, part_runs p 0 m)
+  part_runs_to p bound (suc n) m l =
+      let r : PartRun = part_after bound n (part_of owner p m.sites) in
+      let so : (k : ℕ) × HasRun p m r (plays (picks_of p k) m) = part_runs_to p bound n m l in
+      let x : Machine = plays (picks_of p so.0) m in
+      elim (due_before bound (world_due r.sites)) as (λ d. due_before bound (world_due r.sites) ≡ d → (k : ℕ) × HasRun p m (part_ran_at r d) (plays (picks_of p k) m)) [
+        | None ↦ λ e. so
+        | Some key ↦ λ e.
+            let ready_is : ready owner p x ≡ Some key =
+            ap (λ b. due_before (b p) (world_due (part_of owner p x.sites))) so.1.bounds
+            ∙ ap (λ z. due_before (m.bounds p) (world_due z)) so.1.sites
+            ∙ some_later bound (m.bounds p) (world_due r.sites) key l e in
+            let one : HasRun p m (part_ran_at r (Some key)) (part_played owner p x (Some key)) = step_run p m x r (Some key) so.1 ready_is in (
+              so.0 + 1,
+              subst (λ k. HasRun p m (part_ran_at r (Some key)) (plays (picks_of p k) m)) (suc-eq-add-one so.0)
+                  (subst (HasRun p m (part_ran_at r (Some key))) (sym (pick_last p so.0 m ∙ ap (part_played owner p x) ready_is)) one),
+            )
+      ] refl
 
   plays_append : (xs ys : List Pick) (m : Machine) → plays (xs ++ ys) m ≡ plays ys (plays xs m)
   plays_append [] ys m = refl

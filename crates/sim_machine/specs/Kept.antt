@@ -20,8 +20,8 @@ pub record KeepsBounds (owner : ℕ → ℕ) (horizon : ℕ) (rule : List Site �
   pub capped : (p : ℕ) → m.bounds p ≤ horizon + 1
   -- nothing that waits arrives before the bound of the partition that it goes to
   pub late : All (λ o. m.bounds (owner o.to) ≤ o.at) m.waiting
-  -- where no partition may go on, nothing is due before its bound with what waits delivered
-  pub stopped : has_ready owner m ≡ false → (p : ℕ) → due_before (m.bounds p) (part_due owner p (flushed m)) ≡ None
+  -- what waits changes nothing of what a partition has due before a moment that its bound is not before
+  pub early : (p moment : ℕ) → moment ≤ m.bounds p → due_before moment (part_due owner p (flushed m)) ≡ due_before moment (part_due owner p m.sites)
   -- nor is a new bound earlier than the one before
   pub grows : has_ready owner m ≡ false → (p : ℕ) → m.bounds p ≤ rule (flushed m) p
 

@@ -2,6 +2,7 @@
 use Rattle.std.specs.List.{range_with_len}
 use Rattle.std.specs.Prelude.{Bool, List, None, Option, Some, [], false, filter, if◌then◌else◌, map, nat_lt, suc, true, zero, ℕ, ◌++◌, ◌<◌, ◌∷◌, ◌≡◌, ◌≤◌, not, ◌&&◌, max}
 use Rattle.sim_clock.specs.declared.key.Key.{Key}
+use Rattle.sim_clock.specs.Order.{due_before}
 use Rattle.sqs_message.specs.declared.row.Row.{Row}
 use Rattle.sqs_model.specs.Dues.{least_due}
 use Rattle.sqs_model.specs.Limits.{rows_count, run_count, sites_count}
@@ -12,9 +13,9 @@ use Rattle.sqs_model.specs.Site.{Core, Site, number_of}
 use Rattle.sim_machine.specs.Bounds.{AreDistances, own_bound}
 use Rattle.sim_machine.specs.declared.picks.Pick.{Pick}
 use Rattle.sim_machine.specs.declared.picks.Pick.TheVariants.{Barrier, Part}
-use Rattle.sim_machine.specs.Machine.{Machine, has_ready, is_finished, of_name, played_all, takes_effect}
+use Rattle.sim_machine.specs.Machine.{Machine, is_finished, of_name, played_all, takes_effect}
 use Rattle.sim_machine.specs.Merge.{merged_all, row_cmp}
-use Rattle.sim_machine.specs.Parts.{Entry, entry_of, part_of}
+use Rattle.sim_machine.specs.Parts.{Entry, entry_of, part_due, part_of}
 use Rattle.sim_machine.specs.Theorems.{machine_of, rows_by}
 
 -- the partition of the first site whose least due this key is
@@ -63,9 +64,9 @@ rows_between parts from to m = merged_all row_cmp (map (λ p. filter (is_between
 abbrev pub rows_from : ℕ → ℕ → Machine → List Row
 rows_from parts from m = merged_all row_cmp (map (λ p. filter (λ r. not (is_before from r)) (rows_by m.told p)) (range_with_len 0 parts))
 
--- no partition of a machine may go on, and no bound is before a moment
+-- no partition of a machine has anything due before a moment, and no bound is before it
 pub record IsThrough (owner : ℕ → ℕ) (parts moment : ℕ) (m : Machine) : Type 0 where
-  pub stopped : has_ready owner m ≡ false
+  pub none : (p : ℕ) → p < parts → due_before moment (part_due owner p m.sites) ≡ None
   pub bounds : (p : ℕ) → p < parts → moment ≤ m.bounds p
 
 -- the greatest count that a partition of a machine has come to: in a site, or of the receives that a row tells
@@ -76,9 +77,9 @@ part_count owner p m = max (sites_count (part_of owner p m.sites)) (rows_count (
 pub record Holds (s : Scenario) (owner : ℕ → ℕ) (parts : ℕ) (rule : List Site → ℕ → ℕ) : Type 0 where
   -- each partition has handled what the one-list run handles first at its sites
   pub first : (picks : List Pick) (p : ℕ) → IsAsAfter owner s.horizon (opening s) p (machine_of owner rule s picks)
-  -- where no partition may go on, the rows from before all bounds are those of the one-list run
+  -- where nothing is due before a moment that no bound is before, the rows from before it are those of the one-list run
   pub early : (picks : List Pick) (moment : ℕ) (r : Run) → IsRunOf s r → IsThrough owner parts moment (machine_of owner rule s picks) → rows_before parts moment (machine_of owner rule s picks) ≡ filter (is_before moment) r.rows
-  -- where its rows from before a moment were handed on, those from then up to all bounds are what follows
+  -- where its rows from before an earlier one were handed on, those from then up to it are what follows
   pub next : (picks : List Pick) (from to : ℕ) (r : Run) → IsRunOf s r → from ≤ to → IsThrough owner parts to (machine_of owner rule s picks) → filter (is_before from) r.rows ++ rows_between parts from to (machine_of owner rule s picks) ≡ filter (is_before to) r.rows
   -- and at the end all rows from then on
   pub last : (picks : List Pick) (from : ℕ) (r : Run) → IsRunOf s r → is_finished s.horizon (machine_of owner rule s picks) ≡ true → filter (is_before from) r.rows ++ rows_from parts from (machine_of owner rule s picks) ≡ r.rows

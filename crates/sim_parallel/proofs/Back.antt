@@ -1,10 +1,8 @@
 -- What came back of each partition.
-use Rattle.std.specs.Prelude.{Err, List, None, Ok, Result, [], drop, get_or, length, map, set, suc, zero, ℕ, ◌++◌, ◌+◌, ◌<◌, ◌∷◌, ◌≡◌}
+use Rattle.std.specs.Prelude.{Err, List, Ok, Result, [], drop, get_or, length, set, suc, ℕ, ◌++◌, ◌+◌, ◌<◌, ◌∷◌, ◌≡◌}
 use Rattle.std.proofs.Common.{ap, arith, append_assoc, refl, sym, ◌∙◌}
 use Rattle.std.proofs.lemmas.List.{drop_more, get_or_at, set_at}
 use Rattle.sim_clock.specs.declared.refusal.Refusal.{Refusal}
-use Rattle.sim_clock.specs.Order.{due_before}
-use Rattle.sim_partition.specs.Sites.{due_in}
 use Rattle.sim_workers.specs.Pieces.{CameBack, Comes}
 use Rattle.sim_workers.specs.Rounds.{HaveCome}
 use Rattle.sim_workers.specs.declared.piece.Came.{Came}
@@ -45,22 +43,6 @@ many_back (b ∷ bs) [] [] h = absurd h
 many_back (b ∷ bs) [] (c ∷ cs) h = absurd h
 many_back (b ∷ bs) (p ∷ ps) [] h = absurd h
 many_back (b ∷ bs) (p ∷ ps) (c ∷ cs) h = ap suc (many_back bs ps cs h.1)
-
-none_left : (b : ℕ) (p : Result (List Site) Refusal) (c : Came) → Comes b p (Ok c) → due_before b (due_in c.part) ≡ None
-none_left b (Ok w) c h = ap (λ x. due_before b (due_in x)) h.ran.lives ∙ h.ran.run.done
-none_left b (Err e) c h = absurd h
-
--- none of them has anything due before its bound
-pub none_due : (bs : List ℕ) (ps : List (Result (List Site) Refusal)) (cs : List Came) → HaveCome bs ps cs → (q : ℕ) (d : Result (List Site) Refusal) → q < length ps → due_before (get_or bs q 0) (due_in (get_or (map (λ c. c.part) cs) q d)) ≡ None
-none_due [] [] [] h q d l = absurd (omega arith)
-none_due [] [] (c ∷ cs) h q d l = absurd h
-none_due [] (p ∷ ps) [] h q d l = absurd h
-none_due [] (p ∷ ps) (c ∷ cs) h q d l = absurd h
-none_due (b ∷ bs) [] [] h q d l = absurd h
-none_due (b ∷ bs) [] (c ∷ cs) h q d l = absurd h
-none_due (b ∷ bs) (p ∷ ps) [] h q d l = absurd h
-none_due (b ∷ bs) (p ∷ ps) (c ∷ cs) h zero d l = none_left b p c h.0
-none_due (b ∷ bs) (p ∷ ps) (c ∷ cs) h (suc q) d l = none_due bs ps cs h.1 q d (omega arith)
 
 -- some that came back, and the others as they were
 module _ (xs ps : List (Result (List Site) Refusal)) (place : ℕ) (d : Result (List Site) Refusal) (at : length xs ≡ place) (l : place < length ps) where

@@ -1,13 +1,15 @@
 -- How far partitions may run.
 use Rattle.std.specs.List.{range_with_len}
-use Rattle.std.specs.Prelude.{All, List, map, suc, zero, ℕ, ◌+◌, ◌≤◌}
-use Rattle.std.proofs.Common.{arith, subst, sym}
-use Rattle.std.proofs.lemmas.List.Elements.{All-cons, All-nil}
+use Rattle.std.specs.Prelude.{All, List, [], get_or, map, min, suc, zero, ℕ, ◌+◌, ◌∷◌, ◌≡◌, ◌≤◌}
+use Rattle.std.proofs.Common.{ap, arith, subst, sym, ◌∙◌}
+use Rattle.std.proofs.lemmas.List.Elements.{All-cons, All-head, All-nil, All-tail}
+use Rattle.std.proofs.lemmas.List.{get_or-map}
 use Rattle.sim_exchange.specs.Layout.{owner_of}
 use Rattle.sim_exchange.specs.Table.{distance_in}
 use Rattle.sim_machine.specs.Machine.{Machine}
 use Rattle.sim_machine.specs.declared.picks.Pick.{Pick}
 use Rattle.sim_machine.proofs.Keeping.{machines_keep_bounds}
+use Rattle.sim_parallel.specs.Runs.{AreWithin}
 use Rattle.sim_stage.specs.Stages.{Standing, Stands, machine_in}
 use Rattle.sim_stage.proofs.Standing.{below}
 use Rattle.sqs_model.specs.Answers.{most_count}
@@ -24,3 +26,17 @@ short_bounds s done g st =
     subst (All (λ b. b ≤ most_count + 1)) (sym st.shows.bounds)
     (all_range (λ b. b ≤ most_count + 1) m.bounds 0 g.layout.parts
     (λ p. let capped : m.bounds p ≤ s.horizon + 1 = (machines_keep_bounds s st.sound (owner_of g.layout) g.layout.parts (below s done g st) (distance_in g.distances) st.distances done).capped p in omega (arith, st.range, st.horizon)))
+
+all_cut : (cut k : ℕ) (bs : List ℕ) → All (λ b. b ≤ k) bs → All (λ b. b ≤ k) (map (λ b. min b cut) bs)
+all_cut cut k [] h = All-nil (λ b. b ≤ k)
+all_cut cut k (b ∷ bs) h =
+    let l : b ≤ k = All-head (λ x. x ≤ k) b bs h in
+    All-cons (λ x. x ≤ k) (min b cut) (map (λ x. min x cut) bs) (omega arith) (all_cut cut k bs (All-tail (λ x. x ≤ k) b bs h))
+
+-- nor is the end of a round that is cut
+pub short_ends : (s : Scenario) (done : List Pick) (g : Standing) → Stands s done g → (cut : ℕ) (ends : List ℕ) → ends ≡ map (λ b. min b cut) g.bounds → All (λ b. b ≤ most_count + 1) ends
+short_ends s done g st cut ends e = subst (All (λ b. b ≤ most_count + 1)) (sym e) (all_cut cut (most_count + 1) g.bounds (short_bounds s done g st))
+
+-- and none is past its bound
+pub ends_within : (cut : ℕ) (ends bounds : List ℕ) → ends ≡ map (λ b. min b cut) bounds → AreWithin ends bounds
+ends_within cut ends bounds e p l = subst (λ z. z ≤ get_or bounds p 0) (sym (ap (λ z. get_or z p 0) e ∙ get_or-map (λ b. min b cut) bounds p 0 0 l)) (omega arith)

@@ -6,19 +6,20 @@ use Rattle.sim_clock.specs.declared.refusal.Refusal.TheVariants as refusals
 use Rattle.sim_exchange.specs.Layout.{owner_of}
 use Rattle.sim_exchange.specs.Table.{distance_in}
 use Rattle.sim_machine.specs.Bounds.{own_bound}
-use Rattle.sim_machine.specs.Machine.{Machine}
+use Rattle.sim_machine.specs.Machine.{Machine, played_all}
 use Rattle.sim_machine.specs.Parts.{part_of}
 use Rattle.sim_machine.specs.Prefixes.{part_count}
 use Rattle.sim_machine.specs.Rounds.{PartRun, part_after, picks_of}
 use Rattle.sim_machine.specs.Theorems.{rows_by}
 use Rattle.sim_machine.specs.declared.picks.Pick.{Pick}
 use Rattle.sim_machine.proofs.Holding.{holds_at_own_bounds}
-use Rattle.sim_machine.proofs.Rounds.{HasRun, part_runs}
+use Rattle.sim_machine.proofs.Rounds.{HasRun, part_runs_to}
+use Rattle.sim_parallel.specs.Runs.{AreWithin}
 use Rattle.sim_partition.specs.Steps.{StopsRun, ran_count}
 use Rattle.sim_site.specs.Effects.{StopsWhere}
 use Rattle.sim_site.proofs.Passing.{more_passes, rows_after, stops_for}
 use Rattle.sim_stage.specs.Stages.{Standing, Stands, machine_in}
-use Rattle.sim_stage.proofs.Standing.{below, bound_at, many_parts, more_picks, part_at}
+use Rattle.sim_stage.proofs.Standing.{below, bound_at, many_bounds, many_parts, more_picks, part_at}
 use Rattle.sim_workers.specs.Pieces.{Comes}
 use Rattle.sim_workers.specs.Rounds.{AllCome, IsRefusedRound, graver, gravest_from, gravest_of}
 use Rattle.sim_workers.specs.declared.piece.Came.{Came}
@@ -84,16 +85,16 @@ module _ (s : Scenario) (done : List Pick) (g : Standing) (st : Stands s done g)
   m = machine_in g.layout g.distances s done
 
   -- where a partition's run passes a count, the scenario's does
-  part_over : (p : ℕ) (e : Refusal) → StopsRun (m.bounds p) (part_of o p m.sites) e → StopsWhere (IsOver s) e
-  part_over p e h =
+  part_over : (p bound : ℕ) (e : Refusal) → bound ≤ m.bounds p → StopsRun bound (part_of o p m.sites) e → StopsWhere (IsOver s) e
+  part_over p bound e within h =
       let w : List Site = part_of o p m.sites in
-      let bound : ℕ = m.bounds p in
       stops_for ((n : ℕ) × (most_count < ran_count (part_after bound n w))) (IsOver s) e
       (λ passes.
-      let picks : List Pick = picks_of p passes.0 in
+      let so : (k : ℕ) × HasRun o s.horizon rule p m (part_after bound passes.0 w) (played_all o s.horizon rule (picks_of p k) m) = part_runs_to o s.horizon rule p bound passes.0 m within in
+      let picks : List Pick = picks_of p so.0 in
       let r : PartRun = part_after bound passes.0 w in
       let x : Machine = machine_in g.layout g.distances s (done ++ picks) in
-      let ran : HasRun o s.horizon rule p m r x = subst (λ (y : Machine). HasRun o s.horizon rule p m r y) (sym (more_picks s done g st picks)) (part_runs o s.horizon rule p passes.0 m) in
+      let ran : HasRun o s.horizon rule p m r x = subst (λ (y : Machine). HasRun o s.horizon rule p m r y) (sym (more_picks s done g st picks)) so.1 in
       let counts : (n : ℕ) × (part_count o p x ≤ run_count (after s.horizon n (opening s))) =
       (holds_at_own_bounds s st.sound o g.layout.parts (below s done g st) (distance_in g.distances) st.distances).counts (done ++ picks) p in
       let sites : sites_count r.sites ≤ sites_count (part_of o p x.sites) = omega (arith, ap sites_count ran.sites) in
@@ -101,18 +102,20 @@ module _ (s : Scenario) (done : List Pick) (g : Standing) (st : Stands s done g)
       let more : most_count < part_count o p x = more_passes (sites_count r.sites) (rows_count r.rows) (sites_count (part_of o p x.sites)) (rows_count (rows_by x.told p)) sites rows passes.1 in
       (counts.0, omega (arith, counts.1))) h
 
-  spent_over : (d : Result (List Site) Refusal) (e : Refusal) → IsSpent g.bounds g.parts d e → StopsWhere (IsOver s) e
-  spent_over d e h =
+  spent_over : (ends : List ℕ) (d : Result (List Site) Refusal) (e : Refusal) → AreWithin ends g.bounds → IsSpent ends g.parts d e → StopsWhere (IsOver s) e
+  spent_over ends d e within h =
       let l : h.place < g.layout.parts = omega (arith, h.within, many_parts s done g st) in
-      part_over h.place e
-      (subst (λ p. Comes (m.bounds h.place) p (Err e)) (part_at s done g st h.place d l) (subst (λ b. Comes b (get_or g.parts h.place d) (Err e)) (bound_at s done g st h.place 0 l) h.comes))
+      let k : h.place < length g.bounds = omega (arith, l, many_bounds s done g st) in
+      part_over h.place (get_or ends h.place 0) e
+      (subst (λ b. get_or ends h.place 0 ≤ b) (bound_at s done g st h.place 0 l) (within h.place k))
+      (subst (λ p. Comes (get_or ends h.place 0) p (Err e)) (part_at s done g st h.place d l) h.comes)
 
   -- so it is of a round
-  pub round_over : (e : Refusal) → IsRefusedRound g.bounds g.parts e → StopsWhere (IsOver s) e
-  round_over e (inl memory) = subst (StopsWhere (IsOver s)) (sym memory) tt
-  round_over e (inr refused) =
+  pub round_over : (ends : List ℕ) (e : Refusal) → AreWithin ends g.bounds → IsRefusedRound ends g.parts e → StopsWhere (IsOver s) e
+  round_over ends e within (inl memory) = subst (StopsWhere (IsOver s)) (sym memory) tt
+  round_over ends e within (inr refused) =
       let d : Result (List Site) Refusal = Ok [] in
-      elim (spent_among g.bounds g.parts refused.outcomes d None e refused.come refused.graver) as (λ _. StopsWhere (IsOver s) e) [
+      elim (spent_among ends g.parts refused.outcomes d None e refused.come refused.graver) as (λ _. StopsWhere (IsOver s) e) [
         | inl k ↦ absurd (no_refusal e k)
-        | inr k ↦ spent_over d e k
+        | inr k ↦ spent_over ends d e within k
       ]

@@ -1,14 +1,15 @@
 -- A machine whose partitions were out to run, and what a sink has taken of a run by then.
 use Rattle.std.specs.Global.{Global}
-use Rattle.std.specs.Prelude.{Err, List, Ok, Result, Vec, [], false, filter, true, ℕ, ◌⊎◌, ◌≡◌}
+use Rattle.std.specs.Prelude.{Bool, Err, List, Ok, Result, Vec, [], false, filter, get_or, length, true, ℕ, ◌+◌, ◌<◌, ◌∷◌, ◌⊎◌, ◌≡◌, ◌≤◌}
 use Rattle.sim_clock.specs.declared.refusal.Refusal.{Refusal}
 use Rattle.sim_clock.specs.declared.refusal.Refusal.TheVariants as refusals
-use Rattle.sim_exchange.specs.Layout.{owner_of}
-use Rattle.sim_machine.specs.Machine.{has_ready, is_finished}
+use Rattle.sim_machine.specs.Machine.{is_finished}
 use Rattle.sim_machine.specs.Prefixes.{is_before}
 use Rattle.sim_machine.specs.declared.picks.Pick.{Pick}
-use Rattle.sim_stage.specs.Stages.{Standing, Stands, machine_in}
+use Rattle.sim_parallel.specs.Paces.{word_of}
+use Rattle.sim_stage.specs.Stages.{Standing, Stands, StandsOn, machine_in}
 use Rattle.sim_windows.specs.Sinks.{HasStopped, HasTaken}
+use Rattle.sim_workers.specs.declared.piece.Came.{Came}
 use Rattle.sqs_message.specs.declared.row.Row.{Row}
 use Rattle.sqs_model.specs.Run.{IsRunOf, Run}
 use Rattle.sqs_model.specs.Scenario.{Scenario}
@@ -18,17 +19,29 @@ use Rattle.sqs_model.specs.Site.{Site}
 abbrev pub with_parts : List (Result (List Site) Refusal) → Standing → Standing
 with_parts parts g = record g { parts = parts }
 
--- how a machine of a scenario stands after some picks, where no partition may go on
-pub record IsAtRest (s : Scenario) (g : Standing) : Type 0 where
-  pub picks : List Pick
-  pub stands : Stands s picks g
-  pub rests : has_ready (owner_of g.layout) (machine_in g.layout g.distances s picks) ≡ false
+-- no partition is to run past its bound
+abbrev pub AreWithin : List ℕ → List ℕ → Type 0
+AreWithin ends bounds = (p : ℕ) → p < length bounds → get_or ends p 0 ≤ get_or bounds p 0
 
--- and where nothing is left by the horizon
+-- how a machine of a scenario stands after some picks, where nothing is left by the horizon
 pub record IsAtEnd (s : Scenario) (g : Standing) : Type 0 where
   pub picks : List Pick
   pub stands : Stands s picks g
   pub finished : is_finished s.horizon (machine_in g.layout g.distances s picks) ≡ true
+
+-- how a machine stands after a round or a barrier, or at its end
+abbrev pub HasAdvanced : Scenario → Bool → Standing → Type 0
+HasAdvanced s true g = IsAtEnd s g
+HasAdvanced s false g = StandsOn s g
+
+-- so many rows and those that some partitions made, as far as a word counts
+abbrev pub rows_after : ℕ → List Came → ℕ
+rows_after before [] = before
+rows_after before (one ∷ rest) = rows_after (word_of (before + length one.ran.rows.items)) rest
+
+-- how many rows some partitions made
+abbrev pub rows_made : List Came → ℕ
+rows_made came = rows_after 0 came
 
 -- a sink took the rows of a scenario's one-list run from before a moment
 abbrev pub HasTold : {K : Type 0} → (K → List Row → K → Type 0) → Scenario → ℕ → K → K → Type 0

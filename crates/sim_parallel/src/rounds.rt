@@ -1,7 +1,7 @@
 //! Rounds one after another, until nothing is left.
 ghost use Rattle.std.specs.Prelude.{◌≡◌, IfErr, IfOk, OnOk, length};
 ghost use Rattle.sim_handoff.specs.Seats.{IsIdleHand, owner_record, owner_table, places_of, table_of};
-ghost use Rattle.sim_parallel.specs.Runs.{HasTold, IsAtEnd, IsAtRest};
+ghost use Rattle.sim_parallel.specs.Runs.{HasAdvanced, HasTold, IsAtEnd, rows_made};
 ghost use Rattle.sim_site.specs.Effects.{StopsWhere};
 ghost use Rattle.sim_stage.specs.Stages.{IsSame, IsStanding, StandsOn, standing_of};
 ghost use Rattle.sim_windows.specs.Sinks.{HasStopped, HasTaken};
@@ -9,17 +9,30 @@ ghost use Rattle.sim_workers.specs.Owners.{IsAllFree};
 ghost use Rattle.sqs_model.specs.Limits.{IsOver};
 ghost use Rattle.sqs_model.specs.Scenario.{Scenario as TheScenario};
 
+use crate::pace::Pace;
 use crate::returning::come_back;
 use sim_clock::Refusal;
 use sim_handoff::{Hand, Handoff, Owner};
 use sim_sink::RowSink;
 use sim_site::Site;
 use sim_stage::Stage;
-use sim_workers::{Gate, Running, round};
+use sim_workers::{Came, Gate, Running, round};
 use std::mem;
 use std::sync::Wait;
 
-// Runs each partition to its bound, and takes all of them back.
+// How many rows some partitions made.
+fn rows_made(came: &[Came]) -> u64
+    ensures { result ≡ rows_made came.now }
+{
+    let mut rows: u64 = 0;
+    for one in came {
+        rows = rows.saturating_add(one.ran.rows.len() as u64);
+    }
+    rows
+}
+
+// Runs each partition to its bound, or to a cut if that is sooner, and takes all of them back. Answers
+// how many rows they made.
 fn run_round<G: Gate<Running>, W: Wait>(
     rt: &W,
     handoff: &Handoff<Running>,
@@ -27,7 +40,8 @@ fn run_round<G: Gate<Running>, W: Wait>(
     hand: &mut Hand<Running>,
     gate: &G,
     stage: &mut Stage,
-) -> Result<(), Refusal>
+    cut: u64,
+) -> Result<u64, Refusal>
     requires here { owner_table owner.old ≡ table_of handoff.now }
     requires idle { IsIdleHand (table_of handoff.now) hand.old }
     requires free { IsAllFree (owner_record owner.old) }
@@ -36,28 +50,79 @@ fn run_round<G: Gate<Running>, W: Wait>(
     ensures here { owner_table owner.new ≡ table_of handoff.now }
     ensures idle { IsIdleHand (table_of handoff.now) hand.new }
     ensures free { IsAllFree (owner_record owner.new) }
-    ensures rests { (s : TheScenario) → StandsOn s (standing_of stage.old) → OnOk result (IsAtRest s (standing_of stage.new)) }
+    ensures on { (s : TheScenario) → StandsOn s (standing_of stage.old) → OnOk result (StandsOn s (standing_of stage.new)) }
     ensures same { OnOk result (IsSame (standing_of stage.old) (standing_of stage.new)) }
     ensures settled { OnOk result (stage.new.settled ≡ stage.old.settled) }
     ensures stops { (s : TheScenario) → StandsOn s (standing_of stage.old) → IfErr result (StopsWhere (IsOver s)) }
 {
+    let ends = stage.ends(cut)?;
     let parts = mem::replace(&mut stage.parts, Vec::new(stage.alloc));
-    let came = round(
-        rt,
-        stage.alloc,
-        handoff,
-        owner,
-        hand,
-        gate,
-        &stage.bounds,
-        parts,
-    )?;
+    let came = round(rt, stage.alloc, handoff, owner, hand, gate, &ends, parts)?;
+    let rows = rows_made(&came);
     come_back(stage, came)?;
-    Ok(())
+    Ok(rows)
 }
 
-// Runs round after round until nothing is left by the horizon. The rows that are settled where the
-// partitions meet go to the sink.
+// Goes on by a round where a partition may go on, and else by a barrier. Answers whether nothing was
+// left.
+fn advance<G: Gate<Running>, W: Wait>(
+    rt: &W,
+    handoff: &Handoff<Running>,
+    owner: &mut Owner<Running>,
+    hand: &mut Hand<Running>,
+    gate: &G,
+    stage: &mut Stage,
+    pace: &mut Pace,
+) -> Result<bool, Refusal>
+    requires here { owner_table owner.old ≡ table_of handoff.now }
+    requires idle { IsIdleHand (table_of handoff.now) hand.old }
+    requires free { IsAllFree (owner_record owner.old) }
+    requires places { length stage.old.parts.items ≡ places_of handoff.now }
+    requires stands { IsStanding (standing_of stage.old) }
+    ensures here { owner_table owner.new ≡ table_of handoff.now }
+    ensures idle { IsIdleHand (table_of handoff.now) hand.new }
+    ensures free { IsAllFree (owner_record owner.new) }
+    ensures on { (s : TheScenario) → StandsOn s (standing_of stage.old) → IfOk result (λ ended. HasAdvanced s ended (standing_of stage.new)) }
+    ensures same { OnOk result (IsSame (standing_of stage.old) (standing_of stage.new)) }
+    ensures settled { OnOk result (stage.new.settled ≡ stage.old.settled) }
+    ensures stops { (s : TheScenario) → StandsOn s (standing_of stage.old) → IfErr result (StopsWhere (IsOver s)) }
+{
+    match stage.next_ready() {
+        Some(next) => {
+            let cut = pace.cut_at(next.at);
+            let rows = run_round(rt, handoff, owner, hand, gate, stage, cut)?;
+            pace.count(rows);
+            Ok(false)
+        }
+        None => {
+            if stage.is_finished() {
+                return Ok(true);
+            }
+            stage.meet()?;
+            Ok(false)
+        }
+    }
+}
+
+// Hands the rows that nothing can come before any more to the sink, where enough wait.
+fn hand_on<K: RowSink>(stage: &mut Stage, pace: &mut Pace, sink: &mut K) -> Result<(), Refusal>
+    requires stands { IsStanding (standing_of stage.old) }
+    requires ready { K.ready sink.old }
+    ensures ready { OnOk result (K.ready sink.new) }
+    ensures on { (s : TheScenario) → StandsOn s (standing_of stage.old) → OnOk result (StandsOn s (standing_of stage.new)) }
+    ensures same { OnOk result (IsSame (standing_of stage.old) (standing_of stage.new)) }
+    ensures told { (s : TheScenario) (first : K) → StandsOn s (standing_of stage.old) → HasTold K.took s stage.old.settled first sink.old → OnOk result (HasTold K.took s stage.new.settled first sink.new) }
+    ensures stops { (s : TheScenario) (first : K) → StandsOn s (standing_of stage.old) → HasTold K.took s stage.old.settled first sink.old → IfErr result (λ refusal. HasStopped K.took K.broke s first refusal sink.new) }
+{
+    if !pace.is_full() {
+        return Ok(());
+    }
+    let rows = stage.settle()?;
+    pace.settle(rows.len() as u64);
+    sink.take(rows.as_slice())
+}
+
+// Goes on until nothing is left by the horizon. Rows go to the sink as they are settled.
 fn run_rounds<G: Gate<Running>, K: RowSink, W: Wait>(
     rt: &W,
     handoff: &Handoff<Running>,
@@ -82,13 +147,12 @@ fn run_rounds<G: Gate<Running>, K: RowSink, W: Wait>(
     ensures told { (s : TheScenario) → StandsOn s (standing_of stage.old) → OnOk result (HasTold K.took s stage.new.settled sink.old sink.new) }
     ensures stops { (s : TheScenario) → StandsOn s (standing_of stage.old) → IfErr result (λ refusal. HasStopped K.took K.broke s sink.old refusal sink.new) }
 {
+    let mut pace = Pace::new();
     for _ in rt.forever() {
-        run_round(rt, handoff, owner, hand, gate, stage)?;
-        if stage.is_finished() {
+        if advance(rt, handoff, owner, hand, gate, stage, &mut pace)? {
             return Ok(());
         }
-        let rows = stage.meet()?;
-        sink.take(rows.as_slice())?;
+        hand_on(stage, &mut pace, sink)?;
     }
     unreachable!()
 }

@@ -6,7 +6,6 @@ use Rattle.sim_clock.specs.declared.key.Key.{Key}
 use Rattle.sim_clock.specs.declared.refusal.Refusal.{Refusal}
 use Rattle.sim_exchange.specs.Layout.{Layout, owner_of}
 use Rattle.sim_exchange.specs.Table.{distance_in}
-use Rattle.sim_machine.specs.Bounds.{own_bound}
 use Rattle.sim_machine.specs.Machine.{Machine, flushed, is_finished}
 use Rattle.sim_machine.specs.Merge.{merged_all, row_cmp}
 use Rattle.sim_machine.specs.Parts.{part_of}
@@ -20,11 +19,10 @@ use Rattle.sim_stage.specs.Joining.{IsNumbered}
 use Rattle.sim_stage.specs.Stages.{Standing, Stands, delivered_by, machine_in}
 use Rattle.sim_stage.proofs.Meetings.{delivered_in, parts_in}
 use Rattle.sim_stage.proofs.Standing.{below}
-use Rattle.sqs_message.specs.declared.row.Row.{Row}
 use Rattle.sqs_model.specs.Dues.{least_due}
-use Rattle.sqs_model.specs.Run.{IsRunOf, Run, after, delivered, delivered_one, handled_among, handled_here, handled_there, is_due, next_due, run_on, stepped_at}
+use Rattle.sqs_model.specs.Run.{IsRunOf, Run, after, delivered, delivered_one, handled_among, handled_here, handled_there, is_due, next_due, stepped_at}
 use Rattle.sqs_model.specs.Scenario.{Scenario, opening, opening_site}
-use Rattle.sqs_model.specs.Site.{Site, number_of}
+use Rattle.sqs_model.specs.Site.{Site}
 use Rattle.sqs_model.specs.Step.{handled}
 use Rattle.sqs_model.proofs.Kept.{handled_number}
 use Rattle.sqs_redrive.specs.declared.settings.QueueSettings.{QueueSettings}

@@ -9,4 +9,5 @@ pub mod Playing
 pub mod Opening
 pub mod Joined
 pub mod Ending
+pub mod Fronts
 pub mod Rounds

@@ -1,43 +1,36 @@
 -- A machine at a barrier.
 use Rattle.std.specs.List.{range_with_len}
 use Rattle.std.specs.Ordering.{is_lt, on}
-use Rattle.std.specs.Prelude.{All, Bool, List, None, Ok, Option, Result, [], false, filter, get_or, if◌then◌else◌, length, map, not, true, ℕ, ◌++◌, ◌+◌, ◌<◌, ◌==◌, ◌∷◌, ◌≡◌, ◌≤◌, ◌||◌}
+use Rattle.std.specs.Prelude.{All, Bool, List, None, Ok, Option, Result, [], false, get_or, if◌then◌else◌, length, map, not, true, ℕ, ◌++◌, ◌<◌, ◌==◌, ◌∷◌, ◌≡◌, ◌≤◌, ◌||◌}
 use Rattle.std.specs.declared.cmp.Ordering.{Ordering}
-use Rattle.std.proofs.Common.{ap, arith, inl, inr, refl, subst, sym, true≢false, ◌∙◌}
-use Rattle.std.proofs.lemmas.Bool.{cases_lt, eqb-true}
+use Rattle.std.proofs.Common.{ap, arith, refl, subst, sym, true≢false, ◌∙◌}
+use Rattle.std.proofs.lemmas.Bool.{eqb-true}
 use Rattle.std.proofs.lemmas.List.FromFn.{length-map-range_with_len}
 use Rattle.std.proofs.lemmas.List.Elements.{All-cons, All-head, All-nil, All-tail, All-weaker}
 use Rattle.sim_clock.specs.declared.refusal.Refusal.{Refusal}
-use Rattle.sim_clock.specs.Order.{due_before, inserted_by, key_cmp}
+use Rattle.sim_clock.specs.Order.{inserted_by, key_cmp}
 use Rattle.sim_exchange.specs.Layout.{owner_of}
 use Rattle.sim_exchange.specs.Table.{Table, distance_in}
-use Rattle.sim_machine.specs.Bounds.{bound_by, least_bound, moment_of, own_bound}
+use Rattle.sim_machine.specs.Bounds.{bound_by, moment_of, own_bound}
 use Rattle.sim_machine.specs.Exchange.{exchanged, sorted, sorted_into, to_part}
 use Rattle.sim_machine.specs.Kept.{KeepsBounds}
 use Rattle.sim_machine.specs.Machine.{Machine, flushed, has_ready, is_finished, with_barrier}
-use Rattle.sim_machine.specs.Merge.{merged_all, row_cmp}
 use Rattle.sim_machine.specs.Parts.{part_due, part_of}
-use Rattle.sim_machine.specs.Prefixes.{Holds, is_before, is_between}
-use Rattle.sim_machine.specs.Theorems.{rows_by}
 use Rattle.sim_machine.specs.declared.picks.Pick.{Pick}
 use Rattle.sim_machine.specs.declared.picks.Pick.TheVariants.{Barrier}
-use Rattle.sim_machine.proofs.EarlyRows.{part_empty}
 use Rattle.sim_machine.proofs.Exchange.{parts_get_sorted}
-use Rattle.sim_machine.proofs.Holding.{holds_at_own_bounds}
 use Rattle.sim_machine.proofs.Keeping.{machines_keep_bounds}
 use Rattle.sim_partition.specs.Sites.{IsOfPast, due_in}
 use Rattle.sim_partition.proofs.Delivered.{past_delivered}
 use Rattle.sim_partition.proofs.Handled.{Timely}
 use Rattle.sim_partition.proofs.Moments.{past_later}
 use Rattle.sim_stage.specs.Meeting.{AreReached, delivered_each, due_moments}
-use Rattle.sim_stage.specs.Stages.{AreNext, IsForward, Shows, Standing, Stands, Took, bounded_by, delivered_by, is_from, machine_in, settled_by}
-use Rattle.sim_stage.proofs.Least.{least_from, least_of_all, least_within, none_earlier, same_bounds}
-use Rattle.sim_stage.proofs.Picked.{filter_both, from_later}
+use Rattle.sim_stage.specs.Stages.{IsForward, Shows, Standing, Stands, Took, bounded_by, delivered_by, machine_in}
+use Rattle.sim_stage.proofs.Least.{same_bounds}
 use Rattle.sim_stage.proofs.Places.{at_place, delivered_places, over, reached_places, same_from}
 use Rattle.sim_stage.proofs.Standing.{below, more_picks, stands_on}
-use Rattle.sqs_model.specs.Dues.{world_due}
 use Rattle.sqs_model.specs.Progress.{AreTimely}
-use Rattle.sqs_model.specs.Run.{IsRunOf, Run, delivered}
+use Rattle.sqs_model.specs.Run.{delivered}
 use Rattle.sqs_model.specs.Scenario.{Scenario}
 use Rattle.sqs_model.specs.Site.{Site}
 use Rattle.sqs_redrive.specs.declared.transfers.Outbound.{Outbound}
@@ -154,72 +147,34 @@ module _ (s : Scenario) (done : List Pick) (g : Standing) (st : Stands s done g)
         ∙ ap (λ b. if b || is_finished s.horizon m then m else with_barrier rule m) stopped
         ∙ ap (λ b. if b then m else with_barrier rule m) going
 
-    module _ (moment : ℕ) (least : moment ≡ least_bound s.horizon m.bounds n) where
-      within : moment ≤ s.horizon + 1
-      within = subst (λ k. k ≤ s.horizon + 1) (sym least) (least_within s.horizon m.bounds n)
+    past_in : (p : ℕ) → p < n → All (IsOfPast (rule (flushed m) p)) (part_of o p (flushed m))
+    past_in p l =
+        subst (All (IsOfPast (rule (flushed m) p))) (sym (parts_get_sorted o p m.waiting m.sites))
+        (past_later (m.bounds p) (rule (flushed m) p) (delivered (sent_to p) (part_of o p m.sites)) (keeps.grows stopped p)
+        (past_delivered (m.bounds p) (sent_to p) (part_of o p m.sites) (timely_to p) (st.forward.past p l)))
 
-      no_later : (p : ℕ) → p < n → moment ≤ m.bounds p
-      no_later p l = subst (λ k. k ≤ m.bounds p) (sym least) (least_of_all s.horizon m.bounds n p l)
-
-      -- all that was settled is from before it
-      forward_to : g.settled ≤ moment
-      forward_to = subst (λ k. g.settled ≤ k) (sym least) (least_from g.settled s.horizon m.bounds n st.forward.within st.forward.reached)
-
-      past_in : (p : ℕ) → p < n → All (IsOfPast (rule (flushed m) p)) (part_of o p (flushed m))
-      past_in p l =
-          subst (All (IsOfPast (rule (flushed m) p))) (sym (parts_get_sorted o p m.waiting m.sites))
-          (past_later (m.bounds p) (rule (flushed m) p) (delivered (sent_to p) (part_of o p m.sites)) (keeps.grows stopped p)
-          (past_delivered (m.bounds p) (sent_to p) (part_of o p m.sites) (timely_to p) (st.forward.past p l)))
-
-      none_in : (p : ℕ) → due_before moment (part_due o p (flushed m)) ≡ None
-      none_in p =
-          elim (cases_lt p n) as (λ _. due_before moment (part_due o p (flushed m)) ≡ None) [
-            | inl l ↦ none_earlier moment (m.bounds p) (part_due o p (flushed m)) (no_later p l) (keeps.stopped stopped p)
-            | inr k ↦ ap (λ w. due_before moment (world_due w)) (part_empty o n p (below s done g st) (omega arith) (flushed m))
-          ]
-
-      -- what is settled there follows what was
-      pub next_in : AreNext s g.settled moment (merged_all row_cmp (map (filter (is_before moment)) g.rows))
-      next_in r w =
-          let holds : Holds s o n rule = holds_at_own_bounds s st.sound o n (below s done g st) (distance_in g.distances) st.distances in
-          let between : map (filter (is_before moment)) g.rows ≡ map (λ p. filter (is_between g.settled moment) (rows_by m.told p)) (range_with_len 0 n) =
-          ap (map (filter (is_before moment))) st.shows.rows
-          ∙ over (filter (is_before moment)) (λ p. filter (is_from g.settled) (rows_by m.told p)) 0 n
-          ∙ same_from (λ p. filter (is_before moment) (filter (is_from g.settled) (rows_by m.told p))) (λ p. filter (is_between g.settled moment) (rows_by m.told p)) 0 n
-          (λ p l k. filter_both (is_before moment) (is_from g.settled) (rows_by m.told p)) in
-          ap (λ z. filter (is_before g.settled) r.rows ++ merged_all row_cmp z) between
-          ∙ holds.next done g.settled moment r w forward_to (record { stopped = stopped; bounds = no_later })
-
-      -- it stands as the definitions' machine does after the barrier
-      pub meets : (bounds : List ℕ) → bounds ≡ map (rule (flushed m)) (range_with_len 0 n) → Stands s (done ++ Barrier ∷ []) (bounded_by (delivered_by (settled_by g moment) parts_in) bounds)
-      meets bounds h =
-          let g' : Standing = bounded_by (delivered_by (settled_by g moment) parts_in) bounds in
-          let shows : Shows g' (with_barrier rule m) = record {
-            parts = delivered_in;
-            bounds = h;
-            rows =
-                ap (map (filter (is_from moment))) st.shows.rows
-                ∙ over (filter (is_from moment)) (λ p. filter (is_from g.settled) (rows_by m.told p)) 0 n
-                ∙ same_from (λ p. filter (is_from moment) (filter (is_from g.settled) (rows_by m.told p))) (λ p. filter (is_from moment) (rows_by m.told p)) 0 n (λ p l k. from_later g.settled moment forward_to (rows_by m.told p));
-            waiting = refl;
-          } in
-          let forward : IsForward g.layout s.horizon moment (with_barrier rule m) = record {
-            past = past_in;
-            timely = All-nil Timely;
-            within = within;
-            reached = λ p l. let a : moment ≤ m.bounds p = no_later p l in let b : m.bounds p ≤ rule (flushed m) p = keeps.grows stopped p in omega arith;
-            none = none_in;
-          } in
-          record {
-            sound = st.sound;
-            layout = st.layout;
-            horizon = st.horizon;
-            range = st.range;
-            parts = st.parts;
-            distances = st.distances;
-            shows = subst (Shows g') (sym at_barrier) shows;
-            forward = subst (IsForward g.layout s.horizon moment) (sym at_barrier) forward;
-          }
+    -- it stands as the definitions' machine does after the barrier
+    pub meets : (bounds : List ℕ) → bounds ≡ map (rule (flushed m)) (range_with_len 0 n) → Stands s (done ++ Barrier ∷ []) (bounded_by (delivered_by g parts_in) bounds)
+    meets bounds h =
+        let g' : Standing = bounded_by (delivered_by g parts_in) bounds in
+        let shows : Shows g' (with_barrier rule m) = record { parts = delivered_in; bounds = h; rows = st.shows.rows; waiting = refl } in
+        let forward : IsForward g.layout s.horizon g.settled (with_barrier rule m) = record {
+          past = past_in;
+          timely = All-nil Timely;
+          within = st.forward.within;
+          reached = λ p l. let a : g.settled ≤ m.bounds p = st.forward.reached p l in let b : m.bounds p ≤ rule (flushed m) p = keeps.grows stopped p in omega arith;
+          none = st.forward.none;
+        } in
+        record {
+          sound = st.sound;
+          layout = st.layout;
+          horizon = st.horizon;
+          range = st.range;
+          parts = st.parts;
+          distances = st.distances;
+          shows = subst (Shows g') (sym at_barrier) shows;
+          forward = subst (IsForward g.layout s.horizon g.settled) (sym at_barrier) forward;
+        }
 
 -- a barrier that is none
 pub barrier_none :

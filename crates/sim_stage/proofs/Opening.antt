@@ -1,6 +1,6 @@
 -- A machine at which nothing was done.
 use Rattle.std.specs.List.{enumerate_from, range_with_len}
-use Rattle.std.specs.Prelude.{All, List, None, Ok, Option, Result, Some, [], cond, filter, if◌then◌else◌, length, map, nat_lt, ℕ, ◌+◌, ◌==◌, ◌∷◌, ◌≡◌, ◌≤◌, Bool, true, false}
+use Rattle.std.specs.Prelude.{All, List, None, Ok, Option, Result, Some, [], cond, filter, length, map, ℕ, ◌+◌, ◌∷◌, ◌≡◌, ◌≤◌, Bool, true, false}
 use Rattle.std.proofs.Common.{ap, arith, refl, subst, sym, ◌∙◌}
 use Rattle.std.proofs.lemmas.Bool.{le-ltb}
 use Rattle.std.proofs.lemmas.List.Elements.{All-cons, All-head, All-nil, All-tail}
@@ -13,12 +13,10 @@ use Rattle.sim_exchange.specs.Table.{Table, distance_in}
 use Rattle.sim_machine.specs.Bounds.{AreDistances, own_bound}
 use Rattle.sim_machine.specs.Parts.{part_due, part_of}
 use Rattle.sim_machine.specs.Prefixes.{is_before}
-use Rattle.sim_machine.specs.Theorems.{rows_by}
 use Rattle.sim_partition.specs.Sites.{IsOfPast}
 use Rattle.sim_partition.proofs.Handled.{Timely}
-use Rattle.sim_stage.specs.Stages.{IsForward, IsOpened, Shows, Standing, Stands, is_from, machine_in}
+use Rattle.sim_stage.specs.Stages.{IsForward, IsOpened, Shows, Standing, Stands, machine_in}
 use Rattle.sim_stage.proofs.Meetings.{bounds_set}
-use Rattle.sim_stage.proofs.Places.{same_from}
 use Rattle.sqs_message.specs.declared.row.Row.{Row}
 use Rattle.sqs_message.specs.declared.message.Message.{Message}
 use Rattle.sqs_model.specs.Answers.{most_count}

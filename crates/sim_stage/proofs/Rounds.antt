@@ -1,5 +1,5 @@
--- A partition that ran to its bound by itself, and what it did handed back: so a machine stands some picks on.
-use Rattle.std.specs.Prelude.{All, Err, List, None, Ok, Option, Result, Some, [], get_or, length, set, suc, zero, ℕ, ◌++◌, ◌<◌, ◌∷◌, ◌≡◌}
+-- A partition that ran by itself, no further than to its bound, and what it did handed back: so a machine stands some picks on.
+use Rattle.std.specs.Prelude.{All, List, None, Ok, Option, Result, Some, [], get_or, length, set, suc, zero, ℕ, ◌++◌, ◌<◌, ◌∷◌, ◌≡◌, ◌≤◌}
 use Rattle.std.proofs.Common.{ap, append_assoc, arith, refl, subst, sym, ◌∙◌}
 use Rattle.std.proofs.lemmas.List.{append-nil, get_or-set_same, length-set, set-get_or, set-set}
 use Rattle.sim_clock.specs.declared.key.Key.{Key}
@@ -8,9 +8,9 @@ use Rattle.sim_clock.specs.Order.{due_before}
 use Rattle.sim_exchange.specs.Layout.{owner_of}
 use Rattle.sim_machine.specs.Machine.{ready}
 use Rattle.sim_machine.specs.Parts.{part_of}
-use Rattle.sim_machine.specs.Rounds.{PartRun, part_after, part_begun, part_on, part_ran, part_ran_at}
-use Rattle.sim_machine.specs.declared.picks.Pick.{Pick}
+use Rattle.sim_machine.specs.Rounds.{PartRun, part_after, part_begun, part_on, part_ran_at}
 use Rattle.sim_machine.specs.declared.picks.Pick.TheVariants.{Part}
+use Rattle.sim_machine.proofs.Rounds.{some_later}
 use Rattle.sim_machine.proofs.Worlds.{before_some}
 use Rattle.sim_partition.specs.Sites.{AreOfPast, IsOfPast, due_in}
 use Rattle.sim_partition.proofs.Handled.{past_among}
@@ -57,7 +57,7 @@ more_ran g p r t l =
     ∙ ap (λ (z : List (List Row)). let x : Standing = record g { parts = set g.parts p (Ok t.sites); rows = z; waiting = g.waiting ++ r.sent ++ t.sent } in x) rows
     ∙ ap (λ z. let x : Standing = record g { parts = set g.parts p (Ok t.sites); rows = set g.rows p (get_or g.rows p [] ++ (r.rows ++ t.rows)); waiting = z } in x) (append_assoc g.waiting r.sent t.sent)
 
-module _ (s : Scenario) (g : Standing) (p bound : ℕ) (l : p < g.layout.parts) (b : get_or g.bounds p 0 ≡ bound) where
+module _ (s : Scenario) (g : Standing) (p bound : ℕ) (l : p < g.layout.parts) (b : bound ≤ get_or g.bounds p 0) where
   one_more : (r : PartRun) → RunsOn s g p r → (key : Key) → due_before bound (world_due r.sites) ≡ Some key → RunsOn s g p (part_on r (handled_among key r.sites))
   one_more r h key e =
       let g' : Standing = ran_by g p r in
@@ -70,7 +70,7 @@ module _ (s : Scenario) (g : Standing) (p bound : ℕ) (l : p < g.layout.parts) 
       let is : r.sites ≡ w = same_sites r.sites w (sym there ∙ part_at s h.on.picks g' st p d l) in
       let due : world_due r.sites ≡ Some key = before_some bound (world_due r.sites) key e in
       let ready_is : ready (owner_of g.layout) p (machine_in g.layout g.distances s h.on.picks) ≡ Some key =
-      sym (ready_at s h.on.picks g' st p d 0 l) ∙ ap (λ k. due_before k (due_in (get_or g'.parts p d))) b ∙ ap (λ x. due_before bound (due_in x)) there ∙ e in
+      sym (ready_at s h.on.picks g' st p d 0 l) ∙ ap (λ x. due_before (get_or g.bounds p 0) (due_in x)) there ∙ some_later bound (get_or g.bounds p 0) (world_due r.sites) key b e in
       let past : All (IsOfPast key.at) r.sites = subst (AreOfPast r.sites) due h.past in
       let made : Stands s (h.on.picks ++ Part p ∷ []) (stepped_by g' p (handled_among key w)) = steps s h.on.picks g' st p l key ready_is (subst (All (IsOfPast key.at)) is past) in
       let after : IsAfter key (handled_among key r.sites).sites = from_handled key r.sites h.sound due in

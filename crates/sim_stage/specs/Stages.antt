@@ -1,13 +1,15 @@
 -- What is kept of a machine of partitions, and which state of the definitions' machine it shows.
 use Rattle.std.specs.List.{range_with_len}
-use Rattle.std.specs.Prelude.{All, Bool, List, None, Ok, Result, [], filter, get_or, length, map, not, ℕ, ◌++◌, ◌+◌, ◌<◌, ◌∷◌, ◌≡◌, ◌≤◌}
+use Rattle.std.specs.Prelude.{All, Bool, List, None, Ok, Option, Result, Some, [], filter, get_or, length, map, min, not, suc, zero, ℕ, ◌++◌, ◌+◌, ◌<◌, ◌∷◌, ◌≡◌, ◌≤◌}
+use Rattle.sim_clock.specs.declared.key.Key.{Key}
 use Rattle.sim_clock.specs.declared.refusal.Refusal.{Refusal}
+use Rattle.sim_clock.specs.Order.{lesser}
 use Rattle.sim_exchange.specs.Layout.{IsLayout, Layout, owner_of}
 use Rattle.sim_exchange.specs.Table.{Table, distance_in}
-use Rattle.sim_machine.specs.Bounds.{AreDistances, bound_by, own_bound}
+use Rattle.sim_machine.specs.Bounds.{AreDistances, bound_by, least_bound, own_bound}
 use Rattle.sim_machine.specs.Exchange.{exchanged}
 use Rattle.sim_stage.specs.Meeting.{delivered_each, due_moments}
-use Rattle.sim_machine.specs.Machine.{Machine, effects, flushed, takes_effect}
+use Rattle.sim_machine.specs.Machine.{Machine, effects, flushed, ready, takes_effect}
 use Rattle.sim_machine.specs.Kept.{IsAllFrom}
 use Rattle.sim_machine.specs.Parts.{part_of}
 use Rattle.sim_machine.specs.Prefixes.{is_before}
@@ -26,6 +28,20 @@ use Rattle.sqs_model.specs.Site.{Site}
 -- the definitions' machine of a scenario, split so, after some picks
 abbrev pub machine_in : Layout → Table → Scenario → List Pick → Machine
 machine_in layout table s picks = machine_of (owner_of layout) (own_bound (owner_of layout) (distance_in table) layout.parts s.horizon) s picks
+
+-- the least of what so many partitions of a machine may handle
+abbrev pub next_ready : (ℕ → ℕ) → ℕ → Machine → Option Key
+next_ready owner zero m = None
+next_ready owner (suc p) m = lesser (ready owner p m) (next_ready owner p m)
+
+-- a moment, or that of what is due, whichever is first
+abbrev pub up_to : ℕ → Option Key → ℕ
+up_to moment None = moment
+up_to moment (Some key) = min moment key.at
+
+-- the moment that nothing may come before any more: that of what a partition may handle next, or the least bound, whichever is first
+abbrev pub front : (ℕ → ℕ) → ℕ → ℕ → Machine → ℕ
+front owner parts horizon m = up_to (least_bound horizon m.bounds parts) (next_ready owner parts m)
 
 -- a row that is not from before a moment
 abbrev pub is_from : ℕ → Row → Bool
@@ -121,6 +137,10 @@ AreSettled s moment rows = (r : Run) → IsRunOf s r → rows ≡ filter (is_bef
 -- those that follow the ones from before a moment, up to a later one
 abbrev pub AreNext : Scenario → ℕ → ℕ → List Row → Type 0
 AreNext s from to rows = (r : Run) → IsRunOf s r → filter (is_before from) r.rows ++ rows ≡ filter (is_before to) r.rows
+
+-- the moment that nothing may come before any more where a machine stands
+abbrev pub front_in : Standing → Scenario → List Pick → ℕ
+front_in g s picks = front (owner_of g.layout) g.layout.parts s.horizon (machine_in g.layout g.distances s picks)
 
 -- whether a pick takes effect where a machine stands
 abbrev pub takes_effect_in : Standing → Scenario → List Pick → Pick → Bool

@@ -1,7 +1,7 @@
 //! What is kept of a world in partitions, and what is done pick by pick and where they meet: each
 //! partition handles what it has due before its bound; at a barrier it gets what was sent to it, in
-//! the order of keys, the rows that nothing can come before any more are settled, and the bounds are
-//! set anew.
+//! the order of keys, and the bounds are set anew; the rows that nothing can come before any more are
+//! settled.
 #![tactic(auto)]
 
 mod joining;

@@ -1,5 +1,4 @@
-//! Rows of the log, partition by partition, that are settled at a barrier: nothing may come before
-//! them any more.
+//! Rows of the log, partition by partition, that are settled: nothing may come before them any more.
 ghost use Rattle.std.specs.Prelude.{◌≡◌, ◌++◌, IfOk, filter, map, not};
 ghost use Rattle.sim_machine.specs.Merge.{merged_all, row_cmp};
 ghost use Rattle.sim_machine.specs.Prefixes.{is_before};

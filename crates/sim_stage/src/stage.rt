@@ -1,7 +1,7 @@
 //! What is kept of a machine of partitions while it lives, and what it does pick by pick.
 ghost use Rattle.std.specs.List.{list_all, range_with_len};
 ghost use Rattle.std.specs.Option.{is_some};
-ghost use Rattle.std.specs.Prelude.{◌≡◌, ◌≤◌, ◌++◌, ◌+◌, ◌<◌, ◌^◌, ◌∷◌, [], IfErr, IfOk, List, Ok, OnOk, Result, filter, get_or, length, map, nat_le, not, true};
+ghost use Rattle.std.specs.Prelude.{◌≡◌, ◌≤◌, ◌++◌, ◌+◌, ◌<◌, ◌^◌, ◌∷◌, [], IfErr, IfOk, List, Ok, OnOk, Result, filter, get_or, length, map, min, nat_le, not, true};
 ghost use Rattle.sim_clock.specs.declared.refusal.Refusal.{Refusal as TheRefusal};
 ghost use Rattle.sim_clock.specs.Order.{due_before};
 ghost use Rattle.sim_machine.specs.Bounds.{least_bound};
@@ -20,12 +20,12 @@ ghost use Rattle.sqs_model.specs.Run.{due_by};
 ghost use Rattle.sqs_model.specs.Scenario.{Scenario as TheScenario};
 ghost use Rattle.sqs_model.specs.Site.{Site as TheSite};
 ghost use Rattle.sim_stage.specs.Meeting.{AreReached};
-ghost use Rattle.sim_stage.specs.Stages.{AreNext, AreSettled, HasBounds, HasRest, IsOpened, IsSame, IsStanding, Played, Stands, Took, delivered_by, machine_in, settled_by, standing_of, takes_effect_in};
+ghost use Rattle.sim_stage.specs.Stages.{AreNext, AreSettled, HasBounds, HasRest, IsOpened, IsSame, IsStanding, Played, Stands, Took, delivered_by, front_in, machine_in, next_ready, settled_by, standing_of, takes_effect_in};
 
 use crate::joining::join_sites;
 use crate::meeting::{bounds_of, deliver_each, dues_of};
 use crate::settling::settle;
-use sim_clock::{Key, Refusal};
+use sim_clock::{Key, Refusal, lesser};
 use sim_exchange::{Distances, PartMap, exchange, merge_rows};
 use sim_machine::Pick;
 use sim_partition::Partition;
@@ -57,14 +57,12 @@ pub struct Ended {
     pub sites: Vec<Site>,
 }
 
-// Whether something is due before a bound.
-fn is_before(due: Option<Key>, bound: u64) -> bool
-    ensures { result ≡ is_some (due_before bound due) }
+// What is due, if it comes before a bound.
+fn before(due: Option<Key>, bound: u64) -> Option<Key>
+    ensures { result ≡ due_before bound due }
 {
-    match due {
-        None => false,
-        Some(key) => key.at < bound,
-    }
+    let key = due?;
+    if key.at < bound { Some(key) } else { None }
 }
 
 // Whether something is due by the horizon.
@@ -137,27 +135,39 @@ impl Stage {
         })
     }
 
-    // Whether a partition, by its place, has something due before its bound.
-    fn is_ready(&self, place: usize) -> bool
+    // What a partition, by its place, has due before its bound.
+    fn ready_at(&self, place: usize) -> Option<Key>
         requires parts { place < length self.now.parts.items }
         requires bounds { place < length self.now.bounds.items }
-        ensures ready { (d : Result (List TheSite) TheRefusal) → result ≡ is_some (due_before (get_or self.now.bounds.items place 0) (due_in (get_or self.now.parts.items place d))) }
+        ensures ready { (d : Result (List TheSite) TheRefusal) → result ≡ due_before (get_or self.now.bounds.items place 0) (due_in (get_or self.now.parts.items place d)) }
         ensures past { (d : Result (List TheSite) TheRefusal) → IfOk (get_or self.now.parts.items place d) (λ w. AreOfPast w (world_due w)) }
     {
-        is_before(self.parts[place].least_due(), self.bounds[place])
+        before(self.parts[place].least_due(), self.bounds[place])
     }
 
-    // Whether any partition has.
-    fn has_ready(&self) -> bool
+    /// The least of what the partitions may handle now; none where no partition may go on.
+    pub fn next_ready(&self) -> Option<Key>
         requires { IsStanding (standing_of self.now) }
-        ensures { (s : TheScenario) (done : List ThePick) → Stands s done (standing_of self.now) → result ≡ has_ready (owner_of self.now.layout) (machine_in self.now.layout self.now.distances s done) }
+        ensures least { (s : TheScenario) (done : List ThePick) → Stands s done (standing_of self.now) → result ≡ next_ready (owner_of self.now.layout) self.now.layout.parts (machine_in self.now.layout self.now.distances s done) }
+        ensures going { (s : TheScenario) (done : List ThePick) → Stands s done (standing_of self.now) → is_some result ≡ has_ready (owner_of self.now.layout) (machine_in self.now.layout self.now.distances s done) }
     {
+        let mut next = None;
         for place in 0..self.parts.len() {
-            if self.is_ready(place) {
-                return true;
-            }
+            next = lesser(self.ready_at(place), next);
         }
-        false
+        next
+    }
+
+    /// How far each partition runs in a round that is cut at a moment: to its bound, or to the cut if
+    /// that is sooner. The error is want of memory.
+    pub fn ends(&self, cut: u64) -> Result<Vec<u64>, AllocError>
+        ensures { IfOk result (λ ends. ends.items ≡ map (λ bound. min bound cut) self.now.bounds.items) }
+    {
+        let mut ends = Vec::new(self.alloc);
+        for bound in &self.bounds {
+            ends.push(cut.min(*bound))?;
+        }
+        Ok(ends)
     }
 
     /// Whether nothing is left by the horizon, due or waiting.
@@ -182,7 +192,7 @@ impl Stage {
         ensures stops { (s : TheScenario) (done : List ThePick) → Stands s done (standing_of self.old) → IfErr result (StopsWhere (IsOver s)) }
     {
         let place = part as usize;
-        if place >= self.parts.len() || !self.is_ready(place) {
+        if place >= self.parts.len() || self.ready_at(place).is_none() {
             return Ok(false);
         }
         let mut handled = self.parts[place].step()?;
@@ -205,7 +215,7 @@ impl Stage {
     }
 
     // The rows from before a moment are settled. Answers them, in the order of keys.
-    fn settle(&mut self, moment: u64) -> Result<Vec<Row>, AllocError>
+    fn settle_before(&mut self, moment: u64) -> Result<Vec<Row>, AllocError>
         ensures settled { IfOk result (λ _. standing_of self.new ≡ settled_by (standing_of self.old) moment) }
         ensures rows { IfOk result (λ rows. rows.items ≡ merged_all row_cmp (map (filter (is_row_before moment)) (standing_of self.old).rows)) }
     {
@@ -228,19 +238,41 @@ impl Stage {
         Ok(())
     }
 
-    /// What waits is delivered, what nothing can come before any more is settled, and the bounds are
-    /// set anew. Answers the rows that are settled, in the order of keys; they follow those before.
-    pub fn meet(&mut self) -> Result<Vec<Row>, Refusal>
+    // The moment that nothing may come before any more: that of what a partition may handle next, or the
+    // least bound.
+    fn front(&self) -> u64
+        requires { IsStanding (standing_of self.now) }
+        ensures { (s : TheScenario) (done : List ThePick) → Stands s done (standing_of self.now) → result ≡ front_in (standing_of self.now) s done }
+    {
+        let least = least_of(&self.bounds, self.horizon);
+        match self.next_ready() {
+            None => least,
+            Some(next) => least.min(next.at),
+        }
+    }
+
+    /// The rows that nothing may come before any more are settled. Answers them, in the order of keys;
+    /// they follow those that were settled before. The error is want of memory.
+    pub fn settle(&mut self) -> Result<Vec<Row>, AllocError>
+        requires { IsStanding (standing_of self.old) }
+        ensures stands { (s : TheScenario) (done : List ThePick) → Stands s done (standing_of self.old) → IfOk result (λ _. Stands s done (standing_of self.new) × IsSame (standing_of self.old) (standing_of self.new)) }
+        ensures next { (s : TheScenario) (done : List ThePick) → Stands s done (standing_of self.old) → IfOk result (λ rows. AreNext s self.old.settled self.new.settled rows.items) }
+        ensures front { (s : TheScenario) (done : List ThePick) → Stands s done (standing_of self.old) → IfOk result (λ _. self.new.settled ≡ front_in (standing_of self.old) s done) }
+    {
+        let moment = self.front();
+        self.settle_before(moment)
+    }
+
+    /// What waits is delivered, and the bounds are set anew.
+    pub fn meet(&mut self) -> Result<(), Refusal>
         requires stands { IsStanding (standing_of self.old) }
-        ensures met { (s : TheScenario) (done : List ThePick) → Stands s done (standing_of self.old) → takes_effect_in (standing_of self.old) s done Barrier ≡ true → IfOk result (λ _. Stands s (done ++ Barrier ∷ []) (standing_of self.new) × IsSame (standing_of self.old) (standing_of self.new)) }
-        ensures next { (s : TheScenario) (done : List ThePick) → Stands s done (standing_of self.old) → takes_effect_in (standing_of self.old) s done Barrier ≡ true → IfOk result (λ rows. AreNext s self.old.settled self.new.settled rows.items) }
+        ensures met { (s : TheScenario) (done : List ThePick) → Stands s done (standing_of self.old) → takes_effect_in (standing_of self.old) s done Barrier ≡ true → OnOk result (Stands s (done ++ Barrier ∷ []) (standing_of self.new) × IsSame (standing_of self.old) (standing_of self.new)) }
+        ensures settled { OnOk result (self.new.settled ≡ self.old.settled) }
         ensures memory { IfErr result (λ refusal. refusal ≡ Refusal.Memory) }
     {
-        let moment = least_of(&self.bounds, self.horizon);
-        let rows = self.settle(moment)?;
         self.deliver()?;
         self.set_bounds()?;
-        Ok(rows)
+        Ok(())
     }
 
     // A barrier, if no partition may go on and something is left; the rows that are settled are added
@@ -251,10 +283,11 @@ impl Stage {
         ensures took { (s : TheScenario) (done : List ThePick) → Stands s done (standing_of self.old) → IfOk result (λ took. Took (standing_of self.old) (standing_of self.new) s done Barrier took) }
         ensures memory { IfErr result (λ refusal. refusal ≡ Refusal.Memory) }
     {
-        if self.has_ready() || self.is_finished() {
+        if self.next_ready().is_some() || self.is_finished() {
             return Ok(false);
         }
-        let mut rows = self.meet()?;
+        self.meet()?;
+        let mut rows = self.settle()?;
         told.append(&mut rows)?;
         Ok(true)
     }

@@ -1,17 +1,15 @@
-use Rattle.std.specs.Prelude.{List, Ok, Result, Vec, [], drop, get_or, length, map, set, ℕ, ◌++◌, ◌+◌, ◌<◌, ◌∷◌, ◌≡◌}
+use Rattle.std.specs.Prelude.{List, Ok, Result, Vec, [], drop, get_or, length, map, set, ℕ, ◌++◌, ◌+◌, ◌<◌, ◌∷◌, ◌≡◌, ◌≤◌}
 use Rattle.std.proofs.Common.{Global, ap, append_assoc, arith, length-append, subst, sym, ◌∙◌}
 use Rattle.std.proofs.lemmas.List.{append-nil, drop_all, get_or-map, length-drop, length-map, length-set, map-set, nil_from_length}
 use Rattle.sim_clock.specs.declared.refusal.Refusal.{Refusal}
-use Rattle.sim_clock.specs.Order.{due_before}
 use Rattle.sim_machine.specs.Rounds.{PartRun}
-use Rattle.sim_partition.specs.Sites.{due_in}
 use Rattle.sim_partition.specs.Steps.{part_run}
 use Rattle.sim_parallel.specs.Runs.{with_parts}
-use Rattle.sim_parallel.proofs.Back.{Next, many_back, next_back, next_part, next_set, none_due}
+use Rattle.sim_parallel.proofs.Back.{Next, many_back, next_back, next_part, next_set}
 use Rattle.sim_stage.specs.Stages.{Standing, StandsOn, standing_of}
 use Rattle.sim_stage.proofs.Places.{map_push}
 use Rattle.sim_stage.proofs.Rounds.{RunsOn, ran_by, runs_on}
-use Rattle.sim_stage.proofs.Standing.{many_parts, many_rows, none_ready_is, ready_at}
+use Rattle.sim_stage.proofs.Standing.{many_bounds, many_parts, many_rows}
 use Rattle.sim_workers.specs.Rounds.{HaveCome}
 use Rattle.sim_workers.specs.declared.piece.Came.{Came}
 use Rattle.sqs_message.specs.declared.row.Row.{Row}
@@ -52,20 +50,22 @@ loop-one-preserved c =
       bounds = i.bounds;
       same = record { layout = i.same.layout; distances = i.same.distances };
       settled = i.settled;
-      back = λ s ps on h.
+      back = λ s ps ends on under h.
           let d : Result (List Site) Refusal = Ok [] in
           let g : Standing = with_parts (xs ++ drop k ps) (standing_of l.stage) in
-          let st : StandsOn s g = i.back s ps on h in
-          let next : Next c.args.stage.now.bounds.items ps k d one =
-          subst (λ n. Next c.args.stage.now.bounds.items ps n d one) (sym i.place) (next_back c.args.stage.now.bounds.items ps l.yielded one more d (subst (HaveCome c.args.stage.now.bounds.items ps) (sym order) h)) in
+          let st : StandsOn s g = i.back s ps ends on under h in
+          let next : Next ends ps k d one = subst (λ n. Next ends ps n d one) (sym i.place) (next_back ends ps l.yielded one more d (subst (HaveCome ends ps) (sym order) h)) in
           let at : length xs ≡ k = ap (λ z. length z) i.parts ∙ length-map l.yielded (λ (x : Came). x.part) ∙ sym i.place in
           let there : get_or g.parts k d ≡ Ok next.back.sites = next_part xs ps k d at next.within ∙ next.back.lived in
           let within : k < g.layout.parts = omega (arith, length-append xs (drop k ps), length-drop k ps, at, next.within, many_parts s st.picks g st.stands) in
-          let bound : ℕ = get_or c.args.stage.now.bounds.items k 0 in
+          let many_ends : k < length g.bounds = omega (arith, within, many_bounds s st.picks g st.stands) in
+          let bound : ℕ = get_or ends k 0 in
+          let no_further : bound ≤ get_or g.bounds k 0 =
+          subst (λ z. bound ≤ get_or z k 0) (sym i.bounds) (under k (omega (arith, many_ends, ap (λ z. length z) i.bounds))) in
           let ran = next.back.came.ran in
           let done : PartRun = part_run ran.sites one.ran in
           let r : RunsOn s g k done =
-          subst (RunsOn s g k) ran.run.reached (runs_on s g k bound within (ap (λ z. get_or z k 0) i.bounds) ran.run.steps next.back.sites d st there next.back.came.sound next.back.came.none_later) in
+          subst (RunsOn s g k) ran.run.reached (runs_on s g k bound within no_further ran.run.steps next.back.sites d st there next.back.came.sound next.back.came.none_later) in
           let many : k < length rows = omega (arith, within, many_rows s st.picks g st.stands, length-map rows (λ (v : Vec Row Global). v.items)) in
           let added : c.append.new.self.items ≡ get_or g.rows k [] ++ one.ran.rows.items =
           c.in_ok-append.ensures.items
@@ -83,26 +83,12 @@ loop-one-preserved c =
     }
 
 pub returns-clause-back : goal.returns-clause-back
-returns-clause-back c = λ s ps on h.
+returns-clause-back c = λ s ps ends on under h.
     let l = c.loop-one in
     let i = l.invariant in
-    let d : Result (List Site) Refusal = Ok [] in
     let g : Standing = standing_of l.stage in
     let none : l.one-iterator.rest.items ≡ [] = nil_from_length l.one-iterator.rest.items (omega (arith, c.in-None.ensures.steps.0, l.one-iterator.rest.ok.0)) in
     let all : l.yielded ≡ c.args.came.items = sym (append-nil l.yielded) ∙ ap (λ r. l.yielded ++ r) (sym none) ∙ i.rest in
-    let many : length c.args.came.items ≡ length ps = many_back c.args.stage.now.bounds.items ps c.args.came.items h in
+    let many : length c.args.came.items ≡ length ps = many_back ends ps c.args.came.items h in
     let last : l.place ≡ length ps = i.place ∙ ap (λ z. length z) all ∙ many in
-    let st : StandsOn s g =
-    subst (λ (z : List (Result (List Site) Refusal)). StandsOn s (with_parts z g)) (ap (λ z. g.parts ++ z) (drop_all l.place ps (omega (arith, last))) ∙ append-nil g.parts) (i.back s ps on h) in
-    let parts : g.parts ≡ map (λ (x : Came). x.part) c.args.came.items = i.parts ∙ ap (map (λ (x : Came). x.part)) all in
-    record {
-      picks = st.picks;
-      stands = st.stands;
-      rests = none_ready_is s st.picks g st.stands
-          (λ q k.
-          let within : q < length ps = omega (arith, k, many_parts s st.picks g st.stands, ap (λ z. length z) parts, length-map c.args.came.items (λ (x : Came). x.part), many) in
-          sym (ready_at s st.picks g st.stands q d 0 k)
-          ∙ ap (λ z. due_before (get_or z q 0) (due_in (get_or g.parts q d))) i.bounds
-          ∙ ap (λ z. due_before (get_or c.args.stage.now.bounds.items q 0) (due_in (get_or z q d))) parts
-          ∙ none_due c.args.stage.now.bounds.items ps c.args.came.items h q d within);
-    }
+    subst (λ (z : List (Result (List Site) Refusal)). StandsOn s (with_parts z g)) (ap (λ z. g.parts ++ z) (drop_all l.place ps (omega (arith, last))) ∙ append-nil g.parts) (i.back s ps ends on under h)

@@ -1,6 +1,6 @@
-use Rattle.std.proofs.Common.{List, Result, drop, length, map, ◌++◌, ◌≡◌}
+use Rattle.std.proofs.Common.{List, Result, drop, length, map, ℕ, ◌++◌, ◌≡◌}
 use Rattle.sim_clock.specs.declared.refusal.Refusal.{Refusal}
-use Rattle.sim_parallel.specs.Runs.{with_parts}
+use Rattle.sim_parallel.specs.Runs.{AreWithin, with_parts}
 use Rattle.sim_stage.specs.Stages.{IsSame, StandsOn, standing_of}
 use Rattle.sim_workers.specs.Rounds.{HaveCome}
 use Rattle.sqs_model.specs.Scenario.{Scenario}
@@ -17,5 +17,5 @@ invariant-loop-one l = record {
   bounds : l.stage.bounds.items ≡ l.initial.stage.bounds.items;
   same : IsSame (standing_of l.initial.stage) (standing_of l.stage);
   settled : l.stage.settled ≡ l.initial.stage.settled;
-  back : (s : Scenario) (parts : List (Result (List Site) Refusal)) → StandsOn s (with_parts parts (standing_of l.initial.stage)) → HaveCome l.initial.stage.bounds.items parts l.fn.came.items → StandsOn s (with_parts (l.stage.parts.items ++ drop l.place parts) (standing_of l.stage));
+  back : (s : Scenario) (parts : List (Result (List Site) Refusal)) (ends : List ℕ) → StandsOn s (with_parts parts (standing_of l.initial.stage)) → AreWithin ends l.initial.stage.bounds.items → HaveCome ends parts l.fn.came.items → StandsOn s (with_parts (l.stage.parts.items ++ drop l.place parts) (standing_of l.stage));
 }

@@ -1,4 +1,4 @@
-use Rattle.std.specs.Prelude.{All, List, Ok, Result, Vec, map, ℕ, ◌++◌, ◌∷◌, [], ◌≡◌}
+use Rattle.std.specs.Prelude.{All, List, Ok, Result, Vec, map, ◌++◌, ◌∷◌, [], ◌≡◌}
 use Rattle.std.proofs.Common.{Global, append_assoc, ap, subst, sym, ◌∙◌}
 use Rattle.std.proofs.lemmas.List.Elements.{All-tail}
 use Rattle.sim_clock.specs.declared.refusal.Refusal.{Refusal}

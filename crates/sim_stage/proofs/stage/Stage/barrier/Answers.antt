@@ -1,23 +1,24 @@
-use Rattle.std.specs.Prelude.{false, not, true, ◌++◌, ◌≡◌, ◌||◌}
+use Rattle.std.specs.Prelude.{[], false, filter, not, true, ◌++◌, ◌∷◌, ◌≡◌, ◌||◌}
 use Rattle.std.proofs.Common.{ap, sym, ◌∙◌}
 use Rattle.sim_exchange.specs.Layout.{owner_of}
 use Rattle.sim_machine.specs.Machine.{Machine, has_ready, is_finished}
 use Rattle.sim_machine.specs.declared.picks.Pick.TheVariants.{Barrier}
+use Rattle.sim_machine.specs.Prefixes.{is_before}
 use Rattle.sim_stage.specs.Stages.{Standing, machine_in, standing_of, takes_effect_in}
 use Rattle.sim_stage.proofs.Meetings.{barrier_none}
-use Rattle.sim_stage.proofs.stage.Stage.barrier.Goals.{then-has_ready-via-then-has_ready, then-has_ready-via-else-has_ready+then-is_finished}
+use Rattle.sim_stage.proofs.stage.Stage.barrier.Goals.{then-is_some-via-then-is_some, then-is_some-via-else-is_some+then-is_finished}
 use Rattle.sim_stage.proofs.stage.Stage.barrier.Goals as goal
 
-pub returns-then-has_ready-clause-took : goal.returns-then-has_ready-clause-took
-returns-then-has_ready-clause-took c = λ s done st.
+pub returns-then-is_some-clause-took : goal.returns-then-is_some-clause-took
+returns-then-is_some-clause-took c = λ s done st.
     let g : Standing = standing_of c.args.self.now in
     let m : Machine = machine_in g.layout g.distances s done in
-    elim c.then-has_ready.branch [
-      | then-has_ready-via-then-has_ready w ↦
-          let t : has_ready (owner_of g.layout) m ≡ true = sym (c.has_ready.ensures s done st) ∙ w.if-has_ready.true in
+    elim c.then-is_some.branch [
+      | then-is_some-via-then-is_some w ↦
+          let t : has_ready (owner_of g.layout) m ≡ true = sym (c.next_ready.ensures.going s done st) ∙ sym c.is_some.ensures ∙ w.if-is_some.true in
           barrier_none s done g st (ap (λ b. b || is_finished s.horizon m) t)
-      | then-has_ready-via-else-has_ready+then-is_finished w ↦
-          let t : has_ready (owner_of g.layout) m ≡ false = sym (c.has_ready.ensures s done st) ∙ w.if-has_ready.false in
+      | then-is_some-via-else-is_some+then-is_finished w ↦
+          let t : has_ready (owner_of g.layout) m ≡ false = sym (c.next_ready.ensures.going s done st) ∙ sym c.is_some.ensures ∙ w.if-is_some.false in
           let f : is_finished s.horizon m ≡ true = sym (w.is_finished.ensures s done st) ∙ w.if-is_finished.true in
           barrier_none s done g st (ap (λ b. b || is_finished s.horizon m) t ∙ f)
     ]
@@ -26,17 +27,30 @@ pub returns-clause-took : goal.returns-clause-took
 returns-clause-took c = λ s done st.
     let g : Standing = standing_of c.args.self.now in
     let m : Machine = machine_in g.layout g.distances s done in
-    let t : has_ready (owner_of g.layout) m ≡ false = sym (c.has_ready.ensures s done st) ∙ c.if-has_ready.false in
+    let t : has_ready (owner_of g.layout) m ≡ false = sym (c.next_ready.ensures.going s done st) ∙ sym c.is_some.ensures ∙ c.if-is_some.false in
     let f : is_finished s.horizon m ≡ false = sym (c.is_finished.ensures s done st) ∙ c.if-is_finished.false in
     let takes : takes_effect_in g s done Barrier ≡ true = ap (λ b. not (b || is_finished s.horizon m)) t ∙ ap (λ b. not b) f in
-    let made = c.in_ok-rows.ensures.met s done st takes in
-    record { stands = made.0; same = made.1; effect = sym takes }
+    let met = c.in_ok-meet.ensures.met s done st takes in
+    let made = c.in_ok-rows.ensures.stands s (done ++ Barrier ∷ []) met.0 in
+    record { stands = made.0; same = record { layout = made.1.layout ∙ met.1.layout; distances = made.1.distances ∙ met.1.distances }; effect = sym takes }
 
 pub returns-clause-settled : goal.returns-clause-settled
 returns-clause-settled c = λ s done st told r w.
     let g : Standing = standing_of c.args.self.now in
     let m : Machine = machine_in g.layout g.distances s done in
-    let t : has_ready (owner_of g.layout) m ≡ false = sym (c.has_ready.ensures s done st) ∙ c.if-has_ready.false in
+    let t : has_ready (owner_of g.layout) m ≡ false = sym (c.next_ready.ensures.going s done st) ∙ sym c.is_some.ensures ∙ c.if-is_some.false in
     let f : is_finished s.horizon m ≡ false = sym (c.is_finished.ensures s done st) ∙ c.if-is_finished.false in
     let takes : takes_effect_in g s done Barrier ≡ true = ap (λ b. not (b || is_finished s.horizon m)) t ∙ ap (λ b. not b) f in
-    c.in_ok-append.ensures.items ∙ ap (λ z. z ++ c.in_ok-rows.rows.items) (told r w) ∙ c.in_ok-rows.ensures.next s done st takes r w
+    let met = c.in_ok-meet.ensures.met s done st takes in
+    let before : c.args.told.now.items ≡ filter (is_before c.meet.new.self.settled) r.rows = told r w ∙ ap (λ k. filter (is_before k) r.rows) (sym c.in_ok-meet.ensures.settled) in
+    c.in_ok-append.ensures.items ∙ ap (λ z. z ++ c.in_ok-rows.rows.items) before ∙ c.in_ok-rows.ensures.next s (done ++ Barrier ∷ []) met.0 r w
+
+pub settle-requires : goal.settle-requires
+settle-requires c =
+    let r = c.requires in
+    let g : Standing = standing_of c.args.self.now in
+    let m : Machine = machine_in g.layout g.distances r.scenario r.picks in
+    let t : has_ready (owner_of g.layout) m ≡ false = sym (c.next_ready.ensures.going r.scenario r.picks r.stands) ∙ sym c.is_some.ensures ∙ c.if-is_some.false in
+    let f : is_finished r.scenario.horizon m ≡ false = sym (c.is_finished.ensures r.scenario r.picks r.stands) ∙ c.if-is_finished.false in
+    let takes : takes_effect_in g r.scenario r.picks Barrier ≡ true = ap (λ b. not (b || is_finished r.scenario.horizon m)) t ∙ ap (λ b. not b) f in
+    record { scenario = r.scenario; picks = r.picks ++ Barrier ∷ []; stands = (c.in_ok-meet.ensures.met r.scenario r.picks r.stands takes).0 }

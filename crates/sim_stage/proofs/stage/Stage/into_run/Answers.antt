@@ -1,4 +1,4 @@
-use Rattle.std.specs.Prelude.{List, filter, ◌++◌, ◌≡◌}
+use Rattle.std.specs.Prelude.{filter, ◌++◌, ◌≡◌}
 use Rattle.std.proofs.Common.{ap, refl, ◌∙◌}
 use Rattle.std.proofs.lemmas.Result.{err_from_is_err_and}
 use Rattle.sim_machine.specs.Machine.{Machine, flushed}
@@ -7,8 +7,6 @@ use Rattle.sim_machine.specs.Prefixes.{is_before}
 use Rattle.sim_stage.specs.Stages.{Standing, delivered_by, machine_in, standing_of}
 use Rattle.sim_stage.proofs.Ending.{ends_numbered, is_whole, parts_whole, rows_whole, whole}
 use Rattle.sim_stage.proofs.Meetings.{are_reached, live, parts_in}
-use Rattle.sqs_message.specs.declared.row.Row.{Row}
-use Rattle.sqs_model.specs.Site.{Site}
 use Rattle.sim_stage.proofs.stage.Stage.into_run.Goals as goal
 
 pub deliver-requires : goal.deliver-requires

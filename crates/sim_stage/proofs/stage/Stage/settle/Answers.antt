@@ -1,27 +1,33 @@
-use Rattle.std.specs.Prelude.{List, Vec, [], filter, map, ◌∷◌, ◌≡◌}
-use Rattle.std.proofs.Common.{Global, ap, refl, ◌∙◌}
-use Rattle.sim_machine.specs.Merge.{merged_all, row_cmp}
-use Rattle.sim_machine.specs.Prefixes.{is_before}
-use Rattle.sim_stage.specs.Stages.{Standing, is_from, standing_of}
-use Rattle.sqs_message.specs.declared.row.Row.{Row}
+use Rattle.std.specs.Prelude.{Err, IfOk, Ok, Result}
+use Rattle.std.proofs.Common.{ap, subst, sym}
+use Rattle.std.proofs.lemmas.Result.{IfOk-weaker}
+use Rattle.sim_stage.specs.Stages.{AreNext, Standing, Stands, standing_of}
+use Rattle.sim_stage.proofs.Fronts.{next_in, settles}
 use Rattle.sim_stage.proofs.stage.Stage.settle.Goals as goal
 
--- a test of the rows of each list
-over_items : (f : List Row → List Row) (xs : List (Vec Row Global)) → map (λ v. f v.items) xs ≡ map f (map (λ v. v.items) xs)
-over_items f [] = refl
-over_items f (x ∷ xs) = ap (λ z. f x.items ∷ z) (over_items f xs)
+-- what follows where two things hold of what came
+module _ {A E : Type 0} (P Q R : A → Type 0) (f : (x : A) → P x → Q x → R x) where
+  if_both : (r : Result A E) → IfOk r P → IfOk r Q → IfOk r R
+  if_both (Ok x) p q = f x p q
+  if_both (Err e) p q = tt
 
--- what is settled, and what is kept, of lists of rows that were taken out
-of_items : (f : List Row → List Row) (xs ys : Vec (Vec Row Global) Global) → xs ≡ ys → map (λ v. f v.items) xs.items ≡ map f (map (λ v. v.items) ys.items)
-of_items f xs ys e = over_items f xs.items ∙ ap (λ (v : Vec (Vec Row Global) Global). map f (map (λ x. x.items) v.items)) e
-
-pub returns-clause-settled : goal.returns-clause-settled
-returns-clause-settled c =
+pub returns-clause-stands : goal.returns-clause-stands
+returns-clause-stands c = λ s done st.
     let g : Standing = standing_of c.args.self.now in
-    let moment = c.args.moment in
-    let kept : map (λ v. v.items) c.in_ok-settled.settled.kept.items ≡ map (filter (is_from moment)) g.rows =
-    c.in_ok-settled.ensures.kept ∙ of_items (filter (is_from moment)) c.replace-rows.result c.args.self.now.rows c.replace-rows.ensures.value in
-    ap (λ (z : List (List Row)). let x : Standing = record g { rows = z; settled = moment } in x) kept
+    let h : Standing = standing_of c.settle_before.new.self in
+    let moment = c.front-moment.result in
+    IfOk-weaker c.settle_before.result _ _
+    (λ rows e. (
+      subst (Stands s done) (sym e) (settles s done g st moment (c.front-moment.ensures s done st)),
+      (record { layout = ap (λ (x : Standing). x.layout) e; distances = ap (λ (x : Standing). x.distances) e }),
+    )) c.settle_before.ensures.settled
 
-pub returns-clause-rows : goal.returns-clause-rows
-returns-clause-rows c = c.in_ok-settled.ensures.rows ∙ ap (merged_all row_cmp) (of_items (filter (is_before c.args.moment)) c.replace-rows.result c.args.self.now.rows c.replace-rows.ensures.value)
+pub returns-clause-next : goal.returns-clause-next
+returns-clause-next c = λ s done st.
+    let g : Standing = standing_of c.args.self.now in
+    let h : Standing = standing_of c.settle_before.new.self in
+    let moment = c.front-moment.result in
+    if_both _ _ _
+    (λ rows e f.
+    subst (λ k. AreNext s g.settled k rows.items) (sym (ap (λ (x : Standing). x.settled) e))
+    (subst (AreNext s g.settled moment) (sym f) (next_in s done g st moment (c.front-moment.ensures s done st)))) c.settle_before.result c.settle_before.ensures.settled c.settle_before.ensures.rows

@@ -1,5 +1,5 @@
 use Rattle.std.specs.Option.{is_some}
-use Rattle.std.specs.Prelude.{All, IfOk, List, Ok, Result, Some, Vec, [], get_or, length, map, set, true, ℕ, ◌++◌, ◌<◌, ◌∷◌, ◌≡◌}
+use Rattle.std.specs.Prelude.{All, IfOk, List, Ok, Result, Some, Vec, [], get_or, length, map, not, set, true, ℕ, ◌++◌, ◌<◌, ◌∷◌, ◌≡◌}
 use Rattle.std.proofs.Common.{Global, ap, arith, refl, subst, sym, ◌∙◌}
 use Rattle.std.proofs.lemmas.List.{get_or-map, length-map, map-set}
 use Rattle.std.proofs.lemmas.Result.{err_from_is_err_and}
@@ -21,7 +21,7 @@ use Rattle.sqs_model.specs.Dues.{world_due}
 use Rattle.sqs_model.specs.Run.{Stepped, handled_among}
 use Rattle.sqs_model.specs.Scenario.{Scenario}
 use Rattle.sqs_model.specs.Site.{Site}
-use Rattle.sim_stage.proofs.stage.Stage.step.Goals.{then-place-len-via-then-place-len, then-place-len-via-else-place-len+then-not-is_ready}
+use Rattle.sim_stage.proofs.stage.Stage.step.Goals.{then-place-len-via-then-place-len, then-place-len-via-else-place-len+then-is_none}
 use Rattle.sim_stage.proofs.stage.Stage.step.Goals as goal
 
 nobody : Result (List Site) Refusal
@@ -34,9 +34,9 @@ returns-then-place-len-clause-took c = λ s done st.
     let m : Machine = machine_in g.layout g.distances s done in
     elim c.then-place-len.branch [
       | then-place-len-via-then-place-len w ↦ took_none s done g st p (none_past s done g st p (omega (arith, w.if-place-len.true, c.len.ensures, c.args.self.now.parts.ok.0, many_parts s done g st)))
-      | then-place-len-via-else-place-len+then-not-is_ready w ↦
+      | then-place-len-via-else-place-len+then-is_none w ↦
           let within : p < g.layout.parts = omega (arith, w.if-place-len.false, c.len.ensures, c.args.self.now.parts.ok.0, many_parts s done g st) in
-          took_none s done g st p (not_some (ready (owner_of g.layout) p m) (ap is_some (sym (ready_at s done g st p nobody 0 within)) ∙ sym (w.is_ready.ensures.ready nobody) ∙ w.if-not-is_ready.true))
+          took_none s done g st p (sym (ready_at s done g st p nobody 0 within) ∙ sym (w.ready_at.ensures.ready nobody) ∙ not_some w.ready_at.result (w.is_none.ensures ∙ ap not w.if-is_none.true))
     ]
 
 -- a partition that has something to handle
@@ -64,7 +64,7 @@ step-requires c =
     let d : Result (List Site) Refusal = c.index_mut.result.now in
     let l : p < length g.parts = omega (arith, c.if-place-len.false, c.len.ensures, c.args.self.now.parts.ok.0) in
     let within : p < g.layout.parts = omega (arith, l, many_parts s done g st) in
-    let h : Here s done g p d = here s done g st p d l c.index_mut.ensures.value (ap is_some (sym (ready_at s done g st p nobody 0 within)) ∙ sym (c.is_ready.ensures.ready nobody) ∙ c.if-not-is_ready.false) in
+    let h : Here s done g p d = here s done g st p d l c.index_mut.ensures.value (ap is_some (sym (c.ready_at.ensures.ready nobody ∙ ready_at s done g st p nobody 0 within)) ∙ c.is_none.ensures ∙ ap not c.if-is_none.false) in
     record { due = subst (λ (x : Result (List Site) Refusal). IfOk x HasDue) (sym h.lives) (has_due s done g st p within h.key h.ready_is) }
 
 pub returns-in_err-handled-clause-stops : goal.returns-in_err-handled-clause-stops
@@ -74,7 +74,7 @@ returns-in_err-handled-clause-stops c = λ s done st.
     let d : Result (List Site) Refusal = c.index_mut.result.now in
     let l : p < length g.parts = omega (arith, c.if-place-len.false, c.len.ensures, c.args.self.now.parts.ok.0) in
     let within : p < g.layout.parts = omega (arith, l, many_parts s done g st) in
-    let h : Here s done g p d = here s done g st p d l c.index_mut.ensures.value (ap is_some (sym (ready_at s done g st p nobody 0 within)) ∙ sym (c.is_ready.ensures.ready nobody) ∙ c.if-not-is_ready.false) in
+    let h : Here s done g p d = here s done g st p d l c.index_mut.ensures.value (ap is_some (sym (c.ready_at.ensures.ready nobody ∙ ready_at s done g st p nobody 0 within)) ∙ c.is_none.ensures ∙ ap not c.if-is_none.false) in
     let refusal : Refusal = c.in_err-handled.field-0.0 in
     let told = err_from_is_err_and c.from_residual.result c.from_residual.ensures.1 in
     let stops : (key : Key) → world_due (part_of (owner_of g.layout) p (machine_in g.layout g.distances s done).sites) ≡ Some key → StopsStep (handled_among key (part_of (owner_of g.layout) p (machine_in g.layout g.distances s done).sites)) refusal =
@@ -89,7 +89,7 @@ returns-clause-took c = λ s done st.
     let l : p < length g.parts = omega (arith, c.if-place-len.false, c.len.ensures, c.args.self.now.parts.ok.0) in
     let within : p < g.layout.parts = omega (arith, l, many_parts s done g st) in
     let ready_some : is_some (ready (owner_of g.layout) p (machine_in g.layout g.distances s done)) ≡ true =
-    ap is_some (sym (ready_at s done g st p nobody 0 within)) ∙ sym (c.is_ready.ensures.ready nobody) ∙ c.if-not-is_ready.false in
+    ap is_some (sym (c.ready_at.ensures.ready nobody ∙ ready_at s done g st p nobody 0 within)) ∙ c.is_none.ensures ∙ ap not c.if-is_none.false in
     let h : Here s done g p d = here s done g st p d l c.index_mut.ensures.value ready_some in
     let w : List Site = part_of (owner_of g.layout) p (machine_in g.layout g.distances s done).sites in
     let t : Stepped = handled_among h.key w in
@@ -97,7 +97,7 @@ returns-clause-took c = λ s done st.
     let made : (c.step.new.self ≡ Ok t.sites) × (c.in_ok-handled.handled.rows.items ≡ t.rows) × (c.in_ok-handled.handled.outbound.items ≡ t.sent) =
     subst (λ (x : Result (List Site) Refusal). IfOk x (λ v. (key : Key) → world_due v ≡ Some key → (c.step.new.self ≡ Ok (handled_among key v).sites) × (c.in_ok-handled.handled.rows.items ≡ (handled_among key v).rows) × (c.in_ok-handled.handled.outbound.items ≡ (handled_among key v).sent))) h.lives c.in_ok-handled.ensures.handled h.key due in
     let past : All (IsOfPast h.key.at) w =
-    subst (AreOfPast w) due (subst (λ (x : Result (List Site) Refusal). IfOk x (λ v. AreOfPast v (world_due v))) (sym c.index_mut.ensures.value ∙ h.lives) (c.is_ready.ensures.past d)) in
+    subst (AreOfPast w) due (subst (λ (x : Result (List Site) Refusal). IfOk x (λ v. AreOfPast v (world_due v))) (sym c.index_mut.ensures.value ∙ h.lives) (c.ready_at.ensures.past d)) in
     let rows : List (Vec Row Global) = c.args.self.now.rows.items in
     let many : p < length rows = omega (arith, within, many_rows s done g st, length-map rows (λ (v : Vec Row Global). v.items)) in
     let more : c.append.new.self.items ≡ get_or g.rows p [] ++ t.rows =
