@@ -112,9 +112,10 @@ fn run_threads<G: Gate<Running> + Sync, K: RowSink, W: Threads + Wait + Sync>(
 
 /// Runs a scenario to its horizon, its queues in partitions by a map, with so many workers: one on the
 /// caller's thread, the others each on a thread of its own, started once. Each partition runs to a bound
-/// of its own, set anew at each barrier; the rows that nothing can come before any more go to the sink
-/// there. Answers the sites of the last world, by number. All threads are joined by then. The window, in
-/// milliseconds, is checked and bounds nothing.
+/// of its own, set anew at each barrier, or to where a round is cut if that is sooner; the rows that
+/// nothing can come before any more go to the sink some thousand at a time. Answers the sites of the last
+/// world, by number. All threads are joined by then. The window, in milliseconds, is checked and bounds
+/// nothing.
 ///
 /// # Errors
 ///
