@@ -1,6 +1,7 @@
 -- A machine whose partitions were out to run, and what a sink has taken of a run by then.
 use Rattle.std.specs.Global.{Global}
-use Rattle.std.specs.Prelude.{Bool, Err, List, Ok, Result, Vec, [], false, filter, get_or, length, true, ℕ, ◌+◌, ◌<◌, ◌∷◌, ◌⊎◌, ◌≡◌, ◌≤◌}
+use Rattle.std.specs.List.{sum_by}
+use Rattle.std.specs.Prelude.{Bool, Err, List, Ok, Result, Vec, [], false, filter, get_or, length, true, ℕ, ◌<◌, ◌⊎◌, ◌≡◌, ◌≤◌}
 use Rattle.sim_clock.specs.declared.refusal.Refusal.{Refusal}
 use Rattle.sim_clock.specs.declared.refusal.Refusal.TheVariants as refusals
 use Rattle.sim_machine.specs.Machine.{is_finished}
@@ -34,14 +35,9 @@ abbrev pub HasAdvanced : Scenario → Bool → Standing → Type 0
 HasAdvanced s true g = IsAtEnd s g
 HasAdvanced s false g = StandsOn s g
 
--- so many rows and those that some partitions made, as far as a word counts
-abbrev pub rows_after : ℕ → List Came → ℕ
-rows_after before [] = before
-rows_after before (one ∷ rest) = rows_after (word_of (before + length one.ran.rows.items)) rest
-
--- how many rows some partitions made
+-- how many rows some partitions made, as far as a word counts
 abbrev pub rows_made : List Came → ℕ
-rows_made came = rows_after 0 came
+rows_made came = word_of (sum_by (λ one. length one.ran.rows.items) came)
 
 -- a sink took the rows of a scenario's one-list run from before a moment
 abbrev pub HasTold : {K : Type 0} → (K → List Row → K → Type 0) → Scenario → ℕ → K → K → Type 0

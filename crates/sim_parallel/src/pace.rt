@@ -2,10 +2,9 @@
 ghost use Rattle.std.specs.Prelude.{◌≡◌};
 ghost use Rattle.sim_parallel.specs.Paces.{added, is_full, next_stretch, settled_after, span_after};
 
-// A stretch of so many rows or more is as long as it should be, and one of more than so many is too
-// long.
+// A stretch of fewer rows is too short.
 const FEW: u64 = 16_384;
-
+// A stretch of more rows is too long.
 const MANY: u64 = 65_536;
 // The longest stretch, in milliseconds.
 const LONGEST: u64 = 60_000;

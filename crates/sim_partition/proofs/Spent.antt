@@ -6,12 +6,12 @@ use Rattle.sim_clock.specs.declared.refusal.Refusal.{Refusal}
 use Rattle.sqs_message.specs.declared.row.Row.{Row}
 use Rattle.sqs_redrive.specs.declared.transfers.Outbound.{Outbound}
 use Rattle.sim_machine.specs.Rounds.{PartRun, part_begun}
-use Rattle.sim_partition.specs.declared.handling.Ran.{Ran}
+use Rattle.sim_site.specs.declared.effects.Effects.{Effects}
 use Rattle.sqs_index.specs.declared.mark.Mark.{Mark}
 use Rattle.sqs_index.specs.Marks.{least_of}
 use Rattle.sqs_model.specs.Site.{Site}
 use Rattle.sim_partition.specs.Sites.{IsKeptUnless, due_in, living, spent_or}
-use Rattle.sim_partition.specs.Steps.{part_run}
+use Rattle.sim_partition.specs.Steps.{part_made}
 use Rattle.sim_partition.proofs.Marked.{marked_least}
 
 -- one that is not spent lives
@@ -27,6 +27,6 @@ due_now None xs marks v n k e = marked_least xs marks k.marked ∙ ap due_in e
 due_now (Some r) xs marks v n k e = let t : true ≡ false = n in cc
 
 -- what has done nothing has begun
-pub begins : (w : List Site) (ran : Ran) → ran.rows.items ≡ [] → ran.outbound.items ≡ [] → part_run w ran ≡ part_begun w
-begins w ran e f =
+pub begins : (w : List Site) (effects : Effects) → effects.rows.items ≡ [] → effects.sent.items ≡ [] → part_made w effects ≡ part_begun w
+begins w effects e f =
     let run : List Row → List Outbound → PartRun = λ rows sent. record { sites = w; rows = rows; sent = sent } in ap₂ run e f

@@ -8,7 +8,8 @@ use Rattle.sqs_model.specs.Answers.{most_count}
 use Rattle.sqs_model.specs.Limits.{rows_count, sites_count}
 use Rattle.sqs_model.specs.Run.{Stepped}
 use Rattle.sqs_model.specs.Site.{Site}
-use Rattle.sim_partition.specs.declared.handling.Ran.{Ran}
+use Rattle.sim_site.specs.declared.effects.Effects.{Effects}
+use Rattle.sim_partition.specs.declared.partition.Ran.{Ran}
 use Rattle.sim_partition.specs.Sites.{IsOfPast}
 
 -- the greatest count that a handling comes to: in a site, or of the receives that its rows tell
@@ -28,6 +29,10 @@ abbrev pub StopsRun : ℕ → List Site → Refusal → Type 0
 StopsRun bound sites = StopsWhere ((n : ℕ) × (most_count < ran_count (part_after bound n sites)))
 
 -- sites with the rows made and the transfers sent so far
+abbrev pub part_made : List Site → Effects → PartRun
+part_made sites effects = record { sites = sites; rows = effects.rows.items; sent = effects.sent.items }
+
+-- the same of what a run to a bound did
 abbrev pub part_run : List Site → Ran → PartRun
 part_run sites ran = record { sites = sites; rows = ran.rows.items; sent = ran.outbound.items }
 

@@ -11,5 +11,4 @@ mod places;
 #[cfg(test)]
 mod tests;
 
-pub use handling::Ran;
-pub use partition::Partition;
+pub use partition::{Partition, Ran};

@@ -9,14 +9,22 @@ ghost use Rattle.sim_partition.specs.Sites.{AreOfPast, HasDue, IsOfPast, IsPart,
 ghost use Rattle.sim_partition.specs.Steps.{RanTo, StopsRun, StopsStep};
 
 use crate::delivery::deliver_all;
-use crate::handling::{Ran, handle_least, run_before};
+use crate::handling::{handle_least, run_before};
 use crate::marking::marks_of;
 use sim_clock::{Key, Refusal};
-use sim_site::{Handled, Site};
+use sim_site::{Effects, Handled, Site};
 use sqs_index::Marks;
+use sqs_message::Row;
 use sqs_redrive::Outbound;
 use std::alloc::{AllocError, Global};
 use std::marker::Model;
+
+/// What a partition did: rows of the log, and transfers to queues, in order.
+#[derive(Drop)]
+pub struct Ran {
+    pub rows: Vec<Row>,
+    pub outbound: Vec<Outbound>,
+}
 
 /// Sites in the order of their numbers. Contracts see it as the definitions' sites while it lives;
 /// want of memory, or a count at its limit, spends it, and it is that refusal from then on. An
@@ -91,17 +99,18 @@ impl Partition {
         if let Some(refusal) = self.spent {
             return Err(refusal);
         }
-        let handled = handle_least(&mut self.sites, &mut self.dues);
-        if let Err(refusal) = handled {
+        let mut effects = Effects::new(self.alloc);
+        if let Err(refusal) = handle_least(&mut self.sites, &mut self.dues, &mut effects) {
             self.spent = Some(refusal);
             return Err(refusal);
         }
-        handled
+        Ok(effects.into_handled())
     }
 
     /// Handles all that is due before a moment in milliseconds, in the order of keys, and tells
-    /// what it did. Time moves on in its sites, and nothing there was from after what was due next. `Memory`, or `CountLimit`, only where the run takes a count past 2^62 - 1,
-    /// spends it; one that is spent answers what spent it.
+    /// what it did. Time moves on in its sites, and nothing there was from after what was due next.
+    /// `Memory`, or `CountLimit`, only where the run takes a count past 2^62 - 1, spends it; one that
+    /// is spent answers what spent it.
     pub fn run_to(&mut self, end: u64) -> Result<Ran, Refusal>
         requires { end ≤ most_count + 1 }
         ensures moves_on { IfOk self.old (All (λ s. IsSound s.core)) }
@@ -116,17 +125,13 @@ impl Partition {
         if let Some(refusal) = self.spent {
             return Err(refusal);
         }
-        let mut ran = Ran {
-            rows: Vec::new(self.alloc),
-            outbound: Vec::new(self.alloc),
-        };
-        match run_before(&mut self.sites, &mut self.dues, end, &mut ran) {
-            Err(refusal) => {
-                self.spent = Some(refusal);
-                Err(refusal)
-            }
-            Ok(()) => Ok(ran),
+        let mut effects = Effects::new(self.alloc);
+        if let Err(refusal) = run_before(&mut self.sites, &mut self.dues, end, &mut effects) {
+            self.spent = Some(refusal);
+            return Err(refusal);
         }
+        let Handled { rows, outbound } = effects.into_handled();
+        Ok(Ran { rows, outbound })
     }
 
     /// Transfers are on their way to its sites from now on; those to a queue that is not there

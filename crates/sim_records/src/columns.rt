@@ -1,11 +1,12 @@
 //! The columns of a row of the log.
-ghost use Rattle.std.specs.Prelude.{◌≡◌, IfOk, string_bytes};
+ghost use Rattle.std.specs.Prelude.{◌≡◌, ◌++◌, ◌∷◌, [], OnOk};
 ghost use Rattle.sqs_formats.specs.Rows.{answer_text, detail_text, kind_text, row_receipt, text_if};
 ghost use Rattle.sqs_message.specs.Ids.{id_text};
 
+use crate::fields::Fields;
 use crate::names::Names;
-use sqs_message::{Detail, MessageId, RowAnswer, RowKind, RowReceipt, Text};
-use std::alloc::{AllocError, Global};
+use sqs_message::{Detail, MessageId, RowAnswer, RowKind, RowReceipt};
+use std::alloc::AllocError;
 
 // The name of what a row tells of.
 pub(crate) fn kind_name(kind: RowKind) -> &'static str
@@ -52,56 +53,47 @@ pub(crate) fn answer_name(answer: RowAnswer) -> &'static str
     }
 }
 
-// A text that was formatted.
-fn text_of(formatted: String) -> Text
-    ensures { result ≡ string_bytes formatted }
-{
-    Text::new(formatted.into_bytes())
-}
-
 // The message column: its id, where there is one.
-pub(crate) fn message_column(alloc: Global, message: Option<MessageId>) -> Result<Text, AllocError>
-    ensures { IfOk result (λ t. t ≡ text_if id_text message) }
+pub(crate) fn add_message(fields: &mut Fields, message: Option<MessageId>) -> Result<(), AllocError>
+    ensures { OnOk result (fields.new ≡ fields.old ++ text_if id_text message ∷ []) }
 {
     match message {
-        Some(id) => Ok(text_of(id.text(alloc)?)),
-        None => Ok(Text::new(Vec::new(alloc))),
+        Some(id) => fields.id(id),
+        None => fields.bytes(b""),
     }
 }
 
 // The receipt column: the receipt that was made, or the text that was given.
-pub(crate) fn receipt_column(alloc: Global, receipt: &RowReceipt) -> Result<Text, AllocError>
-    ensures { IfOk result (λ t. t ≡ row_receipt receipt.now) }
+pub(crate) fn add_receipt(fields: &mut Fields, receipt: &RowReceipt) -> Result<(), AllocError>
+    ensures { OnOk result (fields.new ≡ fields.old ++ row_receipt receipt.now ∷ []) }
 {
     match receipt {
-        RowReceipt::Absent => Ok(Text::new(Vec::new(alloc))),
-        RowReceipt::Made(receipt) => Ok(text_of(receipt.text(alloc)?)),
-        RowReceipt::Given(text) => text.copy(alloc),
+        RowReceipt::Absent => fields.bytes(b""),
+        RowReceipt::Made(receipt) => fields.receipt(receipt),
+        RowReceipt::Given(text) => fields.bytes(text.as_bytes()),
     }
 }
 
 // The detail column.
-pub(crate) fn detail_column(
-    alloc: Global,
+pub(crate) fn add_detail(
+    fields: &mut Fields,
     detail: Detail,
     names: &Names,
-) -> Result<Text, AllocError>
-    ensures { IfOk result (λ t. t ≡ detail_text names.now detail) }
+) -> Result<(), AllocError>
+    ensures { OnOk result (fields.new ≡ fields.old ++ detail_text names.now detail ∷ []) }
 {
     match detail {
-        Detail::Absent => Ok(Text::new(Vec::new(alloc))),
-        Detail::Digest(md5) => Ok(text_of(hex::encode(alloc, &md5)?)),
-        Detail::From(origin) => Ok(text_of(origin.text(alloc)?)),
+        Detail::Absent => fields.bytes(b""),
+        Detail::Digest(md5) => fields.digest(&md5),
+        Detail::From(origin) => fields.origin(origin),
         Detail::Age(number) | Detail::Timeout(number) | Detail::Moved(number) => {
-            Ok(text_of(format!(in alloc; "{number}")?))
+            fields.number(number)
         }
-        Detail::Queue(number) | Detail::Task(number) => {
-            Ok(Text::new(names.name(number).to_vec(alloc)?))
-        }
+        Detail::Queue(number) | Detail::Task(number) => fields.bytes(names.name(number)),
         Detail::Counts {
             visible,
             in_flight,
             delayed,
-        } => Ok(text_of(format!(in alloc; "{visible}/{in_flight}/{delayed}")?)),
+        } => fields.counts(visible, in_flight, delayed),
     }
 }

@@ -1,12 +1,13 @@
 //! What is left at the end of a run: messages, transfers and tasks, each part under its header.
-ghost use Rattle.std.specs.Prelude.{◌≡◌, ◌∷◌, ◌++◌, false, IfOk, OnOk, map, string_bytes};
+ghost use Rattle.std.specs.Prelude.{◌≡◌, ◌∷◌, ◌++◌, [], false, OnOk, map};
 ghost use Rattle.std.specs.Fmt.{decimal};
 ghost use Rattle.sqs_message.specs.Ids.{origin_text};
 ghost use Rattle.sqs_formats.specs.Rows.{line, lines, text_if};
 ghost use Rattle.sqs_formats.specs.Finals.{finals_text, message_fields, message_header, place_text, status_text, task_fields, task_header, transfer_fields, transfer_header, transfer_kind_text};
 ghost use Rattle.sim_records.specs.Writes.{Wrote, WroteSeveral};
 
-use crate::line::{Lines, write_record};
+use crate::fields::Fields;
+use crate::line::write_record;
 use crate::names::Names;
 use crate::record::{Record, write_records};
 use crate::sink::Out;
@@ -52,32 +53,32 @@ fn status_name(status: TaskStatus) -> &'static str
 }
 
 // A number in decimal, where there is one.
-fn number_column(alloc: Global, number: Option<u64>) -> Result<String, AllocError>
-    ensures { IfOk result (λ s. string_bytes s ≡ text_if decimal number) }
+fn add_number(fields: &mut Fields, number: Option<u64>) -> Result<(), AllocError>
+    ensures { OnOk result (fields.new ≡ fields.old ++ text_if decimal number ∷ []) }
 {
     match number {
-        Some(number) => format!(in alloc; "{number}"),
-        None => Ok(String::new(alloc)),
+        Some(number) => fields.number(number),
+        None => fields.bytes(b""),
     }
 }
 
 // The text of an origin, where there is one.
-fn origin_column(alloc: Global, origin: Option<Origin>) -> Result<String, AllocError>
-    ensures { IfOk result (λ s. string_bytes s ≡ text_if origin_text origin) }
+fn add_origin(fields: &mut Fields, origin: Option<Origin>) -> Result<(), AllocError>
+    ensures { OnOk result (fields.new ≡ fields.old ++ text_if origin_text origin ∷ []) }
 {
     match origin {
-        Some(origin) => origin.text(alloc),
-        None => Ok(String::new(alloc)),
+        Some(origin) => fields.origin(origin),
+        None => fields.bytes(b""),
     }
 }
 
 // A group, where there is one.
-fn group_column(group: &Option<Text>) -> &[u8]
-    ensures { result.now ≡ text_if (λ g. g) group.now }
+fn add_group(fields: &mut Fields, group: &Option<Text>) -> Result<(), AllocError>
+    ensures { OnOk result (fields.new ≡ fields.old ++ text_if (λ g. g) group.now ∷ []) }
 {
     match group {
-        Some(group) => group.as_bytes(),
-        None => b"",
+        Some(group) => fields.bytes(group.as_bytes()),
+        None => fields.bytes(b""),
     }
 }
 
@@ -104,33 +105,19 @@ fn write_message_header<W: Out>(alloc: Global, out: &mut W) -> Result<(), Refusa
 impl Record for FinalMessage {
     ghost use Rattle.sqs_formats.specs.Finals.{message_fields};
 
-    ghost fields = { λ names message. message_fields names message };
+    ghost columns = { λ names message. message_fields names message };
 
-    fn add_to<'a>(
-        &'a self,
-        alloc: Global,
-        text: &mut Lines,
-        names: &'a Names,
-    ) -> Result<(), AllocError> {
-        let place: &'a [u8] = place_name(self.place).as_bytes();
-        let id = self.id.text(alloc)?;
-        let origin = self.origin.text(alloc)?;
-        let due = number_column(alloc, self.due)?;
-        let enqueued = format!(in alloc; "{}", self.enqueued)?;
-        let receives = format!(in alloc; "{}", self.receives)?;
-        let md5 = hex::encode(alloc, &self.md5)?;
-        text.add(&[
-            "final".as_bytes(),
-            names.name(self.id.site),
-            id.as_bytes(),
-            origin.as_bytes(),
-            place,
-            due.as_bytes(),
-            enqueued.as_bytes(),
-            receives.as_bytes(),
-            group_column(&self.group),
-            md5.as_bytes(),
-        ])
+    fn add_to(&self, fields: &mut Fields, names: &Names) -> Result<(), AllocError> {
+        fields.bytes(b"final")?;
+        fields.bytes(names.name(self.id.site))?;
+        fields.id(self.id)?;
+        fields.origin(self.origin)?;
+        fields.bytes(place_name(self.place).as_bytes())?;
+        add_number(fields, self.due)?;
+        fields.number(self.enqueued)?;
+        fields.number(self.receives)?;
+        add_group(fields, &self.group)?;
+        fields.digest(&self.md5)
     }
 }
 
@@ -156,31 +143,18 @@ fn write_transfer_header<W: Out>(alloc: Global, out: &mut W) -> Result<(), Refus
 impl Record for FinalTransfer {
     ghost use Rattle.sqs_formats.specs.Finals.{transfer_fields};
 
-    ghost fields = { λ names transfer. transfer_fields names transfer };
+    ghost columns = { λ names transfer. transfer_fields names transfer };
 
-    fn add_to<'a>(
-        &'a self,
-        alloc: Global,
-        text: &mut Lines,
-        names: &'a Names,
-    ) -> Result<(), AllocError> {
-        let kind: &'a [u8] = transfer_kind_name(self.kind).as_bytes();
-        let due = format!(in alloc; "{}", self.due)?;
-        let number = format!(in alloc; "{}", self.number)?;
-        let message = self.message.text(alloc)?;
-        let origin = origin_column(alloc, self.origin)?;
-        let md5 = hex::encode(alloc, &self.md5)?;
-        text.add(&[
-            "transfer".as_bytes(),
-            names.name(self.from),
-            names.name(self.to),
-            kind,
-            due.as_bytes(),
-            number.as_bytes(),
-            message.as_bytes(),
-            origin.as_bytes(),
-            md5.as_bytes(),
-        ])
+    fn add_to(&self, fields: &mut Fields, names: &Names) -> Result<(), AllocError> {
+        fields.bytes(b"transfer")?;
+        fields.bytes(names.name(self.from))?;
+        fields.bytes(names.name(self.to))?;
+        fields.bytes(transfer_kind_name(self.kind).as_bytes())?;
+        fields.number(self.due)?;
+        fields.number(self.number)?;
+        fields.id(self.message)?;
+        add_origin(fields, self.origin)?;
+        fields.digest(&self.md5)
     }
 }
 
@@ -196,22 +170,13 @@ fn write_task_header<W: Out>(alloc: Global, out: &mut W) -> Result<(), Refusal>
 impl Record for FinalTask {
     ghost use Rattle.sqs_formats.specs.Finals.{task_fields};
 
-    ghost fields = { λ names task. task_fields names task };
+    ghost columns = { λ names task. task_fields names task };
 
-    fn add_to<'a>(
-        &'a self,
-        alloc: Global,
-        text: &mut Lines,
-        names: &'a Names,
-    ) -> Result<(), AllocError> {
-        let status: &'a [u8] = status_name(self.status).as_bytes();
-        let moved = format!(in alloc; "{}", self.moved)?;
-        text.add(&[
-            "task".as_bytes(),
-            names.name(self.task),
-            status,
-            moved.as_bytes(),
-        ])
+    fn add_to(&self, fields: &mut Fields, names: &Names) -> Result<(), AllocError> {
+        fields.bytes(b"task")?;
+        fields.bytes(names.name(self.task))?;
+        fields.bytes(status_name(self.status).as_bytes())?;
+        fields.number(self.moved)
     }
 }
 

@@ -3,6 +3,7 @@ ghost use Rattle.std.specs.Prelude.{◌≡◌, ◌++◌, [], false, IfOk, OnOk, 
 ghost use Rattle.sqs_formats.specs.Rows.{line};
 ghost use Rattle.sim_records.specs.Writes.{Wrote};
 
+use crate::fields::Fields;
 use crate::sink::{Out, write_all};
 use csv::{Writer, WriterBuilder};
 use sim_clock::Refusal;
@@ -51,6 +52,23 @@ impl Lines {
     {
         if let Some(writer) = &mut self.writer
             && writer.write_fields(fields).is_ok()
+        {
+            return Ok(());
+        }
+        self.writer = None;
+        Err(AllocError)
+    }
+
+    /// Adds the line of these fields, as many as the first record's.
+    ///
+    /// # Errors
+    ///
+    /// Those of `add`.
+    pub(crate) fn add_fields(&mut self, fields: &Fields) -> Result<(), AllocError>
+        ensures { OnOk result (self.new ≡ self.old ++ line fields.now) }
+    {
+        if let Some(writer) = &mut self.writer
+            && writer.write_byte_record(fields.as_record()).is_ok()
         {
             return Ok(());
         }

@@ -3,7 +3,8 @@ ghost use Rattle.std.specs.Prelude.{◌≡◌, ◌++◌, false, IfOk, OnOk, map}
 ghost use Rattle.sqs_formats.specs.Rows.{line, lines, log_header, row_fields};
 ghost use Rattle.sim_records.specs.Writes.{Wrote, WroteSeveral};
 
-use crate::columns::{answer_name, detail_column, kind_name, message_column, receipt_column};
+use crate::columns::{add_detail, add_message, add_receipt, answer_name, kind_name};
+use crate::fields::Fields;
 use crate::line::{Lines, write_record};
 use crate::names::Names;
 use crate::record::{Record, write_records};
@@ -31,30 +32,17 @@ pub fn write_header<W: Out>(alloc: Global, out: &mut W) -> Result<(), Refusal>
 impl Record for Row {
     ghost use Rattle.sqs_formats.specs.Rows.{row_fields};
 
-    ghost fields = { λ names row. row_fields names row };
+    ghost columns = { λ names row. row_fields names row };
 
-    fn add_to<'a>(
-        &'a self,
-        alloc: Global,
-        text: &mut Lines,
-        names: &'a Names,
-    ) -> Result<(), AllocError> {
-        let kind: &'a [u8] = kind_name(self.kind).as_bytes();
-        let answer: &'a [u8] = answer_name(self.answer).as_bytes();
-        let at = format!(in alloc; "{}", self.key.at)?;
-        let message = message_column(alloc, self.message)?;
-        let receipt = receipt_column(alloc, &self.receipt)?;
-        let detail = detail_column(alloc, self.detail, names)?;
-        text.add(&[
-            at.as_bytes(),
-            names.name(self.queue),
-            names.name(self.agent),
-            kind,
-            answer,
-            message.as_bytes(),
-            receipt.as_bytes(),
-            detail.as_bytes(),
-        ])
+    fn add_to(&self, fields: &mut Fields, names: &Names) -> Result<(), AllocError> {
+        fields.number(self.key.at)?;
+        fields.bytes(names.name(self.queue))?;
+        fields.bytes(names.name(self.agent))?;
+        fields.bytes(kind_name(self.kind).as_bytes())?;
+        fields.bytes(answer_name(self.answer).as_bytes())?;
+        add_message(fields, self.message)?;
+        add_receipt(fields, &self.receipt)?;
+        add_detail(fields, self.detail, names)
     }
 }
 
@@ -62,8 +50,10 @@ impl Record for Row {
 fn row_line(alloc: Global, row: &Row, names: &Names) -> Result<Vec<u8>, AllocError>
     ensures { IfOk result (λ v. v.items ≡ line (row_fields names.now row.now)) }
 {
+    let mut fields = Fields::new(alloc);
+    row.add_to(&mut fields, names)?;
     let mut text = Lines::new(alloc);
-    row.add_to(alloc, &mut text, names)?;
+    text.add_fields(&fields)?;
     text.into_bytes()
 }
 

@@ -30,3 +30,4 @@ pub mod WholeNames
 pub mod Drained
 pub mod TasksThere
 pub mod WholeHomes
+pub mod Firsts

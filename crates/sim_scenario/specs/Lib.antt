@@ -9,3 +9,4 @@ pub mod AtHome
 pub mod Naming
 pub mod Ranges
 pub mod Lowest
+pub mod Firsts

@@ -16,6 +16,7 @@ mod producers;
 mod queues;
 mod reader;
 mod records;
+mod roster;
 mod scenario;
 mod script;
 mod script_files;

@@ -3,12 +3,12 @@ ghost use Rattle.std.specs.Prelude.{◌≡◌, ◌+◌, ◌≤◌, ◌++◌, IfO
 ghost use Rattle.std.specs.List.{enumerate_from, zip};
 ghost use Rattle.std.specs.Str.{bytes_eq};
 ghost use Rattle.toml.specs.View.{view};
-ghost use Rattle.sqs_formats.specs.Keys.{is_among, text_in};
-ghost use Rattle.sqs_formats.specs.Outline.{all_names, is_first_of, kind_at, outline_of, place_among, queue_number};
+ghost use Rattle.sqs_formats.specs.Keys.{text_in};
 ghost use Rattle.sim_scenario.specs.ActorWalks.{tasks_at};
 
 use crate::keys::member;
 use crate::names::is_fifo;
+use crate::roster::Roster;
 use sqs_formats::{Home, HomeTask, HomeTasks};
 use sqs_message::Text;
 use std::alloc::{AllocError, Global};
@@ -20,11 +20,11 @@ use toml::Value;
 #[derive(Drop)]
 pub(crate) struct Outline {
     version: u64,
-    names: Vec<Text>,
+    names: Roster,
     queue_count: usize,
     actor_count: usize,
     task_homes: Vec<Text>,
-    dead_letters: Vec<Text>,
+    dead_letters: Roster,
 }
 
 impl Model for Outline {
@@ -33,9 +33,9 @@ impl Model for Outline {
 
     ghost Value = { Outline };
 
-    ghost view = { λ o. record { version = o.version; queues = take o.queue_count o.names.items; actors = take o.actor_count (drop o.queue_count o.names.items); tasks = drop (o.queue_count + o.actor_count) o.names.items; task_homes = o.task_homes.items; dead_letters = o.dead_letters.items } };
+    ghost view = { λ o. record { version = o.version; queues = take o.queue_count o.names; actors = take o.actor_count (drop o.queue_count o.names); tasks = drop (o.queue_count + o.actor_count) o.names; task_homes = o.task_homes.items; dead_letters = o.dead_letters } };
 
-    ghost invariant = { λ o. (o.queue_count + o.actor_count ≤ length o.names.items) × (length o.names.items ≤ 11000) };
+    ghost invariant = { λ o. (o.queue_count + o.actor_count ≤ length o.names) × (length o.names ≤ 11000) };
 }
 
 /// The text at a key of an item, or none.
@@ -75,20 +75,6 @@ fn has_bytes(text: &Text, bytes: &[u8]) -> bool
     ensures { result ≡ bytes_eq text.now bytes.now }
 {
     text.as_bytes() == bytes
-}
-
-/// The first place of a text among some.
-fn place_among(texts: &[Text], bytes: &[u8]) -> Option<usize>
-    ensures { result ≡ place_among texts.now bytes.now }
-{
-    texts.iter().position(|text| has_bytes(text, bytes))
-}
-
-/// Whether a text is among some.
-fn is_among(texts: &[Text], bytes: &[u8]) -> bool
-    ensures { result ≡ is_among texts.now bytes.now }
-{
-    texts.iter().any(|text| has_bytes(text, bytes))
 }
 
 /// The move tasks that name a queue as theirs, with their agent numbers from the first one's on.
@@ -137,10 +123,12 @@ impl Outline {
         push_texts(alloc, &mut names, queues, "name")?;
         push_texts(alloc, &mut names, actors, "name")?;
         push_texts(alloc, &mut names, tasks, "name")?;
+        let names = Roster::new(alloc, names)?;
         let mut task_homes = Vec::new(alloc);
         push_texts(alloc, &mut task_homes, tasks, "queue")?;
         let mut dead_letters = Vec::new(alloc);
         push_texts(alloc, &mut dead_letters, queues, "dead_letter")?;
+        let dead_letters = Roster::new(alloc, dead_letters)?;
         Ok(Outline {
             version,
             names,
@@ -178,7 +166,7 @@ impl Outline {
     pub(crate) fn is_first(&self, number: usize, name: &[u8]) -> bool
         ensures { result ≡ is_first_of number (place_among (all_names self.now) name.now) }
     {
-        match place_among(self.names.as_slice(), name) {
+        match self.names.place(name) {
             None => true,
             Some(n) => n == number,
         }
@@ -188,9 +176,11 @@ impl Outline {
     pub(crate) fn queue_number(&self, name: &[u8]) -> Option<u32>
         ensures { result ≡ queue_number self.now name.now }
     {
-        match place_among(&self.names[..self.queue_count], name) {
-            None => None,
-            Some(n) => Some(n as u32),
+        let number = self.names.place(name)?;
+        if number < self.queue_count {
+            Some(number as u32)
+        } else {
+            None
         }
     }
 
@@ -198,7 +188,7 @@ impl Outline {
     pub(crate) fn is_fifo_at(&self, number: u32) -> bool
         ensures { result ≡ kind_at self.now number }
     {
-        match self.names[..self.queue_count].get(number as usize) {
+        match self.names.as_slice()[..self.queue_count].get(number as usize) {
             None => false,
             Some(name) => is_fifo(name.as_bytes()),
         }
@@ -208,14 +198,14 @@ impl Outline {
     pub(crate) fn is_dead_letter(&self, name: &[u8]) -> bool
         ensures { result ≡ is_among self.now.dead_letters name.now }
     {
-        is_among(self.dead_letters.as_slice(), name)
+        self.dead_letters.has(name)
     }
 
     /// The name of a queue, empty where there is none.
     fn queue_text(&self, number: u32) -> &[u8]
         ensures { result.now ≡ queue_text self.now number }
     {
-        match self.names[..self.queue_count].get(number as usize) {
+        match self.names.as_slice()[..self.queue_count].get(number as usize) {
             None => &[],
             Some(name) => name.as_bytes(),
         }
@@ -228,7 +218,13 @@ impl Outline {
         let is_fifo = self.is_fifo_at(number);
         let name = self.queue_text(number);
         let first = self.queue_count + self.actor_count;
-        let tasks = tasks_at(alloc, &self.names[first..], &self.task_homes, first, name)?;
+        let tasks = tasks_at(
+            alloc,
+            &self.names.as_slice()[first..],
+            &self.task_homes,
+            first,
+            name,
+        )?;
         Ok(Home {
             is_fifo,
             tasks: HomeTasks::new(tasks),

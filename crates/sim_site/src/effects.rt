@@ -5,7 +5,15 @@ use sqs_message::Row;
 use sqs_redrive::Outbound;
 use std::alloc::{AllocError, Global};
 
-/// Rows made and transfers sent, in order.
+/// What a handling made: rows of the log, and transfers to other queues, in order.
+#[derive(Drop)]
+pub struct Handled {
+    pub rows: Vec<Row>,
+    pub outbound: Vec<Outbound>,
+}
+
+/// Rows of the log made and transfers to other queues sent so far, in order: of several handlings
+/// one after another.
 #[derive(Drop)]
 pub struct Effects {
     pub rows: Vec<Row>,
@@ -21,6 +29,17 @@ impl Effects {
         Effects {
             rows: Vec::new(alloc),
             sent: Vec::new(alloc),
+        }
+    }
+
+    /// The same as what one handling made.
+    pub fn into_handled(self) -> Handled
+        ensures rows { result.rows ≡ self.rows }
+        ensures outbound { result.outbound ≡ self.sent }
+    {
+        Handled {
+            rows: self.rows,
+            outbound: self.sent,
         }
     }
 

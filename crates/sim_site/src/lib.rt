@@ -14,4 +14,5 @@ mod site;
 mod state;
 
 pub use agents::Task;
-pub use site::{Handled, Site};
+pub use effects::{Effects, Handled};
+pub use site::Site;

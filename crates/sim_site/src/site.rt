@@ -1,5 +1,5 @@
 //! Sites.
-ghost use Rattle.std.specs.Prelude.{All, Err, IfErr, IfOk, Ok, OnOk, Some, [], map, ◌≡◌, ◌≤◌};
+ghost use Rattle.std.specs.Prelude.{◌++◌, All, Err, IfErr, IfOk, Ok, OnOk, Some, [], map, ◌≡◌, ◌≤◌};
 ghost use Rattle.sim_actor.specs.Lives.{IsRole};
 ghost use Rattle.sim_clock.specs.Order.{least};
 ghost use Rattle.sqs_model.specs.Answers.{most_count};
@@ -16,24 +16,16 @@ ghost use Rattle.sim_site.specs.Spent.{due_of, refusal_of};
 use crate::agents::Task;
 use crate::arrivals::{insert, take};
 use crate::dues::least_arrival;
-use crate::effects::Effects;
+use crate::effects::{Effects, Handled};
 use crate::opening::{open_actors, open_tasks};
 use crate::state::Core;
 use sim_clock::{Class, Key, Refusal, lesser};
 use sim_draw::Draws;
-use sqs_message::Row;
 use sqs_model::ActorSettings;
 use sqs_queue::Queue;
 use sqs_redrive::{Outbound, QueueSettings, TaskSettings};
 use std::alloc::{AllocError, Global};
 use std::marker::Model;
-
-/// What a handling made: rows of the log, and transfers to other queues, in order.
-#[derive(Drop)]
-pub struct Handled {
-    pub rows: Vec<Row>,
-    pub outbound: Vec<Outbound>,
-}
 
 /// A queue with the actors and tasks at home there, and the transfers on their way to it. Contracts
 /// see it as the definitions' `Site` while it lives; want of memory or a count at its limit spends
@@ -162,9 +154,33 @@ impl Site {
     }
 
     /// Handles its least due, at a moment in milliseconds, which is not before that of a
-    /// deduplication entry of its queue: the rows that this makes, and the transfers that it sends.
-    /// What is on its way to it was enqueued by its arrival. `Memory`, or `CountLimit`, only where
-    /// the handling takes a count past 2^62 - 1, spends it; one that is spent answers what spent it.
+    /// deduplication entry of its queue, and adds the rows that this makes and the transfers that it
+    /// sends to those before. What is on its way to it was enqueued by its arrival. `Memory`, or
+    /// `CountLimit`, only where the handling takes a count past 2^62 - 1, spends it, and part of what
+    /// the handling makes may have been added; one that is spent answers what spent it.
+    pub fn handle_into(&mut self, key: Key, effects: &mut Effects) -> Result<(), Refusal>
+        requires due { IfOk self.old (λ site. least_due site ≡ Some key) }
+        requires moment { key.at ≤ most_count }
+        requires recent { IfOk self.old (λ site. IsRecent key.at site.core.queue) }
+        requires timely { IfOk self.old (λ site. AreTimely site.arriving) }
+        ensures handled { IfOk self.old (λ site. OnOk result ((self.new ≡ Ok (handled key site).site) × (effects.new.rows.items ≡ effects.old.rows.items ++ (handled key site).rows) × (effects.new.sent.items ≡ effects.old.sent.items ++ (handled key site).sent))) }
+        ensures spent { IfErr result (λ refusal. self.new ≡ Err refusal) }
+        ensures stops { IfOk self.old (λ site. IfErr result (Stops (effect_of (handled key site)))) }
+        ensures stays { IfErr self.old (λ refusal. result ≡ Err refusal) }
+    {
+        if let Some(refusal) = self.spent {
+            return Err(refusal);
+        }
+        let done = handle_due(&mut self.core, &mut self.arriving, key, effects);
+        self.due = least_of(&self.core, &self.arriving);
+        if let Err(refusal) = done {
+            self.spent = Some(refusal);
+            return Err(refusal);
+        }
+        Ok(())
+    }
+
+    /// The same, in a list of its own.
     pub fn handle(&mut self, key: Key) -> Result<Handled, Refusal>
         requires due { IfOk self.old (λ site. least_due site ≡ Some key) }
         requires moment { key.at ≤ most_count }
@@ -175,20 +191,9 @@ impl Site {
         ensures stops { IfOk self.old (λ site. IfErr result (Stops (effect_of (handled key site)))) }
         ensures stays { IfErr self.old (λ refusal. result ≡ Err refusal) }
     {
-        if let Some(refusal) = self.spent {
-            return Err(refusal);
-        }
         let mut effects = Effects::new(self.core.alloc());
-        let done = handle_due(&mut self.core, &mut self.arriving, key, &mut effects);
-        self.due = least_of(&self.core, &self.arriving);
-        if let Err(refusal) = done {
-            self.spent = Some(refusal);
-            return Err(refusal);
-        }
-        Ok(Handled {
-            rows: effects.rows,
-            outbound: effects.sent,
-        })
+        self.handle_into(key, &mut effects)?;
+        Ok(effects.into_handled())
     }
 
     /// Its queue.

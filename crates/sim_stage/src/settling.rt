@@ -1,4 +1,5 @@
 //! Rows of the log, partition by partition, that are settled: nothing may come before them any more.
+ghost use Rattle.std.specs.List.{list_all};
 ghost use Rattle.std.specs.Prelude.{◌≡◌, ◌++◌, IfOk, filter, map, not};
 ghost use Rattle.sim_machine.specs.Merge.{merged_all, row_cmp};
 ghost use Rattle.sim_machine.specs.Prefixes.{is_before};
@@ -14,11 +15,25 @@ pub struct Parted {
     pub others: Vec<Row>,
 }
 
-// Parts rows at a moment.
+// Whether rows are all from before a moment.
+fn are_before(rows: &[Row], moment: u64) -> bool
+    ensures { result ≡ list_all (is_before moment) rows.now }
+{
+    rows.iter().all(|row| row.key.at < moment)
+}
+
+// Parts rows at a moment. Where all are from before it, they stay in their list.
 fn part_rows(alloc: Global, rows: Vec<Row>, moment: u64) -> Result<Parted, AllocError>
     ensures before { IfOk result (λ parted. parted.before.items ≡ filter (is_before moment) rows.items) }
     ensures others { IfOk result (λ parted. parted.others.items ≡ filter (λ r. not (is_before moment r)) rows.items) }
 {
+    if are_before(&rows, moment) {
+        let others = Vec::new(alloc);
+        return Ok(Parted {
+            before: rows,
+            others,
+        });
+    }
     let mut before = Vec::new(alloc);
     let mut others = Vec::new(alloc);
     for row in rows {

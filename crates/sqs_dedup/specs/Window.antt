@@ -4,6 +4,7 @@ use Rattle.std.specs.List.{IsDistinct}
 use Rattle.std.specs.Map.{keys_of}
 use Rattle.std.specs.Str.{bytes_eq}
 use Rattle.sqs_model.specs.Calls.{living_entries}
+use Rattle.sqs_model.specs.Longest.{deduplication_interval}
 use Rattle.sqs_model.specs.Queue.{Entry, same_text}
 use Rattle.sqs_dedup.specs.Keys.{Key, same_key}
 use Rattle.sqs_dedup.specs.declared.held.Held.{Held}
@@ -35,7 +36,7 @@ pub record IsWindow (earlier recent : List (Key × Held)) (began last : ℕ) : T
   pub earlier_keys : IsDistinct same_key (keys_of earlier)
   pub recent_keys : IsDistinct same_key (keys_of recent)
   pub begun : began ≤ last
-  pub earlier_ends : All (λ p. p.1.end ≤ began + 300000) earlier
-  pub recent_begins : All (λ p. began + 300000 ≤ p.1.end) recent
-  pub recent_ends : All (λ p. p.1.end ≤ last + 300000) recent
-  pub newest : (n : ℕ) → All (λ e. e.end ≤ n + 300000) (window earlier recent last) → last ≤ n
+  pub earlier_ends : All (λ p. p.1.end ≤ began + deduplication_interval) earlier
+  pub recent_begins : All (λ p. began + deduplication_interval ≤ p.1.end) recent
+  pub recent_ends : All (λ p. p.1.end ≤ last + deduplication_interval) recent
+  pub newest : (n : ℕ) → All (λ e. e.end ≤ n + deduplication_interval) (window earlier recent last) → last ≤ n

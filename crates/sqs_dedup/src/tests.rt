@@ -1,5 +1,6 @@
 //! Entries over ten minutes, with answers worked out by hand.
 ghost use Rattle.std.specs.Prelude.{All, ◌+◌, ◌≤◌};
+ghost use Rattle.sqs_model.specs.Longest.{deduplication_interval};
 
 use crate::Dedup;
 use sim_clock::Refusal;
@@ -27,8 +28,8 @@ fn enter(
     number: u64,
 ) -> Result<bool, Refusal>
     requires moment { now ≤ 1000000 }
-    requires before { All (λ e. e.end ≤ now + 300000) window.old }
-    ensures after { All (λ e. e.end ≤ now + 300000) window.new }
+    requires before { All (λ e. e.end ≤ now + deduplication_interval) window.old }
+    ensures after { All (λ e. e.end ≤ now + deduplication_interval) window.new }
 {
     let scope = text_of(alloc, scope)?;
     let id = text(alloc, b'a')?;

@@ -1,24 +1,24 @@
 //! The queue and its calls.
-ghost use Rattle.std.specs.Prelude.{◌≡◌, ◌⊎◌, ◌<◌, ◌≤◌, [], Err, IfErr, IfOk, OnErr, OnOk, count_by, length, nat_lt, take};
+ghost use Rattle.std.specs.Prelude.{◌≡◌, ◌⊎◌, ◌<◌, ◌≤◌, [], Err, IfErr, IfOk, OnErr, OnOk, count_by, not};
+ghost use Rattle.sim_clock.specs.Firsts.{is_empty};
 ghost use Rattle.sim_clock.specs.Order.{least};
 ghost use Rattle.sqs_model.specs.Answers.{Meets, most_count};
 ghost use Rattle.sqs_model.specs.Arrive.{expired};
 ghost use Rattle.sqs_model.specs.Calls.{change, delete_fifo, returned, send_in};
-ghost use Rattle.sqs_model.specs.Available.{all_available, at_places};
+ghost use Rattle.sqs_model.specs.Available.{all_available};
 ghost use Rattle.sqs_model.specs.Dues.{queue_dues};
-ghost use Rattle.sqs_model.specs.Progress.{Ascends, Differ, IsRecent};
+ghost use Rattle.sqs_model.specs.Progress.{IsRecent};
 ghost use Rattle.sqs_model.specs.Queue.{IsFramed, is_delayed, is_in_flight, is_visible};
 ghost use Rattle.sqs_model.specs.Return.{released};
 ghost use Rattle.sqs_redrive.specs.declared.settings.Kind.TheVariants.{Fifo};
-ghost use Rattle.sqs_store.specs.Chosen.{AreWithin};
-ghost use Rattle.sqs_fifo.specs.Fifo.{IsFifoSettings, scope_in};
+ghost use Rattle.sqs_group_shelf.specs.GroupShelves.{IsFifoSettings};
+ghost use Rattle.sqs_fifo.specs.Fifo.{scope_in};
 
 use sim_clock::{Key, Refusal};
-use sqs_groups::available_places;
-use sqs_message::{Message, MessageId, Receipt, Text};
+use sqs_message::{MessageId, Receipt, Text};
 use sqs_model::MOST_COUNT;
 use sqs_redrive::{Deleted, Kind, Load, QueueSettings, Scope, Sent};
-use sqs_store::{Counts, Store, is_out};
+use sqs_store::{Counts, Messages, Store, is_out};
 use std::alloc::{AllocError, Global};
 use std::marker::Model;
 
@@ -36,7 +36,7 @@ pub struct FifoQueue {
 
 impl Model for FifoQueue {
     ghost use Rattle.sqs_model.specs.Queue.{Queue};
-    ghost use Rattle.sqs_fifo.specs.Fifo.{IsFifoSettings};
+    ghost use Rattle.sqs_group_shelf.specs.GroupShelves.{IsFifoSettings};
 
     ghost Value = { Queue };
 
@@ -72,8 +72,8 @@ impl FifoQueue {
     }
 
     /// Its messages, in the order of their arrival.
-    pub fn view(&self) -> &[Message]
-        ensures { result.now ≡ self.now.records }
+    pub fn view(&self) -> Messages<'_>
+        ensures { result ≡ self.now.records }
     {
         self.store.view()
     }
@@ -158,19 +158,11 @@ impl FifoQueue {
         self.store.counts()
     }
 
-    // The places of at most so many of the messages that the queue may give, in order, and whether
-    // it may give more than those.
-    fn first_places(&self, most: u64) -> Result<(Vec<usize>, bool), AllocError>
-        ensures chosen { IfOk result (λ first. at_places self.now.records first.0.items ≡ take most (all_available self.now)) }
-        ensures within { IfOk result (λ first. AreWithin self.now.records first.0.items) }
-        ensures apart { IfOk result (λ first. Differ (λ m. m.number) (at_places self.now.records first.0.items)) }
-        ensures more { IfOk result (λ first. first.1 ≡ nat_lt most (length (all_available self.now))) }
-        ensures ordered { Ascends (λ m. m.number) 0 self.now.records }
+    /// Whether there is a message that it may give. Goes over no messages.
+    pub fn has_available(&self) -> bool
+        ensures { result ≡ not (is_empty (all_available self.now)) }
     {
-        let mut places = available_places(self.alloc, self.store.view())?;
-        let all = places.len() as u64;
-        places.truncate(most.min(all) as usize);
-        Ok((places, most < all))
+        self.store.has_available()
     }
 
     // Whether bodies stand for ids that are absent, and where ids count.

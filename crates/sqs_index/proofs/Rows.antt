@@ -139,6 +139,10 @@ mended nodes i mark h some within is j low high other =
           ∙ (λ k. joined (sym (get_or-set_other nodes i (2 * j) mark no_mark (λ e. other (omega arith))) k) (sym (get_or-set_other nodes i (2 * j + 1) mark no_mark (λ e. other (omega arith))) k))
     ]
 
+-- where the one node left out is in order too, all are
+pub all_pairs : (nodes : List Mark) (i : ℕ) → ArePairsBut nodes i → IsPair nodes i → ArePairs nodes
+all_pairs nodes i h is j low high = elim (cases_eq j i) [ inl e ↦ rw e is | inr n ↦ h j low high n ]
+
 -- an empty place tells of none
 pub no_meets : (hosts : ℕ) → meets hosts no_mark ≡ false
 no_meets hosts = test_no (bit_and 0 hosts) (let l : bit_and hosts 0 ≤ 0 = and_le_r hosts 0 in omega (arith, and_comm 0 hosts, l))

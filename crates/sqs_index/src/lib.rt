@@ -7,5 +7,5 @@ mod marks;
 #[cfg(test)]
 mod tests;
 
-pub use mark::Mark;
+pub use mark::{Mark, NO_MARK};
 pub use marks::Marks;

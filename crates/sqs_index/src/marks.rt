@@ -3,7 +3,7 @@ ghost use Rattle.std.specs.Prelude.{◌≡◌, ◌⊎◌, None, [], if◌then◌
 ghost use Rattle.sim_clock.specs.Order.{lesser};
 ghost use Rattle.sqs_index.specs.Marks.{ArePairs, ArePairsBut, IsFirstBelow, IsNextIn, IsPlaceOfLeast, IsPower, NoneIn, beyond, least_of, no_mark, node, tells};
 
-use crate::mark::{Mark, NO_MARK, join, mark_at, meets};
+use crate::mark::{Mark, NO_MARK, is_same, join, mark_at, meets};
 use sim_clock::Key;
 use std::alloc::{AllocError, Global};
 use std::marker::Model;
@@ -58,7 +58,7 @@ fn next_in(nodes: &[Mark], row: usize, from: usize, hosts: u32) -> Option<usize>
     }
 }
 
-// Brings the marks above a node in order.
+// Brings the marks above a node in order, up to the first that is so.
 fn mend(nodes: &mut Vec<Mark>, node: usize)
     requires above { ArePairsBut nodes.old.items (node / 2) }
     requires within { node < vec_len nodes.old }
@@ -69,6 +69,9 @@ fn mend(nodes: &mut Vec<Mark>, node: usize)
     let mut node = node / 2;
     while 0 < node {
         let both = join(&mark_at(nodes, 2 * node), &mark_at(nodes, 2 * node + 1));
+        if is_same(&nodes[node], &both) {
+            return;
+        }
         nodes[node] = both;
         node /= 2;
     }

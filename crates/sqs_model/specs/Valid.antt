@@ -41,6 +41,11 @@ abbrev pub IsStandard : Kind → Type 0
 IsStandard (Standard hosts sampled) = Unit {0}
 IsStandard (Fifo content_dedup scope) = ⊥
 
+-- whether a queue is a FIFO one
+abbrev pub IsFifo : Kind → Type 0
+IsFifo (Standard hosts sampled) = ⊥
+IsFifo (Fifo content_dedup scope) = Unit {0}
+
 -- a queue: a visibility timeout to 12 hours, a delay to 15 minutes, a retention period of 1 minute to 14 days, 1 to 120,000 messages in flight
 pub record IsQueueSettings (s : QueueSettings) : Type 0 where
   pub kind : IsKind s.kind

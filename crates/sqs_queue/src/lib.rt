@@ -6,4 +6,4 @@ mod queue;
 mod tests;
 
 pub use queue::Queue;
-pub use sqs_store::Counts;
+pub use sqs_store::{Counts, Messages};

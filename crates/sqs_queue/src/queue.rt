@@ -1,6 +1,8 @@
 //! The queue, and what it tells of itself.
-ghost use Rattle.std.specs.Prelude.{◌≡◌, [], IfOk, count_by};
+ghost use Rattle.std.specs.Prelude.{◌≡◌, [], count_by, not};
+ghost use Rattle.sim_clock.specs.Firsts.{is_empty};
 ghost use Rattle.sim_clock.specs.Order.{least};
+ghost use Rattle.sqs_model.specs.Available.{all_available};
 ghost use Rattle.sqs_model.specs.Dues.{queue_dues};
 ghost use Rattle.sqs_model.specs.Polls.{can_give};
 ghost use Rattle.sqs_model.specs.Queue.{is_delayed, is_in_flight, is_visible};
@@ -8,12 +10,10 @@ ghost use Rattle.sqs_model.specs.Valid.{IsQueueSettings};
 
 use sim_clock::Key;
 use sqs_fifo::FifoQueue;
-use sqs_groups::available_places;
-use sqs_message::Message;
 use sqs_redrive::{Kind, QueueSettings};
 use sqs_standard::StandardQueue;
-use sqs_store::Counts;
-use std::alloc::{AllocError, Global};
+use sqs_store::{Counts, Messages};
+use std::alloc::Global;
 use std::marker::Model;
 
 mod calls;
@@ -30,7 +30,6 @@ enum Either {
 #[derive(Drop)]
 pub struct Queue {
     either: Either,
-    alloc: Global,
 }
 
 impl Model for Queue {
@@ -54,7 +53,7 @@ impl Queue {
             Kind::Standard { .. } => Either::Standard(StandardQueue::new(alloc, site, settings)),
             Kind::Fifo { .. } => Either::Fifo(FifoQueue::new(alloc, site, settings)),
         };
-        Queue { either, alloc }
+        Queue { either }
     }
 
     /// Its number.
@@ -78,8 +77,8 @@ impl Queue {
     }
 
     /// Its messages, in the order of their arrival.
-    pub fn view(&self) -> &[Message]
-        ensures { result.now ≡ self.now.records }
+    pub fn view(&self) -> Messages<'_>
+        ensures { result ≡ self.now.records }
     {
         match &self.either {
             Either::Standard(queue) => queue.view(),
@@ -109,18 +108,22 @@ impl Queue {
         }
     }
 
-    /// Whether it has a message to give and room in flight for it. Takes time linear in the queue.
-    /// The one error is `Memory`.
-    pub fn can_give(&self) -> Result<bool, AllocError>
-        ensures { IfOk result (λ gives. gives ≡ can_give self.now) }
+    // Whether there is a message that it may give.
+    fn has_available(&self) -> bool
+        ensures { result ≡ not (is_empty (all_available self.now)) }
     {
-        let counts = self.counts();
-        if counts.visible == 0 || self.settings().in_flight_limit <= counts.in_flight {
-            return Ok(false);
-        }
         match &self.either {
-            Either::Standard(_) => Ok(true),
-            Either::Fifo(queue) => Ok(!available_places(self.alloc, queue.view())?.is_empty()),
+            Either::Standard(queue) => queue.has_available(),
+            Either::Fifo(queue) => queue.has_available(),
         }
+    }
+
+    /// Whether it has a message to give and room in flight for it. Goes over no messages.
+    pub fn can_give(&self) -> bool
+        ensures { result ≡ can_give self.now }
+    {
+        let limit = self.settings().in_flight_limit;
+        let room = limit.saturating_sub(self.counts().in_flight);
+        self.has_available() && room > 0
     }
 }

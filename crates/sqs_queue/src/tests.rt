@@ -102,8 +102,8 @@ fn take_movable(queue: &mut Queue) -> Result<(usize, Rest), Refusal> {
     Ok((loads.len(), rest))
 }
 
-fn can_give(queue: &Queue) -> Result<bool, Refusal> {
-    Ok(queue.can_give()?)
+fn can_give(queue: &Queue) -> bool {
+    queue.can_give()
 }
 
 fn least_due(queue: &Queue) -> Option<Key> {
@@ -125,7 +125,8 @@ fn try_calls(
     assert_eq!(rt; send(alloc, queue, 0, 121), Ok(Sent::New(id(1))));
     assert_eq!(rt; arrive(alloc, queue, 1), Ok((Sent::New(id(2)), false)));
     assert_eq!(rt; (queue.site(), queue.settings().retention), (7, 60000));
-    assert_eq!(rt; (queue.view().len(), queue.counts().visible), (3, 3));
+    assert!(rt; has_messages(queue, 3));
+    assert_eq!(rt; queue.counts().visible, 3);
     let over = Key {
         at: 60000,
         agent: 7,
@@ -133,9 +134,9 @@ fn try_calls(
         number: 0,
     };
     assert_eq!(rt; least_due(queue), Some(over));
-    assert_eq!(rt; can_give(queue), Ok(true));
+    assert_eq!(rt; can_give(queue), true);
     assert_eq!(rt; receive(queue, 5), Ok(1));
-    assert_eq!(rt; can_give(queue), Ok(beside));
+    assert_eq!(rt; can_give(queue), beside);
     assert_eq!(rt; release(queue).map(|left| left.is_none()), Ok(true));
     assert_eq!(rt; receive(queue, 6), Ok(1));
     assert_eq!(rt; delete(queue, 7, &receipt(1)), older);
@@ -143,8 +144,14 @@ fn try_calls(
     assert_eq!(rt; delete(queue, 8, &receipt(2)), Ok(Deleted::Removed(8)));
     assert_eq!(rt; expire(queue, 9, 1), 9);
     assert_eq!(rt; take_movable(queue), Ok((1, Rest::Empty)));
-    assert_eq!(rt; can_give(queue), Ok(false));
+    assert_eq!(rt; can_give(queue), false);
     Ok(())
+}
+
+// Whether a queue has so many messages.
+fn has_messages(queue: &Queue, count: usize) -> bool {
+    let is_more = queue.view().nth(count).is_some();
+    !is_more && (count == 0 || queue.view().nth(count - 1).is_some())
 }
 
 #[test]

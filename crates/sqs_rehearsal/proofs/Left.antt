@@ -93,3 +93,28 @@ item_added f xs i d x before old new y h is e o n =
     let here : map f (take (i + 1) xs) ≡ map f (take i xs) ++ y ∷ [] =
     ap (map f) (take_more xs i d h) ∙ map-append f (take i xs) (get_or xs i d ∷ []) ∙ ap (λ z. map f (take i xs) ++ z ∷ []) (sym (e ∙ ap f is)) in
     n ∙ ap (λ t. t ++ y ∷ []) o ∙ append_assoc before (map f (take i xs)) (y ∷ []) ∙ sym (ap (λ t. before ++ t) here)
+
+-- what is made of the items of a list, one after another: those of the items so far stand behind others
+pub record IsAdding {A B : Type 0} (f : A → B) (xs : List A) (before : List B) (rest : List A) (now : List B) : Type 0 where
+  pub done : List A
+  pub whole : done ++ rest ≡ xs
+  pub added : now ≡ before ++ map f done
+
+module _ {A B : Type 0} (f : A → B) (xs : List A) (before : List B) where
+  pub adding_none : (rest : List A) → rest ≡ xs → IsAdding f xs before rest before
+  adding_none rest e = record { done = []; whole = e; added = sym (append-nil before) }
+
+  pub adding_more : (rest after : List A) (x : A) (y : B) (old new : List B) → rest ≡ x ∷ after → y ≡ f x → new ≡ old ++ y ∷ [] → IsAdding f xs before rest old → IsAdding f xs before after new
+  adding_more rest after x y old new e is n h =
+      record {
+        done = h.done ++ x ∷ [];
+        whole = append_assoc h.done (x ∷ []) after ∙ ap (λ r. h.done ++ r) (sym e) ∙ h.whole;
+        added =
+            n ∙ ap (λ t. t ++ y ∷ []) h.added ∙ append_assoc before (map f h.done) (y ∷ [])
+            ∙ ap (λ t. before ++ t) (ap (λ z. map f h.done ++ z ∷ []) is ∙ sym (map-append f h.done (x ∷ [])));
+      }
+
+  pub adding_all : (rest : List A) (now : List B) → rest ≡ [] → IsAdding f xs before rest now → now ≡ before ++ map f xs
+  adding_all rest now e h =
+      let all : h.done ≡ xs = sym (append-nil h.done) ∙ ap (λ r. h.done ++ r) (sym e) ∙ h.whole in
+      h.added ∙ ap (λ ms. before ++ map f ms) all

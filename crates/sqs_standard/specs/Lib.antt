@@ -1,2 +1,0 @@
-pub mod Standard
-pub mod Hosts

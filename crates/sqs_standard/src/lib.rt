@@ -1,7 +1,6 @@
 //! A standard queue: messages that lie on hosts, and the calls of Amazon SQS on them.
 #![tactic(auto)]
 
-mod hosts;
 mod queue;
 #[cfg(test)]
 mod tests;

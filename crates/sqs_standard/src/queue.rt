@@ -1,60 +1,38 @@
 //! The queue and its calls.
-ghost use Rattle.std.specs.Prelude.{◌≡◌, ◌-◌, ◌<◌, ◌≤◌, ◌^◌, [], IfOk, List, OnErr, OnOk, count_by, filter, take, ℕ};
+ghost use Rattle.std.specs.Prelude.{◌≡◌, ◌<◌, ◌≤◌, [], OnErr, OnOk, count_by, not};
+ghost use Rattle.sim_clock.specs.Firsts.{is_empty};
 ghost use Rattle.sim_clock.specs.Order.{least};
 ghost use Rattle.sqs_model.specs.Answers.{Meets, most_count};
 ghost use Rattle.sqs_model.specs.Arrive.{expired};
-ghost use Rattle.sqs_model.specs.Available.{all_hosts, at_places, available, available_at};
+ghost use Rattle.sqs_model.specs.Available.{all_available};
 ghost use Rattle.sqs_model.specs.Calls.{change, delete_standard, returned, send_standard};
 ghost use Rattle.sqs_model.specs.Dues.{queue_dues};
-ghost use Rattle.sqs_model.specs.Progress.{Differ};
 ghost use Rattle.sqs_model.specs.Queue.{IsFramed, is_delayed, is_in_flight, is_visible};
 ghost use Rattle.sqs_model.specs.Return.{released};
-ghost use Rattle.sqs_model.specs.Valid.{IsKind};
-ghost use Rattle.sqs_store.specs.Chosen.{AreWithin};
-ghost use Rattle.sqs_standard.specs.Hosts.{is_seen};
-ghost use Rattle.sqs_model.specs.Valid.{IsStandard};
-ghost use Rattle.sqs_standard.specs.Standard.{IsStandardSettings};
-ghost use Rattle.sqs_message.specs.declared.message.Message.{Message};
+ghost use Rattle.sqs_host_shelf.specs.Standard.{IsStandardSettings};
 
-use crate::hosts::seen_places;
 use sim_clock::{Key, Refusal};
-use sqs_message::{Message, MessageId, Receipt, Text};
+use sqs_message::{MessageId, Receipt, Text};
 use sqs_model::{LONGEST_DELAY, MOST_COUNT};
-use sqs_redrive::{Deleted, Kind, Load, QueueSettings, Sent};
-use sqs_store::{Counts, Store};
-use std::alloc::{AllocError, Global};
+use sqs_redrive::{Deleted, Load, QueueSettings, Sent};
+use sqs_store::{Counts, Messages, Store};
+use std::alloc::Global;
 use std::marker::Model;
 
 mod arrive;
 mod receive;
 mod take;
 
-// On how many hosts the messages of a standard queue lie.
-fn host_count(kind: &Kind) -> u64
-    requires standard { IsStandard kind.now }
-    requires range { IsKind kind.now }
-    ensures some { 1 ≤ result }
-    ensures few { result ≤ 16 }
-    ensures all { all_hosts kind.now ≡ 2 ^ result - 1 }
-    ensures seen { (set : ℕ) (records : List Message) → available_at kind.now set records ≡ filter (is_seen result set) records }
-{
-    match *kind {
-        Kind::Standard { hosts, .. } => hosts,
-        Kind::Fifo { .. } => unreachable!(),
-    }
-}
-
 /// A standard queue. Contracts see it as the definitions' `Queue`, which has no deduplication
 /// entries. Times are milliseconds.
 #[derive(Drop)]
 pub struct StandardQueue {
     store: Store,
-    alloc: Global,
 }
 
 impl Model for StandardQueue {
     ghost use Rattle.sqs_model.specs.Queue.{Queue};
-    ghost use Rattle.sqs_standard.specs.Standard.{IsStandardSettings};
+    ghost use Rattle.sqs_host_shelf.specs.Standard.{IsStandardSettings};
 
     ghost Value = { Queue };
 
@@ -71,7 +49,6 @@ impl StandardQueue {
     {
         StandardQueue {
             store: Store::new(alloc, site, settings),
-            alloc,
         }
     }
 
@@ -90,8 +67,8 @@ impl StandardQueue {
     }
 
     /// Its messages, in the order of their arrival.
-    pub fn view(&self) -> &[Message]
-        ensures { result.now ≡ self.now.records }
+    pub fn view(&self) -> Messages<'_>
+        ensures { result ≡ self.now.records }
     {
         self.store.view()
     }
@@ -205,14 +182,10 @@ impl StandardQueue {
         self.store.counts()
     }
 
-    // The places of at most so many of the messages that may be received which lie on these hosts,
-    // in order.
-    fn first_places(&self, set: u32, most: u64) -> Result<Vec<usize>, AllocError>
-        ensures chosen { IfOk result (λ places. at_places self.now.records places.items ≡ take most (available self.now set)) }
-        ensures within { IfOk result (λ places. AreWithin self.now.records places.items) }
-        ensures apart { IfOk result (λ places. Differ (λ m. m.number) (at_places self.now.records places.items)) }
+    /// Whether a receive that sees all hosts would find a message to give. Goes over no messages.
+    pub fn has_available(&self) -> bool
+        ensures { result ≡ not (is_empty (all_available self.now)) }
     {
-        let count = host_count(&self.store.settings().kind);
-        seen_places(self.alloc, self.store.view(), count, set, most)
+        self.store.has_available()
     }
 }

@@ -1,6 +1,6 @@
 //! Each public call once, and small tables whose answers are worked out by hand.
 ghost use Rattle.sqs_model.specs.Progress.{WasEnqueuedBy};
-ghost use Rattle.sqs_standard.specs.Standard.{IsStandardSettings};
+ghost use Rattle.sqs_host_shelf.specs.Standard.{IsStandardSettings};
 
 use crate::{Counts, StandardQueue};
 use sim_clock::{Class, Key, Refusal};
@@ -107,10 +107,16 @@ fn expire(queue: &mut StandardQueue, now: u64, number: u64) -> u64 {
 }
 
 fn release_of(queue: &StandardQueue, place: usize) -> Option<u64> {
-    match queue.view().get(place) {
+    match queue.view().nth(place) {
         Some(message) => message.release,
         None => None,
     }
+}
+
+// Whether a queue has so many messages.
+fn has_messages(queue: &StandardQueue, count: usize) -> bool {
+    let is_more = queue.view().nth(count).is_some();
+    !is_more && (count == 0 || queue.view().nth(count - 1).is_some())
 }
 
 #[test]
@@ -144,8 +150,8 @@ fn try_sends(rt: &impl Abort, alloc: Global, queue: &mut StandardQueue) {
 fn try_view(rt: &impl Abort, queue: &StandardQueue) {
     // The body of each message, and the end of its delay.
     let wanted = [(97, None), (98, Some(5010)), (99, Some(900011))];
-    assert_eq!(rt; queue.view().len(), 3);
-    for (message, (byte, release)) in queue.view().iter().zip(&wanted) {
+    assert!(rt; has_messages(queue, 3));
+    for (message, (byte, release)) in queue.view().zip(&wanted) {
         assert_eq!(rt; message.body.as_bytes(), [*byte].as_slice());
         assert_eq!(rt; message.release, *release);
     }
@@ -225,7 +231,7 @@ fn gives_and_takes_back_at_once(rt: HostRuntime) {
     for (now, told, stay) in table {
         assert_eq!(rt; give_at_once(&mut queue, now), Ok(told));
         assert_eq!(rt; queue.counts().visible, stay);
-        assert_eq!(rt; queue.view().len() as u64, stay);
+        assert!(rt; has_messages(&queue, stay as usize));
     }
 }
 
@@ -294,7 +300,7 @@ fn deletes_after_the_timeout(rt: HostRuntime) {
     assert_eq!(rt; receive_count(&mut queue, 100, 1, None, false), Ok(1));
     assert_eq!(rt; release(&mut queue, 0), Ok(false));
     try_late_calls(&rt, &mut queue);
-    assert_eq!(rt; queue.view().len(), 0);
+    assert!(rt; has_messages(&queue, 0));
 }
 
 // The newest receipt of a message that is visible again deletes it, and changes nothing; nor does
@@ -355,7 +361,7 @@ fn tells_what_is_due(rt: HostRuntime) {
     try_dues(&rt, &mut queue);
     assert_eq!(rt; expire(&mut queue, 60001, 0), 60000);
     assert_eq!(rt; expire(&mut queue, 60001, 0), 0);
-    assert_eq!(rt; queue.view().len(), 1);
+    assert!(rt; has_messages(&queue, 1));
 }
 
 fn try_dues(rt: &impl Abort, queue: &mut StandardQueue) {
@@ -451,8 +457,8 @@ fn try_arrivals(rt: &impl Abort, alloc: Global, queue: &mut StandardQueue) {
 fn try_arrived(rt: &impl Abort, queue: &StandardQueue) {
     // Of each: its number, enqueue time, source, and the site of its origin.
     let wanted = [(0, 0, Some(3), 1), (2, 60001, None, 1), (3, 60002, None, 7)];
-    assert_eq!(rt; queue.view().len(), 3);
-    for (message, (number, enqueued, source, site)) in queue.view().iter().zip(&wanted) {
+    assert!(rt; has_messages(queue, 3));
+    for (message, (number, enqueued, source, site)) in queue.view().zip(&wanted) {
         assert_eq!(rt; (message.number, message.enqueued), (*number, *enqueued));
         assert_eq!(rt; (message.source, message.origin.site), (*source, *site));
     }
@@ -481,7 +487,7 @@ fn try_steps(rt: &impl Abort, queue: &mut StandardQueue) {
     ];
     for (max, to, answer, stay) in table {
         assert_eq!(rt; step(queue, max, to), Ok(answer));
-        assert_eq!(rt; queue.view().len(), stay);
+        assert!(rt; has_messages(queue, stay));
     }
 }
 

@@ -9,16 +9,15 @@ use Rattle.sqs_message.specs.declared.message.Message.{Message}
 use Rattle.sqs_redrive.specs.declared.answers.Got.{Got}
 use Rattle.sqs_redrive.specs.declared.transfers.Load.{Load}
 use Rattle.sqs_model.specs.Answers.{most_count}
-use Rattle.sqs_model.specs.Available.{at_places}
-use Rattle.sqs_model.specs.Progress.{Ascends, Differ}
+use Rattle.sqs_model.specs.Progress.{Differ}
 use Rattle.sqs_model.specs.Queue.{Queue, has_number, numbered, with_change}
 use Rattle.sqs_model.specs.Receive.{answered, received, give, give_after, got_first, got_of}
 use Rattle.sqs_model.specs.Return.{leaves, released, released_found, released_when, visible_again}
 use Rattle.sqs_model.proofs.Counts.{changed_none}
-use Rattle.sqs_model.proofs.Numbered.{each_is_numbered, one_number, other_without}
+use Rattle.sqs_model.proofs.Chosen.{Stand}
+use Rattle.sqs_model.proofs.Numbered.{one_number, other_without}
 use Rattle.sqs_model.proofs.Placed.{rest_at}
 use Rattle.sqs_store.specs.Giving.{CanBeGiven, after, gives, gives_all, gives_next, told_of, with_left}
-use Rattle.sqs_store.proofs.Chosen.{all_at}
 
 -- another test finds what it found, after a change of the first that a test picks
 find_changed_when : {A : Type 0} (p r : A → Bool) (f : A → A) (x : A) (xs : List A) (b : Bool) → p x ≡ b → (b ≡ true → r x ≡ false) → (b ≡ true → r (f x) ≡ false) → find r (changed p f xs) ≡ find r xs → find r (if b then f x ∷ xs else x ∷ changed p f xs) ≡ find r (x ∷ xs)
@@ -151,17 +150,12 @@ told_differ site [] h = tt
 told_differ site (m ∷ ms) h = (told_all site m.number ms h.0, told_differ site ms h.1)
 
 -- what a queue tells of can be given
-pub can_be_given :
-    (q : Queue) (records : List Message) (places : List ℕ) (site : ℕ) (batch : List Got) → records ≡ q.records → Ascends (λ m. m.number) 0 records → Differ (λ m. m.number) (at_places records places)
-    → batch ≡ map (told_of site) (at_places records places) → All (λ m. m.receives < most_count) (at_places records places) → CanBeGiven q batch
-can_be_given q records places site batch same o apart e below =
-    let ms : List Message = at_places records places in
-    let found : All (λ m. numbered m.number records ≡ Some m) ms = all_at (λ m. numbered m.number records ≡ Some m) records places (each_is_numbered 0 records o) in
-    rw (e, ← same)
+pub can_be_given : (q : Queue) (ms : List Message) → Stand q ms → Differ (λ m. m.number) ms → All (λ m. m.receives < most_count) ms → CanBeGiven q (map (told_of q.site) ms)
+can_be_given q ms found apart below =
     record {
-      apart = told_differ site ms apart;
+      apart = told_differ q.site ms apart;
       counted =
-          All-map (λ g. IfSome (numbered g.id.number records) (λ m. m.receives < most_count)) (told_of site) ms
+          All-map (λ g. IfSome (numbered g.id.number q.records) (λ m. m.receives < most_count)) (told_of q.site) ms
           (λ k d l. rw (found k d l) (below k d l));
     }
 
@@ -177,10 +171,10 @@ gives_none q now timeout n e =
 
 -- the same, of an answer that may be a refusal
 pub told_can_be_given :
-    {V : Type 0} (items : V → List Got) (r : Result V Refusal) (q : Queue) (records : List Message) (places : List ℕ) (site : ℕ) → records ≡ q.records → Ascends (λ m. m.number) 0 records → Differ (λ m. m.number) (at_places records places)
-    → IfOk r (λ v. items v ≡ map (told_of site) (at_places records places)) → OnOk r (All (λ m. m.receives < most_count) (at_places records places)) → IfOk r (λ v. CanBeGiven q (items v))
-told_can_be_given items (Ok v) q records places site same o apart e below = can_be_given q records places site (items v) same o apart e below
-told_can_be_given items (Err refusal) q records places site same o apart e below = tt
+    {V : Type 0} (items : V → List Got) (r : Result V Refusal) (q : Queue) (ms : List Message) → Stand q ms → Differ (λ m. m.number) ms
+    → IfOk r (λ v. items v ≡ map (told_of q.site) ms) → OnOk r (All (λ m. m.receives < most_count) ms) → IfOk r (λ v. CanBeGiven q (items v))
+told_can_be_given items (Ok v) q ms found apart told below = rw told (can_be_given q ms found apart below)
+told_can_be_given items (Err refusal) q ms found apart told below = tt
 
 -- a batch that was told of and then given is what the definitions give
 pub answered_given :

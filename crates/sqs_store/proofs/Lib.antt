@@ -1,6 +1,6 @@
 pub mod Stored
-pub mod Writes
-pub mod Chosen
+pub mod Numbers
 pub mod Batches
 pub mod Giving
-pub mod Parted
+pub mod Taking
+pub mod Coming

@@ -1,17 +1,18 @@
 -- What a queue's messages keep as one leaves, changes or comes in.
-use Rattle.std.proofs.Common.{◌≡◌, ℕ, ◌+◌, ◌<◌, ◌≤◌, Bool, true, false, List, [], ◌∷◌, ◌++◌, Option, Some, None, cond, if◌then◌else◌, arith, refl}
+use Rattle.std.proofs.Common.{◌≡◌, ℕ, ◌+◌, ◌<◌, ◌≤◌, Bool, true, false, List, [], ◌∷◌, ◌++◌, Option, Some, None, cond, if◌then◌else◌, ap, arith, refl, subst, sym, ◌∙◌}
 use Rattle.std.specs.Prelude.{All, IfSome, find}
 use Rattle.std.proofs.lemmas.List.Elements.{All-cons, All-head, All-tail, All-push, All-weaker}
 use Rattle.sim_clock.specs.Firsts.{without, changed}
 use Rattle.sqs_message.specs.declared.message.Message.{Message}
 use Rattle.sqs_redrive.specs.declared.settings.QueueSettings.{QueueSettings}
 use Rattle.sqs_model.specs.Answers.{most_count}
-use Rattle.sqs_model.specs.Queue.{has_number}
-use Rattle.sqs_model.specs.Calls.{in_flight_until}
-use Rattle.sqs_model.specs.Receive.{received}
-use Rattle.sqs_model.specs.Return.{visible_again}
+use Rattle.sqs_model.specs.Queue.{Queue, has_number, numbered, taken_out, with_change, with_records}
+use Rattle.sqs_model.specs.Calls.{in_flight_until, with_message}
 use Rattle.sqs_model.proofs.Counts.{all_changed, all_without, ascends_changed, ascends_push, ascends_without}
-use Rattle.sqs_store.specs.Stored.{IsCounted, IsStored, IsState}
+use Rattle.sqs_shelf.specs.Slots.{restated}
+use Rattle.sqs_shelf.specs.Stored.{IsCounted, IsStored}
+use Rattle.sqs_shelf.specs.declared.slot.State.{State}
+use Rattle.sqs_store.specs.Stored.{IsState}
 
 -- the limits of each, after one changed
 counted_changed : (p : Message → Bool) (f : Message → Message) (xs : List Message) → IfSome (find p xs) (λ m. IsCounted (f m)) → All IsCounted xs → All IsCounted (changed p f xs)
@@ -98,24 +99,65 @@ state_push s records after m n e i c l h =
 counted_kept : (p : Message → Bool) (f : Message → Message) (xs : List Message) → ((m : Message) → IsCounted m → IsCounted (f m)) → All IsCounted xs → IfSome (find p xs) (λ m. IsCounted (f m))
 counted_kept p f xs keeps h = found_of_all (λ m. IsCounted (f m)) p xs (All-weaker IsCounted (λ m. IsCounted (f m)) keeps xs h)
 
--- a state, after one is visible again
-pub state_visible_again : (s : QueueSettings) (n : ℕ) (records after : List Message) (arrivals : ℕ) → after ≡ changed (has_number n) visible_again records → IsState s records arrivals → IsState s after arrivals
-state_visible_again s n records after a e h =
-    state_changed s (has_number n) visible_again records after a (λ m. refl) e
-    (counted_kept (has_number n) visible_again records (λ m c. record { enqueued = c.enqueued; receives = c.receives; received = c.received }) h.stored.counted) h
+-- the state of a queue
+abbrev pub OfQueue : Queue → Type 0
+OfQueue q = IsState q.settings q.records q.arrivals
 
--- a state, after one is in flight until another moment
-pub state_in_flight : (s : QueueSettings) (n until : ℕ) (records after : List Message) (arrivals : ℕ) → after ≡ changed (has_number n) (in_flight_until until) records → IsState s records arrivals → IsState s after arrivals
-state_in_flight s n until records after a e h =
-    state_changed s (has_number n) (in_flight_until until) records after a (λ m. refl) e
-    (counted_kept (has_number n) (in_flight_until until) records (λ m c. record { enqueued = c.enqueued; receives = c.receives; received = c.received }) h.stored.counted) h
+-- after a message left
+pub state_taken : (q r : Queue) (n : ℕ) → r ≡ taken_out q n → OfQueue q → OfQueue r
+state_taken q r n e h = subst OfQueue (sym e) (state_without q.settings (has_number n) q.records (without (has_number n) q.records) q.arrivals refl h)
 
--- a state, after one is received that may be once more
-counted_received : (now timeout : ℕ) (o : Option Message) → now ≤ most_count → IfSome o IsCounted → IfSome o (λ m. m.receives < most_count) → IfSome o (λ m. IsCounted (received now timeout m))
-counted_received now timeout None l h r = tt
-counted_received now timeout (Some m) l h r = record { enqueued = h.enqueued; receives = omega (arith, r); received = l }
+-- after a message took another state, within the limits
+pub state_put : (q r : Queue) (n : ℕ) (s : State) → r ≡ with_change q n (restated s) → s.receives ≤ most_count → s.received ≤ most_count → OfQueue q → OfQueue r
+state_put q r n s e few late h =
+    subst OfQueue (sym e)
+    (state_changed q.settings (has_number n) (restated s) q.records (changed (has_number n) (restated s) q.records) q.arrivals (λ m. refl) refl
+    (counted_kept (has_number n) (restated s) q.records (λ m c. record { enqueued = c.enqueued; receives = few; received = late }) h.stored.counted) h)
 
-pub state_received : (s : QueueSettings) (n now timeout : ℕ) (records after : List Message) (arrivals : ℕ) → now ≤ most_count → IfSome (find (has_number n) records) (λ m. m.receives < most_count) → after ≡ changed (has_number n) (received now timeout) records → IsState s records arrivals → IsState s after arrivals
-state_received s n now timeout records after a l r e h =
-    state_changed s (has_number n) (received now timeout) records after a (λ m. refl) e
-    (counted_received now timeout (find (has_number n) records) l (found_of_all IsCounted (has_number n) records h.stored.counted) r) h
+-- after a message came
+pub state_added : (q r : Queue) (m : Message) → r ≡ with_message q m → m.number ≡ q.arrivals → IsCounted m → q.arrivals < most_count → OfQueue q → OfQueue r
+state_added q r m e i c l h = subst OfQueue (sym e) (state_push q.settings q.records (q.records ++ m ∷ []) m q.arrivals refl i c l h)
+
+-- after a number went to a message that did not stay
+pub state_skipped : (q r : Queue) → r ≡ record q { arrivals = q.arrivals + 1 } → q.arrivals < most_count → OfQueue q → OfQueue r
+state_skipped q r e l h =
+    subst OfQueue (sym e)
+    (record {
+      settings_in_range = h.settings_in_range;
+      arrivals_in_range = omega arith;
+      stored = stored_more q.records q.arrivals h.stored;
+    })
+
+-- a change speaks of the message that is there alone
+changed_as : (p : Message → Bool) (f g : Message → Message) (m : Message) (xs : List Message) → find p xs ≡ Some m → f m ≡ g m → changed p f xs ≡ changed p g xs
+changed_as p f g m [] e h = refl
+changed_as p f g m (x ∷ xs) e h =
+    elim (p x) as (λ b. cond b (Some x) (find p xs) ≡ Some m → (if b then f x ∷ xs else x ∷ changed p f xs) ≡ (if b then g x ∷ xs else x ∷ changed p g xs)) [
+      | true ↦ λ k. let same : x ≡ m = cc in ap (λ y. y ∷ xs) (ap f same ∙ h ∙ ap g (sym same))
+      | false ↦ λ k. ap (λ ys. x ∷ ys) (changed_as p f g m xs k h)
+    ] e
+
+pub change_as : (q : Queue) (n : ℕ) (f g : Message → Message) (m : Message) → numbered n q.records ≡ Some m → f m ≡ g m → with_change q n f ≡ with_change q n g
+change_as q n f g m e h = ap (with_records q) (changed_as (has_number n) f g m q.records e h)
+
+-- what is there is within the limits
+pub counted_found : (q : Queue) (n : ℕ) (m : Message) → All IsCounted q.records → numbered n q.records ≡ Some m → IsCounted m
+counted_found q n m h e = let all : IfSome (numbered n q.records) IsCounted = found_of_all IsCounted (has_number n) q.records h in subst (λ (o : Option Message). IfSome o IsCounted) e all
+
+pub found_counted : (q : Queue) (n : ℕ) (m : Message) → OfQueue q → numbered n q.records ≡ Some m → IsCounted m
+found_counted q n m h e = counted_found q n m h.stored.counted e
+
+-- after a message was given that may be received once more
+pub state_given :
+    (q r : Queue) (n : ℕ) (s : State) (m : Message) (now : ℕ) → r ≡ with_change q n (restated s) → numbered n q.records ≡ Some m → s.receives ≡ m.receives + 1 → s.received ≡ now
+    → IfSome (numbered n q.records) (λ x. x.receives < most_count) → now ≤ most_count → OfQueue q → OfQueue r
+state_given q r n s m now e found receives at counted moment h =
+    let few : m.receives < most_count = subst (λ (o : Option Message). IfSome o (λ x. x.receives < most_count)) found counted in
+    state_put q r n s e (omega (arith, few, receives)) (omega (arith, at, moment)) h
+
+-- after a message is in flight until another moment
+pub state_kept_out : (q r : Queue) (n until : ℕ) → r ≡ with_change q n (in_flight_until until) → OfQueue q → OfQueue r
+state_kept_out q r n until e h =
+    subst OfQueue (sym e)
+    (state_changed q.settings (has_number n) (in_flight_until until) q.records (changed (has_number n) (in_flight_until until) q.records) q.arrivals (λ m. refl) refl
+    (counted_kept (has_number n) (in_flight_until until) q.records (λ m c. record { enqueued = c.enqueued; receives = c.receives; received = c.received }) h.stored.counted) h)

@@ -1,4 +1,4 @@
-pub mod Stored
-pub mod Chosen
-pub mod Giving
 pub mod Calls
+pub mod Giving
+pub mod Shelves
+pub mod Stored

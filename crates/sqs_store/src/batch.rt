@@ -1,10 +1,11 @@
 //! What a receive tells of the messages that it gives.
 ghost use Rattle.std.specs.Prelude.{◌≡◌, ◌⊎◌, ◌+◌, ◌<◌, ◌≤◌, All, Any, Err, IfErr, IfOk, OnOk, map};
 ghost use Rattle.sqs_model.specs.Answers.{most_count};
-ghost use Rattle.sqs_model.specs.Available.{at_places};
-ghost use Rattle.sqs_store.specs.Chosen.{AreWithin};
+ghost use Rattle.sqs_shelf.specs.Stored.{IsCounted};
 ghost use Rattle.sqs_store.specs.Giving.{told_of};
+ghost use Rattle.sqs_store.specs.Shelves.{messages_of, queue_of};
 
+use crate::queue_shelf::QueueShelf;
 use sim_clock::Refusal;
 use sqs_message::{Message, MessageId, Receipt, Text};
 use sqs_model::MOST_COUNT;
@@ -45,28 +46,24 @@ fn told_of(alloc: Global, site: u32, message: &Message) -> Result<Got, AllocErro
     })
 }
 
-// What a receive tells of the messages at these places. `CountLimit` where one of them can be
+// What a receive tells of the messages of these numbers. `CountLimit` where one of them can be
 // received no more.
-pub fn batch_of(
-    alloc: Global,
-    site: u32,
-    messages: &[Message],
-    places: &[usize],
-) -> Result<Vec<Got>, Refusal>
-    requires within { AreWithin messages.now places.now }
-    requires counted { All (λ m. m.receives ≤ most_count) messages.now }
-    ensures told { IfOk result (λ batch. batch.items ≡ map (told_of site) (at_places messages.now places.now)) }
-    ensures below { OnOk result (All (λ m. m.receives < most_count) (at_places messages.now places.now)) }
-    ensures at_limit { result ≡ Err Refusal.CountLimit → Any (λ m. m.receives ≡ most_count) (at_places messages.now places.now) }
+pub fn batch_of(alloc: Global, shelf: &QueueShelf, numbers: &[u64]) -> Result<Vec<Got>, Refusal>
+    requires counted { All IsCounted (queue_of shelf.now).records }
+    ensures told { IfOk result (λ batch. batch.items ≡ map (told_of (queue_of shelf.now).site) (messages_of (queue_of shelf.now).records numbers.now)) }
+    ensures below { OnOk result (All (λ m. m.receives < most_count) (messages_of (queue_of shelf.now).records numbers.now)) }
+    ensures at_limit { result ≡ Err Refusal.CountLimit → Any (λ m. m.receives ≡ most_count) (messages_of (queue_of shelf.now).records numbers.now) }
     ensures refused { IfErr result (λ refusal. (refusal ≡ Refusal.CountLimit) ⊎ (refusal ≡ Refusal.Memory)) }
 {
-    let mut batch = Vec::new(alloc);
-    for place in places {
-        let message = &messages[*place];
-        if message.receives == MOST_COUNT {
-            return Err(Refusal::CountLimit);
+    let site = shelf.site();
+    let mut batch = Vec::with_capacity(alloc, numbers.len())?;
+    for number in numbers {
+        if let Some(message) = shelf.find(*number) {
+            if message.receives == MOST_COUNT {
+                return Err(Refusal::CountLimit);
+            }
+            batch.push(told_of(alloc, site, message)?)?;
         }
-        batch.push(told_of(alloc, site, message)?)?;
     }
     Ok(batch)
 }

@@ -3,12 +3,13 @@
 #![tactic(auto)]
 
 mod batch;
-mod dues;
-mod parting;
+mod loads;
 mod places;
+mod queue_shelf;
 mod store;
 #[cfg(test)]
 mod tests;
 
 pub use places::{is_out, may_be_received};
-pub use store::{Counts, Store};
+pub use sqs_shelf::{Counts, Messages};
+pub use store::Store;

@@ -9,39 +9,25 @@ ghost use Rattle.sqs_model.specs.Dues.{queue_dues};
 ghost use Rattle.sqs_model.specs.Longest.{deduplication_interval};
 ghost use Rattle.sqs_model.specs.Queue.{IsFramed, in_flight, is_delayed, is_in_flight, is_visible, numbered, room, taken_out};
 ghost use Rattle.sqs_model.specs.Return.{leaves, released};
-ghost use Rattle.sqs_model.specs.Valid.{IsQueueSettings};
+ghost use Rattle.sqs_model.specs.Valid.{IsFifo, IsQueueSettings};
 ghost use Rattle.sqs_dedup.specs.Window.{living_among};
-ghost use Rattle.sqs_store.specs.Stored.{IsCounted, IsStored};
+ghost use Rattle.sqs_shelf.specs.Stored.{IsCounted, IsStored};
 ghost use Rattle.sqs_message.specs.declared.message.Message.{Message};
 
-use crate::dues::{expiry_of, release_key};
-use crate::parting::put;
-use crate::places::{
-    count_delayed, count_in_flight, count_visible, is_out, keep_out, make_visible, place_of_number,
-    take_out,
-};
-use sim_clock::{Key, Refusal, lesser};
+use crate::places::{is_out, visible_again};
+use crate::queue_shelf::QueueShelf;
+use sim_clock::{Key, Refusal};
 use sqs_dedup::Dedup;
 use sqs_message::{Message, MessageId, Origin, Place, Receipt, Text};
 use sqs_model::{LONGEST_FLIGHT, LONGEST_TIMEOUT};
 use sqs_redrive::{Load, QueueSettings, Returned, on_return};
+use sqs_shelf::{Counts, Messages};
 use std::alloc::{AllocError, Global};
 use std::marker::Model;
 
 mod arrive;
 mod give;
 mod take;
-
-/// How many messages of a queue are where.
-#[derive(Clone, Copy, Debug, PartialEq, Eq)]
-pub struct Counts {
-    /// May be received (`ApproximateNumberOfMessages`).
-    pub visible: u64,
-    /// Received and not yet back (`ApproximateNumberOfMessagesNotVisible`).
-    pub in_flight: u64,
-    /// Not yet visible for the first time (`ApproximateNumberOfMessagesDelayed`).
-    pub delayed: u64,
-}
 
 // Whether a message has been received as often as the policy allows.
 fn is_spent(settings: &QueueSettings, message: &Message) -> bool
@@ -74,23 +60,21 @@ fn redrive(site: u32, message: Message) -> Load
 /// definitions' `Queue`, of either kind. Times are milliseconds.
 #[derive(Drop)]
 pub struct Store {
-    site: u32,
-    settings: QueueSettings,
-    messages: Vec<Message>,
+    shelf: QueueShelf,
     entries: Dedup,
-    arrivals: u64,
     alloc: Global,
 }
 
 impl Model for Store {
     ghost use Rattle.sqs_model.specs.Queue.{Queue};
+    ghost use Rattle.sqs_store.specs.Shelves.{queue_of};
     ghost use Rattle.sqs_store.specs.Stored.{IsState};
 
     ghost Value = { Queue };
 
-    ghost view = { λ q. record { site = q.site; settings = q.settings; records = q.messages.items; entries = q.entries; arrivals = q.arrivals } };
+    ghost view = { λ q. record (queue_of q.shelf) { entries = q.entries } };
 
-    ghost invariant = { λ q. IsState q.settings q.messages.items q.arrivals };
+    ghost invariant = { λ q. IsState (queue_of q.shelf).settings (queue_of q.shelf).records (queue_of q.shelf).arrivals };
 }
 
 impl Store {
@@ -100,11 +84,8 @@ impl Store {
         ensures { result ≡ record { site = site; settings = settings; records = []; entries = []; arrivals = 0 } }
     {
         Store {
-            site,
-            settings,
-            messages: Vec::new(alloc),
+            shelf: QueueShelf::new(alloc, site, settings),
             entries: Dedup::new(alloc),
-            arrivals: 0,
             alloc,
         }
     }
@@ -113,22 +94,22 @@ impl Store {
     pub fn site(&self) -> u32
         ensures { result ≡ self.now.site }
     {
-        self.site
+        self.shelf.site()
     }
 
     /// Its settings.
     pub fn settings(&self) -> &QueueSettings
         ensures { result.now ≡ self.now.settings }
     {
-        &self.settings
+        self.shelf.settings()
     }
 
     /// Its messages, in the order of their arrival.
-    pub fn view(&self) -> &[Message]
-        ensures view { result.now ≡ self.now.records }
+    pub fn view(&self) -> Messages<'_>
+        ensures view { result ≡ self.now.records }
         ensures stored { IsStored self.now.records self.now.arrivals }
     {
-        self.messages.as_slice()
+        self.shelf.iter()
     }
 
     /// How many messages ever came, which is the number of the next one.
@@ -136,24 +117,22 @@ impl Store {
         ensures arrivals { result ≡ self.now.arrivals }
         ensures bound { result ≤ most_count }
     {
-        self.arrivals
+        self.shelf.arrivals()
     }
 
     /// The message of a number.
     pub fn find(&self, number: u64) -> Option<&Message>
         ensures { option_copied result ≡ numbered number self.now.records }
     {
-        let place = place_of_number(&self.messages, number)?;
-        Some(&self.messages[place])
+        self.shelf.find(number)
     }
 
     /// How many more messages may be in flight.
     pub fn room(&self) -> u64
         ensures { result ≡ room self.now }
     {
-        self.settings
-            .in_flight_limit
-            .saturating_sub(count_in_flight(&self.messages))
+        let limit = self.shelf.settings().in_flight_limit;
+        limit.saturating_sub(self.shelf.counts().in_flight)
     }
 
     /// The number of the message whose deduplication entry has this scope and id and lives at
@@ -169,11 +148,12 @@ impl Store {
         requires { now + delay < 2 ^ 64 }
         ensures { result ≡ new_message self.now now body group delay }
     {
+        let number = self.shelf.arrivals();
         Message {
-            number: self.arrivals,
+            number,
             origin: Origin {
-                site: self.site,
-                number: self.arrivals,
+                site: self.shelf.site(),
+                number,
             },
             body,
             group,
@@ -198,12 +178,11 @@ impl Store {
         ensures added { OnOk result (self.new ≡ with_message self.old message) }
         ensures unchanged { OnErr result (self.new ≡ self.old) }
     {
-        self.messages.push(message)?;
-        self.arrivals += 1;
+        self.shelf.push(message)?;
         Ok(())
     }
 
-    /// One more message, with the next number, and its deduplication entry, which lives for 5
+    /// One more message of a FIFO queue, with the next number, and its deduplication entry, which lives for 5
     /// minutes. The one error is `Memory`.
     pub fn add_once(
         &mut self,
@@ -218,13 +197,12 @@ impl Store {
         requires below { self.old.arrivals < most_count }
         requires no_earlier { All (λ e. e.end ≤ now + deduplication_interval) self.old.entries }
         requires none_living { living_among now scope id self.old.entries ≡ None }
+        requires fifo { IsFifo self.old.settings.kind }
         ensures added { OnOk result (self.new ≡ with_message (with_entry self.old now scope id) message) }
         ensures unchanged { OnErr result (self.new ≡ self.old) }
     {
-        self.messages.reserve(1)?;
-        self.entries.enter(now, scope, id, self.arrivals)?;
-        put(&mut self.messages, message);
-        self.arrivals += 1;
+        self.shelf
+            .push_once(message, &mut self.entries, now, scope, id)?;
         Ok(())
     }
 
@@ -233,8 +211,7 @@ impl Store {
         ensures found { result ≡ numbered number self.old.records }
         ensures rest { self.new ≡ taken_out self.old number }
     {
-        let place = place_of_number(&self.messages, number)?;
-        Some(take_out(&mut self.messages, place, number))
+        self.shelf.remove(number)
     }
 
     /// The end of the delay or visibility timeout of a message: it is visible again, or leaves for
@@ -253,14 +230,15 @@ impl Store {
         ensures kept { self.new.entries ≡ self.old.entries }
         ensures framed { IsFramed self.old self.new }
     {
-        let place = place_of_number(&self.messages, number)?;
-        if is_spent(&self.settings, &self.messages[place]) {
-            let message = take_out(&mut self.messages, place, number);
-            Some(redrive(self.site, message))
-        } else {
-            make_visible(&mut self.messages, place, number);
-            None
+        let message = self.shelf.find(number)?;
+        if !is_spent(self.shelf.settings(), message) {
+            let state = visible_again(message);
+            self.shelf.put(number, state);
+            return None;
         }
+        let site = self.shelf.site();
+        let message = self.shelf.remove(number)?;
+        Some(redrive(site, message))
     }
 
     /// The end of the retention period of a message, which leaves. Answers its age, 0 where it is
@@ -270,10 +248,9 @@ impl Store {
         ensures kept { self.new.entries ≡ self.old.entries }
         ensures framed { IsFramed self.old self.new }
     {
-        let Some(place) = place_of_number(&self.messages, number) else {
+        let Some(message) = self.shelf.remove(number) else {
             return 0;
         };
-        let message = take_out(&mut self.messages, place, number);
         now.saturating_sub(message.enqueued)
     }
 
@@ -296,17 +273,16 @@ impl Store {
         if timeout > LONGEST_TIMEOUT {
             return Err(Refusal::BadTimeout);
         }
-        if receipt.site != self.site || receipt.count == 0 {
+        if receipt.site != self.shelf.site() || receipt.count == 0 {
             return Err(Refusal::ReceiptHandleIsInvalid);
         }
-        let Some(place) = place_of_number(&self.messages, receipt.number) else {
-            return if receipt.number < self.arrivals {
+        let Some(message) = self.shelf.find(receipt.number) else {
+            return if receipt.number < self.shelf.arrivals() {
                 Err(Refusal::MessageNotInflight)
             } else {
                 Err(Refusal::ReceiptHandleIsInvalid)
             };
         };
-        let message = &self.messages[place];
         if message.receives < receipt.count {
             return Err(Refusal::ReceiptHandleIsInvalid);
         }
@@ -320,7 +296,7 @@ impl Store {
         if timeout == 0 {
             return self.release(receipt.number);
         }
-        keep_out(&mut self.messages, place, receipt.number, until);
+        self.shelf.keep_out(receipt.number, until);
         Ok(None)
     }
 
@@ -328,16 +304,7 @@ impl Store {
     pub fn least_due(&self) -> Option<Key>
         ensures { result ≡ least (queue_dues self.now) }
     {
-        let mut best = None;
-        for i in (0..self.messages.len()).rev() {
-            let message = &self.messages[i];
-            best = lesser(release_key(self.site, message), best);
-            best = lesser(
-                Some(expiry_of(self.site, self.settings.retention, message)),
-                best,
-            );
-        }
-        best
+        self.shelf.least_due()
     }
 
     /// How many messages are where.
@@ -346,10 +313,6 @@ impl Store {
         ensures in_flight { result.in_flight ≡ count_by is_in_flight self.now.records }
         ensures delayed { result.delayed ≡ count_by is_delayed self.now.records }
     {
-        Counts {
-            visible: count_visible(&self.messages),
-            in_flight: count_in_flight(&self.messages),
-            delayed: count_delayed(&self.messages),
-        }
+        self.shelf.counts()
     }
 }

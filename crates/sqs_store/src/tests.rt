@@ -1,16 +1,22 @@
 //! Each public call once, with answers worked out by hand.
 ghost use Rattle.std.specs.Prelude.{◌≡◌, ◌≤◌, []};
 ghost use Rattle.sqs_model.specs.Answers.{most_count};
-ghost use Rattle.sqs_model.specs.Valid.{IsQueueSettings};
+ghost use Rattle.sqs_model.specs.Valid.{IsFifo, IsQueueSettings};
 
 use crate::{Store, is_out, may_be_received};
 use sim_clock::{Class, Key, Refusal};
 use sqs_message::{MessageId, Origin, Receipt, Text};
 use sqs_model::MOST_COUNT;
-use sqs_redrive::{Got, Kind, Latency, Load, Policy, QueueSettings, Sent};
+use sqs_redrive::{Got, Kind, Latency, Policy, QueueSettings, Rest, Scope, Sent};
 use std::alloc::{AllocError, Global};
 use std::process::Abort;
 use std::test::Fail;
+
+// Whether a queue has so many messages.
+fn has_messages(store: &Store, count: usize) -> bool {
+    let is_more = store.view().nth(count).is_some();
+    !is_more && (count == 0 || store.view().nth(count - 1).is_some())
+}
 
 // A queue with 30 seconds of visibility, a minute of retention, room for two, and a
 // dead-letter queue after two receives.
@@ -58,10 +64,7 @@ fn give(store: &mut Store, now: u64, timeout: u64) -> Result<Vec<Got>, Refusal>
     requires moment { now ≤ most_count }
     requires timeout { timeout ≤ 43200000 }
 {
-    if store.view().is_empty() {
-        return Err(Refusal::Memory);
-    }
-    store.give_at(now, timeout, &[0])
+    store.give_first(now, timeout, 3, 1)
 }
 
 // The receipt that the giving of the first message makes, and whether that leaves then.
@@ -75,19 +78,12 @@ fn give_first(store: &mut Store, now: u64, timeout: u64) -> Result<(Receipt, boo
     }
 }
 
-fn take(store: &mut Store) -> Result<(Vec<(u32, Load)>, bool), Refusal> {
-    if store.view().is_empty() {
-        return Err(Refusal::Memory);
-    }
-    Ok(store.take_at(&[0], None)?)
-}
-
-// Where the first message goes, if it goes, and whether it has nowhere to go.
-fn take_first(store: &mut Store) -> Result<(Option<u32>, bool), Refusal> {
-    let (loads, stuck) = take(store)?;
+// Where the first message goes, if it goes, and what a step of one message leaves.
+fn take_first(store: &mut Store) -> Result<(Option<u32>, Rest), Refusal> {
+    let (loads, rest) = store.take_movable(1, None)?;
     match loads.as_slice() {
-        [(to, _)] => Ok((Some(*to), stuck)),
-        [] => Ok((None, stuck)),
+        [(to, _)] => Ok((Some(*to), rest)),
+        [] => Ok((None, rest)),
         _ => Err(Refusal::NoTask),
     }
 }
@@ -178,7 +174,7 @@ fn keeps_messages(rt: HostRuntime) {
     assert_eq!(rt; remove(&mut store, 1), Some(2));
     assert_eq!(rt; expire(&mut store, 60001, 0), 60000);
     assert_eq!(rt; expire(&mut store, 60001, 1), 0);
-    assert_eq!(rt; store.view().len(), 0);
+    assert!(rt; has_messages(&store, 0));
 }
 
 fn try_timeouts(rt: &impl Abort, store: &Store) {
@@ -206,7 +202,7 @@ fn gives_messages(rt: HostRuntime) {
     // It comes back at once, received twice, and leaves for the dead-letter queue.
     let second = give_first(&mut store, 7, 0);
     assert_eq!(rt; second, Ok((receipt(2), true)));
-    assert_eq!(rt; store.view().len(), 0);
+    assert!(rt; has_messages(&store, 0));
 }
 
 // Whether what settles after a minute gets this number, and whether it is over then.
@@ -225,15 +221,31 @@ fn takes_in_and_out(rt: HostRuntime) {
     assert!(rt; settles(rt.alloc(), &mut store, 1, 0, false));
     assert!(rt; settles(rt.alloc(), &mut store, 0, 1, true));
     assert_eq!(rt; add(rt.alloc(), &mut store, 60000, 0), Ok(()));
+    assert!(rt; store.has_available());
     // The first came from queue 3, and the other has nowhere to go.
-    assert_eq!(rt; take_first(&mut store), Ok((Some(3), false)));
-    assert_eq!(rt; take_first(&mut store), Ok((None, true)));
-    assert_eq!(rt; store.view().len(), 1);
+    assert_eq!(rt; take_first(&mut store), Ok((Some(3), Rest::More)));
+    assert_eq!(rt; take_first(&mut store), Ok((None, Rest::NoSource)));
+    assert!(rt; has_messages(&store, 1));
+}
+
+// The same of a FIFO queue.
+fn fifo_settings() -> QueueSettings
+    ensures ranges { IsQueueSettings result }
+    ensures fifo { IsFifo result.kind }
+{
+    QueueSettings {
+        kind: Kind::Fifo {
+            content_dedup: false,
+            scope: Scope::Queue,
+        },
+        ..settings()
+    }
 }
 
 // A message is added under an id, at the start.
 fn add_once(alloc: Global, store: &mut Store, id: Text) -> Result<(), Refusal>
-    requires { store.old.entries ≡ [] }
+    requires none { store.old.entries ≡ [] }
+    requires fifo { IsFifo store.old.settings.kind }
 {
     if store.arrivals() == MOST_COUNT {
         return Err(Refusal::CountLimit);
@@ -256,7 +268,7 @@ fn try_living(rt: &impl Abort, store: &Store, id: &Text) {
 fn remembers_sends(rt: HostRuntime) -> Result<(), Fail> {
     let id = text(rt.alloc(), 99)?;
     let copy = text(rt.alloc(), 99)?;
-    let mut store = Store::new(rt.alloc(), 7, settings());
+    let mut store = Store::new(rt.alloc(), 7, fifo_settings());
     assert_eq!(rt; store.living(0, None, &id), None);
     assert_eq!(rt; add_once(rt.alloc(), &mut store, copy), Ok(()));
     try_living(&rt, &store, &id);

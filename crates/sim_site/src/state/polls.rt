@@ -1,9 +1,11 @@
 //! Polls that wait: their ends, and the answers that they get.
-ghost use Rattle.std.specs.Prelude.{IfErr, IfOk, MatchOption, OnOk, drop, position, ◌-◌, ◌^◌, ◌≡◌, ◌≤◌};
+ghost use Rattle.std.specs.Prelude.{IfErr, IfOk, MatchOption, OnOk, drop, false, position, ◌-◌, ◌^◌, ◌≡◌, ◌≤◌};
 ghost use Rattle.sim_clock.specs.Firsts.{without};
 ghost use Rattle.sqs_model.specs.Answers.{most_count};
 ghost use Rattle.sqs_model.specs.Available.{all_hosts};
 ghost use Rattle.sqs_model.specs.Polls.{answer_polls, poll_answered, poll_given};
+ghost use Rattle.sqs_model.specs.Site.{no_effect};
+ghost use Rattle.sim_clock.specs.declared.key.Key.{Key};
 ghost use Rattle.sqs_model.specs.Valid.{IsQueueSettings, MayBeTimeout};
 ghost use Rattle.sqs_model.specs.Progress.{IsRecent};
 ghost use Rattle.sqs_model.specs.Places.{IsAbsent, Stands};
@@ -95,8 +97,8 @@ impl Core {
         self.told(key, poll.actor, Answer::Got(Batch::new(gots)), effects)
     }
 
-    /// Waiting polls are answered, oldest first, while there is something to give.
-    pub fn answer_polls(&mut self, key: Key, effects: &mut Effects) -> Result<(), Refusal>
+    // Waiting polls are answered, oldest first, while there is something to give.
+    fn answer_each(&mut self, key: Key, effects: &mut Effects) -> Result<(), Refusal>
         requires moment { key.at ≤ most_count }
         requires recent { IsRecent key.at self.old.queue }
         ensures did { OnOk result (Did effects.old effects.new self.new (answer_polls key self.old.polls self.old)) }
@@ -104,13 +106,34 @@ impl Core {
     {
         let polls = copied(self.alloc, &self.polls)?;
         for i in 0..polls.len() {
-            let gives = self.queue.can_give()?;
+            let gives = self.queue.can_give();
             if !gives {
                 return Ok(());
             }
             self.answer_poll(key, polls[i], effects)?;
         }
         Ok(())
+    }
+
+    // Whether a poll waits and there is something to give.
+    fn may_answer(&self) -> bool
+        ensures { result ≡ false → (key : Key) → answer_polls key self.now.polls self.now ≡ no_effect self.now }
+    {
+        !self.polls.is_empty() && self.queue.can_give()
+    }
+
+    /// Waiting polls are answered, oldest first, while there is something to give.
+    pub fn answer_polls(&mut self, key: Key, effects: &mut Effects) -> Result<(), Refusal>
+        requires moment { key.at ≤ most_count }
+        requires recent { IsRecent key.at self.old.queue }
+        ensures did { OnOk result (Did effects.old effects.new self.new (answer_polls key self.old.polls self.old)) }
+        ensures stops { IfErr result (Stops (answer_polls key self.old.polls self.old)) }
+    {
+        if self.may_answer() {
+            self.answer_each(key, effects)
+        } else {
+            Ok(())
+        }
     }
 
     /// A long poll ends with nothing, which its actor is told.

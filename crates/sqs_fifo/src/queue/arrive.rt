@@ -5,7 +5,7 @@ ghost use Rattle.sqs_model.specs.Arrive.{arrived, brought, forwarded_group, sett
 ghost use Rattle.sqs_model.specs.Progress.{IsRecent};
 ghost use Rattle.sqs_model.specs.Queue.{IsFramed};
 ghost use Rattle.sqs_store.specs.Calls.{never_refused};
-ghost use Rattle.sqs_fifo.specs.Fifo.{IsFifo};
+ghost use Rattle.sqs_model.specs.Valid.{IsFifo};
 
 use super::FifoQueue;
 use sim_clock::Refusal;

@@ -25,7 +25,7 @@ impl FifoQueue {
         ensures framed { IsFramed self.old self.new }
     {
         let wait = self.store.wait_of(timeout)?;
-        let (places, _) = self.first_places(max.min(self.store.room()))?;
-        self.store.give_at(now, wait, &places)
+        let most = max.min(self.store.room());
+        self.store.give_first(now, wait, 1, most)
     }
 }

@@ -24,15 +24,6 @@ impl FifoQueue {
         ensures kept { self.new.entries ≡ self.old.entries }
         ensures framed { IsFramed self.old self.new }
     {
-        let (places, more) = self.first_places(max)?;
-        let (loads, stuck) = self.store.take_at(&places, to)?;
-        let rest = if stuck {
-            Rest::NoSource
-        } else if more {
-            Rest::More
-        } else {
-            Rest::Empty
-        };
-        Ok((loads, rest))
+        Ok(self.store.take_movable(max, to)?)
     }
 }

@@ -35,7 +35,7 @@ impl StandardQueue {
         if short && room == 0 {
             return Err(Refusal::OverLimit);
         }
-        let places = self.first_places(u32::from(hosts), max.min(room))?;
-        self.store.give_at(now, wait, &places)
+        self.store
+            .give_first(now, wait, u32::from(hosts), max.min(room))
     }
 }

@@ -1,10 +1,9 @@
 //! The steps of move tasks.
-ghost use Rattle.std.specs.Prelude.{◌≡◌, ◌-◌, ◌<◌, IfOk, IsOkUnless, OnErr};
+ghost use Rattle.std.specs.Prelude.{◌≡◌, IfOk, IsOkUnless, OnErr};
 ghost use Rattle.sqs_model.specs.Queue.{IsFramed};
 ghost use Rattle.sqs_model.specs.Task.{take_movable};
 
-use super::{StandardQueue, host_count};
-use crate::hosts::any_seen;
+use super::StandardQueue;
 use sim_clock::Refusal;
 use sqs_redrive::{Load, Rest};
 
@@ -23,17 +22,6 @@ impl StandardQueue {
         ensures memory_only { IsOkUnless result Refusal.Memory }
         ensures framed { IsFramed self.old self.new }
     {
-        let count = host_count(&self.store.settings().kind);
-        let set = (1u32 << count) - 1;
-        let places = self.first_places(set, max)?;
-        let (loads, stuck) = self.store.take_at(&places, to)?;
-        let rest = if stuck {
-            Rest::NoSource
-        } else if any_seen(self.store.view(), count, set) {
-            Rest::More
-        } else {
-            Rest::Empty
-        };
-        Ok((loads, rest))
+        Ok(self.store.take_movable(max, to)?)
     }
 }

@@ -1,18 +1,16 @@
 //! The giving of messages to a receiver.
-ghost use Rattle.std.specs.Prelude.{◌≡◌, ◌-◌, false, true, ◌<◌, ◌≤◌, ◌⊎◌, All, Any, Err, IfErr, IfOk, IfSome, OnErr, OnOk, map};
+ghost use Rattle.std.specs.Prelude.{◌≡◌, ◌-◌, false, true, ◌<◌, ◌≤◌, ◌⊎◌, All, Any, Err, IfErr, IfOk, IfSome, OnErr, OnOk, map, take};
 ghost use Rattle.std.specs.Result.{result_map_both};
 ghost use Rattle.sqs_model.specs.Answers.{Meets, most_count};
-ghost use Rattle.sqs_model.specs.Available.{at_places};
+ghost use Rattle.sqs_model.specs.Available.{available};
 ghost use Rattle.sqs_model.specs.Longest.{longest_flight};
-ghost use Rattle.sqs_model.specs.Progress.{Differ};
 ghost use Rattle.sqs_model.specs.Queue.{IsFramed, numbered};
 ghost use Rattle.sqs_model.specs.Receive.{answered, give, is_bad_timeout, timeout_of};
-ghost use Rattle.sqs_store.specs.Chosen.{AreWithin};
 ghost use Rattle.sqs_store.specs.Giving.{CanBeGiven, gives, gives_all, told_of};
 
 use super::Store;
 use crate::batch::batch_of;
-use crate::places::{place_of_number, receive_at};
+use crate::places::received;
 use sim_clock::Refusal;
 use sqs_model::LONGEST_TIMEOUT;
 use sqs_redrive::{Got, Load};
@@ -25,7 +23,7 @@ impl Store {
         ensures bad { IfErr result (λ refusal. (is_bad_timeout timeout ≡ true) × (refusal ≡ Refusal.BadTimeout)) }
     {
         match timeout {
-            None => Ok(self.settings.visibility),
+            None => Ok(self.shelf.settings().visibility),
             Some(seconds) => {
                 if seconds > LONGEST_TIMEOUT {
                     Err(Refusal::BadTimeout)
@@ -36,36 +34,39 @@ impl Store {
         }
     }
 
-    /// Gives the messages at these places, one after another, each for so many milliseconds; with 0
-    /// it comes back at once (`ReceiveMessage`). `CountLimit` where one of them can be received no
-    /// more; `Memory`.
-    pub fn give_at(&mut self, now: u64, timeout: u64, places: &[usize]) -> Result<Vec<Got>, Refusal>
+    /// Gives the first messages, at most so many, of those that a receive may give which sees these
+    /// hosts, one after another, each for so many milliseconds; with 0 it comes back at once
+    /// (`ReceiveMessage`). `CountLimit` where one of them can be received no more; `Memory`.
+    pub fn give_first(
+        &mut self,
+        now: u64,
+        timeout: u64,
+        hosts: u32,
+        most: u64,
+    ) -> Result<Vec<Got>, Refusal>
         requires moment { now ≤ most_count }
         requires timeout { timeout ≤ longest_flight }
-        requires within { AreWithin self.old.records places.now }
-        requires apart { Differ (λ m. m.number) (at_places self.old.records places.now) }
-        ensures answer { Meets (Any (λ m. m.receives ≡ most_count) (at_places self.old.records places.now)) (result_map_both (λ batch. batch.items) (λ refusal. refusal) result) self.new (answered (give now timeout (at_places self.old.records places.now) self.old)) }
-        ensures counted { OnOk result (All (λ m. m.receives < most_count) (at_places self.old.records places.now)) }
+        ensures answer { Meets (Any (λ m. m.receives ≡ most_count) (take most (available self.old hosts))) (result_map_both (λ batch. batch.items) (λ refusal. refusal) result) self.new (answered (give now timeout (take most (available self.old hosts)) self.old)) }
+        ensures counted { OnOk result (All (λ m. m.receives < most_count) (take most (available self.old hosts))) }
         ensures unchanged { OnErr result (self.new ≡ self.old) }
         ensures kept { self.new.entries ≡ self.old.entries }
         ensures framed { IsFramed self.old self.new }
     {
-        let mut batch = self.batch(places)?;
+        let mut batch = self.batch(hosts, most)?;
         self.give_all(now, timeout, &mut batch);
         Ok(batch)
     }
 
-    // What a receive tells of the messages at these places, before it gives them.
-    fn batch(&self, places: &[usize]) -> Result<Vec<Got>, Refusal>
-        requires within { AreWithin self.now.records places.now }
-        requires apart { Differ (λ m. m.number) (at_places self.now.records places.now) }
-        ensures told { IfOk result (λ batch. batch.items ≡ map (told_of self.now.site) (at_places self.now.records places.now)) }
+    // What a receive tells of the first messages, before it gives them.
+    fn batch(&self, hosts: u32, most: u64) -> Result<Vec<Got>, Refusal>
+        ensures told { IfOk result (λ batch. batch.items ≡ map (told_of self.now.site) (take most (available self.now hosts))) }
         ensures given { IfOk result (λ batch. CanBeGiven self.now batch.items) }
-        ensures below { OnOk result (All (λ m. m.receives < most_count) (at_places self.now.records places.now)) }
-        ensures at_limit { result ≡ Err Refusal.CountLimit → Any (λ m. m.receives ≡ most_count) (at_places self.now.records places.now) }
+        ensures below { OnOk result (All (λ m. m.receives < most_count) (take most (available self.now hosts))) }
+        ensures at_limit { result ≡ Err Refusal.CountLimit → Any (λ m. m.receives ≡ most_count) (take most (available self.now hosts)) }
         ensures refused { IfErr result (λ refusal. (refusal ≡ Refusal.CountLimit) ⊎ (refusal ≡ Refusal.Memory)) }
     {
-        batch_of(self.alloc, self.site, &self.messages, places)
+        let numbers = self.shelf.first_numbers(hosts, most)?;
+        batch_of(self.alloc, &self.shelf, &numbers)
     }
 
     // Gives the messages of a batch, one after another.
@@ -92,16 +93,13 @@ impl Store {
         ensures kept { self.new.entries ≡ self.old.entries }
         ensures framed { IsFramed self.old self.new }
     {
-        match place_of_number(&self.messages, number) {
-            None => None,
-            Some(place) => {
-                receive_at(&mut self.messages, place, number, now, timeout);
-                if timeout == 0 {
-                    self.come_back(number)
-                } else {
-                    None
-                }
-            }
+        let message = self.shelf.find(number)?;
+        let state = received(message, now, timeout);
+        self.shelf.put(number, state);
+        if timeout == 0 {
+            self.come_back(number)
+        } else {
+            None
         }
     }
 }

@@ -46,7 +46,7 @@ loop-one-preserved c =
       rest = append_assoc l.yielded (one ∷ []) more ∙ order;
       place = omega (arith, i.place, length-append l.yielded (one ∷ []));
       parts = c.in_ok-push.ensures.items ∙ ap (λ z. z ++ one.part ∷ []) i.parts ∙ sym (map_push (λ (x : Came). x.part) l.yielded one);
-      rows = length-set rows k c.append.new.self ∙ i.rows;
+      rows = length-set rows k c.add_rows.new.rows ∙ i.rows;
       bounds = i.bounds;
       same = record { layout = i.same.layout; distances = i.same.distances };
       settled = i.settled;
@@ -67,18 +67,18 @@ loop-one-preserved c =
           let r : RunsOn s g k done =
           subst (RunsOn s g k) ran.run.reached (runs_on s g k bound within no_further ran.run.steps next.back.sites d st there next.back.came.sound next.back.came.none_later) in
           let many : k < length rows = omega (arith, within, many_rows s st.picks g st.stands, length-map rows (λ (v : Vec Row Global). v.items)) in
-          let added : c.append.new.self.items ≡ get_or g.rows k [] ++ one.ran.rows.items =
-          c.in_ok-append.ensures.items
+          let added : c.add_rows.new.rows.items ≡ get_or g.rows k [] ++ one.ran.rows.items =
+          c.in_ok-add_rows.ensures
           ∙ ap (λ (v : Vec Row Global). v.items ++ one.ran.rows.items) c.index_mut.ensures.value
           ∙ ap (λ z. z ++ one.ran.rows.items) (sym (get_or-map (λ (v : Vec Row Global). v.items) rows k c.index_mut.result.now [] many)) in
           let put : set g.parts k (Ok ran.sites) ≡ c.push.new.self.items ++ drop (k + 1) ps =
           ap (set g.parts k) (sym ran.lives) ∙ next_set xs ps k d at next.within one.part ∙ ap (λ z. z ++ drop (k + 1) ps) (sym c.in_ok-push.ensures.items) in
-          let kept : set g.rows k (get_or g.rows k [] ++ one.ran.rows.items) ≡ map (λ (v : Vec Row Global). v.items) (set rows k c.append.new.self) =
-          sym (map-set (λ (v : Vec Row Global). v.items) rows k c.append.new.self ∙ ap (set g.rows k) added) in
-          let same : ran_by g k done ≡ (record g { parts = c.push.new.self.items ++ drop (k + 1) ps; rows = map (λ (v : Vec Row Global). v.items) (set rows k c.append.new.self); waiting = c.append-in-loop-one.new.self.items }) =
+          let kept : set g.rows k (get_or g.rows k [] ++ one.ran.rows.items) ≡ map (λ (v : Vec Row Global). v.items) (set rows k c.add_rows.new.rows) =
+          sym (map-set (λ (v : Vec Row Global). v.items) rows k c.add_rows.new.rows ∙ ap (set g.rows k) added) in
+          let same : ran_by g k done ≡ (record g { parts = c.push.new.self.items ++ drop (k + 1) ps; rows = map (λ (v : Vec Row Global). v.items) (set rows k c.add_rows.new.rows); waiting = c.append.new.self.items }) =
           ap (λ (z : List (Result (List Site) Refusal)). let x : Standing = record g { parts = z; rows = set g.rows k (get_or g.rows k [] ++ one.ran.rows.items); waiting = g.waiting ++ one.ran.outbound.items } in x) put
           ∙ ap (λ (z : List (List Row)). let x : Standing = record g { parts = c.push.new.self.items ++ drop (k + 1) ps; rows = z; waiting = g.waiting ++ one.ran.outbound.items } in x) kept
-          ∙ ap (λ z. let x : Standing = record g { parts = c.push.new.self.items ++ drop (k + 1) ps; rows = map (λ (v : Vec Row Global). v.items) (set rows k c.append.new.self); waiting = z } in x) (sym c.in_ok-append-2.ensures.items) in
+          ∙ ap (λ z. let x : Standing = record g { parts = c.push.new.self.items ++ drop (k + 1) ps; rows = map (λ (v : Vec Row Global). v.items) (set rows k c.add_rows.new.rows); waiting = z } in x) (sym c.in_ok-append.ensures.items) in
           subst (StandsOn s) same r.on;
     }
 

@@ -1,11 +1,12 @@
 use Rattle.std.proofs.Common.{List, Some, sym, subst, ◌≡◌, ◌≤◌, ◌∙◌}
-use Rattle.std.specs.Prelude.{IfErr, IfOk}
+use Rattle.std.specs.Prelude.{IfErr, OnOk}
 use Rattle.sim_clock.specs.declared.key.Key.{Key}
 use Rattle.sqs_model.specs.Answers.{most_count}
 use Rattle.sqs_model.specs.Run.{handled_among}
 use Rattle.sqs_model.specs.Site.{Site}
 use Rattle.sim_partition.specs.Sites.{living}
-use Rattle.sim_partition.specs.Steps.{StopsStep}
+use Rattle.sim_machine.specs.Rounds.{part_on}
+use Rattle.sim_partition.specs.Steps.{StopsStep, part_made}
 use Rattle.sim_partition.proofs.Living.{none_some}
 use Rattle.sim_partition.proofs.Marked.{marked_least, stands_least, told_least}
 use Rattle.sim_partition.proofs.handling.handle_least.Goals as goal
@@ -34,9 +35,7 @@ pub returns-clause-handled : goal.returns-clause-handled
 returns-clause-handled c key due =
     let same : c.in-Some-least.key ≡ key = one_key _ _ (sym (told_least c.args.sites.now.items c.args.dues.now c.least.result c.in-Some-least.key c.requires.kept.marked c.least.ensures c.in-Some-least.is) ∙ due) in
     let w : List Site = living c.args.sites.now.items in
-    subst
-    (λ (k : Key). IfOk c.handle_at.result (λ made. (living c.handle_at.new.sites.items ≡ (handled_among k w).sites) × (made.rows.items ≡ (handled_among k w).rows) × (made.outbound.items ≡ (handled_among k w).sent)))
-    same c.handle_at.ensures.handled
+    subst (λ (k : Key). OnOk c.handle_at.result (part_made (living c.handle_at.new.sites.items) c.handle_at.new.effects ≡ part_on (part_made w c.args.effects.now) (handled_among k w))) same c.handle_at.ensures.handled
 
 pub returns-clause-stops : goal.returns-clause-stops
 returns-clause-stops c key due =

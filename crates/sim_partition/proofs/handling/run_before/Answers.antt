@@ -5,7 +5,7 @@ use Rattle.sim_machine.specs.Rounds.{PartRun}
 use Rattle.sqs_model.specs.Dues.{world_due}
 use Rattle.sqs_model.specs.Site.{Site}
 use Rattle.sim_partition.specs.Sites.{IsFrom, living}
-use Rattle.sim_partition.specs.Steps.{part_run}
+use Rattle.sim_partition.specs.Steps.{part_made}
 use Rattle.sim_partition.proofs.Marked.{none_least, told_least}
 use Rattle.sim_partition.proofs.Runs.{continues_on, none_due, sooner, stops_later}
 use Rattle.sim_partition.proofs.handling.run_before.Goals as goal
@@ -29,9 +29,9 @@ loop-key-smaller c =
 pub loop-key-preserved : goal.loop-key-preserved
 loop-key-preserved c =
     let i = c.loop-key.invariant in
-    let r : PartRun = part_run (living c.loop-key.sites.items) c.loop-key.ran in
-    let x : PartRun = part_run (living c.run_moment.new.sites.items) c.run_moment.new.ran in
-    let start : PartRun = part_run (living c.args.sites.now.items) c.args.ran.now in
+    let r : PartRun = part_made (living c.loop-key.sites.items) c.loop-key.effects in
+    let x : PartRun = part_made (living c.run_moment.new.sites.items) c.run_moment.new.effects in
+    let start : PartRun = part_made (living c.args.sites.now.items) c.args.effects.now in
     record {
       kept = c.in_ok-run_moment.ensures.kept;
       goes_on = continues_on c.args.end start r x i.goes_on (c.in_ok-run_moment.ensures.goes_on c.args.end (omega (arith, c.if-key-end.false)));
@@ -41,8 +41,8 @@ loop-key-preserved c =
 
 pub returns-in_err-run_moment-clause-stops : goal.returns-in_err-run_moment-clause-stops
 returns-in_err-run_moment-clause-stops c =
-    let r : PartRun = part_run (living c.loop-key.sites.items) c.loop-key.ran in
-    let start : PartRun = part_run (living c.args.sites.now.items) c.args.ran.now in
+    let r : PartRun = part_made (living c.loop-key.sites.items) c.loop-key.effects in
+    let start : PartRun = part_made (living c.args.sites.now.items) c.args.effects.now in
     let e = c.in_err-run_moment.field-0.0 in
     let told = err_from_is_err_and c.from_residual.result c.from_residual.ensures.1 in
     rw (told.1, told.2) (stops_later c.args.end start r e c.loop-key.invariant.goes_on (c.in_err-run_moment.ensures.stops c.args.end (omega (arith, c.if-key-end.false))))

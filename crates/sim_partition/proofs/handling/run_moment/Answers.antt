@@ -5,10 +5,10 @@ use Rattle.sqs_model.specs.Dues.{world_due}
 use Rattle.sqs_model.specs.Run.{handled_among}
 use Rattle.sqs_model.specs.Site.{Site}
 use Rattle.sim_partition.specs.Sites.{AreOfPast, IsFrom, IsLater, living}
-use Rattle.sim_partition.specs.Steps.{part_run}
+use Rattle.sim_partition.specs.Steps.{part_made}
 use Rattle.sim_partition.proofs.Marked.{none_least, told_least}
 use Rattle.sim_partition.proofs.Moments.{from_after, smaller}
-use Rattle.sim_partition.proofs.Runs.{goes_on, stays_handled, stops_on}
+use Rattle.sim_partition.proofs.Runs.{goes_on, stays_handled, stops_after, stops_on}
 use Rattle.sim_partition.proofs.handling.run_moment.Goals as goal
 
 pub returns-then-key-moment-clause-done : goal.returns-then-key-moment-clause-done
@@ -16,8 +16,8 @@ returns-then-key-moment-clause-done c =
     let due = told_least c.loop-key.sites.items c.loop-key.dues c.least.result c.in-Some.key c.loop-key.invariant.kept.marked c.least.ensures c.in-Some.is in
     subst (IsLater c.args.moment) (sym due) (omega (arith, c.if-key-moment.true))
 
-pub handle_into-requires-clause-due : goal.handle_into-requires-clause-due
-handle_into-requires-clause-due c =
+pub handle_least-requires-clause-due : goal.handle_least-requires-clause-due
+handle_least-requires-clause-due c =
     record {
       key = c.in-Some.key;
       due = told_least c.loop-key.sites.items c.loop-key.dues c.least.result c.in-Some.key c.loop-key.invariant.kept.marked c.least.ensures c.in-Some.is;
@@ -30,42 +30,42 @@ loop-key-smaller c =
     let w : List Site = living c.loop-key.sites.items in
     let due : world_due w ≡ Some key = told_least c.loop-key.sites.items c.loop-key.dues c.least.result c.in-Some.key c.loop-key.invariant.kept.marked c.least.ensures c.in-Some.is in
     let from : c.args.moment ≤ key.at = subst (IsFrom c.args.moment) due c.loop-key.invariant.from in
-    let made = c.in_ok-handle_into.ensures.handled key due in
-    smaller key c.args.moment w (living c.handle_into.new.sites.items) from (omega (arith, c.if-key-moment.false)) c.loop-key.invariant.kept.part.sound due (ap (λ (r : PartRun). r.sites) made)
+    let made = c.in_ok-handle_least.ensures.handled key due in
+    smaller key c.args.moment w (living c.handle_least.new.sites.items) from (omega (arith, c.if-key-moment.false)) c.loop-key.invariant.kept.part.sound due (ap (λ (r : PartRun). r.sites) made)
 
 pub loop-key-preserved : goal.loop-key-preserved
 loop-key-preserved c =
     let key = c.in-Some.key in
     let w : List Site = living c.loop-key.sites.items in
-    let v : List Site = living c.handle_into.new.sites.items in
-    let r : PartRun = part_run w c.loop-key.ran in
-    let x : PartRun = part_run v c.handle_into.new.ran in
-    let start : PartRun = part_run (living c.args.sites.now.items) c.args.ran.now in
+    let v : List Site = living c.handle_least.new.sites.items in
+    let r : PartRun = part_made w c.loop-key.effects in
+    let x : PartRun = part_made v c.handle_least.new.effects in
+    let start : PartRun = part_made (living c.args.sites.now.items) c.args.effects.now in
     let i = c.loop-key.invariant in
     let due : world_due w ≡ Some key = told_least c.loop-key.sites.items c.loop-key.dues c.least.result c.in-Some.key c.loop-key.invariant.kept.marked c.least.ensures c.in-Some.is in
     let from : c.args.moment ≤ key.at = subst (IsFrom c.args.moment) due i.from in
-    let made : x ≡ part_on r (handled_among key w) = c.in_ok-handle_into.ensures.handled key due in
+    let made : x ≡ part_on r (handled_among key w) = c.in_ok-handle_least.ensures.handled key due in
     let sites : v ≡ (handled_among key w).sites = ap (λ (y : PartRun). y.sites) made in
     record {
-      kept = c.in_ok-handle_into.ensures.kept;
+      kept = c.in_ok-handle_least.ensures.kept;
       from = from_after key c.args.moment w v from i.kept.part.sound due sites;
       goes_on = λ bound l. goes_on bound key start r x (i.goes_on bound l) due (omega (arith, l, c.if-key-moment.false)) made;
       past = λ at l p. stays_handled key c.args.moment w v (omega (arith, c.if-key-moment.false)) (subst (AreOfPast w) due i.kept.part.past) sites at l (i.past at l p);
-      timely = λ t. c.in_ok-handle_into.ensures.timely (i.timely t);
+      timely = λ t. c.in_ok-handle_least.ensures.timely (i.timely t);
     }
 
-pub returns-in_err-handle_into-clause-stops : goal.returns-in_err-handle_into-clause-stops
-returns-in_err-handle_into-clause-stops c =
+pub returns-in_err-handle_least-clause-stops : goal.returns-in_err-handle_least-clause-stops
+returns-in_err-handle_least-clause-stops c =
     let key = c.in-Some.key in
     let w : List Site = living c.loop-key.sites.items in
-    let r : PartRun = part_run w c.loop-key.ran in
-    let start : PartRun = part_run (living c.args.sites.now.items) c.args.ran.now in
+    let r : PartRun = part_made w c.loop-key.effects in
+    let start : PartRun = part_made (living c.args.sites.now.items) c.args.effects.now in
     let due : world_due w ≡ Some key = told_least c.loop-key.sites.items c.loop-key.dues c.least.result c.in-Some.key c.loop-key.invariant.kept.marked c.least.ensures c.in-Some.is in
     let x : PartRun = part_on r (handled_among key w) in
-    let e = c.in_err-handle_into.field-0.0 in
+    let e = c.in_err-handle_least.field-0.0 in
     let told = err_from_is_err_and c.from_residual.result c.from_residual.ensures.1 in
     rw (told.1, told.2)
-    (λ bound l. stops_on bound start x e (goes_on bound key start r x (c.loop-key.invariant.goes_on bound l) due (omega (arith, l, c.if-key-moment.false)) refl) (c.in_err-handle_into.ensures.stops key due))
+    (λ bound l. stops_on bound start x e (goes_on bound key start r x (c.loop-key.invariant.goes_on bound l) due (omega (arith, l, c.if-key-moment.false)) refl) (stops_after r (handled_among key w) e (c.in_err-handle_least.ensures.stops key due)))
 
 pub returns-clause-done : goal.returns-clause-done
 returns-clause-done c =

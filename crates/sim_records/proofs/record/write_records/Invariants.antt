@@ -7,7 +7,7 @@ abbrev pub invariant-loop-rest : goal.invariant-loop-rest
 invariant-loop-rest g l = record {
   whole : g.W.Out.failed l.out ≡ false;
   front : (written : List ℕ) × Appends (g.W.Out.held l.initial.out) (g.W.Out.held l.out) written
-      × (written ++ lines (map (g.T.Record.fields l.names) l.rest) ≡ lines (map (g.T.Record.fields l.names) l.records));
+      × (written ++ lines (map (g.T.Record.columns l.names) l.rest) ≡ lines (map (g.T.Record.columns l.names) l.records));
 }
 
 abbrev pub decreases-loop-rest : goal.decreases-loop-rest

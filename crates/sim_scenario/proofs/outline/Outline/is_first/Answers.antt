@@ -6,13 +6,13 @@ use Rattle.sim_scenario.proofs.outline.Outline.is_first.Goals as goal
 pub returns-in-None : goal.returns-in-None
 returns-in-None c =
     let o = c.self.inside in
-    let names_are : all_names c.args.self.now ≡ o.names.items = rw (← c.self.view_is) (three_parts o.queue_count o.actor_count o.names.items) in
-    let found : place_among o.names.items c.args.name.now ≡ None = sym (rw c.as_slice.ensures.value at c.place_among.ensures) ∙ c.in-None.is in
+    let names_are : all_names c.args.self.now ≡ o.names = rw (← c.self.view_is) (three_parts o.queue_count o.actor_count o.names) in
+    let found : place_among o.names c.args.name.now ≡ None = sym c.place.ensures ∙ c.in-None.is in
     rw (names_are, found) refl
 
 pub returns-in-Some : goal.returns-in-Some
 returns-in-Some c =
     let o = c.self.inside in
-    let names_are : all_names c.args.self.now ≡ o.names.items = rw (← c.self.view_is) (three_parts o.queue_count o.actor_count o.names.items) in
-    let found : place_among o.names.items c.args.name.now ≡ Some c.in-Some.n = sym (rw c.as_slice.ensures.value at c.place_among.ensures) ∙ c.in-Some.is in
+    let names_are : all_names c.args.self.now ≡ o.names = rw (← c.self.view_is) (three_parts o.queue_count o.actor_count o.names) in
+    let found : place_among o.names c.args.name.now ≡ Some c.in-Some.n = sym c.place.ensures ∙ c.in-Some.is in
     rw (names_are, found) refl

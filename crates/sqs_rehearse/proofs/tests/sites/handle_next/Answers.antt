@@ -6,7 +6,7 @@ use Rattle.sqs_model.proofs.Kept.{handled_recent}
 use Rattle.sqs_model.specs.Progress.{IsRecent}
 use Rattle.sqs_model.specs.Site.{Site}
 use Rattle.sqs_model.specs.Step.{handled}
-use Rattle.sim_site.specs.declared.site.Handled.{Handled as Made}
+use Rattle.sim_site.specs.declared.effects.Handled.{Handled as Made}
 use Rattle.sim_site.proofs.Timely.{handles_timely}
 use Rattle.sqs_model.specs.Progress.{AreTimely}
 use Rattle.sqs_rehearse.proofs.tests.sites.handle_next.Goals as goal

@@ -1,0 +1,11 @@
+pub mod Grouped
+pub mod Fronts
+pub mod Places
+pub mod Settled
+pub mod Calls
+pub mod Dues
+pub mod Tables
+pub mod Joined
+pub mod Leaders
+pub mod Leading
+pub mod Skipped

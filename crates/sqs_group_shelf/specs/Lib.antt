@@ -1,0 +1,3 @@
+pub mod Keys
+pub mod Groups
+pub mod GroupShelves

@@ -1,0 +1,17 @@
+//! A FIFO queue's messages on a shelf, with a table of their groups: found by number and by what is
+//! due, and chosen group by group, without going over them.
+#![tactic(auto)]
+
+mod arrival;
+mod choose;
+mod front;
+mod group_shelf;
+mod key;
+mod mark;
+mod room;
+mod table;
+#[cfg(test)]
+mod tests;
+
+pub use choose::Choice;
+pub use group_shelf::GroupShelf;

@@ -1,0 +1,12 @@
+pub mod Firsts
+pub mod Shelves
+pub mod Marked
+pub mod Pushed
+pub mod Heads
+pub mod Leads
+pub mod Wanted
+pub mod Walked
+pub mod Apart
+pub mod Led
+pub mod Listed
+pub mod Counting
