@@ -4,6 +4,7 @@ ghost use Rattle.std.specs.Fmt.{decimal};
 ghost use Rattle.sqs_model.specs.Actor.{filled as the_filled};
 ghost use Rattle.sqs_model.specs.Marks.{has_mark};
 
+use itoa::Buffer;
 use sqs_model::has_mark;
 use std::alloc::{AllocError, Global};
 
@@ -11,8 +12,9 @@ use std::alloc::{AllocError, Global};
 pub fn filled(alloc: Global, n: u64, body: &[u8]) -> Result<Vec<u8>, AllocError>
     ensures { IfOk result (λ v. v.items ≡ the_filled (decimal n) body.now) }
 {
-    let digits = n.to_string(alloc)?;
-    let mut out = Vec::new(alloc);
+    let mut buffer = Buffer::new();
+    let digits = buffer.format(n);
+    let mut out = Vec::with_capacity(alloc, body.len().saturating_add(digits.len()))?;
     let mut rest = body;
     while !rest.is_empty() {
         if has_mark(rest) {

@@ -1,14 +1,43 @@
 -- What a clause reads of lines that are being made.
-use Rattle.std.specs.Prelude.{◌≡◌, ℕ, ◌++◌, List, [], false, Option, Some, None}
-use Rattle.csv.specs.Writing.{default_writer, fields_written, has_written, writer_pending, writer_setup, writer_under}
+use Rattle.std.specs.Prelude.{◌≡◌, ℕ, ◌+◌, ◌-◌, ◌^◌, ◌++◌, List, [], ◌∷◌, false, true, Option, Some, None, min}
+use Rattle.csv.specs.Writing.{default_writer, field_text, fields_written, has_written, next_sep, writer_pending, writer_setup, writer_under}
 use Rattle.csv.specs.declared.writer.Writer.{Writer}
+use Rattle.csv.specs.declared.writer.WriterBuilder.{WriterBuilder}
+
+-- lines so far: their text, with what is there of a line that has not ended, and how many fields that line has
+pub record Begun : Type 0 where
+  pub text : List ℕ
+  pub fields : ℕ
+
+-- the same with one more field, quoted where it has to be
+abbrev pub with_field : Begun → List ℕ → Begun
+with_field b f = record { text = b.text ++ (next_sep default_writer b.fields ++ field_text default_writer f); fields = min (b.fields + 1) (2 ^ 64 - 1) }
+
+-- the same with more fields
+abbrev pub with_fields : Begun → List (List ℕ) → Begun
+with_fields b [] = b
+with_fields b (f ∷ fs) = with_fields (with_field b f) fs
+
+-- a writer with the defaults whose records may differ in length
+abbrev pub any_length : WriterBuilder
+any_length = record default_writer { flexible = true }
 
 -- the bytes of a CSV writer: those that it has handed on, and those that it still keeps
 abbrev pub made : {W : Type 0} → (W → List ℕ) → Option (Writer W) → List ℕ
 made handed_on None = []
 made handed_on (Some w) = handed_on (writer_under w) ++ writer_pending w
 
+-- the same, with how many fields the line has that has not ended
+abbrev pub begun : {W : Type 0} → (W → List ℕ) → Option (Writer W) → Begun
+begun handed_on None = record { text = []; fields = 0 }
+begun handed_on (Some w) = record { text = handed_on (writer_under w) ++ writer_pending w; fields = fields_written w }
+
+-- a CSV writer of lines
+abbrev pub IsOfLines : {W : Type 0} → Option (Writer W) → Type 0
+IsOfLines None = Unit {0}
+IsOfLines (Some w) = writer_setup w ≡ any_length
+
 -- a CSV writer that has ended each record that it began
 abbrev pub IsBetweenRecords : {W : Type 0} → Option (Writer W) → Type 0
 IsBetweenRecords None = Unit {0}
-IsBetweenRecords (Some w) = (writer_setup w ≡ default_writer) × (fields_written w ≡ 0) × (has_written w ≡ false)
+IsBetweenRecords (Some w) = (writer_setup w ≡ any_length) × (fields_written w ≡ 0) × (has_written w ≡ false)

@@ -1,5 +1,6 @@
 //! The columns of a row of the log.
 ghost use Rattle.std.specs.Prelude.{◌≡◌, ◌++◌, ◌∷◌, [], OnOk};
+ghost use Rattle.sim_records.specs.Lines.{with_field};
 ghost use Rattle.sqs_formats.specs.Rows.{answer_text, detail_text, kind_text, row_receipt, text_if};
 ghost use Rattle.sqs_message.specs.Ids.{id_text};
 
@@ -55,7 +56,7 @@ pub(crate) fn answer_name(answer: RowAnswer) -> &'static str
 
 // The message column: its id, where there is one.
 pub(crate) fn add_message(fields: &mut Fields, message: Option<MessageId>) -> Result<(), AllocError>
-    ensures { OnOk result (fields.new ≡ fields.old ++ text_if id_text message ∷ []) }
+    ensures { OnOk result (fields.new ≡ with_field fields.old (text_if id_text message)) }
 {
     match message {
         Some(id) => fields.id(id),
@@ -65,7 +66,7 @@ pub(crate) fn add_message(fields: &mut Fields, message: Option<MessageId>) -> Re
 
 // The receipt column: the receipt that was made, or the text that was given.
 pub(crate) fn add_receipt(fields: &mut Fields, receipt: &RowReceipt) -> Result<(), AllocError>
-    ensures { OnOk result (fields.new ≡ fields.old ++ row_receipt receipt.now ∷ []) }
+    ensures { OnOk result (fields.new ≡ with_field fields.old (row_receipt receipt.now)) }
 {
     match receipt {
         RowReceipt::Absent => fields.bytes(b""),
@@ -80,7 +81,7 @@ pub(crate) fn add_detail(
     detail: Detail,
     names: &Names,
 ) -> Result<(), AllocError>
-    ensures { OnOk result (fields.new ≡ fields.old ++ detail_text names.now detail ∷ []) }
+    ensures { OnOk result (fields.new ≡ with_field fields.old (detail_text names.now detail)) }
 {
     match detail {
         Detail::Absent => fields.bytes(b""),

@@ -1,11 +1,13 @@
-//! The fields of a record that is being made.
-ghost use Rattle.std.specs.Prelude.{◌≡◌, ◌++◌, ◌∷◌, [], OnOk, codes};
+//! Lines that are made field by field.
+ghost use Rattle.std.specs.Prelude.{◌≡◌, ◌≤◌, ◌++◌, ◌∷◌, [], IfOk, OnOk, codes};
 ghost use Rattle.std.specs.Fmt.{decimal};
-ghost use Rattle.csv.specs.Records.{fields_of, partial_of};
+ghost use Rattle.csv.specs.Machine.{line_feed};
 ghost use Rattle.hex.specs.Hex.{encode_lower};
+ghost use Rattle.sim_records.specs.Lines.{IsOfLines, begun, with_field};
 ghost use Rattle.sqs_message.specs.Ids.{id_text, origin_text, receipt_text};
 
-use csv::ByteRecord;
+use crate::line::{lines_writer, text_of};
+use csv::Writer;
 use itoa::Buffer;
 use sqs_message::{MessageId, Origin, Receipt};
 use std::alloc::{AllocError, Global};
@@ -14,26 +16,25 @@ use std::marker::Model;
 // How long the text of a digest is: two digits a byte.
 const DIGEST_TEXT: usize = 32;
 
-/// The fields of a record, one after another, in memory that is used again from one record to the
-/// next. Contracts see it as the list of them.
+/// Lines of CSV that are made field by field, in one writer. Contracts see their text so far, and
+/// how many fields the line has that has not ended.
 ///
-/// After a growth that was refused it has no field.
+/// After a growth that was refused it holds nothing and takes nothing.
 #[derive(Drop)]
 pub(crate) struct Fields {
-    line: ByteRecord,
+    writer: Option<Writer<Vec<u8>>>,
     // Where a field is put together.
     text: Vec<u8>,
 }
 
 impl Model for Fields {
-    ghost use Rattle.std.specs.Prelude.{◌≡◌, [], List, ℕ};
-    ghost use Rattle.csv.specs.Records.{fields_of, partial_of};
+    ghost use Rattle.sim_records.specs.Lines.{Begun, IsOfLines, begun};
 
-    ghost Value = { List (List ℕ) };
+    ghost Value = { Begun };
 
-    ghost view = { λ f. fields_of f.line };
+    ghost view = { λ f. begun (λ v. v.items) f.writer };
 
-    ghost invariant = { λ f. partial_of f.line ≡ [] };
+    ghost invariant = { λ f. IsOfLines f.writer };
 }
 
 // Adds a number in decimal to a text.
@@ -61,105 +62,115 @@ fn go_on(text: &mut Vec<u8>, mark: &[u8], number: u64) -> Result<(), AllocError>
     put_number(text, number)
 }
 
-// One more field; none where a growth is refused.
-fn push(line: &mut ByteRecord, field: &[u8]) -> Result<(), AllocError>
-    requires { partial_of line.old ≡ [] }
-    ensures fields { OnOk result (fields_of line.new ≡ fields_of line.old ++ field.now ∷ []) }
-    ensures partial { partial_of line.new ≡ [] }
+// One more field; none, and none later, where a growth is refused.
+#[tactic(auto, using(crate::proofs::Begun::field_same))]
+fn push(writer: &mut Option<Writer<Vec<u8>>>, field: &[u8]) -> Result<(), AllocError>
+    requires { IsOfLines writer.old }
+    ensures field { OnOk result (begun (λ v. v.items) writer.new ≡ with_field (begun (λ v. v.items) writer.old) field.now) }
+    ensures lines { IsOfLines writer.new }
 {
-    if line.push_field(field).is_err() {
-        line.clear();
-        return Err(AllocError);
+    if let Some(lines) = writer
+        && lines.write_field(field).is_ok()
+    {
+        return Ok(());
     }
-    Ok(())
+    *writer = None;
+    Err(AllocError)
 }
 
 impl Fields {
-    /// No field.
+    /// No line.
     pub(crate) fn new(alloc: Global) -> Fields
-        ensures { result ≡ [] }
+        ensures { result ≡ record { text = []; fields = 0 } }
     {
         Fields {
-            line: ByteRecord::new(alloc),
+            writer: Some(lines_writer(alloc)),
             text: Vec::new(alloc),
         }
     }
 
-    /// Takes all fields away.
-    pub(crate) fn clear(&mut self)
-        ensures { self.new ≡ [] }
+    /// Ends a line of two fields or more.
+    pub(crate) fn end_line(&mut self) -> Result<(), AllocError>
+        requires { 2 ≤ self.old.fields }
+        ensures { OnOk result (self.new ≡ record { text = self.old.text ++ line_feed ∷ []; fields = 0 }) }
     {
-        self.line.clear();
+        if let Some(writer) = &mut self.writer
+            && writer.end_record().is_ok()
+        {
+            return Ok(());
+        }
+        self.writer = None;
+        Err(AllocError)
     }
 
-    /// The fields as a record of CSV.
-    pub(crate) fn as_record(&self) -> &ByteRecord
-        ensures { fields_of result.now ≡ self.now }
+    /// The bytes of the lines.
+    pub(crate) fn into_bytes(self) -> Result<Vec<u8>, AllocError>
+        ensures { IfOk result (λ v. v.items ≡ self.text) }
     {
-        &self.line
+        text_of(self.writer)
     }
 
     /// A field of these bytes.
     pub(crate) fn bytes(&mut self, bytes: &[u8]) -> Result<(), AllocError>
-        ensures { OnOk result (self.new ≡ self.old ++ bytes.now ∷ []) }
+        ensures { OnOk result (self.new ≡ with_field self.old bytes.now) }
     {
-        push(&mut self.line, bytes)
+        push(&mut self.writer, bytes)
     }
 
     /// A number in decimal.
     pub(crate) fn number(&mut self, number: u64) -> Result<(), AllocError>
-        ensures { OnOk result (self.new ≡ self.old ++ decimal number ∷ []) }
+        ensures { OnOk result (self.new ≡ with_field self.old (decimal number)) }
     {
         let mut buffer = Buffer::new();
-        push(&mut self.line, buffer.format(number).as_bytes())
+        push(&mut self.writer, buffer.format(number).as_bytes())
     }
 
     /// The id of a message, as `m-0-12`.
     pub(crate) fn id(&mut self, id: MessageId) -> Result<(), AllocError>
-        ensures { OnOk result (self.new ≡ self.old ++ id_text id ∷ []) }
+        ensures { OnOk result (self.new ≡ with_field self.old (id_text id)) }
     {
         begin(&mut self.text, b"m-", u64::from(id.site))?;
         go_on(&mut self.text, b"-", id.number)?;
-        push(&mut self.line, &self.text)
+        push(&mut self.writer, &self.text)
     }
 
     /// The origin of a message, as `o-0-12`.
     pub(crate) fn origin(&mut self, origin: Origin) -> Result<(), AllocError>
-        ensures { OnOk result (self.new ≡ self.old ++ origin_text origin ∷ []) }
+        ensures { OnOk result (self.new ≡ with_field self.old (origin_text origin)) }
     {
         begin(&mut self.text, b"o-", u64::from(origin.site))?;
         go_on(&mut self.text, b"-", origin.number)?;
-        push(&mut self.line, &self.text)
+        push(&mut self.writer, &self.text)
     }
 
     /// A receipt handle, as `r-0-12-1`.
     pub(crate) fn receipt(&mut self, receipt: &Receipt) -> Result<(), AllocError>
-        ensures { OnOk result (self.new ≡ self.old ++ receipt_text receipt.now ∷ []) }
+        ensures { OnOk result (self.new ≡ with_field self.old (receipt_text receipt.now)) }
     {
         begin(&mut self.text, b"r-", u64::from(receipt.site))?;
         go_on(&mut self.text, b"-", receipt.number)?;
         go_on(&mut self.text, b"-", receipt.count)?;
-        push(&mut self.line, &self.text)
+        push(&mut self.writer, &self.text)
     }
 
     /// An MD5 digest, in lower-case hex.
     pub(crate) fn digest(&mut self, md5: &[u8; 16]) -> Result<(), AllocError>
-        ensures { OnOk result (self.new ≡ self.old ++ encode_lower md5.now ∷ []) }
+        ensures { OnOk result (self.new ≡ with_field self.old (encode_lower md5.now)) }
     {
         let mut text = [0; DIGEST_TEXT];
         match hex::encode_to_slice(md5, &mut text) {
-            Ok(()) => push(&mut self.line, &text),
+            Ok(()) => push(&mut self.writer, &text),
             Err(_) => unreachable!(),
         }
     }
 
     /// Three numbers in decimal with slashes between them, as `2/1/0`.
     pub(crate) fn counts(&mut self, first: u64, second: u64, third: u64) -> Result<(), AllocError>
-        ensures { OnOk result (self.new ≡ self.old ++ (decimal first ++ (codes "/" ++ (decimal second ++ (codes "/" ++ decimal third)))) ∷ []) }
+        ensures { OnOk result (self.new ≡ with_field self.old ((decimal first ++ (codes "/" ++ (decimal second ++ (codes "/" ++ decimal third)))))) }
     {
         begin(&mut self.text, b"", first)?;
         go_on(&mut self.text, b"/", second)?;
         go_on(&mut self.text, b"/", third)?;
-        push(&mut self.line, &self.text)
+        push(&mut self.writer, &self.text)
     }
 }

@@ -2,6 +2,7 @@
 ghost use Rattle.std.specs.Prelude.{◌≡◌, ◌∷◌, ◌++◌, [], false, OnOk, map};
 ghost use Rattle.std.specs.Fmt.{decimal};
 ghost use Rattle.sqs_message.specs.Ids.{origin_text};
+ghost use Rattle.sim_records.specs.Lines.{with_field};
 ghost use Rattle.sqs_formats.specs.Rows.{line, lines, text_if};
 ghost use Rattle.sqs_formats.specs.Finals.{finals_text, message_fields, message_header, place_text, status_text, task_fields, task_header, transfer_fields, transfer_header, transfer_kind_text};
 ghost use Rattle.sim_records.specs.Writes.{Wrote, WroteSeveral};
@@ -54,7 +55,7 @@ fn status_name(status: TaskStatus) -> &'static str
 
 // A number in decimal, where there is one.
 fn add_number(fields: &mut Fields, number: Option<u64>) -> Result<(), AllocError>
-    ensures { OnOk result (fields.new ≡ fields.old ++ text_if decimal number ∷ []) }
+    ensures { OnOk result (fields.new ≡ with_field fields.old (text_if decimal number)) }
 {
     match number {
         Some(number) => fields.number(number),
@@ -64,7 +65,7 @@ fn add_number(fields: &mut Fields, number: Option<u64>) -> Result<(), AllocError
 
 // The text of an origin, where there is one.
 fn add_origin(fields: &mut Fields, origin: Option<Origin>) -> Result<(), AllocError>
-    ensures { OnOk result (fields.new ≡ fields.old ++ text_if origin_text origin ∷ []) }
+    ensures { OnOk result (fields.new ≡ with_field fields.old (text_if origin_text origin)) }
 {
     match origin {
         Some(origin) => fields.origin(origin),
@@ -74,7 +75,7 @@ fn add_origin(fields: &mut Fields, origin: Option<Origin>) -> Result<(), AllocEr
 
 // A group, where there is one.
 fn add_group(fields: &mut Fields, group: &Option<Text>) -> Result<(), AllocError>
-    ensures { OnOk result (fields.new ≡ fields.old ++ text_if (λ g. g) group.now ∷ []) }
+    ensures { OnOk result (fields.new ≡ with_field fields.old (text_if (λ g. g) group.now)) }
 {
     match group {
         Some(group) => fields.bytes(group.as_bytes()),

@@ -1,14 +1,37 @@
 //! Records as lines of CSV.
-ghost use Rattle.std.specs.Prelude.{◌≡◌, ◌++◌, [], false, IfOk, OnOk, map};
+ghost use Rattle.std.specs.Prelude.{◌≡◌, ◌++◌, [], false, IfOk, OnOk, Some, map};
 ghost use Rattle.sqs_formats.specs.Rows.{line};
+ghost use Rattle.sim_records.specs.Lines.{IsBetweenRecords, made};
 ghost use Rattle.sim_records.specs.Writes.{Wrote};
 
-use crate::fields::Fields;
 use crate::sink::{Out, write_all};
 use csv::{Writer, WriterBuilder};
 use sim_clock::Refusal;
 use std::alloc::{AllocError, Global};
 use std::marker::Model;
+
+// A writer of lines, which may differ in how many fields they have.
+pub(crate) fn lines_writer(alloc: Global) -> Writer<Vec<u8>>
+    ensures lines { IsBetweenRecords (Some result) }
+    ensures empty { made (λ v. v.items) (Some result) ≡ [] }
+{
+    WriterBuilder::new()
+        .flexible(true)
+        .from_writer(Vec::new(alloc))
+}
+
+// The bytes that a writer was given, if it was not given up.
+pub(crate) fn text_of(writer: Option<Writer<Vec<u8>>>) -> Result<Vec<u8>, AllocError>
+    ensures { IfOk result (λ v. v.items ≡ made (λ w. w.items) writer) }
+{
+    let Some(writer) = writer else {
+        return Err(AllocError);
+    };
+    match writer.into_inner() {
+        Ok(bytes) => Ok(bytes),
+        Err(_) => Err(AllocError),
+    }
+}
 
 /// Lines of CSV that are being made, one after another. Contracts see it as their bytes.
 ///
@@ -34,41 +57,22 @@ impl Lines {
     pub fn new(alloc: Global) -> Lines
         ensures { result ≡ [] }
     {
-        let writer = WriterBuilder::new().from_writer(Vec::new(alloc));
         Lines {
-            writer: Some(writer),
+            writer: Some(lines_writer(alloc)),
         }
     }
 
-    /// Adds the line of a record, with quotes where a field needs them. It has as many fields as the
-    /// first.
+    /// Adds the line of a record, with quotes where a field needs them.
     ///
     /// # Errors
     ///
-    /// `AllocError` where a growth is refused, now or before, and where the record has another
-    /// number of fields.
+    /// `AllocError` where a growth is refused, now or before.
+    #[tactic(auto, using(crate::proofs::Begun::row_same))]
     pub fn add(&mut self, fields: &[&[u8]]) -> Result<(), AllocError>
         ensures { OnOk result (self.new ≡ self.old ++ line (map (λ f. f.now) fields.now)) }
     {
         if let Some(writer) = &mut self.writer
             && writer.write_fields(fields).is_ok()
-        {
-            return Ok(());
-        }
-        self.writer = None;
-        Err(AllocError)
-    }
-
-    /// Adds the line of these fields, as many as the first record's.
-    ///
-    /// # Errors
-    ///
-    /// Those of `add`.
-    pub(crate) fn add_fields(&mut self, fields: &Fields) -> Result<(), AllocError>
-        ensures { OnOk result (self.new ≡ self.old ++ line fields.now) }
-    {
-        if let Some(writer) = &mut self.writer
-            && writer.write_byte_record(fields.as_record()).is_ok()
         {
             return Ok(());
         }
@@ -84,13 +88,7 @@ impl Lines {
     pub fn into_bytes(self) -> Result<Vec<u8>, AllocError>
         ensures { IfOk result (λ v. v.items ≡ self) }
     {
-        let Some(writer) = self.writer else {
-            return Err(AllocError);
-        };
-        match writer.into_inner() {
-            Ok(bytes) => Ok(bytes),
-            Err(_) => Err(AllocError),
-        }
+        text_of(self.writer)
     }
 }
 

@@ -1,10 +1,10 @@
 //! What a line tells of, and the lines of several.
-ghost use Rattle.std.specs.Prelude.{◌≡◌, ◌++◌, ℕ, List, false, IfOk, OnOk, map};
+ghost use Rattle.std.specs.Prelude.{◌≡◌, ◌≤◌, ℕ, List, false, IfOk, OnOk, length, map};
 ghost use Rattle.sqs_formats.specs.Rows.{lines};
+ghost use Rattle.sim_records.specs.Lines.{with_fields};
 ghost use Rattle.sim_records.specs.Writes.{Wrote, WroteSeveral};
 
 use crate::fields::Fields;
-use crate::line::Lines;
 use crate::names::Names;
 use crate::sink::{Out, write_all};
 use sim_clock::Refusal;
@@ -18,23 +18,22 @@ pub(crate) trait Record {
     // The fields of its line, by the names of agents.
     ghost columns: { List (List ℕ) → Self → List (List ℕ) };
 
-    /// Adds its fields.
+    /// Adds its fields, which are two or more.
     fn add_to(&self, fields: &mut Fields, names: &Names) -> Result<(), AllocError>
-        ensures { OnOk result (fields.new ≡ fields.old ++ columns names.now self.now) };
+        ensures fields { OnOk result (fields.new ≡ with_fields fields.old (columns names.now self.now)) }
+        ensures several { 2 ≤ length (columns names.now self.now) };
 }
 
 // The lines of several, in order.
 fn lines_of<T: Record>(alloc: Global, records: &[T], names: &Names) -> Result<Vec<u8>, AllocError>
     ensures { IfOk result (λ v. v.items ≡ lines (map (T.columns names.now) records.now)) }
 {
-    let mut text = Lines::new(alloc);
     let mut fields = Fields::new(alloc);
     for record in records {
-        fields.clear();
         record.add_to(&mut fields, names)?;
-        text.add_fields(&fields)?;
+        fields.end_line()?;
     }
-    text.into_bytes()
+    fields.into_bytes()
 }
 
 // Writes the lines of several at once.

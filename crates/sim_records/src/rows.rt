@@ -5,7 +5,7 @@ ghost use Rattle.sim_records.specs.Writes.{Wrote, WroteSeveral};
 
 use crate::columns::{add_detail, add_message, add_receipt, answer_name, kind_name};
 use crate::fields::Fields;
-use crate::line::{Lines, write_record};
+use crate::line::write_record;
 use crate::names::Names;
 use crate::record::{Record, write_records};
 use crate::sink::{Out, write_all};
@@ -52,9 +52,8 @@ fn row_line(alloc: Global, row: &Row, names: &Names) -> Result<Vec<u8>, AllocErr
 {
     let mut fields = Fields::new(alloc);
     row.add_to(&mut fields, names)?;
-    let mut text = Lines::new(alloc);
-    text.add_fields(&fields)?;
-    text.into_bytes()
+    fields.end_line()?;
+    fields.into_bytes()
 }
 
 /// Writes the line of a row.

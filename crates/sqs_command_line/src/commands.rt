@@ -13,6 +13,53 @@ const SCRIPTS_HELP: &str = "The folder of the scripts [default: .]";
 /// What help says of the scenario.
 const SCENARIO_HELP: &str = "The scenario's file [default: standard input]";
 
+/// What stands below the help of a rehearsal.
+const RUN_HELP: &str =
+    "Reads a scenario (TOML) and the scripts that it names (CSV). Writes the log, the final queues and
+the report (CSV), in this order, to standard output. A fault is one line on standard error.
+
+Status:
+  0  done
+  1  the scenario is refused, or a file can't be read
+  2  the words are not understood
+  3  the run is refused: map, window, workers, a count at its limit, want of memory
+  4  a write failed
+
+Example:
+  sqs_rehearse run --log log.csv scenario.toml > report.csv";
+
+/// What stands below the help of a reading.
+const CHECK_HELP: &str =
+    "Reads a scenario (TOML) and the scripts that it names (CSV). Writes one line to standard output:
+how many queues, actors and tasks there are, and the longest window. The first fault of a text that is
+no scenario is one line on standard error, with its place.
+
+Status:
+  0  a scenario
+  1  the scenario is refused, or a file can't be read
+  2  the words are not understood
+  3  want of memory
+  4  a write failed
+
+Example:
+  sqs_rehearse check --scripts calls scenario.toml";
+
+/// What stands below the help of a comparison.
+const COMPARE_HELP: &str =
+    "Rehearses both scenarios. Writes a line (CSV) to standard output for each queue and column of the
+report: compare, queue, column, the first's value, the second's, the difference. A fault is one line on
+standard error.
+
+Status:
+  0  done
+  1  a scenario is refused, or a file can't be read
+  2  the words are not understood
+  3  a run is refused: a count at its limit, want of memory
+  4  a write failed
+
+Example:
+  sqs_rehearse compare today.toml tomorrow.toml";
+
 // An option with a value.
 fn option<'a>(alloc: Global, name: &'a str, help: &'a str) -> Arg<'a>
     ensures rule { rule_of result ≡ option_rule name.entry.now }
@@ -70,12 +117,12 @@ fn place<'a>(alloc: Global, name: &'a str, required: bool, help: &'a str) -> Arg
         .help(help)
 }
 
-// A command that help tells something of.
-fn named<'a>(alloc: Global, name: &'a str, about: &'a str) -> Command<'a>
+// A command that help tells something of, above and below its words.
+fn named<'a>(alloc: Global, name: &'a str, about: &'a str, more: &'a str) -> Command<'a>
     ensures app { app_of result ≡ new_app name.entry.now }
     ensures local { (fields_of result).has_globals ≡ false }
 {
-    Command::new(alloc, name).about(about)
+    Command::new(alloc, name).about(about).after_help(more)
 }
 
 // The command of a rehearsal, with the options of how it runs.
@@ -87,6 +134,7 @@ fn run_options<'a>(alloc: Global) -> Result<Command<'a>, AllocError>
         alloc,
         "run",
         "Rehearses a scenario: log, final queues and report",
+        RUN_HELP,
     );
     let command = command.arg(time(
         alloc,
@@ -146,6 +194,7 @@ fn check_command<'a>(alloc: Global) -> Result<Command<'a>, AllocError>
         alloc,
         "check",
         "Tells whether a text is a scenario, or its first fault",
+        CHECK_HELP,
     );
     let command = command.arg(option(alloc, "scripts", SCRIPTS_HELP))?;
     let command = command.arg(place(alloc, "scenario", false, SCENARIO_HELP))?;
@@ -157,7 +206,12 @@ fn compare_command<'a>(alloc: Global) -> Result<Command<'a>, AllocError>
     ensures app { IfOk result (λ c. app_of c ≡ compare_app) }
     ensures local { IfOk result (λ c. (fields_of c).has_globals ≡ false) }
 {
-    let command = named(alloc, "compare", "Compares the reports of two scenarios");
+    let command = named(
+        alloc,
+        "compare",
+        "Compares the reports of two scenarios",
+        COMPARE_HELP,
+    );
     let command = command.arg(option(alloc, "scripts", SCRIPTS_HELP))?;
     let command = command.arg(place(alloc, "first", true, "The scenario to compare with"))?;
     let command = command.arg(place(alloc, "second", true, "The scenario to compare"))?;

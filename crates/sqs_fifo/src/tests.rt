@@ -528,3 +528,24 @@ fn try_group(rt: &impl Abort, alloc: Global, queue: &mut FifoQueue) -> Result<()
     }
     try_receive(rt, alloc, queue, 400, 10, &[10, 11])
 }
+
+#[test]
+fn the_last_number_is_given(rt: HostRuntime) {
+    let mut queue = FifoQueue::opened_at(rt.alloc(), 0, settings(), 4611686018427387902);
+    try_last(&rt, rt.alloc(), &mut queue);
+    assert!(rt; has_messages(&queue, 1));
+}
+
+// After the last number another message is refused, and the queue is as it was; a repeat of the last
+// is told still.
+fn try_last(rt: &impl Abort, alloc: Global, queue: &mut FifoQueue)
+    requires { All (λ e. e.end ≤ deduplication_interval) queue.old.entries }
+{
+    let last = MessageId {
+        site: 0,
+        number: 4611686018427387902,
+    };
+    try_send(rt, alloc, queue, 0, (97, 1), Ok(Sent::New(last)));
+    try_send(rt, alloc, queue, 1, (98, 1), Err(Refusal::CountLimit));
+    try_send(rt, alloc, queue, 2, (97, 1), Ok(Sent::Repeat(last)));
+}

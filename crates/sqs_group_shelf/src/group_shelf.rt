@@ -58,15 +58,17 @@ impl Model for GroupShelf {
 }
 
 impl GroupShelf {
-    /// No messages, of the FIFO queue with this number and these settings.
-    pub fn new(alloc: Global, site: u32, settings: QueueSettings) -> GroupShelf
-        requires { IsFifoSettings settings }
-        ensures { result ≡ record { site = site; settings = settings; records = []; entries = []; arrivals = 0 } }
+    /// No messages, of the FIFO queue with this number and these settings, to which so many came
+    /// before.
+    pub fn opened_at(alloc: Global, site: u32, settings: QueueSettings, arrivals: u64) -> GroupShelf
+        requires settings { IsFifoSettings settings }
+        requires arrivals { arrivals ≤ most_count }
+        ensures { result ≡ record { site = site; settings = settings; records = []; entries = []; arrivals = arrivals } }
     {
         GroupShelf {
             site,
             settings,
-            shelf: Shelf::new(alloc),
+            shelf: Shelf::opened_at(alloc, arrivals),
             names: IndexSet::new(alloc),
             groups: Vec::new(alloc),
             alloc,

@@ -169,7 +169,7 @@ fn due(at: u64, class: Class, number: u64) -> Key {
 
 // Group `a` has 0, 2, 3, which is delayed, and 4, group `b` has 1 and 6, and 5 has no group.
 fn seven(alloc: Global) -> Result<GroupShelf, AllocError> {
-    let mut shelf = GroupShelf::new(alloc, 7, settings());
+    let mut shelf = GroupShelf::opened_at(alloc, 7, settings(), 0);
     push(alloc, &mut shelf, Some(97), 1, None)?;
     push(alloc, &mut shelf, Some(98), 2, None)?;
     push(alloc, &mut shelf, Some(97), 3, None)?;
@@ -182,7 +182,7 @@ fn seven(alloc: Global) -> Result<GroupShelf, AllocError> {
 
 #[test]
 fn has_nothing_at_first(rt: HostRuntime) -> Result<(), Fail> {
-    let mut shelf = GroupShelf::new(rt.alloc(), 7, settings());
+    let mut shelf = GroupShelf::opened_at(rt.alloc(), 7, settings(), 0);
     assert!(rt; is_of(&shelf, 0));
     assert!(rt; is_counted(&shelf, 0, 0, 0));
     assert!(rt; shelf.find(0).is_none());

@@ -49,15 +49,17 @@ impl Model for HostShelf {
 }
 
 impl HostShelf {
-    /// An empty standard queue with this number. Takes no memory.
-    pub fn new(alloc: Global, site: u32, settings: QueueSettings) -> HostShelf
-        requires { IsStandardSettings settings }
-        ensures { result ≡ record { site = site; settings = settings; records = []; entries = []; arrivals = 0 } }
+    /// An empty standard queue with this number, to which so many messages came before. Takes no
+    /// memory.
+    pub fn opened_at(alloc: Global, site: u32, settings: QueueSettings, arrivals: u64) -> HostShelf
+        requires settings { IsStandardSettings settings }
+        requires arrivals { arrivals ≤ most_count }
+        ensures { result ≡ record { site = site; settings = settings; records = []; entries = []; arrivals = arrivals } }
     {
         HostShelf {
             site,
             settings,
-            shelf: Shelf::new(alloc),
+            shelf: Shelf::opened_at(alloc, arrivals),
             alloc,
         }
     }

@@ -116,7 +116,7 @@ fn in_flight_until(at: u64) -> State
 
 // Messages 0, 1 and 2, of which the second is delayed.
 fn three(alloc: Global) -> Result<HostShelf, AllocError> {
-    let mut shelf = HostShelf::new(alloc, 7, settings());
+    let mut shelf = HostShelf::opened_at(alloc, 7, settings(), 0);
     push(alloc, &mut shelf, 1, visible())?;
     push(alloc, &mut shelf, 2, delayed_until(5002))?;
     push(alloc, &mut shelf, 3, visible())?;
@@ -145,7 +145,7 @@ fn is_counted(shelf: &HostShelf, visible: u64, in_flight: u64, delayed: u64) -> 
 
 #[test]
 fn has_nothing_at_first(rt: HostRuntime) {
-    let shelf = HostShelf::new(rt.alloc(), 7, settings());
+    let shelf = HostShelf::opened_at(rt.alloc(), 7, settings(), 0);
     assert_eq!(rt; shelf.site(), 7);
     assert_eq!(rt; shelf.settings().retention, 60000);
     assert_eq!(rt; shelf.arrivals(), 0);

@@ -1,5 +1,5 @@
 -- Nodes of marks.
-use Rattle.std.proofs.Common.{◌≡◌, ℕ, zero, suc, ◌+◌, ◌*◌, ◌/◌, ◌^◌, ◌<◌, ◌≤◌, Bool, true, false, not, List, length, set, bit_and, bit_or, inl, inr, ◌⊎◌, arith, refl, ap, sym, ◌∙◌}
+use Rattle.std.proofs.Common.{◌≡◌, ℕ, zero, suc, ◌+◌, ◌*◌, ◌/◌, ◌^◌, ◌<◌, ◌≤◌, Bool, true, false, not, List, length, set, bit_and, bit_or, inl, inr, ◌⊎◌, arith, refl, ap, sym, subst, ◌∙◌}
 use Rattle.std.specs.Prelude.{◌==◌, ◌≢◌}
 use Rattle.std.proofs.lemmas.Nat.{and_assoc, and_comm, and_le_r, and_or_apart, and_or_self, or_comm}
 use Rattle.std.proofs.lemmas.Bool.Decides.{nat_tests}
@@ -146,3 +146,19 @@ all_pairs nodes i h is j low high = elim (cases_eq j i) [ inl e ↦ rw e is | in
 -- an empty place tells of none
 pub no_meets : (hosts : ℕ) → meets hosts no_mark ≡ false
 no_meets hosts = test_no (bit_and 0 hosts) (let l : bit_and hosts 0 ≤ 0 = and_le_r hosts 0 in omega (arith, and_comm 0 hosts, l))
+
+-- where the first node tells of no host, no node does of a row of a power of two
+pub quiet_tree : (nodes : List Mark) (hosts k : ℕ) → ArePairs nodes → 2 * 2 ^ k ≤ length nodes → tells nodes hosts 1 ≡ false → NoneIn nodes hosts (2 ^ k) (2 * 2 ^ k)
+quiet_tree nodes hosts zero pairs long e = λ i from within.
+    let one : i ≡ 1 = omega (arith, from, within) in
+    ap (tells nodes hosts) one ∙ e
+quiet_tree nodes hosts (suc k) pairs long e = λ i from within.
+    let p : 2 ^ suc k ≡ 2 * 2 ^ k = pow-succ' 2 k in
+    let l : 1 ≤ 2 ^ k = pow_pos k in
+    let above = quiet_tree nodes hosts k pairs (omega (arith, p, long)) e in
+    quiet nodes hosts i pairs (omega (arith, from, p, l)) (omega (arith, within, long)) (above (i / 2) (omega (arith, from, p)) (omega (arith, within, p)))
+
+pub quiet_row : (nodes : List Mark) (hosts row : ℕ) → ArePairs nodes → IsPower row → 2 * row ≤ length nodes → tells nodes hosts 1 ≡ false → NoneIn nodes hosts row (2 * row)
+quiet_row nodes hosts row pairs h long e =
+    let same : row ≡ 2 ^ h.0 = h.1 in
+    subst (λ r. NoneIn nodes hosts r (2 * r)) (sym same) (quiet_tree nodes hosts h.0 pairs (omega (arith, long, same)) e)

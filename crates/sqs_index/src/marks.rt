@@ -58,6 +58,20 @@ fn next_in(nodes: &[Mark], row: usize, from: usize, hosts: u32) -> Option<usize>
     }
 }
 
+// The same; none at once where the first node tells of none of these hosts.
+fn next_leaf(nodes: &[Mark], row: usize, from: usize, hosts: u32) -> Option<usize>
+    requires power { IsPower row }
+    requires within { 2 * row ≤ length nodes.now }
+    requires pairs { ArePairs nodes.now }
+    requires from { row ≤ from }
+    ensures { MatchOption result (NoneIn nodes.now hosts from (2 * row)) (IsNextIn nodes.now hosts from (2 * row)) }
+{
+    if !meets(&mark_at(nodes, 1), hosts) {
+        return None;
+    }
+    next_in(nodes, row, from, hosts)
+}
+
 // Brings the marks above a node in order, up to the first that is so.
 fn mend(nodes: &mut Vec<Mark>, node: usize)
     requires above { ArePairsBut nodes.old.items (node / 2) }
@@ -216,7 +230,7 @@ impl Marks {
         if self.width == 0 {
             return None;
         }
-        match next_in(&self.nodes, self.width, self.width + from, hosts) {
+        match next_leaf(&self.nodes, self.width, self.width + from, hosts) {
             None => None,
             Some(node) => Some(node - self.width),
         }

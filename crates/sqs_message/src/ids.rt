@@ -3,7 +3,11 @@ ghost use Rattle.std.specs.Prelude.{◌≡◌, ◌<◌, ◌^◌, ℕ, List, ◌+
 ghost use Rattle.std.specs.Fmt.{decimal};
 ghost use Rattle.sqs_message.specs.Ids.{HasNoDash, is_plain};
 
+use itoa::Buffer;
 use std::alloc::{AllocError, Global};
+
+// How long the text of a receipt handle is at most that is written without a growth.
+const RECEIPT_TEXT: usize = 32;
 
 /// The id of a message in one stay in a queue: `m-SITE-NUMBER`.
 #[derive(Clone, Copy, Debug, PartialEq, Eq)]
@@ -65,7 +69,15 @@ impl Receipt {
     pub fn text(&self, alloc: Global) -> Result<String, AllocError>
         ensures { IfOk result (λ s. string_bytes s ≡ receipt_text self.now) }
     {
-        format!(in alloc; "r-{}-{}-{}", self.site, self.number, self.count)
+        let mut buffer = Buffer::new();
+        let mut text = String::with_capacity(alloc, RECEIPT_TEXT)?;
+        text.push_str("r-")?;
+        text.push_str(buffer.format(self.site))?;
+        text.push_str("-")?;
+        text.push_str(buffer.format(self.number))?;
+        text.push_str("-")?;
+        text.push_str(buffer.format(self.count))?;
+        Ok(text)
     }
 
     /// The receipt that a text is: numbers in decimal without leading zeros, the site below 2^32,

@@ -9,6 +9,7 @@ use sim_records::Out;
 use sqs_command_line::RunLine;
 use sqs_rehearsal::{Open, Options, rehearse_watched};
 use std::fs::File;
+use std::io::Write;
 use std::process::ExitCode;
 use std::sync::Wait;
 use std::thread::Threads;
@@ -40,6 +41,15 @@ fn write<'a, L: Out, W: Threads + Wait + Sync>(
     Ok(answer?)
 }
 
+// Refuses with `Write` where standard output is closed: a file that is opened then would take its
+// place, and get what is meant for it.
+fn look_for_output<'a>(rt: &HostRuntime) -> Result<(), Stop<'a>> {
+    match rt.stdout().write(&[]) {
+        Ok(_) => Ok(()),
+        Err(error) => Err(Stop::from(write_refusal(&error))),
+    }
+}
+
 // Rehearses what a line asks for.
 fn rehearsed<'a, W: Threads + Wait + Sync>(
     rt: &HostRuntime,
@@ -55,6 +65,7 @@ fn rehearsed<'a, W: Threads + Wait + Sync>(
             write(rt, threads, &inputs, &split, &mut log, progress)
         }
         Some(path) => {
+            look_for_output(rt)?;
             let file = match File::create(rt, path) {
                 Ok(file) => file,
                 Err(error) => return Err(Stop::from(write_refusal(&error))),

@@ -43,15 +43,15 @@ impl Model for Shelf {
 }
 
 impl Shelf {
-    /// An empty one. Takes no memory.
-    pub fn new(alloc: Global) -> Shelf
-        ensures { result ≡ record { items = []; next = 0; ready = false } }
+    /// An empty one, whose first message gets this number. Takes no memory.
+    pub fn opened_at(alloc: Global, next: u64) -> Shelf
+        ensures { result ≡ record { items = []; next = next; ready = false } }
     {
         Shelf {
             slots: Vec::new(alloc),
             marks: Marks::new(alloc),
             counts: nothing(),
-            next: 0,
+            next,
             alloc,
         }
     }

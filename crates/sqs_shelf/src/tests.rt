@@ -59,7 +59,7 @@ fn in_flight() -> State {
 
 // Messages 0, visible on the first host, 1, delayed, and 2, visible on the second host.
 fn three(alloc: Global) -> Result<Shelf, AllocError> {
-    let mut shelf = Shelf::new(alloc);
+    let mut shelf = Shelf::opened_at(alloc, 0);
     push(alloc, &mut shelf, Place::Visible, mark(9, 1))?;
     push(alloc, &mut shelf, Place::Delayed, mark(7, 0))?;
     push(alloc, &mut shelf, Place::Visible, mark(8, 2))?;
@@ -101,7 +101,7 @@ fn is_counted(shelf: &Shelf, visible: u64, in_flight: u64, delayed: u64) -> bool
 
 #[test]
 fn has_nothing_at_first(rt: HostRuntime) {
-    let shelf = Shelf::new(rt.alloc());
+    let shelf = Shelf::opened_at(rt.alloc(), 0);
     assert_eq!(rt; shelf.number(), 0);
     assert!(rt; is_counted(&shelf, 0, 0, 0));
     assert!(rt; shelf.least().is_none());
@@ -153,7 +153,7 @@ fn keeps_messages(rt: HostRuntime) -> Result<(), Fail> {
 
 #[test]
 fn grows_past_those_that_left(rt: HostRuntime) -> Result<(), Fail> {
-    let mut shelf = Shelf::new(rt.alloc());
+    let mut shelf = Shelf::opened_at(rt.alloc(), 0);
     shelf.reserve()?;
     for gone in 0..100 {
         push(rt.alloc(), &mut shelf, Place::Visible, mark(9, 1))?;

@@ -47,8 +47,23 @@ impl StandardQueue {
         requires { IsStandardSettings settings }
         ensures { result ≡ record { site = site; settings = settings; records = []; entries = []; arrivals = 0 } }
     {
+        StandardQueue::opened_at(alloc, site, settings, 0)
+    }
+
+    /// An empty queue with this number, to which so many messages came before: the next gets that
+    /// count as its number.
+    pub fn opened_at(
+        alloc: Global,
+        site: u32,
+        settings: QueueSettings,
+        arrivals: u64,
+    ) -> StandardQueue
+        requires settings { IsStandardSettings settings }
+        requires arrivals { arrivals ≤ most_count }
+        ensures { result ≡ record { site = site; settings = settings; records = []; entries = []; arrivals = arrivals } }
+    {
         StandardQueue {
-            store: Store::new(alloc, site, settings),
+            store: Store::opened_at(alloc, site, settings, arrivals),
         }
     }
 

@@ -508,3 +508,26 @@ fn first_moved(loads: &[(u32, Load)]) -> Option<(u32, MessageId, u8)> {
         _ => None,
     }
 }
+
+#[test]
+fn the_last_number_is_given(rt: HostRuntime) {
+    let mut queue = StandardQueue::opened_at(rt.alloc(), 0, settings(), 4611686018427387902);
+    try_last(&rt, rt.alloc(), &mut queue);
+    assert!(rt; has_messages(&queue, 1));
+}
+
+// After the last number a send is refused, and the queue is as it was; a bad delay is told before.
+fn try_last(rt: &impl Abort, alloc: Global, queue: &mut StandardQueue) {
+    let last = MessageId {
+        site: 0,
+        number: 4611686018427387902,
+    };
+    let table = [
+        (0, None, Ok(Sent::New(last))),
+        (1, None, Err(Refusal::CountLimit)),
+        (2, Some(901), Err(Refusal::BadDelay)),
+    ];
+    for (now, delay, answer) in table {
+        assert_eq!(rt; send(alloc, queue, now, 97, delay), answer);
+    }
+}

@@ -33,14 +33,19 @@ pub enum QueueShelf {
 }
 
 impl QueueShelf {
-    // No messages of a queue of this number.
-    pub fn new(alloc: Global, site: u32, settings: QueueSettings) -> QueueShelf
-        requires { IsQueueSettings settings }
-        ensures { queue_of result ≡ record { site = site; settings = settings; records = []; entries = []; arrivals = 0 } }
+    // No messages of a queue of this number, to which so many came before.
+    pub fn opened_at(alloc: Global, site: u32, settings: QueueSettings, arrivals: u64) -> QueueShelf
+        requires settings { IsQueueSettings settings }
+        requires arrivals { arrivals ≤ most_count }
+        ensures { queue_of result ≡ record { site = site; settings = settings; records = []; entries = []; arrivals = arrivals } }
     {
         match settings.kind {
-            Kind::Standard { .. } => QueueShelf::Hosts(HostShelf::new(alloc, site, settings)),
-            Kind::Fifo { .. } => QueueShelf::Groups(GroupShelf::new(alloc, site, settings)),
+            Kind::Standard { .. } => {
+                QueueShelf::Hosts(HostShelf::opened_at(alloc, site, settings, arrivals))
+            }
+            Kind::Fifo { .. } => {
+                QueueShelf::Groups(GroupShelf::opened_at(alloc, site, settings, arrivals))
+            }
         }
     }
 

@@ -78,13 +78,14 @@ impl Model for Store {
 }
 
 impl Store {
-    /// An empty queue with this number.
-    pub fn new(alloc: Global, site: u32, settings: QueueSettings) -> Store
-        requires { IsQueueSettings settings }
-        ensures { result ≡ record { site = site; settings = settings; records = []; entries = []; arrivals = 0 } }
+    /// An empty queue with this number, to which so many messages came before.
+    pub fn opened_at(alloc: Global, site: u32, settings: QueueSettings, arrivals: u64) -> Store
+        requires settings { IsQueueSettings settings }
+        requires arrivals { arrivals ≤ most_count }
+        ensures { result ≡ record { site = site; settings = settings; records = []; entries = []; arrivals = arrivals } }
     {
         Store {
-            shelf: QueueShelf::new(alloc, site, settings),
+            shelf: QueueShelf::opened_at(alloc, site, settings, arrivals),
             entries: Dedup::new(alloc),
             alloc,
         }

@@ -166,7 +166,7 @@ fn try_reading(rt: &impl Abort, store: &Store) {
 
 #[test]
 fn keeps_messages(rt: HostRuntime) {
-    let mut store = Store::new(rt.alloc(), 7, settings());
+    let mut store = Store::opened_at(rt.alloc(), 7, settings(), 0);
     assert_eq!(rt; add(rt.alloc(), &mut store, 1, 0), Ok(()));
     assert_eq!(rt; add(rt.alloc(), &mut store, 2, 5000), Ok(()));
     try_reading(&rt, &store);
@@ -192,7 +192,7 @@ fn receipt(count: u64) -> Receipt {
 
 #[test]
 fn gives_messages(rt: HostRuntime) {
-    let mut store = Store::new(rt.alloc(), 7, settings());
+    let mut store = Store::opened_at(rt.alloc(), 7, settings(), 0);
     assert_eq!(rt; add(rt.alloc(), &mut store, 1, 0), Ok(()));
     try_timeouts(&rt, &store);
     let first = give_first(&mut store, 5, 30000);
@@ -217,7 +217,7 @@ fn settles(alloc: Global, store: &mut Store, enqueued: u64, number: u64, is_over
 
 #[test]
 fn takes_in_and_out(rt: HostRuntime) {
-    let mut store = Store::new(rt.alloc(), 7, settings());
+    let mut store = Store::opened_at(rt.alloc(), 7, settings(), 0);
     assert!(rt; settles(rt.alloc(), &mut store, 1, 0, false));
     assert!(rt; settles(rt.alloc(), &mut store, 0, 1, true));
     assert_eq!(rt; add(rt.alloc(), &mut store, 60000, 0), Ok(()));
@@ -268,7 +268,7 @@ fn try_living(rt: &impl Abort, store: &Store, id: &Text) {
 fn remembers_sends(rt: HostRuntime) -> Result<(), Fail> {
     let id = text(rt.alloc(), 99)?;
     let copy = text(rt.alloc(), 99)?;
-    let mut store = Store::new(rt.alloc(), 7, fifo_settings());
+    let mut store = Store::opened_at(rt.alloc(), 7, fifo_settings(), 0);
     assert_eq!(rt; store.living(0, None, &id), None);
     assert_eq!(rt; add_once(rt.alloc(), &mut store, copy), Ok(()));
     try_living(&rt, &store, &id);

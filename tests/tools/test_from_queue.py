@@ -1,0 +1,154 @@
+"""Tests tools/from-queue on attributes as SQS gives them."""
+import json
+import subprocess
+import unittest
+
+from tool import PROGRAM, ToolCase, needs_program
+
+ARN = "arn:aws:sqs:eu-central-1:123456789012:"
+ORDERS = {
+    "QueueArn": ARN + "orders", "ApproximateNumberOfMessages": "3", "ApproximateNumberOfMessagesNotVisible": "0",
+    "ApproximateNumberOfMessagesDelayed": "0", "CreatedTimestamp": "1700000000", "LastModifiedTimestamp": "1700000001",
+    "VisibilityTimeout": "45", "MaximumMessageSize": "262144", "MessageRetentionPeriod": "86400", "DelaySeconds": "5",
+    "ReceiveMessageWaitTimeSeconds": "20", "SqsManagedSseEnabled": "true",
+    "RedrivePolicy": json.dumps({"deadLetterTargetArn": ARN + "failed", "maxReceiveCount": 3}),
+}
+PAYMENTS = {
+    "FifoQueue": "true", "ContentBasedDeduplication": "true", "DeduplicationScope": "messageGroup",
+    "FifoThroughputLimit": "perMessageGroupId", "VisibilityTimeout": "30", "DelaySeconds": "0",
+    "MessageRetentionPeriod": "345600", "KmsMasterKeyId": "alias/aws/sqs", "New\nKey": "x",
+}
+FAILED = {"QueueArn": ARN + "failed", "VisibilityTimeout": "30", "MessageRetentionPeriod": "1209600",
+          "DelaySeconds": "0", "RedriveAllowPolicy": "{\"redrivePermission\":\"allowAll\"}", "Policy": "{}"}
+HEAD = """# Queues from their attributes. Each DEFAULT marks what the attributes do not tell: check it.
+# To rehearse them, add actors that send and receive.
+version = 1
+horizon = 3600000 # DEFAULT: how long to rehearse, in milliseconds.
+
+[[queue]]
+"""
+ORDERS_TABLE = """name = "orders"
+visibility_s = 45
+delay_s = 5
+retention_s = 86400
+in_flight = 120000
+dead_letter = "failed"
+max_receives = 3
+latency_ms = 100
+# DEFAULT: in_flight of 120000, the quota of SQS, as the attributes do not tell it.
+# DEFAULT: hosts of 1, so that a short poll sees every message, as the attributes do not tell them.
+# DEFAULT: latency_ms of 100, how long a redrive takes, as the attributes do not tell it.
+# MaximumMessageSize is left out: the scenario's bodies have at most 1,024 bytes.
+# SqsManagedSseEnabled is left out: the model has no encryption.
+# ReceiveMessageWaitTimeSeconds is left out: give its consumers wait_s = 20.
+# its present messages are left out: a rehearsal begins with empty queues.
+"""
+FAILED_TABLE = """
+[[queue]]
+name = "failed"
+# DEFAULT: all its settings, as no file is of this dead-letter queue of orders.
+"""
+PAYMENTS_TABLE = """name = "pay.fifo"
+visibility_s = 30
+delay_s = 0
+retention_s = 345600
+in_flight = 120000
+content_dedup = true
+dedup_scope = "group"
+# DEFAULT: in_flight of 120000, the quota of SQS, as the attributes do not tell it.
+# FifoThroughputLimit perMessageGroupId is left out: the model has no throughput quota.
+# KmsMasterKeyId is left out: the model has no encryption.
+# New?Key is left out: this tool does not know it.
+"""
+
+
+class FromQueue(ToolCase):
+    def file(self, name, attributes, **top):
+        return self.write(name, json.dumps({**top, "Attributes": attributes}))
+
+    def changed(self, **attributes):
+        return self.file("changed.json", {**ORDERS, **attributes})
+
+    def test_standard_queue_without_the_file_of_its_dead_letters(self):
+        status, out, err = self.run_tool("from-queue", self.file("orders.json", ORDERS))
+        self.assertEqual((status, out), (0, HEAD + ORDERS_TABLE + FAILED_TABLE))
+        comments = [line for line in out.splitlines()[4:] if line.startswith("#")]
+        self.assertEqual(len(err.splitlines()), len(comments))
+        told = "from-queue: failed: DEFAULT: all its settings, as no file is of this dead-letter queue of orders"
+        self.assertIn(told, err.splitlines())
+
+    def test_fifo_queue_by_its_url(self):
+        url = "https://sqs.eu-central-1.amazonaws.com/123456789012/pay.fifo"
+        inside = self.file("inside.json", {**PAYMENTS, "QueueUrl": url})
+        beside = self.file("beside.json", PAYMENTS, QueueUrl=url)
+        for path in (inside, beside):
+            status, out, _ = self.run_tool("from-queue", path)
+            self.assertEqual((status, out), (0, HEAD + PAYMENTS_TABLE))
+
+    def test_dead_letters_with_a_file(self):
+        files = self.file("orders.json", ORDERS), self.file("failed.json", FAILED)
+        status, out, err = self.run_tool("from-queue", *files, "--latency", "7", "--horizon", "60000",
+                                         "--output", "both.toml")
+        self.assertEqual((status, out), (0, ""))
+        with open(self.path("both.toml"), encoding="utf-8") as file:
+            text = file.read()
+        self.assertIn("horizon = 60000 ", text)
+        self.assertIn("latency_ms = 7\n", text)
+        self.assertIn('name = "failed"\nvisibility_s = 30\ndelay_s = 0\nretention_s = 1209600\n', text)
+        self.assertEqual(text.count("[[queue]]"), 2)
+        self.assertIn("from-queue: failed: Policy is left out: the model has no access policies\n", err)
+        self.assertIn("from-queue: failed: RedriveAllowPolicy is left out: ", err)
+
+    def test_settings_that_are_not_given(self):
+        status, out, _ = self.run_tool("from-queue", self.file("a.json", {"QueueArn": ARN + "a"}))
+        self.assertEqual(status, 0)
+        self.assertIn("# DEFAULT: visibility_s, as VisibilityTimeout is not given.\n", out)
+
+    def test_values_beyond_a_scenario(self):
+        policy = json.dumps({"deadLetterTargetArn": ARN + "failed", "maxReceiveCount": 1001})
+        path = self.changed(VisibilityTimeout="43201", DelaySeconds="901", MessageRetentionPeriod="59",
+                            ReceiveMessageWaitTimeSeconds="21", RedrivePolicy=policy)
+        self.assert_fault(self.run_tool("from-queue", path), "\n".join([
+            "from-queue: orders: VisibilityTimeout of 43201 is beyond a scenario, which has 0 to 43200",
+            "from-queue: orders: DelaySeconds of 901 is beyond a scenario, which has 0 to 900",
+            "from-queue: orders: MessageRetentionPeriod of 59 is beyond a scenario, which has 60 to 1209600",
+            "from-queue: orders: maxReceiveCount of 1001 is beyond a scenario, which has 1 to 1000",
+            "from-queue: orders: ReceiveMessageWaitTimeSeconds of 21 is beyond a scenario, which has 0 to 20"]))
+
+    def test_dead_letters_that_no_scenario_has(self):
+        for name, reason in (("orders", "it is its own dead-letter queue, which no scenario has"),
+                             ("d.fifo", "its dead-letter queue d.fifo is of the other kind, which no scenario has")):
+            policy = json.dumps({"deadLetterTargetArn": ARN + name, "maxReceiveCount": "3"})
+            ran = self.run_tool("from-queue", self.changed(RedrivePolicy=policy))
+            self.assert_fault(ran, f"from-queue: orders: {reason}")
+        for policy in ("{}", "[]", "x", '{"deadLetterTargetArn": 1, "maxReceiveCount": 1}'):
+            ran = self.run_tool("from-queue", self.changed(RedrivePolicy=policy))
+            self.assert_fault(ran, "from-queue: orders: RedrivePolicy has no deadLetterTargetArn and maxReceiveCount")
+
+    def test_faults(self):
+        path = self.file("orders.json", ORDERS)
+        self.assert_fault(self.run_tool("from-queue", path, path),
+                          "from-queue: orders: two files are of a queue of this name")
+        self.assert_fault(self.run_tool("from-queue", self.changed(FifoQueue="true")),
+                          "from-queue: orders: FifoQueue is true, but the name does not end in .fifo")
+        for text in ("[]", "{}", '{"Attributes": []}', '{"Attributes": {"DelaySeconds": 1}}'):
+            path = self.write("bad.json", text)
+            self.assert_fault(self.run_tool("from-queue", path),
+                              f"from-queue: {path} has no Attributes as get-queue-attributes prints them")
+        path = self.file("unnamed.json", {})
+        self.assert_fault(self.run_tool("from-queue", path),
+                          f"from-queue: {path} has neither QueueArn nor QueueUrl, so the queue's name is not known")
+        status, _, err = self.run_tool("from-queue", self.write("no.json", "{"))
+        self.assertEqual((status, len(err.splitlines())), (2, 1))
+
+    @needs_program
+    def test_program_accepts_it(self):
+        url = "https://sqs.eu-central-1.amazonaws.com/123456789012/pay.fifo"
+        files = self.file("orders.json", ORDERS), self.file("pay.json", PAYMENTS, QueueUrl=url)
+        self.assertEqual(self.run_tool("from-queue", *files, "--output", "s.toml")[0], 0)
+        check = subprocess.run([PROGRAM, "check", self.path("s.toml")], capture_output=True, text=True)
+        self.assertEqual((check.stdout, check.stderr), ("ok queues=3 actors=0 tasks=0 least=100\n", ""))
+
+
+if __name__ == "__main__":
+    unittest.main()

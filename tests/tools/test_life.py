@@ -1,0 +1,118 @@
+"""Tests tools/life on logs written by hand from the formats of the log."""
+import os
+import unittest
+
+from tool import TOOLS, ToolCase, needs_program
+
+HEADER = "at,queue,agent,call,answer,message,receipt,detail\n"
+LOG = HEADER + """0,a,shop,send,new,m-0-0,,900150983cd24fb0d6963f7d28e17f72
+5,a,shop,send,new,m-0-1,,900150983cd24fb0d6963f7d28e17f72
+1000,a,a,release,visible,m-0-0,,
+1500,a,left,receive,ok,m-0-0,r-0-0-1,o-0-0
+1600,a,shop,delete,ReceiptHandleIsInvalid,,r-0-0-9,
+1700,a,left,change,ok,m-0-0,r-0-0-1,2
+3700,a,a,release,visible,m-0-0,,
+4000,a,left,receive,ok,m-0-0,r-0-0-2,o-0-0
+4000,a,a,redrive,out,m-0-0,,d
+4020,d,a,arrive,new,m-1-0,,o-0-0
+5000,d,back,move,out,m-1-0,,a
+5020,a,back,arrive,new,m-0-2,,o-0-0
+6000,a,right,receive,ok,m-0-2,r-0-2-1,o-0-0
+6100,a,right,fail,ok,m-0-2,r-0-2-1,
+6200,a,left,delete,gone,m-0-0,r-0-0-2,
+7000,a,right,forward,out,m-0-2,r-0-2-1,d
+67000,a,right,delete,deleted,m-0-2,r-0-2-1,61980
+67020,d,right,arrive,new,m-1-1,,o-1-1
+"""
+STORY = """The message o-0-0
+    0 ms  0:00:00.000  a  sent by shop as m-0-0, delayed until 1000 ms
+ 1000 ms  0:00:01.000  a  visible
+ 1500 ms  0:00:01.500  a  received by left with r-0-0-1; in flight for 2.2 s, until 3700 ms
+ 1600 ms  0:00:01.600  a  shop asked for its deletion with r-0-0-9: refused, ReceiptHandleIsInvalid
+ 1700 ms  0:00:01.700  a  left changed its visibility timeout to 2 s: in flight at most until 3700 ms
+ 3700 ms  0:00:03.700  a  visible
+ 4000 ms  0:00:04.000  a  received by left with r-0-0-2; back at once
+ 4000 ms  0:00:04.000  a  received often enough: on its way to the dead-letter queue d
+ 4020 ms  0:00:04.020  d  arrived from a as m-1-0
+ 5000 ms  0:00:05.000  d  taken by the move task back: on its way to a
+ 5020 ms  0:00:05.020  a  arrived from back as m-0-2
+ 6000 ms  0:00:06.000  a  received by right with r-0-2-1; in flight for 0:01:01.000, until 67000 ms
+ 6100 ms  0:00:06.100  a  the service of right failed; it did not delete the message
+ 6200 ms  0:00:06.200  a  left asked for its deletion with r-0-0-2: nothing was deleted, as it was gone already
+ 7000 ms  0:00:07.000  a  right forwarded it to d, where it will be another message
+67000 ms  0:01:07.000  a  deleted by right with r-0-2-1, 0:01:01.980 old
+In the end: deleted from a at 67000 ms
+"""
+FIFO = HEADER + """0,f.fifo,shop,send,new,m-0-0,,900150983cd24fb0d6963f7d28e17f72
+7,f.fifo,shop,send,repeat,m-0-0,,900150983cd24fb0d6963f7d28e17f72
+9,f.fifo,other,arrive,repeat,m-0-0,,o-0-0
+60000,f.fifo,f.fifo,expire,expired,m-0-0,,60000
+"""
+FINALS = """final,queue,message,origin,place,due,enqueued,receives,group,md5
+final,d,m-1-1,o-1-1,inflight,90000,67020,3,,900150983cd24fb0d6963f7d28e17f72
+transfer,from,to,kind,due,number,message,origin,md5
+"""
+
+
+class Life(ToolCase):
+    def last_line(self, log, name):
+        status, out, _ = self.run_tool("life", self.write("log", log), name)
+        self.assertEqual(status, 0)
+        return out.splitlines()[-1]
+
+    def test_whole_story(self):
+        log = self.write("log", LOG)
+        self.assertEqual(self.run_tool("life", log, "o-0-0"), (0, STORY, ""))
+
+    def test_ids_of_one_message_tell_the_same(self):
+        log = self.write("log", LOG)
+        for name in ("m-0-0", "m-1-0", "m-0-2"):
+            self.assertEqual(self.run_tool("life", log, name), (0, STORY, ""))
+
+    def test_repeats_and_expiry(self):
+        _, out, _ = self.run_tool("life", self.write("log", FIFO), "o-0-0")
+        self.assertEqual(out, """The message o-0-0
+    0 ms  0:00:00.000  f.fifo  sent by shop as m-0-0
+    7 ms  0:00:00.007  f.fifo  sent again by shop: a repeat, which made no message
+    9 ms  0:00:00.009  f.fifo  a forward of other came as a repeat of it, which made no message
+60000 ms  0:01:00.000  f.fifo  expired, 0:01:00.000 old
+In the end: expired from f.fifo at 60000 ms
+""")
+
+    def test_where_a_message_stands(self):
+        lines = LOG.splitlines(keepends=True)
+        self.assertEqual(self.last_line(LOG, "o-0-1"), "In the end: visible or delayed, which the log alone does not "
+                         "tell, in a since 5 ms; the log ends at 67020 ms")
+        self.assertEqual(self.last_line("".join(lines[:5]), "o-0-0"),
+                         "In the end: in flight with left in a since 1500 ms; the log ends at 1500 ms")
+        self.assertEqual(self.last_line("".join(lines[:8]), "o-0-0"),
+                         "In the end: visible in a since 3700 ms; the log ends at 3700 ms")
+        self.assertEqual(self.last_line("".join(lines[:10]), "o-0-0"),
+                         "In the end: on its way from a to d since 4000 ms")
+        self.assertEqual(self.last_line(LOG + FINALS, "o-1-1"),
+                         "In the end: in flight in d until 90000 ms; times received there: 3")
+
+    @needs_program
+    def test_story_of_the_documents(self):
+        _, out, _ = self.run_tool("life", self.log_of_example("dead_letters.toml"), "o-0-4")
+        with open(os.path.join(TOOLS, "README.md"), encoding="utf-8") as file:
+            self.assertIn(f"```\n{out}```\n", file.read())
+
+    def test_faults(self):
+        log = self.write("log", LOG)
+        self.assert_fault(self.run_tool("life", log, "o-0-17"), f"life: {log} has no message with the origin o-0-17")
+        self.assert_fault(self.run_tool("life", log, "m-0-17"), f"life: {log} has no message m-0-17")
+        self.assert_fault(self.run_tool("life", log, "17"), "life: 17 is no id of a message, as o-0-17 or m-0-17")
+        self.assert_fault(self.run_tool("life", "none", "o-0-0"), "life: cannot read none: No such file or directory")
+        cut = self.write("cut", LOG[:-9])
+        self.assert_fault(self.run_tool("life", cut, "o-0-0"), f"life: {cut} line 19 is no row of a log")
+        backward = self.write("backward", LOG + LOG.splitlines()[1] + "\n")
+        self.assert_fault(self.run_tool("life", backward, "o-0-0"),
+                          f"life: {backward} line 20 is earlier than the row before it")
+        other = self.write("other", "a,b\n")
+        self.assert_fault(self.run_tool("life", other, "o-0-0"),
+                          f"life: {other} is no log: its first line is not {HEADER.strip()}")
+
+
+if __name__ == "__main__":
+    unittest.main()
