@@ -4,7 +4,5 @@
 
 mod actor;
 mod bodies;
-#[cfg(test)]
-mod tests;
 
 pub use actor::Actor;

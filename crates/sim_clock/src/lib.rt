@@ -5,8 +5,6 @@
 mod agenda;
 mod key;
 mod refusal;
-#[cfg(test)]
-mod tests;
 
 pub use agenda::Agenda;
 pub use key::{Class, Key, lesser};

@@ -3,7 +3,5 @@
 #![tactic(auto)]
 
 mod draws;
-#[cfg(test)]
-mod tests;
 
 pub use draws::Draws;

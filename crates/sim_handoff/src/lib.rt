@@ -6,8 +6,6 @@ mod handoff;
 mod records;
 mod rule;
 mod steps;
-#[cfg(test)]
-mod tests;
 
 pub use ends::{Left, close};
 pub use handoff::{Claimed, Hand, Handoff, Owner};

@@ -8,7 +8,5 @@ mod handling;
 mod marking;
 mod partition;
 mod places;
-#[cfg(test)]
-mod tests;
 
 pub use partition::{Partition, Ran};

@@ -3,8 +3,6 @@
 #![tactic(auto)]
 
 mod machine;
-#[cfg(test)]
-mod tests;
 
 pub use machine::{Machine, open_stage};
 pub use sim_exchange::PartMap;

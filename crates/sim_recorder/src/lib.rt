@@ -3,8 +3,6 @@
 
 mod counter;
 mod recorder;
-#[cfg(test)]
-mod tests;
 mod watch;
 
 pub use counter::Counter;

@@ -9,8 +9,6 @@ mod names;
 mod record;
 mod rows;
 mod sink;
-#[cfg(test)]
-mod tests;
 mod to_writer;
 
 pub use finals::write_finals;

@@ -9,8 +9,6 @@ mod left;
 mod queue;
 mod report;
 mod tally;
-#[cfg(test)]
-mod tests;
 mod writing;
 
 pub use report::{Report, compare};

@@ -180,46 +180,40 @@ fn given(alloc: Global, field: &[u8]) -> Result<Option<Text>, AllocError>
 }
 
 /// Whether the group and the id of a send are right at its home.
-fn is_grouped(home: &Home, record: &Record<'_>) -> bool
-    ensures { result ≡ is_grouped home.now (record_view record.now) }
+fn is_grouped(home: &Home, row: &Record<'_>) -> bool
+    ensures { result ≡ is_grouped home.now (record_view row.now) }
 {
     if home.is_fifo {
-        may_be_token(record.group) && may_be_token(record.id)
+        may_be_token(row.group) && may_be_token(row.id)
     } else {
-        are_empty(&[record.group, record.id])
+        are_empty(&[row.group, row.id])
     }
 }
 
 /// Whether the fields of a send are right.
-fn is_send(home: &Home, record: &Record<'_>, delay: Option<u64>) -> bool
-    requires { delay ≡ number record.now.delay.now }
-    ensures { result ≡ is_send home.now (record_view record.now) }
+fn is_send(home: &Home, row: &Record<'_>, delay: Option<u64>) -> bool
+    requires { delay ≡ number row.now.delay.now }
+    ensures { result ≡ is_send home.now (record_view row.now) }
 {
-    let others = [
-        record.receipt,
-        record.max,
-        record.wait,
-        record.timeout,
-        record.task,
-    ];
-    is_body(record.body)
-        && may_be_number(record.delay, delay)
+    let others = [row.receipt, row.max, row.wait, row.timeout, row.task];
+    is_body(row.body)
+        && may_be_number(row.delay, delay)
         && are_empty(&others)
-        && is_grouped(home, record)
+        && is_grouped(home, row)
 }
 
 /// The send that a record states.
-fn send(alloc: Global, home: &Home, record: &Record<'_>) -> Result<Option<Call>, AllocError>
-    ensures value { IfOk result (λ c. c ≡ send_call home.now (record_view record.now)) }
+fn send(alloc: Global, home: &Home, row: &Record<'_>) -> Result<Option<Call>, AllocError>
+    ensures value { IfOk result (λ c. c ≡ send_call home.now (record_view row.now)) }
     ensures most { IfOk result (λ c. IfSome c (λ c. waits c ≤ 4294967295)) }
 {
-    let delay = number(alloc, record.delay)?;
-    if !is_send(home, record, delay) {
+    let delay = number(alloc, row.delay)?;
+    if !is_send(home, row, delay) {
         return Ok(None);
     }
-    let body = text(alloc, record.body)?;
-    let group = given(alloc, record.group)?;
-    let id = given(alloc, record.id)?;
+    let body = text(alloc, row.body)?;
+    let group = given(alloc, row.group)?;
+    let id = given(alloc, row.id)?;
     Ok(Some(Call::Send {
         body,
         delay,
@@ -229,40 +223,35 @@ fn send(alloc: Global, home: &Home, record: &Record<'_>) -> Result<Option<Call>,
 }
 
 /// Whether the fields of a receive are right.
-fn is_receive(
-    record: &Record<'_>,
-    max: Option<u64>,
-    wait: Option<u64>,
-    timeout: Option<u64>,
-) -> bool
-    requires max { max ≡ number record.now.max.now }
-    requires wait { wait ≡ number record.now.wait.now }
-    requires timeout { timeout ≡ number record.now.timeout.now }
-    ensures { result ≡ is_receive (record_view record.now) }
+fn is_receive(row: &Record<'_>, max: Option<u64>, wait: Option<u64>, timeout: Option<u64>) -> bool
+    requires max { max ≡ number row.now.max.now }
+    requires wait { wait ≡ number row.now.wait.now }
+    requires timeout { timeout ≡ number row.now.timeout.now }
+    ensures { result ≡ is_receive (record_view row.now) }
 {
     let others = [
-        record.body,
-        record.group,
-        record.id,
-        record.delay,
-        record.receipt,
-        record.task,
+        row.body,
+        row.group,
+        row.id,
+        row.delay,
+        row.receipt,
+        row.task,
     ];
-    may_be_within(record.max, max, 1, 10)
-        && may_be_within(record.wait, wait, 0, 20)
-        && may_be_number(record.timeout, timeout)
+    may_be_within(row.max, max, 1, 10)
+        && may_be_within(row.wait, wait, 0, 20)
+        && may_be_number(row.timeout, timeout)
         && are_empty(&others)
 }
 
 /// The receive that a record states.
-fn receive(alloc: Global, record: &Record<'_>) -> Result<Option<Call>, AllocError>
-    ensures value { IfOk result (λ c. c ≡ receive_call (record_view record.now)) }
+fn receive(alloc: Global, row: &Record<'_>) -> Result<Option<Call>, AllocError>
+    ensures value { IfOk result (λ c. c ≡ receive_call (record_view row.now)) }
     ensures most { IfOk result (λ c. IfSome c (λ c. waits c ≤ 4294967295)) }
 {
-    let max = number(alloc, record.max)?;
-    let wait = number(alloc, record.wait)?;
-    let timeout = number(alloc, record.timeout)?;
-    if !is_receive(record, max, wait, timeout) {
+    let max = number(alloc, row.max)?;
+    let wait = number(alloc, row.wait)?;
+    let timeout = number(alloc, row.timeout)?;
+    if !is_receive(row, max, wait, timeout) {
         return Ok(None);
     }
     Ok(Some(Call::Receive {
@@ -273,46 +262,40 @@ fn receive(alloc: Global, record: &Record<'_>) -> Result<Option<Call>, AllocErro
 }
 
 /// The delete that a record states.
-fn delete(alloc: Global, record: &Record<'_>) -> Result<Option<Call>, AllocError>
-    ensures value { IfOk result (λ c. c ≡ delete_call (record_view record.now)) }
+fn delete(alloc: Global, row: &Record<'_>) -> Result<Option<Call>, AllocError>
+    ensures value { IfOk result (λ c. c ≡ delete_call (record_view row.now)) }
     ensures most { IfOk result (λ c. IfSome c (λ c. waits c ≤ 4294967295)) }
 {
     let others = [
-        record.body,
-        record.group,
-        record.id,
-        record.delay,
-        record.max,
-        record.wait,
-        record.timeout,
-        record.task,
+        row.body,
+        row.group,
+        row.id,
+        row.delay,
+        row.max,
+        row.wait,
+        row.timeout,
+        row.task,
     ];
-    if is_token(100, record.receipt) && are_empty(&others) {
-        let receipt = text(alloc, record.receipt)?;
+    if is_token(100, row.receipt) && are_empty(&others) {
+        let receipt = text(alloc, row.receipt)?;
         return Ok(Some(Call::Delete { receipt }));
     }
     Ok(None)
 }
 
 /// The change of visibility that a record states.
-fn change(alloc: Global, record: &Record<'_>) -> Result<Option<Call>, AllocError>
-    ensures value { IfOk result (λ c. c ≡ change_call (record_view record.now)) }
+fn change(alloc: Global, row: &Record<'_>) -> Result<Option<Call>, AllocError>
+    ensures value { IfOk result (λ c. c ≡ change_call (record_view row.now)) }
     ensures most { IfOk result (λ c. IfSome c (λ c. waits c ≤ 4294967295)) }
 {
     let others = [
-        record.body,
-        record.group,
-        record.id,
-        record.delay,
-        record.max,
-        record.wait,
-        record.task,
+        row.body, row.group, row.id, row.delay, row.max, row.wait, row.task,
     ];
-    match number(alloc, record.timeout)? {
+    match number(alloc, row.timeout)? {
         None => Ok(None),
         Some(timeout) => {
-            if is_token(100, record.receipt) && are_empty(&others) {
-                let receipt = text(alloc, record.receipt)?;
+            if is_token(100, row.receipt) && are_empty(&others) {
+                let receipt = text(alloc, row.receipt)?;
                 return Ok(Some(Call::Change { receipt, timeout }));
             }
             Ok(None)
@@ -336,71 +319,71 @@ fn task_named(home: &Home, name: &[u8]) -> Option<u32>
 }
 
 /// The task that a start or a cancel names.
-fn named_task(home: &Home, record: &Record<'_>) -> Option<u32>
-    ensures { result ≡ called_task home.now (record_view record.now) }
+fn named_task(home: &Home, row: &Record<'_>) -> Option<u32>
+    ensures { result ≡ called_task home.now (record_view row.now) }
 {
     let others = [
-        record.body,
-        record.group,
-        record.id,
-        record.delay,
-        record.receipt,
-        record.max,
-        record.wait,
-        record.timeout,
+        row.body,
+        row.group,
+        row.id,
+        row.delay,
+        row.receipt,
+        row.max,
+        row.wait,
+        row.timeout,
     ];
-    if record.task.is_empty() || !are_empty(&others) {
+    if row.task.is_empty() || !are_empty(&others) {
         return None;
     }
-    task_named(home, record.task)
+    task_named(home, row.task)
 }
 
 /// The start that a record states.
-fn start(home: &Home, record: &Record<'_>) -> Option<Call>
-    ensures { result ≡ task_call home.now (record_view record.now) (λ t. Start t) }
+fn start(home: &Home, row: &Record<'_>) -> Option<Call>
+    ensures { result ≡ task_call home.now (record_view row.now) (λ t. Start t) }
 {
-    named_task(home, record).map(|task| Call::Start { task })
+    named_task(home, row).map(|task| Call::Start { task })
 }
 
 /// The cancel that a record states.
-fn cancel(home: &Home, record: &Record<'_>) -> Option<Call>
-    ensures { result ≡ task_call home.now (record_view record.now) (λ t. Cancel t) }
+fn cancel(home: &Home, row: &Record<'_>) -> Option<Call>
+    ensures { result ≡ task_call home.now (record_view row.now) (λ t. Cancel t) }
 {
-    named_task(home, record).map(|task| Call::Cancel { task })
+    named_task(home, row).map(|task| Call::Cancel { task })
 }
 
 /// The call of a task that a record states.
-fn task_call_of(home: &Home, record: &Record<'_>) -> Option<Call>
-    ensures value { result ≡ task_call_in home.now (record_view record.now) }
+fn task_call_of(home: &Home, row: &Record<'_>) -> Option<Call>
+    ensures value { result ≡ task_call_in home.now (record_view row.now) }
     ensures most { IfSome result (λ c. waits c ≤ 4294967295) }
 {
-    if record.call == b"start".as_slice() {
-        return start(home, record);
+    if row.call == b"start".as_slice() {
+        return start(home, row);
     }
-    if record.call == b"cancel".as_slice() {
-        return cancel(home, record);
+    if row.call == b"cancel".as_slice() {
+        return cancel(home, row);
     }
     None
 }
 
 /// The call that a record states.
-fn call(alloc: Global, home: &Home, record: &Record<'_>) -> Result<Option<Call>, AllocError>
-    ensures value { IfOk result (λ c. c ≡ call_in home.now (record_view record.now)) }
+fn call(alloc: Global, home: &Home, row: &Record<'_>) -> Result<Option<Call>, AllocError>
+    ensures value { IfOk result (λ c. c ≡ call_in home.now (record_view row.now)) }
     ensures most { IfOk result (λ c. IfSome c (λ c. waits c ≤ 4294967295)) }
 {
-    if record.call == b"send".as_slice() {
-        return send(alloc, home, record);
+    if row.call == b"send".as_slice() {
+        return send(alloc, home, row);
     }
-    if record.call == b"receive".as_slice() {
-        return receive(alloc, record);
+    if row.call == b"receive".as_slice() {
+        return receive(alloc, row);
     }
-    if record.call == b"delete".as_slice() {
-        return delete(alloc, record);
+    if row.call == b"delete".as_slice() {
+        return delete(alloc, row);
     }
-    if record.call == b"change".as_slice() {
-        return change(alloc, record);
+    if row.call == b"change".as_slice() {
+        return change(alloc, row);
     }
-    Ok(task_call_of(home, record))
+    Ok(task_call_of(home, row))
 }
 
 /// The call that a row states, with its time.
@@ -417,12 +400,12 @@ pub(crate) fn script_call(
     if row.len() != 11 {
         return Ok(None);
     }
-    let record = record_of(row);
-    let at = match number(alloc, record.at)? {
+    let fields = record_of(row);
+    let at = match number(alloc, fields.at)? {
         None => return Ok(None),
         Some(at) => at,
     };
-    match call(alloc, home, &record)? {
+    match call(alloc, home, &fields)? {
         None => Ok(None),
         Some(call) => Ok(Some(ScriptCall { at, call })),
     }

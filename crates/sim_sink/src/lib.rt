@@ -3,8 +3,6 @@
 
 mod limit;
 mod sink;
-#[cfg(test)]
-mod tests;
 
 pub use limit::Limit;
 pub use sink::RowSink;

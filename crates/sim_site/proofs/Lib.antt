@@ -24,3 +24,6 @@ pub mod Timely
 pub mod Told
 pub mod Deciding
 pub mod Answering
+pub mod Marked
+pub mod Grown
+pub mod Ending

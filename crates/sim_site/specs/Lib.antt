@@ -7,3 +7,4 @@ pub mod Tasks
 pub mod Origins
 pub mod Steps
 pub mod Due
+pub mod Marked

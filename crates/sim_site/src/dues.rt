@@ -1,35 +1,12 @@
-//! The least due of the agents and transfers of a site.
+//! The least due of the tasks and transfers of a site.
 ghost use Rattle.std.specs.Prelude.{◌≡◌, map, flat_map};
 ghost use Rattle.sim_clock.specs.Order.{least};
-ghost use Rattle.sqs_model.specs.Dues.{actor_dues, poll_key, task_dues};
+ghost use Rattle.sqs_model.specs.Dues.{task_dues};
 ghost use Rattle.sqs_redrive.specs.Transfers.{transfer_key};
 
-use crate::agents::{Poll, Task, wake_of};
-use sim_actor::Actor;
+use crate::agents::Task;
 use sim_clock::{Key, lesser};
 use sqs_redrive::Outbound;
-
-/// The least end of the polls that wait.
-pub fn least_end(polls: &[Poll]) -> Option<Key>
-    ensures { result ≡ least (map poll_key polls.now) }
-{
-    let mut best = None;
-    for i in (0..polls.len()).rev() {
-        best = lesser(Some(polls[i].key()), best);
-    }
-    best
-}
-
-/// The least wake of actors.
-pub fn least_wake(actors: &[Actor]) -> Option<Key>
-    ensures { result ≡ least (flat_map actor_dues actors.now) }
-{
-    let mut best = None;
-    for i in (0..actors.len()).rev() {
-        best = lesser(wake_of(&actors[i]), best);
-    }
-    best
-}
 
 /// The least step of tasks that run.
 pub fn least_step(tasks: &[Task]) -> Option<Key>

@@ -2,6 +2,7 @@
 //! and the handling of what is due there.
 #![tactic(auto)]
 
+mod actors;
 mod agents;
 mod arrivals;
 mod dues;
@@ -9,6 +10,7 @@ mod effects;
 mod loads;
 mod opening;
 mod places;
+mod polls;
 mod rows;
 mod site;
 mod state;

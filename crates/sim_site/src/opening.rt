@@ -3,6 +3,7 @@ ghost use Rattle.std.specs.Prelude.{◌≡◌, All, IfOk, map};
 ghost use Rattle.sim_actor.specs.Lives.{IsRole};
 ghost use Rattle.sqs_model.specs.Scenario.{opening_actor, opening_task};
 
+use crate::actors::Actors;
 use crate::agents::Task;
 use sim_actor::Actor;
 use sqs_model::ActorSettings;
@@ -14,15 +15,15 @@ pub fn open_actors(
     alloc: Global,
     actors: Vec<(u32, ActorSettings)>,
     seed: u64,
-) -> Result<Vec<Actor>, AllocError>
+) -> Result<Actors, AllocError>
     requires { All (λ x. IsRole x.1.role) actors.items }
-    ensures { IfOk result (λ opened. opened.items ≡ map (opening_actor seed) actors.items) }
+    ensures { IfOk result (λ opened. opened ≡ map (opening_actor seed) actors.items) }
 {
     let mut opened = Vec::new(alloc);
     for (number, settings) in actors {
         opened.push(Actor::new(alloc, number, settings, seed))?;
     }
-    Ok(opened)
+    Actors::of(alloc, opened)
 }
 
 /// The tasks of these numbers and settings, none of them started.

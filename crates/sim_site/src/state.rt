@@ -18,9 +18,10 @@ mod steps;
 mod tasks;
 mod turns;
 
-use crate::agents::{Poll, Task};
-use crate::dues::{least_end, least_step, least_wake};
-use sim_actor::Actor;
+use crate::actors::Actors;
+use crate::agents::Task;
+use crate::dues::least_step;
+use crate::polls::Polls;
 use sim_clock::{Class, Key, lesser};
 use sim_draw::Draws;
 use sqs_queue::Queue;
@@ -34,9 +35,9 @@ use std::marker::Model;
 pub struct Core {
     alloc: Global,
     queue: Queue,
-    actors: Vec<Actor>,
+    actors: Actors,
     tasks: Vec<Task>,
-    polls: Vec<Poll>,
+    polls: Polls,
     sent: u64,
     draws: Draws,
     sample: u64,
@@ -50,9 +51,9 @@ impl Model for Core {
 
     ghost Value = { Core };
 
-    ghost view = { λ c. record { queue = c.queue; actors = c.actors.items; tasks = c.tasks.items; polls = c.polls.items; sent = c.sent; draws = c.draws; sample = c.sample; samples = c.samples } };
+    ghost view = { λ c. record { queue = c.queue; actors = c.actors; tasks = c.tasks.items; polls = c.polls; sent = c.sent; draws = c.draws; sample = c.sample; samples = c.samples } };
 
-    ghost invariant = { λ c. IsSetUp c.queue.settings (map (λ a. a.settings) c.actors.items) (map numbered_settings c.tasks.items) × IsSampled c.sample c.samples × AreAllowed c.polls.items };
+    ghost invariant = { λ c. IsSetUp c.queue.settings (map (λ a. a.settings) c.actors) (map numbered_settings c.tasks.items) × IsSampled c.sample c.samples × AreAllowed c.polls };
 }
 
 impl Core {
@@ -60,21 +61,21 @@ impl Core {
     pub fn new(
         alloc: Global,
         queue: Queue,
-        actors: Vec<Actor>,
+        actors: Actors,
         tasks: Vec<Task>,
         draws: Draws,
         sample: u64,
     ) -> Core
-        requires set_up { IsSetUp queue.settings (map (λ a. a.settings) actors.items) (map numbered_settings tasks.items) }
+        requires set_up { IsSetUp queue.settings (map (λ a. a.settings) actors) (map numbered_settings tasks.items) }
         requires sample { sample ≤ most_count }
-        ensures { result ≡ record { queue = queue; actors = actors.items; tasks = tasks.items; polls = []; sent = 0; draws = draws; sample = sample; samples = 0 } }
+        ensures { result ≡ record { queue = queue; actors = actors; tasks = tasks.items; polls = []; sent = 0; draws = draws; sample = sample; samples = 0 } }
     {
         Core {
             alloc,
             queue,
             actors,
             tasks,
-            polls: Vec::new(alloc),
+            polls: Polls::new(alloc),
             sent: 0,
             draws,
             sample,
@@ -120,8 +121,8 @@ impl Core {
     pub fn least_due(&self) -> Option<Key>
         ensures { result ≡ least (core_dues self.now) }
     {
-        let best = lesser(self.queue.least_due(), least_end(&self.polls));
-        let best = lesser(best, least_wake(&self.actors));
+        let best = lesser(self.queue.least_due(), self.polls.least_end());
+        let best = lesser(best, self.actors.least_wake());
         let best = lesser(best, self.sample_due());
         lesser(best, least_step(&self.tasks))
     }

@@ -5,11 +5,10 @@ mod gate;
 mod piece;
 mod rounds;
 mod scope;
-#[cfg(test)]
-mod tests;
 mod worker;
 
 pub use gate::{Gate, Open};
 pub use piece::{Came, Done, Piece, Running};
 pub use rounds::round;
 pub use scope::{join_all, start_all};
+pub use worker::collect_at;

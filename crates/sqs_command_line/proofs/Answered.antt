@@ -1,15 +1,14 @@
 -- What the reading of a line answers, over plain values.
-use Rattle.std.proofs.Common.{[], Err, IfErr, IfOk, List, MatchResult, None, Ok, Option, Result, Some, ap, refl, subst, sym, true, ℕ, ◌≡◌}
+use Rattle.std.proofs.Common.{Err, IfErr, List, MatchResult, None, Ok, Option, Result, Some, ap, refl, true, ℕ, ◌≡◌}
 use Rattle.std.specs.Result.{IsErrAnd}
 use Rattle.std.specs.Str.Parse.{ParsesUnsigned}
-use Rattle.clap.specs.Words.{HasKind, Row, Text, fault_of, is_simple, subcommand_of}
+use Rattle.clap.specs.Words.{HasKind, Text, fault_of, is_simple}
 use Rattle.clap.specs.Faults.{is_simple_and_free}
 use Rattle.clap.specs.declared.error.Error.{Error}
 use Rattle.clap.specs.Matches.{TriesOne}
 use Rattle.clap.proofs.OnLiterals.{clap_on_literals}
-use Rattle.sqs_command_line.specs.Lines.{IsFaultOf, IsLineOf, IsNumber, IsReadableOf, IsUnread, number_of}
+use Rattle.sqs_command_line.specs.Lines.{IsFaultOf, IsNumber, number_of}
 use Rattle.sqs_command_line.specs.Programs.{program}
-use Rattle.sqs_command_line.specs.declared.asked.Line.{Line}
 use Rattle.sqs_command_line.specs.declared.asked.LineFault.{LineFault}
 use Rattle.sqs_command_line.specs.declared.asked.LineFault.TheVariants as faults
 
@@ -33,21 +32,6 @@ told_number k G only None (Err e) none value = absurd (let e = none refl in cc)
 told_number k G only (Some t) (Ok (Some v)) none value = ap (λ n. Some n) (only t (Ok v) (value t refl)).1
 told_number k G only (Some t) (Ok None) none value = absurd (value t refl)
 told_number k G only (Some t) (Err e) none value = λ h. only t (Err e) (value t refl) h
-
-pub answered_line :
-    (words : List Text) (found : Option (Text × List Row)) (r : Result Line LineFault) → fault_of program words ≡ [] → found ≡ subcommand_of program words
-    → MatchResult r (IsLineOf found) (IsUnread (IsReadableOf found))
-    → IfOk r (λ l. (fault_of program words ≡ []) × IsLineOf (subcommand_of program words) l)
-answered_line words found (Ok l) none same h = (none, subst (λ (x : Option (Text × List Row)). IsLineOf x l) same h)
-answered_line words found (Err e) none same h = tt
-
-pub answered_fault :
-    (words : List Text) (found : Option (Text × List Row)) (r : Result Line LineFault) → fault_of program words ≡ [] → found ≡ subcommand_of program words
-    → MatchResult r (IsLineOf found) (IsUnread (IsReadableOf found))
-    → IfErr r (IsFaultOf words)
-answered_fault words found (Ok l) none same h = tt
-answered_fault words found (Err e) none same h =
-    subst (IsFaultOf words) (sym h.0) (none, λ readable. h.1 (subst IsReadableOf (sym same) readable))
 
 -- the fault that a `?` hands on is the one that the rules find
 pub handed_fault : {X : Type 0} (words : List Text) (r : Result X LineFault) (e : Error) → IsErrAnd r (λ met. met ≡ faults.Words e) → HasKind (fault_of program words) e → IfErr r (IsFaultOf words)

@@ -1,1 +1,5 @@
+pub mod Added
 pub mod Answered
+pub mod Passed
+pub mod Readable
+pub mod Stopped

@@ -1,8 +1,8 @@
 -- Which line a subcommand and its arguments are.
-use Rattle.std.specs.Prelude.{[], Bool, Err, List, None, Ok, Option, Result, Some, codes, false, option_map, ℕ, ◌<◌, ◌^◌, ◌≡◌, ◌⊎◌, true, ⊤}
+use Rattle.std.specs.Prelude.{Bool, Err, List, None, Ok, Option, Result, Some, codes, false, option_map, ℕ, ◌<◌, ◌^◌, ◌≡◌, ◌⊎◌, true, ⊤}
 use Rattle.std.specs.Borrow.{Bor}
 use Rattle.std.specs.Str.Parse.{IsNumeral, digits_value, without_leading_plus}
-use Rattle.clap.specs.Words.{HasKind, Row, Text, fault_of, first_of, one_of, subcommand_of}
+use Rattle.clap.specs.Words.{HasKind, Row, Text, fault_of, first_of, one_of}
 use Rattle.sqs_command_line.specs.declared.asked.CheckLine.{CheckLine}
 use Rattle.sqs_command_line.specs.declared.asked.CompareLine.{CompareLine}
 use Rattle.sqs_command_line.specs.declared.asked.Line.{Line}
@@ -25,14 +25,10 @@ abbrev pub IsNumber : ℕ → Option Text → Type 0
 IsNumber k None = ⊤
 IsNumber k (Some t) = IsNumeral 10 (without_leading_plus t) × (digits_value 10 (without_leading_plus t) < 2 ^ k)
 
--- a number can't be read, since P does not hold
-abbrev pub IsUnread : Type 0 → LineFault → Type 0
-IsUnread P fault = (fault ≡ faults.Unread) × ¬ P
-
 -- the number of k bits that a text tells, or that it tells none
-abbrev pub TellsNumber : ℕ → Option Text → Result (Option ℕ) LineFault → Type 0
+abbrev pub TellsNumber : {E : Type 0} → ℕ → Option Text → Result (Option ℕ) E → Type 0
 TellsNumber k text (Ok number) = number ≡ number_of text
-TellsNumber k text (Err fault) = IsUnread (IsNumber k text) fault
+TellsNumber k text (Err unread) = ¬ IsNumber k text
 
 -- whether an option without a value was given, by the text that it then has
 pub record IsFlag (text : Option Text) (flag : Bool) : Type 0 where
@@ -85,7 +81,6 @@ abbrev pub IsReadableOf : Option (Text × List Row) → Type 0
 IsReadableOf None = ⊥
 IsReadableOf (Some p) = IsReadable p
 
--- why words are no line: a fault that `clap`'s rules find in them, or want of memory; else a number that can't be read
+-- why words are no line: a fault that `clap`'s rules find in them, or want of memory
 abbrev pub IsFaultOf : List Text → LineFault → Type 0
 IsFaultOf words (faults.Words error) = HasKind (fault_of program words) error
-IsFaultOf words faults.Unread = (fault_of program words ≡ []) × ¬ IsReadableOf (subcommand_of program words)

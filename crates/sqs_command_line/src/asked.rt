@@ -53,8 +53,6 @@ pub enum Line<'a> {
 pub enum LineFault {
     /// A usage fault, help that was asked for, or want of memory; `clap` has the text of it.
     Words(Error),
-    /// `clap` let pass what is no subcommand or no number.
-    Unread,
 }
 
 impl From<Error> for LineFault {

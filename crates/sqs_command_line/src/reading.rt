@@ -1,7 +1,7 @@
 //! The line that some words are.
 ghost use Rattle.std.specs.Prelude.{◌≡◌, [], IfErr, IfOk, MatchResult, map};
 ghost use Rattle.clap.specs.Words.{fault_of, found_of, one_of, rows_of, subcommand_of, subcommand_rows_of};
-ghost use Rattle.sqs_command_line.specs.Lines.{HasNumbers, IsCheck, IsCompare, IsFaultOf, IsLine, IsLineOf, IsReadable, IsReadableOf, IsRun, IsUnread, TellsNumber};
+ghost use Rattle.sqs_command_line.specs.Lines.{HasNumbers, IsCheck, IsCompare, IsFaultOf, IsLine, IsLineOf, IsReadable, IsReadableOf, IsRun, TellsNumber};
 ghost use Rattle.sqs_command_line.specs.Programs.{program};
 
 use crate::asked::{CheckLine, CompareLine, Line, LineFault, RunLine};
@@ -9,29 +9,33 @@ use crate::commands::command;
 use clap::ArgMatches;
 use std::alloc::Global;
 
+// What `clap` found is no subcommand or no number.
+#[derive(Clone, Copy)]
+struct Unread;
+
 // The time that an option tells, where it was given.
-fn time(matches: &ArgMatches, id: &str) -> Result<Option<u64>, LineFault>
+fn time(matches: &ArgMatches, id: &str) -> Result<Option<u64>, Unread>
     ensures { TellsNumber 64 (one_of id.now (rows_of (found_of matches.now))) result }
 {
     match matches.try_get_one::<u64>(id) {
         Ok(time) => Ok(time),
-        Err(_) => Err(LineFault::Unread),
+        Err(_) => Err(Unread),
     }
 }
 
 // The number that an option tells, where it was given.
-fn number(matches: &ArgMatches, id: &str) -> Result<Option<u32>, LineFault>
+fn number(matches: &ArgMatches, id: &str) -> Result<Option<u32>, Unread>
     ensures { TellsNumber 32 (one_of id.now (rows_of (found_of matches.now))) result }
 {
     match matches.try_get_one::<u32>(id) {
         Ok(number) => Ok(number),
-        Err(_) => Err(LineFault::Unread),
+        Err(_) => Err(Unread),
     }
 }
 
 // What `run` asks for.
-fn run_line<'a>(matches: &ArgMatches<'a>) -> Result<RunLine<'a>, LineFault>
-    ensures { MatchResult result (IsRun (rows_of (found_of matches.now))) (IsUnread (HasNumbers (rows_of (found_of matches.now)))) }
+fn run_line<'a>(matches: &ArgMatches<'a>) -> Result<RunLine<'a>, Unread>
+    ensures { MatchResult result (IsRun (rows_of (found_of matches.now))) (λ u. ¬ HasNumbers (rows_of (found_of matches.now))) }
 {
     let window = time(matches, "window")?;
     let parts = number(matches, "parts")?;
@@ -70,8 +74,8 @@ fn compare_line<'a>(matches: &ArgMatches<'a>) -> CompareLine<'a>
 }
 
 // The line of a subcommand's name and matches.
-fn line_of_subcommand<'a>(name: &str, matches: &ArgMatches<'a>) -> Result<Line<'a>, LineFault>
-    ensures { MatchResult result (IsLine name.now (rows_of (found_of matches.now))) (IsUnread (IsReadable (name.now, rows_of (found_of matches.now)))) }
+fn line_of_subcommand<'a>(name: &str, matches: &ArgMatches<'a>) -> Result<Line<'a>, Unread>
+    ensures { MatchResult result (IsLine name.now (rows_of (found_of matches.now))) (λ u. ¬ IsReadable (name.now, rows_of (found_of matches.now))) }
 {
     if name == "run" {
         return Ok(Line::Run(run_line(matches)?));
@@ -82,16 +86,16 @@ fn line_of_subcommand<'a>(name: &str, matches: &ArgMatches<'a>) -> Result<Line<'
     if name == "compare" {
         return Ok(Line::Compare(compare_line(matches)));
     }
-    Err(LineFault::Unread)
+    Err(Unread)
 }
 
 // The line that the matches are.
-fn line_of<'a>(matches: &ArgMatches<'a>) -> Result<Line<'a>, LineFault>
-    ensures { MatchResult result (IsLineOf (subcommand_rows_of matches.now)) (IsUnread (IsReadableOf (subcommand_rows_of matches.now))) }
+fn line_of<'a>(matches: &ArgMatches<'a>) -> Result<Line<'a>, Unread>
+    ensures { MatchResult result (IsLineOf (subcommand_rows_of matches.now)) (λ u. ¬ IsReadableOf (subcommand_rows_of matches.now)) }
 {
     match matches.subcommand() {
         Some((name, found)) => line_of_subcommand(name, found),
-        None => Err(LineFault::Unread),
+        None => Err(Unread),
     }
 }
 
@@ -100,7 +104,7 @@ fn line_of<'a>(matches: &ArgMatches<'a>) -> Result<Line<'a>, LineFault>
 /// # Errors
 ///
 /// `Words` where `clap`'s rules find a fault in the words, which has its kind, or they ask for help,
-/// or memory was refused. `Unread` only where a number in them is none of its type.
+/// or memory was refused. Where the rules find none, only memory can be wanting.
 pub fn line<'a>(alloc: Global, words: &'a [&'a str]) -> Result<Line<'a>, LineFault>
     ensures line { IfOk result (λ l. (fault_of program (map (λ w. w.now) words.entry.now) ≡ []) × IsLineOf (subcommand_of program (map (λ w. w.now) words.entry.now)) l) }
     ensures fault { IfErr result (IsFaultOf (map (λ w. w.now) words.entry.now)) }
@@ -110,5 +114,8 @@ pub fn line<'a>(alloc: Global, words: &'a [&'a str]) -> Result<Line<'a>, LineFau
         Err(refused) => return Err(LineFault::Words(refused.into())),
     };
     let matches = command.try_get_matches_from(words)?;
-    line_of(&matches)
+    match line_of(&matches) {
+        Ok(line) => Ok(line),
+        Err(Unread) => unreachable!(),
+    }
 }

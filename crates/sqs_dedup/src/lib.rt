@@ -5,7 +5,5 @@
 mod dedup;
 mod held;
 mod key;
-#[cfg(test)]
-mod tests;
 
 pub use dedup::Dedup;

@@ -3,7 +3,6 @@
 #![tactic(auto)]
 
 mod queue;
-#[cfg(test)]
-mod tests;
 
 pub use queue::FifoQueue;
+pub use sqs_store::Received;

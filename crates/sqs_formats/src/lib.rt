@@ -4,8 +4,6 @@
 
 mod faults;
 mod home;
-#[cfg(test)]
-mod tests;
 
 pub use faults::{ScenarioFault, ScriptFault};
 pub use home::{Home, HomeTask, HomeTasks};

@@ -10,8 +10,6 @@ mod key;
 mod mark;
 mod room;
 mod table;
-#[cfg(test)]
-mod tests;
 
 pub use choose::Choice;
 pub use group_shelf::GroupShelf;

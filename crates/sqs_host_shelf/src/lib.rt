@@ -4,7 +4,5 @@
 
 mod host_shelf;
 mod marking;
-#[cfg(test)]
-mod tests;
 
 pub use host_shelf::HostShelf;

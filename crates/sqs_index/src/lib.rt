@@ -4,8 +4,6 @@
 
 mod mark;
 mod marks;
-#[cfg(test)]
-mod tests;
 
 pub use mark::{Mark, NO_MARK};
 pub use marks::Marks;

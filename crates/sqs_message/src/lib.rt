@@ -6,8 +6,6 @@ mod digest;
 mod ids;
 mod message;
 mod row;
-#[cfg(test)]
-mod tests;
 mod text;
 
 pub use calls::{Call, Script, ScriptCall};

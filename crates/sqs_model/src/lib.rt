@@ -9,8 +9,6 @@ mod finals;
 mod laws;
 mod limits;
 mod marks;
-#[cfg(test)]
-mod tests;
 
 pub use acts::{Act, Answer};
 pub use agents::{ActorSettings, ConsumerSettings, Forwarding, ProducerSettings, Role};

@@ -2,8 +2,6 @@
 #![tactic(auto)]
 
 mod queue;
-#[cfg(test)]
-mod tests;
 
 pub use queue::Queue;
 pub use sqs_store::{Counts, Messages};

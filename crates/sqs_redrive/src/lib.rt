@@ -4,8 +4,6 @@
 mod answers;
 mod redrive;
 mod settings;
-#[cfg(test)]
-mod tests;
 mod transfers;
 
 pub use answers::{Batch, Deleted, Got, Rest, Returned, Sent};

@@ -8,8 +8,6 @@ mod messages;
 mod room;
 mod shelf;
 mod slot;
-#[cfg(test)]
-mod tests;
 
 pub use choose::chosen;
 pub use counts::Counts;

@@ -2,8 +2,6 @@
 #![tactic(auto)]
 
 mod queue;
-#[cfg(test)]
-mod tests;
 
 pub use queue::StandardQueue;
-pub use sqs_store::Counts;
+pub use sqs_store::{Counts, Received};

@@ -1,7 +1,6 @@
 -- The giving of a batch, one message after another, and that it is what the definitions give.
 use Rattle.std.proofs.Common.{◌≡◌, ℕ, ◌+◌, ◌<◌, ◌≤◌, Bool, true, false, List, [], ◌∷◌, ◌++◌, Option, Some, None, cond, if◌then◌else◌, length, take, drop, set, map, get_or, arith, refl, sym, ap, ◌∙◌, append_assoc, append-nil}
-use Rattle.std.specs.Prelude.{All, Err, IfOk, IfSome, Ok, OnOk, Result, find, ◌==◌, ◌≢◌}
-use Rattle.sim_clock.specs.declared.refusal.Refusal.{Refusal}
+use Rattle.std.specs.Prelude.{All, IfSome, Ok, find, ◌==◌, ◌≢◌}
 use Rattle.std.proofs.lemmas.List.{drop-set-lt, take_more_set, length-set, drop_all, take_all}
 use Rattle.std.proofs.lemmas.List.Elements.{All-tail, All-map}
 use Rattle.sim_clock.specs.Firsts.{changed}
@@ -168,13 +167,6 @@ gives_none q now timeout n e =
       | true ↦ ap (λ t. released t n) same ∙ ap (released_found q n) e
       | false ↦ ap (λ t. (t, None)) same
     ]
-
--- the same, of an answer that may be a refusal
-pub told_can_be_given :
-    {V : Type 0} (items : V → List Got) (r : Result V Refusal) (q : Queue) (ms : List Message) → Stand q ms → Differ (λ m. m.number) ms
-    → IfOk r (λ v. items v ≡ map (told_of q.site) ms) → OnOk r (All (λ m. m.receives < most_count) ms) → IfOk r (λ v. CanBeGiven q (items v))
-told_can_be_given items (Ok v) q ms found apart told below = rw told (can_be_given q ms found apart below)
-told_can_be_given items (Err refusal) q ms found apart told below = tt
 
 -- a batch that was told of and then given is what the definitions give
 pub answered_given :

@@ -12,6 +12,16 @@ use sqs_model::MOST_COUNT;
 use sqs_redrive::Got;
 use std::alloc::{AllocError, Global};
 
+/// What a receive gives, and what choosing it cost.
+#[derive(Drop)]
+pub struct Received {
+    /// The messages that it gives, in order.
+    pub messages: Vec<Got>,
+    /// How many messages it read in order to choose these: a standard queue reads those that it
+    /// gives and no others, a FIFO queue at most one delayed message more of each group that gives.
+    pub looked: u64,
+}
+
 // Another group of the same name.
 pub fn copied_group(alloc: Global, group: &Option<Text>) -> Result<Option<Text>, AllocError>
     ensures { IfOk result (λ copy. copy ≡ group.now) }

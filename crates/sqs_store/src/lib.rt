@@ -7,9 +7,8 @@ mod loads;
 mod places;
 mod queue_shelf;
 mod store;
-#[cfg(test)]
-mod tests;
 
+pub use batch::Received;
 pub use places::{is_out, may_be_received};
 pub use sqs_shelf::{Counts, Messages};
 pub use store::Store;

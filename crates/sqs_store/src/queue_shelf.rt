@@ -1,5 +1,5 @@
 //! The messages of a queue of either kind.
-ghost use Rattle.std.specs.Prelude.{◌≡◌, ◌++◌, ◌∷◌, ◌+◌, ◌<◌, ◌≤◌, [], All, IfOk, None, OnErr, OnOk, count_by, map, not, take};
+ghost use Rattle.std.specs.Prelude.{◌≡◌, ◌++◌, ◌∷◌, ◌+◌, ◌*◌, ◌<◌, ◌≤◌, [], All, IfOk, None, OnErr, OnOk, count_by, length, map, not, take};
 ghost use Rattle.std.specs.Option.{option_copied};
 ghost use Rattle.sim_clock.specs.Firsts.{is_empty};
 ghost use Rattle.sim_clock.specs.Order.{least};
@@ -18,7 +18,7 @@ ghost use Rattle.sqs_store.specs.Shelves.{queue_of};
 use crate::places::out_until;
 use sim_clock::Key;
 use sqs_dedup::Dedup;
-use sqs_group_shelf::GroupShelf;
+use sqs_group_shelf::{Choice, GroupShelf};
 use sqs_host_shelf::HostShelf;
 use sqs_message::{Message, Text};
 use sqs_redrive::{Kind, QueueSettings};
@@ -212,15 +212,22 @@ impl QueueShelf {
     }
 
     // The numbers of the first messages, at most so many, that a receive may give which sees these
-    // hosts.
-    pub fn first_numbers(&self, hosts: u32, most: u64) -> Result<Vec<u64>, AllocError>
-        ensures { IfOk result (λ numbers. numbers.items ≡ map (λ m. m.number) (take most (available (queue_of self.now) hosts))) }
+    // hosts, and how many messages were read to choose them.
+    pub fn first_numbers(&self, hosts: u32, most: u64) -> Result<Choice, AllocError>
+        ensures numbers { IfOk result (λ choice. choice.numbers.items ≡ map (λ m. m.number) (take most (available (queue_of self.now) hosts))) }
+        ensures looked { IfOk result (λ choice. choice.looked ≤ 2 * most) }
+        ensures read { IfOk result (λ choice. length choice.numbers.items ≤ choice.looked) }
     {
         match self {
-            QueueShelf::Hosts(shelf) => shelf.first_numbers(hosts, most),
+            QueueShelf::Hosts(shelf) => {
+                let numbers = shelf.first_numbers(hosts, most)?;
+                // By their hosts it reads no message but those that it chooses.
+                let looked = numbers.len() as u64;
+                Ok(Choice { numbers, looked })
+            }
             QueueShelf::Groups(shelf) => {
                 let _fifo = shelf.settings();
-                Ok(shelf.first_numbers(most)?.numbers)
+                shelf.first_numbers(most)
             }
         }
     }

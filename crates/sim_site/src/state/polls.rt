@@ -1,6 +1,5 @@
 //! Polls that wait: their ends, and the answers that they get.
-ghost use Rattle.std.specs.Prelude.{IfErr, IfOk, MatchOption, OnOk, drop, false, position, ◌-◌, ◌^◌, ◌≡◌, ◌≤◌};
-ghost use Rattle.sim_clock.specs.Firsts.{without};
+ghost use Rattle.std.specs.Prelude.{IfErr, OnOk, false, ◌-◌, ◌^◌, ◌≡◌, ◌≤◌};
 ghost use Rattle.sqs_model.specs.Answers.{most_count};
 ghost use Rattle.sqs_model.specs.Available.{all_hosts};
 ghost use Rattle.sqs_model.specs.Polls.{answer_polls, poll_answered, poll_given};
@@ -8,8 +7,7 @@ ghost use Rattle.sqs_model.specs.Site.{no_effect};
 ghost use Rattle.sim_clock.specs.declared.key.Key.{Key};
 ghost use Rattle.sqs_model.specs.Valid.{IsQueueSettings, MayBeTimeout};
 ghost use Rattle.sqs_model.specs.Progress.{IsRecent};
-ghost use Rattle.sqs_model.specs.Places.{IsAbsent, Stands};
-ghost use Rattle.sqs_model.specs.Step.{ends_at, handle_poll_end};
+ghost use Rattle.sqs_model.specs.Step.{handle_poll_end};
 ghost use Rattle.sim_site.specs.Effects.{Did, Stops};
 
 use super::Core;
@@ -21,48 +19,6 @@ use sqs_message::RowAnswer;
 use sqs_model::Answer;
 use sqs_queue::Queue;
 use sqs_redrive::{Batch, Kind};
-use std::alloc::{AllocError, Global};
-
-// Where the first poll stands that ends by a key.
-fn first_ending(polls: &[Poll], key: Key) -> Option<usize>
-    ensures { result ≡ position (ends_at key) polls.now }
-{
-    polls.iter().position(|poll| key.cmp(&poll.key()).is_eq())
-}
-
-// The same, with what it says of the list.
-fn place_of_end(polls: &[Poll], key: Key) -> Option<usize>
-    ensures { MatchOption result (IsAbsent (ends_at key) polls.now) (Stands (ends_at key) polls.now) }
-{
-    first_ending(polls, key)
-}
-
-// Takes out the poll that ends by a key.
-fn end(polls: &mut Vec<Poll>, key: Key)
-    ensures { polls.new.items ≡ without (ends_at key) polls.old.items }
-{
-    let Some(place) = place_of_end(polls.as_slice(), key) else {
-        return;
-    };
-    polls.remove(place);
-}
-
-// The first poll leaves the list, if there is one.
-fn drop_first(polls: &mut Vec<Poll>)
-    ensures { polls.new.items ≡ drop 1 polls.old.items }
-{
-    if polls.is_empty() {
-        return;
-    }
-    polls.remove(0);
-}
-
-// The same polls in another list.
-fn copied(alloc: Global, polls: &[Poll]) -> Result<Vec<Poll>, AllocError>
-    ensures { IfOk result (λ copy. copy.items ≡ polls.now) }
-{
-    polls.to_vec(alloc)
-}
 
 // On how many hosts the messages of a queue lie, those of a FIFO queue as if on one.
 fn host_count(queue: &Queue) -> u64
@@ -92,7 +48,7 @@ impl Core {
             // The timeout was allowed when the poll began to wait.
             Err(_) => unreachable!(),
         };
-        drop_first(&mut self.polls);
+        self.polls.drop_first();
         self.give(key, poll.actor, timeout, gots.as_slice(), effects)?;
         self.told(key, poll.actor, Answer::Got(Batch::new(gots)), effects)
     }
@@ -104,13 +60,16 @@ impl Core {
         ensures did { OnOk result (Did effects.old effects.new self.new (answer_polls key self.old.polls self.old)) }
         ensures stops { IfErr result (Stops (answer_polls key self.old.polls self.old)) }
     {
-        let polls = copied(self.alloc, &self.polls)?;
-        for i in 0..polls.len() {
+        for _ in 0..self.polls.len() {
             let gives = self.queue.can_give();
             if !gives {
                 return Ok(());
             }
-            self.answer_poll(key, polls[i], effects)?;
+            let Some(poll) = self.polls.first() else {
+                // Those that were there and were not answered yet still wait.
+                unreachable!();
+            };
+            self.answer_poll(key, poll, effects)?;
         }
         Ok(())
     }
@@ -144,7 +103,7 @@ impl Core {
         ensures stops { IfErr result (Stops (handle_poll_end key self.old)) }
     {
         let site = self.queue.site();
-        end(&mut self.polls, key);
+        self.polls.end(key);
         effects.say(receive_row(key, site, key.agent, RowAnswer::Empty))?;
         let nothing = Answer::Got(Batch::new(Vec::new(self.alloc)));
         self.told(key, key.agent, nothing, effects)

@@ -18,7 +18,6 @@ use super::Core;
 use super::sends::told_refusal;
 use crate::agents::Poll;
 use crate::effects::Effects;
-use crate::places::{place_of_actor, polled_at};
 use crate::rows::row;
 use sim_clock::{Key, Refusal};
 use sqs_message::{Detail, Row, RowAnswer, RowKind};
@@ -126,18 +125,19 @@ impl Core {
             effects.say(receive_row(key, site, agent, RowAnswer::Empty))?;
             return Ok(Answer::Got(Batch::new(Vec::new(self.alloc))));
         }
-        let Some(place) = place_of_actor(&self.actors, agent) else {
+        let Some(place) = self.actors.place_of(agent) else {
             return Ok(Answer::Waiting);
         };
         effects.say(receive_row(key, site, agent, RowAnswer::Wait))?;
-        let number = polled_at(&mut self.actors, place, agent)?;
-        self.polls.push(Poll {
+        let number = self.actors.polled_at(place, agent)?;
+        let poll = Poll {
             actor: agent,
             number,
             max,
             timeout,
             end: key.at + 1000 * wait,
-        })?;
+        };
+        self.polls.push(self.alloc, poll)?;
         Ok(Answer::Waiting)
     }
 

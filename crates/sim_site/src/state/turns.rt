@@ -12,7 +12,6 @@ ghost use Rattle.sim_site.specs.Turns.{DidTurn, WaitsShortly, turn_by, turn_of};
 
 use super::Core;
 use crate::effects::Effects;
-use crate::places::{next_at, place_of_actor};
 use sim_clock::{Key, Refusal};
 use sqs_model::{Act, Answer};
 
@@ -75,10 +74,10 @@ impl Core {
         ensures did { IfOk result (λ told. DidTurn effects.old effects.new self.new told (turn_of key answer self.old (actor_numbered agent self.old))) }
         ensures stops { IfErr result (Stops (turn_of key answer self.old (actor_numbered agent self.old)).effect) }
     {
-        let Some(place) = place_of_actor(&self.actors, agent) else {
+        let Some(place) = self.actors.place_of(agent) else {
             return Ok(None);
         };
-        let act = next_at(&mut self.actors, place, agent, key.at, answer)?;
+        let act = self.actors.next_at(place, agent, key.at, answer)?;
         self.act(key, agent, act, effects)
     }
 

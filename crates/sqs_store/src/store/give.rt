@@ -1,5 +1,5 @@
 //! The giving of messages to a receiver.
-ghost use Rattle.std.specs.Prelude.{◌≡◌, ◌-◌, false, true, ◌<◌, ◌≤◌, ◌⊎◌, All, Any, Err, IfErr, IfOk, IfSome, OnErr, OnOk, map, take};
+ghost use Rattle.std.specs.Prelude.{◌≡◌, ◌-◌, ◌*◌, false, true, ◌<◌, ◌≤◌, ◌⊎◌, All, Any, Err, IfErr, IfOk, IfSome, OnErr, OnOk, length, map, take};
 ghost use Rattle.std.specs.Result.{result_map_both};
 ghost use Rattle.sqs_model.specs.Answers.{Meets, most_count};
 ghost use Rattle.sqs_model.specs.Available.{available};
@@ -9,7 +9,7 @@ ghost use Rattle.sqs_model.specs.Receive.{answered, give, is_bad_timeout, timeou
 ghost use Rattle.sqs_store.specs.Giving.{CanBeGiven, gives, gives_all, told_of};
 
 use super::Store;
-use crate::batch::batch_of;
+use crate::batch::{Received, batch_of};
 use crate::places::received;
 use sim_clock::Refusal;
 use sqs_model::LONGEST_TIMEOUT;
@@ -36,37 +36,46 @@ impl Store {
 
     /// Gives the first messages, at most so many, of those that a receive may give which sees these
     /// hosts, one after another, each for so many milliseconds; with 0 it comes back at once
-    /// (`ReceiveMessage`). `CountLimit` where one of them can be received no more; `Memory`.
+    /// (`ReceiveMessage`). Tells how many messages it read in order to choose them. `CountLimit`
+    /// where one of them can be received no more; `Memory`.
     pub fn give_first(
         &mut self,
         now: u64,
         timeout: u64,
         hosts: u32,
         most: u64,
-    ) -> Result<Vec<Got>, Refusal>
+    ) -> Result<Received, Refusal>
         requires moment { now ≤ most_count }
         requires timeout { timeout ≤ longest_flight }
-        ensures answer { Meets (Any (λ m. m.receives ≡ most_count) (take most (available self.old hosts))) (result_map_both (λ batch. batch.items) (λ refusal. refusal) result) self.new (answered (give now timeout (take most (available self.old hosts)) self.old)) }
+        ensures answer { Meets (Any (λ m. m.receives ≡ most_count) (take most (available self.old hosts))) (result_map_both (λ received. received.messages.items) (λ refusal. refusal) result) self.new (answered (give now timeout (take most (available self.old hosts)) self.old)) }
+        ensures looked { IfOk result (λ received. received.looked ≤ 2 * most) }
+        ensures read { IfOk result (λ received. length received.messages.items ≤ received.looked) }
         ensures counted { OnOk result (All (λ m. m.receives < most_count) (take most (available self.old hosts))) }
         ensures unchanged { OnErr result (self.new ≡ self.old) }
         ensures kept { self.new.entries ≡ self.old.entries }
         ensures framed { IsFramed self.old self.new }
     {
         let mut batch = self.batch(hosts, most)?;
-        self.give_all(now, timeout, &mut batch);
+        self.give_all(now, timeout, &mut batch.messages);
         Ok(batch)
     }
 
     // What a receive tells of the first messages, before it gives them.
-    fn batch(&self, hosts: u32, most: u64) -> Result<Vec<Got>, Refusal>
-        ensures told { IfOk result (λ batch. batch.items ≡ map (told_of self.now.site) (take most (available self.now hosts))) }
-        ensures given { IfOk result (λ batch. CanBeGiven self.now batch.items) }
+    fn batch(&self, hosts: u32, most: u64) -> Result<Received, Refusal>
+        ensures told { IfOk result (λ batch. batch.messages.items ≡ map (told_of self.now.site) (take most (available self.now hosts))) }
+        ensures given { IfOk result (λ batch. CanBeGiven self.now batch.messages.items) }
+        ensures looked { IfOk result (λ batch. batch.looked ≤ 2 * most) }
+        ensures read { IfOk result (λ batch. length batch.messages.items ≤ batch.looked) }
         ensures below { OnOk result (All (λ m. m.receives < most_count) (take most (available self.now hosts))) }
         ensures at_limit { result ≡ Err Refusal.CountLimit → Any (λ m. m.receives ≡ most_count) (take most (available self.now hosts)) }
         ensures refused { IfErr result (λ refusal. (refusal ≡ Refusal.CountLimit) ⊎ (refusal ≡ Refusal.Memory)) }
     {
-        let numbers = self.shelf.first_numbers(hosts, most)?;
-        batch_of(self.alloc, &self.shelf, &numbers)
+        let choice = self.shelf.first_numbers(hosts, most)?;
+        let messages = batch_of(self.alloc, &self.shelf, &choice.numbers)?;
+        Ok(Received {
+            messages,
+            looked: choice.looked,
+        })
     }
 
     // Gives the messages of a batch, one after another.
@@ -75,6 +84,7 @@ impl Store {
         requires timeout { timeout ≤ longest_flight }
         requires given { CanBeGiven self.old batch.old.items }
         ensures given { gives_all now timeout batch.old.items self.old ≡ (self.new, batch.new.items) }
+        ensures same_length { length batch.new.items ≡ length batch.old.items }
         ensures kept { self.new.entries ≡ self.old.entries }
         ensures framed { IsFramed self.old self.new }
     {

@@ -40,9 +40,9 @@ impl Store {
         ensures kept { self.new.entries ≡ self.old.entries }
         ensures framed { IsFramed self.old self.new }
     {
-        let numbers = self.shelf.first_numbers(self.all_hosts(), most)?;
-        let mut loads = Vec::with_capacity(self.alloc, numbers.len())?;
-        let stuck = take_each(&mut self.shelf, &numbers, to, &mut loads);
+        let choice = self.shelf.first_numbers(self.all_hosts(), most)?;
+        let mut loads = Vec::with_capacity(self.alloc, choice.numbers.len())?;
+        let stuck = take_each(&mut self.shelf, &choice.numbers, to, &mut loads);
         Ok((loads, stuck))
     }
 

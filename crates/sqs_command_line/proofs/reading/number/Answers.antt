@@ -1,4 +1,4 @@
-use Rattle.std.proofs.Common.{Ok, Err, Option, ap, refl, subst, ◌∙◌}
+use Rattle.std.proofs.Common.{Ok, Err, Option, ap, subst, ◌∙◌}
 use Rattle.std.specs.Str.Parse.{ExplainsUnsignedError, HasUnsignedDigitsIfOk, ParsesUnsigned}
 use Rattle.clap.specs.Words.{Text, found_of, one_text}
 use Rattle.clap.proofs.WalkLemmas.{one_text-rows}
@@ -15,9 +15,7 @@ returns-in-Ok c =
 
 pub returns-in-Err : goal.returns-in-Err
 returns-in-Err c =
-    let found = found_of c.args.matches.now in (
-      refl,
-      subst (λ (t : Option Text). IsNumber 32 t → ⊥) (one_text-rows found c.args.id.now)
-          (told_number 32 (λ bs r. ParsesUnsigned 32 10 bs r × ExplainsUnsignedError 10 bs r × HasUnsignedDigitsIfOk bs r) (λ u x g. g.0)
-          (one_text found c.args.id.now) (Err c.in-Err.field-0) c.in-Err.ensures.none c.in-Err.ensures.value),
-    )
+    let found = found_of c.args.matches.now in
+    subst (λ (t : Option Text). IsNumber 32 t → ⊥) (one_text-rows found c.args.id.now)
+    (told_number 32 (λ bs r. ParsesUnsigned 32 10 bs r × ExplainsUnsignedError 10 bs r × HasUnsignedDigitsIfOk bs r) (λ u x g. g.0)
+    (one_text found c.args.id.now) (Err c.in-Err.field-0) c.in-Err.ensures.none c.in-Err.ensures.value)

@@ -1,5 +1,5 @@
 use Rattle.std.proofs.Common.{Option, codes, subst, ◌∙◌}
-use Rattle.clap.specs.Words.{Text, found_of, one_text}
+use Rattle.clap.specs.Words.{Text, found_of}
 use Rattle.clap.proofs.WalkLemmas.{first_value-rows, one_text-rows}
 use Rattle.sqs_command_line.specs.Lines.{IsFlag}
 use Rattle.sqs_command_line.proofs.reading.run_line.Goals as goal

@@ -26,7 +26,7 @@ returns-clause-did c =
     subst (λ (p : Poll). OnOk c.told.result (Did c.args.effects.now c.told.new.effects c.told.new.self (poll_answered c.args.key p c.args.self.now (poll_given c.args.key p c.args.self.now.queue)))) c.poll.view_is
     (subst (λ (x : Core). OnOk c.told.result (Did c.args.effects.now c.told.new.effects c.told.new.self (poll_answered c.args.key (the_poll c.poll.inside) x (poll_given c.args.key (the_poll c.poll.inside) x.queue)))) c.self.view_is
     (poll_answered_did c.args.key (the_poll c.poll.inside) (the_view c.self.inside) c.give.new.self c.told.new.self c.args.effects.now c.give.new.effects c.told.new.effects c.told.result
-    c.all_hosts_of-set.result c.received_by.new.queue c.drop_first.new.polls.items c.in-Ok.gots.items c.as_slice.result.now c.new.result
+    c.all_hosts_of-set.result c.received_by.new.queue c.drop_first.new.self c.in-Ok.gots.items c.as_slice.result.now c.new.result
     (c.host_count.ensures.all ∙ sym c.all_hosts_of-set.ensures) received c.in_ok-gots.ensures.framed.site c.drop_first.ensures c.as_slice.ensures.value c.new.ensures c.in_ok-give.ensures.did c.told.ensures.did))
 
 pub told-requires-clause-recent : goal.told-requires-clause-recent
@@ -35,7 +35,7 @@ told-requires-clause-recent c =
     let q : Queue = c.received_by.new.queue in
     let before : IsRecent key.at c.self.inside.queue = subst (λ (x : Core). IsRecent key.at x.queue) (sym c.self.view_is) c.requires.recent in
     let after : IsRecent key.at q = received_recent c.self.inside.queue q key.at c.poll.inside.max c.poll.inside.timeout c.all_hosts_of-set.result false _ c.in_ok-gots.ensures.received before in
-    let mid : Core = record (the_view c.self.inside) { queue = q; polls = c.drop_first.new.polls.items } in
+    let mid : Core = record (the_view c.self.inside) { queue = q; polls = c.drop_first.new.self } in
     did_recent key.at c.args.effects.now c.give.new.effects c.give.new.self (given key mid c.poll.inside.actor c.poll.inside.timeout (q, c.as_slice.result.now)) c.in_ok-give.ensures.did
     (given_recent key mid c.poll.inside.actor c.poll.inside.timeout (q, c.as_slice.result.now) after)
 
@@ -56,7 +56,7 @@ returns-in_err-give-clause-stops c =
     subst (λ (y : Poll). IfErr c.from_residual-in_err-give.result (Stops (poll_answered c.args.key y c.args.self.now (poll_given c.args.key y c.args.self.now.queue)))) c.poll.view_is
     (subst (λ (x : Core). IfErr c.from_residual-in_err-give.result (Stops (poll_answered c.args.key p x (poll_given c.args.key p x.queue)))) c.self.view_is
     (stops_up _ (PassesCount (poll_answered c.args.key p core (poll_given c.args.key p core.queue))) c.from_residual-in_err-give.result c.in_err-give.field-0.0 c.from_residual-in_err-give.ensures.1
-    (giving_limited c.args.key p core c.all_hosts_of-set.result c.received_by.new.queue c.drop_first.new.polls.items c.in-Ok.gots.items c.as_slice.result.now
+    (giving_limited c.args.key p core c.all_hosts_of-set.result c.received_by.new.queue c.drop_first.new.self c.in-Ok.gots.items c.as_slice.result.now
     (c.host_count.ensures.all ∙ sym c.all_hosts_of-set.ensures) received c.in_ok-gots.ensures.framed.site c.drop_first.ensures c.as_slice.ensures.value) c.in_err-give.ensures.stops))
 
 pub returns-clause-stops : goal.returns-clause-stops
@@ -66,6 +66,6 @@ returns-clause-stops c =
     let received = c.in_ok-gots.ensures.received ∙ ap (λ r. (result_map_both (λ b. b.items) (λ x. x) r, c.received_by.new.queue)) c.in-Ok.is in
     subst (λ (y : Poll). IfErr c.told.result (Stops (poll_answered c.args.key y c.args.self.now (poll_given c.args.key y c.args.self.now.queue)))) c.poll.view_is
     (subst (λ (x : Core). IfErr c.told.result (Stops (poll_answered c.args.key p x (poll_given c.args.key p x.queue)))) c.self.view_is
-    (telling_stops c.args.key p core c.all_hosts_of-set.result c.received_by.new.queue c.drop_first.new.polls.items c.in-Ok.gots.items c.as_slice.result.now
+    (telling_stops c.args.key p core c.all_hosts_of-set.result c.received_by.new.queue c.drop_first.new.self c.in-Ok.gots.items c.as_slice.result.now
     (c.host_count.ensures.all ∙ sym c.all_hosts_of-set.ensures) received c.in_ok-gots.ensures.framed.site c.drop_first.ensures c.as_slice.ensures.value
     c.told.result c.args.effects.now c.give.new.effects c.give.new.self c.new.result c.new.ensures c.in_ok-give.ensures.did c.told.ensures.stops))

@@ -14,22 +14,22 @@ pub returns-clause-did : goal.returns-clause-did
 returns-clause-did c =
     let core : Core = the_view c.self.inside in
     subst (λ (x : Core). OnOk c.told.result (Did c.args.effects.now c.told.new.effects c.told.new.self (handle_poll_end c.args.key x))) c.self.view_is
-    (poll_end_did c.args.key core c.args.effects.now c.say.new.self c.told.result c.end.new.polls.items c.new-2.result c.receive_row.result
+    (poll_end_did c.args.key core c.args.effects.now c.say.new.self c.told.result c.end.new.self c.new-2.result c.receive_row.result
     c.end.ensures (c.new-2.ensures ∙ c.new.ensures.items) c.in_ok-say.ensures.rows c.in_ok-say.ensures.sent (c.receive_row.ensures core (sym c.site-site.ensures)) c.told.new.self c.told.new.effects c.told.ensures.did)
 
 pub returns-clause-stops : goal.returns-clause-stops
 returns-clause-stops c =
     let core : Core = the_view c.self.inside in
     subst (λ (x : Core). IfErr c.told.result (Stops (handle_poll_end c.args.key x))) c.self.view_is
-    (poll_end_stops c.args.key core c.args.effects.now c.say.new.self c.told.result c.end.new.polls.items c.new-2.result c.receive_row.result
+    (poll_end_stops c.args.key core c.args.effects.now c.say.new.self c.told.result c.end.new.self c.new-2.result c.receive_row.result
     c.end.ensures (c.new-2.ensures ∙ c.new.ensures.items) c.in_ok-say.ensures.rows c.in_ok-say.ensures.sent (c.receive_row.ensures core (sym c.site-site.ensures)) c.told.ensures.stops)
 
 pub invariant_of-self : goal.invariant_of-self
 invariant_of-self c =
-    let kept : AreAllowed c.end.new.polls.items = subst AreAllowed (sym c.end.ensures) (all_without (ends_at c.args.key) (λ (p : Poll). MayBeTimeout p.timeout) c.self.inside.polls.items c.self.invariant.2) in
+    let kept : AreAllowed c.end.new.self = subst AreAllowed (sym c.end.ensures) (all_without (ends_at c.args.key) (λ (p : Poll). MayBeTimeout p.timeout) c.self.inside.polls c.self.invariant.2) in
     (c.self.invariant.0, c.self.invariant.1, kept)
 
 pub invariant_of-self-2 : goal.invariant_of-self-2
 invariant_of-self-2 c =
-    let kept : AreAllowed c.end.new.polls.items = subst AreAllowed (sym c.end.ensures) (all_without (ends_at c.args.key) (λ (p : Poll). MayBeTimeout p.timeout) c.self.inside.polls.items c.self.invariant.2) in
+    let kept : AreAllowed c.end.new.self = subst AreAllowed (sym c.end.ensures) (all_without (ends_at c.args.key) (λ (p : Poll). MayBeTimeout p.timeout) c.self.inside.polls c.self.invariant.2) in
     (c.self.invariant.0, c.self.invariant.1, kept)

@@ -7,8 +7,8 @@ pub returns : goal.returns
 returns c =
     let core : Core = c.args.self.now in
     let queue : c.self.inside.queue ≡ core.queue = ap (λ (x : Core). x.queue) c.self.view_is in
-    let polls : c.deref.result.now ≡ core.polls = c.deref.ensures.value ∙ ap (λ (x : Core). x.polls) c.self.view_is in
-    let actors : c.deref-2.result.now ≡ core.actors = c.deref-2.ensures.value ∙ ap (λ (x : Core). x.actors) c.self.view_is in
-    let tasks : c.deref-3.result.now ≡ core.tasks = c.deref-3.ensures.value ∙ ap (λ (x : Core). x.tasks) c.self.view_is in
+    let polls : c.self.inside.polls ≡ core.polls = ap (λ (x : Core). x.polls) c.self.view_is in
+    let actors : c.self.inside.actors ≡ core.actors = ap (λ (x : Core). x.actors) c.self.view_is in
+    let tasks : c.deref.result.now ≡ core.tasks = c.deref.ensures.value ∙ ap (λ (x : Core). x.tasks) c.self.view_is in
     let whole = core_least core in
     rw (c.lesser.ensures, c.lesser-best-3.ensures, c.lesser-best-2.ensures, c.lesser-best.ensures, c.least_due.ensures, c.least_end.ensures, c.least_wake.ensures, c.sample_due.ensures, c.least_step.ensures, queue, polls, actors, tasks) whole

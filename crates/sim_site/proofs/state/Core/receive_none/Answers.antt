@@ -17,7 +17,7 @@ pub returns-clause-did : goal.returns-clause-did
 returns-clause-did c = λ a e.
     rw (← c.self.view_is)
     (λ f. waits_on c.args.key a (the_view c.self.inside) c.args.effects.now c.say-2.new.self c.args.agent c.args.max c.args.wait c.args.timeout c.receive_row-2.result e c.in_ok-say-2.ensures.rows c.in_ok-say-2.ensures.sent
-    c.polled_at.new.actors.items c.push.new.self.items _ c.in_ok-number.number f c.in_ok-number.ensures.polled c.if-wait-eq0.false c.in_ok-push.ensures.items refl (c.receive_row-2.ensures (the_view c.self.inside) (sym c.site-site.ensures)))
+    c.polled_at.new.self c.push.new.self _ c.in_ok-number.number f c.in_ok-number.ensures.polled c.if-wait-eq0.false c.in_ok-push.ensures.added refl (c.receive_row-2.ensures (the_view c.self.inside) (sym c.site-site.ensures)))
 
 pub returns-in_err-number-clause-stops : goal.returns-in_err-number-clause-stops
 returns-in_err-number-clause-stops c = λ a e.

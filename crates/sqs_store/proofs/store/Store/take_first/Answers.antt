@@ -10,7 +10,7 @@ use Rattle.sqs_store.proofs.store.Store.take_first.Goals as goal
 
 pub take_each-stuck-requires-clause-apart : goal.take_each-stuck-requires-clause-apart
 take_each-stuck-requires-clause-apart c =
-    chosen_differ (queue_of c.self.inside.shelf) c.all_hosts.result c.args.most c.deref.result.now c.self.invariant.stored.ordered (c.deref.ensures.value ∙ c.in_ok-numbers.ensures)
+    chosen_differ (queue_of c.self.inside.shelf) c.all_hosts.result c.args.most c.deref.result.now c.self.invariant.stored.ordered (c.deref.ensures.value ∙ c.in_ok-choice.ensures.numbers)
 
 pub invariant_of-self : goal.invariant_of-self
 invariant_of-self c =
@@ -22,7 +22,7 @@ returns-clause-taken c =
     let q : Queue = queue_of c.self.inside.shelf in
     let before : Queue = record q { entries = c.self.inside.entries } in
     let hosts : all_hosts q.settings.kind ≡ c.all_hosts.result = ap (λ (r : Queue). all_hosts r.settings.kind) c.self.view_is ∙ sym c.all_hosts.ensures in
-    let same = chosen_messages q c.all_hosts.result c.args.most c.deref.result.now c.self.invariant.stored.ordered (c.deref.ensures.value ∙ c.in_ok-numbers.ensures) in
+    let same = chosen_messages q c.all_hosts.result c.args.most c.deref.result.now c.self.invariant.stored.ordered (c.deref.ensures.value ∙ c.in_ok-choice.ensures.numbers) in
     ap (λ (r : Queue). take_each r c.args.to (take c.args.most (all_available r))) (sym c.self.view_is)
     ∙ ap (λ h. take_each before c.args.to (take c.args.most (available q h))) hosts
     ∙ ap (take_each before c.args.to) (sym same)

@@ -1,0 +1,11 @@
+use Rattle.std.proofs.Common.{subst, ◌∙◌}
+use Rattle.std.specs.Prelude.{List, MatchOption}
+use Rattle.sqs_model.specs.Actor.{Actor}
+use Rattle.sqs_model.specs.Places.{IsAbsent, Stands, place_from_position}
+use Rattle.sqs_model.specs.Site.{is_actor}
+use Rattle.sim_site.proofs.actors.Actors.place_of.Goals as goal
+
+pub returns : goal.returns
+returns c =
+    subst (λ (actors : List Actor). MatchOption c.first_actor.result (IsAbsent (is_actor c.args.number) actors) (Stands (is_actor c.args.number) actors)) (c.deref.ensures.value ∙ c.self.view_is)
+    (place_from_position (is_actor c.args.number) c.deref.result.now _ c.first_actor.ensures)

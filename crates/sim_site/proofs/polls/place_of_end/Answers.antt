@@ -1,0 +1,10 @@
+use Rattle.sqs_model.specs.Places.{place_from_position}
+use Rattle.sim_site.specs.Marked.{place_ends_at}
+use Rattle.sim_site.proofs.Ending.{least_matched}
+use Rattle.sim_site.proofs.polls.place_of_end.Goals as goal
+
+pub returns-then-is_least : goal.returns-then-is_least
+returns-then-is_least c = least_matched c.args.key c.args.places.now c.args.ends.now c.place_of_least.result c.requires (c.is_least.ensures c.if-is_least.true) c.place_of_least.ensures
+
+pub returns : goal.returns
+returns c = place_from_position (place_ends_at c.args.key) c.args.places.now _ c.first_ending.ensures

@@ -1,0 +1,62 @@
+-- Lists whose elements have marks, place by place, with empty places after them.
+use Rattle.std.specs.Prelude.{Bool, false, List, None, Option, Some, [], get_or, length, map, set, suc, ℕ, ◌<◌, ◌∷◌, ◌≡◌, ◌≢◌, ◌≤◌}
+use Rattle.sim_clock.specs.declared.key.Key.{Key}
+use Rattle.sim_clock.specs.Order.{least}
+use Rattle.sqs_index.specs.declared.mark.Mark.{Mark}
+use Rattle.sqs_index.specs.Marks.{no_mark, node}
+use Rattle.sqs_model.specs.Actor.{Actor}
+use Rattle.sqs_model.specs.Dues.{actor_dues, poll_key}
+use Rattle.sqs_model.specs.Site.{Poll}
+use Rattle.sqs_model.specs.Step.{ends_at}
+
+-- marks of some elements, and then of nothing
+pub record AreMarked {A : Type 0} (mark : A → Mark) (xs : List A) (marks : List Mark) : Type 0 where
+  pub same : (i : ℕ) → node marks i ≡ node (map mark xs) i
+  pub room : length xs ≤ length marks
+
+-- the same, but for the mark of one place
+pub record AreMarkedBut {A : Type 0} (mark : A → Mark) (place : ℕ) (xs : List A) (marks : List Mark) : Type 0 where
+  pub same : (i : ℕ) → i ≢ place → node marks i ≡ node (map mark xs) i
+  pub room : length xs ≤ length marks
+
+-- a list with another element at a place
+pub record IsSetAt {A : Type 0} (place : ℕ) (old new : List A) : Type 0 where
+  pub element : A
+  pub is : new ≡ set old place element
+
+-- what is kept of an actor: its wake
+abbrev pub wake_mark : Actor → Mark
+wake_mark a = record { due = least (actor_dues a); hosts = 0 }
+
+-- what is kept of a place where a poll may wait: its end
+abbrev pub end_mark : Option Poll → Mark
+end_mark None = no_mark
+end_mark (Some p) = record { due = Some (poll_key p); hosts = 1 }
+
+-- the polls of places, where one waits
+abbrev pub waiting : List (Option Poll) → List Poll
+waiting [] = []
+waiting (None ∷ places) = waiting places
+waiting (Some p ∷ places) = p ∷ waiting places
+
+-- whether the poll of a place ends by a key
+abbrev pub place_ends_at : Key → Option Poll → Bool
+place_ends_at key None = false
+place_ends_at key (Some p) = ends_at key p
+
+-- places with the marks of their polls, which are so many
+pub record AreWaiting (places : List (Option Poll)) (ends : List Mark) (count : ℕ) : Type 0 where
+  pub marked : AreMarked end_mark places ends
+  pub counted : count ≡ length (waiting places)
+
+-- the first place where a poll waits
+pub record IsFirstAt (places : List (Option Poll)) (place : ℕ) : Type 0 where
+  pub poll : Poll
+  pub within : place < length places
+  pub is : get_or places place None ≡ Some poll
+  pub first : waiting places ≡ poll ∷ waiting (set places place None)
+
+-- without the poll of a place one less waits
+pub record LeavesOne (places : List (Option Poll)) (place : ℕ) : Type 0 where
+  pub within : place < length places
+  pub one : length (waiting places) ≡ suc (length (waiting (set places place None)))

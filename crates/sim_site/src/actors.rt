@@ -1,0 +1,177 @@
+//! The actors of a site, with a tree of their wakes.
+ghost use Rattle.std.specs.Prelude.{All, IfErr, IfOk, MatchOption, Some, find, flat_map, length, map, position, ◌<◌, ◌≡◌, ◌≤◌};
+ghost use Rattle.sim_actor.specs.Lives.{greatest_count};
+ghost use Rattle.sim_clock.specs.Order.{least};
+ghost use Rattle.sqs_model.specs.Actor.{Actor as TheActor, next};
+ghost use Rattle.sqs_model.specs.Answers.{most_count};
+ghost use Rattle.sqs_model.specs.Dues.{actor_dues};
+ghost use Rattle.sqs_model.specs.Places.{IsAbsent, Stands};
+ghost use Rattle.sqs_model.specs.Site.{is_actor};
+ghost use Rattle.sim_site.specs.Effects.{StopsWhere};
+ghost use Rattle.sim_site.specs.Kept.{HasShortWaits};
+ghost use Rattle.sim_site.specs.Marked.{AreMarked, AreMarkedBut, IsSetAt, wake_mark};
+ghost use Rattle.sim_site.specs.Turns.{Polled, Turned, WaitsShortly};
+
+use crate::agents::wake_of;
+use sim_actor::Actor;
+use sim_clock::{Key, Refusal};
+use sqs_index::{Mark, Marks};
+use sqs_model::{Act, Answer};
+use std::alloc::{AllocError, Global};
+use std::marker::Model;
+
+/// As many actors as there are numbers of agents, which have 32 bits.
+const MOST_ACTORS: usize = 4_294_967_296;
+
+// What is kept of an actor: its wake.
+fn mark_of(actor: &Actor) -> Mark
+    ensures { result ≡ wake_mark actor.now }
+{
+    Mark {
+        due: wake_of(actor),
+        hosts: 0,
+    }
+}
+
+// The marks of some actors. The error is want of memory, as which more actors than there are
+// numbers are refused too.
+fn marks_of(alloc: Global, actors: &[Actor]) -> Result<Marks, AllocError>
+    ensures { IfOk result (AreMarked wake_mark actors.now) }
+{
+    if actors.len() > MOST_ACTORS {
+        return Err(AllocError);
+    }
+    let mut marks = Vec::new(alloc);
+    for actor in actors {
+        marks.push(mark_of(actor))?;
+    }
+    Marks::of(alloc, actors.len().next_power_of_two(), &marks)
+}
+
+// The actor at a place is marked anew.
+fn mark_anew(actors: &[Actor], wakes: &mut Marks, place: usize)
+    requires place { place < length actors.now }
+    requires others { AreMarkedBut wake_mark place actors.now wakes.old }
+    ensures { AreMarked wake_mark actors.now wakes.new }
+{
+    wakes.put(place, mark_of(&actors[place]));
+}
+
+// Where the first actor with a number stands.
+fn first_actor(actors: &[Actor], number: u32) -> Option<usize>
+    ensures { result ≡ position (is_actor number) actors.now }
+{
+    actors.iter().position(|a| a.number() == number)
+}
+
+// The actor at a place is told something, and decides what it does.
+fn told_at(
+    actors: &mut Vec<Actor>,
+    place: usize,
+    number: u32,
+    now: u64,
+    answer: Answer,
+) -> Result<Act, Refusal>
+    requires place { Stands (is_actor number) actors.old.items place }
+    requires moment { now ≤ most_count }
+    ensures turned { IfOk result (λ act. Turned number now answer act actors.old.items actors.new.items) }
+    ensures settings { map (λ a. a.settings) actors.new.items ≡ map (λ a. a.settings) actors.old.items }
+    ensures waits { All (λ a. HasShortWaits a.role) (map (λ a. a.settings) actors.old.items) → IfOk result WaitsShortly }
+    ensures stops { IfErr result (StopsWhere ((a : TheActor) → find (is_actor number) actors.old.items ≡ Some a → most_count < greatest_count (next a now answer).1)) }
+    ensures others { IsSetAt place actors.old.items actors.new.items }
+{
+    actors[place].next(now, answer)
+}
+
+// The actor at a place waits for one more poll, and answers how many it had before.
+fn counted_at(actors: &mut Vec<Actor>, place: usize, number: u32) -> Result<u64, Refusal>
+    requires place { Stands (is_actor number) actors.old.items place }
+    ensures polled { IfOk result (λ polls. Polled number polls actors.old.items actors.new.items) }
+    ensures settings { map (λ a. a.settings) actors.new.items ≡ map (λ a. a.settings) actors.old.items }
+    ensures stops { IfErr result (StopsWhere ((a : TheActor) → find (is_actor number) actors.old.items ≡ Some a → a.polls ≡ most_count)) }
+    ensures others { IsSetAt place actors.old.items actors.new.items }
+{
+    let actor = &mut actors[place];
+    let polls = actor.polls();
+    actor.polled()?;
+    Ok(polls)
+}
+
+/// The actors at home at a site. What wakes next among them is told at once, and a change of one
+/// costs the logarithm of their number. Contracts see them as a list.
+#[derive(Drop)]
+pub struct Actors {
+    list: Vec<Actor>,
+    wakes: Marks,
+}
+
+impl Model for Actors {
+    ghost use Rattle.std.specs.Prelude.{List};
+    ghost use Rattle.sqs_model.specs.Actor.{Actor};
+    ghost use Rattle.sim_site.specs.Marked.{AreMarked, wake_mark};
+
+    ghost Value = { List Actor };
+
+    ghost view = { λ a. a.list.items };
+
+    ghost invariant = { λ a. AreMarked wake_mark a.list.items a.wakes };
+}
+
+impl Actors {
+    /// These actors. The error is want of memory, as which more actors than there are numbers are
+    /// refused too.
+    pub fn of(alloc: Global, list: Vec<Actor>) -> Result<Actors, AllocError>
+        ensures { IfOk result (λ actors. actors ≡ list.items) }
+    {
+        let wakes = marks_of(alloc, &list)?;
+        Ok(Actors { list, wakes })
+    }
+
+    /// Where the first actor with a number stands, with what it says of the list.
+    pub fn place_of(&self, number: u32) -> Option<usize>
+        ensures { MatchOption result (IsAbsent (is_actor number) self.now) (Stands (is_actor number) self.now) }
+    {
+        first_actor(&self.list, number)
+    }
+
+    /// The actor at a place is told something, and decides what it does. `Memory`; `CountLimit`
+    /// where it would count past the limit.
+    pub fn next_at(
+        &mut self,
+        place: usize,
+        number: u32,
+        now: u64,
+        answer: Answer,
+    ) -> Result<Act, Refusal>
+        requires place { Stands (is_actor number) self.old place }
+        requires moment { now ≤ most_count }
+        ensures turned { IfOk result (λ act. Turned number now answer act self.old self.new) }
+        ensures settings { map (λ a. a.settings) self.new ≡ map (λ a. a.settings) self.old }
+        ensures waits { All (λ a. HasShortWaits a.role) (map (λ a. a.settings) self.old) → IfOk result WaitsShortly }
+        ensures stops { IfErr result (StopsWhere ((a : TheActor) → find (is_actor number) self.old ≡ Some a → most_count < greatest_count (next a now answer).1)) }
+    {
+        let act = told_at(&mut self.list, place, number, now, answer);
+        mark_anew(&self.list, &mut self.wakes, place);
+        act
+    }
+
+    /// The actor at a place waits for one more poll, and answers how many it had before.
+    /// `CountLimit` where they are as many as may be counted.
+    pub fn polled_at(&mut self, place: usize, number: u32) -> Result<u64, Refusal>
+        requires place { Stands (is_actor number) self.old place }
+        ensures polled { IfOk result (λ polls. Polled number polls self.old self.new) }
+        ensures settings { map (λ a. a.settings) self.new ≡ map (λ a. a.settings) self.old }
+        ensures stops { IfErr result (StopsWhere ((a : TheActor) → find (is_actor number) self.old ≡ Some a → a.polls ≡ most_count)) }
+    {
+        let polls = counted_at(&mut self.list, place, number);
+        mark_anew(&self.list, &mut self.wakes, place);
+        polls
+    }
+
+    /// The least wake.
+    pub fn least_wake(&self) -> Option<Key>
+        ensures { result ≡ least (flat_map actor_dues self.now) }
+    {
+        self.wakes.least()
+    }
+}

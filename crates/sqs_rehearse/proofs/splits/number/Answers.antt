@@ -1,6 +1,0 @@
-use Rattle.std.proofs.Common.{◌∙◌}
-use Rattle.sqs_rehearse.proofs.Numbers.{parsed}
-use Rattle.sqs_rehearse.proofs.splits.number.Goals as goal
-
-pub returns : goal.returns
-returns c = c.ok.ensures.value ∙ parsed c.args.text.now c.parse.result c.parse.ensures.value.0

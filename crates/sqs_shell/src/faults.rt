@@ -1,0 +1,174 @@
+//! What stops the program: a line on standard error, and the status that it ends with.
+ghost use Rattle.std.specs.Prelude.{◌≡◌, ◌++◌, IfOk, codes};
+ghost use Rattle.sqs_formats.specs.Output.{at_place, fault_line as the_fault_line};
+ghost use Rattle.std.specs.IoError.{error_kind};
+ghost use Rattle.std.specs.Process.{exit_status};
+ghost use Rattle.sqs_shell.specs.Statuses.{fault_status, status_of, stop_status, write_refusal};
+
+use sim_clock::Refusal;
+use sim_scenario::ReadError;
+use sqs_formats::ScenarioFault;
+use sqs_rehearsal::Fault;
+use std::alloc::{AllocError, AllocFailed, Global};
+use std::io::{self, ErrorKind, Write};
+use std::process::ExitCode;
+
+/// Why the program stops.
+#[derive(Drop)]
+pub enum Stop<'a> {
+    /// The input of this path can't be read; `-` is standard input.
+    CannotRead(&'a str),
+    /// A word of the command line is not UTF-8.
+    NotUtf8,
+    /// The scenario or the rehearsal is refused.
+    Refused(Fault),
+}
+
+impl<'a> From<AllocError> for Stop<'a> {
+    ghost use Rattle.std.specs.Prelude.{◌≡◌};
+    ghost use Rattle.sqs_shell.specs.declared.faults.Stop.TheVariants as stops;
+    ghost use Rattle.sqs_rehearsal.specs.declared.rehearsal.Fault.TheVariants as faults;
+    ghost use Rattle.sim_clock.specs.declared.refusal.Refusal.TheVariants.{Memory};
+
+    ghost from_gives = { λ _ stop. stop ≡ stops.Refused (faults.Refused Memory) };
+
+    fn from(_refused: AllocError) -> Stop<'a> {
+        Stop::Refused(Fault::Refused(Refusal::Memory))
+    }
+}
+
+impl<'a, T: Drop> From<AllocFailed<T>> for Stop<'a> {
+    ghost use Rattle.std.specs.Prelude.{◌≡◌};
+    ghost use Rattle.sqs_shell.specs.declared.faults.Stop.TheVariants as stops;
+    ghost use Rattle.sqs_rehearsal.specs.declared.rehearsal.Fault.TheVariants as faults;
+    ghost use Rattle.sim_clock.specs.declared.refusal.Refusal.TheVariants.{Memory};
+
+    ghost from_gives = { λ _ stop. stop ≡ stops.Refused (faults.Refused Memory) };
+
+    fn from(_refused: AllocFailed<T>) -> Stop<'a> {
+        Stop::Refused(Fault::Refused(Refusal::Memory))
+    }
+}
+
+impl<'a> From<Refusal> for Stop<'a> {
+    ghost use Rattle.std.specs.Prelude.{◌≡◌};
+    ghost use Rattle.sqs_shell.specs.declared.faults.Stop.TheVariants as stops;
+    ghost use Rattle.sqs_rehearsal.specs.declared.rehearsal.Fault.TheVariants as faults;
+
+    ghost from_gives = { λ refusal stop. stop ≡ stops.Refused (faults.Refused refusal) };
+
+    fn from(refusal: Refusal) -> Stop<'a> {
+        Stop::Refused(Fault::Refused(refusal))
+    }
+}
+
+impl<'a> From<Fault> for Stop<'a> {
+    ghost use Rattle.std.specs.Prelude.{◌≡◌};
+    ghost use Rattle.sqs_shell.specs.declared.faults.Stop.TheVariants as stops;
+
+    ghost from_gives = { λ fault stop. stop ≡ stops.Refused fault };
+
+    fn from(fault: Fault) -> Stop<'a> {
+        Stop::Refused(fault)
+    }
+}
+
+impl<'a> From<ReadError> for Stop<'a> {
+    ghost use Rattle.std.specs.Prelude.{◌≡◌};
+    ghost use Rattle.sqs_shell.specs.declared.faults.Stop.TheVariants as stops;
+    ghost use Rattle.sqs_rehearsal.specs.Rehearsals.{fault_of_reading};
+
+    ghost from_gives = { λ error stop. stop ≡ stops.Refused (fault_of_reading error) };
+
+    fn from(error: ReadError) -> Stop<'a> {
+        Stop::Refused(Fault::from(error))
+    }
+}
+
+// The place of a fault behind its name, where it has one.
+fn at_place(alloc: Global, place: &[u8]) -> Result<Vec<u8>, AllocError>
+    ensures { IfOk result (λ v. v.items ≡ at_place place.now) }
+{
+    let mut text = Vec::new(alloc);
+    if !place.is_empty() {
+        text.extend_from_slice(b" at ")?;
+        text.extend_from_slice(place)?;
+    }
+    Ok(text)
+}
+
+// The line of a scenario's fault, as `refused 14 OutOfRange at queue[0].delay_s`.
+fn fault_line(alloc: Global, fault: &ScenarioFault) -> Result<Vec<u8>, AllocError>
+    ensures { IfOk result (λ v. v.items ≡ the_fault_line fault.now) }
+{
+    let code = fault.refusal.code();
+    let name = fault.refusal.name();
+    let front = format!(in alloc; "refused {code} {name}")?;
+    let mut text = front.into_bytes();
+    let place = at_place(alloc, fault.place.as_bytes())?;
+    text.extend_from_slice(place.as_slice())?;
+    text.extend_from_slice(b"\n")?;
+    Ok(text)
+}
+
+// The status of a refusal: 1 of a scenario, 4 of a writer that failed, 3 of a run.
+fn status(refusal: Refusal) -> u8
+    ensures { result ≡ status_of refusal }
+{
+    match refusal {
+        Refusal::WindowTooLong { .. }
+        | Refusal::BadMap
+        | Refusal::BadWorkers
+        | Refusal::CountLimit
+        | Refusal::Memory
+        | Refusal::NoWorker => 3,
+        Refusal::Write => 4,
+        _ => 1,
+    }
+}
+
+/// The refusal of a writer's error: want of memory, or that it failed.
+pub fn write_refusal(error: &io::Error) -> Refusal
+    ensures { result ≡ write_refusal (error_kind error.now) }
+{
+    match error.kind() {
+        ErrorKind::OutOfMemory => Refusal::Memory,
+        _ => Refusal::Write,
+    }
+}
+
+// Tells a fault in a line, and gives the status.
+fn tell_fault(rt: &HostRuntime, fault: Fault) -> ExitCode
+    ensures { exit_status result ≡ fault_status fault }
+{
+    match fault {
+        Fault::Scenario(fault) => {
+            if let Ok(line) = fault_line(rt.alloc(), &fault) {
+                let _ = rt.stderr().write_all(line.as_slice());
+            }
+            ExitCode::from(1)
+        }
+        Fault::Refused(refusal) => {
+            let code = refusal.code();
+            let _ = eprintln!(rt; "refused {code} {refusal}");
+            ExitCode::from(status(refusal))
+        }
+    }
+}
+
+/// Tells what stopped the program in a line on standard error. Gives the status that it ends with.
+pub fn tell(rt: &HostRuntime, stop: Stop<'_>) -> ExitCode
+    ensures { exit_status result ≡ stop_status stop.entry }
+{
+    match stop {
+        Stop::CannotRead(path) => {
+            let _ = eprintln!(rt; "cannot read {path}");
+            ExitCode::from(1)
+        }
+        Stop::NotUtf8 => {
+            let _ = eprintln!(rt; "error: a word of the command line is not UTF-8");
+            ExitCode::from(2)
+        }
+        Stop::Refused(fault) => tell_fault(rt, fault),
+    }
+}

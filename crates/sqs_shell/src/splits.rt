@@ -1,0 +1,60 @@
+//! How a rehearsal is split, by its line.
+ghost use Rattle.std.specs.Prelude.{◌==◌, ◌≡◌, [], IfOk, map, unwrap_or};
+ghost use Rattle.std.specs.List.{slice_split};
+ghost use Rattle.sqs_shell.specs.Splits.{map_of, number_of, numbers_of, split_of};
+
+use sqs_command_line::RunLine;
+use sqs_rehearsal::Options;
+use std::alloc::{AllocError, Global};
+
+// The number that a text tells.
+fn number(text: &str) -> Option<u32>
+    ensures { result ≡ number_of text.now }
+{
+    text.parse::<u32>().ok()
+}
+
+// The numbers that texts tell; none where one of them tells none.
+fn numbers(alloc: Global, texts: &[&str]) -> Result<Vec<u32>, AllocError>
+    ensures { IfOk result (λ v. v.items ≡ unwrap_or (numbers_of (map (λ t. t.now) texts.now)) []) }
+{
+    let mut numbers = Vec::new(alloc);
+    for text in texts {
+        match number(text) {
+            Some(number) => numbers.push(number)?,
+            None => return Ok(Vec::new(alloc)),
+        }
+    }
+    Ok(numbers)
+}
+
+// The texts between the commas of a list.
+fn pieces<'a>(alloc: Global, list: &'a str) -> Result<Vec<&'a str>, AllocError>
+    ensures { IfOk result (λ v. map (λ t. t.now) v.items ≡ slice_split (λ b. b == 44) list.entry.now) }
+{
+    list.split(',').collect(alloc)
+}
+
+// The partition of each queue by a list as `0,1,0`; none where it can't be read.
+fn partitions(alloc: Global, list: &str) -> Result<Vec<u32>, AllocError>
+    ensures { IfOk result (λ v. v.items ≡ map_of list.now) }
+{
+    let pieces = pieces(alloc, list)?;
+    numbers(alloc, pieces.as_slice())
+}
+
+/// The split that a line asks for.
+pub fn split(alloc: Global, asked: RunLine<'_>) -> Result<Options, AllocError>
+    ensures { IfOk result (λ s. s ≡ split_of asked.entry) }
+{
+    let map = match asked.map {
+        None => None,
+        Some(list) => Some(partitions(alloc, list)?),
+    };
+    Ok(Options {
+        window: asked.window,
+        parts: asked.parts,
+        map,
+        workers: asked.workers.unwrap_or(1),
+    })
+}

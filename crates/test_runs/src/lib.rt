@@ -1,0 +1,18 @@
+//! Tests of actors, partitions, machines and of what writes a run: each public call once with ample
+//! memory, and what no clause says. There is no code here but tests.
+#![tactic(auto)]
+
+#[cfg(test)]
+mod actor;
+#[cfg(test)]
+mod partition;
+#[cfg(test)]
+mod picks;
+#[cfg(test)]
+mod recorder;
+#[cfg(test)]
+mod records;
+#[cfg(test)]
+mod report;
+#[cfg(test)]
+mod workers;

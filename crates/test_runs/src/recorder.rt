@@ -1,0 +1,206 @@
+//! What no clause says: the bytes themselves, against values worked out by hand. And what a caller
+//! learns of its writer and its report once a sink is gone.
+ghost use Rattle.std.specs.Prelude.{◌≡◌, ◌⊎◌, ◌++◌, false, map, IfErr, OnOk};
+ghost use Rattle.std.specs.Io.KnownBytes.{Appends};
+ghost use Rattle.sqs_formats.specs.Rows.{lines, row_fields};
+ghost use Rattle.sim_records.specs.Writers.{has_failed};
+ghost use Rattle.sim_recorder.specs.Sinks.{Added};
+
+use sim_clock::{Class, Key, Refusal};
+use sim_recorder::{Counter, Recorder, Unwatched};
+use sim_records::{Names, Out, ToWriter};
+use sim_report::{Finals, Report};
+use sim_sink::RowSink;
+use sqs_message::{Detail, Row, RowAnswer, RowKind, RowReceipt, Text};
+use sqs_model::{FinalMessages, FinalTasks, FinalTransfers};
+use std::alloc::Global;
+use std::io::{Error, ErrorKind, Write};
+use std::test::Fail;
+
+/// The lines of the first batch of rows.
+const FIRST_LINES: &[u8] = b"0,q,s,send,new,,,\n1,q,s,receive,ok,,,\n";
+
+/// The lines of both batches of rows.
+const LINES: &[u8] =
+    b"0,q,s,send,new,,,\n1,q,s,receive,ok,,,\n6,q,s,delete,deleted,,,5\n7,d,s,send,new,,,\n";
+
+/// The report of both batches of rows.
+const REPORT: &[u8] =
+    b"report,queue,sends,repeats,receives,empties,deletes,expiries,redrives,moves,arrivals,OverLimit,MessageNotInflight,ReceiptHandleIsInvalid,BadTimeout,MissingGroup,MissingDeduplication,BadDelay,TaskRunning,NoTask,depth_max,visible,in_flight,delayed,age_sum,age_max,age_p50,age_p95,age_p99\nreport,q,1,0,1,0,1,0,0,0,0,0,0,0,0,0,0,0,0,0,1,0,0,0,5,5,5,5,5\nreport,d,1,0,0,0,0,0,0,0,0,0,0,0,0,0,0,0,0,0,1,0,0,0,0,,,,\n";
+
+/// These names, by number.
+fn texts(alloc: Global, names: &[&[u8]]) -> Result<Vec<Text>, Fail> {
+    let mut texts = Vec::new(alloc);
+    for name in names {
+        texts.push(Text::new(name.to_vec(alloc)?))?;
+    }
+    Ok(texts)
+}
+
+/// The queues `q` and `d`, and the actor `s`.
+fn names(alloc: Global) -> Result<Names, Fail> {
+    Ok(Names::new(texts(alloc, &[b"q", b"d", b"s"])?))
+}
+
+/// The report of no rows of the queues `q` and `d`.
+fn report(alloc: Global) -> Result<Report, Fail> {
+    Ok(Report::new(alloc, texts(alloc, &[b"q", b"d"])?)?)
+}
+
+/// A row of the actor `s`.
+fn row(at: u64, queue: u32, kind: RowKind, answer: RowAnswer, detail: Detail) -> Row {
+    Row {
+        key: Key {
+            at,
+            agent: 2,
+            class: Class::Wake,
+            number: 0,
+        },
+        queue,
+        agent: 2,
+        kind,
+        answer,
+        message: None,
+        receipt: RowReceipt::Absent,
+        detail,
+    }
+}
+
+/// The first batch of rows.
+fn first() -> [Row; 2] {
+    [
+        row(0, 0, RowKind::Send, RowAnswer::New, Detail::Absent),
+        row(1, 0, RowKind::Receive, RowAnswer::Ok, Detail::Absent),
+    ]
+}
+
+/// The second batch of rows.
+fn second() -> [Row; 2] {
+    [
+        row(6, 0, RowKind::Delete, RowAnswer::Deleted, Detail::Age(5)),
+        row(7, 1, RowKind::Send, RowAnswer::New, Detail::Absent),
+    ]
+}
+
+/// The bytes of a report, with nothing left at the end.
+fn report_bytes(alloc: Global, report: &Report) -> Result<Vec<u8>, Fail> {
+    let finals = Finals {
+        messages: FinalMessages::new(Vec::new(alloc)),
+        transfers: FinalTransfers::new(Vec::new(alloc)),
+        tasks: FinalTasks::new(Vec::new(alloc)),
+    };
+    let mut out = ToWriter::new(Vec::new(alloc));
+    report.write_report(alloc, &mut out, &finals)?;
+    Ok(out.into_inner())
+}
+
+/// Hands rows to a sink in two batches.
+fn in_two_batches<S: RowSink>(sink: &mut S, first: &[Row], second: &[Row]) -> Result<(), Refusal>
+    requires { S.ready sink.old }
+    ensures took { OnOk result (S.took sink.old (first.now ++ second.now) sink.new) }
+    ensures broke { IfErr result (λ refusal. S.broke sink.old first.now refusal sink.new ⊎ S.broke sink.old (first.now ++ second.now) refusal sink.new) }
+{
+    sink.take(first)?;
+    sink.take(second)
+}
+
+/// Counts rows that come in two batches.
+fn count(report: &mut Report, first: &[Row], second: &[Row]) -> Result<(), Refusal>
+    ensures { OnOk result (Added report.old (first.now ++ second.now) report.new) }
+{
+    let mut counter = Counter { report };
+    in_two_batches(&mut counter, first, second)
+}
+
+/// Records rows that come in two batches.
+fn record<W: Out>(
+    alloc: Global,
+    names: &Names,
+    out: &mut W,
+    report: &mut Report,
+    first: &[Row],
+    second: &[Row],
+) -> Result<(), Refusal>
+    requires { W.failed out.old ≡ false }
+    ensures written { OnOk result (Appends (W.held out.old) (W.held out.new) (lines (map (row_fields names.now) (first.now ++ second.now)))) }
+    ensures added { OnOk result (Added report.old (first.now ++ second.now) report.new) }
+{
+    let mut watch = Unwatched;
+    let mut recorder = Recorder {
+        alloc,
+        names,
+        out,
+        report,
+        watch: &mut watch,
+        horizon: 1000,
+    };
+    in_two_batches(&mut recorder, first, second)
+}
+
+#[test]
+fn two_batches_are_counted(rt: HostRuntime) -> Result<(), Fail> {
+    let alloc = rt.alloc();
+    let mut report = report(alloc)?;
+    count(&mut report, &first(), &second())?;
+    assert_eq!(rt; report_bytes(alloc, &report)?.as_slice(), REPORT);
+    Ok(())
+}
+
+#[test]
+fn two_batches_are_written_and_counted(rt: HostRuntime) -> Result<(), Fail> {
+    let alloc = rt.alloc();
+    let names = names(alloc)?;
+    let mut out = ToWriter::new(Vec::new(alloc));
+    let mut report = report(alloc)?;
+    record(alloc, &names, &mut out, &mut report, &first(), &second())?;
+    assert_eq!(rt; out.into_inner().as_slice(), LINES);
+    assert_eq!(rt; report_bytes(alloc, &report)?.as_slice(), REPORT);
+    Ok(())
+}
+
+/// Takes so many bytes, and then answers an error.
+#[derive(Drop)]
+struct Limited {
+    held: Vec<u8>,
+    left: usize,
+}
+
+impl Write for Limited {
+    fn write(&mut self, buf: &[u8]) -> std::io::Result<usize> {
+        let taken = buf.len().min(self.left);
+        if taken == 0 {
+            return Err(Error::from(ErrorKind::StorageFull));
+        }
+        self.held.extend_from_slice(&buf[..taken])?;
+        self.left -= taken;
+        Ok(taken)
+    }
+
+    fn flush(&mut self) -> std::io::Result<()> {
+        Ok(())
+    }
+}
+
+/// A writer that takes so many bytes.
+fn writer(alloc: Global, left: usize) -> ToWriter<Limited>
+    ensures { has_failed result ≡ false }
+{
+    ToWriter::new(Limited {
+        held: Vec::new(alloc),
+        left,
+    })
+}
+
+#[test]
+fn a_writer_that_fails_ends_the_rows(rt: HostRuntime) -> Result<(), Fail> {
+    let alloc = rt.alloc();
+    let names = names(alloc)?;
+    for left in [0, FIRST_LINES.len() - 1, FIRST_LINES.len(), LINES.len() - 1] {
+        let mut out = writer(alloc, left);
+        let mut report = report(alloc)?;
+        let answer = record(alloc, &names, &mut out, &mut report, &first(), &second());
+        assert!(rt; matches!(answer, Err(Refusal::Write)));
+        assert!(rt; out.get_ref().held.as_slice() == &LINES[..left]);
+    }
+    Ok(())
+}

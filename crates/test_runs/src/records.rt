@@ -1,0 +1,62 @@
+//! What no clause says: the bytes themselves, against values worked out by hand, and writers that
+//! are slow or fail.
+ghost use Rattle.std.specs.Prelude.{◌≡◌, false};
+
+mod finals;
+mod rows;
+mod writers;
+
+use sim_clock::{Class, Key, Refusal};
+use sim_records::{Names, Out, ToWriter, write_header, write_rows};
+use sqs_message::{Detail, Row, RowAnswer, RowKind, RowReceipt, Text};
+use std::alloc::{AllocError, Global};
+
+/// The MD5 of `abc`.
+const ABC: [u8; 16] = [
+    0x90, 0x01, 0x50, 0x98, 0x3c, 0xd2, 0x4f, 0xb0, 0xd6, 0x96, 0x3f, 0x7d, 0x28, 0xe1, 0x7f, 0x72,
+];
+
+fn text(alloc: Global, bytes: &[u8]) -> Result<Text, AllocError> {
+    Ok(Text::new(bytes.to_vec(alloc)?))
+}
+
+/// The queues `q` and `d`, the actor `s` and the task `t`.
+fn names(alloc: Global) -> Result<Names, AllocError> {
+    let mut texts = Vec::new(alloc);
+    for &name in &[b"q", b"d", b"s", b"t"] {
+        texts.push(text(alloc, name)?)?;
+    }
+    Ok(Names::new(texts))
+}
+
+/// A row of the actor `s` at the queue `q`.
+fn row(at: u64, kind: RowKind, answer: RowAnswer, detail: Detail) -> Row {
+    Row {
+        key: Key {
+            at,
+            agent: 2,
+            class: Class::Wake,
+            number: 0,
+        },
+        queue: 0,
+        agent: 2,
+        kind,
+        answer,
+        message: None,
+        receipt: RowReceipt::Absent,
+        detail,
+    }
+}
+
+/// Writes the header and these rows.
+fn write_log<W: Out>(alloc: Global, out: &mut W, rows: &[Row], names: &Names) -> Result<(), Refusal>
+    requires { W.failed out.old ≡ false }
+{
+    write_header(alloc, out)?;
+    write_rows(alloc, out, rows, names)
+}
+
+/// Whether a call answered Ok, and the writer holds these bytes.
+fn is_written(out: &ToWriter<Vec<u8>>, answer: &Result<(), Refusal>, bytes: &[u8]) -> bool {
+    answer.is_ok() && out.get_ref().as_slice() == bytes
+}

@@ -1,0 +1,182 @@
+ghost use Rattle.std.specs.Prelude.{◌≡◌, false};
+ghost use Rattle.sim_records.specs.Writers.{has_failed};
+
+use super::{names, row, write_log};
+use sim_clock::Refusal;
+use sim_records::{Failed, Lines, Names, Out, ToWriter, write_all, write_rows};
+use sqs_message::{Detail, Row, RowAnswer, RowKind};
+use std::alloc::Global;
+use std::io::{Error, ErrorKind, Write};
+use std::process::Abort;
+use std::test::Fail;
+
+/// How a writer fails.
+#[derive(Clone, Copy)]
+enum Fault {
+    Error(ErrorKind),
+    TakesNothing,
+}
+
+/// Takes a byte a call. The call after `left` bytes fails, and those after it do not.
+#[derive(Drop)]
+struct ByteByByte {
+    held: Vec<u8>,
+    left: usize,
+    fault: Fault,
+}
+
+impl Write for ByteByByte {
+    fn write(&mut self, buf: &[u8]) -> std::io::Result<usize> {
+        let Some(byte) = buf.first() else {
+            return Ok(0);
+        };
+        if self.left > 0 {
+            self.left -= 1;
+            self.held.extend_from_slice(&[*byte])?;
+            return Ok(1);
+        }
+        self.left = 1_000_000;
+        match self.fault {
+            Fault::Error(kind) => Err(Error::from(kind)),
+            Fault::TakesNothing => Ok(0),
+        }
+    }
+
+    fn flush(&mut self) -> std::io::Result<()> {
+        Ok(())
+    }
+}
+
+/// Counts its flushes, which fail or not.
+#[derive(Drop)]
+struct Flushed {
+    count: u8,
+    fails: bool,
+}
+
+impl Write for Flushed {
+    fn write(&mut self, buf: &[u8]) -> std::io::Result<usize> {
+        Ok(buf.len())
+    }
+
+    fn flush(&mut self) -> std::io::Result<()> {
+        self.count = self.count.wrapping_add(1);
+        if self.fails {
+            Err(Error::from(ErrorKind::Interrupted))
+        } else {
+            Ok(())
+        }
+    }
+}
+
+fn writer(alloc: Global, left: usize, fault: Fault) -> ToWriter<ByteByByte>
+    ensures { has_failed result ≡ false }
+{
+    ToWriter::new(ByteByByte {
+        held: Vec::new(alloc),
+        left,
+        fault,
+    })
+}
+
+#[test]
+fn a_byte_a_call_is_the_same(rt: HostRuntime) -> Result<(), Fail> {
+    let names = names(rt.alloc())?;
+    let rows = [row(0, RowKind::Send, RowAnswer::New, Detail::Queue(1))];
+    let mut out = writer(rt.alloc(), 1_000_000, Fault::TakesNothing);
+    let answer = write_log(rt.alloc(), &mut out, &rows, &names);
+    assert!(rt; answer.is_ok());
+    let log = b"at,queue,agent,call,answer,message,receipt,detail\n0,q,s,send,new,,,d\n";
+    assert!(rt; out.get_ref().held.as_slice() == log.as_slice());
+    Ok(())
+}
+
+/// Whether a call answered that the writer failed, which holds these bytes.
+fn has_failed_behind(
+    out: &ToWriter<ByteByByte>,
+    answer: &Result<(), Refusal>,
+    bytes: &[u8],
+) -> bool {
+    matches!(answer, Err(Refusal::Write)) && out.get_ref().held.as_slice() == bytes
+}
+
+/// Writes a record as a line.
+fn write_line<W: Out>(alloc: Global, out: &mut W, fields: &[&[u8]]) -> Result<(), Refusal>
+    requires { W.failed out.old ≡ false }
+{
+    let mut lines = Lines::new(alloc);
+    lines.add(fields)?;
+    write_all(out, lines.into_bytes()?.as_slice())?;
+    Ok(())
+}
+
+/// What a writer holds of a record's line whose call after so many bytes fails.
+fn try_record(rt: &impl Abort, alloc: Global, left: usize, fault: Fault, front: &[u8]) {
+    let mut out = writer(alloc, left, fault);
+    let answer = write_line(alloc, &mut out, &[b"a", b"\"", b""]);
+    assert!(rt; has_failed_behind(&out, &answer, front));
+}
+
+#[test]
+fn each_failing_call_leaves_what_came_before(rt: HostRuntime) {
+    let line = b"a,\"\"\"\",\n".as_slice();
+    for left in 0..line.len() {
+        let front = &line[..left];
+        let (interrupted, broken) = (ErrorKind::Interrupted, ErrorKind::BrokenPipe);
+        try_record(&rt, rt.alloc(), left, Fault::TakesNothing, front);
+        try_record(&rt, rt.alloc(), left, Fault::Error(interrupted), front);
+        try_record(&rt, rt.alloc(), left, Fault::Error(broken), front);
+    }
+}
+
+/// What a writer holds of some rows whose call after so many bytes fails.
+fn try_rows(rt: &impl Abort, alloc: Global, given: (&[Row], &Names), left: usize, front: &[u8]) {
+    let mut out = writer(alloc, left, Fault::Error(ErrorKind::Interrupted));
+    let answer = write_rows(alloc, &mut out, given.0, given.1);
+    assert!(rt; has_failed_behind(&out, &answer, front));
+}
+
+#[test]
+fn a_failing_call_ends_the_rows(rt: HostRuntime) -> Result<(), Fail> {
+    let names = names(rt.alloc())?;
+    let rows = [
+        row(0, RowKind::Send, RowAnswer::New, Detail::Absent),
+        row(1, RowKind::Send, RowAnswer::New, Detail::Absent),
+    ];
+    let lines = b"0,q,s,send,new,,,\n1,q,s,send,new,,,\n".as_slice();
+    for left in 0..lines.len() {
+        try_rows(&rt, rt.alloc(), (&rows, &names), left, &lines[..left]);
+    }
+    Ok(())
+}
+
+#[test]
+fn an_empty_piece_is_written(rt: HostRuntime) {
+    let mut out = ToWriter::new(Vec::new(rt.alloc()));
+    assert!(rt; matches!(out.write(b""), Ok(0)));
+    assert!(rt; write_all(&mut out, b"").is_ok());
+    assert_eq!(rt; out.get_ref().len(), 0);
+}
+
+#[test]
+fn flushes_reach_the_writer(rt: HostRuntime) {
+    let mut out = ToWriter::new(Flushed {
+        count: 0,
+        fails: false,
+    });
+    assert!(rt; write_all(&mut out, b"abc").is_ok());
+    assert_eq!(rt; out.get_ref().count, 0);
+    assert!(rt; out.flush().is_ok());
+    assert!(rt; out.flush().is_ok());
+    assert_eq!(rt; out.get_ref().count, 2);
+}
+
+#[test]
+fn a_flush_fails(rt: HostRuntime) {
+    let mut out = ToWriter::new(Flushed {
+        count: 0,
+        fails: true,
+    });
+    assert_eq!(rt; out.flush(), Err(Failed));
+    assert_eq!(rt; out.get_ref().count, 1);
+}
