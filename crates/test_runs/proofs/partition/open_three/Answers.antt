@@ -1,5 +1,6 @@
 use Rattle.std.proofs.Common.{Err, List, None, Ok, Option, Result, Some, [], ◌∷◌, arith, false, true, ℕ, refl, subst, sym, ◌+◌, ◌<◌, ◌≡◌, ◌≤◌}
 use Rattle.std.proofs.lemmas.List.Elements.{All-cons, All-nil}
+use Rattle.std.proofs.lemmas.Result.{IfOk-weaker}
 use Rattle.std.specs.Prelude.{All, IfOk, IsOk, length, map}
 use Rattle.sim_clock.specs.declared.key.Key.{Key}
 use Rattle.sim_clock.specs.declared.refusal.Refusal.{Refusal}
@@ -42,6 +43,12 @@ three r s t a b c =
       past = past_from 0 w (world_due w) (from_start (world_due w)) past;
     })
 
+-- nothing there is from after the beginning
+past_of : (r s t : Result Site Refusal) → Opened 2 r → Opened 3 s → Opened 9 t → All (IsOfPast 0) (living (r ∷ (s ∷ (t ∷ []))))
+past_of r s t a b c =
+    rw (a.is, b.is, c.is)
+    (All-cons (IsOfPast 0) a.site (b.site ∷ (c.site ∷ [])) a.past (All-cons (IsOfPast 0) b.site (c.site ∷ []) b.past (All-cons (IsOfPast 0) c.site [] c.past (All-nil (IsOfPast 0)))))
+
 pub new-requires : goal.new-requires
 new-requires c =
     let a = c.in_ok-first.ensures in
@@ -50,3 +57,14 @@ new-requires c =
     subst IsPart (sym c.in_ok-sites.ensures.items)
     (three c.in_ok-first.first c.in_ok-second.second c.in_ok-third.third (opened 2 _ a.lives a.number a.sound a.past) (opened 3 _ b.lives b.number b.sound b.past)
     (opened 9 _ d.lives d.number d.sound d.past))
+
+pub returns : goal.returns
+returns c =
+    let a = c.in_ok-first.ensures in
+    let b = c.in_ok-second.ensures in
+    let d = c.in_ok-third.ensures in
+    let past : All (IsOfPast 0) (living c.in_ok-sites.sites.items) =
+    subst (λ xs. All (IsOfPast 0) (living xs)) (sym c.in_ok-sites.ensures.items)
+    (past_of c.in_ok-first.first c.in_ok-second.second c.in_ok-third.third (opened 2 _ a.lives a.number a.sound a.past) (opened 3 _ b.lives b.number b.sound b.past)
+    (opened 9 _ d.lives d.number d.sound d.past)) in
+    IfOk-weaker c.new.result (λ p. p ≡ Ok (living c.in_ok-sites.sites.items)) (λ p. IfOk p (All (IsOfPast 0))) (λ p e. subst (λ q. IfOk q (All (IsOfPast 0))) (sym e) past) c.new.ensures
