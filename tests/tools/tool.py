@@ -21,12 +21,17 @@ needs_program = unittest.skipUnless(PROGRAM, "SQS_REHEARSE does not name the pro
 sys.path.insert(0, TOOLS)
 
 
-def module_of(name):
-    """A tool as a module, so that its functions can be called."""
-    loader = importlib.machinery.SourceFileLoader(name, os.path.join(TOOLS, name))
+def module_at(path, name):
+    """A program in Python as a module, so that its functions can be called."""
+    loader = importlib.machinery.SourceFileLoader(name, path)
     module = importlib.util.module_from_spec(importlib.util.spec_from_loader(name, loader))
     loader.exec_module(module)
     return module
+
+
+def module_of(name):
+    """A tool as a module."""
+    return module_at(os.path.join(TOOLS, name), name)
 
 
 class ToolCase(unittest.TestCase):

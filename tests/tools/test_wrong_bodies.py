@@ -1,0 +1,177 @@
+"""Tests tests/wrong-bodies/run on a crate of its own: once by the prover, and else by a program that answers for it."""
+import os
+import shutil
+import subprocess
+import sys
+import unittest
+
+from tool import ROOT, ToolCase, module_at
+
+RUN = os.path.join(ROOT, "tests", "wrong-bodies", "run")
+run = module_at(RUN, "wrong_bodies")
+
+CODE = """//! Choices of one of several numbers.
+#![tactic(auto)]
+ghost use Rattle.std.specs.Prelude.{◌≡◌};
+ghost use Rattle.tiny.specs.Choices.{chosen};
+
+/// The chosen one of two numbers.
+pub fn choose(first: u8, second: u8) -> u8
+    ensures { result ≡ chosen first second }
+{
+    match second {
+        0 => first,
+        _ => first,
+    }
+}
+
+/// The chosen one of three numbers.
+pub fn choose_of_three(first: u8, second: u8, third: u8) -> u8
+    ensures { result ≡ chosen first third }
+{
+    choose(choose(first, second), third)
+}
+
+/// Two numbers, of which one is chosen.
+#[derive(Clone, Copy)]
+pub struct Pair {
+    pub first: u8,
+    pub second: u8,
+}
+
+impl Pair {
+    /// The chosen one.
+    pub fn choose(self) -> u8
+        ensures { result ≡ chosen self.first self.second }
+    {
+        choose(self.first, self.second)
+    }
+}
+
+impl Default for Pair {
+    fn default() -> Pair {
+        let first = 0;
+        Pair { first, second: 1 }
+    }
+}
+"""
+SPECS = """-- Which of two numbers is chosen.
+use Rattle.std.specs.Prelude.{ℕ}
+
+-- the first
+abbrev pub chosen : ℕ → ℕ → ℕ
+chosen first second = first
+"""
+# Two of one function, one of a function that calls it, and one of a definition.
+WRONG = {
+    "second_beside_zero": ("src/lib.rt", "        0 => first,", "        0 => second,"),
+    "second_beside_others": ("src/lib.rt", "        _ => first,", "        _ => second,"),
+    "pair_turned": ("src/lib.rt", "choose(self.first, self.second)", "choose(self.second, self.first)"),
+    "definition_turned": ("specs/Choices.antt", "chosen first second = first", "chosen first second = second"),
+}
+# One that changes nothing that is promised, one of code that can't be read, and one of a text that is not there.
+NOT_TRIED = {
+    "harmless": ("src/lib.rt", "choose(choose(first, second), third)", "choose(first, choose(second, third))"),
+    "unreadable": ("src/lib.rt", "let first = 0;", "let first = nobody;"),
+    "of_no_text": ("src/lib.rt", "let third = 0;", "let third = 1;"),
+}
+
+
+class WrongBodies(ToolCase):
+    def setUp(self):
+        super().setUp()
+        self.environment = dict(os.environ)
+        for folder in ("crates/tiny/src", "crates/tiny/specs", "tests/wrong-bodies/tiny", "tools", "bin"):
+            os.makedirs(self.path(folder))
+        self.write("crates.txt", "tiny:\n")
+        self.write("crates/tiny/src/lib.rt", CODE)
+        self.write("crates/tiny/specs/Lib.antt", "pub mod Choices\n")
+        self.write("crates/tiny/specs/Choices.antt", SPECS)
+        shutil.copy(RUN, self.path("tests/wrong-bodies/run"))
+        shutil.copy(os.path.join(ROOT, "tools", "console.py"), self.path("tools"))
+
+    def answer_for_prover(self, verdict, status):
+        """Puts a program before `rt` that says of each crate that it is proved, or not."""
+        self.write("bin/rt", f"#!/bin/sh\necho 'fn tiny::Pair::choose: {verdict}'\nexit {status}\n")
+        os.chmod(self.path("bin/rt"), 0o755)
+        self.environment = {**os.environ, "PATH": self.path("bin") + os.pathsep + os.environ["PATH"]}
+
+    def write_edits(self, edits):
+        for name, (file, old, new) in edits.items():
+            self.write(f"tests/wrong-bodies/tiny/{name}.edit", f"file: {file}\nold: {old}\nnew: {new}\n")
+
+    def try_all(self, *words):
+        command = [sys.executable, self.path("tests/wrong-bodies/run"), *words]
+        ended = subprocess.run(command, env=self.environment, text=True, capture_output=True)
+        return ended.returncode, ended.stdout, ended.stderr
+
+    def test_tells_what_is_not_refused(self):
+        self.write_edits({**WRONG, **NOT_TRIED})
+        status, out, err = self.try_all()
+        told = {it.split(": ")[0]: it.split(": ", 1)[1] for it in out.splitlines() if it.startswith("tests/")}
+        folder = "tests/wrong-bodies/tiny"
+        self.assertEqual(sorted(told), [f"{folder}/{it}.edit" for it in ("harmless", "of_no_text", "unreadable")], out)
+        self.assertEqual(told[f"{folder}/harmless.edit"], "NOT REFUSED")
+        self.assertEqual(told[f"{folder}/of_no_text.edit"],
+                         "BAD EDIT: an 'old:' text stands in src/lib.rt 0 times, and not once")
+        self.assertIn("BAD EDIT: ", told[f"{folder}/unreadable.edit"])
+        self.assertIn("tiny: 4 of 7 wrong bodies refused", out)
+        self.assertEqual((status, err), (1, ""))
+
+    def test_says_when_all_are_proved(self):
+        self.write_edits({"pair_turned": WRONG["pair_turned"]})
+        self.answer_for_prover("proved", 0)
+        status, out, err = self.try_all("tiny")
+        self.assertIn("tests/wrong-bodies/tiny/pair_turned.edit: NOT REFUSED", out.splitlines())
+        self.assertIn("0 of 1 wrong bodies refused, in 1 checks and ", out.splitlines()[-1])
+        self.assertEqual((status, len(out.splitlines()), err), (1, 3, ""))
+
+    def test_a_crate_must_be_proved(self):
+        self.write_edits(WRONG)
+        self.answer_for_prover("not proved", 1)
+        fault = "run: tiny is not proved without an edit: rt check tiny tells why\n"
+        self.assertEqual(self.try_all("tiny"), (2, "", fault))
+
+    def test_only_changed_crates(self):
+        self.write_edits(WRONG)
+        as_someone = ["-c", "user.name=a", "-c", "user.email=a@b"]
+        for words in (["init", "-q"], ["add", "-A"], [*as_someone, "commit", "-qm", "a"]):
+            subprocess.run(["git", *words], cwd=self.folder, check=True)
+        status, out, _ = self.try_all("--changed", "HEAD")
+        self.assertEqual((status, out[:32]), (0, "0 of 0 wrong bodies refused, in "))
+        self.write("crates/tiny/specs/Choices.antt", SPECS + "\n")
+        self.assertEqual(run.changed_since(self.folder, "HEAD"), {"tiny"})
+        self.assertEqual(self.try_all("--changed", "nowhere")[2], "run: git knows no revision nowhere\n")
+
+    def test_no_such_crate(self):
+        self.assertEqual(self.try_all("tiny")[2], "run: there is no wrong body of a crate tiny\n")
+
+
+class Functions(unittest.TestCase):
+    def at(self, text):
+        return run.function_at(CODE, CODE.find(text), "src/queue/send.rt")
+
+    def test_function_of_a_body(self):
+        self.assertEqual(self.at("_ => first"), (("queue", "send"), (), "choose"))
+        self.assertEqual(self.at("choose(self.first"), (("queue", "send"), ("Pair",), "choose"))
+        self.assertEqual(self.at("let first = 0"), (("queue", "send"), ("Pair", "Default"), "default"))
+
+    def test_what_is_in_no_body(self):
+        for text in ("chosen first third", "pub second: u8", "ghost use", "fn default"):
+            self.assertIsNone(self.at(text), text)
+
+    def test_owners(self):
+        self.assertEqual(run.owner_of("impl<T: Drop> Owner<T> {"), ["Owner"])
+        self.assertEqual(run.owner_of("impl From<Call> for Act {"), ["Act", "From", "Call"])
+        self.assertEqual(run.owner_of("impl<'a> Iterator for Messages<'a> {"), ["Messages", "Iterator"])
+
+    def test_paths_of_the_prover(self):
+        of = lambda path, *function: run.is_of(path, "tiny", run.Function(*function))
+        self.assertTrue(of("tiny::send::PairDefault::default", ("send",), ("Pair", "Default"), "default"))
+        self.assertTrue(of("tiny::send::fn::choose::map+FnOnce::call_once", ("send",), (), "choose"))
+        self.assertFalse(of("tiny::send::Pair::choose", ("send",), (), "choose"))
+        self.assertFalse(of("tiny::choose", ("send",), (), "choose"))
+
+
+if __name__ == "__main__":
+    unittest.main()
