@@ -1,3 +1,5 @@
+pub mod HeapOrder
 pub mod Inserted
 pub mod Least
 pub mod Places
+pub mod Sorted

@@ -1,5 +1,5 @@
 -- Insertion by place, and the least of a list in order.
-use Rattle.std.proofs.Common.{◌≡◌, ℕ, ◌+◌, Bool, true, false, not, cond, List, [], ◌∷◌, Some, None, nat_lt, slice_get, slice_index_or, ◌<◌, ◌∙◌, unwrap_or, refl, ap, sym, if◌then◌else◌, length, ◌≤◌, arith}
+use Rattle.std.proofs.Common.{◌≡◌, ℕ, ◌+◌, Bool, true, false, not, cond, List, [], ◌∷◌, Some, None, nat_lt, unwrap_or, refl, ap, if◌then◌else◌, length, ◌≤◌, arith}
 use Rattle.std.specs.List.{position, position_or_len, insert}
 use Rattle.std.specs.declared.cmp.Ordering.{Ordering}
 use Rattle.std.specs.Ordering.{is_lt}
@@ -42,11 +42,3 @@ module _ {A : Type 0} (R : A → A → Ordering) where
   -- the least of a list in order is its first
   pub least_in_order : (x : A) (ys : List A) → IsInOrder R (x ∷ ys) → least_by R (x ∷ ys) ≡ Some x
   least_in_order x ys o = least_first x ys o.0 o.1
-
-  pub first_least : (xs : List A) → IsInOrder R xs → slice_get xs 0 ≡ least_by R xs
-  first_least [] o = refl
-  first_least (x ∷ xs) o = sym (least_in_order x xs o)
-
-  pub removed_least : (xs : List A) (x : A) → x ≡ slice_index_or xs 0 x → IsInOrder R xs → 0 < length xs → Some x ≡ least_by R xs
-  removed_least [] x e o some = absurd (omega (arith, some))
-  removed_least (y ∷ ys) x e o some = ap (λ z. Some z) e ∙ sym (least_in_order y ys o)

@@ -63,6 +63,15 @@ inserted_by R x (y ∷ ys) = if is_lt (R x y) then x ∷ (y ∷ ys) else y ∷ i
 abbrev pub inserted : Key → List Key → List Key
 inserted = inserted_by key_cmp
 
+-- the members of a list in order, each put at its place among those behind it
+abbrev pub sorted_by : {A : Type 0} → (A → A → Ordering) → List A → List A
+sorted_by R [] = []
+sorted_by R (x ∷ xs) = inserted_by R x (sorted_by R xs)
+
+-- the keys of a list in their order
+abbrev pub sorted : List Key → List Key
+sorted = sorted_by key_cmp
+
 -- whether the first of a list, if any, does not come before this one
 abbrev pub IsBefore : {A : Type 0} → (A → A → Ordering) → A → List A → Type 0
 IsBefore R x [] = Unit {0}

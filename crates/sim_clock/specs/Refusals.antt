@@ -1,5 +1,6 @@
 -- The numbers and the names of the refusals.
-use Rattle.std.specs.Prelude.{ℕ, List, codes}
+use Rattle.std.specs.Prelude.{ℕ, List, codes, [], ◌++◌}
+use Rattle.std.specs.Fmt.{decimal}
 use Rattle.sim_clock.specs.declared.refusal.Refusal.{Refusal}
 use Rattle.sim_clock.specs.declared.refusal.Refusal.TheVariants as refusal
 
@@ -62,3 +63,12 @@ refusal_name refusal.CountLimit = codes "CountLimit"
 refusal_name refusal.Memory = codes "Memory"
 refusal_name refusal.NoWorker = codes "NoWorker"
 refusal_name refusal.Write = codes "Write"
+
+-- the values of a refusal that has any, each behind a space
+abbrev pub refusal_values : Refusal → List ℕ
+refusal_values (refusal.WindowTooLong window least) = codes " " ++ decimal window ++ codes " " ++ decimal least
+refusal_values _ = []
+
+-- what it is displayed as: its name and its values
+abbrev pub displayed : Refusal → List ℕ
+displayed r = refusal_name r ++ refusal_values r

@@ -1,55 +1,42 @@
 //! The agenda: the keys of the entries that are due, least first.
-ghost use Rattle.std.specs.Prelude.{◌≡◌, ◌∷◌, ◌≤◌, [], length, OnOk, OnErr, IsOkUnless, MatchOption};
-ghost use Rattle.std.specs.List.{position, position_or_len};
-ghost use Rattle.std.specs.Ordering.{is_lt};
-ghost use Rattle.sim_clock.specs.Order.{key_cmp, inserted, least};
+ghost use Rattle.std.specs.Prelude.{◌≡◌, ◌∷◌, [], OnOk, OnErr, IsOkUnless, MatchOption};
+ghost use Rattle.sim_clock.specs.Order.{inserted, least};
 
 use crate::key::Key;
 use crate::refusal::Refusal;
 use std::alloc::Global;
+use std::cmp::Reverse;
+use std::collections::BinaryHeap;
 use std::marker::Model;
-
-// Where the first key stands that comes after this one.
-fn first_after(keys: &[Key], key: Key) -> Option<usize>
-    ensures { result ≡ position (λ next. is_lt (key_cmp key next)) keys.now }
-{
-    keys.iter().position(|next| key.is_before(next))
-}
-
-// Where a key belongs among keys in order.
-fn place_among(keys: &[Key], key: Key) -> usize
-    ensures place { result ≡ position_or_len (λ next. is_lt (key_cmp key next)) keys.now }
-    ensures within { result ≤ length keys.now }
-{
-    first_after(keys, key).unwrap_or(keys.len())
-}
 
 /// The keys of the entries that are due. Contracts see it as the list of its keys in their order;
 /// a key may stand in it more than once.
 #[derive(Drop)]
 pub struct Agenda {
-    keys: Vec<Key>,
+    heap: BinaryHeap<Reverse<Key>>,
 }
 
 impl Model for Agenda {
-    ghost use Rattle.std.specs.Prelude.{List};
+    ghost use Rattle.std.specs.Prelude.{List, map};
+    ghost use Rattle.std.specs.BinaryHeap.{IsHeap, heap_items};
     ghost use Rattle.sim_clock.specs.declared.key.Key.{Key};
-    ghost use Rattle.sim_clock.specs.Order.{key_cmp, IsInOrder};
+    ghost use Rattle.sim_clock.specs.Order.{key_cmp, sorted};
 
     ghost Value = { List Key };
 
-    ghost view = { λ a. a.keys.items };
+    ghost view = { λ a. sorted (map (λ entry. entry.0) (heap_items a.heap)) };
 
-    ghost invariant = { λ a. IsInOrder key_cmp a.keys.items };
+    ghost invariant = { λ a. IsHeap (λ x y. key_cmp y.0 x.0) (heap_items a.heap) };
 }
 
 impl Agenda {
     /// An agenda with nothing in it.
+    #[tactic(auto, using(crate::proofs::HeapOrder::is_heap))]
     pub fn new(alloc: Global) -> Agenda
         ensures { result ≡ [] }
     {
         Agenda {
-            keys: Vec::new(alloc),
+            heap: BinaryHeap::new(alloc),
         }
     }
 
@@ -59,8 +46,7 @@ impl Agenda {
         ensures unchanged { OnErr result (self.new ≡ self.old) }
         ensures memory_only { IsOkUnless result Refusal.Memory }
     {
-        let place = place_among(self.keys.as_slice(), key);
-        self.keys.insert(place, key)?;
+        self.heap.push(Reverse(key))?;
         Ok(())
     }
 
@@ -68,7 +54,8 @@ impl Agenda {
     pub fn peek(&self) -> Option<Key>
         ensures { result ≡ least self.now }
     {
-        self.keys.first().copied()
+        let Reverse(key) = self.heap.peek()?;
+        Some(*key)
     }
 
     /// Takes the least key out.
@@ -76,10 +63,7 @@ impl Agenda {
         ensures least { result ≡ least self.old }
         ensures rest { MatchOption result ((self.old ≡ []) × (self.new ≡ [])) (λ k. self.old ≡ k ∷ self.new) }
     {
-        if self.keys.is_empty() {
-            None
-        } else {
-            Some(self.keys.remove(0))
-        }
+        let Reverse(key) = self.heap.pop()?;
+        Some(key)
     }
 }

@@ -4,92 +4,66 @@ ghost use Rattle.sim_clock.specs.Refusals.{refusal_code, refusal_name};
 ghost use Rattle.sim_clock.specs.declared.refusal.Refusal.TheVariants.{Memory};
 
 use std::alloc::{AllocError, AllocFailed};
-use thiserror::Error;
+use std::error::Error;
+use std::fmt;
 
 /// Why a call is refused. 1 to 9 are answers of queues and tasks, which stand in the log; 10 to 21
 /// are faults of a scenario; 30 to 36 end a run. Displayed as its name and its values.
-#[derive(Clone, Copy, Debug, PartialEq, Eq, Error)]
+#[derive(Clone, Copy, Debug, PartialEq, Eq)]
 pub enum Refusal {
     /// A short poll of a standard queue found the in-flight limit reached (SQS: `OverLimit`).
-    #[error("OverLimit")]
     OverLimit,
     /// A change of visibility of a message that is not in flight (SQS: `MessageNotInflight`).
-    #[error("MessageNotInflight")]
     MessageNotInflight,
     /// A delete or change with a receipt that names no message here (SQS: `ReceiptHandleIsInvalid`).
-    #[error("ReceiptHandleIsInvalid")]
     ReceiptHandleIsInvalid,
     /// A visibility timeout over 43,200 seconds, or a change past 12 hours from the receive.
-    #[error("BadTimeout")]
     BadTimeout,
     /// A send to a FIFO queue without a message group (SQS: `MissingParameter`).
-    #[error("MissingGroup")]
     MissingGroup,
     /// A send to a FIFO queue without a deduplication id where bodies are not compared.
-    #[error("MissingDeduplication")]
     MissingDeduplication,
     /// A delay over 900 seconds, or any delay of its own for a message of a FIFO queue.
-    #[error("BadDelay")]
     BadDelay,
     /// A move task of this queue is running already.
-    #[error("TaskRunning")]
     TaskRunning,
     /// The move task to be cancelled is not running.
-    #[error("NoTask")]
     NoTask,
     /// The scenario is not a TOML document.
-    #[error("NotToml")]
     NotToml,
     /// A key that its table does not have.
-    #[error("UnknownKey")]
     UnknownKey,
     /// A required key is absent.
-    #[error("MissingKey")]
     MissingKey,
     /// A value is not of its key's type.
-    #[error("WrongType")]
     WrongType,
     /// A number, a text or a length outside its range.
-    #[error("OutOfRange")]
     OutOfRange,
     /// A name that is not well-formed.
-    #[error("BadName")]
     BadName,
     /// A name that stands earlier among queues, actors and tasks.
-    #[error("NameTwice")]
     NameTwice,
     /// A queue that is not there, or may not stand here.
-    #[error("UnknownQueue")]
     UnknownQueue,
     /// A queue of the other kind than the one that names it.
-    #[error("KindMismatch")]
     KindMismatch,
     /// A list, script or text over its limit.
-    #[error("TooMany")]
     TooMany,
     /// A script that is missing or has a bad call.
-    #[error("BadScript")]
     BadScript,
     /// The window is longer than the least latency; both are milliseconds.
-    #[error("WindowTooLong {window} {least}")]
     WindowTooLong { window: u64, least: u64 },
     /// The map does not give every queue one of 1 to 256 partitions.
-    #[error("BadMap")]
     BadMap,
     /// The number of workers is not 1 to 64.
-    #[error("BadWorkers")]
     BadWorkers,
     /// A count would pass 2^62 - 1.
-    #[error("CountLimit")]
     CountLimit,
     /// A growth was refused.
-    #[error("Memory")]
     Memory,
     /// A thread's start was refused.
-    #[error("NoWorker")]
     NoWorker,
     /// A writer failed.
-    #[error("Write")]
     Write,
 }
 
@@ -164,6 +138,23 @@ impl Refusal {
         }
     }
 }
+
+impl fmt::Display for Refusal {
+    ghost use Rattle.std.specs.Prelude.{Some};
+    ghost use Rattle.sim_clock.specs.Refusals.{displayed};
+
+    ghost output = { λ r. Some (displayed r) };
+
+    fn fmt<W: fmt::Write>(&self, f: &mut fmt::Formatter<W>) -> fmt::Result {
+        f.write_str(self.name())?;
+        if let Refusal::WindowTooLong { window, least } = self {
+            write!(f, " {window} {least}")?;
+        }
+        Ok(())
+    }
+}
+
+impl Error for Refusal {}
 
 impl From<AllocError> for Refusal {
     ghost from_gives = { λ _ r. r ≡ Memory };

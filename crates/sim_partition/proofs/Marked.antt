@@ -12,6 +12,7 @@ use Rattle.sim_clock.specs.Order.{lesser}
 use Rattle.sim_site.specs.Spent.{due_of}
 use Rattle.sqs_index.specs.declared.mark.Mark.{Mark}
 use Rattle.sqs_index.specs.Marks.{IsPlaceOfLeast, least_of, no_mark, node}
+use Rattle.sqs_index.proofs.Spans.{same_least}
 use Rattle.sqs_model.proofs.StepMoves.{key_self}
 use Rattle.sqs_model.proofs.WorldMoves.{is_due_least}
 use Rattle.sqs_model.specs.Dues.{world_due}
@@ -20,13 +21,6 @@ use Rattle.sqs_model.specs.Run.{is_due}
 use Rattle.sqs_model.specs.Site.{Site}
 use Rattle.sim_partition.specs.Sites.{AreMarked, due_among, is_due_there, living, mark_of}
 use Rattle.sim_partition.proofs.Living.{due_living}
-
--- the same marks tell the same least, whatever empty places follow
-same_least : (xs ys : List Mark) → ((i : ℕ) → node xs i ≡ node ys i) → least_of xs ≡ least_of ys
-same_least [] [] h = refl
-same_least [] (y ∷ ys) h = same_least [] ys (λ i. h (suc i)) ∙ ap (λ (m : Mark). lesser m.due (least_of ys)) (h 0)
-same_least (x ∷ xs) [] h = ap (λ (m : Mark). lesser m.due (least_of xs)) (h 0) ∙ same_least xs [] (λ i. h (suc i))
-same_least (x ∷ xs) (y ∷ ys) h = ap (λ (m : Mark). lesser m.due (least_of xs)) (h 0) ∙ ap (lesser y.due) (same_least xs ys (λ i. h (suc i)))
 
 marks_least : (xs : List (Result Site Refusal)) → least_of (map mark_of xs) ≡ due_among xs
 marks_least [] = refl

@@ -62,6 +62,15 @@ fn go_on(text: &mut Vec<u8>, mark: &[u8], number: u64) -> Result<(), AllocError>
     put_number(text, number)
 }
 
+// Gives a writer up, out of the way of the calls that succeed: a writer is some kilobytes on the stack.
+#[cold]
+#[inline(never)]
+fn give_up(writer: &mut Option<Writer<Vec<u8>>>)
+    ensures { IsOfLines writer.new }
+{
+    *writer = None;
+}
+
 // One more field; none, and none later, where a growth is refused.
 #[tactic(auto, using(crate::proofs::Begun::field_same))]
 fn push(writer: &mut Option<Writer<Vec<u8>>>, field: &[u8]) -> Result<(), AllocError>
@@ -74,7 +83,7 @@ fn push(writer: &mut Option<Writer<Vec<u8>>>, field: &[u8]) -> Result<(), AllocE
     {
         return Ok(());
     }
-    *writer = None;
+    give_up(writer);
     Err(AllocError)
 }
 
@@ -99,7 +108,7 @@ impl Fields {
         {
             return Ok(());
         }
-        self.writer = None;
+        give_up(&mut self.writer);
         Err(AllocError)
     }
 

@@ -133,6 +133,12 @@ due_runs c key a is due =
     let found : task_numbered key.agent c ≡ Some s.task = subst (λ (j : ℕ). task_numbered j c ≡ Some s.task) s.agent own in
     rw found s.running
 
+-- no arrival is due of a site but for those on their way to it
+pub no_arrival : (c : Core) (key : Key) → key.class ≡ Arrival → IsAmong (core_dues c) key → ⊥
+no_arrival c key is due =
+    by_part key ⊥ c (λ e. let k : Expiry ≡ Arrival = sym e ∙ is in cc) (λ e. let k : Release ≡ Arrival = sym e ∙ is in cc) (λ e. let k : PollEnd ≡ Arrival = sym e ∙ is in cc)
+    (λ e. let k : Wake ≡ Arrival = sym e ∙ is in cc) (λ s. let k : Sample ≡ Arrival = sym s.class ∙ is in cc) (λ s. let k : Step ≡ Arrival = sym s.class ∙ is in cc) due
+
 -- what is due of a site and is no arrival
 among_core : (key : Key) (s : Site) → key.class ≢ Arrival → IsAmong (dues s) key → IsAmong (core_dues s.core) key
 unfolding dues

@@ -10,6 +10,7 @@ use Rattle.sim_clock.specs.Firsts.{without}
 use Rattle.sim_clock.specs.Order.{least, lesser}
 use Rattle.sqs_index.specs.declared.mark.Mark.{Mark}
 use Rattle.sqs_index.specs.Marks.{IsNextIn, IsPlaceOfLeast, NoneIn, least_of, meets, no_mark, node, tells}
+use Rattle.sqs_index.proofs.Spans.{same_least}
 use Rattle.sqs_model.proofs.Counts.{find_picked}
 use Rattle.sqs_model.proofs.StepMoves.{key_self}
 use Rattle.sqs_model.proofs.WorldMoves.{is_due_least}
@@ -19,7 +20,7 @@ use Rattle.sqs_model.specs.Run.{is_due}
 use Rattle.sqs_model.specs.Site.{Poll}
 use Rattle.sqs_model.specs.Step.{ends_at}
 use Rattle.sim_site.specs.Marked.{AreMarked, AreMarkedBut, AreWaiting, IsFirstAt, IsSetAt, LeavesOne, end_mark, place_ends_at, waiting}
-use Rattle.sim_site.proofs.Marked.{marked_anew, marked_but, same_least}
+use Rattle.sim_site.proofs.Marked.{marked_anew, marked_but}
 
 abbrev Places : Type 0
 Places = List (Option Poll)
@@ -235,3 +236,17 @@ pub least_matched :
     → MatchOption r (IsAbsent (place_ends_at key) xs) (Stands (place_ends_at key) xs)
 least_matched key xs marks None h e m = absurd (none_some (sym m ∙ e))
 least_matched key xs marks (Some i) h e m = stands_end key xs marks h i m e
+
+-- where no poll waits, each place is empty
+none_kept : (xs : Places) → 0 ≡ length (waiting xs) → (i : ℕ) → node (map end_mark xs) i ≡ no_mark
+none_kept [] h i = refl
+none_kept (None ∷ xs) h zero = refl
+none_kept (None ∷ xs) h (suc i) = none_kept xs h i
+none_kept (Some p ∷ xs) h i = absurd (omega (arith, h))
+
+-- and may be forgotten
+pub forgotten : (xs news : Places) (ends : List Mark) (count : ℕ) → AreWaiting xs ends count → count ≡ 0 → news ≡ [] → AreWaiting news ends count
+forgotten xs news ends count h none is =
+    let empty : 0 ≡ length (waiting xs) = sym none ∙ h.counted in
+    subst (λ ys. AreWaiting ys ends count) (sym is)
+    (record { marked = record { same = λ i. h.marked.same i ∙ none_kept xs empty i; room = omega arith }; counted = none })

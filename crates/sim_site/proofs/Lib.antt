@@ -18,12 +18,16 @@ pub mod Recent
 pub mod Openings
 pub mod Stepping
 pub mod Due
+pub mod Taking
 pub mod Passing
 pub mod Limiting
 pub mod Timely
 pub mod Told
 pub mod Deciding
 pub mod Answering
+pub mod Numbered
 pub mod Marked
+pub mod Picked
+pub mod Ordered
 pub mod Grown
 pub mod Ending

@@ -1,22 +1,16 @@
 -- Marks of the elements of a list, and of a site's actors.
-use Rattle.std.specs.Prelude.{Err, get_or, IfOk, List, Ok, Result, [], flat_map, length, map, set, suc, zero, ℕ, ◌<◌, ◌∷◌, ◌≡◌, ◌≢◌, ◌≤◌}
+use Rattle.std.specs.Prelude.{Err, get_or, IfOk, IfSome, List, None, Ok, Option, Result, Some, [], flat_map, length, map, set, suc, zero, ℕ, ◌<◌, ◌∷◌, ◌≡◌, ◌≢◌, ◌≤◌}
 use Rattle.std.proofs.Common.{ap, arith, inl, inr, refl, subst, sym, ◌∙◌}
 use Rattle.std.proofs.lemmas.Bool.{cases_eq}
 use Rattle.std.proofs.lemmas.List.{get_or-map, get_or-set_other, get_or-set_same, length-set}
 use Rattle.sim_clock.specs.Order.{least, lesser}
 use Rattle.sqs_index.specs.declared.mark.Mark.{Mark}
 use Rattle.sqs_index.specs.Marks.{least_of, no_mark, node}
+use Rattle.sqs_index.proofs.Spans.{same_least}
 use Rattle.sqs_model.specs.Actor.{Actor}
 use Rattle.sqs_model.specs.Dues.{actor_dues}
 use Rattle.sim_site.specs.Marked.{AreMarked, AreMarkedBut, IsSetAt, wake_mark}
 use Rattle.sim_site.proofs.Least.{least_append}
-
--- the same marks tell the same least, whatever empty places follow
-pub same_least : (xs ys : List Mark) → ((i : ℕ) → node xs i ≡ node ys i) → least_of xs ≡ least_of ys
-same_least [] [] h = refl
-same_least [] (y ∷ ys) h = same_least [] ys (λ i. h (suc i)) ∙ ap (λ (m : Mark). lesser m.due (least_of ys)) (h 0)
-same_least (x ∷ xs) [] h = ap (λ (m : Mark). lesser m.due (least_of xs)) (h 0) ∙ same_least xs [] (λ i. h (suc i))
-same_least (x ∷ xs) (y ∷ ys) h = ap (λ (m : Mark). lesser m.due (least_of xs)) (h 0) ∙ ap (lesser y.due) (same_least xs ys (λ i. h (suc i)))
 
 wakes_least : (xs : List Actor) → least_of (map wake_mark xs) ≡ least (flat_map actor_dues xs)
 wakes_least [] = refl
@@ -40,6 +34,11 @@ module _ {A : Type 0} (mark : A → Mark) where
   -- where one element changed, the marks of the others are theirs as before
   pub marked_but : (old new : List A) (i : ℕ) (marks : List Mark) → AreMarked mark old marks → IsSetAt i old new → AreMarkedBut mark i new marks
   marked_but old new i marks h s = subst (λ ys. AreMarkedBut mark i ys marks) (sym s.is) (but_set old i s.element marks h)
+
+  -- the same of marks that there may be
+  pub marked_but_if : (old new : List A) (i : ℕ) (marks : Option (List Mark)) → IfSome marks (AreMarked mark old) → IsSetAt i old new → IfSome marks (AreMarkedBut mark i new)
+  marked_but_if old new i None h s = tt
+  marked_but_if old new i (Some marks) h s = marked_but old new i marks h s
 
   anew_at :
       (xs : List A) (marks : List Mark) (i : ℕ) (x : A) (k : ℕ) → AreMarkedBut mark i xs marks → i < length xs → x ≡ get_or xs i x

@@ -55,6 +55,9 @@ module _ (n : ℕ) (xs : List Actor) (i : ℕ) (s : Stands (is_actor n) xs i) (a
   pub settings_at : (b : Actor) → b.settings ≡ a.settings → map (λ (x : Actor). x.settings) (set xs i b) ≡ map (λ (x : Actor). x.settings) xs
   settings_at b h = rw (set_at b) (map_changed (is_actor n) (λ (x : Actor). x.settings) b xs a found_at h)
 
+  pub numbers_at : (b : Actor) → b.number ≡ a.number → map (λ (x : Actor). x.number) (set xs i b) ≡ map (λ (x : Actor). x.number) xs
+  numbers_at b h = rw (set_at b) (map_changed (is_actor n) (λ (x : Actor). x.number) b xs a found_at h)
+
   pub turned_at : (now : ℕ) (told : Answer) (act : Act) (b : Actor) → next a now told ≡ (act, b) → IsFramed a b → Turned n now told act xs (set xs i b)
   turned_at now told act b d f =
       let number : b.number ≡ n = f.number ∙ found_number n xs a found_at in

@@ -8,3 +8,4 @@ pub mod Origins
 pub mod Steps
 pub mod Due
 pub mod Marked
+pub mod Arrivals

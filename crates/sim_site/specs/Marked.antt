@@ -1,5 +1,6 @@
 -- Lists whose elements have marks, place by place, with empty places after them.
-use Rattle.std.specs.Prelude.{Bool, false, List, None, Option, Some, [], get_or, length, map, set, suc, ℕ, ◌<◌, ◌∷◌, ◌≡◌, ◌≢◌, ◌≤◌}
+use Rattle.std.specs.Prelude.{Bool, IfSome, false, true, List, None, Option, Some, [], get_or, length, map, set, suc, ℕ, ◌<◌, ◌∷◌, ◌≡◌, ◌≢◌, ◌≤◌}
+use Rattle.std.specs.List.Sorted.{IsNonDecreasingBy}
 use Rattle.sim_clock.specs.declared.key.Key.{Key}
 use Rattle.sim_clock.specs.Order.{least}
 use Rattle.sqs_index.specs.declared.mark.Mark.{Mark}
@@ -27,6 +28,11 @@ pub record IsSetAt {A : Type 0} (place : ℕ) (old new : List A) : Type 0 where
 -- what is kept of an actor: its wake
 abbrev pub wake_mark : Actor → Mark
 wake_mark a = record { due = least (actor_dues a); hosts = 0 }
+
+-- actors by whose numbers one is found, where these are said not to fall, and with the marks of their wakes, if there are any
+pub record AreFound (actors : List Actor) (is_in_order : Bool) (wakes : Option (List Mark)) : Type 0 where
+  pub order : is_in_order ≡ true → IsNonDecreasingBy (λ (a : Actor). a.number) actors
+  pub marked : IfSome wakes (AreMarked wake_mark actors)
 
 -- what is kept of a place where a poll may wait: its end
 abbrev pub end_mark : Option Poll → Mark

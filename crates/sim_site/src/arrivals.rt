@@ -1,63 +1,91 @@
-//! Transfers on their way, in the order of their keys.
-ghost use Rattle.std.specs.Prelude.{◌≡◌, ◌≤◌, MatchOption, OnOk, find, length};
-ghost use Rattle.std.specs.List.{position, position_or_len};
-ghost use Rattle.std.specs.Ordering.{is_lt, on};
-ghost use Rattle.sim_clock.specs.Order.{inserted_by, key_cmp};
-ghost use Rattle.sim_clock.specs.Firsts.{without};
-ghost use Rattle.sqs_model.specs.Places.{IsAbsent, Stands};
-ghost use Rattle.sqs_model.specs.Site.{has_key};
+//! The transfers on their way to a site, in the order of their keys.
+ghost use Rattle.std.specs.Prelude.{◌≡◌, ◌<◌, ◌^◌, ◌∷◌, [], IfSome, MatchOption, OnErr, OnOk, Some, length, map};
+ghost use Rattle.std.specs.Ordering.{on};
+ghost use Rattle.sim_clock.specs.Order.{inserted_by, key_cmp, least};
+ghost use Rattle.sqs_redrive.specs.declared.transfers.Outbound.{Outbound as TheOutbound};
 ghost use Rattle.sqs_redrive.specs.Transfers.{transfer_key};
+ghost use Rattle.std.specs.Map.Iter.{ShowsInOrder, deref};
 
 use sim_clock::Key;
 use sqs_redrive::Outbound;
-use std::alloc::AllocError;
+use std::alloc::{AllocError, Global};
+use std::collections::BTreeMap;
+use std::collections::btree_map::Values;
+use std::marker::Model;
 
-// Where the first transfer stands that comes after this one.
-fn first_after(transfers: &[Outbound], transfer: &Outbound) -> Option<usize>
-    ensures { result ≡ position (λ next. is_lt (on transfer_key key_cmp transfer.now next)) transfers.now }
-{
-    let key = transfer.key();
-    transfers.iter().position(|next| key.is_before(&next.key()))
+/// The transfers on their way to a site, in the order of their keys, each also by the number of its
+/// insertion, so that of two with one key the earlier comes first. The first is told and taken, and
+/// one is added, in the logarithm of their number. Contracts see them as a list.
+#[derive(Drop)]
+pub struct Arrivals {
+    map: BTreeMap<(Key, u64), Outbound>,
+    next: u64,
 }
 
-// Where a transfer belongs among transfers in order.
-fn place_among(transfers: &[Outbound], transfer: &Outbound) -> usize
-    ensures place { result ≡ position_or_len (λ next. is_lt (on transfer_key key_cmp transfer.now next)) transfers.now }
-    ensures within { result ≤ length transfers.now }
-{
-    first_after(transfers, transfer).unwrap_or(transfers.len())
+/// The transfers on their way to a site, in the order of their keys.
+pub type Arriving<'a> = Values<'a, (Key, u64), Outbound>;
+
+impl Model for Arrivals {
+    ghost use Rattle.std.specs.Prelude.{List};
+    ghost use Rattle.std.specs.BTreeMap.{values};
+    ghost use Rattle.sim_site.specs.Arrivals.{AreArriving};
+    ghost use Rattle.sqs_redrive.specs.declared.transfers.Outbound.{Outbound};
+
+    ghost Value = { List Outbound };
+
+    ghost view = { λ a. values a.map };
+
+    ghost invariant = { λ a. AreArriving a.next a.map.entries };
 }
 
-// Where the first transfer of a key stands.
-fn first_of_key(transfers: &[Outbound], key: Key) -> Option<usize>
-    ensures { result ≡ position (has_key key) transfers.now }
-{
-    transfers
-        .iter()
-        .position(|next| key.cmp(&next.key()).is_eq())
-}
+impl Arrivals {
+    /// No transfers.
+    pub fn new(alloc: Global) -> Arrivals
+        ensures { result ≡ [] }
+    {
+        Arrivals {
+            map: BTreeMap::new(alloc),
+            next: 0,
+        }
+    }
 
-// The same, with what it says of the list.
-fn place_of_key(transfers: &[Outbound], key: Key) -> Option<usize>
-    ensures { MatchOption result (IsAbsent (has_key key) transfers.now) (Stands (has_key key) transfers.now) }
-{
-    first_of_key(transfers, key)
-}
+    /// The least arrival.
+    pub fn least(&self) -> Option<Key>
+        ensures { result ≡ least (map transfer_key self.now) }
+    {
+        let (_, first) = self.map.first_key_value()?;
+        Some(first.key())
+    }
 
-/// Takes out the transfer of a key, if there is one.
-pub fn take(transfers: &mut Vec<Outbound>, key: Key) -> Option<Outbound>
-    ensures found { result ≡ find (has_key key) transfers.old.items }
-    ensures rest { transfers.new.items ≡ without (has_key key) transfers.old.items }
-{
-    let place = place_of_key(transfers.as_slice(), key)?;
-    Some(transfers.remove(place))
-}
+    /// Takes out the first transfer, if there is one.
+    pub fn take_first(&mut self) -> Option<Outbound>
+        ensures taken { MatchOption result ((self.old ≡ []) × (self.new ≡ [])) (λ first. self.old ≡ first ∷ self.new) }
+        ensures least { IfSome result (λ first. least (map transfer_key self.old) ≡ Some (transfer_key first)) }
+    {
+        let (_, first) = self.map.pop_first()?;
+        Some(first)
+    }
 
-/// Adds a transfer at its place.
-pub fn insert(transfers: &mut Vec<Outbound>, transfer: Outbound) -> Result<(), AllocError>
-    ensures added { OnOk result (transfers.new.items ≡ inserted_by (on transfer_key key_cmp) transfer transfers.old.items) }
-{
-    let place = place_among(transfers.as_slice(), &transfer);
-    transfers.insert(place, transfer)?;
-    Ok(())
+    /// Adds a transfer at its place. The error is want of memory, after which they are as they were;
+    /// an insertion after 2^64 - 1 others, which no run reaches, is that error too.
+    pub fn insert(&mut self, transfer: Outbound) -> Result<(), AllocError>
+        ensures added { OnOk result (self.new ≡ inserted_by (on transfer_key key_cmp) transfer self.old) }
+        ensures same { OnErr result (self.new ≡ self.old) }
+    {
+        let Some(next) = self.next.checked_add(1) else {
+            return Err(AllocError);
+        };
+        self.map.insert((transfer.key(), self.next), transfer)?;
+        self.next = next;
+        Ok(())
+    }
+
+    /// The transfers, in their order.
+    pub fn iter(&self) -> Arriving<'_>
+        ensures list { result ≡ self.now }
+        ensures runs { ShowsInOrder (deref {X = TheOutbound}) }
+        ensures fits { length result < 2 ^ 63 }
+    {
+        self.map.values()
+    }
 }

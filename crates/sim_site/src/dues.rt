@@ -1,12 +1,22 @@
-//! The least due of the tasks and transfers of a site.
-ghost use Rattle.std.specs.Prelude.{◌≡◌, map, flat_map};
+//! The least due of the actors and tasks of a site.
+ghost use Rattle.std.specs.Prelude.{◌≡◌, flat_map};
 ghost use Rattle.sim_clock.specs.Order.{least};
-ghost use Rattle.sqs_model.specs.Dues.{task_dues};
-ghost use Rattle.sqs_redrive.specs.Transfers.{transfer_key};
+ghost use Rattle.sqs_model.specs.Dues.{actor_dues, task_dues};
 
-use crate::agents::Task;
+use crate::agents::{Task, wake_of};
+use sim_actor::Actor;
 use sim_clock::{Key, lesser};
-use sqs_redrive::Outbound;
+
+/// The least wake of actors.
+pub fn least_wake(actors: &[Actor]) -> Option<Key>
+    ensures { result ≡ least (flat_map actor_dues actors.now) }
+{
+    let mut best = None;
+    for i in (0..actors.len()).rev() {
+        best = lesser(wake_of(&actors[i]), best);
+    }
+    best
+}
 
 /// The least step of tasks that run.
 pub fn least_step(tasks: &[Task]) -> Option<Key>
@@ -15,17 +25,6 @@ pub fn least_step(tasks: &[Task]) -> Option<Key>
     let mut best = None;
     for i in (0..tasks.len()).rev() {
         best = lesser(tasks[i].due(), best);
-    }
-    best
-}
-
-/// The least arrival of transfers.
-pub fn least_arrival(transfers: &[Outbound]) -> Option<Key>
-    ensures { result ≡ least (map transfer_key transfers.now) }
-{
-    let mut best = None;
-    for i in (0..transfers.len()).rev() {
-        best = lesser(Some(transfers[i].key()), best);
     }
     best
 }

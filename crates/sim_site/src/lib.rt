@@ -16,5 +16,6 @@ mod site;
 mod state;
 
 pub use agents::Task;
+pub use arrivals::Arriving;
 pub use effects::{Effects, Handled};
 pub use site::Site;

@@ -6,7 +6,7 @@ ghost use Rattle.sqs_index.specs.Marks.{least_of};
 ghost use Rattle.sqs_model.specs.Dues.{poll_key};
 ghost use Rattle.sqs_model.specs.Places.{IsAbsent, Stands};
 ghost use Rattle.sqs_model.specs.Step.{ends_at};
-ghost use Rattle.sim_site.specs.Marked.{AreMarked, IsFirstAt, end_mark, place_ends_at, waiting};
+ghost use Rattle.sim_site.specs.Marked.{AreMarked, AreWaiting, IsFirstAt, end_mark, place_ends_at, waiting};
 
 use crate::agents::Poll;
 use sim_clock::Key;
@@ -128,6 +128,17 @@ fn leave(places: &mut Vec<Option<Poll>>, ends: &mut Marks, place: usize)
     ends.put(place, NO_MARK);
 }
 
+// Where no poll waits, no place is kept.
+fn forget_empty(places: &mut Vec<Option<Poll>>, ends: &Marks, count: usize)
+    requires { AreWaiting places.old.items ends.now count }
+    ensures waiting { AreWaiting places.new.items ends.now count }
+    ensures same { waiting places.new.items ≡ waiting places.old.items }
+{
+    if count == 0 {
+        places.clear();
+    }
+}
+
 // Where the first poll waits.
 fn place_of_first(places: &[Option<Poll>], ends: &Marks) -> Option<usize>
     requires { AreMarked end_mark places.now ends.now }
@@ -236,6 +247,7 @@ impl Polls {
         };
         leave(&mut self.places, &mut self.ends, place);
         self.count -= 1;
+        forget_empty(&mut self.places, &self.ends, self.count);
     }
 
     /// The first that ends by a key leaves, if there is one.
@@ -247,6 +259,7 @@ impl Polls {
         };
         leave(&mut self.places, &mut self.ends, place);
         self.count -= 1;
+        forget_empty(&mut self.places, &self.ends, self.count);
     }
 
     /// One more waits, after the others. The error is want of memory, as which more than there may

@@ -1,5 +1,6 @@
 //! Sites.
-ghost use Rattle.std.specs.Prelude.{◌++◌, All, Err, IfErr, IfOk, Ok, OnOk, Some, [], map, ◌≡◌, ◌≤◌};
+ghost use Rattle.std.specs.Prelude.{◌++◌, All, Err, IfErr, IfOk, Ok, OnOk, Some, [], length, map, ◌<◌, ◌^◌, ◌≡◌, ◌≤◌};
+ghost use Rattle.std.specs.Map.Iter.{ShowsInOrder, deref};
 ghost use Rattle.sim_actor.specs.Lives.{IsRole};
 ghost use Rattle.sim_clock.specs.Order.{least};
 ghost use Rattle.sqs_model.specs.Answers.{most_count};
@@ -8,14 +9,14 @@ ghost use Rattle.sqs_model.specs.Limits.{effect_of};
 ghost use Rattle.sqs_model.specs.Progress.{AreTimely, IsRecent};
 ghost use Rattle.sqs_model.specs.Scenario.{fresh_core};
 ghost use Rattle.sqs_model.specs.Site.{Site, accepted};
+ghost use Rattle.sqs_redrive.specs.declared.transfers.Outbound.{Outbound as TheOutbound};
 ghost use Rattle.sim_site.specs.Kept.{IsSetUp};
 ghost use Rattle.sqs_model.specs.Step.{handled};
 ghost use Rattle.sim_site.specs.Effects.{DidHandle, Stops};
 ghost use Rattle.sim_site.specs.Spent.{due_of, refusal_of};
 
 use crate::agents::Task;
-use crate::arrivals::{insert, take};
-use crate::dues::least_arrival;
+use crate::arrivals::{Arrivals, Arriving};
 use crate::effects::{Effects, Handled};
 use crate::opening::{open_actors, open_tasks};
 use crate::state::Core;
@@ -34,7 +35,7 @@ use std::marker::Model;
 #[derive(Drop)]
 pub struct Site {
     core: Core,
-    arriving: Vec<Outbound>,
+    arriving: Arrivals,
     due: Option<Key>,
     spent: Option<Refusal>,
 }
@@ -48,35 +49,35 @@ impl Model for Site {
 
     ghost Value = { Result Site Refusal };
 
-    ghost view = { λ s. spent_or s.spent (record { core = s.core; arriving = s.arriving.items }) };
+    ghost view = { λ s. spent_or s.spent (record { core = s.core; arriving = s.arriving }) };
 
-    ghost invariant = { λ s. s.due ≡ least_due (record { core = s.core; arriving = s.arriving.items }) };
+    ghost invariant = { λ s. s.due ≡ least_due (record { core = s.core; arriving = s.arriving }) };
 }
 
 // The key of what is due next.
-fn least_of(core: &Core, arriving: &[Outbound]) -> Option<Key>
+fn least_of(core: &Core, arriving: &Arrivals) -> Option<Key>
     ensures { result ≡ least_due (record { core = core.now; arriving = arriving.now }) }
 {
-    lesser(least_arrival(arriving), core.least_due())
+    lesser(arriving.least(), core.least_due())
 }
 
 // Handles what is due next.
 #[tactic(auto, unfolding(sqs_model::specs::Step::handled))]
 fn handle_due(
     core: &mut Core,
-    arriving: &mut Vec<Outbound>,
+    arriving: &mut Arrivals,
     key: Key,
     effects: &mut Effects,
 ) -> Result<(), Refusal>
-    requires due { least_due (record { core = core.old; arriving = arriving.old.items }) ≡ Some key }
+    requires due { least_due (record { core = core.old; arriving = arriving.old }) ≡ Some key }
     requires moment { key.at ≤ most_count }
     requires recent { IsRecent key.at core.old.queue }
-    requires timely { AreTimely arriving.old.items }
-    ensures done { OnOk result (DidHandle effects.old effects.new (record { core = core.new; arriving = arriving.new.items }) (handled key (record { core = core.old; arriving = arriving.old.items }))) }
-    ensures stops { IfErr result (Stops (effect_of (handled key (record { core = core.old; arriving = arriving.old.items })))) }
+    requires timely { AreTimely arriving.old }
+    ensures done { OnOk result (DidHandle effects.old effects.new (record { core = core.new; arriving = arriving.new }) (handled key (record { core = core.old; arriving = arriving.old }))) }
+    ensures stops { IfErr result (Stops (effect_of (handled key (record { core = core.old; arriving = arriving.old })))) }
 {
     if key.class == Class::Arrival {
-        let transfer = take(arriving, key);
+        let transfer = arriving.take_first();
         core.handle_arrival(key, transfer, effects)
     } else {
         core.handle(key, effects)
@@ -106,7 +107,7 @@ impl Site {
         let queue = Queue::new(alloc, number, settings);
         let draws = Draws::new(seed, number);
         let core = Core::new(alloc, queue, actors, tasks, draws, sample);
-        let arriving = Vec::new(alloc);
+        let arriving = Arrivals::new(alloc);
         let due = least_of(&core, &arriving);
         Ok(Site {
             core,
@@ -144,7 +145,7 @@ impl Site {
         if let Some(refusal) = self.spent {
             return Err(refusal);
         }
-        let inserted = insert(&mut self.arriving, transfer);
+        let inserted = self.arriving.insert(transfer);
         self.due = least_of(&self.core, &self.arriving);
         if inserted.is_err() {
             self.spent = Some(Refusal::Memory);
@@ -211,9 +212,11 @@ impl Site {
     }
 
     /// The transfers on their way to it, in the order of their keys.
-    pub fn arriving(&self) -> &[Outbound]
-        ensures { IfOk self.now (λ site. result.now ≡ site.arriving) }
+    pub fn arriving(&self) -> Arriving<'_>
+        ensures list { IfOk self.now (λ site. result ≡ site.arriving) }
+        ensures runs { ShowsInOrder (deref {X = TheOutbound}) }
+        ensures fits { length result < 2 ^ 63 }
     {
-        self.arriving.as_slice()
+        self.arriving.iter()
     }
 }

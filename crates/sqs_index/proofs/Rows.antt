@@ -56,7 +56,7 @@ pub of_pair : (i : ℕ) → (i ≡ 2 * (i / 2)) ⊎ (i ≡ 2 * (i / 2) + 1)
 of_pair i = elim (split_le (2 * (i / 2) + 1) i) [ inl l ↦ inr (omega arith) | inr l ↦ inl (omega arith) ]
 
 -- what a node tells nothing of, no node below it does
-quiet : (nodes : List Mark) (hosts i : ℕ) → ArePairs nodes → 2 ≤ i → 2 * (i / 2) + 1 < length nodes → tells nodes hosts (i / 2) ≡ false → tells nodes hosts i ≡ false
+pub quiet : (nodes : List Mark) (hosts i : ℕ) → ArePairs nodes → 2 ≤ i → 2 * (i / 2) + 1 < length nodes → tells nodes hosts (i / 2) ≡ false → tells nodes hosts i ≡ false
 quiet nodes hosts i pairs low high e =
     quiet_by nodes hosts (i / 2) i (of_pair i) (quiet_pair nodes hosts (i / 2) (pairs (i / 2) (omega arith) (omega arith)) e)
 

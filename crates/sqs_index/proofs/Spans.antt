@@ -2,7 +2,7 @@
 use Rattle.std.specs.Ordering.{is_lt}
 use Rattle.std.specs.Prelude.{◌≢◌, if◌then◌else◌}
 use Rattle.std.proofs.Math.Nat.{pow-le-pow_right}
-use Rattle.std.proofs.Common.{◌/◌, ◌⊎◌, true, false, inl, inr, ◌≡◌, ℕ, zero, suc, ◌+◌, ◌*◌, ◌^◌, ◌≤◌, ◌<◌, ◌-◌, ◌*◌, List, Option, Some, None, length, drop, arith, refl, ap, sym, ◌∙◌}
+use Rattle.std.proofs.Common.{◌/◌, ◌⊎◌, true, false, inl, inr, ◌≡◌, ℕ, zero, suc, ◌+◌, ◌*◌, ◌^◌, ◌≤◌, ◌<◌, ◌-◌, ◌*◌, List, [], ◌∷◌, Option, Some, None, length, drop, arith, refl, ap, sym, ◌∙◌}
 use Rattle.std.proofs.lemmas.List.{drop_all, drop_more, get_or-drop, get_or_past, length-drop}
 use Rattle.std.proofs.lemmas.Bool.{cases_lt}
 use Rattle.std.proofs.lemmas.Nat.{pow_pos}
@@ -192,7 +192,7 @@ first_below nodes width at next pairs long low high some told first is =
     ]
 
 -- rows of powers of two that meet are one
-row_above : (a b : ℕ) → IsPower a → IsPower b → a < b → 2 * a ≤ b
+pub row_above : (a b : ℕ) → IsPower a → IsPower b → a < b → 2 * a ≤ b
 row_above a b p q l =
     elim (cases_lt p.0 q.0) [
       | inl m ↦
@@ -227,3 +227,10 @@ leaf_least nodes width leaf h low high some e first =
       due = at (leaf - width) ∙ ap (λ k. (node nodes k).due) back ∙ e ∙ root;
       first = λ k l n. first (width + k) (omega arith) (omega arith) (sym (at k) ∙ n ∙ sym root);
     }
+
+-- the same marks tell the same least, whatever empty places follow
+pub same_least : (xs ys : List Mark) → ((i : ℕ) → node xs i ≡ node ys i) → least_of xs ≡ least_of ys
+same_least [] [] h = refl
+same_least [] (y ∷ ys) h = same_least [] ys (λ i. h (suc i)) ∙ ap (λ (m : Mark). lesser m.due (least_of ys)) (h 0)
+same_least (x ∷ xs) [] h = ap (λ (m : Mark). lesser m.due (least_of xs)) (h 0) ∙ same_least xs [] (λ i. h (suc i))
+same_least (x ∷ xs) (y ∷ ys) h = ap (λ (m : Mark). lesser m.due (least_of xs)) (h 0) ∙ ap (lesser y.due) (same_least xs ys (λ i. h (suc i)))

@@ -58,7 +58,22 @@ fn next_in(nodes: &[Mark], row: usize, from: usize, hosts: u32) -> Option<usize>
     }
 }
 
-// The same; none at once where the first node tells of none of these hosts.
+// The first leaf that tells of one of these hosts, where the first node does.
+fn first_told(nodes: &[Mark], width: usize, hosts: u32) -> usize
+    requires pairs { ArePairs nodes.now }
+    requires power { IsPower width }
+    requires within { 2 * width ≤ length nodes.now }
+    requires told { tells nodes.now hosts 1 ≡ true }
+    ensures { IsNextIn nodes.now hosts width (2 * width) result }
+{
+    let mut node = 1;
+    while node < width {
+        node = first_below(nodes, node, hosts);
+    }
+    node
+}
+
+// The same; at once where the first node tells of none of these hosts, or from the first leaf on.
 fn next_leaf(nodes: &[Mark], row: usize, from: usize, hosts: u32) -> Option<usize>
     requires power { IsPower row }
     requires within { 2 * row ≤ length nodes.now }
@@ -69,20 +84,24 @@ fn next_leaf(nodes: &[Mark], row: usize, from: usize, hosts: u32) -> Option<usiz
     if !meets(&mark_at(nodes, 1), hosts) {
         return None;
     }
+    if from == row {
+        return Some(first_told(nodes, row, hosts));
+    }
     next_in(nodes, row, from, hosts)
 }
 
 // Brings the marks above a node in order, up to the first that is so.
-fn mend(nodes: &mut Vec<Mark>, node: usize)
+fn mend(nodes: &mut Vec<Mark>, width: usize, node: usize)
     requires above { ArePairsBut nodes.old.items (node / 2) }
     requires within { node < vec_len nodes.old }
+    requires long { vec_len nodes.old ≡ 2 * width }
     ensures pairs { ArePairs nodes.new.items }
     ensures leaves { (k : ℕ) → vec_len nodes.old ≤ 2 * k → drop k nodes.new.items ≡ drop k nodes.old.items }
     ensures length { vec_len nodes.new ≡ vec_len nodes.old }
 {
     let mut node = node / 2;
     while 0 < node {
-        let both = join(&mark_at(nodes, 2 * node), &mark_at(nodes, 2 * node + 1));
+        let both = join(&nodes[2 * node], &nodes[2 * node + 1]);
         if is_same(&nodes[node], &both) {
             return;
         }
@@ -219,7 +238,7 @@ impl Marks {
     {
         let node = self.width + place;
         self.nodes[node] = mark;
-        mend(&mut self.nodes, node);
+        mend(&mut self.nodes, self.width, node);
     }
 
     /// The first place from one on whose mark tells of one of these hosts.

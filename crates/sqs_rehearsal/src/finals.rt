@@ -9,7 +9,7 @@ ghost use Rattle.sqs_model.specs.Site.{Site as TheSite};
 ghost use Rattle.sqs_rehearsal.specs.Left.{keyed, keyed_at, tasks_at};
 
 use sim_clock::Key;
-use sim_site::{Site, Task};
+use sim_site::{Arriving, Site, Task};
 use sqs_message::{Message, MessageId, body_md5};
 use sqs_model::{
     FinalMessage, FinalMessages, FinalTask, FinalTasks, FinalTransfer, FinalTransfers, Finals,
@@ -102,9 +102,9 @@ fn final_transfer(transfer: &Outbound) -> FinalTransfer
 // Adds transfers, each with its key.
 fn add_transfers(
     list: &mut Vec<(Key, FinalTransfer)>,
-    transfers: &[Outbound],
+    transfers: Arriving<'_>,
 ) -> Result<(), AllocError>
-    ensures { OnOk result (list.new.items ≡ list.old.items ++ map keyed transfers.now) }
+    ensures { OnOk result (list.new.items ≡ list.old.items ++ map keyed transfers.entry) }
 {
     for transfer in transfers {
         list.push((transfer.key(), final_transfer(transfer)))?;

@@ -1,25 +1,18 @@
-//! Transfers that arrive at a site of each kind of queue, and a task that was never started.
-ghost use Rattle.std.specs.Prelude.{◌≤◌, IfOk};
-ghost use Rattle.sqs_model.specs.Answers.{most_count};
-ghost use Rattle.sqs_model.specs.Progress.{AreTimely, IsRecent};
-ghost use Rattle.sqs_model.specs.Valid.{IsKind};
-
+//! Transfers on their way to a site, a partition without sites, and a task that was never started.
 use sim_clock::{Class, Key, Refusal};
-use sim_site::{Handled, Site, Task};
+use sim_partition::Partition;
+use sim_site::{Site, Task};
 use sqs_message::{MessageId, Text};
-use sqs_redrive::{Kind, Latency, Load, Outbound, QueueSettings, Scope, TaskSettings, TaskStatus};
+use sqs_redrive::{Kind, Latency, Load, Outbound, QueueSettings, TaskSettings, TaskStatus};
 use std::alloc::{AllocError, Global};
-use std::process::Abort;
-use std::test::Fail;
 
-// A site of a queue of this kind, with neither actors nor tasks.
-fn open(alloc: Global, kind: Kind) -> Result<Site, AllocError>
-    requires { IsKind kind }
-    ensures recent { IfOk result (λ site. IfOk site (λ s. IsRecent 0 s.core.queue)) }
-    ensures timely { IfOk result (λ site. IfOk site (λ s. AreTimely s.arriving)) }
-{
+// A site of a standard queue, with neither actors nor tasks.
+fn fresh_site(alloc: Global) -> Result<Site, AllocError> {
     let settings = QueueSettings {
-        kind,
+        kind: Kind::Standard {
+            hosts: 4,
+            sampled: 2,
+        },
         visibility: 30000,
         delay: 0,
         retention: 60000,
@@ -31,12 +24,7 @@ fn open(alloc: Global, kind: Kind) -> Result<Site, AllocError>
 }
 
 // A forward of one message is on its way.
-fn accept(alloc: Global, site: &mut Site, at: u64) -> Result<(), Refusal>
-    requires recent { IfOk site.old (λ s. IsRecent 0 s.core.queue) }
-    requires timely { IfOk site.old (λ s. AreTimely s.arriving) }
-    ensures recent { IfOk site.new (λ s. IsRecent 0 s.core.queue) }
-    ensures timely { IfOk site.new (λ s. AreTimely s.arriving) }
-{
+fn accept(alloc: Global, site: &mut Site, at: u64) -> Result<(), Refusal> {
     let load = Load::Forward {
         id: MessageId { site: 1, number: 0 },
         body: Text::new(Vec::new(alloc)),
@@ -52,101 +40,89 @@ fn accept(alloc: Global, site: &mut Site, at: u64) -> Result<(), Refusal>
     })
 }
 
-// The handling of the least due, at a moment.
-fn handle_next(site: &mut Site, now: u64) -> Result<Handled, Refusal>
-    requires moment { now ≤ most_count }
-    requires recent { IfOk site.old (λ s. IsRecent now s.core.queue) }
-    requires timely { IfOk site.old (λ s. AreTimely s.arriving) }
-    ensures recent { IfOk site.new (λ s. IsRecent now s.core.queue) }
-    ensures timely { IfOk site.new (λ s. AreTimely s.arriving) }
-{
+// A site to which forwards are on their way that arrive at these moments.
+fn site_before(alloc: Global, moments: &[u64]) -> Result<Site, Refusal> {
+    let mut site = fresh_site(alloc)?;
+    for at in moments {
+        accept(alloc, &mut site, *at)?;
+    }
+    Ok(site)
+}
+
+// When the forward arrives that is due next; none where another is, or nothing.
+fn next_arrival(site: &Site) -> Option<u64> {
     match site.least_due() {
-        Some(key) if key.at == now => site.handle(key),
-        _ => Err(Refusal::Memory),
+        Some(
+            Key {
+                at,
+                agent: 1,
+                class: Class::Arrival,
+                number,
+            },
+        ) if number == at => Some(at),
+        _ => None,
     }
 }
 
-// Handles the arrival that is due at a moment, which leaves so many on their way.
-fn try_arrival(rt: &impl Abort, site: &mut Site, now: u64, left: usize) -> Result<(), Fail>
-    requires moment { now ≤ most_count }
-    requires recent { IfOk site.old (λ s. IsRecent now s.core.queue) }
-    requires timely { IfOk site.old (λ s. AreTimely s.arriving) }
-    ensures recent { IfOk site.new (λ s. IsRecent now s.core.queue) }
-    ensures timely { IfOk site.new (λ s. AreTimely s.arriving) }
-{
-    let handled = handle_next(site, now)?;
-    assert_eq!(rt; (handled.rows.len(), handled.outbound.len()), (1, 0));
-    assert_eq!(rt; site.arriving().len(), left);
-    Ok(())
-}
-
-// Three transfers are on their way to a site without tasks, the first of them due next.
-fn try_waiting(rt: &impl Abort, site: &Site) {
-    let first = Key {
-        at: 10,
-        agent: 1,
-        class: Class::Arrival,
-        number: 10,
-    };
-    assert_eq!(rt; site.least_due(), Some(first));
-    let second = site.arriving().get(1).map(|transfer| transfer.at);
-    assert_eq!(rt; second, Some(30));
-    assert_eq!(rt; site.spent(), None);
-    assert_eq!(rt; site.tasks().len(), 0);
-    assert_eq!(rt; site.queue().site(), 0);
-}
-
-// When the last message of a site's queue was enqueued.
-fn last_enqueued(site: &Site) -> Option<u64> {
-    site.queue().view().last().map(|message| message.enqueued)
-}
-
-// Three transfers arrive in the order of their keys, and the last message is enqueued then.
-fn try_arrivals(rt: &impl Abort, alloc: Global, site: &mut Site, enqueued: u64) -> Result<(), Fail>
-    requires recent { IfOk site.old (λ s. IsRecent 0 s.core.queue) }
-    requires timely { IfOk site.old (λ s. AreTimely s.arriving) }
-{
-    assert_eq!(rt; site.least_due(), None);
-    accept(alloc, site, 40)?;
-    accept(alloc, site, 10)?;
-    accept(alloc, site, 30)?;
-    try_waiting(rt, site);
-    try_arrival(rt, site, 10, 2)?;
-    try_arrival(rt, site, 30, 1)?;
-    try_arrival(rt, site, 40, 0)?;
-    assert_eq!(rt; last_enqueued(site), Some(enqueued));
-    Ok(())
-}
-
-fn standard() -> Kind
-    ensures { IsKind result }
-{
-    Kind::Standard {
-        hosts: 4,
-        sampled: 2,
+// Whether what is on its way to a site arrives at these moments, one after another.
+fn has_arriving(site: &Site, moments: &[u64]) -> bool {
+    if site.arriving().len() != moments.len() {
+        return false;
     }
+    for (transfer, at) in site.arriving().zip(moments) {
+        if transfer.at != *at {
+            return false;
+        }
+    }
+    true
 }
 
-fn fifo() -> Kind
-    ensures { IsKind result }
-{
-    Kind::Fifo {
-        content_dedup: false,
-        scope: Scope::Queue,
+// Whether a site lives, has no task, and has this number.
+fn lives_alone(site: &Site, number: u32) -> bool {
+    site.spent().is_none() && site.tasks().is_empty() && site.queue().site() == number
+}
+
+// Whether forwards that are accepted in an order wait in another.
+fn wait_so(alloc: Global, accepted: &[u64], waiting: &[u64]) -> bool {
+    match site_before(alloc, accepted) {
+        Ok(site) => {
+            next_arrival(&site) == waiting.first().copied()
+                && has_arriving(&site, waiting)
+                && lives_alone(&site, 0)
+        }
+        Err(_) => false,
     }
 }
 
 #[test]
-fn forwards_arrive_at_a_standard_queue(rt: HostRuntime) -> Result<(), Fail> {
-    let mut site = open(rt.alloc(), standard())?;
-    try_arrivals(&rt, rt.alloc(), &mut site, 40)
+fn transfers_wait_in_the_order_of_their_keys(rt: HostRuntime) {
+    assert!(rt; wait_so(rt.alloc(), &[], &[]));
+    assert!(rt; wait_so(rt.alloc(), &[40, 10, 30], &[10, 30, 40]));
 }
 
-// After the first one they are repeats.
+// Whether nothing is due in a partition without sites.
+fn is_idle(alloc: Global) -> bool {
+    match Partition::new(alloc, Vec::new(alloc)) {
+        Ok(partition) => partition.least_due() == None,
+        Err(_) => false,
+    }
+}
+
 #[test]
-fn forwards_arrive_at_a_fifo_queue(rt: HostRuntime) -> Result<(), Fail> {
-    let mut site = open(rt.alloc(), fifo())?;
-    try_arrivals(&rt, rt.alloc(), &mut site, 10)
+fn nothing_is_due_without_sites(rt: HostRuntime) {
+    assert!(rt; is_idle(rt.alloc()));
+}
+
+// What a task tells of itself: its number and status, how many messages it moved, whether it runs and
+// what it has due.
+fn told_of(task: &Task) -> (u32, TaskStatus, u64, bool, Option<Key>) {
+    (
+        task.number(),
+        task.status(),
+        task.moved(),
+        task.is_running(),
+        task.due(),
+    )
 }
 
 #[test]
@@ -161,7 +137,6 @@ fn tasks_are_idle_before_a_start(rt: HostRuntime) {
         },
     };
     let task = Task::new(3, settings, 7);
-    assert!(rt; task.number() == 3 && task.moved() == 0);
-    assert!(rt; task.status() == TaskStatus::Idle && !task.is_running());
-    assert!(rt; task.due().is_none());
+    let wanted = (3, TaskStatus::Idle, 0, false, None);
+    assert!(rt; told_of(&task) == wanted);
 }

@@ -1,5 +1,5 @@
 use Rattle.std.proofs.Common.{refl, sym}
-use Rattle.sim_site.proofs.Turning.{polled_as, settings_at}
+use Rattle.sim_site.proofs.Turning.{numbers_at, polled_as, settings_at}
 use Rattle.sim_site.proofs.actors.counted_at.Goals as goal
 
 pub returns-clause-polled : goal.returns-clause-polled
@@ -12,3 +12,7 @@ returns-clause-settings c =
 
 pub returns-clause-others : goal.returns-clause-others
 returns-clause-others c = record { element = c.polled.new.self; is = refl }
+
+pub returns-clause-numbers : goal.returns-clause-numbers
+returns-clause-numbers c =
+    numbers_at c.args.number c.args.actors.now.items c.args.place c.requires.place c.index_mut-actor.result.now c.index_mut-actor.ensures.value c.polled.new.self c.polled.ensures.framed.number

@@ -6,5 +6,5 @@ use Rattle.sim_site.proofs.site.least_of.Goals as goal
 
 pub returns : goal.returns
 returns c =
-    c.lesser.ensures ∙ ap (λ k. lesser k c.least_due.result) c.least_arrival.ensures
+    c.lesser.ensures ∙ ap (λ k. lesser k c.least_due.result) c.least.ensures
     ∙ ap (λ k. lesser (least (map transfer_key c.args.arriving.now)) k) c.least_due.ensures ∙ due_parts c.args.core.now c.args.arriving.now

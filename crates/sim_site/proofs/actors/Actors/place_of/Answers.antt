@@ -5,7 +5,12 @@ use Rattle.sqs_model.specs.Places.{IsAbsent, Stands, place_from_position}
 use Rattle.sqs_model.specs.Site.{is_actor}
 use Rattle.sim_site.proofs.actors.Actors.place_of.Goals as goal
 
-pub returns : goal.returns
-returns c =
-    subst (λ (actors : List Actor). MatchOption c.first_actor.result (IsAbsent (is_actor c.args.number) actors) (Stands (is_actor c.args.number) actors)) (c.deref.ensures.value ∙ c.self.view_is)
-    (place_from_position (is_actor c.args.number) c.deref.result.now _ c.first_actor.ensures)
+pub returns-then-self : goal.returns-then-self
+returns-then-self c =
+    subst (λ (actors : List Actor). MatchOption c.first_in_order.result (IsAbsent (is_actor c.args.number) actors) (Stands (is_actor c.args.number) actors)) (c.deref.ensures.value ∙ c.self.view_is)
+    (place_from_position (is_actor c.args.number) c.deref.result.now _ c.first_in_order.ensures)
+
+pub returns-else-self : goal.returns-else-self
+returns-else-self c =
+    subst (λ (actors : List Actor). MatchOption c.first_actor.result (IsAbsent (is_actor c.args.number) actors) (Stands (is_actor c.args.number) actors)) (c.deref-else-self.ensures.value ∙ c.self.view_is)
+    (place_from_position (is_actor c.args.number) c.deref-else-self.result.now _ c.first_actor.ensures)

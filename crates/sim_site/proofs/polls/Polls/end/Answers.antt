@@ -22,10 +22,10 @@ pub returns : goal.returns
 returns c =
     let xs = c.self.inside.places.items in
     let s : Stands (place_ends_at c.args.key) xs c.in-Some.place = subst (λ ys. Stands (place_ends_at c.args.key) ys c.in-Some.place) c.deref.ensures.value c.in-Some.ensures in
-    ap waiting c.leave.ensures.left ∙ end_leaves c.args.key xs c.in-Some.place s ∙ ap (λ ps. without (ends_at c.args.key) ps) c.self.view_is
+    c.forget_empty.ensures.same ∙ ap waiting c.leave.ensures.left ∙ end_leaves c.args.key xs c.in-Some.place s ∙ ap (λ ps. without (ends_at c.args.key) ps) c.self.view_is
 
-pub invariant_of-self : goal.invariant_of-self
-invariant_of-self c =
+pub forget_empty-requires : goal.forget_empty-requires
+forget_empty-requires c =
     let xs = c.self.inside.places.items in
     let s : Stands (place_ends_at c.args.key) xs c.in-Some.place = subst (λ ys. Stands (place_ends_at c.args.key) ys c.in-Some.place) c.deref.ensures.value c.in-Some.ensures in
     leaves_waiting xs c.leave.new.places.items c.self.inside.ends c.leave.new.ends c.in-Some.place c.self.inside.count c.self.invariant (end_one c.args.key xs c.in-Some.place s) c.leave.ensures.left c.leave.ensures.marked

@@ -1,3 +1,4 @@
+#!/usr/bin/env python3
 """Tests tests/wrong-bodies/run on a crate of its own: once by the prover, and else by a program that answers for it."""
 import os
 import shutil
@@ -5,7 +6,8 @@ import subprocess
 import sys
 import unittest
 
-from tool import ROOT, ToolCase, module_at
+sys.path.insert(0, os.path.join(os.path.dirname(os.path.dirname(os.path.abspath(__file__))), "tools"))
+from tool import ROOT, ToolCase, module_at  # noqa: E402 (the folder of the tests of tools comes first)
 
 RUN = os.path.join(ROOT, "tests", "wrong-bodies", "run")
 run = module_at(RUN, "wrong_bodies")

@@ -1,0 +1,25 @@
+-- The transfers on their way to a site, each under its key and the number of its insertion.
+use Rattle.std.specs.Prelude.{List, ℕ, ◌<◌, ◌≡◌}
+use Rattle.std.specs.declared.cmp.Ordering.{Ordering}
+use Rattle.std.specs.List.{AllByRecursion}
+use Rattle.std.specs.List.Sorted.{IsStrictlySortedBy}
+use Rattle.std.specs.Map.{keys_of}
+use Rattle.std.specs.Ordering.{nat_cmp, on, then_cmp}
+use Rattle.sim_clock.specs.declared.key.Key.{Key}
+use Rattle.sim_clock.specs.Order.{key_cmp}
+use Rattle.sqs_redrive.specs.declared.transfers.Outbound.{Outbound}
+use Rattle.sqs_redrive.specs.Transfers.{transfer_key}
+
+-- by their keys, and of one key by their numbers
+abbrev pub arriving_cmp : Key × ℕ → Key × ℕ → Ordering
+arriving_cmp = then_cmp (on (λ k. k.0) key_cmp) (on (λ k. k.1) nat_cmp)
+
+-- a transfer under its key and a number below the next
+pub record IsArriving (next : ℕ) (entry : (Key × ℕ) × Outbound) : Type 0 where
+  pub key : entry.0.0 ≡ transfer_key entry.1
+  pub number : entry.0.1 < next
+
+-- such transfers, in their order
+pub record AreArriving (next : ℕ) (entries : List ((Key × ℕ) × Outbound)) : Type 0 where
+  pub each : AllByRecursion (IsArriving next) entries
+  pub order : IsStrictlySortedBy arriving_cmp (keys_of entries)
