@@ -1,17 +1,17 @@
-//! Each public call once, with answers worked out by hand.
-ghost use Rattle.std.specs.Prelude.{All, ◌+◌, ◌≡◌, ◌≤◌};
+//! Tables of a FIFO queue, with answers worked out by hand. It has the number 7 and 30 seconds of
+//! visibility.
 ghost use Rattle.sqs_group_shelf.specs.GroupShelves.{IsFifoSettings};
-ghost use Rattle.sqs_model.specs.Longest.{deduplication_interval};
 
-use sim_clock::{Class, Key, Refusal};
+use crate::in_order::InOrder;
+use crate::play::play;
 use sqs_fifo::FifoQueue;
-use sqs_message::{MessageId, Origin, Receipt, Text};
-use sqs_redrive::{Deleted, Kind, Latency, Load, Policy, QueueSettings, Rest, Scope, Sent};
-use std::alloc::{AllocError, Global};
+use sqs_redrive::{Kind, Latency, Policy, QueueSettings, Scope};
+use std::alloc::Global;
 use std::process::Abort;
+use std::test::Fail;
 
-// Bodies stand for ids, which count in each group by itself; 30 seconds of visibility, a minute of
-// retention, room for three, and a dead-letter queue after two receives.
+// Bodies stand for ids, which count in each group by itself; a minute of retention, room for three,
+// and a dead-letter queue after two receives.
 fn settings() -> QueueSettings
     ensures { IsFifoSettings result }
 {
@@ -36,7 +36,7 @@ fn settings() -> QueueSettings
 }
 
 // Ids count in the whole queue, and bodies stand for none; room for all, and no dead-letter queue.
-fn plain() -> QueueSettings
+pub fn plain() -> QueueSettings
     ensures { IsFifoSettings result }
 {
     QueueSettings {
@@ -52,523 +52,328 @@ fn plain() -> QueueSettings
     }
 }
 
-fn text(alloc: Global, byte: u8) -> Result<Text, AllocError> {
-    Ok(Text::new(vec![in alloc; byte]?))
-}
-
-fn text_of(alloc: Global, byte: Option<u8>) -> Result<Option<Text>, AllocError> {
-    match byte {
-        None => Ok(None),
-        Some(byte) => Ok(Some(text(alloc, byte)?)),
+// The same, where what is sent waits for 5 seconds. What is moved in is visible at once.
+fn delaying() -> QueueSettings
+    ensures { IsFifoSettings result }
+{
+    QueueSettings {
+        delay: 5000,
+        retention: 60000,
+        ..plain()
     }
 }
 
-fn id(number: u64) -> MessageId {
-    MessageId { site: 7, number }
+// Plays a table at a new queue.
+fn play_new(rt: &impl Abort, alloc: Global, table: &str) -> Result<(), Fail> {
+    let queue = FifoQueue::new(alloc, 7, settings());
+    play(rt, alloc, InOrder::new(queue), table)
 }
 
-fn receipt(number: u64, count: u64) -> Receipt {
-    Receipt {
-        site: 7,
-        number,
-        count,
-    }
+// Plays a table at a new queue with the plain settings.
+fn play_plain(rt: &impl Abort, alloc: Global, table: &str) -> Result<(), Fail> {
+    let queue = FifoQueue::new(alloc, 7, plain());
+    play(rt, alloc, InOrder::new(queue), table)
 }
 
-// The calls, without what they promise but for the entries, which the tests do not rest on.
-
-fn send(
-    alloc: Global,
-    queue: &mut FifoQueue,
-    now: u32,
-    body: u8,
-    group: u8,
-) -> Result<Sent, Refusal>
-    requires before { All (λ e. e.end ≤ now + deduplication_interval) queue.old.entries }
-    ensures after { All (λ e. e.end ≤ now + deduplication_interval) queue.new.entries }
-{
-    let body = text(alloc, body)?;
-    let group = text(alloc, group)?;
-    queue.send(u64::from(now), body, Some(group), None, None)
+// Plays a table at a new queue that delays what is sent.
+fn play_delaying(rt: &impl Abort, alloc: Global, table: &str) -> Result<(), Fail> {
+    let queue = FifoQueue::new(alloc, 7, delaying());
+    play(rt, alloc, InOrder::new(queue), table)
 }
 
-// A send of a body to a group, and its answer.
-fn try_send(
-    rt: &impl Abort,
-    alloc: Global,
-    queue: &mut FifoQueue,
-    now: u32,
-    given: (u8, u8),
-    answer: Result<Sent, Refusal>,
-)
-    requires before { All (λ e. e.end ≤ now + deduplication_interval) queue.old.entries }
-    ensures after { All (λ e. e.end ≤ now + deduplication_interval) queue.new.entries }
-{
-    let (body, group) = given;
-    assert_eq!(rt; send(alloc, queue, now, body, group), answer);
-}
-
-// The group of a send, its deduplication id and its own delay.
-type Given = (Option<u8>, Option<u8>, Option<u64>);
-
-fn send_once(alloc: Global, queue: &mut FifoQueue, now: u32, given: Given) -> Result<Sent, Refusal>
-    requires before { All (λ e. e.end ≤ now + deduplication_interval) queue.old.entries }
-    ensures after { All (λ e. e.end ≤ now + deduplication_interval) queue.new.entries }
-{
-    let (group, id, delay) = given;
-    let body = text(alloc, 97)?;
-    let group = text_of(alloc, group)?;
-    let id = text_of(alloc, id)?;
-    queue.send(u64::from(now), body, group, id, delay)
-}
-
-// A send of the body `a`, and its answer.
-fn try_once(
-    rt: &impl Abort,
-    alloc: Global,
-    queue: &mut FifoQueue,
-    now: u32,
-    given: Given,
-    answer: Result<Sent, Refusal>,
-)
-    requires before { All (λ e. e.end ≤ now + deduplication_interval) queue.old.entries }
-    ensures after { All (λ e. e.end ≤ now + deduplication_interval) queue.new.entries }
-{
-    assert_eq!(rt; send_once(alloc, queue, now, given), answer);
-}
-
-// The numbers of the messages that a receive gives.
-fn receive(
-    alloc: Global,
-    queue: &mut FifoQueue,
-    now: u32,
-    max: u64,
-    timeout: Option<u64>,
-) -> Result<Vec<u64>, Refusal>
-    ensures kept { queue.new.entries ≡ queue.old.entries }
-{
-    let mut numbers = Vec::new(alloc);
-    for got in &queue.receive(u64::from(now), max, timeout)? {
-        numbers.push(got.id.number)?;
-    }
-    Ok(numbers)
-}
-
-// A receive that gives the messages of these numbers.
-fn try_receive(
-    rt: &impl Abort,
-    alloc: Global,
-    queue: &mut FifoQueue,
-    now: u32,
-    max: u64,
-    wanted: &[u64],
-) -> Result<(), Refusal>
-    ensures kept { queue.new.entries ≡ queue.old.entries }
-{
-    let numbers = receive(alloc, queue, now, max, None)?;
-    assert_eq!(rt; numbers.as_slice(), wanted);
-    Ok(())
-}
-
-fn delete(queue: &mut FifoQueue, now: u64, by: Receipt) -> Result<Deleted, Refusal>
-    ensures kept { queue.new.entries ≡ queue.old.entries }
-{
-    queue.delete(now, &by)
-}
-
-// How a change is refused, if it is.
-fn change(queue: &mut FifoQueue, now: u32, by: Receipt, seconds: u64) -> Option<Refusal> {
-    queue.change(u64::from(now), &by, seconds).err()
-}
-
-// Whether the message leaves as it comes back.
-fn release(queue: &mut FifoQueue, number: u64) -> Result<bool, Refusal> {
-    Ok(queue.release(number)?.is_some())
-}
-
-fn expire(queue: &mut FifoQueue, now: u64, number: u64) -> u64 {
-    queue.expire(now, number)
-}
-
-// Whether a queue has so many messages.
-fn has_messages(queue: &FifoQueue, count: usize) -> bool {
-    let is_more = queue.view().nth(count).is_some();
-    !is_more && (count == 0 || queue.view().nth(count - 1).is_some())
+// Plays a table at queue 0, which has one number left.
+fn play_last(rt: &impl Abort, alloc: Global, table: &str) -> Result<(), Fail> {
+    let queue = FifoQueue::opened_at(alloc, 0, settings(), 4611686018427387902);
+    play(rt, alloc, InOrder::new(queue), table)
 }
 
 #[test]
-fn sends_once(rt: HostRuntime) {
-    let mut queue = FifoQueue::new(rt.alloc(), 7, settings());
-    try_bodies(&rt, rt.alloc(), &mut queue);
-    assert_eq!(rt; (queue.site(), queue.settings().retention), (7, 60000));
-    assert!(rt; has_messages(&queue, 3));
-    assert_eq!(rt; queue.counts().visible, 3);
-    try_expiry(&rt, &mut queue);
-}
-
-fn try_bodies(rt: &impl Abort, alloc: Global, queue: &mut FifoQueue)
-    requires { All (λ e. e.end ≤ deduplication_interval) queue.old.entries }
-{
-    let refused = Err(Refusal::BadDelay);
-    try_send(rt, alloc, queue, 0, (97, 1), Ok(Sent::New(id(0))));
-    try_send(rt, alloc, queue, 1, (97, 2), Ok(Sent::New(id(1))));
-    try_send(rt, alloc, queue, 299999, (97, 1), Ok(Sent::Repeat(id(0))));
-    try_send(rt, alloc, queue, 300000, (97, 1), Ok(Sent::New(id(2))));
-    try_once(rt, alloc, queue, 300000, (None, None, Some(1)), refused);
-}
-
-fn try_expiry(rt: &impl Abort, queue: &mut FifoQueue) {
-    let over = Key {
-        at: 60000,
-        agent: 7,
-        class: Class::Expiry,
-        number: 0,
-    };
-    assert_eq!(rt; queue.least_due(), Some(over));
-    assert_eq!(rt;
-        (expire(queue, 60000, 0), expire(queue, 60000, 0)),
-        (60000, 0)
-    );
+fn has_nothing_at_first(rt: HostRuntime) -> Result<(), Fail> {
+    let table = "
+site -> 7
+retention -> 60000
+messages -> none
+counts -> visible=0 in_flight=0 delayed=0
+due -> none
+available -> no
+look at=0 max=10 -> none, read=0
+# No number was given yet.
+delete at=0 by=r-7-0-1 -> ReceiptHandleIsInvalid
+release number=0 -> stays
+expire at=0 number=0 -> 0
+step max=10 -> empty
+";
+    play_new(&rt, rt.alloc(), table)
 }
 
 #[test]
-fn gives_group_by_group(rt: HostRuntime) {
-    let mut queue = FifoQueue::new(rt.alloc(), 7, settings());
-    send_to_two_groups(&rt, rt.alloc(), &mut queue);
-    assert_eq!(rt; try_receives(&rt, rt.alloc(), &mut queue), Ok(()));
-    try_returns(&rt, &mut queue);
-    assert_eq!(rt; try_leaving(&rt, rt.alloc(), &mut queue), Ok(()));
-    assert!(rt; has_messages(&queue, 1));
-}
-
-fn send_to_two_groups(rt: &impl Abort, alloc: Global, queue: &mut FifoQueue)
-    requires { All (λ e. e.end ≤ deduplication_interval) queue.old.entries }
-{
-    for (number, sent) in [(0, (97, 1)), (1, (98, 2)), (2, (99, 1)), (3, (99, 2))] {
-        try_send(rt, alloc, queue, 0, sent, Ok(Sent::New(id(number))));
-    }
-}
-
-fn try_receives(rt: &impl Abort, alloc: Global, queue: &mut FifoQueue) -> Result<(), Refusal> {
-    try_receive(rt, alloc, queue, 5, 2, &[0, 2])?;
-    try_receive(rt, alloc, queue, 5, 9, &[1])?;
-    try_receive(rt, alloc, queue, 5, 9, &[])
-}
-
-fn try_returns(rt: &impl Abort, queue: &mut FifoQueue) {
-    assert_eq!(rt; delete(queue, 6, receipt(0, 1)), Ok(Deleted::Removed(6)));
-    assert_eq!(rt; delete(queue, 6, receipt(0, 1)), Ok(Deleted::Gone));
-    assert_eq!(rt; change(queue, 6, receipt(1, 1), 0), None);
-    assert_eq!(rt;
-        delete(queue, 6, receipt(1, 1)),
-        Err(Refusal::ReceiptHandleIsInvalid)
-    );
-    assert_eq!(rt; release(queue, 2), Ok(false));
-}
-
-// Each that comes back with two receives leaves at once.
-fn try_leaving(rt: &impl Abort, alloc: Global, queue: &mut FifoQueue) -> Result<(), Refusal> {
-    let numbers = receive(alloc, queue, 7, 9, Some(0))?;
-    assert_eq!(rt; numbers.as_slice(), [1, 3, 2].as_slice());
-    Ok(())
+fn sends_once(rt: HostRuntime) -> Result<(), Fail> {
+    let table = "
+send at=0      body=a group=x -> new m-7-0
+send at=1      body=a group=y -> new m-7-1
+send at=299999 body=a group=x -> repeat m-7-0
+send at=300000 body=a group=x -> new m-7-2
+send at=300000 body=a delay=1 -> BadDelay
+messages -> 0 visible a o-7-0 enqueued=0, 1 visible a o-7-1 enqueued=1, \
+2 visible a o-7-2 enqueued=300000
+counts -> visible=3 in_flight=0 delayed=0
+due -> expiry of 0 at=60000 agent=7
+available -> yes
+expire at=60000 number=0 -> 60000
+expire at=60000 number=0 -> 0
+";
+    play_new(&rt, rt.alloc(), table)
 }
 
 #[test]
-fn tells_how_many_it_read(rt: HostRuntime) {
-    let mut queue = FifoQueue::new(rt.alloc(), 7, settings());
-    send_three(&rt, rt.alloc(), &mut queue);
-    // No message is delayed, so it reads the two that it gives, and not the third.
-    assert_eq!(rt; receive_looking(&mut queue, 5, 2), Ok((2, 2)));
-}
-
-// Three messages of one group.
-fn send_three(rt: &impl Abort, alloc: Global, queue: &mut FifoQueue)
-    requires { All (λ e. e.end ≤ deduplication_interval) queue.old.entries }
-{
-    try_send(rt, alloc, queue, 0, (97, 1), Ok(Sent::New(id(0))));
-    try_send(rt, alloc, queue, 0, (98, 1), Ok(Sent::New(id(1))));
-    try_send(rt, alloc, queue, 0, (99, 1), Ok(Sent::New(id(2))));
-}
-
-// How many messages a receive gives, and how many it read to choose them.
-fn receive_looking(queue: &mut FifoQueue, now: u32, max: u64) -> Result<(usize, u64), Refusal> {
-    let received = queue.receive_looking(u64::from(now), max, None)?;
-    Ok((received.messages.len(), received.looked))
-}
-
-// The transfers, all of message 8 of queue 3.
-
-fn redrive(alloc: Global) -> Result<Load, AllocError> {
-    Ok(Load::Redrive {
-        id: MessageId { site: 3, number: 8 },
-        origin: Origin { site: 1, number: 2 },
-        body: text(alloc, 97)?,
-        group: Some(text(alloc, 1)?),
-        enqueued: 0,
-    })
-}
-
-fn move_in(alloc: Global) -> Result<Load, AllocError> {
-    Ok(Load::Move {
-        id: MessageId { site: 3, number: 8 },
-        origin: Origin { site: 1, number: 2 },
-        body: text(alloc, 98)?,
-        group: Some(text(alloc, 1)?),
-    })
-}
-
-fn forward(alloc: Global) -> Result<Load, AllocError> {
-    Ok(Load::Forward {
-        id: MessageId { site: 3, number: 8 },
-        body: text(alloc, 99)?,
-        group: None,
-    })
-}
-
-fn arrive(
-    queue: &mut FifoQueue,
-    now: u32,
-    load: Result<Load, AllocError>,
-) -> Result<(Sent, bool), Refusal>
-    requires before { All (λ e. e.end ≤ now + deduplication_interval) queue.old.entries }
-    ensures after { All (λ e. e.end ≤ now + deduplication_interval) queue.new.entries }
-{
-    queue.arrive(u64::from(now), load?)
-}
-
-// An arrival that does not expire, and what it makes.
-fn try_arrive(
-    rt: &impl Abort,
-    queue: &mut FifoQueue,
-    now: u32,
-    load: Result<Load, AllocError>,
-    sent: Sent,
-)
-    requires before { All (λ e. e.end ≤ now + deduplication_interval) queue.old.entries }
-    ensures after { All (λ e. e.end ≤ now + deduplication_interval) queue.new.entries }
-{
-    assert_eq!(rt; arrive(queue, now, load), Ok((sent, false)));
+fn gives_group_by_group(rt: HostRuntime) -> Result<(), Fail> {
+    let table = "
+send at=0 body=a group=x -> new m-7-0
+send at=0 body=b group=y -> new m-7-1
+send at=0 body=c group=x -> new m-7-2
+send at=0 body=c group=y -> new m-7-3
+receive at=5 max=2 -> m-7-0 r-7-0-1 a, m-7-2 r-7-2-1 c
+receive at=5 max=9 -> m-7-1 r-7-1-1 b
+receive at=5 max=9 -> none
+delete at=6 by=r-7-0-1 -> removed at 6
+delete at=6 by=r-7-0-1 -> gone
+change at=6 by=r-7-1-1 seconds=0 -> stays
+delete at=6 by=r-7-1-1 -> ReceiptHandleIsInvalid
+release number=2 -> stays
+# Each that comes back with two receives leaves at once.
+receive at=7 max=9 timeout=0 -> m-7-1 r-7-1-2 b leaves as redrive m-7-1 o-7-1 b enqueued=0, \
+m-7-3 r-7-3-1 c, m-7-2 r-7-2-2 c leaves as redrive m-7-2 o-7-2 c enqueued=0
+messages -> 3 visible c o-7-3 enqueued=0
+";
+    play_new(&rt, rt.alloc(), table)
 }
 
 #[test]
-fn takes_transfers_in_and_out(rt: HostRuntime) {
-    let mut queue = FifoQueue::new(rt.alloc(), 7, settings());
-    try_arrivals(&rt, rt.alloc(), &mut queue);
-    try_steps(&rt, &mut queue);
+fn tells_how_many_it_read(rt: HostRuntime) -> Result<(), Fail> {
+    let table = "
+send at=0 body=a group=x -> new m-7-0
+send at=0 body=b group=x -> new m-7-1
+send at=0 body=c group=x -> new m-7-2
+# No message is delayed, so it reads the two that it gives, and not the third.
+look at=5 max=2 -> m-7-0 r-7-0-1 a, m-7-1 r-7-1-1 b, read=2
+";
+    play_new(&rt, rt.alloc(), table)
 }
 
-fn try_arrivals(rt: &impl Abort, alloc: Global, queue: &mut FifoQueue)
-    requires { All (λ e. e.end ≤ deduplication_interval) queue.old.entries }
-{
-    // Old as it is, a FIFO queue counts its retention from now.
-    try_arrive(rt, queue, 60000, redrive(alloc), Sent::New(id(0)));
-    try_arrive(rt, queue, 60001, move_in(alloc), Sent::New(id(1)));
-    try_arrive(rt, queue, 60002, forward(alloc), Sent::New(id(2)));
-    try_arrive(rt, queue, 60003, forward(alloc), Sent::Repeat(id(2)));
-}
+// Group `x` has 0, 2, 3, which is delayed, and 4, group `y` has 1 and 6, and 5 has no group. With a
+// timeout of 0 what is given is back at once.
 
-fn try_steps(rt: &impl Abort, queue: &mut FifoQueue) {
-    // The first goes back to queue 3, and the second has nowhere to go but to the task's queue. At
-    // most how many and where to; where the first goes, how many go, and what is left.
-    let table = [
-        (9, None, (Some(3), 1, Rest::NoSource)),
-        (1, Some(4), (Some(4), 1, Rest::More)),
-        (9, Some(4), (Some(4), 1, Rest::Empty)),
-    ];
-    for (max, to, answer) in table {
-        assert_eq!(rt; step(queue, max, to), Ok(answer));
-    }
-    assert!(rt; has_messages(queue, 0));
-}
-
-// Of a step of a move task: where the first message goes, how many go, and what is left.
-fn step(
-    queue: &mut FifoQueue,
-    max: u64,
-    to: Option<u32>,
-) -> Result<(Option<u32>, usize, Rest), Refusal> {
-    let (loads, rest) = queue.take_movable(max, to)?;
-    let first = match loads.first() {
-        None => None,
-        Some((to, _)) => Some(*to),
-    };
-    Ok((first, loads.len(), rest))
+#[test]
+fn chooses_group_by_group(rt: HostRuntime) -> Result<(), Fail> {
+    let table = "
+move at=1 body=a group=x      -> new m-7-0
+move at=2 body=b group=y      -> new m-7-1
+move at=3 body=c group=x      -> new m-7-2
+send at=4 body=d group=x id=i -> new m-7-3
+move at=5 body=e group=x      -> new m-7-4
+move at=6 body=f              -> new m-7-5
+move at=7 body=g group=y      -> new m-7-6
+counts -> visible=6 in_flight=0 delayed=1
+due -> release of 3 at=5004 agent=7
+available -> yes
+messages -> 0 visible a o-1-2 enqueued=1, 1 visible b o-1-2 enqueued=2, \
+2 visible c o-1-2 enqueued=3, 3 delayed d o-7-3 enqueued=4 release=5004, \
+4 visible e o-1-2 enqueued=5, 5 visible f o-1-2 enqueued=6, 6 visible g o-1-2 enqueued=7
+# The delayed message 3 is read, and 4 after it is not given.
+look at=8 max=10 timeout=0 -> m-7-0 r-7-0-1 a, m-7-2 r-7-2-1 c, m-7-1 r-7-1-1 b, m-7-6 r-7-6-1 g, \
+m-7-5 r-7-5-1 f, read=6
+look at=8 max=3 timeout=0 -> m-7-0 r-7-0-2 a, m-7-2 r-7-2-2 c, m-7-1 r-7-1-2 b, read=4
+look at=8 max=2 timeout=0 -> m-7-0 r-7-0-3 a, m-7-2 r-7-2-3 c, read=2
+look at=8 max=0 timeout=0 -> none, read=0
+";
+    play_delaying(&rt, rt.alloc(), table)
 }
 
 #[test]
-fn needs_a_group_and_an_id(rt: HostRuntime) {
-    let mut queue = FifoQueue::new(rt.alloc(), 7, plain());
-    try_sends(&rt, rt.alloc(), &mut queue);
-}
-
-fn try_sends(rt: &impl Abort, alloc: Global, queue: &mut FifoQueue)
-    requires { All (λ e. e.end ≤ deduplication_interval) queue.old.entries }
-{
-    let (group, once) = (Some(1), Some(120));
-    // The group, the id, a delay of its own, and the answer.
-    let table = [
-        ((group, once, Some(1)), Err(Refusal::BadDelay)),
-        ((None, once, None), Err(Refusal::MissingGroup)),
-        ((group, None, None), Err(Refusal::MissingDeduplication)),
-        ((group, once, Some(0)), Ok(Sent::New(id(0)))),
-    ];
-    for (given, answer) in table {
-        try_once(rt, alloc, queue, 0, given, answer);
-    }
-    // In whatever group, an id counts for 5 minutes.
-    let repeat = Ok(Sent::Repeat(id(0)));
-    try_once(rt, alloc, queue, 299999, (Some(2), once, None), repeat);
-    let sent = Ok(Sent::New(id(1)));
-    try_once(rt, alloc, queue, 300000, (group, once, None), sent);
-}
-
-#[test]
-fn repeats_after_a_delete(rt: HostRuntime) {
-    let mut queue = FifoQueue::new(rt.alloc(), 7, plain());
-    let tried = try_repeats(&rt, rt.alloc(), &mut queue);
-    assert_eq!(rt; tried, Ok(()));
-}
-
-// A duplicate is one even after the message was received and deleted.
-fn try_repeats(rt: &impl Abort, alloc: Global, queue: &mut FifoQueue) -> Result<(), Refusal>
-    requires { All (λ e. e.end ≤ deduplication_interval) queue.old.entries }
-{
-    let given = (Some(1), Some(120), None);
-    try_once(rt, alloc, queue, 0, given, Ok(Sent::New(id(0))));
-    try_receive(rt, alloc, queue, 5, 1, &[0])?;
-    assert_eq!(rt; delete(queue, 6, receipt(0, 1)), Ok(Deleted::Removed(6)));
-    try_once(rt, alloc, queue, 1000, given, Ok(Sent::Repeat(id(0))));
-    assert!(rt; has_messages(queue, 0));
-    try_once(rt, alloc, queue, 300000, given, Ok(Sent::New(id(1))));
-    Ok(())
+fn holds_a_group_back(rt: HostRuntime) -> Result<(), Fail> {
+    let table = "
+move at=1 body=a group=x      -> new m-7-0
+move at=2 body=b group=y      -> new m-7-1
+move at=3 body=c group=x      -> new m-7-2
+send at=4 body=d group=x id=i -> new m-7-3
+move at=5 body=e group=x      -> new m-7-4
+move at=6 body=f              -> new m-7-5
+move at=7 body=g group=y      -> new m-7-6
+receive at=9 max=1 -> m-7-0 r-7-0-1 a
+counts -> visible=5 in_flight=1 delayed=1
+look at=9 max=10 timeout=0 -> m-7-1 r-7-1-1 b, m-7-6 r-7-6-1 g, m-7-5 r-7-5-1 f, read=3
+receive at=9 max=1 -> m-7-1 r-7-1-2 b
+receive at=9 max=10 -> m-7-5 r-7-5-2 f
+delete at=10 by=r-7-5-2 -> removed at 4
+available -> no
+# The first of group `x` leaves, and the next but one is not delayed any more.
+delete at=10 by=r-7-0-1 -> removed at 9
+delete at=10 by=r-7-0-1 -> gone
+available -> yes
+release number=3 -> stays
+look at=5004 max=10 timeout=0 -> m-7-2 r-7-2-1 c, m-7-3 r-7-3-1 d, m-7-4 r-7-4-1 e, read=3
+due -> release of 1 at=30009 agent=7
+messages -> 1 in flight b o-1-2 enqueued=2 release=30009, 2 visible c o-1-2 enqueued=3, \
+3 visible d o-7-3 enqueued=4, 4 visible e o-1-2 enqueued=5, 6 visible g o-1-2 enqueued=7
+";
+    play_delaying(&rt, rt.alloc(), table)
 }
 
 #[test]
-fn deletes_and_changes_by_the_newest_receipt(rt: HostRuntime) {
-    let mut queue = FifoQueue::new(rt.alloc(), 7, plain());
-    assert_eq!(rt; receive_twice(&rt, rt.alloc(), &mut queue), Ok(()));
-    refuse_deletes(&rt, &mut queue);
-    try_changes(&rt, &mut queue);
-    assert_eq!(rt; try_third_receive(&rt, rt.alloc(), &mut queue), Ok(()));
-    try_deletes(&rt, &mut queue);
-}
-
-fn other_receipt() -> Receipt {
-    Receipt {
-        site: 8,
-        number: 0,
-        count: 2,
-    }
-}
-
-// A message is received at 5, comes back, and is received at 6.
-fn receive_twice(rt: &impl Abort, alloc: Global, queue: &mut FifoQueue) -> Result<(), Refusal>
-    requires { All (λ e. e.end ≤ deduplication_interval) queue.old.entries }
-{
-    let given = (Some(1), Some(120), None);
-    try_once(rt, alloc, queue, 0, given, Ok(Sent::New(id(0))));
-    try_receive(rt, alloc, queue, 5, 1, &[0])?;
-    assert_eq!(rt; release(queue, 0), Ok(false));
-    try_receive(rt, alloc, queue, 6, 1, &[0])
-}
-
-fn refuse_deletes(rt: &impl Abort, queue: &mut FifoQueue) {
-    for by in [other_receipt(), receipt(1, 1), receipt(0, 3), receipt(0, 1)] {
-        assert_eq!(rt; delete(queue, 6, by), Err(Refusal::ReceiptHandleIsInvalid));
-    }
-}
-
-fn try_changes(rt: &impl Abort, queue: &mut FifoQueue) {
-    // When, by which receipt, for how many seconds, and how it is refused.
-    let table = [
-        (6, receipt(0, 2), 43201, Some(Refusal::BadTimeout)),
-        (6, other_receipt(), 1, Some(Refusal::ReceiptHandleIsInvalid)),
-        (6, receipt(1, 1), 1, Some(Refusal::ReceiptHandleIsInvalid)),
-        (6, receipt(0, 3), 1, Some(Refusal::ReceiptHandleIsInvalid)),
-        (6, receipt(0, 1), 1, Some(Refusal::MessageNotInflight)),
-        (7, receipt(0, 2), 43200, Some(Refusal::BadTimeout)),
-        (6, receipt(0, 2), 43200, None),
-        (7, receipt(0, 2), 0, None),
-        (8, receipt(0, 2), 10, Some(Refusal::MessageNotInflight)),
-    ];
-    for (now, by, seconds, refusal) in table {
-        assert_eq!(rt; change(queue, now, by, seconds), refusal);
-    }
-}
-
-fn try_third_receive(rt: &impl Abort, alloc: Global, queue: &mut FifoQueue) -> Result<(), Refusal> {
-    assert_eq!(rt;
-        delete(queue, 8, receipt(0, 2)),
-        Err(Refusal::ReceiptHandleIsInvalid)
-    );
-    assert_eq!(rt;
-        receive(alloc, queue, 9, 1, Some(43201)).err(),
-        Some(Refusal::BadTimeout)
-    );
-    try_receive(rt, alloc, queue, 9, 1, &[0])
-}
-
-fn try_deletes(rt: &impl Abort, queue: &mut FifoQueue) {
-    assert_eq!(rt; delete(queue, 9, receipt(0, 3)), Ok(Deleted::Removed(9)));
-    assert_eq!(rt; delete(queue, 9, receipt(0, 3)), Ok(Deleted::Gone));
-    assert_eq!(rt;
-        change(queue, 9, receipt(0, 3), 1),
-        Some(Refusal::MessageNotInflight)
-    );
+fn enters_a_message_once(rt: HostRuntime) -> Result<(), Fail> {
+    let table = "
+move at=1 body=a group=x      -> new m-7-0
+move at=2 body=b group=y      -> new m-7-1
+move at=3 body=c group=x      -> new m-7-2
+send at=4 body=d group=x id=i -> new m-7-3
+move at=5 body=e group=x      -> new m-7-4
+move at=6 body=f              -> new m-7-5
+move at=7 body=g group=y      -> new m-7-6
+send at=8 body=h group=y id=j -> new m-7-7
+send at=9 body=h group=z id=j -> repeat m-7-7
+# It is the last of its group when its delay is over.
+release number=7 -> stays
+look at=5008 max=10 timeout=0 -> m-7-0 r-7-0-1 a, m-7-2 r-7-2-1 c, m-7-1 r-7-1-1 b, \
+m-7-6 r-7-6-1 g, m-7-7 r-7-7-1 h, m-7-5 r-7-5-1 f, read=7
+delete at=5008 by=r-7-8-1 -> ReceiptHandleIsInvalid
+";
+    play_delaying(&rt, rt.alloc(), table)
 }
 
 #[test]
-fn a_group_waits_for_its_messages_in_flight(rt: HostRuntime) {
-    let mut queue = FifoQueue::new(rt.alloc(), 7, plain());
-    send_twelve(&rt, rt.alloc(), &mut queue);
-    assert_eq!(rt; try_group(&rt, rt.alloc(), &mut queue), Ok(()));
-}
-
-fn send_twelve(rt: &impl Abort, alloc: Global, queue: &mut FifoQueue)
-    requires { All (λ e. e.end ≤ deduplication_interval) queue.old.entries }
-{
-    for once in 0..12 {
-        let given = (Some(1), Some(once), None);
-        try_once(
-            rt,
-            alloc,
-            queue,
-            0,
-            given,
-            Ok(Sent::New(id(u64::from(once)))),
-        );
-    }
-}
-
-fn try_group(rt: &impl Abort, alloc: Global, queue: &mut FifoQueue) -> Result<(), Refusal> {
-    try_receive(rt, alloc, queue, 100, 10, &[0, 1, 2, 3, 4, 5, 6, 7, 8, 9])?;
-    try_receive(rt, alloc, queue, 200, 10, &[])?;
-    for number in 0..10 {
-        assert_eq!(rt;
-            delete(queue, 301, receipt(number, 1)),
-            Ok(Deleted::Removed(301))
-        );
-    }
-    try_receive(rt, alloc, queue, 400, 10, &[10, 11])
+fn takes_transfers_in_and_out(rt: HostRuntime) -> Result<(), Fail> {
+    let table = "
+# Old as it is, a FIFO queue counts its retention from now.
+redrive at=60000 body=a group=x enqueued=0 -> new m-7-0
+move    at=60001 body=b group=x            -> new m-7-1
+forward at=60002 body=c                    -> new m-7-2
+forward at=60003 body=c                    -> repeat m-7-2
+messages -> 0 visible a o-1-2 enqueued=60000 source=3, 1 visible b o-1-2 enqueued=60001, \
+2 visible c o-7-2 enqueued=60002
+# The first goes back to queue 3, and the second has nowhere to go but to the task's queue.
+step max=9 -> move m-7-0 o-1-2 a to 3, no source
+step max=1 to=4 -> move m-7-1 o-1-2 b to 4, more
+step max=9 to=4 -> move m-7-2 o-7-2 c to 4, empty
+messages -> none
+";
+    play_new(&rt, rt.alloc(), table)
 }
 
 #[test]
-fn the_last_number_is_given(rt: HostRuntime) {
-    let mut queue = FifoQueue::opened_at(rt.alloc(), 0, settings(), 4611686018427387902);
-    try_last(&rt, rt.alloc(), &mut queue);
-    assert!(rt; has_messages(&queue, 1));
+fn needs_a_group_and_an_id(rt: HostRuntime) -> Result<(), Fail> {
+    let table = "
+send at=0 body=a group=x id=i delay=1 -> BadDelay
+send at=0 body=a         id=i         -> MissingGroup
+send at=0 body=a group=x              -> MissingDeduplication
+send at=0 body=a group=x id=i delay=0 -> new m-7-0
+# In whatever group, an id counts for 5 minutes.
+send at=299999 body=a group=y id=i    -> repeat m-7-0
+send at=300000 body=a group=x id=i    -> new m-7-1
+";
+    play_plain(&rt, rt.alloc(), table)
 }
 
-// After the last number another message is refused, and the queue is as it was; a repeat of the last
-// is told still.
-fn try_last(rt: &impl Abort, alloc: Global, queue: &mut FifoQueue)
-    requires { All (λ e. e.end ≤ deduplication_interval) queue.old.entries }
-{
-    let last = MessageId {
-        site: 0,
-        number: 4611686018427387902,
-    };
-    try_send(rt, alloc, queue, 0, (97, 1), Ok(Sent::New(last)));
-    try_send(rt, alloc, queue, 1, (98, 1), Err(Refusal::CountLimit));
-    try_send(rt, alloc, queue, 2, (97, 1), Ok(Sent::Repeat(last)));
+#[test]
+fn an_id_counts_for_five_minutes(rt: HostRuntime) -> Result<(), Fail> {
+    let table = "
+send at=0      body=a group=x id=i -> new m-7-0
+send at=299999 body=b group=x id=j -> new m-7-1
+send at=299999 body=a group=x id=i -> repeat m-7-0
+send at=300000 body=a group=x id=i -> new m-7-2
+send at=599998 body=b group=x id=j -> repeat m-7-1
+send at=599999 body=b group=x id=j -> new m-7-3
+send at=599999 body=a group=x id=i -> repeat m-7-2
+send at=600000 body=a group=x id=i -> new m-7-4
+";
+    play_plain(&rt, rt.alloc(), table)
+}
+
+#[test]
+fn repeats_after_a_delete(rt: HostRuntime) -> Result<(), Fail> {
+    let table = "
+# A duplicate is one even after the message was received and deleted.
+send at=0 body=a group=x id=i -> new m-7-0
+receive at=5 max=1 -> m-7-0 r-7-0-1 a
+delete at=6 by=r-7-0-1 -> removed at 6
+send at=1000 body=a group=x id=i -> repeat m-7-0
+messages -> none
+send at=300000 body=a group=x id=i -> new m-7-1
+";
+    play_plain(&rt, rt.alloc(), table)
+}
+
+#[test]
+fn deletes_and_changes_by_the_newest_receipt(rt: HostRuntime) -> Result<(), Fail> {
+    let table = "
+send at=0 body=a group=x id=i -> new m-7-0
+receive at=5 max=1 -> m-7-0 r-7-0-1 a
+release number=0 -> stays
+receive at=6 max=1 -> m-7-0 r-7-0-2 a
+delete at=6 by=r-8-0-2 -> ReceiptHandleIsInvalid
+delete at=6 by=r-7-1-1 -> ReceiptHandleIsInvalid
+delete at=6 by=r-7-0-3 -> ReceiptHandleIsInvalid
+delete at=6 by=r-7-0-1 -> ReceiptHandleIsInvalid
+change at=6 by=r-7-0-2 seconds=43201 -> BadTimeout
+change at=6 by=r-8-0-2 seconds=1     -> ReceiptHandleIsInvalid
+change at=6 by=r-7-1-1 seconds=1     -> ReceiptHandleIsInvalid
+change at=6 by=r-7-0-3 seconds=1     -> ReceiptHandleIsInvalid
+change at=6 by=r-7-0-1 seconds=1     -> MessageNotInflight
+change at=7 by=r-7-0-2 seconds=43200 -> BadTimeout
+change at=6 by=r-7-0-2 seconds=43200 -> stays
+change at=7 by=r-7-0-2 seconds=0     -> stays
+change at=8 by=r-7-0-2 seconds=10    -> MessageNotInflight
+delete at=8 by=r-7-0-2 -> ReceiptHandleIsInvalid
+receive at=9 max=1 timeout=43201 -> BadTimeout
+receive at=9 max=1 -> m-7-0 r-7-0-3 a
+delete at=9 by=r-7-0-3 -> removed at 9
+delete at=9 by=r-7-0-3 -> gone
+change at=9 by=r-7-0-3 seconds=1 -> MessageNotInflight
+";
+    play_plain(&rt, rt.alloc(), table)
+}
+
+#[test]
+fn a_group_waits_for_its_messages_in_flight(rt: HostRuntime) -> Result<(), Fail> {
+    let table = "
+send at=0 body=a group=x id=0  -> new m-7-0
+send at=0 body=a group=x id=1  -> new m-7-1
+send at=0 body=a group=x id=2  -> new m-7-2
+send at=0 body=a group=x id=3  -> new m-7-3
+send at=0 body=a group=x id=4  -> new m-7-4
+send at=0 body=a group=x id=5  -> new m-7-5
+send at=0 body=a group=x id=6  -> new m-7-6
+send at=0 body=a group=x id=7  -> new m-7-7
+send at=0 body=a group=x id=8  -> new m-7-8
+send at=0 body=a group=x id=9  -> new m-7-9
+send at=0 body=a group=x id=10 -> new m-7-10
+send at=0 body=a group=x id=11 -> new m-7-11
+receive at=100 max=10 -> m-7-0 r-7-0-1 a, m-7-1 r-7-1-1 a, m-7-2 r-7-2-1 a, m-7-3 r-7-3-1 a, \
+m-7-4 r-7-4-1 a, m-7-5 r-7-5-1 a, m-7-6 r-7-6-1 a, m-7-7 r-7-7-1 a, m-7-8 r-7-8-1 a, m-7-9 r-7-9-1 a
+receive at=200 max=10 -> none
+delete at=301 by=r-7-0-1 -> removed at 301
+delete at=301 by=r-7-1-1 -> removed at 301
+delete at=301 by=r-7-2-1 -> removed at 301
+delete at=301 by=r-7-3-1 -> removed at 301
+delete at=301 by=r-7-4-1 -> removed at 301
+delete at=301 by=r-7-5-1 -> removed at 301
+delete at=301 by=r-7-6-1 -> removed at 301
+delete at=301 by=r-7-7-1 -> removed at 301
+delete at=301 by=r-7-8-1 -> removed at 301
+delete at=301 by=r-7-9-1 -> removed at 301
+receive at=400 max=10 -> m-7-10 r-7-10-1 a, m-7-11 r-7-11-1 a
+";
+    play_plain(&rt, rt.alloc(), table)
+}
+
+#[test]
+fn the_last_number_is_given(rt: HostRuntime) -> Result<(), Fail> {
+    // After the last number another message is refused, and the queue is as it was; a repeat of the
+    // last is told still.
+    let table = "
+send at=0 body=a group=x -> new m-0-4611686018427387902
+send at=1 body=b group=x -> CountLimit
+send at=2 body=a group=x -> repeat m-0-4611686018427387902
+messages -> 4611686018427387902 visible a o-0-4611686018427387902 enqueued=0
+";
+    play_last(&rt, rt.alloc(), table)
 }

@@ -1,18 +1,26 @@
-//! Tests of the queues and of the shelves below them: each public call once with ample memory, and
-//! what no clause says. There is no code here but tests.
+//! Tests of the queues and of what lies below them: tables of calls and their answers, which `play`
+//! goes through. There is no code here but tests.
 #![tactic(auto)]
 
 #[cfg(test)]
+mod calls;
+#[cfg(test)]
 mod fifo;
+#[cfg(test)]
+mod forms;
 #[cfg(test)]
 mod group_shelf;
 #[cfg(test)]
-mod host_shelf;
+mod in_order;
+#[cfg(test)]
+mod play;
 #[cfg(test)]
 mod queue;
 #[cfg(test)]
-mod shelf;
+mod sends_first;
+#[cfg(test)]
+mod show;
 #[cfg(test)]
 mod standard;
 #[cfg(test)]
-mod store;
+mod words;
