@@ -7,7 +7,7 @@ use Rattle.std.proofs.lemmas.List.{ext_get_or, get_or-map, length-map, length-se
 use Rattle.std.proofs.lemmas.List.Elements.{filter-append}
 use Rattle.std.proofs.lemmas.List.FromFn.{get_or-map-range_with_len, length-map-range_with_len}
 use Rattle.sqs_redrive.specs.declared.transfers.Outbound.{Outbound}
-use Rattle.sim_machine.specs.Exchange.{exchanged, sorted, to_part}
+use Rattle.sqs_model.specs.Exchange.{exchanged, sorted, to_part}
 use Rattle.sim_exchange.specs.Dealt.{dealt}
 
 -- one of some lists gets one more

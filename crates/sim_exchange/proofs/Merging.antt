@@ -6,7 +6,7 @@ use Rattle.std.specs.declared.cmp.Ordering.{Ordering}
 use Rattle.std.proofs.Common.{Equal, Greater, Less, ap, append_assoc, arith, refl, sym, ◌∙◌}
 use Rattle.std.proofs.lemmas.List.{length_push}
 use Rattle.sim_clock.proofs.Inserted.{before_upto, upto_before}
-use Rattle.sim_machine.specs.Merge.{merged, merged_all}
+use Rattle.sqs_model.specs.Merge.{merged, merged_all}
 
 -- a list merged with nothing
 pub merged_nothing : {A : Type 0} (R : A → A → Ordering) (xs : List A) → merged R xs [] ≡ xs

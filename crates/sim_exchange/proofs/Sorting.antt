@@ -8,9 +8,9 @@ use Rattle.std.proofs.Common.{ap, append_assoc, append-nil, arith, refl, subst, 
 use Rattle.std.proofs.lemmas.Cmp.{on_total, tied_itself}
 use Rattle.sim_clock.specs.Order.{IsInOrder, inserted_by, key_cmp, key_cmp_total}
 use Rattle.sim_clock.proofs.Inserted.{before_upto, ordered_inserted, upto_before}
-use Rattle.sim_machine.specs.Exchange.{sorted, sorted_into}
-use Rattle.sim_machine.proofs.Merge.{after_first}
-use Rattle.sim_machine.proofs.Parts.{Each}
+use Rattle.sqs_model.specs.Exchange.{sorted, sorted_into}
+use Rattle.sim_engine.proofs.Merge.{after_first}
+use Rattle.sim_engine.specs.Members.{Each}
 use Rattle.sqs_redrive.specs.declared.transfers.Outbound.{Outbound}
 use Rattle.sqs_redrive.specs.Transfers.{transfer_key}
 

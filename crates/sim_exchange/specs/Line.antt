@@ -1,8 +1,8 @@
 -- The distances from one partition while they are sought.
 use Rattle.std.specs.List.{sum_by}
 use Rattle.std.specs.Prelude.{List, None, Option, Some, get_or, if◌then◌else◌, ℕ, ◌*◌, ◌+◌, ◌<◌, ◌==◌, ◌^◌, ◌≡◌, ◌≤◌}
-use Rattle.sqs_redrive.specs.declared.settings.Edge.{Edge}
-use Rattle.sim_machine.specs.Bounds.{IsWalk, latency_of}
+use Rattle.sim_engine.specs.declared.edge.Edge.{Edge}
+use Rattle.sqs_model.specs.Bounds.{IsWalk, latency_of}
 
 -- how far it is to where a way begins: nothing at the start itself
 abbrev pub so_far : ℕ → List (Option ℕ) → ℕ → Option ℕ

@@ -1,12 +1,12 @@
 //! How soon one partition may reach another.
 ghost use Rattle.std.specs.Prelude.{◌≡◌, ◌+◌, ◌<◌, ◌^◌, ◌≤◌, All, IfOk, None, get_or, length, min, ℕ};
-ghost use Rattle.sim_machine.specs.Bounds.{AreDistances, bound_by, reached};
+ghost use Rattle.sqs_model.specs.Bounds.{AreDistances, bound_by, reached};
 ghost use Rattle.sim_exchange.specs.Layout.{owner_of};
 ghost use Rattle.sim_exchange.specs.Table.{distance_in};
 
 use crate::layout::PartMap;
 use crate::line::distances_from;
-use sqs_redrive::Edge;
+use sim_engine::Edge;
 use std::alloc::{AllocError, Global};
 use std::marker::Model;
 

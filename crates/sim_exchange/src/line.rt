@@ -1,13 +1,13 @@
 //! The distances from one partition.
 ghost use Rattle.std.specs.Prelude.{◌≡◌, ◌<◌, ◌≤◌, All, IfOk, List, None, false, get_or, length, true, ℕ};
 ghost use Rattle.sqs_model.specs.Members.{In};
-ghost use Rattle.sqs_redrive.specs.declared.settings.Edge.{Edge};
-ghost use Rattle.sim_machine.specs.Bounds.{IsDistance};
+ghost use Rattle.sim_engine.specs.declared.edge.Edge.{Edge};
+ghost use Rattle.sqs_model.specs.Bounds.{IsDistance};
 ghost use Rattle.sim_exchange.specs.Layout.{owner_of};
 ghost use Rattle.sim_exchange.specs.Line.{AreShort, AreWalked, IsNearer, IsSettled, IsWithin, so_far, total_of};
 
 use crate::layout::PartMap;
-use sqs_redrive::Edge;
+use sim_engine::Edge;
 use std::alloc::{AllocError, Global};
 
 // The distances from a partition to each: shortened by one more way as long as a way shortens one.

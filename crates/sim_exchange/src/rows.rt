@@ -2,7 +2,7 @@
 ghost use Rattle.std.specs.Option.{option_to_list};
 ghost use Rattle.std.specs.Ordering.{is_lt};
 ghost use Rattle.std.specs.Prelude.{◌≡◌, ◌≤◌, ◌<◌, ◌+◌, ◌++◌, IfOk, length, map};
-ghost use Rattle.sim_machine.specs.Merge.{merged, merged_all, row_cmp};
+ghost use Rattle.sqs_model.specs.Merge.{merged, merged_all, row_cmp};
 
 use sqs_message::Row;
 use std::alloc::{AllocError, Global};

@@ -4,7 +4,7 @@ ghost use Rattle.std.specs.List.{slice_set};
 ghost use Rattle.sqs_redrive.specs.declared.transfers.Outbound.{Outbound};
 ghost use Rattle.sim_exchange.specs.Dealt.{dealt};
 ghost use Rattle.sim_exchange.specs.Layout.{owner_of};
-ghost use Rattle.sim_machine.specs.Exchange.{exchanged, sorted};
+ghost use Rattle.sqs_model.specs.Exchange.{exchanged, sorted};
 
 use crate::layout::PartMap;
 use sqs_redrive::Outbound;

@@ -6,12 +6,12 @@ use Rattle.sim_clock.specs.declared.refusal.Refusal.{Refusal}
 use Rattle.sim_clock.specs.declared.refusal.Refusal.TheVariants as refusals
 use Rattle.sim_exchange.specs.Layout.{owner_of}
 use Rattle.sim_exchange.specs.Table.{distance_in}
-use Rattle.sim_machine.specs.Bounds.{own_bound}
-use Rattle.sim_machine.specs.Machine.{is_finished}
-use Rattle.sim_machine.specs.Prefixes.{Holds, is_before, rows_from}
-use Rattle.sim_machine.specs.Theorems.{machine_of}
-use Rattle.sim_machine.specs.declared.picks.Pick.{Pick}
-use Rattle.sim_machine.proofs.Holding.{ends_at_own_bounds, holds_at_own_bounds}
+use Rattle.sqs_model.specs.Bounds.{own_bound}
+use Rattle.sqs_model.specs.Machine.{is_finished}
+use Rattle.sqs_model.specs.Prefixes.{Holds, is_before, rows_from}
+use Rattle.sqs_model.specs.Theorems.{machine_of}
+use Rattle.sim_engine.specs.declared.picks.Pick.{Pick}
+use Rattle.sqs_model.proofs.Simulated.{ends_at_own_bounds, holds_at_own_bounds}
 use Rattle.sim_parallel.specs.Runs.{HasTold}
 use Rattle.sim_site.specs.Effects.{StopsWhere}
 use Rattle.sim_stage.specs.Stages.{AreNext, Standing, Stands, StandsOn}

@@ -6,9 +6,9 @@ use Rattle.std.proofs.lemmas.List.Elements.{All-cons, All-head, All-nil, All-tai
 use Rattle.std.proofs.lemmas.List.{get_or-map}
 use Rattle.sim_exchange.specs.Layout.{owner_of}
 use Rattle.sim_exchange.specs.Table.{distance_in}
-use Rattle.sim_machine.specs.Machine.{Machine}
-use Rattle.sim_machine.specs.declared.picks.Pick.{Pick}
-use Rattle.sim_machine.proofs.Keeping.{machines_keep_bounds}
+use Rattle.sqs_model.specs.Machine.{Machine}
+use Rattle.sim_engine.specs.declared.picks.Pick.{Pick}
+use Rattle.sqs_model.proofs.Simulated.{machines_keep_bounds}
 use Rattle.sim_parallel.specs.Runs.{AreWithin}
 use Rattle.sim_stage.specs.Stages.{Standing, Stands, machine_in}
 use Rattle.sim_stage.proofs.Standing.{below}

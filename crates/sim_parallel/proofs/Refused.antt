@@ -5,15 +5,15 @@ use Rattle.sim_clock.specs.declared.refusal.Refusal.{Refusal}
 use Rattle.sim_clock.specs.declared.refusal.Refusal.TheVariants as refusals
 use Rattle.sim_exchange.specs.Layout.{owner_of}
 use Rattle.sim_exchange.specs.Table.{distance_in}
-use Rattle.sim_machine.specs.Bounds.{own_bound}
-use Rattle.sim_machine.specs.Machine.{Machine, played_all}
-use Rattle.sim_machine.specs.Parts.{part_of}
-use Rattle.sim_machine.specs.Prefixes.{part_count}
-use Rattle.sim_machine.specs.Rounds.{PartRun, part_after, picks_of}
-use Rattle.sim_machine.specs.Theorems.{rows_by}
-use Rattle.sim_machine.specs.declared.picks.Pick.{Pick}
-use Rattle.sim_machine.proofs.Holding.{holds_at_own_bounds}
-use Rattle.sim_machine.proofs.Rounds.{HasRun, part_runs_to}
+use Rattle.sqs_model.specs.Bounds.{own_bound}
+use Rattle.sqs_model.specs.Machine.{Machine, played_all}
+use Rattle.sqs_model.specs.Parts.{part_of}
+use Rattle.sqs_model.specs.Prefixes.{part_count}
+use Rattle.sqs_model.specs.Rounds.{PartRun, part_after, picks_of}
+use Rattle.sqs_model.specs.Theorems.{rows_by}
+use Rattle.sim_engine.specs.declared.picks.Pick.{Pick}
+use Rattle.sqs_model.proofs.Simulated.{holds_at_own_bounds}
+use Rattle.sim_engine.proofs.Rounds.{HasRun, part_runs_to}
 use Rattle.sim_parallel.specs.Runs.{AreWithin}
 use Rattle.sim_partition.specs.Steps.{StopsRun, ran_count}
 use Rattle.sim_site.specs.Effects.{StopsWhere}
@@ -28,6 +28,7 @@ use Rattle.sqs_model.specs.Limits.{IsOver, rows_count, run_count, sites_count}
 use Rattle.sqs_model.specs.Run.{after}
 use Rattle.sqs_model.specs.Scenario.{Scenario, opening}
 use Rattle.sqs_model.specs.Site.{Site}
+use Rattle.sqs_model.proofs.Instance.{sqs_laws}
 
 -- a partition that is refused
 pub record IsSpent (bs : List ℕ) (ps : List (Result (List Site) Refusal)) (d : Result (List Site) Refusal) (e : Refusal) : Type 0 where
@@ -90,11 +91,11 @@ module _ (s : Scenario) (done : List Pick) (g : Standing) (st : Stands s done g)
       let w : List Site = part_of o p m.sites in
       stops_for ((n : ℕ) × (most_count < ran_count (part_after bound n w))) (IsOver s) e
       (λ passes.
-      let so : (k : ℕ) × HasRun o s.horizon rule p m (part_after bound passes.0 w) (played_all o s.horizon rule (picks_of p k) m) = part_runs_to o s.horizon rule p bound passes.0 m within in
+      let so : (k : ℕ) × (HasRun sqs_laws) o s.horizon rule p m (part_after bound passes.0 w) (played_all o s.horizon rule (picks_of p k) m) = part_runs_to sqs_laws o s.horizon rule p bound passes.0 m within in
       let picks : List Pick = picks_of p so.0 in
       let r : PartRun = part_after bound passes.0 w in
       let x : Machine = machine_in g.layout g.distances s (done ++ picks) in
-      let ran : HasRun o s.horizon rule p m r x = subst (λ (y : Machine). HasRun o s.horizon rule p m r y) (sym (more_picks s done g st picks)) so.1 in
+      let ran : HasRun sqs_laws o s.horizon rule p m r x = subst (λ (y : Machine). HasRun sqs_laws o s.horizon rule p m r y) (sym (more_picks s done g st picks)) so.1 in
       let counts : (n : ℕ) × (part_count o p x ≤ run_count (after s.horizon n (opening s))) =
       (holds_at_own_bounds s st.sound o g.layout.parts (below s done g st) (distance_in g.distances) st.distances).counts (done ++ picks) p in
       let sites : sites_count r.sites ≤ sites_count (part_of o p x.sites) = omega (arith, ap sites_count ran.sites) in

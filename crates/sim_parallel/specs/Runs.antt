@@ -4,9 +4,9 @@ use Rattle.std.specs.List.{sum_by}
 use Rattle.std.specs.Prelude.{Bool, Err, List, Ok, Result, Vec, [], false, filter, get_or, length, true, ℕ, ◌<◌, ◌⊎◌, ◌≡◌, ◌≤◌}
 use Rattle.sim_clock.specs.declared.refusal.Refusal.{Refusal}
 use Rattle.sim_clock.specs.declared.refusal.Refusal.TheVariants as refusals
-use Rattle.sim_machine.specs.Machine.{is_finished}
-use Rattle.sim_machine.specs.Prefixes.{is_before}
-use Rattle.sim_machine.specs.declared.picks.Pick.{Pick}
+use Rattle.sqs_model.specs.Machine.{is_finished}
+use Rattle.sqs_model.specs.Prefixes.{is_before}
+use Rattle.sim_engine.specs.declared.picks.Pick.{Pick}
 use Rattle.sim_parallel.specs.Paces.{word_of}
 use Rattle.sim_stage.specs.Stages.{Standing, Stands, StandsOn, machine_in}
 use Rattle.sim_windows.specs.Sinks.{HasStopped, HasTaken}

@@ -12,9 +12,10 @@ use Rattle.sqs_redrive.specs.Transfers.{transfer_key}
 use Rattle.sqs_model.proofs.Branches.{either}
 use Rattle.sqs_model.proofs.Delivery.{least_due_accepted}
 use Rattle.sqs_model.proofs.WorldMoves.{delivered_sound}
-use Rattle.sqs_model.specs.Dues.{least_due, world_due}
+use Rattle.sqs_model.specs.Dues.{least_due}
+use Rattle.sqs_model.specs.World.{world_due}
 use Rattle.sqs_model.specs.Progress.{AreTimely, Ascends, IsSound}
-use Rattle.sqs_model.specs.Run.{delivered, delivered_one}
+use Rattle.sqs_model.specs.World.{delivered, delivered_one}
 use Rattle.sqs_model.specs.Site.{Site, accepted, number_of}
 use Rattle.sim_partition.specs.Sites.{AreOfPast, IsOfPast, IsPart, alive, living, site_number}
 use Rattle.sim_partition.proofs.Handled.{Timely}

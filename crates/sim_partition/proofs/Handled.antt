@@ -11,11 +11,13 @@ use Rattle.sim_site.specs.Spent.{due_of}
 use Rattle.sqs_redrive.specs.declared.transfers.Outbound.{Outbound}
 use Rattle.sqs_model.proofs.Kept.{handled_number, handled_recent}
 use Rattle.sqs_model.proofs.Times.{handled_timely}
-use Rattle.sqs_model.specs.Dues.{least_due, world_due}
-use Rattle.sqs_model.specs.Limits.{site_count, sites_count}
+use Rattle.sqs_model.specs.Dues.{least_due}
+use Rattle.sqs_model.specs.World.{world_due}
+use Rattle.sqs_model.specs.Limits.{sites_count}
+use Rattle.sqs_model.specs.Counts.{site_count}
 use Rattle.sqs_model.specs.Places.{IsAbsent, Stands}
 use Rattle.sqs_model.specs.Progress.{AreTimely, Ascends, IsSound, KeepsTime, WasEnqueuedBy}
-use Rattle.sqs_model.specs.Run.{handled_among, handled_here, handled_there, is_due}
+use Rattle.sqs_model.specs.World.{handled_among, handled_here, handled_there, is_due}
 use Rattle.sqs_model.specs.Site.{Site}
 use Rattle.sqs_model.specs.Step.{handled}
 use Rattle.sim_partition.specs.Sites.{AreOfPast, IsOfPast, IsPart, alive, is_due_there, living, site_number}

@@ -7,7 +7,8 @@ use Rattle.sim_clock.specs.declared.key.Key.{Key}
 use Rattle.sim_clock.specs.declared.refusal.Refusal.{Refusal}
 use Rattle.sim_clock.specs.Order.{lesser}
 use Rattle.sim_site.specs.Spent.{due_of}
-use Rattle.sqs_model.specs.Dues.{least_due, world_due}
+use Rattle.sqs_model.specs.Dues.{least_due}
+use Rattle.sqs_model.specs.World.{world_due}
 use Rattle.sqs_model.specs.Site.{Site}
 use Rattle.sim_partition.specs.Sites.{alive, due_among, living}
 

@@ -15,9 +15,9 @@ use Rattle.sqs_index.specs.Marks.{IsPlaceOfLeast, least_of, no_mark, node}
 use Rattle.sqs_index.proofs.Spans.{same_least}
 use Rattle.sqs_model.proofs.StepMoves.{key_self}
 use Rattle.sqs_model.proofs.WorldMoves.{is_due_least}
-use Rattle.sqs_model.specs.Dues.{world_due}
+use Rattle.sqs_model.specs.World.{world_due}
 use Rattle.sqs_model.specs.Places.{Stands, place_from_position}
-use Rattle.sqs_model.specs.Run.{is_due}
+use Rattle.sqs_model.specs.World.{is_due}
 use Rattle.sqs_model.specs.Site.{Site}
 use Rattle.sim_partition.specs.Sites.{AreMarked, due_among, is_due_there, living, mark_of}
 use Rattle.sim_partition.proofs.Living.{due_living}

@@ -5,10 +5,10 @@ use Rattle.std.proofs.lemmas.Bool.{cases_lt}
 use Rattle.std.proofs.lemmas.List.Elements.{All-weaker}
 use Rattle.sim_clock.specs.declared.key.Key.{Key}
 use Rattle.sqs_message.specs.declared.message.Message.{Message}
-use Rattle.sqs_model.specs.Dues.{world_due}
+use Rattle.sqs_model.specs.World.{world_due}
 use Rattle.sqs_model.specs.Progress.{IsSound}
 use Rattle.sqs_model.specs.Queue.{Entry}
-use Rattle.sqs_model.specs.Run.{handled_among}
+use Rattle.sqs_model.specs.World.{handled_among}
 use Rattle.sqs_model.specs.Site.{Site}
 use Rattle.sqs_model.proofs.Counts.{tick, tick_now, tick_past}
 use Rattle.sqs_model.proofs.WorldMoves.{FallsAmong, among_falls, tick_key, world_count, world_in, world_none}

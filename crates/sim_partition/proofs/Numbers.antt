@@ -5,7 +5,7 @@ use Rattle.std.proofs.lemmas.Bool.Decides.{nat_tests}
 use Rattle.sim_clock.specs.declared.refusal.Refusal.{Refusal}
 use Rattle.sqs_redrive.specs.declared.transfers.Outbound.{Outbound}
 use Rattle.sqs_model.specs.Progress.{Ascends}
-use Rattle.sqs_model.specs.Run.{delivered_one}
+use Rattle.sqs_model.specs.World.{delivered_one}
 use Rattle.sqs_model.specs.Site.{Site, accepted}
 use Rattle.std.proofs.lemmas.List.{get_or-map, length-map}
 use Rattle.sqs_model.specs.Queue.{Queue}

@@ -5,14 +5,15 @@ use Rattle.std.proofs.lemmas.Bool.{le-ltb, lt-ltb}
 use Rattle.sim_clock.specs.declared.key.Key.{Key}
 use Rattle.sim_clock.specs.declared.refusal.Refusal.{Refusal}
 use Rattle.sim_clock.specs.Order.{due_before}
-use Rattle.sim_machine.specs.Rounds.{PartRun, part_after, part_begun, part_on, part_ran, part_ran_at}
+use Rattle.sqs_model.specs.Rounds.{PartRun, part_after, part_begun, part_on, part_ran, part_ran_at}
 use Rattle.sim_site.proofs.Passing.{more_passes, rows_after, stops_for}
 use Rattle.sim_site.specs.Effects.{Stops, StopsWhere}
 use Rattle.sim_clock.specs.Firsts.{changed}
 use Rattle.sqs_model.specs.Answers.{most_count}
-use Rattle.sqs_model.specs.Dues.{world_due}
-use Rattle.sqs_model.specs.Limits.{PassesCount, effect_of, rows_count, site_count, sites_count}
-use Rattle.sqs_model.specs.Run.{Stepped, handled_among}
+use Rattle.sqs_model.specs.World.{world_due}
+use Rattle.sqs_model.specs.Limits.{PassesCount, effect_of, rows_count, sites_count}
+use Rattle.sqs_model.specs.Counts.{site_count}
+use Rattle.sqs_model.specs.World.{Stepped, handled_among}
 use Rattle.sqs_model.specs.Site.{Site}
 use Rattle.sqs_model.specs.Step.{handled}
 use Rattle.sim_partition.specs.Sites.{AreOfPast, IsLater, IsOfPast}

@@ -5,7 +5,7 @@ use Rattle.std.proofs.Common.{[], ap, ap₂, subst, sym, ◌∙◌}
 use Rattle.sim_clock.specs.declared.refusal.Refusal.{Refusal}
 use Rattle.sqs_message.specs.declared.row.Row.{Row}
 use Rattle.sqs_redrive.specs.declared.transfers.Outbound.{Outbound}
-use Rattle.sim_machine.specs.Rounds.{PartRun, part_begun}
+use Rattle.sqs_model.specs.Rounds.{PartRun, part_begun}
 use Rattle.sim_site.specs.declared.effects.Effects.{Effects}
 use Rattle.sqs_index.specs.declared.mark.Mark.{Mark}
 use Rattle.sqs_index.specs.Marks.{least_of}

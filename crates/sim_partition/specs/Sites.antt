@@ -7,9 +7,9 @@ use Rattle.sim_site.specs.Spent.{due_of}
 use Rattle.sqs_index.specs.declared.mark.Mark.{Mark}
 use Rattle.sqs_index.specs.Marks.{node}
 use Rattle.sqs_model.specs.Answers.{most_count}
-use Rattle.sqs_model.specs.Dues.{world_due}
+use Rattle.sqs_model.specs.World.{world_due}
 use Rattle.sqs_model.specs.Progress.{AreTimely, Ascends, IsFilledBy, IsRecent, IsSound}
-use Rattle.sqs_model.specs.Run.{is_due}
+use Rattle.sqs_model.specs.World.{is_due}
 use Rattle.sqs_model.specs.Site.{Site, number_of}
 
 -- the sites that live

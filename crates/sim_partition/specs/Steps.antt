@@ -2,11 +2,11 @@
 use Rattle.std.specs.Prelude.{All, List, None, Ok, Option, Result, Some, max, suc, zero, ℕ, ◌<◌, ◌≡◌, ◌≤◌}
 use Rattle.sim_clock.specs.declared.key.Key.{Key}
 use Rattle.sim_clock.specs.declared.refusal.Refusal.{Refusal}
-use Rattle.sim_machine.specs.Rounds.{HasRunTo, PartRun, part_after, part_ran}
+use Rattle.sqs_model.specs.Rounds.{HasRunTo, PartRun, part_after, part_ran}
 use Rattle.sim_site.specs.Effects.{StopsWhere}
 use Rattle.sqs_model.specs.Answers.{most_count}
 use Rattle.sqs_model.specs.Limits.{rows_count, sites_count}
-use Rattle.sqs_model.specs.Run.{Stepped}
+use Rattle.sqs_model.specs.World.{Stepped}
 use Rattle.sqs_model.specs.Site.{Site}
 use Rattle.sim_site.specs.declared.effects.Effects.{Effects}
 use Rattle.sim_partition.specs.declared.partition.Ran.{Ran}

@@ -1,7 +1,7 @@
 //! Transfers that come to the sites of a partition.
 ghost use Rattle.std.specs.Prelude.{◌≡◌, All, IfErr, OnOk, map};
 ghost use Rattle.sqs_model.specs.Progress.{AreTimely, Ascends};
-ghost use Rattle.sqs_model.specs.Run.{delivered, delivered_one};
+ghost use Rattle.sqs_model.specs.World.{delivered, delivered_one};
 ghost use Rattle.sim_partition.specs.Sites.{AreMarked, IsKept, IsOfPast, alive, living, site_number};
 
 use crate::marking::mark_of;

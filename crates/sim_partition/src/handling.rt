@@ -2,12 +2,12 @@
 ghost use Rattle.std.specs.Prelude.{◌≡◌, ◌+◌, ◌<◌, ◌≤◌, All, None, Some, IfErr, OnOk, ℕ};
 ghost use Rattle.sim_clock.specs.declared.key.Key.{Key as TheKey};
 ghost use Rattle.sim_clock.specs.Order.{due_before};
-ghost use Rattle.sim_machine.specs.Rounds.{part_on};
+ghost use Rattle.sqs_model.specs.Rounds.{part_on};
 ghost use Rattle.sqs_model.specs.Answers.{most_count};
-ghost use Rattle.sqs_model.specs.Dues.{world_due};
+ghost use Rattle.sqs_model.specs.World.{world_due};
 ghost use Rattle.sqs_model.specs.Places.{Stands};
 ghost use Rattle.sqs_model.specs.Progress.{AreTimely};
-ghost use Rattle.sqs_model.specs.Run.{handled_among};
+ghost use Rattle.sqs_model.specs.World.{handled_among};
 ghost use Rattle.sim_partition.specs.Sites.{AreMarked, HasDue, IsFrom, IsKept, IsLater, IsOfPast, is_due_there, living};
 ghost use Rattle.sim_partition.specs.Steps.{Continues, StaysOfPast, StopsFrom, StopsStep, part_made};
 

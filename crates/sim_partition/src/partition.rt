@@ -2,9 +2,9 @@
 ghost use Rattle.std.specs.Prelude.{◌≡◌, ◌+◌, ◌≤◌, All, Err, List, Ok, Some, IfErr, IfOk, OnOk, map, ℕ};
 ghost use Rattle.sim_clock.specs.declared.key.Key.{Key as TheKey};
 ghost use Rattle.sqs_model.specs.Answers.{most_count};
-ghost use Rattle.sqs_model.specs.Dues.{world_due};
+ghost use Rattle.sqs_model.specs.World.{world_due};
 ghost use Rattle.sqs_model.specs.Progress.{AreTimely, IsSound};
-ghost use Rattle.sqs_model.specs.Run.{delivered, handled_among};
+ghost use Rattle.sqs_model.specs.World.{delivered, handled_among};
 ghost use Rattle.sim_partition.specs.Sites.{AreOfPast, HasDue, IsOfPast, IsPart, alive, due_in, living, refusal_in};
 ghost use Rattle.sim_partition.specs.Steps.{RanTo, StopsRun, StopsStep};
 

@@ -5,13 +5,13 @@ use Rattle.std.proofs.Common.{Global, ap, arith, refl, subst, sym, ◌∙◌}
 use Rattle.std.proofs.lemmas.List.Elements.{All-cons, All-head, All-nil, All-tail}
 use Rattle.sim_clock.specs.declared.key.Key.{Key}
 use Rattle.sim_clock.specs.declared.refusal.Refusal.{Refusal}
-use Rattle.sim_machine.specs.Parts.{is_of, part_of}
+use Rattle.sqs_model.specs.Parts.{is_of, part_of}
 use Rattle.sim_partition.specs.Sites.{AreOfPast, IsOfPast, IsPart, alive, living, site_number}
 use Rattle.sim_partition.proofs.Living.{living_alive}
 use Rattle.sim_stage.specs.Joining.{IsNumbered}
 use Rattle.sim_stage.proofs.Opening.{all_picked, past_all}
 use Rattle.sim_stage.proofs.Places.{over, same_from}
-use Rattle.sqs_model.specs.Dues.{world_due}
+use Rattle.sqs_model.specs.World.{world_due}
 use Rattle.sqs_model.specs.Progress.{Ascends, IsSound, IsSoundScenario}
 use Rattle.sqs_model.specs.Scenario.{Scenario, opening, opening_site}
 use Rattle.sqs_model.specs.Site.{Site}

@@ -1,9 +1,9 @@
 -- What is seen of a machine of partitions, and of which scenario and picks it is.
 use Rattle.std.specs.Prelude.{List, None, Option, Result, Some, map, ℕ, ◌≡◌}
 use Rattle.sim_clock.specs.declared.refusal.Refusal.{Refusal}
-use Rattle.sim_machine.specs.Bounds.{least_bound}
-use Rattle.sim_machine.specs.Machine.{Machine as TheMachine}
-use Rattle.sim_machine.specs.declared.picks.Pick.{Pick}
+use Rattle.sqs_model.specs.Bounds.{least_bound}
+use Rattle.sqs_model.specs.Machine.{Machine as TheMachine}
+use Rattle.sim_engine.specs.declared.picks.Pick.{Pick}
 use Rattle.sim_partition.specs.Sites.{alive}
 use Rattle.sim_stage.specs.Stages.{AreSettled, Standing, Stands, machine_in}
 use Rattle.sqs_message.specs.declared.row.Row.{Row}

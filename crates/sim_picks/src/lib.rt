@@ -5,6 +5,6 @@
 mod machine;
 
 pub use machine::{Machine, open_stage};
+pub use sim_engine::Pick;
 pub use sim_exchange::PartMap;
-pub use sim_machine::Pick;
 pub use sim_stage::Ended;

@@ -2,8 +2,8 @@
 //! order, in whatever order they are picked.
 ghost use Rattle.std.specs.Prelude.{◌≡◌, ◌++◌, ◌<◌, ◌≤◌, [], Err, IfErr, IfOk, List, None, Some, false, length, true};
 ghost use Rattle.sim_clock.specs.declared.refusal.Refusal.{Refusal as TheRefusal};
-ghost use Rattle.sim_machine.specs.Machine.{is_finished};
-ghost use Rattle.sim_machine.specs.declared.picks.Pick.{Pick as ThePick};
+ghost use Rattle.sqs_model.specs.Machine.{is_finished};
+ghost use Rattle.sim_engine.specs.declared.picks.Pick.{Pick as ThePick};
 ghost use Rattle.sim_site.specs.Effects.{StopsWhere};
 ghost use Rattle.sim_stage.specs.Stages.{Stands, effects_in, standing_of};
 ghost use Rattle.sim_picks.specs.Machines.{HasRun, IsMachineOf, machine_at};
@@ -11,8 +11,8 @@ ghost use Rattle.sqs_model.specs.Limits.{IsOver};
 ghost use Rattle.sqs_model.specs.Scenario.{Scenario as TheScenario, least_latency as the_least_latency};
 
 use sim_clock::Refusal;
+use sim_engine::Pick;
 use sim_exchange::{Distances, PartMap};
-use sim_machine::Pick;
 use sim_scenario::{Scenario, edges, least_latency};
 use sim_stage::{Ended, Stage, least_of, open_parts, split_sites};
 use sim_windows::opening_sites;

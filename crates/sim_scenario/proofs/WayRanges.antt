@@ -10,7 +10,7 @@ use Rattle.sqs_model.specs.declared.agents.Role.TheVariants.{Consumer, Producer,
 use Rattle.sqs_model.specs.Scenario.{Scenario, edge, edges, forward_edges, policy_edges, role_edges, task_edges, task_goals}
 use Rattle.sqs_model.specs.Valid.{Between, IsLatency, IsQueueSettings, IsTaskSettings, MayBeForward, MayBePolicy}
 use Rattle.sqs_model.proofs.Opening.{all_enumerated}
-use Rattle.sqs_redrive.specs.declared.settings.Edge.{Edge}
+use Rattle.sim_engine.specs.declared.edge.Edge.{Edge}
 use Rattle.sqs_redrive.specs.declared.settings.Latency.{Latency}
 use Rattle.sqs_redrive.specs.declared.settings.Policy.{Policy}
 use Rattle.sqs_redrive.specs.declared.settings.QueueSettings.{QueueSettings}

@@ -1,6 +1,6 @@
 -- The least latency of some ways, found one by one.
 use Rattle.std.specs.Prelude.{List, None, Option, Some, fold, min, ℕ}
-use Rattle.sqs_redrive.specs.declared.settings.Edge.{Edge}
+use Rattle.sim_engine.specs.declared.edge.Edge.{Edge}
 
 -- the lesser of a latency and the least so far
 abbrev pub lowered : Option ℕ → ℕ → Option ℕ

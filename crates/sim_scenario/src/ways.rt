@@ -5,8 +5,9 @@ ghost use Rattle.sqs_model.specs.Scenario.{Scenario as TheScenario, edge, edges,
 
 use crate::least::leads_to;
 use crate::scenario::Scenario;
+use sim_engine::Edge;
 use sqs_model::{ActorSettings, Role};
-use sqs_redrive::{Edge, Latency, Policy, QueueSettings, TaskSettings};
+use sqs_redrive::{Latency, Policy, QueueSettings, TaskSettings};
 use std::alloc::{AllocError, Global};
 
 /// Adds a way from one queue to another.

@@ -16,7 +16,7 @@ use Rattle.sqs_model.proofs.StepMoves.{key_self}
 use Rattle.sqs_model.proofs.WorldMoves.{is_due_least}
 use Rattle.sqs_model.specs.Dues.{poll_key}
 use Rattle.sqs_model.specs.Places.{IsAbsent, Stands, place_from_position}
-use Rattle.sqs_model.specs.Run.{is_due}
+use Rattle.sqs_model.specs.World.{is_due}
 use Rattle.sqs_model.specs.Site.{Poll}
 use Rattle.sqs_model.specs.Step.{ends_at}
 use Rattle.sim_site.specs.Marked.{AreMarked, AreMarkedBut, AreWaiting, IsFirstAt, IsSetAt, LeavesOne, end_mark, place_ends_at, waiting}

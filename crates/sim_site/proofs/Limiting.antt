@@ -16,7 +16,8 @@ use Rattle.sqs_model.specs.Acts.{all_came_back, came_back, given, hosts_from, go
 use Rattle.sqs_model.specs.Answers.{most_count}
 use Rattle.sqs_model.specs.Available.{available}
 use Rattle.sqs_model.specs.Draw.{Draws, drawn_latency}
-use Rattle.sqs_model.specs.Limits.{PassesCount, actor_count, greatest, rows_count, site_count, task_count}
+use Rattle.sqs_model.specs.Limits.{PassesCount, rows_count}
+use Rattle.sqs_model.specs.Counts.{actor_count, greatest, site_count, task_count}
 use Rattle.sqs_model.specs.Queue.{Queue, in_flight, room}
 use Rattle.sqs_model.specs.Receive.{answered, give, give_after, give_most, given_one, is_bad_timeout, receive, timeout_of}
 use Rattle.sqs_model.specs.Site.{Core, Effect, actor_numbered, and_then, is_task, task_numbered, with_actor, with_queue, with_task}

@@ -8,7 +8,8 @@ use Rattle.sim_clock.specs.Firsts.{changed}
 use Rattle.sqs_message.specs.declared.row.Row.{Row}
 use Rattle.sqs_model.specs.Actor.{Actor}
 use Rattle.sqs_model.specs.Answers.{most_count}
-use Rattle.sqs_model.specs.Limits.{PassesCount, actor_count, greatest, receipt_count, rows_count, site_count, task_count}
+use Rattle.sqs_model.specs.Limits.{PassesCount, rows_count}
+use Rattle.sqs_model.specs.Counts.{actor_count, greatest, receipt_count, site_count, task_count}
 use Rattle.sqs_model.specs.Site.{Core, Effect, actor_numbered, and_then, is_actor, is_task, task_numbered, with_actor, with_task}
 use Rattle.sqs_model.specs.Task.{Task}
 use Rattle.sqs_model.proofs.Growth.{Grows, grown}

@@ -3,7 +3,7 @@ use Rattle.std.specs.Prelude.{List, Ok, Result, [], drop, get_or, length, map, s
 use Rattle.std.proofs.Common.{ap, arith, refl}
 use Rattle.sim_clock.specs.declared.refusal.Refusal.{Refusal}
 use Rattle.sim_stage.specs.Meeting.{AreReached, IsReached, delivered_each}
-use Rattle.sqs_model.specs.Run.{delivered}
+use Rattle.sqs_model.specs.World.{delivered}
 use Rattle.sqs_model.specs.Site.{Site}
 use Rattle.sqs_redrive.specs.declared.transfers.Outbound.{Outbound}
 

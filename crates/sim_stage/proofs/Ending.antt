@@ -6,21 +6,22 @@ use Rattle.sim_clock.specs.declared.key.Key.{Key}
 use Rattle.sim_clock.specs.declared.refusal.Refusal.{Refusal}
 use Rattle.sim_exchange.specs.Layout.{Layout, owner_of}
 use Rattle.sim_exchange.specs.Table.{distance_in}
-use Rattle.sim_machine.specs.Machine.{Machine, flushed, is_finished}
-use Rattle.sim_machine.specs.Merge.{merged_all, row_cmp}
-use Rattle.sim_machine.specs.Parts.{part_of}
-use Rattle.sim_machine.specs.Prefixes.{is_before}
-use Rattle.sim_machine.specs.Theorems.{whole_of}
-use Rattle.sim_machine.specs.declared.picks.Pick.{Pick}
-use Rattle.sim_machine.proofs.Finished.{at_own_bounds}
-use Rattle.sim_machine.proofs.Holding.{holds_at_own_bounds}
-use Rattle.sim_machine.proofs.Parts.{one_number}
+use Rattle.sqs_model.specs.Machine.{Machine, flushed, is_finished}
+use Rattle.sqs_model.specs.Merge.{merged_all, row_cmp}
+use Rattle.sqs_model.specs.Parts.{part_of}
+use Rattle.sqs_model.specs.Prefixes.{is_before}
+use Rattle.sqs_model.specs.Theorems.{whole_of}
+use Rattle.sim_engine.specs.declared.picks.Pick.{Pick}
+use Rattle.sqs_model.proofs.Simulated.{finished_at_own_bounds}
+use Rattle.sqs_model.proofs.Simulated.{holds_at_own_bounds}
+use Rattle.sim_engine.proofs.Parts.{one_number}
 use Rattle.sim_stage.specs.Joining.{IsNumbered}
 use Rattle.sim_stage.specs.Stages.{Standing, Stands, delivered_by, machine_in}
 use Rattle.sim_stage.proofs.Meetings.{delivered_in, parts_in}
 use Rattle.sim_stage.proofs.Standing.{below}
 use Rattle.sqs_model.specs.Dues.{least_due}
-use Rattle.sqs_model.specs.Run.{IsRunOf, Run, after, delivered, delivered_one, handled_among, handled_here, handled_there, is_due, next_due, stepped_at}
+use Rattle.sqs_model.specs.Run.{IsRunOf, Run, after}
+use Rattle.sqs_model.specs.World.{delivered, delivered_one, handled_among, handled_here, handled_there, is_due, next_due, stepped_at}
 use Rattle.sqs_model.specs.Scenario.{Scenario, opening, opening_site}
 use Rattle.sqs_model.specs.Site.{Site}
 use Rattle.sqs_model.specs.Step.{handled}
@@ -28,10 +29,11 @@ use Rattle.sqs_model.proofs.Kept.{handled_number}
 use Rattle.sqs_redrive.specs.declared.settings.QueueSettings.{QueueSettings}
 use Rattle.sqs_redrive.specs.declared.transfers.Outbound.{Outbound}
 use Rattle.std.specs.List.{enumerate_from}
+use Rattle.sqs_model.proofs.Instance.{sqs_laws}
 
 numbered_one : (o : Outbound) (n : ℕ) (w : List Site) → IsNumbered n w → IsNumbered n (map (delivered_one o) w)
 numbered_one o n [] h = tt
-numbered_one o n (s ∷ ss) h = (one_number o s ∙ h.0, numbered_one o (n + 1) ss h.1)
+numbered_one o n (s ∷ ss) h = (one_number sqs_laws o s ∙ h.0, numbered_one o (n + 1) ss h.1)
 
 numbered_delivered : (os : List Outbound) (n : ℕ) (w : List Site) → IsNumbered n w → IsNumbered n (delivered os w)
 numbered_delivered [] n w h = h
@@ -71,7 +73,7 @@ module _ (s : Scenario) (done : List Pick) (g : Standing) (st : Stands s done g)
   whole = whole_of g.layout.parts (machine_in g.layout g.distances s done)
 
   pub is_whole : IsRunOf s (whole_of g.layout.parts (machine_in g.layout g.distances s done))
-  is_whole = at_own_bounds s st.sound (owner_of g.layout) g.layout.parts (below s done g st) (distance_in g.distances) st.distances done finished
+  is_whole = finished_at_own_bounds s st.sound (owner_of g.layout) g.layout.parts (below s done g st) (distance_in g.distances) st.distances done finished
 
   -- what is not settled are the rest of its rows
   pub rows_whole : filter (is_before g.settled) (whole_of g.layout.parts (machine_in g.layout g.distances s done)).rows ++ merged_all row_cmp g.rows ≡ (whole_of g.layout.parts (machine_in g.layout g.distances s done)).rows

@@ -8,29 +8,30 @@ use Rattle.sim_clock.specs.declared.key.Key.{Key}
 use Rattle.sim_clock.specs.Order.{due_before, lesser}
 use Rattle.sim_exchange.specs.Layout.{owner_of}
 use Rattle.sim_exchange.specs.Table.{distance_in}
-use Rattle.sim_machine.specs.Bounds.{least_bound, own_bound}
-use Rattle.sim_machine.specs.Kept.{IsAllFrom, KeepsBounds}
-use Rattle.sim_machine.specs.Machine.{Machine, flushed, has_ready, ready}
-use Rattle.sim_machine.specs.Merge.{merged_all, row_cmp}
-use Rattle.sim_machine.specs.Parts.{part_due}
-use Rattle.sim_machine.specs.Prefixes.{Holds, IsThrough, is_before, is_between}
-use Rattle.sim_machine.specs.Theorems.{rows_by}
-use Rattle.sim_machine.specs.declared.picks.Pick.{Pick}
-use Rattle.sim_machine.proofs.EarlyRows.{part_empty}
-use Rattle.sim_machine.proofs.Holding.{holds_at_own_bounds}
-use Rattle.sim_machine.proofs.Keeping.{machines_keep_bounds}
-use Rattle.sim_machine.proofs.OneList.{both_none}
-use Rattle.sim_machine.proofs.Parts.{before_lesser}
-use Rattle.sim_machine.proofs.ReadByParts.{machines_are_read_by_parts}
-use Rattle.sim_machine.proofs.Worlds.{not_before}
+use Rattle.sqs_model.specs.Bounds.{least_bound, own_bound}
+use Rattle.sqs_model.specs.Kept.{IsAllFrom, KeepsBounds}
+use Rattle.sqs_model.specs.Machine.{Machine, flushed, has_ready, ready}
+use Rattle.sqs_model.specs.Merge.{merged_all, row_cmp}
+use Rattle.sqs_model.specs.Parts.{part_due}
+use Rattle.sqs_model.specs.Prefixes.{Holds, IsThrough, is_before, is_between}
+use Rattle.sqs_model.specs.Theorems.{rows_by}
+use Rattle.sim_engine.specs.declared.picks.Pick.{Pick}
+use Rattle.sim_engine.proofs.EarlyRows.{part_empty}
+use Rattle.sqs_model.proofs.Simulated.{holds_at_own_bounds}
+use Rattle.sqs_model.proofs.Simulated.{machines_keep_bounds}
+use Rattle.sim_engine.proofs.OneList.{both_none}
+use Rattle.sim_engine.proofs.Parts.{before_lesser}
+use Rattle.sim_engine.proofs.ReadByParts.{machines_are_read_by_parts}
+use Rattle.sim_engine.proofs.Worlds.{not_before}
 use Rattle.sim_stage.specs.Stages.{AreNext, IsForward, Shows, Standing, Stands, front, is_from, machine_in, next_ready, settled_by, up_to}
 use Rattle.sim_stage.proofs.Least.{least_from, least_of_all, least_within}
 use Rattle.sim_stage.proofs.Picked.{filter_both, from_later}
 use Rattle.sim_stage.proofs.Places.{over, same_from}
 use Rattle.sim_stage.proofs.Standing.{below, none_ready_is}
-use Rattle.sqs_model.specs.Dues.{world_due}
+use Rattle.sqs_model.specs.World.{world_due}
 use Rattle.sqs_model.specs.Scenario.{Scenario}
 use Rattle.sqs_model.specs.Site.{Site}
+use Rattle.sqs_model.proofs.Instance.{sqs_laws}
 
 -- of two of which neither is due, none is
 none_of_none : (a b : Option Key) → a ≡ None → b ≡ None → lesser a b ≡ None
@@ -68,14 +69,14 @@ module _ (owner : ℕ → ℕ) (m : Machine) where
   none_least : (moment n : ℕ) → ((p : ℕ) → p < n → due_before moment (ready owner p m) ≡ None) → due_before moment (next_ready owner n m) ≡ None
   none_least moment zero h = refl
   none_least moment (suc p) h =
-      before_lesser moment (ready owner p m) (next_ready owner p m)
+      before_lesser sqs_laws moment (ready owner p m) (next_ready owner p m)
       ∙ none_of_none (due_before moment (ready owner p m)) (due_before moment (next_ready owner p m)) (h p (omega arith)) (none_least moment p (λ q l. h q (omega arith)))
 
   none_of_least : (moment n : ℕ) → due_before moment (next_ready owner n m) ≡ None → (p : ℕ) → p < n → due_before moment (ready owner p m) ≡ None
   none_of_least moment zero h p l = absurd (omega arith)
   none_of_least moment (suc q) h p l =
       let both : (due_before moment (ready owner q m) ≡ None) × (due_before moment (next_ready owner q m) ≡ None) =
-      both_none owner (due_before moment (ready owner q m)) (due_before moment (next_ready owner q m)) (sym (before_lesser moment (ready owner q m) (next_ready owner q m)) ∙ h) in
+      both_none sqs_laws owner (due_before moment (ready owner q m)) (due_before moment (next_ready owner q m)) (sym (before_lesser sqs_laws moment (ready owner q m) (next_ready owner q m)) ∙ h) in
       elim (cases_lt p q) as (λ _. due_before moment (ready owner p m) ≡ None) [
         | inl k ↦ none_of_least moment q both.1 p k
         | inr k ↦ let e : q ≡ p = omega arith in subst (λ x. due_before moment (ready owner x m) ≡ None) e both.0
@@ -89,7 +90,7 @@ module _ (owner : ℕ → ℕ) (m : Machine) where
   none_of_all : (n : ℕ) → next_ready owner n m ≡ None → (p : ℕ) → p < n → ready owner p m ≡ None
   none_of_all zero h p l = absurd (omega arith)
   none_of_all (suc q) h p l =
-      let both : (ready owner q m ≡ None) × (next_ready owner q m ≡ None) = both_none owner (ready owner q m) (next_ready owner q m) h in
+      let both : (ready owner q m ≡ None) × (next_ready owner q m ≡ None) = both_none sqs_laws owner (ready owner q m) (next_ready owner q m) h in
       elim (cases_lt p q) as (λ _. ready owner p m ≡ None) [
         | inl k ↦ none_of_all q both.1 p k
         | inr k ↦ let e : q ≡ p = omega arith in subst (λ x. ready owner x m ≡ None) e both.0
@@ -134,7 +135,7 @@ module _ (s : Scenario) (done : List Pick) (g : Standing) (st : Stands s done g)
   pub going_is : is_some (next_ready (owner_of g.layout) g.layout.parts (machine_in g.layout g.distances s done)) ≡ has_ready (owner_of g.layout) (machine_in g.layout g.distances s done)
   going_is =
       elim (has_ready o m) as (λ b. has_ready o m ≡ b → is_some (next_ready o n m) ≡ b) [
-        | false ↦ λ e. ap is_some (all_none o m n (λ p l. (machines_are_read_by_parts o n s.horizon m (below s done g st)).stopped e p))
+        | false ↦ λ e. ap is_some (all_none o m n (λ p l. (machines_are_read_by_parts sqs_laws o n s.horizon m (below s done g st)).stopped e p))
         | true ↦ λ e.
             elim (next_ready o n m) as (λ d. next_ready o n m ≡ d → is_some d ≡ true) [
               | Some k ↦ λ f. refl
@@ -161,7 +162,7 @@ module _ (s : Scenario) (done : List Pick) (g : Standing) (st : Stands s done g)
     none_in p =
         elim (cases_lt p n) as (λ _. due_before moment (part_due o p (flushed m)) ≡ None) [
           | inl l ↦ keeps.early p moment (through_it.bounds p l) ∙ through_it.none p l
-          | inr k ↦ ap (λ w. due_before moment (world_due w)) (part_empty o n p (below s done g st) (omega arith) (flushed m))
+          | inr k ↦ ap (λ w. due_before moment (world_due w)) (part_empty sqs_laws o n p (below s done g st) (omega arith) (flushed m))
         ]
 
     -- what is settled follows what was

@@ -7,7 +7,7 @@ use Rattle.std.proofs.lemmas.List.{append-nil, get_or-map, length-map, map-set, 
 use Rattle.std.proofs.lemmas.List.FromFn.{length-map-range_with_len}
 use Rattle.std.proofs.lemmas.List.Elements.{filter-append}
 use Rattle.sim_clock.specs.declared.refusal.Refusal.{Refusal}
-use Rattle.sim_machine.specs.Parts.{is_of, part_of}
+use Rattle.sqs_model.specs.Parts.{is_of, part_of}
 use Rattle.sim_partition.specs.Sites.{alive}
 use Rattle.sim_stage.specs.Joining.{IsNumbered}
 use Rattle.sim_stage.proofs.Places.{at_place, map_push, over, set_from}

@@ -4,9 +4,9 @@ use Rattle.std.proofs.Common.{ap, arith, inl, inr, refl, subst, ◌∙◌}
 use Rattle.std.proofs.lemmas.Bool.{cases_lt, le-ltb, leb-false, lt-leb}
 use Rattle.sim_clock.specs.declared.key.Key.{Key}
 use Rattle.sim_clock.specs.Order.{due_before}
-use Rattle.sim_machine.specs.Bounds.{bound_by, least_bound, reached}
-use Rattle.sqs_model.specs.Run.{due_by}
-use Rattle.sim_machine.proofs.Worlds.{not_before}
+use Rattle.sqs_model.specs.Bounds.{bound_by, least_bound, reached}
+use Rattle.sqs_model.specs.World.{due_by}
+use Rattle.sim_engine.proofs.Worlds.{not_before}
 
 pub same_bounds : (distance : ℕ → ℕ → Option ℕ) (horizon : ℕ) (a b : ℕ → Option ℕ) (p n : ℕ) → ((q : ℕ) → q < n → a q ≡ b q) → bound_by distance horizon a p n ≡ bound_by distance horizon b p n
 same_bounds distance horizon a b p zero h = refl

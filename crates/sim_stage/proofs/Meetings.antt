@@ -11,15 +11,15 @@ use Rattle.sim_clock.specs.declared.refusal.Refusal.{Refusal}
 use Rattle.sim_clock.specs.Order.{inserted_by, key_cmp}
 use Rattle.sim_exchange.specs.Layout.{owner_of}
 use Rattle.sim_exchange.specs.Table.{Table, distance_in}
-use Rattle.sim_machine.specs.Bounds.{bound_by, moment_of, own_bound}
-use Rattle.sim_machine.specs.Exchange.{exchanged, sorted, sorted_into, to_part}
-use Rattle.sim_machine.specs.Kept.{KeepsBounds}
-use Rattle.sim_machine.specs.Machine.{Machine, flushed, has_ready, is_finished, with_barrier}
-use Rattle.sim_machine.specs.Parts.{part_due, part_of}
-use Rattle.sim_machine.specs.declared.picks.Pick.{Pick}
-use Rattle.sim_machine.specs.declared.picks.Pick.TheVariants.{Barrier}
-use Rattle.sim_machine.proofs.Exchange.{parts_get_sorted}
-use Rattle.sim_machine.proofs.Keeping.{machines_keep_bounds}
+use Rattle.sqs_model.specs.Bounds.{bound_by, moment_of, own_bound}
+use Rattle.sqs_model.specs.Exchange.{exchanged, sorted, sorted_into, to_part}
+use Rattle.sqs_model.specs.Kept.{KeepsBounds}
+use Rattle.sqs_model.specs.Machine.{Machine, flushed, has_ready, is_finished, with_barrier}
+use Rattle.sqs_model.specs.Parts.{part_due, part_of}
+use Rattle.sim_engine.specs.declared.picks.Pick.{Pick}
+use Rattle.sim_engine.specs.declared.picks.Pick.TheVariants.{Barrier}
+use Rattle.sim_engine.proofs.Exchange.{parts_get_sorted}
+use Rattle.sqs_model.proofs.Simulated.{machines_keep_bounds}
 use Rattle.sim_partition.specs.Sites.{IsOfPast, due_in}
 use Rattle.sim_partition.proofs.Delivered.{past_delivered}
 use Rattle.sim_partition.proofs.Handled.{Timely}
@@ -30,11 +30,12 @@ use Rattle.sim_stage.proofs.Least.{same_bounds}
 use Rattle.sim_stage.proofs.Places.{at_place, delivered_places, over, reached_places, same_from}
 use Rattle.sim_stage.proofs.Standing.{below, more_picks, stands_on}
 use Rattle.sqs_model.specs.Progress.{AreTimely}
-use Rattle.sqs_model.specs.Run.{delivered}
+use Rattle.sqs_model.specs.World.{delivered}
 use Rattle.sqs_model.specs.Scenario.{Scenario}
 use Rattle.sqs_model.specs.Site.{Site}
 use Rattle.sqs_redrive.specs.declared.transfers.Outbound.{Outbound}
 use Rattle.sqs_redrive.specs.Transfers.{transfer_key}
+use Rattle.sqs_model.proofs.Instance.{sqs_laws}
 
 module _ {A : Type 0} (P : A → Type 0) (R : A → A → Ordering) where
   all_inserted : (x : A) (xs : List A) → P x → All P xs → All P (inserted_by R x xs)
@@ -128,7 +129,7 @@ module _ (s : Scenario) (done : List Pick) (g : Standing) (st : Stands s done g)
       ∙ ap (map (λ w. let x : Result (List Site) Refusal = Ok w in x)) (delivered_places sent_to (λ p. part_of o p m.sites) 0 n)
       ∙ over (λ w. let x : Result (List Site) Refusal = Ok w in x) (λ p. delivered (sent_to p) (part_of o p m.sites)) 0 n
       ∙ same_from (λ p. let x : Result (List Site) Refusal = Ok (delivered (sent_to p) (part_of o p m.sites)) in x) (λ p. Ok (part_of o p (flushed m))) 0 n
-      (λ p l k. ap (λ w. let x : Result (List Site) Refusal = Ok w in x) (sym (parts_get_sorted o p m.waiting m.sites)))
+      (λ p l k. ap (λ w. let x : Result (List Site) Refusal = Ok w in x) (sym (parts_get_sorted sqs_laws o p m.waiting m.sites)))
 
   pub many_delivered : length (delivered_by g parts_in).parts ≡ g.layout.parts
   many_delivered = ap (λ xs. length xs) delivered_in ∙ length-map-range_with_len (λ p. let x : Result (List Site) Refusal = Ok (part_of o p (flushed m)) in x) 0 n
@@ -149,7 +150,7 @@ module _ (s : Scenario) (done : List Pick) (g : Standing) (st : Stands s done g)
 
     past_in : (p : ℕ) → p < n → All (IsOfPast (rule (flushed m) p)) (part_of o p (flushed m))
     past_in p l =
-        subst (All (IsOfPast (rule (flushed m) p))) (sym (parts_get_sorted o p m.waiting m.sites))
+        subst (All (IsOfPast (rule (flushed m) p))) (sym (parts_get_sorted sqs_laws o p m.waiting m.sites))
         (past_later (m.bounds p) (rule (flushed m) p) (delivered (sent_to p) (part_of o p m.sites)) (keeps.grows stopped p)
         (past_delivered (m.bounds p) (sent_to p) (part_of o p m.sites) (timely_to p) (st.forward.past p l)))
 

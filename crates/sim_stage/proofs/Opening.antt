@@ -10,9 +10,9 @@ use Rattle.sim_clock.specs.declared.refusal.Refusal.{Refusal}
 use Rattle.sim_clock.specs.Order.{due_before}
 use Rattle.sim_exchange.specs.Layout.{IsLayout, Layout, owner_of}
 use Rattle.sim_exchange.specs.Table.{Table, distance_in}
-use Rattle.sim_machine.specs.Bounds.{AreDistances, own_bound}
-use Rattle.sim_machine.specs.Parts.{part_due, part_of}
-use Rattle.sim_machine.specs.Prefixes.{is_before}
+use Rattle.sqs_model.specs.Bounds.{AreDistances, own_bound}
+use Rattle.sqs_model.specs.Parts.{part_due, part_of}
+use Rattle.sqs_model.specs.Prefixes.{is_before}
 use Rattle.sim_partition.specs.Sites.{IsOfPast}
 use Rattle.sim_partition.proofs.Handled.{Timely}
 use Rattle.sim_stage.specs.Stages.{IsForward, IsOpened, Shows, Standing, Stands, machine_in}

@@ -4,7 +4,7 @@ use Rattle.std.proofs.Common.{ap, arith, refl, ◌∙◌}
 use Rattle.std.proofs.lemmas.Bool.{lt-ltb, ltb-true}
 use Rattle.std.proofs.lemmas.List.Elements.{All-head, All-tail}
 use Rattle.sqs_message.specs.declared.row.Row.{Row}
-use Rattle.sim_machine.specs.Prefixes.{is_before}
+use Rattle.sqs_model.specs.Prefixes.{is_before}
 use Rattle.sim_stage.specs.Stages.{is_from}
 
 module _ {A : Type 0} where

@@ -7,7 +7,7 @@ use Rattle.std.proofs.lemmas.List.FromFn.{get_or-map-range_with_len}
 use Rattle.std.proofs.lemmas.List.Elements.{All-head, All-tail}
 use Rattle.sim_clock.specs.declared.refusal.Refusal.{Refusal}
 use Rattle.sim_stage.specs.Meeting.{AreReached, IsReached, delivered_each}
-use Rattle.sqs_model.specs.Run.{delivered}
+use Rattle.sqs_model.specs.World.{delivered}
 use Rattle.sqs_model.specs.Site.{Site}
 use Rattle.sqs_redrive.specs.declared.transfers.Outbound.{Outbound}
 

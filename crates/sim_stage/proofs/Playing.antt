@@ -3,9 +3,9 @@ use Rattle.std.specs.Prelude.{Bool, List, [], false, if◌then◌else◌, true, 
 use Rattle.std.proofs.Common.{ap, append_assoc, refl, subst, sym, ◌∙◌}
 use Rattle.sim_exchange.specs.Layout.{Layout, owner_of}
 use Rattle.sim_exchange.specs.Table.{Table, distance_in}
-use Rattle.sim_machine.specs.Bounds.{own_bound}
-use Rattle.sim_machine.specs.Machine.{Machine, effects, played, played_all, takes_effect}
-use Rattle.sim_machine.specs.declared.picks.Pick.{Pick}
+use Rattle.sqs_model.specs.Bounds.{own_bound}
+use Rattle.sqs_model.specs.Machine.{Machine, effects, played, played_all, takes_effect}
+use Rattle.sim_engine.specs.declared.picks.Pick.{Pick}
 use Rattle.sim_stage.specs.Stages.{Played, Standing, Stands, Took, machine_in}
 use Rattle.sim_stage.proofs.Standing.{more_picks}
 use Rattle.sqs_model.specs.Scenario.{Scenario}

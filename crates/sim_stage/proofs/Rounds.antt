@@ -6,12 +6,12 @@ use Rattle.sim_clock.specs.declared.key.Key.{Key}
 use Rattle.sim_clock.specs.declared.refusal.Refusal.{Refusal}
 use Rattle.sim_clock.specs.Order.{due_before}
 use Rattle.sim_exchange.specs.Layout.{owner_of}
-use Rattle.sim_machine.specs.Machine.{ready}
-use Rattle.sim_machine.specs.Parts.{part_of}
-use Rattle.sim_machine.specs.Rounds.{PartRun, part_after, part_begun, part_on, part_ran_at}
-use Rattle.sim_machine.specs.declared.picks.Pick.TheVariants.{Part}
-use Rattle.sim_machine.proofs.Rounds.{some_later}
-use Rattle.sim_machine.proofs.Worlds.{before_some}
+use Rattle.sqs_model.specs.Machine.{ready}
+use Rattle.sqs_model.specs.Parts.{part_of}
+use Rattle.sqs_model.specs.Rounds.{PartRun, part_after, part_begun, part_on, part_ran_at}
+use Rattle.sim_engine.specs.declared.picks.Pick.TheVariants.{Part}
+use Rattle.sim_engine.proofs.Rounds.{some_later}
+use Rattle.sim_engine.proofs.Worlds.{before_some}
 use Rattle.sim_partition.specs.Sites.{AreOfPast, IsOfPast, due_in}
 use Rattle.sim_partition.proofs.Handled.{past_among}
 use Rattle.sim_partition.proofs.Moments.{IsAfter, from_handled, past_from}
@@ -19,9 +19,9 @@ use Rattle.sim_stage.specs.Stages.{Standing, Stands, StandsOn, machine_in}
 use Rattle.sim_stage.proofs.Standing.{many_parts, many_rows, part_at, ready_at}
 use Rattle.sim_stage.proofs.Stepping.{stepped_by, steps}
 use Rattle.sqs_message.specs.declared.row.Row.{Row}
-use Rattle.sqs_model.specs.Dues.{world_due}
+use Rattle.sqs_model.specs.World.{world_due}
 use Rattle.sqs_model.specs.Progress.{IsSound}
-use Rattle.sqs_model.specs.Run.{Stepped, handled_among}
+use Rattle.sqs_model.specs.World.{Stepped, handled_among}
 use Rattle.sqs_model.specs.Scenario.{Scenario}
 use Rattle.sqs_model.specs.Site.{Site}
 

@@ -7,23 +7,24 @@ use Rattle.sim_clock.specs.declared.refusal.Refusal.{Refusal}
 use Rattle.sim_clock.specs.Order.{due_before}
 use Rattle.sim_exchange.specs.Layout.{owner_of}
 use Rattle.sim_exchange.specs.Table.{distance_in}
-use Rattle.sim_machine.specs.Bounds.{least_bound, own_bound}
-use Rattle.sim_machine.specs.Machine.{Machine, has_ready, played_all, ready}
-use Rattle.sim_machine.specs.Parts.{part_due, part_of}
-use Rattle.sim_machine.specs.Theorems.{begun}
-use Rattle.sim_machine.specs.declared.picks.Pick.{Pick}
-use Rattle.sim_machine.proofs.EarlyRows.{part_empty}
-use Rattle.sim_machine.proofs.Keeping.{played_more}
-use Rattle.sim_machine.proofs.OneList.{part_none}
-use Rattle.sim_machine.proofs.ReadByParts.{machines_are_read_by_parts}
+use Rattle.sqs_model.specs.Bounds.{least_bound, own_bound}
+use Rattle.sqs_model.specs.Machine.{Machine, has_ready, played_all, ready}
+use Rattle.sqs_model.specs.Parts.{part_due, part_of}
+use Rattle.sqs_model.specs.Theorems.{begun}
+use Rattle.sim_engine.specs.declared.picks.Pick.{Pick}
+use Rattle.sim_engine.proofs.EarlyRows.{part_empty}
+use Rattle.sim_engine.proofs.Keeping.{played_more}
+use Rattle.sim_engine.proofs.OneList.{part_none}
+use Rattle.sim_engine.proofs.ReadByParts.{machines_are_read_by_parts}
 use Rattle.sim_partition.specs.Sites.{due_in}
 use Rattle.sim_stage.specs.Stages.{IsForward, Shows, Standing, Stands, machine_in}
 use Rattle.sim_stage.proofs.Least.{by_past, past_by, same_least}
 use Rattle.sim_stage.proofs.Places.{at_place, below_all}
-use Rattle.sqs_model.specs.Dues.{world_due}
-use Rattle.sqs_model.specs.Run.{due_by, next_due}
+use Rattle.sqs_model.specs.World.{world_due}
+use Rattle.sqs_model.specs.World.{due_by, next_due}
 use Rattle.sqs_model.specs.Scenario.{Scenario, opening}
 use Rattle.sqs_model.specs.Site.{Site}
+use Rattle.sqs_model.proofs.Instance.{sqs_laws}
 
 module _ (s : Scenario) (done : List Pick) (g : Standing) (st : Stands s done g) where
   -- each queue is in one of the partitions
@@ -55,7 +56,7 @@ module _ (s : Scenario) (done : List Pick) (g : Standing) (st : Stands s done g)
   pub none_past : (p : ℕ) → g.layout.parts ≤ p → ready (owner_of g.layout) p (machine_in g.layout g.distances s done) ≡ None
   none_past p l =
       let m : Machine = machine_in g.layout g.distances s done in
-      ap (λ w. due_before (m.bounds p) (world_due w)) (part_empty (owner_of g.layout) g.layout.parts p below l m.sites)
+      ap (λ w. due_before (m.bounds p) (world_due w)) (part_empty sqs_laws (owner_of g.layout) g.layout.parts p below l m.sites)
 
   -- some picks more
   pub more_picks :
@@ -63,7 +64,7 @@ module _ (s : Scenario) (done : List Pick) (g : Standing) (st : Stands s done g)
       → machine_in g.layout g.distances s (done ++ xs) ≡ played_all (owner_of g.layout) s.horizon (own_bound (owner_of g.layout) (distance_in g.distances) g.layout.parts s.horizon) xs (machine_in g.layout g.distances s done)
   more_picks xs =
       let rule : List Site → ℕ → ℕ = own_bound (owner_of g.layout) (distance_in g.distances) g.layout.parts s.horizon in
-      played_more (owner_of g.layout) s.horizon rule done xs (begun rule (opening s))
+      played_more sqs_laws (owner_of g.layout) s.horizon rule done xs (begun rule (opening s))
 
   -- picks that change nothing
   pub stands_on : (xs : List Pick) → machine_in g.layout g.distances s done ≡ machine_in g.layout g.distances s (done ++ xs) → Stands s (done ++ xs) g
@@ -81,7 +82,7 @@ module _ (s : Scenario) (done : List Pick) (g : Standing) (st : Stands s done g)
 
   -- where none of the partitions may handle anything, none may at all, and where one may, one may
   pub none_ready_is : ((p : ℕ) → p < g.layout.parts → ready (owner_of g.layout) p (machine_in g.layout g.distances s done) ≡ None) → has_ready (owner_of g.layout) (machine_in g.layout g.distances s done) ≡ false
-  none_ready_is h = (machines_are_read_by_parts (owner_of g.layout) g.layout.parts s.horizon (machine_in g.layout g.distances s done) below).stops h
+  none_ready_is h = (machines_are_read_by_parts sqs_laws (owner_of g.layout) g.layout.parts s.horizon (machine_in g.layout g.distances s done) below).stops h
 
   pub one_ready_is : (p : ℕ) → is_some (ready (owner_of g.layout) p (machine_in g.layout g.distances s done)) ≡ true → has_ready (owner_of g.layout) (machine_in g.layout g.distances s done) ≡ true
   one_ready_is p e =
@@ -89,7 +90,7 @@ module _ (s : Scenario) (done : List Pick) (g : Standing) (st : Stands s done g)
       elim (has_ready (owner_of g.layout) m) as (λ b. has_ready (owner_of g.layout) m ≡ b → b ≡ true) [
         | true ↦ λ f. refl
         | false ↦ λ f.
-            let none : ready (owner_of g.layout) p m ≡ None = (machines_are_read_by_parts (owner_of g.layout) g.layout.parts s.horizon m below).stopped f p in
+            let none : ready (owner_of g.layout) p m ≡ None = (machines_are_read_by_parts sqs_laws (owner_of g.layout) g.layout.parts s.horizon m below).stopped f p in
             absurd (true≢false (sym e ∙ ap is_some none))
       ] refl
 
@@ -99,7 +100,7 @@ module _ (s : Scenario) (done : List Pick) (g : Standing) (st : Stands s done g)
 
   -- where none has anything, nothing is due by it, and where one has, something is
   pub none_due_is : ((p : ℕ) → p < g.layout.parts → next_due s.horizon (part_of (owner_of g.layout) p (machine_in g.layout g.distances s done).sites) ≡ None) → next_due s.horizon (machine_in g.layout g.distances s done).sites ≡ None
-  none_due_is h = (machines_are_read_by_parts (owner_of g.layout) g.layout.parts s.horizon (machine_in g.layout g.distances s done) below).ends h
+  none_due_is h = (machines_are_read_by_parts sqs_laws (owner_of g.layout) g.layout.parts s.horizon (machine_in g.layout g.distances s done) below).ends h
 
   pub one_due_is : (p : ℕ) → is_some (next_due s.horizon (part_of (owner_of g.layout) p (machine_in g.layout g.distances s done).sites)) ≡ true → is_some (next_due s.horizon (machine_in g.layout g.distances s done).sites) ≡ true
   one_due_is p e =
@@ -108,7 +109,7 @@ module _ (s : Scenario) (done : List Pick) (g : Standing) (st : Stands s done g)
         | Some k ↦ λ f. refl
         | None ↦ λ f.
             let none : next_due s.horizon (part_of (owner_of g.layout) p m.sites) ≡ None =
-            by_past s.horizon (part_due (owner_of g.layout) p m.sites) (part_none (owner_of g.layout) (s.horizon + 1) p m.sites (past_by s.horizon (world_due m.sites) f)) in
+            by_past s.horizon (part_due (owner_of g.layout) p m.sites) (part_none sqs_laws (owner_of g.layout) (s.horizon + 1) p m.sites (past_by s.horizon (world_due m.sites) f)) in
             absurd (true≢false (sym e ∙ ap is_some none))
       ] refl
 

@@ -9,21 +9,21 @@ use Rattle.sim_clock.specs.declared.key.Key.{Key}
 use Rattle.sim_clock.specs.declared.refusal.Refusal.{Refusal}
 use Rattle.sim_exchange.specs.Layout.{owner_of}
 use Rattle.sim_exchange.specs.Table.{distance_in}
-use Rattle.sim_machine.specs.Bounds.{own_bound}
-use Rattle.sim_machine.specs.Kept.{StaysFrom}
-use Rattle.sim_machine.specs.Machine.{Machine, part_played, played_all, ready}
-use Rattle.sim_machine.specs.Parts.{handled_in, part_of}
-use Rattle.sim_machine.specs.Prefixes.{is_before, part_count}
-use Rattle.sim_machine.specs.Rounds.{part_begun, part_on, part_ran_at}
-use Rattle.sim_machine.specs.Theorems.{rows_by}
-use Rattle.sim_machine.specs.declared.picks.Pick.{Pick}
-use Rattle.sim_machine.specs.declared.picks.Pick.TheVariants.{Part}
-use Rattle.sim_machine.proofs.Holding.{holds_at_own_bounds}
-use Rattle.sim_machine.proofs.Keeping.{machines_keep_bounds, machines_stay_from}
-use Rattle.sim_machine.proofs.Worlds.{before_some}
-use Rattle.sim_machine.proofs.Machines.{before_at}
-use Rattle.sim_machine.proofs.Parts.{own}
-use Rattle.sim_machine.proofs.Rounds.{HasRun, part_runs}
+use Rattle.sqs_model.specs.Bounds.{own_bound}
+use Rattle.sqs_model.specs.Kept.{StaysFrom}
+use Rattle.sqs_model.specs.Machine.{Machine, part_played, played_all, ready}
+use Rattle.sqs_model.specs.Parts.{handled_in, part_of}
+use Rattle.sqs_model.specs.Prefixes.{is_before, part_count}
+use Rattle.sqs_model.specs.Rounds.{part_begun, part_on, part_ran_at}
+use Rattle.sqs_model.specs.Theorems.{rows_by}
+use Rattle.sim_engine.specs.declared.picks.Pick.{Pick}
+use Rattle.sim_engine.specs.declared.picks.Pick.TheVariants.{Part}
+use Rattle.sqs_model.proofs.Simulated.{holds_at_own_bounds}
+use Rattle.sqs_model.proofs.Simulated.{machines_keep_bounds, machines_stay_from}
+use Rattle.sim_engine.proofs.Worlds.{before_some}
+use Rattle.sim_engine.proofs.Machines.{before_at}
+use Rattle.sim_engine.proofs.Parts.{own}
+use Rattle.sim_engine.proofs.Rounds.{HasRun, part_runs}
 use Rattle.sim_partition.specs.Sites.{HasDue, IsOfPast}
 use Rattle.sim_partition.specs.Steps.{StopsStep, stepped_count}
 use Rattle.sim_site.specs.Effects.{StopsWhere}
@@ -35,12 +35,14 @@ use Rattle.sim_stage.proofs.Picked.{all_from}
 use Rattle.sim_stage.proofs.Places.{at_place, set_from}
 use Rattle.sim_stage.proofs.Standing.{below, more_picks, stands_on}
 use Rattle.sqs_message.specs.declared.row.Row.{Row}
-use Rattle.sqs_model.specs.Dues.{world_due}
+use Rattle.sqs_model.specs.World.{world_due}
 use Rattle.sqs_model.specs.Answers.{most_count}
 use Rattle.sqs_model.specs.Limits.{IsOver, rows_count, run_count, sites_count}
-use Rattle.sqs_model.specs.Run.{Stepped, after, handled_among}
+use Rattle.sqs_model.specs.Run.{after}
+use Rattle.sqs_model.specs.World.{Stepped, handled_among}
 use Rattle.sqs_model.specs.Scenario.{Scenario, opening}
 use Rattle.sqs_model.specs.Site.{Site}
+use Rattle.sqs_model.proofs.Instance.{sqs_laws}
 
 -- how a machine stands after the handling of a partition
 abbrev pub stepped_by : Standing → ℕ → Stepped → Standing
@@ -65,16 +67,16 @@ module _ (s : Scenario) (done : List Pick) (g : Standing) (st : Stands s done g)
   abbrev t : Stepped
   t = handled_among key (part_of (owner_of g.layout) p (machine_in g.layout g.distances s done).sites)
 
-  ran : HasRun o s.horizon rule p m (part_on (part_begun w) t) x
+  ran : HasRun sqs_laws o s.horizon rule p m (part_on (part_begun w) t) x
   ran =
-      subst (λ (y : Machine). HasRun o s.horizon rule p m (part_on (part_begun w) t) y) (sym (more_picks s done g st (Part p ∷ [])))
-      (subst (λ r. HasRun o s.horizon rule p m r (played_all o s.horizon rule (Part p ∷ []) m)) (ap (part_ran_at (part_begun w)) ready_is) (part_runs o s.horizon rule p 1 m))
+      subst (λ (y : Machine). HasRun sqs_laws o s.horizon rule p m (part_on (part_begun w) t) y) (sym (more_picks s done g st (Part p ∷ [])))
+      (subst (λ r. HasRun sqs_laws o s.horizon rule p m r (played_all o s.horizon rule (Part p ∷ []) m)) (ap (part_ran_at (part_begun w)) ready_is) (part_runs sqs_laws o s.horizon rule p 1 m))
 
   stays : StaysFrom o g.settled x (handled_in o p key m.sites)
   stays = machines_stay_from s st.sound o g.layout.parts (below s done g st) (distance_in g.distances) st.distances done g.settled p key st.forward.none ready_is
 
   late : All (λ r. is_before g.settled r ≡ false) t.rows
-  late = subst (All (λ r. is_before g.settled r ≡ false)) (own o p key m.sites).rows stays.rows
+  late = subst (All (λ r. is_before g.settled r ≡ false)) (own sqs_laws o p key m.sites).rows stays.rows
 
   abbrev rows_in : Machine → ℕ → List Row
   rows_in y q = filter (is_from g.settled) (rows_by y.told q)
@@ -165,7 +167,7 @@ module _ (s : Scenario) (done : List Pick) (g : Standing) (st : Stands s done g)
       let y : Machine = machine_in g.layout g.distances s (done ++ Part p ∷ []) in
       let w : List Site = part_of (owner_of g.layout) p (machine_in g.layout g.distances s done).sites in
       let t : Stepped = handled_among key w in
-      let r : HasRun (owner_of g.layout) s.horizon (own_bound (owner_of g.layout) (distance_in g.distances) g.layout.parts s.horizon) p (machine_in g.layout g.distances s done) (part_on (part_begun w) t) y = ran s done g st p l key ready_is in
+      let r : HasRun sqs_laws (owner_of g.layout) s.horizon (own_bound (owner_of g.layout) (distance_in g.distances) g.layout.parts s.horizon) p (machine_in g.layout g.distances s done) (part_on (part_begun w) t) y = ran s done g st p l key ready_is in
       let counts : (n : ℕ) × (part_count (owner_of g.layout) p y ≤ run_count (after s.horizon n (opening s))) =
       (holds_at_own_bounds s st.sound (owner_of g.layout) g.layout.parts (below s done g st) (distance_in g.distances) st.distances).counts (done ++ Part p ∷ []) p in
       let sites : sites_count t.sites ≤ sites_count (part_of (owner_of g.layout) p y.sites) = omega (arith, ap sites_count r.sites) in

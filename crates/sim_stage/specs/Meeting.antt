@@ -1,10 +1,10 @@
 -- Partitions of a world, by their numbers.
 use Rattle.std.specs.Prelude.{All, IfOk, List, Option, Result, [], map, ℕ, ◌∷◌}
 use Rattle.sim_clock.specs.declared.refusal.Refusal.{Refusal}
-use Rattle.sim_machine.specs.Bounds.{moment_of}
+use Rattle.sqs_model.specs.Bounds.{moment_of}
 use Rattle.sim_partition.specs.Sites.{IsOfPast, due_in}
 use Rattle.sqs_model.specs.Progress.{AreTimely}
-use Rattle.sqs_model.specs.Run.{delivered}
+use Rattle.sqs_model.specs.World.{delivered}
 use Rattle.sqs_model.specs.Site.{Site}
 use Rattle.sqs_redrive.specs.declared.transfers.Outbound.{Outbound}
 

@@ -6,15 +6,15 @@ use Rattle.sim_clock.specs.declared.refusal.Refusal.{Refusal}
 use Rattle.sim_clock.specs.Order.{lesser}
 use Rattle.sim_exchange.specs.Layout.{IsLayout, Layout, owner_of}
 use Rattle.sim_exchange.specs.Table.{Table, distance_in}
-use Rattle.sim_machine.specs.Bounds.{AreDistances, bound_by, least_bound, own_bound}
-use Rattle.sim_machine.specs.Exchange.{exchanged}
+use Rattle.sqs_model.specs.Bounds.{AreDistances, bound_by, least_bound, own_bound}
+use Rattle.sqs_model.specs.Exchange.{exchanged}
 use Rattle.sim_stage.specs.Meeting.{delivered_each, due_moments}
-use Rattle.sim_machine.specs.Machine.{Machine, effects, flushed, ready, takes_effect}
-use Rattle.sim_machine.specs.Kept.{IsAllFrom}
-use Rattle.sim_machine.specs.Parts.{part_of}
-use Rattle.sim_machine.specs.Prefixes.{is_before}
-use Rattle.sim_machine.specs.Theorems.{machine_of, rows_by}
-use Rattle.sim_machine.specs.declared.picks.Pick.{Pick}
+use Rattle.sqs_model.specs.Machine.{Machine, effects, flushed, ready, takes_effect}
+use Rattle.sqs_model.specs.Kept.{IsAllFrom}
+use Rattle.sqs_model.specs.Parts.{part_of}
+use Rattle.sqs_model.specs.Prefixes.{is_before}
+use Rattle.sqs_model.specs.Theorems.{machine_of, rows_by}
+use Rattle.sim_engine.specs.declared.picks.Pick.{Pick}
 use Rattle.sim_partition.specs.Sites.{IsOfPast, alive}
 use Rattle.sim_stage.specs.declared.stage.Stage.{Stage}
 use Rattle.sqs_redrive.specs.declared.transfers.Outbound.{Outbound}

@@ -2,7 +2,7 @@
 ghost use Rattle.std.specs.List.{range_with_len};
 ghost use Rattle.std.specs.Prelude.{◌≡◌, IfOk, List, Ok, map, reverse};
 ghost use Rattle.sim_exchange.specs.Layout.{owner_of};
-ghost use Rattle.sim_machine.specs.Parts.{part_of};
+ghost use Rattle.sqs_model.specs.Parts.{part_of};
 ghost use Rattle.sim_partition.specs.Sites.{alive};
 ghost use Rattle.sim_stage.specs.Joining.{IsNumbered};
 ghost use Rattle.sqs_model.specs.Site.{Site as TheSite};

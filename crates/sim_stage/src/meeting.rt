@@ -2,7 +2,7 @@
 ghost use Rattle.std.specs.List.{range_with_len};
 ghost use Rattle.std.specs.Prelude.{◌≡◌, ◌≤◌, ◌<◌, ◌+◌, ◌^◌, All, IfErr, IfOk, List, None, Ok, OnOk, [], get_or, length, map};
 ghost use Rattle.sim_exchange.specs.Table.{distance_in};
-ghost use Rattle.sim_machine.specs.Bounds.{bound_by, moment_of};
+ghost use Rattle.sqs_model.specs.Bounds.{bound_by, moment_of};
 ghost use Rattle.sim_partition.specs.Sites.{due_in};
 ghost use Rattle.sim_stage.specs.Meeting.{AreReached, delivered_each, due_moments};
 ghost use Rattle.sqs_model.specs.Site.{Site as TheSite};

@@ -1,8 +1,8 @@
 //! Rows of the log, partition by partition, that are settled: nothing may come before them any more.
 ghost use Rattle.std.specs.List.{list_all};
 ghost use Rattle.std.specs.Prelude.{◌≡◌, ◌++◌, IfOk, filter, map, not};
-ghost use Rattle.sim_machine.specs.Merge.{merged_all, row_cmp};
-ghost use Rattle.sim_machine.specs.Prefixes.{is_before};
+ghost use Rattle.sqs_model.specs.Merge.{merged_all, row_cmp};
+ghost use Rattle.sqs_model.specs.Prefixes.{is_before};
 
 use sim_exchange::merge_rows;
 use sqs_message::Row;

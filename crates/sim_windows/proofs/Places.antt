@@ -11,9 +11,9 @@ use Rattle.sim_partition.proofs.Moments.{past_later}
 use Rattle.sqs_redrive.specs.declared.transfers.Outbound.{Outbound}
 use Rattle.sqs_model.proofs.WorldMoves.{among_falls, world_in}
 use Rattle.sqs_model.specs.Answers.{most_count}
-use Rattle.sqs_model.specs.Dues.{world_due}
+use Rattle.sqs_model.specs.World.{world_due}
 use Rattle.sqs_model.specs.Progress.{Ascends, IsSound}
-use Rattle.sqs_model.specs.Run.{Stepped, handled_among}
+use Rattle.sqs_model.specs.World.{Stepped, handled_among}
 use Rattle.sqs_model.specs.Site.{Site}
 use Rattle.sim_windows.specs.Worlds.{AreOfPast, IsNumbered, IsOfPast, IsWorld, alive, sites_in}
 

@@ -7,9 +7,10 @@ use Rattle.std.proofs.lemmas.List.Elements.{All-weaker}
 use Rattle.sim_clock.specs.declared.key.Key.{Key}
 use Rattle.sqs_message.specs.declared.row.Row.{Row}
 use Rattle.sqs_redrive.specs.declared.transfers.Outbound.{Outbound}
-use Rattle.sqs_model.specs.Dues.{world_due}
+use Rattle.sqs_model.specs.World.{world_due}
 use Rattle.sqs_model.specs.Progress.{IsSound}
-use Rattle.sqs_model.specs.Run.{Run, Stepped, after, delivered, handled_among, next_due, run_on, stepped, stepped_at}
+use Rattle.sqs_model.specs.Run.{Run, after}
+use Rattle.sqs_model.specs.World.{Stepped, delivered, handled_among, next_due, run_on, stepped, stepped_at}
 use Rattle.sqs_model.specs.Site.{Site}
 use Rattle.sqs_model.proofs.Counts.{tick, tick_now, tick_past}
 use Rattle.sqs_model.proofs.WorldMoves.{FallsAmong, among_falls, delivered_count, delivered_sound, tick_key, world_count, world_in, world_none}

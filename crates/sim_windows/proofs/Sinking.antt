@@ -4,8 +4,9 @@ use Rattle.std.proofs.Common.{ap, arith, inl, inr, refl, subst, sym, ◌∙◌}
 use Rattle.sim_clock.specs.declared.key.Key.{Key}
 use Rattle.sim_clock.specs.declared.refusal.Refusal.{Refusal}
 use Rattle.sqs_message.specs.declared.row.Row.{Row}
-use Rattle.sqs_model.specs.Dues.{world_due}
-use Rattle.sqs_model.specs.Run.{Run, after, handled_among, next_due, run_on}
+use Rattle.sqs_model.specs.World.{world_due}
+use Rattle.sqs_model.specs.Run.{Run, after}
+use Rattle.sqs_model.specs.World.{handled_among, next_due, run_on}
 use Rattle.sqs_model.specs.Scenario.{Scenario, opening}
 use Rattle.sqs_model.specs.Site.{Site}
 use Rattle.sim_partition.specs.Steps.{StopsStep}

@@ -8,9 +8,11 @@ use Rattle.sim_partition.specs.Steps.{StopsStep}
 use Rattle.sim_site.proofs.Passing.{more_passes, rows_after, stops_for}
 use Rattle.sqs_model.proofs.Branches.{either}
 use Rattle.sqs_model.specs.Answers.{most_count}
-use Rattle.sqs_model.specs.Dues.{world_due}
-use Rattle.sqs_model.specs.Limits.{rows_count, run_count, site_count, sites_count}
-use Rattle.sqs_model.specs.Run.{Run, Stepped, after, delivered, delivered_one, handled_among}
+use Rattle.sqs_model.specs.World.{world_due}
+use Rattle.sqs_model.specs.Limits.{rows_count, run_count, sites_count}
+use Rattle.sqs_model.specs.Counts.{site_count}
+use Rattle.sqs_model.specs.Run.{Run, after}
+use Rattle.sqs_model.specs.World.{Stepped, delivered, delivered_one, handled_among}
 use Rattle.sqs_model.specs.Site.{Site, accepted, number_of}
 use Rattle.sim_windows.specs.Sinks.{StopsRun}
 use Rattle.sim_windows.proofs.Runs.{behind, joined, one_after}

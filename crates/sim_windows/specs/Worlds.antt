@@ -2,9 +2,9 @@
 use Rattle.std.specs.Prelude.{All, Err, List, None, Ok, Option, Result, Some, [], map, ℕ, ◌+◌, ◌∷◌, ◌≡◌}
 use Rattle.sim_clock.specs.declared.key.Key.{Key}
 use Rattle.sim_clock.specs.declared.refusal.Refusal.{Refusal}
-use Rattle.sqs_model.specs.Dues.{world_due}
+use Rattle.sqs_model.specs.World.{world_due}
 use Rattle.sqs_model.specs.Progress.{IsSound}
-use Rattle.sqs_model.specs.Run.{handled_among, run_on}
+use Rattle.sqs_model.specs.World.{handled_among, run_on}
 use Rattle.sqs_model.specs.Site.{Site, number_of}
 pub use Rattle.sim_partition.specs.Sites.{AreOfPast, IsFrom, IsLater, IsOfPast, alive, due_among, living}
 

@@ -1,9 +1,9 @@
 //! The run of a scenario on one thread.
 ghost use Rattle.std.specs.Prelude.{◌≡◌, ◌≤◌, All, IsNone, IsOk, Some, IfErr, IfOk, OnOk, ℕ};
 ghost use Rattle.sqs_model.specs.Answers.{most_count};
-ghost use Rattle.sqs_model.specs.Dues.{world_due};
+ghost use Rattle.sqs_model.specs.World.{world_due};
 ghost use Rattle.sqs_model.specs.Progress.{IsSound};
-ghost use Rattle.sqs_model.specs.Run.{next_due};
+ghost use Rattle.sqs_model.specs.World.{next_due};
 ghost use Rattle.sqs_model.specs.Scenario.{HasItsQueues};
 ghost use Rattle.sim_windows.specs.Sinks.{HasHalted, HasRun, HasStopped, HasTaken};
 ghost use Rattle.sim_windows.specs.Worlds.{IsFrom, IsLater, IsOfPast, sites_after, sites_in};

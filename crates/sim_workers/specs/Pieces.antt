@@ -5,7 +5,7 @@ use Rattle.sim_partition.specs.Sites.{AreOfPast}
 use Rattle.sim_partition.specs.Steps.{RanTo, StopsRun}
 use Rattle.sim_workers.specs.declared.piece.Came.{Came}
 use Rattle.sim_workers.specs.declared.piece.Done.{Done}
-use Rattle.sqs_model.specs.Dues.{world_due}
+use Rattle.sqs_model.specs.World.{world_due}
 use Rattle.sqs_model.specs.Progress.{IsSound}
 use Rattle.sqs_model.specs.Site.{Site}
 

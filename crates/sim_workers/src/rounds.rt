@@ -8,7 +8,7 @@ ghost use Rattle.sim_workers.specs.Owners.{IsAllFree, IsResting, AreResting, IsS
 ghost use Rattle.sim_workers.specs.Pieces.{Comes};
 ghost use Rattle.sim_workers.specs.Rounds.{HaveCome, IsRefusedRound, gravest, gravest_of};
 ghost use Rattle.sqs_model.specs.Answers.{most_count};
-ghost use Rattle.sqs_model.specs.Dues.{world_due};
+ghost use Rattle.sqs_model.specs.World.{world_due};
 ghost use Rattle.sqs_model.specs.Progress.{IsSound};
 
 use crate::gate::Gate;

@@ -1,5 +1,6 @@
 pub mod Shown
 pub mod Worked
+pub mod Machines
 pub mod ByHand
 pub mod Faults
 pub mod Vectors

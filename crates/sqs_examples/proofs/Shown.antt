@@ -16,7 +16,8 @@ use Rattle.sqs_model.specs.Dues.{dues, core_dues}
 use Rattle.sqs_model.specs.Acts.{act_made}
 use Rattle.sqs_model.specs.Step.{handle_class, handled}
 use Rattle.sqs_model.specs.Scenario.{Scenario, opening}
-use Rattle.sqs_model.specs.Run.{Run, after, next_due}
+use Rattle.sqs_model.specs.Run.{Run, after}
+use Rattle.sqs_model.specs.World.{next_due}
 use Rattle.sqs_model.specs.Finals.{finals_of}
 use Rattle.sqs_model.specs.Accounts.{origin_in, is_first, places}
 use Rattle.sqs_formats.specs.declared.faults.ScenarioFault.{ScenarioFault}

@@ -44,6 +44,20 @@ case_0_arrival_at_the_end_of_a_window : shown 4 [] (codes "version = 1\nhorizon 
 unfolding reading_on_literals running_on_literals columns_of
 case_0_arrival_at_the_end_of_a_window = refl
 
+-- worked/call_after_a_wait.toml
+case_0_call_after_a_wait : shown 3 [] (codes "version = 1\nhorizon = 30000\n[[queue]]\nname = 'q'\n[[actor]]\nname = 'a'\nkind = 'script'\nqueue = 'q'\ncalls = '''\nat,call,body,group,id,delay,receipt,max,wait,timeout,task\n0,receive,,,,,,,20,,\n20001,receive,,,,,,,,,\n'''\n")
+    ≡ ran (((codes "at") ∷ (codes "queue") ∷ (codes "agent") ∷ (codes "call") ∷ (codes "answer") ∷ (codes "message") ∷ (codes "receipt") ∷ (codes "detail") ∷ []) ∷
+    ((codes "0") ∷ (codes "q") ∷ (codes "a") ∷ (codes "receive") ∷ (codes "wait") ∷ [] ∷ [] ∷ [] ∷ []) ∷
+    ((codes "20000") ∷ (codes "q") ∷ (codes "a") ∷ (codes "receive") ∷ (codes "empty") ∷ [] ∷ [] ∷ [] ∷ []) ∷
+    ((codes "20001") ∷ (codes "q") ∷ (codes "a") ∷ (codes "receive") ∷ (codes "empty") ∷ [] ∷ [] ∷ [] ∷ []) ∷
+    ((codes "final") ∷ (codes "queue") ∷ (codes "message") ∷ (codes "origin") ∷ (codes "place") ∷ (codes "due") ∷ (codes "enqueued") ∷ (codes "receives") ∷ (codes "group") ∷ (codes "md5") ∷ []) ∷
+    ((codes "transfer") ∷ (codes "from") ∷ (codes "to") ∷ (codes "kind") ∷ (codes "due") ∷ (codes "number") ∷ (codes "message") ∷ (codes "origin") ∷ (codes "md5") ∷ []) ∷
+    ((codes "task") ∷ (codes "name") ∷ (codes "status") ∷ (codes "moved") ∷ []) ∷
+    ((codes "report") ∷ (codes "queue") ∷ (codes "sends") ∷ (codes "repeats") ∷ (codes "receives") ∷ (codes "empties") ∷ (codes "deletes") ∷ (codes "expiries") ∷ (codes "redrives") ∷ (codes "moves") ∷ (codes "arrivals") ∷ (codes "OverLimit") ∷ (codes "MessageNotInflight") ∷ (codes "ReceiptHandleIsInvalid") ∷ (codes "BadTimeout") ∷ (codes "MissingGroup") ∷ (codes "MissingDeduplication") ∷ (codes "BadDelay") ∷ (codes "TaskRunning") ∷ (codes "NoTask") ∷ (codes "depth_max") ∷ (codes "visible") ∷ (codes "in_flight") ∷ (codes "delayed") ∷ (codes "age_sum") ∷ (codes "age_max") ∷ (codes "age_p50") ∷ (codes "age_p95") ∷ (codes "age_p99") ∷ []) ∷
+    ((codes "report") ∷ (codes "q") ∷ (codes "0") ∷ (codes "0") ∷ (codes "0") ∷ (codes "2") ∷ (codes "0") ∷ (codes "0") ∷ (codes "0") ∷ (codes "0") ∷ (codes "0") ∷ (codes "0") ∷ (codes "0") ∷ (codes "0") ∷ (codes "0") ∷ (codes "0") ∷ (codes "0") ∷ (codes "0") ∷ (codes "0") ∷ (codes "0") ∷ (codes "0") ∷ (codes "0") ∷ (codes "0") ∷ (codes "0") ∷ (codes "0") ∷ [] ∷ [] ∷ [] ∷ [] ∷ []) ∷ [])
+unfolding reading_on_literals running_on_literals columns_of
+case_0_call_after_a_wait = refl
+
 -- worked/change_of_visibility.toml
 case_0_change_of_visibility : shown 8 [] (codes "version = 1\nhorizon = 1000\n[[queue]]\nname = '''q'''\n[[actor]]\nname = '''s'''\nkind = '''script'''\nqueue = '''q'''\ncalls = '''at,call,body,group,id,delay,receipt,max,wait,timeout,task\n0,send,abc,,,,,,,,\n100,receive,,,,,,,,,\n200,change,,,,,r-0-0-1,,,43201,\n250,change,,,,,r-0-0-1,,,43200,\n300,change,,,,,r-0-0-1,,,0,\n400,change,,,,,r-0-0-1,,,10,\n500,change,,,,,r-0-9-1,,,10,\n'''\n")
     ≡ ran (((codes "at") ∷ (codes "queue") ∷ (codes "agent") ∷ (codes "call") ∷ (codes "answer") ∷ (codes "message") ∷ (codes "receipt") ∷ (codes "detail") ∷ []) ∷
@@ -233,6 +247,25 @@ case_0_forward_between_queues : shown 8 [] (codes "version = 1\nhorizon = 1200\n
     ((codes "report") ∷ (codes "b") ∷ (codes "1") ∷ (codes "0") ∷ (codes "0") ∷ (codes "0") ∷ (codes "0") ∷ (codes "0") ∷ (codes "0") ∷ (codes "0") ∷ (codes "1") ∷ (codes "0") ∷ (codes "0") ∷ (codes "0") ∷ (codes "0") ∷ (codes "0") ∷ (codes "0") ∷ (codes "0") ∷ (codes "0") ∷ (codes "0") ∷ (codes "2") ∷ (codes "2") ∷ (codes "0") ∷ (codes "0") ∷ (codes "0") ∷ [] ∷ [] ∷ [] ∷ [] ∷ []) ∷ [])
 unfolding reading_on_literals running_on_literals columns_of
 case_0_forward_between_queues = refl
+
+-- worked/forward_to_an_earlier_queue.toml
+case_0_forward_to_an_earlier_queue : shown 6 [] (codes "version = 1\nhorizon = 1000\n[[queue]]\nname = 'a'\n[[queue]]\nname = 'b'\n[[actor]]\nname = 's'\nkind = 'script'\nqueue = 'b'\ncalls = '''\nat,call,body,group,id,delay,receipt,max,wait,timeout,task\n0,send,abc,,,,,,,,\n'''\n[[actor]]\nname = 'c'\nkind = 'consumer'\nqueue = 'b'\nstart_ms = 100\nservice_min_ms = 50\nservice_max_ms = 50\nidle_ms = 86400000\nforward = 'a'\nlatency_ms = 10\n")
+    ≡ ran (((codes "at") ∷ (codes "queue") ∷ (codes "agent") ∷ (codes "call") ∷ (codes "answer") ∷ (codes "message") ∷ (codes "receipt") ∷ (codes "detail") ∷ []) ∷
+    ((codes "0") ∷ (codes "b") ∷ (codes "s") ∷ (codes "send") ∷ (codes "new") ∷ (codes "m-1-0") ∷ [] ∷ digest (codes "abc") ∷ []) ∷
+    ((codes "100") ∷ (codes "b") ∷ (codes "c") ∷ (codes "receive") ∷ (codes "ok") ∷ (codes "m-1-0") ∷ (codes "r-1-0-1") ∷ (codes "o-1-0") ∷ []) ∷
+    ((codes "150") ∷ (codes "b") ∷ (codes "c") ∷ (codes "forward") ∷ (codes "out") ∷ (codes "m-1-0") ∷ [] ∷ (codes "a") ∷ []) ∷
+    ((codes "150") ∷ (codes "b") ∷ (codes "c") ∷ (codes "delete") ∷ (codes "deleted") ∷ (codes "m-1-0") ∷ (codes "r-1-0-1") ∷ (codes "150") ∷ []) ∷
+    ((codes "151") ∷ (codes "b") ∷ (codes "c") ∷ (codes "receive") ∷ (codes "empty") ∷ [] ∷ [] ∷ [] ∷ []) ∷
+    ((codes "160") ∷ (codes "a") ∷ (codes "c") ∷ (codes "arrive") ∷ (codes "new") ∷ (codes "m-0-0") ∷ [] ∷ (codes "o-0-0") ∷ []) ∷
+    ((codes "final") ∷ (codes "queue") ∷ (codes "message") ∷ (codes "origin") ∷ (codes "place") ∷ (codes "due") ∷ (codes "enqueued") ∷ (codes "receives") ∷ (codes "group") ∷ (codes "md5") ∷ []) ∷
+    ((codes "final") ∷ (codes "a") ∷ (codes "m-0-0") ∷ (codes "o-0-0") ∷ (codes "visible") ∷ [] ∷ (codes "160") ∷ (codes "0") ∷ [] ∷ digest (codes "abc") ∷ []) ∷
+    ((codes "transfer") ∷ (codes "from") ∷ (codes "to") ∷ (codes "kind") ∷ (codes "due") ∷ (codes "number") ∷ (codes "message") ∷ (codes "origin") ∷ (codes "md5") ∷ []) ∷
+    ((codes "task") ∷ (codes "name") ∷ (codes "status") ∷ (codes "moved") ∷ []) ∷
+    ((codes "report") ∷ (codes "queue") ∷ (codes "sends") ∷ (codes "repeats") ∷ (codes "receives") ∷ (codes "empties") ∷ (codes "deletes") ∷ (codes "expiries") ∷ (codes "redrives") ∷ (codes "moves") ∷ (codes "arrivals") ∷ (codes "OverLimit") ∷ (codes "MessageNotInflight") ∷ (codes "ReceiptHandleIsInvalid") ∷ (codes "BadTimeout") ∷ (codes "MissingGroup") ∷ (codes "MissingDeduplication") ∷ (codes "BadDelay") ∷ (codes "TaskRunning") ∷ (codes "NoTask") ∷ (codes "depth_max") ∷ (codes "visible") ∷ (codes "in_flight") ∷ (codes "delayed") ∷ (codes "age_sum") ∷ (codes "age_max") ∷ (codes "age_p50") ∷ (codes "age_p95") ∷ (codes "age_p99") ∷ []) ∷
+    ((codes "report") ∷ (codes "a") ∷ (codes "0") ∷ (codes "0") ∷ (codes "0") ∷ (codes "0") ∷ (codes "0") ∷ (codes "0") ∷ (codes "0") ∷ (codes "0") ∷ (codes "1") ∷ (codes "0") ∷ (codes "0") ∷ (codes "0") ∷ (codes "0") ∷ (codes "0") ∷ (codes "0") ∷ (codes "0") ∷ (codes "0") ∷ (codes "0") ∷ (codes "1") ∷ (codes "1") ∷ (codes "0") ∷ (codes "0") ∷ (codes "0") ∷ [] ∷ [] ∷ [] ∷ [] ∷ []) ∷
+    ((codes "report") ∷ (codes "b") ∷ (codes "1") ∷ (codes "0") ∷ (codes "1") ∷ (codes "1") ∷ (codes "1") ∷ (codes "0") ∷ (codes "0") ∷ (codes "0") ∷ (codes "0") ∷ (codes "0") ∷ (codes "0") ∷ (codes "0") ∷ (codes "0") ∷ (codes "0") ∷ (codes "0") ∷ (codes "0") ∷ (codes "0") ∷ (codes "0") ∷ (codes "1") ∷ (codes "0") ∷ (codes "0") ∷ (codes "0") ∷ (codes "150") ∷ (codes "150") ∷ (codes "150") ∷ (codes "150") ∷ (codes "150") ∷ []) ∷ [])
+unfolding reading_on_literals running_on_literals columns_of
+case_0_forward_to_an_earlier_queue = refl
 
 -- worked/forwards_in_a_cycle.toml
 case_0_forwards_in_a_cycle : shown 11 [] (codes "version = 1\nhorizon = 100\n[[queue]]\nname = '''a'''\n[[queue]]\nname = '''b'''\n[[actor]]\nname = '''p'''\nkind = '''script'''\nqueue = '''a'''\ncalls = '''at,call,body,group,id,delay,receipt,max,wait,timeout,task\n0,send,abc,,,,,,,,\n'''\n[[actor]]\nname = '''x'''\nkind = '''consumer'''\nqueue = '''a'''\nstart_ms = 1\nservice_min_ms = 14\nservice_max_ms = 14\nidle_ms = 86400000\nforward = '''b'''\nlatency_ms = 10\n[[actor]]\nname = '''y'''\nkind = '''consumer'''\nqueue = '''b'''\nstart_ms = 50\nservice_min_ms = 14\nservice_max_ms = 14\nforward = '''a'''\nlatency_ms = 10\n")
@@ -607,6 +640,25 @@ case_0_redrive_under_way_at_the_end : shown 5 [] (codes "version = 1\nhorizon = 
 unfolding reading_on_literals running_on_literals columns_of
 case_0_redrive_under_way_at_the_end = refl
 
+-- worked/repeat_then_one_in_flight.toml
+case_0_repeat_then_one_in_flight : shown 7 [] (codes "version = 1\nhorizon = 1000\n[[queue]]\nname = \"q.fifo\"\n[[actor]]\nname = \"s\"\nkind = \"script\"\nqueue = \"q.fifo\"\ncalls = \"\"\"\nat,call,body,group,id,delay,receipt,max,wait,timeout,task\n0,send,abc,g,x,,,,,,\n100,send,abc,g,x,,,,,,\n200,receive,,,,,,,,,\n300,send,abc,g,y,,,,,,\n400,receive,,,,,,,,,\n500,delete,,,,,r-0-0-1,,,,\n600,receive,,,,,,,,,\n\"\"\"\n")
+    ≡ ran (((codes "at") ∷ (codes "queue") ∷ (codes "agent") ∷ (codes "call") ∷ (codes "answer") ∷ (codes "message") ∷ (codes "receipt") ∷ (codes "detail") ∷ []) ∷
+    ((codes "0") ∷ (codes "q.fifo") ∷ (codes "s") ∷ (codes "send") ∷ (codes "new") ∷ (codes "m-0-0") ∷ [] ∷ digest (codes "abc") ∷ []) ∷
+    ((codes "100") ∷ (codes "q.fifo") ∷ (codes "s") ∷ (codes "send") ∷ (codes "repeat") ∷ (codes "m-0-0") ∷ [] ∷ digest (codes "abc") ∷ []) ∷
+    ((codes "200") ∷ (codes "q.fifo") ∷ (codes "s") ∷ (codes "receive") ∷ (codes "ok") ∷ (codes "m-0-0") ∷ (codes "r-0-0-1") ∷ (codes "o-0-0") ∷ []) ∷
+    ((codes "300") ∷ (codes "q.fifo") ∷ (codes "s") ∷ (codes "send") ∷ (codes "new") ∷ (codes "m-0-1") ∷ [] ∷ digest (codes "abc") ∷ []) ∷
+    ((codes "400") ∷ (codes "q.fifo") ∷ (codes "s") ∷ (codes "receive") ∷ (codes "empty") ∷ [] ∷ [] ∷ [] ∷ []) ∷
+    ((codes "500") ∷ (codes "q.fifo") ∷ (codes "s") ∷ (codes "delete") ∷ (codes "deleted") ∷ (codes "m-0-0") ∷ (codes "r-0-0-1") ∷ (codes "500") ∷ []) ∷
+    ((codes "600") ∷ (codes "q.fifo") ∷ (codes "s") ∷ (codes "receive") ∷ (codes "ok") ∷ (codes "m-0-1") ∷ (codes "r-0-1-1") ∷ (codes "o-0-1") ∷ []) ∷
+    ((codes "final") ∷ (codes "queue") ∷ (codes "message") ∷ (codes "origin") ∷ (codes "place") ∷ (codes "due") ∷ (codes "enqueued") ∷ (codes "receives") ∷ (codes "group") ∷ (codes "md5") ∷ []) ∷
+    ((codes "final") ∷ (codes "q.fifo") ∷ (codes "m-0-1") ∷ (codes "o-0-1") ∷ (codes "inflight") ∷ (codes "30600") ∷ (codes "300") ∷ (codes "1") ∷ (codes "g") ∷ digest (codes "abc") ∷ []) ∷
+    ((codes "transfer") ∷ (codes "from") ∷ (codes "to") ∷ (codes "kind") ∷ (codes "due") ∷ (codes "number") ∷ (codes "message") ∷ (codes "origin") ∷ (codes "md5") ∷ []) ∷
+    ((codes "task") ∷ (codes "name") ∷ (codes "status") ∷ (codes "moved") ∷ []) ∷
+    ((codes "report") ∷ (codes "queue") ∷ (codes "sends") ∷ (codes "repeats") ∷ (codes "receives") ∷ (codes "empties") ∷ (codes "deletes") ∷ (codes "expiries") ∷ (codes "redrives") ∷ (codes "moves") ∷ (codes "arrivals") ∷ (codes "OverLimit") ∷ (codes "MessageNotInflight") ∷ (codes "ReceiptHandleIsInvalid") ∷ (codes "BadTimeout") ∷ (codes "MissingGroup") ∷ (codes "MissingDeduplication") ∷ (codes "BadDelay") ∷ (codes "TaskRunning") ∷ (codes "NoTask") ∷ (codes "depth_max") ∷ (codes "visible") ∷ (codes "in_flight") ∷ (codes "delayed") ∷ (codes "age_sum") ∷ (codes "age_max") ∷ (codes "age_p50") ∷ (codes "age_p95") ∷ (codes "age_p99") ∷ []) ∷
+    ((codes "report") ∷ (codes "q.fifo") ∷ (codes "2") ∷ (codes "1") ∷ (codes "2") ∷ (codes "1") ∷ (codes "1") ∷ (codes "0") ∷ (codes "0") ∷ (codes "0") ∷ (codes "0") ∷ (codes "0") ∷ (codes "0") ∷ (codes "0") ∷ (codes "0") ∷ (codes "0") ∷ (codes "0") ∷ (codes "0") ∷ (codes "0") ∷ (codes "0") ∷ (codes "2") ∷ (codes "0") ∷ (codes "1") ∷ (codes "0") ∷ (codes "500") ∷ (codes "500") ∷ (codes "500") ∷ (codes "500") ∷ (codes "500") ∷ []) ∷ [])
+unfolding reading_on_literals running_on_literals columns_of
+case_0_repeat_then_one_in_flight = refl
+
 -- worked/sampled_hosts.toml
 case_0_sampled_hosts : shown 7 [] (codes "version = 1\nhorizon = 1000\n[[queue]]\nname = '''q'''\nhosts = 4\nsampled = 1\n[[actor]]\nname = '''s'''\nkind = '''script'''\nqueue = '''q'''\ncalls = '''at,call,body,group,id,delay,receipt,max,wait,timeout,task\n0,send,abc,,,,,,,,\n1,send,abc,,,,,,,,\n2,send,abc,,,,,,,,\n100,receive,,,,,,10,,,\n200,receive,,,,,,10,,,\n300,receive,,,,,,10,1,,\n'''\n")
     ≡ ran (((codes "at") ∷ (codes "queue") ∷ (codes "agent") ∷ (codes "call") ∷ (codes "answer") ∷ (codes "message") ∷ (codes "receipt") ∷ (codes "detail") ∷ []) ∷
@@ -643,6 +695,37 @@ case_0_samples : shown 4 [] (codes "version = 1\nhorizon = 1000\nsample = 500\n[
     ((codes "report") ∷ (codes "q") ∷ (codes "1") ∷ (codes "0") ∷ (codes "0") ∷ (codes "0") ∷ (codes "0") ∷ (codes "0") ∷ (codes "0") ∷ (codes "0") ∷ (codes "0") ∷ (codes "0") ∷ (codes "0") ∷ (codes "0") ∷ (codes "0") ∷ (codes "0") ∷ (codes "0") ∷ (codes "0") ∷ (codes "0") ∷ (codes "0") ∷ (codes "1") ∷ (codes "1") ∷ (codes "0") ∷ (codes "0") ∷ (codes "0") ∷ [] ∷ [] ∷ [] ∷ [] ∷ []) ∷ [])
 unfolding reading_on_literals running_on_literals columns_of
 case_0_samples = refl
+
+-- worked/script_without_calls.toml
+case_0_script_without_calls : shown 0 [] (codes "version = 1\nhorizon = 90\n[[queue]]\nname = 'q'\n[[actor]]\nname = 'a'\nkind = 'script'\nqueue = 'q'\ncalls = '''\nat,call,body,group,id,delay,receipt,max,wait,timeout,task\n'''\n")
+    ≡ ran (((codes "at") ∷ (codes "queue") ∷ (codes "agent") ∷ (codes "call") ∷ (codes "answer") ∷ (codes "message") ∷ (codes "receipt") ∷ (codes "detail") ∷ []) ∷
+    ((codes "final") ∷ (codes "queue") ∷ (codes "message") ∷ (codes "origin") ∷ (codes "place") ∷ (codes "due") ∷ (codes "enqueued") ∷ (codes "receives") ∷ (codes "group") ∷ (codes "md5") ∷ []) ∷
+    ((codes "transfer") ∷ (codes "from") ∷ (codes "to") ∷ (codes "kind") ∷ (codes "due") ∷ (codes "number") ∷ (codes "message") ∷ (codes "origin") ∷ (codes "md5") ∷ []) ∷
+    ((codes "task") ∷ (codes "name") ∷ (codes "status") ∷ (codes "moved") ∷ []) ∷
+    ((codes "report") ∷ (codes "queue") ∷ (codes "sends") ∷ (codes "repeats") ∷ (codes "receives") ∷ (codes "empties") ∷ (codes "deletes") ∷ (codes "expiries") ∷ (codes "redrives") ∷ (codes "moves") ∷ (codes "arrivals") ∷ (codes "OverLimit") ∷ (codes "MessageNotInflight") ∷ (codes "ReceiptHandleIsInvalid") ∷ (codes "BadTimeout") ∷ (codes "MissingGroup") ∷ (codes "MissingDeduplication") ∷ (codes "BadDelay") ∷ (codes "TaskRunning") ∷ (codes "NoTask") ∷ (codes "depth_max") ∷ (codes "visible") ∷ (codes "in_flight") ∷ (codes "delayed") ∷ (codes "age_sum") ∷ (codes "age_max") ∷ (codes "age_p50") ∷ (codes "age_p95") ∷ (codes "age_p99") ∷ []) ∷
+    ((codes "report") ∷ (codes "q") ∷ (codes "0") ∷ (codes "0") ∷ (codes "0") ∷ (codes "0") ∷ (codes "0") ∷ (codes "0") ∷ (codes "0") ∷ (codes "0") ∷ (codes "0") ∷ (codes "0") ∷ (codes "0") ∷ (codes "0") ∷ (codes "0") ∷ (codes "0") ∷ (codes "0") ∷ (codes "0") ∷ (codes "0") ∷ (codes "0") ∷ (codes "0") ∷ (codes "0") ∷ (codes "0") ∷ (codes "0") ∷ (codes "0") ∷ [] ∷ [] ∷ [] ∷ [] ∷ []) ∷ [])
+unfolding reading_on_literals running_on_literals columns_of
+case_0_script_without_calls = refl
+
+-- worked/second_of_two_tasks.toml
+case_0_second_of_two_tasks : shown 5 [] (codes "version = 1\nhorizon = 1200\n[[queue]]\nname = 'q'\ndead_letter = 'd'\nmax_receives = 1\nlatency_ms = 5\n[[queue]]\nname = 'd'\n[[actor]]\nname = 'a'\nkind = 'script'\nqueue = 'd'\ncalls = '''\nat,call,body,group,id,delay,receipt,max,wait,timeout,task\n5,send,hi,,,,,,,,\n6,start,,,,,,,,,mover\n'''\n[[task]]\nname = 'other'\nqueue = 'd'\nlatency_ms = 1\n[[task]]\nname = 'mover'\nqueue = 'd'\nto = 'q'\nlatency_ms = 100\n")
+    ≡ ran (((codes "at") ∷ (codes "queue") ∷ (codes "agent") ∷ (codes "call") ∷ (codes "answer") ∷ (codes "message") ∷ (codes "receipt") ∷ (codes "detail") ∷ []) ∷
+    ((codes "5") ∷ (codes "d") ∷ (codes "a") ∷ (codes "send") ∷ (codes "new") ∷ (codes "m-1-0") ∷ [] ∷ digest (codes "hi") ∷ []) ∷
+    ((codes "6") ∷ (codes "d") ∷ (codes "a") ∷ (codes "start") ∷ (codes "ok") ∷ [] ∷ [] ∷ (codes "mover") ∷ []) ∷
+    ((codes "1006") ∷ (codes "d") ∷ (codes "mover") ∷ (codes "move") ∷ (codes "out") ∷ (codes "m-1-0") ∷ [] ∷ (codes "q") ∷ []) ∷
+    ((codes "1006") ∷ (codes "d") ∷ (codes "mover") ∷ (codes "task") ∷ (codes "Completed") ∷ [] ∷ [] ∷ (codes "1") ∷ []) ∷
+    ((codes "1106") ∷ (codes "q") ∷ (codes "mover") ∷ (codes "arrive") ∷ (codes "new") ∷ (codes "m-0-0") ∷ [] ∷ (codes "o-1-0") ∷ []) ∷
+    ((codes "final") ∷ (codes "queue") ∷ (codes "message") ∷ (codes "origin") ∷ (codes "place") ∷ (codes "due") ∷ (codes "enqueued") ∷ (codes "receives") ∷ (codes "group") ∷ (codes "md5") ∷ []) ∷
+    ((codes "final") ∷ (codes "q") ∷ (codes "m-0-0") ∷ (codes "o-1-0") ∷ (codes "visible") ∷ [] ∷ (codes "1106") ∷ (codes "0") ∷ [] ∷ digest (codes "hi") ∷ []) ∷
+    ((codes "transfer") ∷ (codes "from") ∷ (codes "to") ∷ (codes "kind") ∷ (codes "due") ∷ (codes "number") ∷ (codes "message") ∷ (codes "origin") ∷ (codes "md5") ∷ []) ∷
+    ((codes "task") ∷ (codes "name") ∷ (codes "status") ∷ (codes "moved") ∷ []) ∷
+    ((codes "task") ∷ (codes "other") ∷ (codes "Idle") ∷ (codes "0") ∷ []) ∷
+    ((codes "task") ∷ (codes "mover") ∷ (codes "Completed") ∷ (codes "1") ∷ []) ∷
+    ((codes "report") ∷ (codes "queue") ∷ (codes "sends") ∷ (codes "repeats") ∷ (codes "receives") ∷ (codes "empties") ∷ (codes "deletes") ∷ (codes "expiries") ∷ (codes "redrives") ∷ (codes "moves") ∷ (codes "arrivals") ∷ (codes "OverLimit") ∷ (codes "MessageNotInflight") ∷ (codes "ReceiptHandleIsInvalid") ∷ (codes "BadTimeout") ∷ (codes "MissingGroup") ∷ (codes "MissingDeduplication") ∷ (codes "BadDelay") ∷ (codes "TaskRunning") ∷ (codes "NoTask") ∷ (codes "depth_max") ∷ (codes "visible") ∷ (codes "in_flight") ∷ (codes "delayed") ∷ (codes "age_sum") ∷ (codes "age_max") ∷ (codes "age_p50") ∷ (codes "age_p95") ∷ (codes "age_p99") ∷ []) ∷
+    ((codes "report") ∷ (codes "q") ∷ (codes "0") ∷ (codes "0") ∷ (codes "0") ∷ (codes "0") ∷ (codes "0") ∷ (codes "0") ∷ (codes "0") ∷ (codes "0") ∷ (codes "1") ∷ (codes "0") ∷ (codes "0") ∷ (codes "0") ∷ (codes "0") ∷ (codes "0") ∷ (codes "0") ∷ (codes "0") ∷ (codes "0") ∷ (codes "0") ∷ (codes "1") ∷ (codes "1") ∷ (codes "0") ∷ (codes "0") ∷ (codes "0") ∷ [] ∷ [] ∷ [] ∷ [] ∷ []) ∷
+    ((codes "report") ∷ (codes "d") ∷ (codes "1") ∷ (codes "0") ∷ (codes "0") ∷ (codes "0") ∷ (codes "0") ∷ (codes "0") ∷ (codes "0") ∷ (codes "1") ∷ (codes "0") ∷ (codes "0") ∷ (codes "0") ∷ (codes "0") ∷ (codes "0") ∷ (codes "0") ∷ (codes "0") ∷ (codes "0") ∷ (codes "0") ∷ (codes "0") ∷ (codes "1") ∷ (codes "0") ∷ (codes "0") ∷ (codes "0") ∷ (codes "0") ∷ [] ∷ [] ∷ [] ∷ [] ∷ []) ∷ [])
+unfolding reading_on_literals running_on_literals columns_of
+case_0_second_of_two_tasks = refl
 
 -- worked/standard_delete_after_release.toml
 case_0_standard_delete_after_release : shown 4 [] (codes "version = 1\nhorizon = 2000\n[[queue]]\nname = '''q'''\nvisibility_s = 1\n[[actor]]\nname = '''s'''\nkind = '''script'''\nqueue = '''q'''\ncalls = '''at,call,body,group,id,delay,receipt,max,wait,timeout,task\n0,send,abc,,,,,,,,\n100,receive,,,,,,,,,\n1200,delete,,,,,r-0-0-1,,,,\n'''\n")

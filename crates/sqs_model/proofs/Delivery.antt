@@ -1,19 +1,17 @@
 -- Delivery of a transfer, beside other deliveries and beside handlings.
-use Rattle.std.proofs.Common.{◌≡◌, ℕ, ◌≤◌, Some, Bool, true, false, List, [], ◌∷◌, refl, ap, map, if◌then◌else◌, ◌∙◌}
-use Rattle.std.specs.Prelude.{◌==◌}
+use Rattle.std.proofs.Common.{◌≡◌, Some, Bool, true, false, refl, ap}
 use Rattle.std.specs.Cmp.{IsTotalOrder}
 use Rattle.std.specs.Ordering.{on}
 use Rattle.std.proofs.lemmas.Cmp.{on_total}
 use Rattle.sim_clock.specs.declared.key.Key.{Key}
-use Rattle.sim_clock.specs.Order.{key_cmp, key_cmp_total, same_key, lesser, due_before}
+use Rattle.sim_clock.specs.Order.{key_cmp, key_cmp_total, same_key, lesser}
 use Rattle.sim_clock.proofs.Inserted.{inserted_swap, find_inserted, without_inserted, ordered_inserted, ordered_without}
-use Rattle.sim_clock.proofs.Least.{least_inserted, key_tied, due_before_lesser}
+use Rattle.sim_clock.proofs.Least.{least_inserted, key_tied}
 use Rattle.sqs_redrive.specs.declared.transfers.Outbound.{Outbound}
 use Rattle.sqs_redrive.specs.Transfers.{transfer_key}
-use Rattle.sqs_model.specs.Site.{Site, accepted, has_key, number_of}
+use Rattle.sqs_model.specs.Site.{Site, accepted, has_key}
 use Rattle.sqs_model.specs.Dues.{dues, core_dues, least_due}
 use Rattle.sqs_model.specs.Step.{handled, handled_when}
-use Rattle.sqs_model.specs.Run.{delivered, delivered_one}
 use Rattle.sqs_model.specs.Delivery.{IsSorted, with_accepted}
 
 by_key_total : IsTotalOrder (on transfer_key key_cmp)
@@ -25,25 +23,6 @@ accepted_sorted o s w = ordered_inserted by_key_total o s.arriving w
 -- two deliveries in either order
 pub accepted_swap : (o p : Outbound) (s : Site) → same_key (transfer_key o) (transfer_key p) ≡ false → accepted o (accepted p s) ≡ accepted p (accepted o s)
 accepted_swap o p s n = ap (λ w. record s { arriving = w }) (inserted_swap by_key_total o p s.arriving n)
-
-swap_when :
-    (o p : Outbound) (s : Site) (a b : Bool) → same_key (transfer_key o) (transfer_key p) ≡ false
-    → (o.to == number_of s.core) ≡ a → (p.to == number_of s.core) ≡ b
-    → delivered_one o (if b then accepted p s else s) ≡ delivered_one p (if a then accepted o s else s)
-swap_when o p s true true n h k = rw (h, k) (accepted_swap o p s n)
-swap_when o p s true false n h k = rw (h, k) refl
-swap_when o p s false true n h k = rw (h, k) refl
-swap_when o p s false false n h k = rw (h, k) refl
-
-pub delivered_one_swap : (o p : Outbound) (s : Site) → same_key (transfer_key o) (transfer_key p) ≡ false → delivered_one o (delivered_one p s) ≡ delivered_one p (delivered_one o s)
-delivered_one_swap o p s n = swap_when o p s _ _ n refl refl
-
-pub sites_swap : (o p : Outbound) (sites : List Site) → same_key (transfer_key o) (transfer_key p) ≡ false → map (delivered_one o) (map (delivered_one p) sites) ≡ map (delivered_one p) (map (delivered_one o) sites)
-sites_swap o p [] n = refl
-sites_swap o p (s ∷ ss) n = rw (delivered_one_swap o p s n, sites_swap o p ss n) refl
-
-pub delivered_swap : (o p : Outbound) (os : List Outbound) (sites : List Site) → same_key (transfer_key p) (transfer_key o) ≡ false → delivered (o ∷ (p ∷ os)) sites ≡ delivered (p ∷ (o ∷ os)) sites
-delivered_swap o p os sites n = ap (delivered os) (sites_swap p o sites n)
 
 -- a handling and the delivery of a transfer that isn't handled by it, in either order
 handled_accepted_when :
@@ -71,7 +50,3 @@ handled_sorted key s w = sorted_when key s _ w
 pub least_due_accepted : (o : Outbound) (s : Site) → least_due (accepted o s) ≡ lesser (Some (transfer_key o)) (least_due s)
 unfolding dues
 least_due_accepted o s = least_inserted key_cmp_total key_tied transfer_key o s.arriving (core_dues s.core)
-
--- a transfer that arrives at a moment or later changes nothing of what is due before it
-pub due_before_accepted : (e : ℕ) (o : Outbound) (s : Site) → e ≤ o.at → due_before e (least_due (accepted o s)) ≡ due_before e (least_due s)
-due_before_accepted e o s l = ap (due_before e) (least_due_accepted o s) ∙ due_before_lesser e (transfer_key o) (least_due s) l

@@ -39,7 +39,8 @@ use Rattle.sqs_model.specs.Actor.{Actor, Asked, Ended, Served, Stage, consumer_g
 use Rattle.sqs_model.specs.Acts.{Made, act_made, made, runs, receive_row, task_row, with_poll, all_came_back, came_back, cancel_done, cancel_made, change_answered, change_made, delete_made, given, long_poll, receive_as, receive_made, receive_none, receive_some, redrive_by, serve_made, short_poll, start_made}
 use Rattle.sqs_model.specs.Available.{all_available, all_hosts, available}
 use Rattle.sqs_model.specs.Draw.{Draws, drawn_chance, drawn_latency, drawn_uniform}
-use Rattle.sqs_model.specs.Limits.{CountsOnlyGrow, actor_count, greatest, site_count, task_count}
+use Rattle.sqs_model.specs.Limits.{CountsOnlyGrow}
+use Rattle.sqs_model.specs.Counts.{actor_count, greatest, site_count, task_count}
 use Rattle.sqs_model.specs.Polls.{acts_found, acts_most, acts_next, answer_polls, answer_when, poll_given, told, without_poll}
 use Rattle.sqs_model.specs.Queue.{Queue, room}
 use Rattle.sqs_model.specs.Receive.{timeout_of}

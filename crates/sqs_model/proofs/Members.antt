@@ -3,7 +3,8 @@ use Rattle.std.specs.Prelude.{All, Bool, Contains, List, Some, [], cond, false, 
 use Rattle.std.proofs.Common.{ap, arith, inl, inr, refl, subst, sym, ◌∙◌}
 use Rattle.std.proofs.lemmas.List.Elements.{All-cons, All-head, All-nil, All-tail}
 use Rattle.std.proofs.lemmas.Bool.{eq-eqb, ne_eqb}
-pub use Rattle.sqs_model.specs.Members.{In}
+pub use Rattle.sim_engine.specs.Members.{Each, In}
+pub use Rattle.sim_engine.proofs.Members.{all_each}
 use Rattle.sqs_model.specs.Progress.{Ascends}
 
 in_at : {A : Type 0} (xs : List A) (k : ℕ) (y : A) → k < length xs → slice_index_or xs k y ≡ y → In xs y
@@ -104,15 +105,6 @@ of_all P [] x a h = absurd h
 of_all P (y ∷ ys) x a (inl e) = subst P e (All-head P y ys a)
 of_all P (y ∷ ys) x a (inr h) = of_all P ys x (All-tail P y ys a) h
 
--- each of a list, by recursion
-abbrev pub Each : {A : Type 0} → (A → Type 0) → List A → Type 0
-Each P [] = Unit {0}
-Each P (x ∷ xs) = P x × Each P xs
-
 pub each_append : {A : Type 0} (P : A → Type 0) (xs ys : List A) → Each P xs → Each P ys → Each P (xs ++ ys)
 each_append P [] ys h k = k
 each_append P (x ∷ xs) ys h k = (h.0, each_append P xs ys h.1 k)
-
-pub all_each : {A : Type 0} (P Q : A → Type 0) → ((x : A) → P x → Q x) → (xs : List A) → Each P xs → All Q xs
-all_each P Q f [] h = All-nil Q
-all_each P Q f (x ∷ xs) h = All-cons Q x xs (f x h.0) (all_each P Q f xs h.1)

@@ -37,7 +37,7 @@ use Rattle.sqs_redrive.specs.declared.answers.Rest.{Rest}
 use Rattle.sqs_redrive.specs.declared.answers.Rest.TheVariants.{Empty, More, NoSource}
 use Rattle.sqs_redrive.specs.declared.answers.Sent.{Sent}
 use Rattle.sqs_redrive.specs.declared.answers.Sent.TheVariants.{New, Repeat}
-use Rattle.sqs_redrive.specs.declared.settings.Edge.{Edge}
+use Rattle.sim_engine.specs.declared.edge.Edge.{Edge}
 use Rattle.sqs_redrive.specs.declared.settings.Kind.{Kind}
 use Rattle.sqs_redrive.specs.declared.settings.Kind.TheVariants.{Fifo, Standard}
 use Rattle.sqs_redrive.specs.declared.settings.Policy.{Policy}
@@ -723,7 +723,7 @@ goes_along edges home leading key s w =
       fits = all_each (IsOwnSent edges home leads w.site key) (FitsWays leads) (λ o x. x.1) (handled key s).sent g.sent;
       rows =
           subst (λ n. All (IsRowOf key n) (handled key s).rows) (sym at)
-          (all_each (IsOwnRow edges home leads w.site key) (IsRowOf key w.site) (λ r x. record { key_is = x.0; queue_is = x.1 }) (handled key s).rows g.rows);
+          (all_each (IsOwnRow edges home leads w.site key) (IsRowOf key w.site) (λ r x. record { key_is = x.0; site_is = x.1 }) (handled key s).rows g.rows);
     }
 
 pub ways_accepted : AcceptingKeepsWays

@@ -26,7 +26,8 @@ use Rattle.sqs_model.specs.Actor.{Actor}
 use Rattle.sqs_model.specs.Dues.{actor_dues, core_dues, dues, least_due, message_dues, poll_key, queue_dues, release_due, sample_dues, task_dues, wake_due}
 use Rattle.sqs_model.specs.Progress.{Ascends}
 use Rattle.sqs_model.specs.Queue.{has_number, numbered}
-use Rattle.sqs_model.specs.Run.{Run, Stepped, after, delivered, delivered_one, handled_among, handled_here, handled_there, is_due, next_due, run_on, stepped_at}
+use Rattle.sqs_model.specs.Run.{Run, after}
+use Rattle.sqs_model.specs.World.{Stepped, delivered, delivered_one, handled_among, handled_here, handled_there, is_due, next_due, run_on, stepped_at}
 use Rattle.sqs_model.specs.Scenario.{HasItsQueues, LeadsWithin, MayBeWithin, Scenario, numbered_tasks, opening, opening_site, opening_task}
 use Rattle.sqs_model.specs.Site.{Effect, Site, accepted, has_key, number_of}
 use Rattle.sqs_model.specs.Step.{Handled, handle_arrival, handled, handled_when, is_arrival, left_with, with_polls}
@@ -39,7 +40,8 @@ use Rattle.sqs_model.proofs.Members.{From, In, in_append, in_flat, in_found, in_
 use Rattle.sqs_model.proofs.Opening.{all_enumerated}
 use Rattle.sqs_model.proofs.QueueAccounts.{carried}
 use Rattle.sqs_model.proofs.SiteAccounts.{At, Goes, IsBound, IsFound, Leads, MayExpire, come_goes, due_goes, none_come, sent_bits}
-use Rattle.sqs_model.proofs.WorldMoves.{is_due_least, least_in, total_inserted}
+use Rattle.sqs_model.proofs.WorldMoves.{is_due_least, least_in}
+use Rattle.sqs_model.proofs.Instance.{total_inserted}
 
 -- sums
 total_plus : {A : Type 0} (f g : A → ℕ) (xs : List A) → total (λ x. f x + g x) xs ≡ total f xs + total g xs

@@ -1,12 +1,9 @@
 -- How a call that may be refused meets the definitions.
-use Rattle.std.specs.Prelude.{Err, IsOk, Ok, Result, ℕ, ◌-◌, ◌^◌, ◌≡◌}
+use Rattle.std.specs.Prelude.{Err, IsOk, Ok, Result, ◌≡◌}
 use Rattle.sim_clock.specs.declared.refusal.Refusal.{Refusal}
+pub use Rattle.sim_engine.specs.Limits.{most_count}
 use Rattle.sqs_model.specs.Queue.{Queue}
 use Rattle.sim_clock.specs.declared.refusal.Refusal.TheVariants as refusals
-
--- no count may pass this
-abbrev pub most_count : ℕ
-most_count = 2 ^ 62 - 1
 
 -- the answer and the queue after it are the definition's; of want of memory nothing is said, and a count at its limit is told only where the definition would count on
 abbrev pub Meets : {A : Type 0} → Type 0 → Result A Refusal → Queue → Result A Refusal × Queue → Type 0

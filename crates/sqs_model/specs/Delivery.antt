@@ -1,10 +1,9 @@
 -- Delivery of transfers: in which order they are delivered, and whether before or after a handling, makes no difference.
 use Rattle.std.specs.Ordering.{on}
-use Rattle.std.specs.Prelude.{List, false, ◌∷◌, ◌≡◌}
+use Rattle.std.specs.Prelude.{false, ◌≡◌}
 use Rattle.sim_clock.specs.declared.key.Key.{Key}
 use Rattle.sqs_redrive.specs.declared.transfers.Outbound.{Outbound}
-use Rattle.sim_clock.specs.Order.{IsInOrder, key_cmp, same_key}
-use Rattle.sqs_model.specs.Run.{delivered}
+use Rattle.sim_clock.specs.Order.{IsInOrder, key_cmp}
 use Rattle.sqs_model.specs.Site.{Site, accepted, has_key}
 use Rattle.sqs_model.specs.Step.{Handled, handled}
 use Rattle.sqs_redrive.specs.Transfers.{transfer_key}
@@ -16,13 +15,6 @@ IsSorted s = IsInOrder (on transfer_key key_cmp) s.arriving
 -- a handling at a site that has one more transfer on its way to it afterwards
 abbrev pub with_accepted : Outbound → Handled → Handled
 with_accepted o h = record h { site = accepted o h.site }
-
--- two transfers of different keys are delivered in either order
-abbrev pub DeliveryInAnyOrder : Type 0
-DeliveryInAnyOrder =
-    (o p : Outbound) (os : List Outbound) (sites : List Site)
-    → same_key (transfer_key p) (transfer_key o) ≡ false
-    → delivered (o ∷ (p ∷ os)) sites ≡ delivered (p ∷ (o ∷ os)) sites
 
 -- a sorted site stays so
 pub record StaysSorted (s : Site) : Type 0 where

@@ -3,7 +3,7 @@ use Rattle.std.specs.Prelude.{List, None, Option, Some, [], flat_map, if◌then�
 use Rattle.sim_clock.specs.declared.key.Class.TheVariants.{Expiry, PollEnd, Release, Sample, Step, Wake}
 use Rattle.sim_clock.specs.declared.key.Key.{Key}
 use Rattle.sqs_message.specs.declared.message.Message.{Message}
-use Rattle.sim_clock.specs.Order.{least, lesser}
+use Rattle.sim_clock.specs.Order.{least}
 use Rattle.sqs_model.specs.Actor.{Actor}
 use Rattle.sqs_model.specs.Queue.{Queue}
 use Rattle.sqs_model.specs.Site.{Core, Poll, Site, number_of}
@@ -64,8 +64,3 @@ dues s = map transfer_key s.arriving ++ core_dues s.core
 -- the least due of a site
 abbrev pub least_due : Site → Option Key
 least_due s = least (dues s)
-
--- the least due of all sites
-abbrev pub world_due : List Site → Option Key
-world_due [] = None
-world_due (s ∷ ss) = lesser (least_due s) (world_due ss)

@@ -1,6 +1,7 @@
 -- Time moves on: what a sound site is, and that a handling leaves less due by its own moment, and no more by an earlier one.
-use Rattle.std.specs.Prelude.{All, Contains, List, None, Option, Some, [], drop, filter, length, nat_le, ℕ, ◌+◌, ◌<◌, ◌∷◌, ◌≡◌, ◌≢◌, ◌≤◌}
+use Rattle.std.specs.Prelude.{All, Contains, List, None, Option, Some, [], drop, ℕ, ◌+◌, ◌<◌, ◌∷◌, ◌≡◌, ◌≢◌, ◌≤◌}
 use Rattle.sim_clock.specs.declared.key.Key.{Key}
+pub use Rattle.sim_engine.specs.Members.{Ascends, count_due}
 use Rattle.sqs_model.specs.declared.agents.Forwarding.{Forwarding}
 use Rattle.sqs_model.specs.declared.agents.Role.{Role}
 use Rattle.sqs_model.specs.declared.agents.Role.TheVariants.{Consumer, Producer, Script}
@@ -13,16 +14,10 @@ use Rattle.sqs_redrive.specs.declared.transfers.Outbound.{Outbound}
 use Rattle.sqs_model.specs.Actor.{Actor, first_at}
 use Rattle.sqs_model.specs.Dues.{dues}
 use Rattle.sqs_model.specs.Queue.{Queue}
-use Rattle.sqs_model.specs.Run.{IsRunOf, Run}
 use Rattle.sqs_model.specs.Scenario.{Scenario, opening}
 use Rattle.sqs_model.specs.Site.{Core, Site}
 use Rattle.sqs_model.specs.Step.{Handled, handled}
 use Rattle.sqs_model.specs.Longest.{deduplication_interval}
-
--- whether each has a number that is at least this and past the one before it
-abbrev pub Ascends : {A : Type 0} → (A → ℕ) → ℕ → List A → Type 0
-Ascends number from [] = Unit {0}
-Ascends number from (x ∷ xs) = (from ≤ number x) × Ascends number (number x + 1) xs
 
 -- whether no two have one number
 abbrev pub Differ : {A : Type 0} → (A → ℕ) → List A → Type 0
@@ -85,10 +80,6 @@ pub record IsSound (c : Core) : Type 0 where
   pub tasks : All (λ t. TakesTime t.move.settings.latency) c.tasks
   pub tasks_ordered : Ascends (λ t. t.number) 0 c.tasks
 
--- how many of some keys are due by a moment
-abbrev pub count_due : ℕ → List Key → ℕ
-count_due moment keys = length (filter (λ k. nat_le k.at moment) keys)
-
 -- what a handling of a key does that is due at a sound site
 pub record MovesOn (key : Key) (s : Site) (h : Handled) : Type 0 where
   -- the site stays sound
@@ -115,10 +106,6 @@ HandlingStaysRecent = (key : Key) (s : Site) → IsRecent key.at s.core.queue �
 -- a run of a sound scenario begins with sound sites
 abbrev pub OpeningIsSound : Type 0
 OpeningIsSound = (s : Scenario) → IsSoundScenario s → All (λ site. IsSound site.core) (opening s)
-
--- every sound scenario has a whole run
-abbrev pub RunEnds : Type 0
-RunEnds = (s : Scenario) → IsSoundScenario s → (r : Run) × IsRunOf s r
 
 -- whether what a load carries was enqueued by a moment
 abbrev pub WasEnqueuedBy : ℕ → Load → Type 0

@@ -15,6 +15,7 @@ use Rattle.sqs_redrive.specs.declared.transfers.Load.TheVariants.{Forward, Move,
 use Rattle.sqs_redrive.specs.declared.transfers.Outbound.{Outbound}
 use Rattle.sim_clock.specs.Firsts.{without}
 use Rattle.sim_clock.specs.Order.{same_key}
+use Rattle.sim_engine.specs.Engine.{Handled as HandledBy}
 use Rattle.sqs_model.specs.Acts.{came_back, receive_row, row}
 use Rattle.sqs_model.specs.Arrive.{arrived, expired}
 use Rattle.sqs_model.specs.Draw.{Draws, drawn_latency}
@@ -179,10 +180,8 @@ abbrev pub with_polls : Key → Effect → Effect
 with_polls key e = and_then e (λ c. answer_polls key c.polls c)
 
 -- a site after a handling, the rows made, and what was sent
-pub record Handled : Type 0 where
-  pub site : Site
-  pub rows : List Row
-  pub sent : List Outbound
+abbrev pub Handled : Type 0
+Handled = HandledBy Site Row Outbound
 
 -- an effect at a site that leaves these transfers on their way to it
 abbrev pub left_with : List Outbound → Effect → Handled

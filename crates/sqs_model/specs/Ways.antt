@@ -1,12 +1,14 @@
 -- The ways out of sites: each queue, actor and task of a site sends over edges that there are, and what was redriven came over one.
 use Rattle.std.specs.List.{enumerate_from}
-use Rattle.std.specs.Prelude.{All, List, None, Option, Some, get_or, map, ℕ, ◌++◌, ◌+◌, ◌≡◌, ◌≤◌}
+use Rattle.std.specs.Prelude.{All, List, None, Option, Some, get_or, map, ℕ, ◌++◌, ◌≡◌, ◌≤◌}
 use Rattle.sim_clock.specs.declared.key.Key.{Key}
 use Rattle.sqs_message.specs.declared.row.Row.{Row}
+use Rattle.sim_engine.specs.Laws as engine
+use Rattle.sqs_model.specs.Sqs.{sqs}
 use Rattle.sqs_model.specs.Progress.{IsSoundScenario}
 use Rattle.sqs_model.specs.Scenario.{Scenario, edge, edges as edges_of, numbered_actors, numbered_tasks, opening, sources}
 use Rattle.sqs_model.specs.Step.{Handled, handled}
-use Rattle.sqs_redrive.specs.declared.settings.Edge.{Edge}
+use Rattle.sim_engine.specs.declared.edge.Edge.{Edge}
 use Rattle.sqs_redrive.specs.declared.settings.Policy.{Policy}
 use Rattle.sqs_redrive.specs.declared.settings.TaskSettings.{TaskSettings}
 use Rattle.sqs_redrive.specs.declared.transfers.Load.{Load}
@@ -107,22 +109,12 @@ abbrev pub Leads : Scenario → ℕ → ℕ → Type 0
 Leads s = LeadsBy (sources s)
 
 -- a transfer that the handling of a key sends from a site
-pub record IsSentBy (edges : List Edge) (home : ℕ → ℕ) (key : Key) (site : ℕ) (o : Outbound) : Type 0 where
-  -- its sender is at home at the site
-  pub sender : home o.sender ≡ site
-  -- it goes along a way
-  pub way : Edge
-  pub there : In edges way
-  -- from the site to the queue that it is for
-  pub from : way.from ≡ site
-  pub to : way.to ≡ o.to
-  -- and arrives the way's least latency later at the earliest
-  pub late : key.at + way.least ≤ o.at
+abbrev pub IsSentBy : List Edge → (ℕ → ℕ) → Key → ℕ → Outbound → Type 0
+IsSentBy = engine.IsSentBy sqs
 
 -- a row of the handling of a key at a site
-pub record IsRowOf (key : Key) (site : ℕ) (r : Row) : Type 0 where
-  pub key_is : r.key ≡ key
-  pub queue_is : r.queue ≡ site
+abbrev pub IsRowOf : Key → ℕ → Row → Type 0
+IsRowOf = engine.IsRowOf sqs
 
 -- what a handling does at a site that sends along ways alone
 pub record GoesAlongWays (edges : List Edge) (home : ℕ → ℕ) (leads : ℕ → ℕ → Type 0) (key : Key) (s : Site) (h : Handled) : Type 0 where

@@ -8,5 +8,5 @@ mod transfers;
 
 pub use answers::{Batch, Deleted, Got, Rest, Returned, Sent};
 pub use redrive::{MoveTask, on_return};
-pub use settings::{Edge, Kind, Latency, Policy, QueueSettings, Scope, TaskSettings, TaskStatus};
+pub use settings::{Kind, Latency, Policy, QueueSettings, Scope, TaskSettings, TaskStatus};
 pub use transfers::{Load, Outbound, Transfer};

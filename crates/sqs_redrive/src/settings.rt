@@ -72,11 +72,3 @@ pub enum TaskStatus {
     Cancelled,
     Failed,
 }
-
-/// Messages may go from one queue to another, and take at least so many milliseconds.
-#[derive(Clone, Copy, Debug, PartialEq, Eq)]
-pub struct Edge {
-    pub from: u32,
-    pub to: u32,
-    pub least: u64,
-}

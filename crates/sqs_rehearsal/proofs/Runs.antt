@@ -5,7 +5,8 @@ use Rattle.sim_scenario.specs.Ranges.{IsInRange}
 use Rattle.sim_windows.proofs.Openings.{has_queues}
 use Rattle.sim_windows.proofs.Runs.{stays}
 use Rattle.sqs_model.specs.Accounts.{EachHasOnePlace, NoOtherHasPlace}
-use Rattle.sqs_model.specs.Run.{IsRunOf, Run, after, next_due}
+use Rattle.sqs_model.specs.Run.{IsRunOf, Run, after}
+use Rattle.sqs_model.specs.World.{next_due}
 use Rattle.sqs_model.specs.Scenario.{HasItsQueues, Scenario, opening}
 use Rattle.sqs_model.specs.Site.{Site}
 use Rattle.sqs_model.proofs.Ends.{ends}

@@ -1,7 +1,7 @@
 ghost use Rattle.std.specs.Prelude.{◌≡◌, ◌+◌, ◌<◌};
 
+use crate::same::same;
 use sim_draw::Draws;
-use std::test::Fail;
 
 // The next four words.
 fn four_words(draws: &mut Draws) -> [u32; 4]
@@ -12,47 +12,51 @@ fn four_words(draws: &mut Draws) -> [u32; 4]
 }
 
 #[test]
-fn words_of_a_zero_key(rt: HostRuntime) -> Result<(), Fail> {
+fn words_of_a_zero_key(rt: HostRuntime) {
     // ChaCha20 with a zero key: streams 0 and 1, and the second block (RFC 8439, A.1, vector 2).
     let mut first = Draws::new(0, 0);
     let words = four_words(&mut first);
-    assert_eq!(rt; words[0], 0xade0b876);
-    assert_eq!(rt; words[1], 0x903df1a0);
     four_words(&mut first);
     four_words(&mut first);
     four_words(&mut first);
-    assert_eq!(rt; first.word(), 0xbee7079f);
-    assert_eq!(rt; first.taken(), 17);
+    let found = [words[0], words[1], first.word()];
+    same(&rt, found, [0xade0b876, 0x903df1a0, 0xbee7079f]);
+    same(&rt, first.taken(), 17);
     let mut second = Draws::new(0, 1);
-    assert_eq!(rt; second.word(), 0xd6df3fef);
-    assert_eq!(rt; second.word(), 0xfb7815c6);
-    Ok(())
+    same(
+        &rt,
+        [second.word(), second.word()],
+        [0xd6df3fef, 0xfb7815c6],
+    );
 }
 
 #[test]
-fn numbers_and_chances(rt: HostRuntime) -> Result<(), Fail> {
+fn numbers_and_chances(rt: HostRuntime) {
     let mut draws = Draws::new(0, 0);
-    assert_eq!(rt; draws.uniform(1, 100), 68);
-    assert_eq!(rt; draws.uniform(1, 100), 57);
+    same(
+        &rt,
+        [draws.uniform(1, 100), draws.uniform(1, 100)],
+        [68, 57],
+    );
     let mut draws = Draws::new(0, 0);
-    assert!(rt; draws.chance(680));
-    assert!(rt; !draws.chance(563));
-    let mut draws = Draws::new(0, 0);
-    assert_eq!(rt; draws.between(7, 7), 7);
-    assert_eq!(rt; draws.taken(), 0);
-    assert_eq!(rt; draws.between(1, 100), 68);
-    assert_eq!(rt; draws.taken(), 1);
-    assert_eq!(rt; draws.uniform(5, 5), 5);
-    assert_eq!(rt; draws.taken(), 2);
-    Ok(())
+    same(&rt, [draws.chance(680), draws.chance(563)], [true, false]);
 }
 
 #[test]
-fn the_greatest_seed(rt: HostRuntime) -> Result<(), Fail> {
+fn a_number_between_equal_bounds_takes_no_word(rt: HostRuntime) {
+    let mut draws = Draws::new(0, 0);
+    let found = [
+        (draws.between(7, 7), draws.taken()),
+        (draws.between(1, 100), draws.taken()),
+        (draws.uniform(5, 5), draws.taken()),
+    ];
+    same(&rt, found, [(7, 0), (68, 1), (5, 2)]);
+}
+
+#[test]
+fn the_greatest_seed(rt: HostRuntime) {
     // ChaCha20 with the key of the bytes ff ff ff ff ff ff ff 7f and 24 zeros, stream 0 (by an
     // independent implementation).
     let mut draws = Draws::new(9223372036854775807, 0);
-    assert_eq!(rt; draws.word(), 0x5681e107);
-    assert_eq!(rt; draws.word(), 0xc4789cfb);
-    Ok(())
+    same(&rt, [draws.word(), draws.word()], [0x5681e107, 0xc4789cfb]);
 }

@@ -1,64 +1,51 @@
 //! Partitions, transfers, rows and distances, worked out by hand.
-ghost use Rattle.std.specs.Prelude.{◌≡◌, IfOk};
+ghost use Rattle.std.specs.Prelude.{◌≡◌};
 
+use crate::same::same;
 use sim_clock::{Class, Key, Refusal};
+use sim_engine::Edge;
 use sim_exchange::{Distances, PartMap, exchange, merge_rows};
 use sqs_message::{Detail, MessageId, Row, RowAnswer, RowKind, RowReceipt, Text};
-use sqs_redrive::{Edge, Load, Outbound};
+use sqs_redrive::{Load, Outbound};
 use std::alloc::{AllocError, Global};
 use std::process::Abort;
-use std::test::Fail;
 
-#[test]
-fn a_map_gives_each_queue_a_partition(rt: HostRuntime) -> Result<(), Fail> {
-    let alloc = rt.alloc();
-    let layout = PartMap::new(3, 2, [1, 0, 1].to_vec(alloc)?)?;
-    assert_eq!(rt; layout.parts(), 2);
-    assert_eq!(rt; layout.part_of(0), 1);
-    assert_eq!(rt; layout.part_of(1), 0);
-    assert_eq!(rt; layout.part_of(2), 1);
-    assert_eq!(rt; layout.part_of(3), 0);
-    let most = PartMap::new(1, 256, [255].to_vec(alloc)?)?;
-    assert_eq!(rt; most.part_of(0), 255);
-    Ok(())
+// How many queues and partitions there are, the partition of each queue, and how many partitions the
+// map has and those of the queues 0 to 3, or the refusal.
+const MAPS: [(usize, u32, &[u32], Result<[u32; 5], Refusal>); 8] = [
+    (3, 2, &[1, 0, 1], Ok([2, 1, 0, 1, 0])),
+    (1, 256, &[255], Ok([256, 255, 0, 0, 0])),
+    // A partition with no queue.
+    (2, 2, &[0, 0], Ok([2, 0, 0, 0, 0])),
+    // No partitions, and too many.
+    (0, 0, &[], Err(Refusal::BadMap)),
+    (1, 257, &[0], Err(Refusal::BadMap)),
+    // A queue without a partition, and more partitions than queues.
+    (2, 2, &[0], Err(Refusal::BadMap)),
+    (2, 2, &[0, 1, 1], Err(Refusal::BadMap)),
+    // No such partition.
+    (2, 2, &[0, 2], Err(Refusal::BadMap)),
+];
+
+fn parts_of(map: Result<PartMap, Refusal>) -> Result<[u32; 5], Refusal> {
+    match map {
+        Ok(map) => Ok([
+            map.parts(),
+            map.part_of(0),
+            map.part_of(1),
+            map.part_of(2),
+            map.part_of(3),
+        ]),
+        Err(refusal) => Err(refusal),
+    }
 }
 
-// Whether a map is refused.
-fn is_refused(
-    alloc: Global,
-    queues: usize,
-    parts: u32,
-    owners: &[u32],
-) -> Result<bool, AllocError> {
-    let map = PartMap::new(queues, parts, owners.to_vec(alloc)?);
-    Ok(matches!(map, Err(Refusal::BadMap)))
-}
-
 #[test]
-fn a_map_that_is_not_whole_is_refused(rt: HostRuntime) -> Result<(), Fail> {
-    let alloc = rt.alloc();
-    assert!(rt; is_refused(alloc, 0, 0, [].as_slice())?, "no partitions");
-    assert!(rt;
-        is_refused(alloc, 1, 257, [0].as_slice())?,
-        "too many partitions"
-    );
-    assert!(rt;
-        is_refused(alloc, 2, 2, [0].as_slice())?,
-        "a queue without a partition"
-    );
-    assert!(rt;
-        is_refused(alloc, 2, 2, [0, 1, 1].as_slice())?,
-        "more partitions than queues"
-    );
-    assert!(rt;
-        is_refused(alloc, 2, 2, [0, 2].as_slice())?,
-        "no such partition"
-    );
-    assert!(rt;
-        !is_refused(alloc, 2, 2, [0, 0].as_slice())?,
-        "a partition with no queue"
-    );
-    Ok(())
+fn a_map_gives_each_queue_a_partition(rt: HostRuntime) {
+    for &(queues, parts, owners, wanted) in &MAPS {
+        let owners = owners.to_vec(rt.alloc()).expect(&rt, "memory");
+        same(&rt, parts_of(PartMap::new(queues, parts, owners)), wanted);
+    }
 }
 
 // A transfer that arrives at a moment, by its sender and how many it sent before.
@@ -77,20 +64,16 @@ fn transfer(alloc: Global, at: u64, sender: u32, number: u64, from: u32, to: u32
     }
 }
 
-// The moment, sender, number and first queue of each transfer.
-fn named(alloc: Global, transfers: &[Outbound]) -> Result<Vec<(u64, u32, u64, u32)>, AllocError> {
-    let mut names = Vec::new(alloc);
-    for transfer in transfers {
-        names.push((transfer.at, transfer.sender, transfer.number, transfer.from))?;
+// Compares the moment, sender, number and first queue of each transfer.
+fn try_transfers(rt: &impl Abort, found: &[Outbound], wanted: &[(u64, u32, u64, u32)]) {
+    same(rt, found.len(), wanted.len());
+    for (one, &wanted) in found.iter().zip(wanted) {
+        same(rt, (one.at, one.sender, one.number, one.from), wanted);
     }
-    Ok(names)
 }
 
-#[test]
-fn each_partition_gets_its_transfers_in_order(rt: HostRuntime) -> Result<(), Fail> {
-    let alloc = rt.alloc();
-    // Queues 0 and 1 are in partition 0, queue 2 is in partition 1.
-    let layout = PartMap::new(3, 2, [0, 0, 1].to_vec(alloc)?)?;
+// What the partitions 0 and 1 have to send.
+fn sent(alloc: Global) -> Result<Vec<Vec<Outbound>>, AllocError> {
     let first = vec![in alloc;
         transfer(alloc, 50, 1, 0, 4, 2),
         transfer(alloc, 50, 0, 3, 4, 0),
@@ -102,18 +85,26 @@ fn each_partition_gets_its_transfers_in_order(rt: HostRuntime) -> Result<(), Fai
         transfer(alloc, 50, 1, 0, 5, 2),
         transfer(alloc, 30, 5, 7, 5, 0),
     ]?;
-    let lists = exchange(alloc, vec![in alloc; first, second]?, &layout)?;
-    assert_eq!(rt; lists.len(), 2);
-    assert_eq!(rt;
-        named(alloc, &lists[0])?.as_slice(),
-        [(30, 5, 7, 5), (50, 0, 1, 5), (50, 0, 3, 4)].as_slice()
-    );
-    // Two have one key: the one that stood first comes first.
-    assert_eq!(rt;
-        named(alloc, &lists[1])?.as_slice(),
-        [(40, 9, 0, 4), (50, 0, 2, 5), (50, 1, 0, 4), (50, 1, 0, 5)].as_slice()
-    );
-    Ok(())
+    Ok(vec![in alloc; first, second]?)
+}
+
+// What comes to each of them. Two transfers have one key: the one that stood first comes first.
+const DEALT: [&[(u64, u32, u64, u32)]; 2] = [
+    &[(30, 5, 7, 5), (50, 0, 1, 5), (50, 0, 3, 4)],
+    &[(40, 9, 0, 4), (50, 0, 2, 5), (50, 1, 0, 4), (50, 1, 0, 5)],
+];
+
+#[test]
+fn each_partition_gets_its_transfers_in_order(rt: HostRuntime) {
+    // Queues 0 and 1 are in partition 0, queue 2 is in partition 1.
+    let owners = [0, 0, 1].to_vec(rt.alloc()).expect(&rt, "memory");
+    let layout = PartMap::new(3, 2, owners).expect(&rt, "a map");
+    let sent = sent(rt.alloc()).expect(&rt, "memory");
+    let lists = exchange(rt.alloc(), sent, &layout).expect(&rt, "memory");
+    same(&rt, lists.len(), 2);
+    for (found, &wanted) in lists.iter().zip(&DEALT) {
+        try_transfers(&rt, found, wanted);
+    }
 }
 
 // A row of a handling at a moment, at a queue, by the list where it stands.
@@ -135,128 +126,177 @@ fn row(at: u64, queue: u32, list: u32) -> Row {
     }
 }
 
-#[test]
-fn rows_come_by_key_and_queue(rt: HostRuntime) -> Result<(), Fail> {
-    let alloc = rt.alloc();
-    let lists = vec![in alloc;
-        vec![in alloc; row(10, 2, 0), row(20, 0, 0)]?,
-        vec![in alloc; row(10, 1, 1), row(10, 2, 1), row(30, 1, 1)]?,
-        vec![in alloc; row(10, 0, 2), row(20, 0, 2)]?,
-    ]?;
-    let rows = merge_rows(alloc, lists)?;
-    let mut places = Vec::new(alloc);
-    for row in &rows {
-        places.push((row.key.at, row.queue, row.agent))?;
+// Merges lists of rows, and compares moment, queue and list of each row.
+fn try_merge(rt: &impl Abort, alloc: Global, lists: Vec<Vec<Row>>, wanted: &[(u64, u32, u32)]) {
+    let rows = merge_rows(alloc, lists).expect(rt, "memory");
+    same(rt, rows.len(), wanted.len());
+    for (row, &wanted) in rows.iter().zip(wanted) {
+        same(rt, (row.key.at, row.queue, row.agent), wanted);
     }
-    assert_eq!(rt;
-        places.as_slice(),
-        [
-            (10, 0, 2),
-            (10, 1, 1),
-            (10, 2, 0),
-            (10, 2, 1),
-            (20, 0, 0),
-            (20, 0, 2),
-            (30, 1, 1),
-        ]
-        .as_slice()
-    );
-    Ok(())
+}
+
+fn three_lists(alloc: Global) -> Result<Vec<Vec<Row>>, AllocError> {
+    let first = vec![in alloc; row(10, 2, 0), row(20, 0, 0)]?;
+    let second = vec![in alloc; row(10, 1, 1), row(10, 2, 1), row(30, 1, 1)]?;
+    let third = vec![in alloc; row(10, 0, 2), row(20, 0, 2)]?;
+    Ok(vec![in alloc; first, second, third]?)
 }
 
 #[test]
-fn lists_with_no_rows_change_nothing(rt: HostRuntime) -> Result<(), Fail> {
-    let alloc = rt.alloc();
-    assert_eq!(rt; merge_rows(alloc, Vec::new(alloc))?.len(), 0);
-    let lists = vec![in alloc;
-        Vec::new(alloc),
-        vec![in alloc; row(10, 2, 1)]?,
-        Vec::new(alloc),
-    ]?;
-    assert_eq!(rt; merge_rows(alloc, lists)?.len(), 1);
-    Ok(())
+fn rows_come_by_key_and_queue(rt: HostRuntime) {
+    let wanted = [
+        (10, 0, 2),
+        (10, 1, 1),
+        (10, 2, 0),
+        (10, 2, 1),
+        (20, 0, 0),
+        (20, 0, 2),
+        (30, 1, 1),
+    ];
+    let lists = three_lists(rt.alloc()).expect(&rt, "memory");
+    try_merge(&rt, rt.alloc(), lists, &wanted);
 }
 
-// The distances over some ways, each of 1 to 900,000 milliseconds.
-fn distances(
+// Two lists with no rows about one with a row.
+fn about_one(alloc: Global) -> Result<Vec<Vec<Row>>, AllocError> {
+    let rows = vec![in alloc; row(10, 2, 1)]?;
+    Ok(vec![in alloc; Vec::new(alloc), rows, Vec::new(alloc)]?)
+}
+
+#[test]
+fn lists_with_no_rows_change_nothing(rt: HostRuntime) {
+    try_merge(&rt, rt.alloc(), Vec::new(rt.alloc()), &[]);
+    let lists = about_one(rt.alloc()).expect(&rt, "memory");
+    try_merge(&rt, rt.alloc(), lists, &[(10, 2, 1)]);
+}
+
+// The distance from one partition to another, if there is one.
+type Distance = (u32, u32, Option<u64>);
+
+// What is due in each partition, the partition, the horizon, and the bound.
+type Bound = (&'static [Option<u64>], u32, u32, u64);
+
+fn try_bounds(rt: &impl Abort, layout: &PartMap, distances: &Distances, bounds: &[Bound])
+    requires { distances.now.parts ≡ layout.now.parts }
+{
+    for &(dues, part, horizon, bound) in bounds {
+        assert!(rt; dues.len() == layout.parts() as usize);
+        same(rt, distances.bound(dues, part, u64::from(horizon)), bound);
+    }
+}
+
+// Finds the distances over ways between queues, each of 1 to 900,000 milliseconds, whose partitions
+// have the numbers of the queues, and compares them.
+fn try_ways(
     rt: &impl Abort,
+    layout: &PartMap,
     alloc: Global,
     ways: &[Edge],
-    layout: &PartMap,
-) -> Result<Distances, AllocError>
-    ensures { IfOk result (λ d. d.parts ≡ layout.now.parts) }
-{
+    wanted: (&[Distance], &[Bound]),
+) {
     assert!(rt;
         ways.iter()
             .all(|way| 1 <= way.least && way.least <= 900_000)
     );
-    Distances::new(alloc, ways, layout)
+    let distances = Distances::new(alloc, ways, layout).expect(rt, "memory");
+    for &(from, to, distance) in wanted.0 {
+        same(
+            rt,
+            (from, to, distances.between(from, to)),
+            (from, to, distance),
+        );
+    }
+    try_bounds(rt, layout, &distances, wanted.1);
 }
 
-// A way from one queue to another.
-fn way(from: u32, to: u32, least: u64) -> Edge {
-    Edge { from, to, least }
-}
-
-#[test]
-fn a_cycle_comes_back(rt: HostRuntime) -> Result<(), Fail> {
-    let alloc = rt.alloc();
-    let layout = PartMap::new(2, 2, [0, 1].to_vec(alloc)?)?;
-    let distances = distances(
-        &rt,
-        alloc,
-        [way(0, 1, 10), way(1, 0, 10)].as_slice(),
-        &layout,
-    )?;
-    assert_eq!(rt; distances.between(0, 0), Some(20));
-    assert_eq!(rt; distances.between(0, 1), Some(10));
-    assert_eq!(rt; distances.between(1, 0), Some(10));
-    assert_eq!(rt; distances.between(1, 1), Some(20));
-    assert_eq!(rt; layout.parts(), 2);
-    let dues = [Some(0), None];
-    assert_eq!(rt; distances.bound(dues.as_slice(), 0, 100), 20);
-    assert_eq!(rt; distances.bound(dues.as_slice(), 1, 100), 10);
-    assert_eq!(rt; distances.bound(dues.as_slice(), 0, 5), 6);
-    assert_eq!(rt; distances.bound([None, None].as_slice(), 0, 100), 101);
-    assert_eq!(rt;
-        distances.bound([Some(35), Some(20)].as_slice(), 1, 100),
-        40
-    );
-    assert_eq!(rt;
-        distances.bound([Some(u64::MAX), None].as_slice(), 1, 100),
-        101
-    );
-    Ok(())
+// The partitions of some queues.
+fn layout(rt: &impl Abort, alloc: Global, parts: u32, owners: &[u32]) -> PartMap {
+    let queues = owners.len();
+    let owners = owners.to_vec(alloc).expect(rt, "memory");
+    PartMap::new(queues, parts, owners).expect(rt, "a map")
 }
 
 #[test]
-fn a_way_through_a_third_partition_may_be_shorter(rt: HostRuntime) -> Result<(), Fail> {
-    let alloc = rt.alloc();
-    let layout = PartMap::new(3, 3, [0, 1, 2].to_vec(alloc)?)?;
+fn a_cycle_comes_back(rt: HostRuntime) {
     let ways = [
-        way(0, 1, 500),
-        way(2, 1, 200),
-        way(0, 2, 150),
-        way(0, 1, 450),
-        way(0, 2, 100),
+        Edge {
+            from: 0,
+            to: 1,
+            least: 10,
+        },
+        Edge {
+            from: 1,
+            to: 0,
+            least: 10,
+        },
     ];
-    let distances = distances(&rt, alloc, ways.as_slice(), &layout)?;
-    assert_eq!(rt; distances.between(0, 1), Some(300));
-    assert_eq!(rt; distances.between(0, 2), Some(100));
-    assert_eq!(rt; distances.between(2, 1), Some(200));
-    assert_eq!(rt; distances.between(1, 0), None);
-    assert_eq!(rt; distances.between(0, 0), None);
-    Ok(())
+    let distances = [
+        (0, 0, Some(20)),
+        (0, 1, Some(10)),
+        (1, 0, Some(10)),
+        (1, 1, Some(20)),
+    ];
+    let bounds: [Bound; 6] = [
+        (&[Some(0), None], 0, 100, 20),
+        (&[Some(0), None], 1, 100, 10),
+        (&[Some(0), None], 0, 5, 6),
+        (&[None, None], 0, 100, 101),
+        (&[Some(35), Some(20)], 1, 100, 40),
+        (&[Some(u64::MAX), None], 1, 100, 101),
+    ];
+    let apart = layout(&rt, rt.alloc(), 2, &[0, 1]);
+    try_ways(&rt, &apart, rt.alloc(), &ways, (&distances, &bounds));
 }
 
 #[test]
-fn a_way_within_a_partition_leads_back_to_it(rt: HostRuntime) -> Result<(), Fail> {
-    let alloc = rt.alloc();
-    let layout = PartMap::new(2, 1, [0, 0].to_vec(alloc)?)?;
-    let distances = distances(&rt, alloc, [way(0, 1, 500)].as_slice(), &layout)?;
-    assert_eq!(rt; distances.between(0, 0), Some(500));
-    assert_eq!(rt; distances.between(0, 1), None);
-    assert_eq!(rt; layout.parts(), 1);
-    assert_eq!(rt; distances.bound([Some(7)].as_slice(), 0, 1000), 507);
-    Ok(())
+fn a_way_through_a_third_partition_may_be_shorter(rt: HostRuntime) {
+    let ways = [
+        Edge {
+            from: 0,
+            to: 1,
+            least: 500,
+        },
+        Edge {
+            from: 2,
+            to: 1,
+            least: 200,
+        },
+        Edge {
+            from: 0,
+            to: 2,
+            least: 150,
+        },
+        Edge {
+            from: 0,
+            to: 1,
+            least: 450,
+        },
+        Edge {
+            from: 0,
+            to: 2,
+            least: 100,
+        },
+    ];
+    let distances = [
+        (0, 1, Some(300)),
+        (0, 2, Some(100)),
+        (2, 1, Some(200)),
+        (1, 0, None),
+        (0, 0, None),
+    ];
+    let apart = layout(&rt, rt.alloc(), 3, &[0, 1, 2]);
+    try_ways(&rt, &apart, rt.alloc(), &ways, (&distances, &[]));
+}
+
+#[test]
+fn a_way_within_a_partition_leads_back_to_it(rt: HostRuntime) {
+    let ways = [Edge {
+        from: 0,
+        to: 1,
+        least: 500,
+    }];
+    let distances = [(0, 0, Some(500)), (0, 1, None)];
+    let bounds: [Bound; 1] = [(&[Some(7)], 0, 1000, 507)];
+    let together = layout(&rt, rt.alloc(), 1, &[0, 0]);
+    try_ways(&rt, &together, rt.alloc(), &ways, (&distances, &bounds));
 }

@@ -1,19 +1,27 @@
+//! The tasks of a queue.
+use crate::same::same;
 use sqs_formats::{Home, HomeTask, HomeTasks};
 use sqs_message::Text;
-use std::test::Fail;
+use std::alloc::{AllocError, Global};
+
+fn tasks(alloc: Global) -> Result<HomeTasks, AllocError> {
+    let name = Text::new(b"k".to_vec(alloc)?);
+    Ok(HomeTasks::new(vec![in alloc; HomeTask { name, number: 6 }]?))
+}
 
 #[test]
-fn a_home_knows_its_tasks(rt: HostRuntime) -> Result<(), Fail> {
-    let mut tasks = Vec::new(rt.alloc());
-    tasks.push(HomeTask {
-        name: Text::new(b"k".to_vec(rt.alloc())?),
-        number: 6,
-    })?;
+fn a_home_knows_its_tasks(rt: HostRuntime) {
     let home = Home {
         is_fifo: true,
-        tasks: HomeTasks::new(tasks),
+        tasks: tasks(rt.alloc()).expect(&rt, "memory"),
     };
-    assert_eq!(rt; home.tasks.as_slice()[0].number, 6);
-    assert_eq!(rt; home.tasks.as_slice()[0].name.as_bytes(), b"k".as_slice());
-    Ok(())
+    let tasks = home.tasks.as_slice();
+    same(&rt, tasks.len(), 1);
+    for task in tasks {
+        same(
+            &rt,
+            (task.number, task.name.as_bytes()),
+            (6, b"k".as_slice()),
+        );
+    }
 }

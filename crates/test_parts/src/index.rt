@@ -1,48 +1,79 @@
 //! Marks of a few places, worked out by hand.
+ghost use Rattle.std.specs.Prelude.{◌≡◌, IfOk, length};
+
+use crate::same::same;
 use sim_clock::{Class, Key};
 use sqs_index::{Mark, Marks};
-use std::test::Fail;
+use std::alloc::{AllocError, Global};
+use std::process::Abort;
 
-// A wake at a moment.
-fn wake(at: u64) -> Key {
-    Key {
-        at,
-        agent: 3,
-        class: Class::Wake,
-        number: 0,
+// A wake at a moment, if there is one.
+fn wake(at: Option<u64>) -> Option<Key> {
+    match at {
+        None => None,
+        Some(at) => Some(Key {
+            at,
+            agent: 3,
+            class: Class::Wake,
+            number: 0,
+        }),
     }
 }
 
 // What is due at a moment, and a message on these hosts.
 fn mark(at: Option<u64>, hosts: u32) -> Mark {
-    let due = match at {
-        None => None,
-        Some(at) => Some(wake(at)),
-    };
-    Mark { due, hosts }
+    Mark {
+        due: wake(at),
+        hosts,
+    }
+}
+
+fn try_nothing(rt: &impl Abort, marks: &Marks, places: usize) {
+    let told = (marks.len(), marks.least(), marks.place_of_least());
+    same(rt, (told, marks.next(0, 1)), ((places, None, None), None));
 }
 
 #[test]
 fn tells_nothing_of_no_places(rt: HostRuntime) {
-    let marks = Marks::new(rt.alloc());
-    assert_eq!(rt; marks.len(), 0);
-    assert!(rt; marks.least().is_none());
-    assert!(rt; marks.place_of_least().is_none());
-    assert!(rt; marks.next(0, 1).is_none());
+    try_nothing(&rt, &Marks::new(rt.alloc()), 0);
 }
 
 #[test]
-fn tells_nothing_of_empty_places(rt: HostRuntime) -> Result<(), Fail> {
-    let marks = Marks::of(rt.alloc(), 1, &[])?;
-    assert_eq!(rt; marks.len(), 1);
-    assert!(rt; marks.least().is_none());
-    assert!(rt; marks.place_of_least().is_none());
-    assert!(rt; marks.next(0, 1).is_none());
-    Ok(())
+fn tells_nothing_of_empty_places(rt: HostRuntime) {
+    let marks = Marks::of(rt.alloc(), 1, &[]).expect(&rt, "memory");
+    try_nothing(&rt, &marks, 1);
+}
+
+// Eight places of which the first five have these marks.
+fn eight(alloc: Global, five: &[Mark; 5]) -> Result<Marks, AllocError>
+    ensures { IfOk result (λ m. length m ≡ 8) }
+{
+    Marks::of(alloc, 8, five)
+}
+
+// What is put at a place, and then the least of what is due and the first place that has it.
+const PUTS: [(usize, Option<u64>, u32, u64, usize); 5] = [
+    (3, Some(7), 2, 7, 2),
+    // Two places left of it come to have the same, and then less.
+    (1, Some(7), 2, 7, 1),
+    (0, Some(6), 1, 6, 0),
+    (1, None, 0, 6, 0),
+    (0, None, 0, 7, 2),
+];
+
+fn try_puts(rt: &impl Abort, marks: &mut Marks)
+    requires { length marks.old ≡ 8 }
+{
+    for &(place, at, hosts, least, first) in &PUTS {
+        assert!(rt; place < marks.len());
+        marks.put(place, mark(at, hosts));
+        let told = (marks.len(), marks.least(), marks.place_of_least());
+        same(rt, told, (8, wake(Some(least)), Some(first)));
+    }
 }
 
 #[test]
-fn finds_the_first_of_the_least(rt: HostRuntime) -> Result<(), Fail> {
+fn finds_the_first_of_the_least(rt: HostRuntime) {
     let five = [
         mark(None, 1),
         mark(Some(9), 2),
@@ -50,25 +81,31 @@ fn finds_the_first_of_the_least(rt: HostRuntime) -> Result<(), Fail> {
         mark(Some(7), 2),
         mark(Some(8), 1),
     ];
-    let mut marks = Marks::of(rt.alloc(), 8, &five)?;
-    assert_eq!(rt; marks.len(), 8);
-    assert!(rt; marks.least() == Some(wake(7)));
-    assert_eq!(rt; marks.place_of_least(), Some(2));
-    // Two places left of it come to have the same.
-    marks.put(1, mark(Some(7), 2));
-    assert_eq!(rt; marks.place_of_least(), Some(1));
-    marks.put(0, mark(Some(6), 1));
-    marks.put(1, mark(None, 0));
-    assert!(rt; marks.least() == Some(wake(6)));
-    assert_eq!(rt; marks.place_of_least(), Some(0));
-    marks.put(0, mark(None, 0));
-    assert!(rt; marks.least() == Some(wake(7)));
-    assert_eq!(rt; marks.place_of_least(), Some(2));
-    Ok(())
+    let mut marks = eight(rt.alloc(), &five).expect(&rt, "memory");
+    try_puts(&rt, &mut marks);
+}
+
+// From which place on, the hosts, and the first place that has a message on one of them.
+const NEXTS: [(usize, u32, Option<usize>); 8] = [
+    (0, 1, Some(0)),
+    (1, 1, Some(4)),
+    (1, 2, Some(1)),
+    (2, 2, Some(3)),
+    (0, 12, Some(3)),
+    (4, 2, None),
+    (8, 7, None),
+    (0, 8, None),
+];
+
+fn try_nexts(rt: &impl Abort, marks: &Marks) {
+    for &(from, hosts, next) in &NEXTS {
+        assert!(rt; from <= marks.len());
+        same(rt, (from, marks.next(from, hosts)), (from, next));
+    }
 }
 
 #[test]
-fn finds_the_next_on_a_host(rt: HostRuntime) -> Result<(), Fail> {
+fn finds_the_next_on_a_host(rt: HostRuntime) {
     let five = [
         mark(None, 1),
         mark(None, 2),
@@ -76,14 +113,6 @@ fn finds_the_next_on_a_host(rt: HostRuntime) -> Result<(), Fail> {
         mark(None, 6),
         mark(None, 1),
     ];
-    let marks = Marks::of(rt.alloc(), 8, &five)?;
-    assert_eq!(rt; marks.next(0, 1), Some(0));
-    assert_eq!(rt; marks.next(1, 1), Some(4));
-    assert_eq!(rt; marks.next(1, 2), Some(1));
-    assert_eq!(rt; marks.next(2, 2), Some(3));
-    assert_eq!(rt; marks.next(0, 12), Some(3));
-    assert_eq!(rt; marks.next(4, 2), None);
-    assert_eq!(rt; marks.next(8, 7), None);
-    assert_eq!(rt; marks.next(0, 8), None);
-    Ok(())
+    let marks = eight(rt.alloc(), &five).expect(&rt, "memory");
+    try_nexts(&rt, &marks);
 }

@@ -25,4 +25,6 @@ mod model;
 #[cfg(test)]
 mod redrive;
 #[cfg(test)]
+mod same;
+#[cfg(test)]
 mod sink;

@@ -1,6 +1,9 @@
-ghost use Rattle.std.specs.Prelude.{◌≡◌};
-ghost use Rattle.sqs_redrive.specs.declared.settings.TaskStatus.TheVariants.{Running};
-
+//! Transfers, batches, returns and move tasks.
+use crate::same::same;
+use Asked::{Cancel, Start, Step};
+use Refusal::{NoTask, TaskRunning};
+use Rest::{Empty, More, NoSource};
+use TaskStatus::{Cancelled, Completed, Failed, Idle, Running};
 use sim_clock::{Class, Key, Refusal};
 use sqs_message::{Message, MessageId, Origin, Place, Text};
 use sqs_redrive::{
@@ -8,10 +11,10 @@ use sqs_redrive::{
     on_return,
 };
 use std::alloc::Global;
-use std::test::Fail;
+use std::process::Abort;
 
 #[test]
-fn a_transfer_has_the_key_of_its_arrival(rt: HostRuntime) -> Result<(), Fail> {
+fn a_transfer_has_the_key_of_its_arrival(rt: HostRuntime) {
     let transfer = Outbound {
         at: 600,
         sender: 5,
@@ -30,16 +33,14 @@ fn a_transfer_has_the_key_of_its_arrival(rt: HostRuntime) -> Result<(), Fail> {
         class: Class::Arrival,
         number: 2,
     };
-    assert_eq!(rt; transfer.key(), key);
-    Ok(())
+    same(&rt, transfer.key(), key);
 }
 
 #[test]
-fn a_batch_is_given_back(rt: HostRuntime) -> Result<(), Fail> {
+fn a_batch_is_given_back(rt: HostRuntime) {
     let batch = Batch::new(Vec::new(rt.alloc()));
-    assert_eq!(rt; batch.as_slice().len(), 0);
-    assert_eq!(rt; batch.into_messages().len(), 0);
-    Ok(())
+    let length = batch.as_slice().len();
+    same(&rt, (length, batch.into_messages().len()), (0, 0));
 }
 
 const QUICK: Latency = Latency {
@@ -63,80 +64,96 @@ fn received(alloc: Global, receives: u64) -> Message {
 }
 
 #[test]
-fn a_message_leaves_at_the_greatest_count(rt: HostRuntime) -> Result<(), Fail> {
+fn a_message_leaves_at_the_greatest_count(rt: HostRuntime) {
     let policy = Policy {
         dead_letter: 1,
         max_receives: 2,
         latency: QUICK,
     };
-    for (receives, want) in [
+    for &(receives, wanted) in &[
         (0, Returned::Stays),
         (1, Returned::Stays),
         (2, Returned::Leaves),
         (3, Returned::Leaves),
     ] {
-        assert_eq!(rt; on_return(&policy, &received(rt.alloc(), receives)), want);
+        let message = received(rt.alloc(), receives);
+        same(&rt, on_return(&policy, &message), wanted);
     }
-    Ok(())
 }
 
-#[test]
-fn a_task_runs_to_an_end_and_again(rt: HostRuntime) -> Result<(), Fail> {
-    let mut task = MoveTask::new(TaskSettings {
-        home: 1,
-        to: None,
-        per_second: 3,
-        latency: QUICK,
-    });
-    assert_eq!(rt; task.status(), TaskStatus::Idle);
-    assert_eq!(rt; task.next_step(), None);
-    assert_eq!(rt; task.cancel(), Err(Refusal::NoTask));
-    assert_eq!(rt; task.start(100), Ok(()));
-    assert_eq!(rt; task.start(200), Err(Refusal::TaskRunning));
-    assert_eq!(rt; task.next_step(), Some(1100));
-    assert_eq!(rt; task.quota(), 3);
-    assert_eq!(rt; task.settings().home, 1);
-    Ok(())
+// What a task is asked to do at a moment. A step takes three messages.
+#[derive(Clone, Copy)]
+enum Asked {
+    Start(u32),
+    Cancel,
+    Step(u32, Rest),
 }
 
-// A task that was started at 100.
-fn running() -> MoveTask
-    ensures running { result.status ≡ Running }
-    ensures counts { (result.moved ≡ 0) × (result.steps ≡ 0) }
-{
-    let mut task = MoveTask::new(TaskSettings {
-        home: 1,
-        to: None,
-        per_second: 3,
-        latency: QUICK,
-    });
-    let _ = task.start(100);
-    task
-}
+// The answer of a task, and then its status, its next step, and how many messages and steps it has
+// made since it started.
+type Told = (Result<(), Refusal>, TaskStatus, Option<u64>, u64, u64);
 
-#[test]
-fn a_running_task_may_be_cancelled(rt: HostRuntime) -> Result<(), Fail> {
-    let mut task = running();
-    assert!(rt; task.is_running());
-    assert_eq!(rt; task.cancel(), Ok(()));
-    assert_eq!(rt; task.status(), TaskStatus::Cancelled);
-    assert_eq!(rt; task.next_step(), None);
-    Ok(())
-}
+// Starts, ends and steps of tasks: each list begins with a task that is idle.
+const TASKS: [&[(Asked, Told)]; 5] = [
+    &[
+        (Cancel, (Err(NoTask), Idle, None, 0, 0)),
+        (Start(100), (Ok(()), Running, Some(1100), 0, 0)),
+        (Start(200), (Err(TaskRunning), Running, Some(1100), 0, 0)),
+    ],
+    &[
+        (Start(100), (Ok(()), Running, Some(1100), 0, 0)),
+        (Cancel, (Ok(()), Cancelled, None, 0, 0)),
+    ],
+    &[
+        (Start(100), (Ok(()), Running, Some(1100), 0, 0)),
+        (Step(1100, Empty), (Ok(()), Completed, None, 3, 1)),
+    ],
+    &[
+        (Start(100), (Ok(()), Running, Some(1100), 0, 0)),
+        (Step(1100, More), (Ok(()), Running, Some(2100), 3, 1)),
+    ],
+    &[
+        (Start(100), (Ok(()), Running, Some(1100), 0, 0)),
+        (Step(1100, NoSource), (Ok(()), Failed, None, 3, 1)),
+    ],
+];
 
-#[test]
-fn a_step_ends_a_task_or_goes_on(rt: HostRuntime) -> Result<(), Fail> {
-    for (rest, status, next) in [
-        (Rest::Empty, TaskStatus::Completed, None),
-        (Rest::More, TaskStatus::Running, Some(2100)),
-        (Rest::NoSource, TaskStatus::Failed, None),
-    ] {
-        let mut task = running();
-        task.step(1100, 3, rest);
-        assert_eq!(rt; task.status(), status);
-        assert_eq!(rt; task.moved(), 3);
-        assert_eq!(rt; task.steps(), 1);
-        assert_eq!(rt; task.next_step(), next);
+// Asks a task, which takes a step only while it runs.
+fn ask(task: &mut MoveTask, asked: Asked) -> Result<(), Refusal> {
+    match asked {
+        Start(now) => task.start(u64::from(now)),
+        Cancel => task.cancel(),
+        Step(now, rest) => {
+            if task.is_running() && task.moved() < 1000 && task.steps() < 1000 {
+                task.step(u64::from(now), 3, rest);
+            }
+            Ok(())
+        }
     }
-    Ok(())
+}
+
+fn try_task(rt: &impl Abort, task: &mut MoveTask, turns: &[(Asked, Told)]) {
+    for &(asked, wanted) in turns {
+        let answer = ask(task, asked);
+        let (status, next) = (task.status(), task.next_step());
+        same(
+            rt,
+            (answer, status, next, task.moved(), task.steps()),
+            wanted,
+        );
+    }
+}
+
+#[test]
+fn tasks_run_to_an_end(rt: HostRuntime) {
+    for turns in &TASKS {
+        let mut task = MoveTask::new(TaskSettings {
+            home: 1,
+            to: None,
+            per_second: 3,
+            latency: QUICK,
+        });
+        same(&rt, (task.quota(), task.settings().home), (3, 1));
+        try_task(&rt, &mut task, turns);
+    }
 }

@@ -1,4 +1,5 @@
 //! A sink that takes so many rows.
+use crate::same::same;
 use sim_clock::{Class, Key, Refusal};
 use sim_sink::{Limit, RowSink};
 use sqs_message::{Detail, Row, RowAnswer, RowKind, RowReceipt};
@@ -25,7 +26,7 @@ fn row() -> Row {
 #[test]
 fn no_more_than_its_limit(rt: HostRuntime) {
     let mut sink = Limit { left: 2 };
-    assert_eq!(rt; sink.take(&[row()]), Ok(()));
-    assert_eq!(rt; sink.take(&[row(), row()]), Err(Refusal::Write));
-    assert_eq!(rt; sink.left, 1);
+    same(&rt, sink.take(&[row()]), Ok(()));
+    same(&rt, sink.take(&[row(), row()]), Err(Refusal::Write));
+    same(&rt, sink.left, 1);
 }

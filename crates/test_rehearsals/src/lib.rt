@@ -3,8 +3,6 @@
 #![tactic(auto)]
 
 #[cfg(test)]
-mod alone;
-#[cfg(test)]
 mod machines;
 #[cfg(test)]
 mod rehearsals;

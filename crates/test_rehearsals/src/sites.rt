@@ -1,52 +1,51 @@
-//! Transfers on their way to a site, a partition without sites, and a task that was never started.
+//! Transfers on their way to a site and their arrival, a partition without sites, and a task that was
+//! never started.
+ghost use Rattle.std.specs.Prelude.{◌≤◌, IfOk};
+ghost use Rattle.sqs_model.specs.Answers.{most_count};
+ghost use Rattle.sqs_model.specs.Progress.{AreTimely, IsRecent};
+
+use crate::machines::scenario;
 use sim_clock::{Class, Key, Refusal};
 use sim_partition::Partition;
-use sim_site::{Site, Task};
+use sim_site::{Handled, Site, Task};
+use sim_windows::opening_sites;
 use sqs_message::{MessageId, Text};
 use sqs_redrive::{Kind, Latency, Load, Outbound, QueueSettings, TaskSettings, TaskStatus};
 use std::alloc::{AllocError, Global};
 
-// A site of a standard queue, with neither actors nor tasks.
-fn fresh_site(alloc: Global) -> Result<Site, AllocError> {
-    let settings = QueueSettings {
-        kind: Kind::Standard {
-            hosts: 4,
-            sampled: 2,
-        },
-        visibility: 30000,
-        delay: 0,
-        retention: 60000,
-        in_flight_limit: 10,
-        policy: None,
-    };
-    let (actors, tasks) = (Vec::new(alloc), Vec::new(alloc));
-    Site::new(alloc, 0, settings, actors, tasks, 7, 0)
+// The sites of a standard queue and of a FIFO queue, with neither actors nor tasks.
+fn two_sites(alloc: Global) -> Option<Vec<Site>> {
+    let text = b"version = 1\nhorizon = 90\n[[queue]]\nname = 'q'\n[[queue]]\nname = 'q.fifo'\n";
+    opening_sites(alloc, scenario(alloc, text)?).ok()
 }
 
 // A forward of one message is on its way.
-fn accept(alloc: Global, site: &mut Site, at: u64) -> Result<(), Refusal> {
+fn accept(alloc: Global, site: &mut Site, at: u64) -> Result<(), Refusal>
+    ensures recent { IfOk site.old (λ s. IsRecent 0 s.core.queue) → IfOk site.new (λ s. IsRecent 0 s.core.queue) }
+    ensures timely { IfOk site.old (λ s. AreTimely s.arriving) → IfOk site.new (λ s. AreTimely s.arriving) }
+{
     let load = Load::Forward {
-        id: MessageId { site: 1, number: 0 },
+        id: MessageId { site: 2, number: 0 },
         body: Text::new(Vec::new(alloc)),
         group: None,
     };
+    let to = site.queue().site();
     site.accept(Outbound {
         at,
         sender: 1,
         number: at,
-        from: 1,
-        to: 0,
+        from: 2,
+        to,
         load,
     })
 }
 
-// A site to which forwards are on their way that arrive at these moments.
-fn site_before(alloc: Global, moments: &[u64]) -> Result<Site, Refusal> {
-    let mut site = fresh_site(alloc)?;
+// Forwards are on their way that arrive at these moments.
+fn accept_each(alloc: Global, site: &mut Site, moments: &[u64]) -> Result<(), Refusal> {
     for at in moments {
-        accept(alloc, &mut site, *at)?;
+        accept(alloc, site, *at)?;
     }
-    Ok(site)
+    Ok(())
 }
 
 // When the forward arrives that is due next; none where another is, or nothing.
@@ -77,27 +76,89 @@ fn has_arriving(site: &Site, moments: &[u64]) -> bool {
     true
 }
 
-// Whether a site lives, has no task, and has this number.
-fn lives_alone(site: &Site, number: u32) -> bool {
-    site.spent().is_none() && site.tasks().is_empty() && site.queue().site() == number
+// Whether a site that lives and has no task has forwards on their way that arrive at these moments.
+fn waits_for(site: &Site, moments: &[u64]) -> bool {
+    let lives_alone = site.spent().is_none() && site.tasks().is_empty();
+    lives_alone && next_arrival(site) == moments.first().copied() && has_arriving(site, moments)
 }
 
-// Whether forwards that are accepted in an order wait in another.
-fn wait_so(alloc: Global, accepted: &[u64], waiting: &[u64]) -> bool {
-    match site_before(alloc, accepted) {
-        Ok(site) => {
-            next_arrival(&site) == waiting.first().copied()
-                && has_arriving(&site, waiting)
-                && lives_alone(&site, 0)
+// Whether nothing waits for a site at first, and forwards that it accepts in an order wait in another.
+fn has_in_order(alloc: Global, site: &mut Site, accepted: &[u64], waiting: &[u64]) -> bool {
+    waits_for(site, &[]) && accept_each(alloc, site, accepted).is_ok() && waits_for(site, waiting)
+}
+
+// The numbers of two sites, each where forwards wait at it in the order of their keys.
+fn in_order(alloc: Global, sites: &mut [Site]) -> [Option<u32>; 2] {
+    let mut numbers = [None; 2];
+    for (number, site) in numbers.iter_mut().zip(sites) {
+        if has_in_order(alloc, site, &[40, 10, 30], &[10, 30, 40]) {
+            *number = Some(site.queue().site());
         }
-        Err(_) => false,
     }
+    numbers
 }
 
 #[test]
 fn transfers_wait_in_the_order_of_their_keys(rt: HostRuntime) {
-    assert!(rt; wait_so(rt.alloc(), &[], &[]));
-    assert!(rt; wait_so(rt.alloc(), &[40, 10, 30], &[10, 30, 40]));
+    match two_sites(rt.alloc()) {
+        Some(mut sites) => {
+            let numbers = in_order(rt.alloc(), sites.as_mut_slice());
+            assert!(rt; numbers == [Some(0), Some(1)]);
+        }
+        None => assert!(rt; false),
+    }
+}
+
+// A site of a standard queue, with neither actors nor tasks.
+fn open(alloc: Global) -> Result<Site, AllocError>
+    ensures recent { IfOk result (λ site. IfOk site (λ s. IsRecent 0 s.core.queue)) }
+    ensures timely { IfOk result (λ site. IfOk site (λ s. AreTimely s.arriving)) }
+{
+    let settings = QueueSettings {
+        kind: Kind::Standard {
+            hosts: 4,
+            sampled: 2,
+        },
+        visibility: 30000,
+        delay: 0,
+        retention: 60000,
+        in_flight_limit: 10,
+        policy: None,
+    };
+    let (actors, tasks) = (Vec::new(alloc), Vec::new(alloc));
+    Site::new(alloc, 0, settings, actors, tasks, 7, 0)
+}
+
+// The handling of what is due next, at a moment.
+fn handle_next(site: &mut Site, now: u64) -> Result<Handled, Refusal>
+    requires moment { now ≤ most_count }
+    requires recent { IfOk site.old (λ s. IsRecent now s.core.queue) }
+    requires timely { IfOk site.old (λ s. AreTimely s.arriving) }
+{
+    match site.least_due() {
+        Some(key) if key.at == now => site.handle(key),
+        _ => Err(Refusal::Memory),
+    }
+}
+
+// When the last message of a site's queue was enqueued.
+fn last_enqueued(site: &Site) -> Option<u64> {
+    site.queue().view().last().map(|message| message.enqueued)
+}
+
+// How many rows the arrival of a forward at the start makes, how many transfers it sends, how many are
+// left on their way, and when its message was enqueued.
+fn arrival(alloc: Global) -> Result<(usize, usize, usize, Option<u64>), Refusal> {
+    let mut site = open(alloc)?;
+    accept(alloc, &mut site, 0)?;
+    let handled = handle_next(&mut site, 0)?;
+    let (rows, sent) = (handled.rows.len(), handled.outbound.len());
+    Ok((rows, sent, site.arriving().len(), last_enqueued(&site)))
+}
+
+#[test]
+fn a_forward_arrives(rt: HostRuntime) {
+    assert!(rt; arrival(rt.alloc()) == Ok((1, 0, 0, Some(0))));
 }
 
 // Whether nothing is due in a partition without sites.

@@ -1,20 +1,21 @@
-ghost use Rattle.std.specs.Prelude.{◌≤◌, IfOk, length};
+//! Lives of actors, step by step: what they are told and what they do.
+ghost use Rattle.std.specs.Prelude.{◌≤◌, length};
 ghost use Rattle.sqs_model.specs.Valid.{IsLatency};
 ghost use Rattle.sim_actor.specs.Lives.{IsRole};
 
+use crate::same::same;
 use sim_actor::Actor;
-use sim_clock::Refusal;
 use sqs_message::{Call, MessageId, Origin, Receipt, Script, ScriptCall, Text};
 use sqs_model::{Act, ActorSettings, Answer, ConsumerSettings, Forwarding, ProducerSettings, Role};
 use sqs_redrive::{Batch, Got, Latency, Load, Outbound};
 use std::alloc::{AllocError, Global};
+use std::fmt::Write;
 use std::process::Abort;
 use std::str;
-use std::test::Fail;
 
 // The text of some letters.
-fn text(alloc: Global, letters: &str) -> Result<Text, AllocError> {
-    Ok(Text::new(letters.as_bytes().to_vec(alloc)?))
+fn text(rt: &impl Abort, alloc: Global, letters: &str) -> Text {
+    Text::new(letters.as_bytes().to_vec(alloc).expect(rt, "memory"))
 }
 
 // The letters of a text.
@@ -33,37 +34,42 @@ fn letters_if(text: &Option<Text>) -> &str {
     }
 }
 
+type Shown = Result<(), AllocError>;
+
 // A transfer in a line.
-fn shown_transfer(alloc: Global, sent: &Outbound) -> Result<String, AllocError> {
+fn show_transfer(out: &mut String, sent: &Outbound) -> Shown {
     let body = match &sent.load {
         Load::Forward { body, .. } => letters(body),
         _ => "no forward",
     };
-    format!(in alloc;
-        "at {} from {} {} number {} to {} {body}",
+    write!(
+        out,
+        " at {} from {} {} number {} to {} {body}",
         sent.at, sent.sender, sent.from, sent.number, sent.to
     )
 }
 
 // The end of a service in a line.
-fn shown_service(
-    alloc: Global,
+fn show_service(
+    out: &mut String,
     receipt: Receipt,
     failed: bool,
     forward: &Option<Outbound>,
-) -> Result<String, AllocError> {
-    let receipt = receipt.text(alloc)?;
+) -> Shown {
+    let Receipt {
+        site,
+        number,
+        count,
+    } = receipt;
+    write!(out, "serve r-{site}-{number}-{count} {failed}")?;
     match forward {
-        None => format!(in alloc; "serve {receipt} {failed}"),
-        Some(sent) => {
-            let sent = shown_transfer(alloc, sent)?;
-            format!(in alloc; "serve {receipt} {failed} {sent}")
-        }
+        None => Ok(()),
+        Some(sent) => show_transfer(out, sent),
     }
 }
 
 // An act in a line.
-fn shown(alloc: Global, act: &Act) -> Result<String, AllocError> {
+fn show(out: &mut String, act: &Act) -> Shown {
     match act {
         Act::Send {
             body,
@@ -72,30 +78,28 @@ fn shown(alloc: Global, act: &Act) -> Result<String, AllocError> {
             id,
         } => {
             let (body, group, id) = (letters(body), letters_if(group), letters_if(id));
-            format!(in alloc; "send {body} {:?} {group} {id}", *delay)
+            write!(out, "send {body} {:?} {group} {id}", *delay)
         }
         Act::Receive { max, wait, timeout } => {
-            format!(in alloc; "receive {max} {wait} {:?}", *timeout)
+            write!(out, "receive {max} {wait} {:?}", *timeout)
         }
-        Act::Delete { receipt } => format!(in alloc; "delete {}", letters(receipt)),
-        Act::Change { receipt, timeout } => {
-            format!(in alloc; "change {} {timeout}", letters(receipt))
-        }
-        Act::Start { task } => format!(in alloc; "start {task}"),
-        Act::Cancel { task } => format!(in alloc; "cancel {task}"),
+        Act::Delete { receipt } => write!(out, "delete {}", letters(receipt)),
+        Act::Change { receipt, timeout } => { write!(out, "change {} {timeout}", letters(receipt)) }
+        Act::Start { task } => write!(out, "start {task}"),
+        Act::Cancel { task } => write!(out, "cancel {task}"),
         Act::Serve {
             receipt,
             failed,
             forward,
             ..
-        } => shown_service(alloc, *receipt, *failed, forward),
-        Act::Nothing => format!(in alloc; "nothing"),
+        } => show_service(out, *receipt, *failed, forward),
+        Act::Nothing => out.push_str("nothing"),
     }
 }
 
 // A message of queue 2 that was received once.
-fn got(alloc: Global, number: u64, body: &str) -> Result<Got, AllocError> {
-    Ok(Got {
+fn got(rt: &impl Abort, alloc: Global, number: u64, body: &str) -> Got {
+    Got {
         id: MessageId { site: 2, number },
         receipt: Receipt {
             site: 2,
@@ -104,9 +108,9 @@ fn got(alloc: Global, number: u64, body: &str) -> Result<Got, AllocError> {
         },
         origin: Origin { site: 2, number },
         group: None,
-        body: text(alloc, body)?,
+        body: text(rt, alloc, body),
         left: None,
-    })
+    }
 }
 
 // What an actor is told in a table.
@@ -120,18 +124,17 @@ enum Told {
 }
 
 // The answer that it stands for; two messages are 4 and 6 with the bodies x and y.
-fn answer(alloc: Global, told: Told) -> Result<Answer, AllocError> {
+fn answer(rt: &impl Abort, alloc: Global, told: Told) -> Answer {
     match told {
-        Told::Wake => Ok(Answer::Wake),
+        Told::Wake => Answer::Wake,
         Told::Two => {
-            let mut messages = Vec::new(alloc);
-            messages.push(got(alloc, 4, "x")?)?;
-            messages.push(got(alloc, 6, "y")?)?;
-            Ok(Answer::Got(Batch::new(messages)))
+            let (first, second) = (got(rt, alloc, 4, "x"), got(rt, alloc, 6, "y"));
+            let messages = vec![in alloc; first, second].expect(rt, "memory");
+            Answer::Got(Batch::new(messages))
         }
-        Told::Empty => Ok(Answer::Got(Batch::new(Vec::new(alloc)))),
-        Told::Waiting => Ok(Answer::Waiting),
-        Told::Other => Ok(Answer::Other),
+        Told::Empty => Answer::Got(Batch::new(Vec::new(alloc))),
+        Told::Waiting => Answer::Waiting,
+        Told::Other => Answer::Other,
     }
 }
 
@@ -139,20 +142,14 @@ fn answer(alloc: Global, told: Told) -> Result<Answer, AllocError> {
 type Step = (u32, Told, &'static str, Option<u64>);
 
 // Lets an actor go through the steps of a life.
-fn live(rt: &impl Abort, alloc: Global, actor: &mut Actor, steps: &[Step]) -> Result<(), Fail> {
-    for step in steps {
-        let (now, told, expected, wake) = *step;
-        let act = actor.next(u64::from(now), answer(alloc, told)?)?;
-        let line = shown(alloc, &act)?;
-        assert_eq!(rt; line.as_str(), expected, "at {now}");
-        assert_eq!(rt; actor.wake(), wake, "at {now}");
+fn live(rt: &impl Abort, alloc: Global, actor: &mut Actor, steps: &[Step]) {
+    for &(now, told, wanted, wake) in steps {
+        let answer = answer(rt, alloc, told);
+        let act = actor.next(u64::from(now), answer).expect(rt, "an act");
+        let mut line = String::new(alloc);
+        show(&mut line, &act).expect(rt, "memory");
+        same(rt, (now, line.as_str(), actor.wake()), (now, wanted, wake));
     }
-    Ok(())
-}
-
-// When an actor wakes, if it does.
-fn wake_of(actor: &Actor) -> Option<u64> {
-    actor.wake()
 }
 
 // A script call at a moment.
@@ -161,13 +158,13 @@ fn at(at: u64, call: Call) -> ScriptCall {
 }
 
 // A script of every call.
-fn every_call(alloc: Global) -> Result<Script, AllocError>
-    ensures { IfOk result (λ script. length script ≤ 100000) }
+fn every_call(rt: &impl Abort, alloc: Global) -> Script
+    ensures { length result ≤ 100000 }
 {
     let send = Call::Send {
-        body: text(alloc, "a{n}")?,
+        body: text(rt, alloc, "a{n}"),
         delay: Some(3),
-        group: Some(text(alloc, "g")?),
+        group: Some(text(rt, alloc, "g")),
         id: None,
     };
     let receive = Call::Receive {
@@ -176,10 +173,10 @@ fn every_call(alloc: Global) -> Result<Script, AllocError>
         timeout: None,
     };
     let delete = Call::Delete {
-        receipt: text(alloc, "r-0-0-1")?,
+        receipt: text(rt, alloc, "r-0-0-1"),
     };
     let change = Call::Change {
-        receipt: text(alloc, "r-0-1-1")?,
+        receipt: text(rt, alloc, "r-0-1-1"),
         timeout: 0,
     };
     let start = Call::Start { task: 4 };
@@ -191,8 +188,8 @@ fn every_call(alloc: Global) -> Result<Script, AllocError>
         at(40, change),
         at(50, start),
         at(60, cancel),
-    ]?;
-    Ok(Script::new(calls))
+    ];
+    Script::new(calls.expect(rt, "memory"))
 }
 
 // A producer of three messages.
@@ -239,15 +236,14 @@ fn consumer(fail_permille: u64, latency: Latency) -> ActorSettings
 }
 
 #[test]
-fn script_makes_each_call_at_its_time(rt: HostRuntime) -> Result<(), Fail> {
-    let alloc = rt.alloc();
+fn script_makes_each_call_at_its_time(rt: HostRuntime) {
     let settings = ActorSettings {
         home: 0,
-        role: Role::Script(every_call(alloc)?),
+        role: Role::Script(every_call(&rt, rt.alloc())),
     };
-    let mut actor = Actor::new(alloc, 1, settings, 0);
-    assert!(rt; actor.number() == 1 && actor.settings().home == 0);
-    assert_eq!(rt; wake_of(&actor), Some(10));
+    let mut actor = Actor::new(rt.alloc(), 1, settings, 0);
+    same(&rt, (actor.number(), actor.settings().home), (1, 0));
+    same(&rt, actor.wake(), Some(10));
     let life: &[Step] = &[
         (10, Told::Wake, "send a{n} Some(3) g -", Some(20)),
         (10, Told::Other, "nothing", Some(20)),
@@ -260,15 +256,21 @@ fn script_makes_each_call_at_its_time(rt: HostRuntime) -> Result<(), Fail> {
         (60, Told::Wake, "cancel 5", None),
         (70, Told::Wake, "nothing", None),
     ];
-    live(&rt, alloc, &mut actor, life)
+    live(&rt, rt.alloc(), &mut actor, life);
+}
+
+// Lets a producer, of this number and under seed 0, go through a life.
+fn produce(rt: &impl Abort, alloc: Global, number: u32, settings: ActorSettings, steps: &[Step])
+    requires { IsRole settings.role }
+{
+    let mut actor = Actor::new(alloc, number, settings, 0);
+    same(rt, actor.wake(), Some(5));
+    live(rt, alloc, &mut actor, steps);
 }
 
 #[test]
-fn producer_sends_in_turn_and_stops(rt: HostRuntime) -> Result<(), Fail> {
-    let alloc = rt.alloc();
-    let settings = producer(text(alloc, "{n}")?, 100, Some(2), true);
-    let mut actor = Actor::new(alloc, 7, settings, 0);
-    assert_eq!(rt; wake_of(&actor), Some(5));
+fn producer_sends_in_turn_and_stops(rt: HostRuntime) {
+    let settings = producer(text(&rt, rt.alloc(), "{n}"), 100, Some(2), true);
     let life: &[Step] = &[
         (5, Told::Wake, "send 0 Some(9) g0 7-0", None),
         (5, Told::Other, "nothing", Some(105)),
@@ -277,35 +279,42 @@ fn producer_sends_in_turn_and_stops(rt: HostRuntime) -> Result<(), Fail> {
         (205, Told::Wake, "send 2 Some(9) g0 7-2", None),
         (205, Told::Other, "nothing", None),
     ];
-    live(&rt, alloc, &mut actor, life)
+    produce(&rt, rt.alloc(), 7, settings, life);
 }
 
 #[test]
-fn producer_draws_its_gaps(rt: HostRuntime) -> Result<(), Fail> {
-    let alloc = rt.alloc();
+fn producer_draws_its_gaps(rt: HostRuntime) {
     // The first two words of agent 0 under seed 0 give 68 and 57.
-    let settings = producer(text(alloc, "b")?, 1, None, false);
-    let mut actor = Actor::new(alloc, 0, settings, 0);
+    let settings = producer(text(&rt, rt.alloc(), "b"), 1, None, false);
     let life: &[Step] = &[
         (5, Told::Wake, "send b Some(9) - -", None),
         (5, Told::Other, "nothing", Some(73)),
         (73, Told::Wake, "send b Some(9) - -", None),
         (73, Told::Other, "nothing", Some(130)),
     ];
-    live(&rt, alloc, &mut actor, life)
+    produce(&rt, rt.alloc(), 0, settings, life);
+}
+
+// Lets a consumer, of number 0 and under seed 0, go through a life, and then counts a poll of it and
+// its wakes.
+fn consume(rt: &impl Abort, alloc: Global, settings: ActorSettings, steps: &[Step], wakes: u64)
+    requires { IsRole settings.role }
+{
+    let mut actor = Actor::new(alloc, 0, settings, 0);
+    same(rt, actor.wake(), Some(7));
+    live(rt, alloc, &mut actor, steps);
+    actor.polled().expect(rt, "a count");
+    same(rt, (actor.polls(), actor.wakes()), (1, wakes));
 }
 
 #[test]
-fn consumer_forwards_deletes_fails_and_rests(rt: HostRuntime) -> Result<(), Fail> {
-    let alloc = rt.alloc();
+fn consumer_forwards_deletes_fails_and_rests(rt: HostRuntime) {
     let latency = Latency {
         least: 500,
         greatest: 500,
     };
     // The words of agent 0 under seed 0 give in turn: a service of 68 ms; 563 of 1,000, no failure;
     // a service of 90 ms; 159 of 1,000, a failure. The latency takes no word.
-    let mut actor = Actor::new(alloc, 0, consumer(563, latency), 0);
-    assert_eq!(rt; wake_of(&actor), Some(7));
     let receive = "receive 2 5 Some(30)";
     let first = "serve r-2-4-1 false at 575 from 0 2 number 0 to 3 x";
     let life: &[Step] = &[
@@ -322,19 +331,17 @@ fn consumer_forwards_deletes_fails_and_rests(rt: HostRuntime) -> Result<(), Fail
         (6166, Told::Wake, receive, None),
         (6166, Told::Other, "nothing", Some(7166)),
     ];
-    live(&rt, alloc, &mut actor, life)
+    consume(&rt, rt.alloc(), consumer(563, latency), life, 5);
 }
 
 #[test]
-fn consumer_draws_the_latency_after_the_chance(rt: HostRuntime) -> Result<(), Fail> {
-    let alloc = rt.alloc();
+fn consumer_draws_the_latency_after_the_chance(rt: HostRuntime) {
     let latency = Latency {
         least: 1,
         greatest: 100,
     };
     // The words of agent 0 under seed 0 give in turn: a service of 68 ms; 563 of 1,000; a latency of
     // 90 ms; a service of 16 ms; 719 of 1,000; a latency of 11 ms.
-    let mut actor = Actor::new(alloc, 0, consumer(500, latency), 0);
     let first = "serve r-2-4-1 false at 158 from 0 2 number 0 to 3 x";
     let second = "serve r-2-6-1 false at 95 from 0 2 number 1 to 3 y";
     let life: &[Step] = &[
@@ -344,44 +351,28 @@ fn consumer_draws_the_latency_after_the_chance(rt: HostRuntime) -> Result<(), Fa
         (68, Told::Other, "nothing", Some(84)),
         (84, Told::Wake, second, None),
     ];
-    live(&rt, alloc, &mut actor, life)?;
-    actor.polled()?;
-    assert!(rt; actor.polls() == 1 && actor.wakes() == 2);
-    Ok(())
+    consume(&rt, rt.alloc(), consumer(500, latency), life, 2);
 }
 
-// The body of a producer's first message, whose number is 0, where its settings have this one.
-fn first_body(alloc: Global, body: &str) -> Result<Option<Text>, Refusal> {
-    let settings = producer(text(alloc, body)?, 100, None, false);
-    let mut actor = Actor::new(alloc, 7, settings, 0);
-    match actor.next(5, Answer::Wake)? {
-        Act::Send { body, .. } => Ok(Some(body)),
-        _ => Ok(None),
-    }
-}
-
-// Whether a body is this one where 0 stands for each mark.
-fn has_zero(alloc: Global, body: &str, with_zero: &str) -> bool {
-    match first_body(alloc, body) {
-        Ok(Some(text)) => letters(&text) == with_zero,
-        _ => false,
-    }
+// What a producer of messages with this body sends first, whose number is 0.
+fn try_body(rt: &impl Abort, alloc: Global, body: &str, wanted: &'static str) {
+    let settings = producer(text(rt, alloc, body), 100, None, false);
+    produce(rt, alloc, 7, settings, &[(5, Told::Wake, wanted, None)]);
 }
 
 #[test]
 fn each_mark_in_a_body_is_replaced(rt: HostRuntime) {
-    let bodies: &[(&str, &str)] = &[
-        ("", ""),
-        ("{n}", "0"),
-        ("{n}{n}", "00"),
-        ("a{n}b{n}c", "a0b0c"),
-        ("{{n}}", "{0}"),
-        ("{n", "{n"),
-        ("{{n", "{{n"),
-        ("{n{n}", "{n0"),
-        ("{N}n}", "{N}n}"),
-    ];
-    for &(body, with_zero) in bodies {
-        assert!(rt; has_zero(rt.alloc(), body, with_zero), "{body}");
+    for &(body, wanted) in &[
+        ("", "send  Some(9) - -"),
+        ("{n}", "send 0 Some(9) - -"),
+        ("{n}{n}", "send 00 Some(9) - -"),
+        ("a{n}b{n}c", "send a0b0c Some(9) - -"),
+        ("{{n}}", "send {0} Some(9) - -"),
+        ("{n", "send {n Some(9) - -"),
+        ("{{n", "send {{n Some(9) - -"),
+        ("{n{n}", "send {n0 Some(9) - -"),
+        ("{N}n}", "send {N}n} Some(9) - -"),
+    ] {
+        try_body(&rt, rt.alloc(), body, wanted);
     }
 }

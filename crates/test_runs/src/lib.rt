@@ -15,4 +15,6 @@ mod records;
 #[cfg(test)]
 mod report;
 #[cfg(test)]
+mod same;
+#[cfg(test)]
 mod workers;

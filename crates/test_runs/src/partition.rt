@@ -4,13 +4,14 @@ ghost use Rattle.sqs_model.specs.Answers.{most_count};
 ghost use Rattle.sqs_model.specs.Progress.{AreTimely, IsSound, WasEnqueuedBy};
 ghost use Rattle.sim_partition.specs.Sites.{IsOfPast, site_number};
 
+use crate::same::same;
 use sim_clock::{Class, Key, Refusal};
 use sim_partition::{Partition, Ran};
 use sim_site::{Handled, Site};
 use sqs_message::{MessageId, Text};
 use sqs_redrive::{Kind, Load, Outbound, QueueSettings};
 use std::alloc::{AllocError, Global};
-use std::test::Fail;
+use std::process::Abort;
 
 // A site of a queue of this number with neither actors nor tasks, sampled every so often.
 fn open(alloc: Global, number: u32, sample: u64) -> Result<Site, AllocError>
@@ -36,15 +37,15 @@ fn open(alloc: Global, number: u32, sample: u64) -> Result<Site, AllocError>
 }
 
 // A partition of the queues 2, 3 and 9.
-fn open_three(alloc: Global, sample: u64) -> Result<Partition, AllocError>
+fn open_three(rt: &impl Abort, alloc: Global, sample: u64) -> Partition
     requires { sample ≤ most_count }
-    ensures { IfOk result (λ p. IfOk p (All (IsOfPast 0))) }
+    ensures { IfOk result (All (IsOfPast 0)) }
 {
-    let first = open(alloc, 2, sample)?;
-    let second = open(alloc, 3, sample)?;
-    let third = open(alloc, 9, sample)?;
-    let sites = vec![in alloc; first, second, third]?;
-    Partition::new(alloc, sites)
+    let first = open(alloc, 2, sample).expect(rt, "memory");
+    let second = open(alloc, 3, sample).expect(rt, "memory");
+    let third = open(alloc, 9, sample).expect(rt, "memory");
+    let sites = vec![in alloc; first, second, third].expect(rt, "memory");
+    Partition::new(alloc, sites).expect(rt, "memory")
 }
 
 // A forward of one message from queue 1 to another.
@@ -94,13 +95,12 @@ fn step_at(partition: &mut Partition, now: u64) -> Result<Handled, Refusal>
     }
 }
 
-// The queues of the rows that a run made.
-fn queues(alloc: Global, ran: &Ran) -> Result<Vec<u32>, AllocError> {
-    let mut queues = Vec::new(alloc);
-    for row in &ran.rows {
-        queues.push(row.queue)?;
+// Compares the queues of the rows that a run made.
+fn try_queues(rt: &impl Abort, ran: &Ran, wanted: &[u32]) {
+    same(rt, ran.rows.len(), wanted.len());
+    for (row, &queue) in ran.rows.iter().zip(wanted) {
+        same(rt, row.queue, queue);
     }
-    Ok(queues)
 }
 
 // The key of a queue's first sample, every ten milliseconds.
@@ -113,39 +113,63 @@ fn sample_of(queue: u32) -> Key {
     }
 }
 
-#[test]
-fn samples_go_by_number(rt: HostRuntime) -> Result<(), Fail> {
-    let mut partition = open_three(rt.alloc(), 10)?;
-    assert_eq!(rt; partition.least_due(), Some(sample_of(2)));
-    let handled = step_at(&mut partition, 10)?;
-    assert_eq!(rt; (handled.rows.len(), handled.outbound.len()), (1, 0));
-    assert_eq!(rt; partition.least_due(), Some(sample_of(3)));
-    assert_eq!(rt; partition.run_to(10)?.rows.len(), 0);
-    let ran = partition.run_to(21)?;
-    assert_eq!(rt;
-        queues(rt.alloc(), &ran)?.as_slice(),
-        [3, 9, 2, 3, 9].as_slice()
-    );
-    assert_eq!(rt; ran.outbound.len(), 0);
-    assert_eq!(rt; partition.least_due().map(|key| key.at), Some(30));
-    assert_eq!(rt; partition.spent(), None);
-    Ok(())
+// Compares the moment of what is least due.
+fn try_due(rt: &impl Abort, partition: &Partition, wanted: Option<u64>) {
+    let moment = match partition.least_due() {
+        None => None,
+        Some(key) => Some(key.at),
+    };
+    same(rt, moment, wanted);
+}
+
+// Handles what is least due at 10 milliseconds, and compares how many rows and transfers it made. No
+// more is due before then.
+fn try_step(rt: &impl Abort, partition: &mut Partition, wanted: (usize, usize)) {
+    let handled = step_at(partition, 10).expect(rt, "a handling");
+    same(rt, (handled.rows.len(), handled.outbound.len()), wanted);
+}
+
+// Runs to a moment, and compares the queues of the rows. No transfer is made.
+fn try_run(rt: &impl Abort, partition: &mut Partition, end: u64, wanted: &[u32])
+    requires { end ≤ most_count }
+{
+    let ran = partition.run_to(end).expect(rt, "a run");
+    same(rt, ran.outbound.len(), 0);
+    try_queues(rt, &ran, wanted);
+}
+
+fn try_samples(rt: &impl Abort, partition: &mut Partition) {
+    same(rt, partition.least_due(), Some(sample_of(2)));
+    try_step(rt, partition, (1, 0));
+    same(rt, partition.least_due(), Some(sample_of(3)));
+    try_run(rt, partition, 10, &[]);
+    try_run(rt, partition, 21, &[3, 9, 2, 3, 9]);
+    try_due(rt, partition, Some(30));
+    same(rt, partition.spent(), None);
 }
 
 #[test]
-fn forwards_arrive_where_they_go(rt: HostRuntime) -> Result<(), Fail> {
-    let mut partition = open_three(rt.alloc(), 0)?;
-    assert_eq!(rt; partition.least_due(), None);
-    deliver(&mut partition, forwards(rt.alloc())?)?;
-    assert_eq!(rt; partition.least_due().map(|key| key.at), Some(10));
-    assert_eq!(rt; step_at(&mut partition, 10)?.rows.len(), 1);
-    assert_eq!(rt; partition.run_to(20)?.rows.len(), 0);
+fn samples_go_by_number(rt: HostRuntime) {
+    let mut partition = open_three(&rt, rt.alloc(), 10);
+    try_samples(&rt, &mut partition);
+}
+
+fn try_forwards(rt: &impl Abort, partition: &mut Partition) {
+    try_due(rt, partition, Some(10));
+    try_step(rt, partition, (1, 0));
+    try_run(rt, partition, 20, &[]);
     // Of one moment and one sender the lesser number comes first.
-    let ran = partition.run_to(21)?;
-    assert_eq!(rt; queues(rt.alloc(), &ran)?.as_slice(), [9, 3].as_slice());
+    try_run(rt, partition, 21, &[9, 3]);
     // The first message's retention ends.
-    assert_eq!(rt; partition.least_due().map(|key| key.at), Some(60010));
-    let sites = partition.into_sites();
-    assert_eq!(rt; sites.len(), 3);
-    Ok(())
+    try_due(rt, partition, Some(60010));
+}
+
+#[test]
+fn forwards_arrive_where_they_go(rt: HostRuntime) {
+    let mut partition = open_three(&rt, rt.alloc(), 0);
+    same(&rt, partition.least_due(), None);
+    let transfers = forwards(rt.alloc()).expect(&rt, "memory");
+    deliver(&mut partition, transfers).expect(&rt, "a delivery");
+    try_forwards(&rt, &mut partition);
+    same(&rt, partition.into_sites().len(), 3);
 }

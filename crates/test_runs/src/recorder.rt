@@ -6,6 +6,7 @@ ghost use Rattle.sqs_formats.specs.Rows.{lines, row_fields};
 ghost use Rattle.sim_records.specs.Writers.{has_failed};
 ghost use Rattle.sim_recorder.specs.Sinks.{Added};
 
+use crate::same::same;
 use sim_clock::{Class, Key, Refusal};
 use sim_recorder::{Counter, Recorder, Unwatched};
 use sim_records::{Names, Out, ToWriter};
@@ -15,7 +16,7 @@ use sqs_message::{Detail, Row, RowAnswer, RowKind, RowReceipt, Text};
 use sqs_model::{FinalMessages, FinalTasks, FinalTransfers};
 use std::alloc::Global;
 use std::io::{Error, ErrorKind, Write};
-use std::test::Fail;
+use std::process::Abort;
 
 /// The lines of the first batch of rows.
 const FIRST_LINES: &[u8] = b"0,q,s,send,new,,,\n1,q,s,receive,ok,,,\n";
@@ -29,22 +30,23 @@ const REPORT: &[u8] =
     b"report,queue,sends,repeats,receives,empties,deletes,expiries,redrives,moves,arrivals,OverLimit,MessageNotInflight,ReceiptHandleIsInvalid,BadTimeout,MissingGroup,MissingDeduplication,BadDelay,TaskRunning,NoTask,depth_max,visible,in_flight,delayed,age_sum,age_max,age_p50,age_p95,age_p99\nreport,q,1,0,1,0,1,0,0,0,0,0,0,0,0,0,0,0,0,0,1,0,0,0,5,5,5,5,5\nreport,d,1,0,0,0,0,0,0,0,0,0,0,0,0,0,0,0,0,0,1,0,0,0,0,,,,\n";
 
 /// These names, by number.
-fn texts(alloc: Global, names: &[&[u8]]) -> Result<Vec<Text>, Fail> {
+fn texts(rt: &impl Abort, alloc: Global, names: &[&[u8]]) -> Vec<Text> {
     let mut texts = Vec::new(alloc);
     for name in names {
-        texts.push(Text::new(name.to_vec(alloc)?))?;
+        let name = name.to_vec(alloc).expect(rt, "memory");
+        texts.push(Text::new(name)).expect(rt, "memory");
     }
-    Ok(texts)
+    texts
 }
 
 /// The queues `q` and `d`, and the actor `s`.
-fn names(alloc: Global) -> Result<Names, Fail> {
-    Ok(Names::new(texts(alloc, &[b"q", b"d", b"s"])?))
+fn names(rt: &impl Abort, alloc: Global) -> Names {
+    Names::new(texts(rt, alloc, &[b"q", b"d", b"s"]))
 }
 
 /// The report of no rows of the queues `q` and `d`.
-fn report(alloc: Global) -> Result<Report, Fail> {
-    Ok(Report::new(alloc, texts(alloc, &[b"q", b"d"])?)?)
+fn report(rt: &impl Abort, alloc: Global) -> Report {
+    Report::new(alloc, texts(rt, alloc, &[b"q", b"d"])).expect(rt, "memory")
 }
 
 /// A row of the actor `s`.
@@ -82,16 +84,16 @@ fn second() -> [Row; 2] {
     ]
 }
 
-/// The bytes of a report, with nothing left at the end.
-fn report_bytes(alloc: Global, report: &Report) -> Result<Vec<u8>, Fail> {
+/// Compares the bytes of a report, with nothing left at the end.
+fn try_report(rt: &impl Abort, alloc: Global, report: &Report) {
     let finals = Finals {
         messages: FinalMessages::new(Vec::new(alloc)),
         transfers: FinalTransfers::new(Vec::new(alloc)),
         tasks: FinalTasks::new(Vec::new(alloc)),
     };
     let mut out = ToWriter::new(Vec::new(alloc));
-    report.write_report(alloc, &mut out, &finals)?;
-    Ok(out.into_inner())
+    let answer = report.write_report(alloc, &mut out, &finals);
+    same(rt, (answer, out.get_ref().as_slice()), (Ok(()), REPORT));
 }
 
 /// Hands rows to a sink in two batches.
@@ -138,24 +140,21 @@ fn record<W: Out>(
 }
 
 #[test]
-fn two_batches_are_counted(rt: HostRuntime) -> Result<(), Fail> {
-    let alloc = rt.alloc();
-    let mut report = report(alloc)?;
-    count(&mut report, &first(), &second())?;
-    assert_eq!(rt; report_bytes(alloc, &report)?.as_slice(), REPORT);
-    Ok(())
+fn two_batches_are_counted(rt: HostRuntime) {
+    let mut report = report(&rt, rt.alloc());
+    let answer = count(&mut report, &first(), &second());
+    same(&rt, answer, Ok(()));
+    try_report(&rt, rt.alloc(), &report);
 }
 
 #[test]
-fn two_batches_are_written_and_counted(rt: HostRuntime) -> Result<(), Fail> {
-    let alloc = rt.alloc();
-    let names = names(alloc)?;
+fn two_batches_are_written_and_counted(rt: HostRuntime) {
+    let (alloc, names) = (rt.alloc(), names(&rt, rt.alloc()));
     let mut out = ToWriter::new(Vec::new(alloc));
-    let mut report = report(alloc)?;
-    record(alloc, &names, &mut out, &mut report, &first(), &second())?;
-    assert_eq!(rt; out.into_inner().as_slice(), LINES);
-    assert_eq!(rt; report_bytes(alloc, &report)?.as_slice(), REPORT);
-    Ok(())
+    let mut report = report(&rt, alloc);
+    let answer = record(alloc, &names, &mut out, &mut report, &first(), &second());
+    same(&rt, (answer, out.into_inner().as_slice()), (Ok(()), LINES));
+    try_report(&rt, alloc, &report);
 }
 
 /// Takes so many bytes, and then answers an error.
@@ -191,16 +190,19 @@ fn writer(alloc: Global, left: usize) -> ToWriter<Limited>
     })
 }
 
+/// Compares what a writer holds that takes so many bytes of both batches.
+fn try_front(rt: &impl Abort, alloc: Global, names: &Names, left: usize, front: &[u8]) {
+    let mut out = writer(alloc, left);
+    let mut report = report(rt, alloc);
+    let answer = record(alloc, names, &mut out, &mut report, &first(), &second());
+    let held = out.get_ref().held.as_slice();
+    same(rt, (answer, held), (Err(Refusal::Write), front));
+}
+
 #[test]
-fn a_writer_that_fails_ends_the_rows(rt: HostRuntime) -> Result<(), Fail> {
-    let alloc = rt.alloc();
-    let names = names(alloc)?;
+fn a_writer_that_fails_ends_the_rows(rt: HostRuntime) {
+    let names = names(&rt, rt.alloc());
     for left in [0, FIRST_LINES.len() - 1, FIRST_LINES.len(), LINES.len() - 1] {
-        let mut out = writer(alloc, left);
-        let mut report = report(alloc)?;
-        let answer = record(alloc, &names, &mut out, &mut report, &first(), &second());
-        assert!(rt; matches!(answer, Err(Refusal::Write)));
-        assert!(rt; out.get_ref().held.as_slice() == &LINES[..left]);
+        try_front(&rt, rt.alloc(), &names, left, &LINES[..left]);
     }
-    Ok(())
 }

@@ -6,27 +6,29 @@ mod finals;
 mod rows;
 mod writers;
 
+use crate::same::same;
 use sim_clock::{Class, Key, Refusal};
 use sim_records::{Names, Out, ToWriter, write_header, write_rows};
 use sqs_message::{Detail, Row, RowAnswer, RowKind, RowReceipt, Text};
-use std::alloc::{AllocError, Global};
+use std::alloc::Global;
+use std::process::Abort;
 
 /// The MD5 of `abc`.
 const ABC: [u8; 16] = [
     0x90, 0x01, 0x50, 0x98, 0x3c, 0xd2, 0x4f, 0xb0, 0xd6, 0x96, 0x3f, 0x7d, 0x28, 0xe1, 0x7f, 0x72,
 ];
 
-fn text(alloc: Global, bytes: &[u8]) -> Result<Text, AllocError> {
-    Ok(Text::new(bytes.to_vec(alloc)?))
+fn text(rt: &impl Abort, alloc: Global, bytes: &[u8]) -> Text {
+    Text::new(bytes.to_vec(alloc).expect(rt, "memory"))
 }
 
 /// The queues `q` and `d`, the actor `s` and the task `t`.
-fn names(alloc: Global) -> Result<Names, AllocError> {
+fn names(rt: &impl Abort, alloc: Global) -> Names {
     let mut texts = Vec::new(alloc);
     for &name in &[b"q", b"d", b"s", b"t"] {
-        texts.push(text(alloc, name)?)?;
+        texts.push(text(rt, alloc, name)).expect(rt, "memory");
     }
-    Ok(Names::new(texts))
+    Names::new(texts)
 }
 
 /// A row of the actor `s` at the queue `q`.
@@ -56,7 +58,12 @@ fn write_log<W: Out>(alloc: Global, out: &mut W, rows: &[Row], names: &Names) ->
     write_rows(alloc, out, rows, names)
 }
 
-/// Whether a call answered Ok, and the writer holds these bytes.
-fn is_written(out: &ToWriter<Vec<u8>>, answer: &Result<(), Refusal>, bytes: &[u8]) -> bool {
-    answer.is_ok() && out.get_ref().as_slice() == bytes
+/// Compares what a writer holds after a call that succeeded.
+fn try_written(
+    rt: &impl Abort,
+    out: &ToWriter<Vec<u8>>,
+    answer: Result<(), Refusal>,
+    bytes: &[u8],
+) {
+    same(rt, (answer, out.get_ref().as_slice()), (Ok(()), bytes));
 }

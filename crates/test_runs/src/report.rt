@@ -1,14 +1,15 @@
 //! What no clause says: the bytes themselves, against values worked out apart from this program.
-ghost use Rattle.std.specs.Prelude.{◌≡◌, ◌++◌, IfOk};
+ghost use Rattle.std.specs.Prelude.{◌≡◌, ◌++◌};
 ghost use Rattle.sim_report.specs.Running.{running};
 
+use crate::same::same;
 use sim_clock::{Class, Key, Refusal};
 use sim_records::ToWriter;
 use sim_report::{Report, compare};
 use sqs_message::{Detail, MessageId, Origin, Place, Row, RowAnswer, RowKind, RowReceipt, Text};
 use sqs_model::{FinalMessage, FinalMessages, FinalTasks, FinalTransfers, Finals};
 use std::alloc::Global;
-use std::test::Fail;
+use std::process::Abort;
 
 const NONE: Detail = Detail::Absent;
 
@@ -139,72 +140,77 @@ fn message(site: u32, place: Place) -> FinalMessage {
     }
 }
 
-fn finals(alloc: Global) -> Result<Finals, Fail> {
+fn finals(rt: &impl Abort, alloc: Global) -> Finals {
     let mut messages = Vec::new(alloc);
-    for (site, place) in LEFT {
-        messages.push(message(site, place))?;
+    for &(site, place) in &LEFT {
+        messages.push(message(site, place)).expect(rt, "memory");
     }
-    Ok(Finals {
+    Finals {
         messages: FinalMessages::new(messages),
         transfers: FinalTransfers::new(Vec::new(alloc)),
         tasks: FinalTasks::new(Vec::new(alloc)),
-    })
+    }
 }
 
 /// The report of rows that come in two parts.
 fn in_two_parts(
+    rt: &impl Abort,
     alloc: Global,
     names: Vec<Text>,
     first: &[Row],
     second: &[Row],
-) -> Result<Report, Refusal>
-    ensures { IfOk result (λ r. r ≡ running names.items (first.now ++ second.now)) }
+) -> Report
+    ensures { result ≡ running names.items (first.now ++ second.now) }
 {
-    let mut report = Report::new(alloc, names)?;
-    report.add(first)?;
-    report.add(second)?;
-    Ok(report)
+    let mut report = Report::new(alloc, names).expect(rt, "memory");
+    report.add(first).expect(rt, "memory");
+    report.add(second).expect(rt, "memory");
+    report
 }
 
-fn names(alloc: Global, first: &[u8], second: &[u8]) -> Result<Vec<Text>, Fail> {
-    let mut names = Vec::new(alloc);
-    names.push(Text::new(first.to_vec(alloc)?))?;
-    names.push(Text::new(second.to_vec(alloc)?))?;
-    Ok(names)
+fn names(rt: &impl Abort, alloc: Global, first: &[u8], second: &[u8]) -> Vec<Text> {
+    let first = Text::new(first.to_vec(alloc).expect(rt, "memory"));
+    let second = Text::new(second.to_vec(alloc).expect(rt, "memory"));
+    vec![in alloc; first, second].expect(rt, "memory")
 }
 
 /// The report of all rows, over the queues `q` and `d`.
-fn filled(alloc: Global) -> Result<Report, Fail> {
+fn filled(rt: &impl Abort, alloc: Global) -> Report {
     let mut rows = Vec::new(alloc);
-    for (queue, kind, answer, detail) in ROWS {
-        rows.push(row(queue, kind, answer, detail))?;
+    for &(queue, kind, answer, detail) in &ROWS {
+        rows.push(row(queue, kind, answer, detail))
+            .expect(rt, "memory");
     }
     let (first, second) = rows.as_slice().split_at(rows.len() / 2);
-    Ok(in_two_parts(alloc, names(alloc, b"q", b"d")?, first, second)?)
+    in_two_parts(rt, alloc, names(rt, alloc, b"q", b"d"), first, second)
 }
 
 #[test]
-fn the_columns_of_two_queues(rt: HostRuntime) -> Result<(), Fail> {
-    let report = filled(rt.alloc())?;
-    let mut out = ToWriter::new(Vec::new(rt.alloc()));
-    report.write_report(rt.alloc(), &mut out, &finals(rt.alloc())?)?;
-    assert_eq!(rt;
-        out.into_inner().as_slice(),
-        b"report,queue,sends,repeats,receives,empties,deletes,expiries,redrives,moves,arrivals,OverLimit,MessageNotInflight,ReceiptHandleIsInvalid,BadTimeout,MissingGroup,MissingDeduplication,BadDelay,TaskRunning,NoTask,depth_max,visible,in_flight,delayed,age_sum,age_max,age_p50,age_p95,age_p99\nreport,q,3,1,1,1,4,0,0,0,1,1,1,1,1,0,0,0,0,0,3,1,2,0,36893488147419103485,18446744073709551615,250,18446744073709551615,18446744073709551615\nreport,d,2,1,0,0,0,1,1,1,0,0,0,0,0,1,1,1,1,1,1,0,0,1,0,,,,\n".as_slice()
+fn the_columns_of_two_queues(rt: HostRuntime) {
+    let (alloc, finals) = (rt.alloc(), finals(&rt, rt.alloc()));
+    let mut out = ToWriter::new(Vec::new(alloc));
+    let answer = filled(&rt, alloc).write_report(alloc, &mut out, &finals);
+    let text =
+        b"report,queue,sends,repeats,receives,empties,deletes,expiries,redrives,moves,arrivals,OverLimit,MessageNotInflight,ReceiptHandleIsInvalid,BadTimeout,MissingGroup,MissingDeduplication,BadDelay,TaskRunning,NoTask,depth_max,visible,in_flight,delayed,age_sum,age_max,age_p50,age_p95,age_p99\nreport,q,3,1,1,1,4,0,0,0,1,1,1,1,1,0,0,0,0,0,3,1,2,0,36893488147419103485,18446744073709551615,250,18446744073709551615,18446744073709551615\nreport,d,2,1,0,0,0,1,1,1,0,0,0,0,0,1,1,1,1,1,1,0,0,1,0,,,,\n";
+    same(
+        &rt,
+        (answer, out.into_inner().as_slice()),
+        (Ok(()), text.as_slice()),
     );
-    Ok(())
 }
 
 #[test]
-fn a_report_against_another(rt: HostRuntime) -> Result<(), Fail> {
-    let filled = filled(rt.alloc())?;
-    let other = Report::new(rt.alloc(), names(rt.alloc(), b"e", b"q")?)?;
-    let finals = finals(rt.alloc())?;
-    let mut out = ToWriter::new(Vec::new(rt.alloc()));
-    compare(rt.alloc(), &mut out, &filled, &finals, &other, &finals)?;
-    assert_eq!(rt;
-        out.into_inner().as_slice(),
-        b"compare,q,sends,3,0,-3\ncompare,q,repeats,1,0,-1\ncompare,q,receives,1,0,-1\ncompare,q,empties,1,0,-1\ncompare,q,deletes,4,0,-4\ncompare,q,expiries,0,0,0\ncompare,q,redrives,0,0,0\ncompare,q,moves,0,0,0\ncompare,q,arrivals,1,0,-1\ncompare,q,OverLimit,1,0,-1\ncompare,q,MessageNotInflight,1,0,-1\ncompare,q,ReceiptHandleIsInvalid,1,0,-1\ncompare,q,BadTimeout,1,0,-1\ncompare,q,MissingGroup,0,0,0\ncompare,q,MissingDeduplication,0,0,0\ncompare,q,BadDelay,0,0,0\ncompare,q,TaskRunning,0,0,0\ncompare,q,NoTask,0,0,0\ncompare,q,depth_max,3,0,-3\ncompare,q,visible,1,0,-1\ncompare,q,in_flight,2,0,-2\ncompare,q,delayed,0,1,1\ncompare,q,age_sum,36893488147419103485,0,-36893488147419103485\ncompare,q,age_max,18446744073709551615,,\ncompare,q,age_p50,250,,\ncompare,q,age_p95,18446744073709551615,,\ncompare,q,age_p99,18446744073709551615,,\ncompare,d,only,1,0,-1\ncompare,e,only,0,1,1\n".as_slice()
+fn a_report_against_another(rt: HostRuntime) {
+    let (alloc, finals) = (rt.alloc(), finals(&rt, rt.alloc()));
+    let filled = filled(&rt, alloc);
+    let other = Report::new(alloc, names(&rt, alloc, b"e", b"q")).expect(&rt, "memory");
+    let mut out = ToWriter::new(Vec::new(alloc));
+    let answer = compare(alloc, &mut out, &filled, &finals, &other, &finals);
+    let text =
+        b"compare,q,sends,3,0,-3\ncompare,q,repeats,1,0,-1\ncompare,q,receives,1,0,-1\ncompare,q,empties,1,0,-1\ncompare,q,deletes,4,0,-4\ncompare,q,expiries,0,0,0\ncompare,q,redrives,0,0,0\ncompare,q,moves,0,0,0\ncompare,q,arrivals,1,0,-1\ncompare,q,OverLimit,1,0,-1\ncompare,q,MessageNotInflight,1,0,-1\ncompare,q,ReceiptHandleIsInvalid,1,0,-1\ncompare,q,BadTimeout,1,0,-1\ncompare,q,MissingGroup,0,0,0\ncompare,q,MissingDeduplication,0,0,0\ncompare,q,BadDelay,0,0,0\ncompare,q,TaskRunning,0,0,0\ncompare,q,NoTask,0,0,0\ncompare,q,depth_max,3,0,-3\ncompare,q,visible,1,0,-1\ncompare,q,in_flight,2,0,-2\ncompare,q,delayed,0,1,1\ncompare,q,age_sum,36893488147419103485,0,-36893488147419103485\ncompare,q,age_max,18446744073709551615,,\ncompare,q,age_p50,250,,\ncompare,q,age_p95,18446744073709551615,,\ncompare,q,age_p99,18446744073709551615,,\ncompare,d,only,1,0,-1\ncompare,e,only,0,1,1\n";
+    same(
+        &rt,
+        (answer, out.into_inner().as_slice()),
+        (Ok(()), text.as_slice()),
     );
-    Ok(())
 }

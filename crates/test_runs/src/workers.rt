@@ -1,15 +1,16 @@
 //! What no clause says: that hands on threads of their own answer pieces, and several at once.
-ghost use Rattle.std.specs.Prelude.{◌≡◌, ◌+◌, ◌≤◌, vec_len, vec_capacity};
+ghost use Rattle.std.specs.Prelude.{◌≡◌, ◌+◌, ◌≤◌, length, vec_len, vec_capacity};
 ghost use Rattle.sim_handoff.specs.Seats.{places_of, table_of, owner_table, owner_record, IsIdleHand};
 ghost use Rattle.sim_workers.specs.Owners.{IsAllFree};
 
+use crate::same::same;
 use sim_handoff::{Hand, Handoff, Owner, Work};
 use sim_partition::Partition;
 use sim_workers::{Gate, Open, Running, collect_at, join_all, round, start_all};
 use std::alloc::Global;
+use std::process::Abort;
 use std::sync::Wait;
 use std::sync::atomic::{AtomicU64, Ordering};
-use std::test::Fail;
 use std::thread;
 use std::thread::{JoinHandle, Threads, yield_now};
 
@@ -104,27 +105,32 @@ fn with_two_threads<G: Gate<Next> + Sync, R: Threads + Wait + Sync>(
 }
 
 #[test]
-fn three_at_once(rt: HostRuntime) -> Result<(), Fail> {
-    let alloc: Global = rt.alloc();
-    let (handoff, owner) = Handoff::<Next>::make(alloc, 3)?;
-    let handles = Vec::with_capacity(alloc, 2)?;
+fn three_at_once(rt: HostRuntime) {
+    let (handoff, owner) = Handoff::<Next>::make(rt.alloc(), 3).expect(&rt, "memory");
+    let handles = Vec::with_capacity(rt.alloc(), 2).expect(&rt, "memory");
     let gate = Together {
         wanted: 3,
         begun: AtomicU64::new(0),
         met: AtomicU64::new(0),
     };
-    assert!(rt; with_two_threads(&rt, &handoff, owner, &gate, handles));
-    assert_eq!(rt; gate.met.load(Ordering::SeqCst), 3);
-    Ok(())
+    let right = with_two_threads(&rt, &handoff, owner, &gate, handles);
+    same(&rt, (right, gate.met.load(Ordering::SeqCst)), (true, 3));
+}
+
+// One partition, with no site.
+fn one_partition(rt: &impl Abort, alloc: Global) -> Vec<Partition>
+    ensures { length result.items ≡ 1 }
+{
+    let part = Partition::new(alloc, Vec::new(alloc)).expect(rt, "memory");
+    vec![in alloc; part].expect(rt, "memory")
 }
 
 #[test]
-fn nothing_due_comes_back(rt: HostRuntime) -> Result<(), Fail> {
+fn nothing_due_comes_back(rt: HostRuntime) {
     let alloc: Global = rt.alloc();
-    let (handoff, mut owner) = Handoff::<Running>::make(alloc, 1)?;
+    let parts = one_partition(&rt, alloc);
+    let (handoff, mut owner) = Handoff::<Running>::make(alloc, 1).expect(&rt, "memory");
     let mut hand = owner.hand(&handoff);
-    let part = Partition::new(alloc, Vec::new(alloc))?;
-    let parts = vec![in alloc; part]?;
     let came = round(
         &rt,
         alloc,
@@ -134,11 +140,10 @@ fn nothing_due_comes_back(rt: HostRuntime) -> Result<(), Fail> {
         &Open,
         &[7],
         parts,
-    )?;
-    assert_eq!(rt; came.len(), 1);
+    )
+    .expect(&rt, "a round");
+    same(&rt, came.len(), 1);
     for one in &came {
-        assert!(rt; one.ran.rows.is_empty());
-        assert_eq!(rt; one.part.least_due(), None);
+        same(&rt, (one.ran.rows.len(), one.part.least_due()), (0, None));
     }
-    Ok(())
 }

@@ -5,7 +5,7 @@ ghost use Rattle.sqs_model.specs.Acts.{runs};
 ghost use Rattle.sqs_model.specs.Answers.{most_count};
 ghost use Rattle.sqs_model.specs.Draw.{drawn_latency};
 ghost use Rattle.sqs_model.specs.Dues.{core_dues};
-ghost use Rattle.sqs_model.specs.Limits.{task_count};
+ghost use Rattle.sqs_model.specs.Counts.{task_count};
 ghost use Rattle.sqs_model.specs.Places.{Stands};
 ghost use Rattle.sqs_model.specs.Site.{Core as TheCore, is_task, number_of, task_numbered};
 ghost use Rattle.sqs_model.specs.Step.{handle_step, end_row as the_end_row, load_id as the_load_id, move_row as the_move_row, moves, one_sent};

@@ -10,13 +10,8 @@ use std::sync::Wait;
 use std::thread;
 use std::thread::Threads;
 
-/// How the owner and the hands got on.
-#[derive(Drop)]
-pub enum Outcome {
-    NotStarted,
-    Wrong,
-    Right { answered: u64 },
-}
+/// How many pieces the hands answered, or what went wrong.
+pub type Outcome = Result<u64, &'static str>;
 
 // Goes round the places until the owner has stopped, and counts the pieces that it answered.
 fn work<R: Wait>(rt: &R, handoff: &Handoff<Next>, mut hand: Hand<Next>) -> u64
@@ -132,15 +127,15 @@ pub fn relay<R: Threads + Wait + Sync>(
             // A hand whose thread runs goes on until the owner stops.
             let (Ok(one), Ok(two)) = (one, two) else {
                 owner.stop(handoff);
-                return Outcome::NotStarted;
+                return Err("a thread could not be started");
             };
             let right = rounds(rt, handoff, &mut owner);
             owner.stop(handoff);
             let answered = one.join(rt).saturating_add(two.join(rt));
             if right {
-                Outcome::Right { answered }
+                Ok(answered)
             } else {
-                Outcome::Wrong
+                Err("an answer to an earlier offer")
             }
         },
     )

@@ -2,13 +2,13 @@ ghost use Rattle.std.specs.Prelude.{◌≡◌, false};
 ghost use Rattle.sim_records.specs.Writers.{has_failed};
 
 use super::{names, row, write_log};
+use crate::same::same;
 use sim_clock::Refusal;
 use sim_records::{Failed, Lines, Names, Out, ToWriter, write_all, write_rows};
 use sqs_message::{Detail, Row, RowAnswer, RowKind};
 use std::alloc::Global;
 use std::io::{Error, ErrorKind, Write};
 use std::process::Abort;
-use std::test::Fail;
 
 /// How a writer fails.
 #[derive(Clone, Copy)]
@@ -79,42 +79,47 @@ fn writer(alloc: Global, left: usize, fault: Fault) -> ToWriter<ByteByByte>
     })
 }
 
+/// Compares the answer of a call, and what the writer holds after it.
+fn try_held(
+    rt: &impl Abort,
+    out: &ToWriter<ByteByByte>,
+    answer: Result<(), Refusal>,
+    wanted: (Result<(), Refusal>, &[u8]),
+) {
+    same(rt, (answer, out.get_ref().held.as_slice()), wanted);
+}
+
 #[test]
-fn a_byte_a_call_is_the_same(rt: HostRuntime) -> Result<(), Fail> {
-    let names = names(rt.alloc())?;
+fn a_byte_a_call_is_the_same(rt: HostRuntime) {
+    let names = names(&rt, rt.alloc());
     let rows = [row(0, RowKind::Send, RowAnswer::New, Detail::Queue(1))];
     let mut out = writer(rt.alloc(), 1_000_000, Fault::TakesNothing);
     let answer = write_log(rt.alloc(), &mut out, &rows, &names);
-    assert!(rt; answer.is_ok());
     let log = b"at,queue,agent,call,answer,message,receipt,detail\n0,q,s,send,new,,,d\n";
-    assert!(rt; out.get_ref().held.as_slice() == log.as_slice());
-    Ok(())
-}
-
-/// Whether a call answered that the writer failed, which holds these bytes.
-fn has_failed_behind(
-    out: &ToWriter<ByteByByte>,
-    answer: &Result<(), Refusal>,
-    bytes: &[u8],
-) -> bool {
-    matches!(answer, Err(Refusal::Write)) && out.get_ref().held.as_slice() == bytes
+    try_held(&rt, &out, answer, (Ok(()), log));
 }
 
 /// Writes a record as a line.
-fn write_line<W: Out>(alloc: Global, out: &mut W, fields: &[&[u8]]) -> Result<(), Refusal>
+fn write_line<W: Out>(
+    rt: &impl Abort,
+    alloc: Global,
+    out: &mut W,
+    fields: &[&[u8]],
+) -> Result<(), Refusal>
     requires { W.failed out.old ≡ false }
 {
     let mut lines = Lines::new(alloc);
-    lines.add(fields)?;
-    write_all(out, lines.into_bytes()?.as_slice())?;
+    lines.add(fields).expect(rt, "memory");
+    let bytes = lines.into_bytes().expect(rt, "memory");
+    write_all(out, bytes.as_slice())?;
     Ok(())
 }
 
 /// What a writer holds of a record's line whose call after so many bytes fails.
 fn try_record(rt: &impl Abort, alloc: Global, left: usize, fault: Fault, front: &[u8]) {
     let mut out = writer(alloc, left, fault);
-    let answer = write_line(alloc, &mut out, &[b"a", b"\"", b""]);
-    assert!(rt; has_failed_behind(&out, &answer, front));
+    let answer = write_line(rt, alloc, &mut out, &[b"a", b"\"", b""]);
+    try_held(rt, &out, answer, (Err(Refusal::Write), front));
 }
 
 #[test]
@@ -133,12 +138,12 @@ fn each_failing_call_leaves_what_came_before(rt: HostRuntime) {
 fn try_rows(rt: &impl Abort, alloc: Global, given: (&[Row], &Names), left: usize, front: &[u8]) {
     let mut out = writer(alloc, left, Fault::Error(ErrorKind::Interrupted));
     let answer = write_rows(alloc, &mut out, given.0, given.1);
-    assert!(rt; has_failed_behind(&out, &answer, front));
+    try_held(rt, &out, answer, (Err(Refusal::Write), front));
 }
 
 #[test]
-fn a_failing_call_ends_the_rows(rt: HostRuntime) -> Result<(), Fail> {
-    let names = names(rt.alloc())?;
+fn a_failing_call_ends_the_rows(rt: HostRuntime) {
+    let names = names(&rt, rt.alloc());
     let rows = [
         row(0, RowKind::Send, RowAnswer::New, Detail::Absent),
         row(1, RowKind::Send, RowAnswer::New, Detail::Absent),
@@ -147,15 +152,14 @@ fn a_failing_call_ends_the_rows(rt: HostRuntime) -> Result<(), Fail> {
     for left in 0..lines.len() {
         try_rows(&rt, rt.alloc(), (&rows, &names), left, &lines[..left]);
     }
-    Ok(())
 }
 
 #[test]
 fn an_empty_piece_is_written(rt: HostRuntime) {
     let mut out = ToWriter::new(Vec::new(rt.alloc()));
-    assert!(rt; matches!(out.write(b""), Ok(0)));
-    assert!(rt; write_all(&mut out, b"").is_ok());
-    assert_eq!(rt; out.get_ref().len(), 0);
+    let taken = out.write(b"").expect(&rt, "a write");
+    let answer = write_all(&mut out, b"");
+    same(&rt, (taken, answer, out.get_ref().len()), (0, Ok(()), 0));
 }
 
 #[test]
@@ -164,11 +168,11 @@ fn flushes_reach_the_writer(rt: HostRuntime) {
         count: 0,
         fails: false,
     });
-    assert!(rt; write_all(&mut out, b"abc").is_ok());
-    assert_eq!(rt; out.get_ref().count, 0);
-    assert!(rt; out.flush().is_ok());
-    assert!(rt; out.flush().is_ok());
-    assert_eq!(rt; out.get_ref().count, 2);
+    write_all(&mut out, b"abc").expect(&rt, "a write");
+    same(&rt, out.get_ref().count, 0);
+    out.flush().expect(&rt, "a flush");
+    out.flush().expect(&rt, "a flush");
+    same(&rt, out.get_ref().count, 2);
 }
 
 #[test]
@@ -177,6 +181,5 @@ fn a_flush_fails(rt: HostRuntime) {
         count: 0,
         fails: true,
     });
-    assert_eq!(rt; out.flush(), Err(Failed));
-    assert_eq!(rt; out.get_ref().count, 1);
+    same(&rt, (out.flush(), out.get_ref().count), (Err(Failed), 1));
 }

@@ -2,7 +2,7 @@ use Rattle.std.proofs.Common.{All, List, Option, arith, sym, subst, take, ◌∙
 use Rattle.std.proofs.Common.{true≢false}
 use Rattle.std.proofs.lemmas.List.{take_all}
 use Rattle.std.proofs.lemmas.List.Elements.{All-more, All-same}
-use Rattle.sqs_redrive.specs.declared.settings.Edge.{Edge}
+use Rattle.sim_engine.specs.declared.edge.Edge.{Edge}
 use Rattle.sim_exchange.specs.Layout.{owner_of}
 use Rattle.sim_exchange.specs.Line.{IsSettled, total_of}
 use Rattle.sim_exchange.proofs.line.shorten.Goals as goal

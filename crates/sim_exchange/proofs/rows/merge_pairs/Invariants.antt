@@ -1,5 +1,5 @@
 use Rattle.std.proofs.Common.{length, map, ◌*◌, ◌+◌, ◌++◌, ◌-◌, ◌≡◌, ◌≤◌}
-use Rattle.sim_machine.specs.Merge.{merged_all, row_cmp}
+use Rattle.sqs_model.specs.Merge.{merged_all, row_cmp}
 use Rattle.sim_exchange.proofs.rows.merge_pairs.Given as goal
 
 -- the pairs so far and the lists that are left make the same; only the last list may have no other

@@ -1,5 +1,5 @@
 use Rattle.std.proofs.Common.{arith, ◌∙◌}
-use Rattle.sim_machine.specs.Merge.{row_cmp}
+use Rattle.sqs_model.specs.Merge.{row_cmp}
 use Rattle.sim_exchange.proofs.Merging.{merged_single}
 use Rattle.sim_exchange.proofs.rows.merge_rows.Goals as goal
 

@@ -1,7 +1,7 @@
 use Rattle.std.proofs.Common.{List, ap, arith, eqb-true, sym, ◌∙◌, ◌≡◌, length}
 use Rattle.std.proofs.lemmas.List.{nil_from_length}
 use Rattle.sqs_message.specs.declared.row.Row.{Row}
-use Rattle.sim_machine.specs.Merge.{merged, row_cmp}
+use Rattle.sqs_model.specs.Merge.{merged, row_cmp}
 use Rattle.sim_exchange.proofs.Merging.{merged_nothing}
 use Rattle.sim_exchange.proofs.rows.merge_two.Goals as goal
 

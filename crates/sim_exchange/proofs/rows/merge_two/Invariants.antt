@@ -1,5 +1,5 @@
 use Rattle.std.proofs.Common.{length, ◌+◌, ◌++◌, ◌≡◌}
-use Rattle.sim_machine.specs.Merge.{merged, row_cmp}
+use Rattle.sqs_model.specs.Merge.{merged, row_cmp}
 use Rattle.sim_exchange.proofs.rows.merge_two.Given as goal
 
 -- the rows so far, and those that are left

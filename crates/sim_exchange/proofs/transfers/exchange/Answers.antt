@@ -1,5 +1,5 @@
 use Rattle.std.proofs.Common.{ap, flat_map, map, ◌∙◌}
-use Rattle.sim_machine.specs.Exchange.{sorted}
+use Rattle.sqs_model.specs.Exchange.{sorted}
 use Rattle.sim_exchange.specs.Layout.{owner_of}
 use Rattle.sim_exchange.proofs.Dealing.{dealt_sorted}
 use Rattle.sim_exchange.proofs.transfers.exchange.Goals as goal

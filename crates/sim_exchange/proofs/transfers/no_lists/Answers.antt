@@ -1,7 +1,7 @@
 use Rattle.std.proofs.Common.{[], ap, arith, map, sym, ◌++◌, ◌∙◌, ◌∷◌}
 use Rattle.std.proofs.lemmas.List.{map_push}
 use Rattle.std.proofs.lemmas.List.FromFn.{map-range_with_len_more}
-use Rattle.sim_machine.specs.Exchange.{to_part}
+use Rattle.sqs_model.specs.Exchange.{to_part}
 use Rattle.sim_exchange.proofs.transfers.no_lists.Goals as goal
 
 pub loop-part-preserved : goal.loop-part-preserved

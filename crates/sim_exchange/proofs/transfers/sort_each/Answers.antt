@@ -1,6 +1,6 @@
 use Rattle.std.proofs.Common.{ap, arith, length, map, ◌∙◌, drop}
 use Rattle.std.proofs.lemmas.List.{length-map, take-append-le, take_all}
-use Rattle.sim_machine.specs.Exchange.{sorted}
+use Rattle.sqs_model.specs.Exchange.{sorted}
 use Rattle.sim_exchange.proofs.Dealing.{all_changed, changed_element, none_changed}
 use Rattle.sim_exchange.proofs.transfers.sort_each.Goals as goal
 

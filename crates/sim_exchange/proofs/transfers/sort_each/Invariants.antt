@@ -1,5 +1,5 @@
 use Rattle.std.proofs.Common.{map}
-use Rattle.sim_machine.specs.Exchange.{sorted}
+use Rattle.sqs_model.specs.Exchange.{sorted}
 use Rattle.sim_exchange.proofs.Dealing.{AreChanged}
 use Rattle.sim_exchange.proofs.transfers.sort_each.Given as goal
 

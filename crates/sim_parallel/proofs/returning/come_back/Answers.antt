@@ -2,7 +2,7 @@ use Rattle.std.specs.Prelude.{List, Ok, Result, Vec, [], drop, get_or, length, m
 use Rattle.std.proofs.Common.{Global, ap, append_assoc, arith, length-append, subst, sym, ◌∙◌}
 use Rattle.std.proofs.lemmas.List.{append-nil, drop_all, get_or-map, length-drop, length-map, length-set, map-set, nil_from_length}
 use Rattle.sim_clock.specs.declared.refusal.Refusal.{Refusal}
-use Rattle.sim_machine.specs.Rounds.{PartRun}
+use Rattle.sqs_model.specs.Rounds.{PartRun}
 use Rattle.sim_partition.specs.Steps.{part_run}
 use Rattle.sim_parallel.specs.Runs.{with_parts}
 use Rattle.sim_parallel.proofs.Back.{Next, many_back, next_back, next_part, next_set}

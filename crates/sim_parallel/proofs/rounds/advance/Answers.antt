@@ -3,9 +3,9 @@ use Rattle.std.specs.Prelude.{List, [], false, not, true, ◌++◌, ◌∷◌, �
 use Rattle.std.proofs.Common.{ap, sym, ◌∙◌}
 use Rattle.std.proofs.lemmas.Result.{err_from_is_err_and}
 use Rattle.sim_exchange.specs.Layout.{owner_of}
-use Rattle.sim_machine.specs.Machine.{Machine, has_ready, is_finished}
-use Rattle.sim_machine.specs.declared.picks.Pick.{Pick}
-use Rattle.sim_machine.specs.declared.picks.Pick.TheVariants.{Barrier}
+use Rattle.sqs_model.specs.Machine.{Machine, has_ready, is_finished}
+use Rattle.sim_engine.specs.declared.picks.Pick.{Pick}
+use Rattle.sim_engine.specs.declared.picks.Pick.TheVariants.{Barrier}
 use Rattle.sim_stage.specs.Stages.{Standing, machine_in, standing_of, takes_effect_in}
 use Rattle.sqs_model.specs.Scenario.{Scenario}
 use Rattle.sim_parallel.proofs.rounds.advance.Goals as goal

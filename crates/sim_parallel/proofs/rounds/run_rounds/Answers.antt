@@ -2,7 +2,7 @@ use Rattle.std.specs.Prelude.{filter}
 use Rattle.std.proofs.Common.{ap, subst, sym, ◌∙◌}
 use Rattle.std.proofs.lemmas.Result.{err_from_is_err_and}
 use Rattle.sim_exchange.specs.Layout.{Layout}
-use Rattle.sim_machine.specs.Prefixes.{is_before}
+use Rattle.sqs_model.specs.Prefixes.{is_before}
 use Rattle.sim_parallel.specs.Runs.{HasAdvanced}
 use Rattle.sim_parallel.proofs.Fronts.{stops_so}
 use Rattle.sim_stage.specs.Stages.{IsStanding, Standing, StandsOn, standing_of}

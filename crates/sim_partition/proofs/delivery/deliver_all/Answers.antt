@@ -1,6 +1,6 @@
 use Rattle.std.proofs.Common.{Err, List, Ok, Result, map, subst, sym, ◌≡◌}
 use Rattle.std.specs.Prelude.{OnOk}
-use Rattle.sqs_model.specs.Run.{delivered}
+use Rattle.sqs_model.specs.World.{delivered}
 use Rattle.sqs_model.specs.Site.{Site}
 use Rattle.sim_partition.specs.Sites.{AreMarked, IsKept, IsPart, alive, living}
 use Rattle.sim_partition.proofs.Delivered.{part_delivered}

@@ -1,6 +1,6 @@
 use Rattle.std.proofs.Common.{List, ap, map, subst, sym, ◌∙◌}
 use Rattle.sqs_model.specs.Progress.{Ascends}
-use Rattle.sqs_model.specs.Run.{delivered_one}
+use Rattle.sqs_model.specs.World.{delivered_one}
 use Rattle.sqs_model.specs.Site.{Site}
 use Rattle.sim_partition.specs.Sites.{alive, living, site_number}
 use Rattle.sim_partition.proofs.Delivered.{ascends_delivered, delivered_more}

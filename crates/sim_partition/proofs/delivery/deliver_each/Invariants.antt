@@ -1,5 +1,5 @@
 use Rattle.std.proofs.Common.{map, ◌≡◌}
-use Rattle.sqs_model.specs.Run.{delivered}
+use Rattle.sqs_model.specs.World.{delivered}
 use Rattle.sim_partition.specs.Sites.{AreMarked, alive, living}
 use Rattle.sim_partition.proofs.delivery.deliver_each.Given as goal
 

@@ -4,15 +4,15 @@ use Rattle.std.proofs.lemmas.Result.{IfOk-weaker, err_from_is_err_and}
 use Rattle.std.specs.Prelude.{All, IfOk}
 use Rattle.sim_clock.specs.declared.key.Key.{Key}
 use Rattle.sim_clock.specs.declared.refusal.Refusal.{Refusal}
-use Rattle.sim_machine.specs.Rounds.{PartRun, part_on}
+use Rattle.sqs_model.specs.Rounds.{PartRun, part_on}
 use Rattle.sim_site.specs.declared.effects.Effects.{Effects}
 use Rattle.sim_site.specs.Effects.{Stops}
 use Rattle.sim_site.specs.Spent.{due_of}
-use Rattle.sqs_model.specs.Dues.{world_due}
+use Rattle.sqs_model.specs.World.{world_due}
 use Rattle.sqs_model.specs.Limits.{effect_of}
 use Rattle.sqs_model.specs.Places.{Stands}
 use Rattle.sqs_model.specs.Progress.{AreTimely, IsRecent, WasEnqueuedBy}
-use Rattle.sqs_model.specs.Run.{Stepped, handled_among}
+use Rattle.sqs_model.specs.World.{Stepped, handled_among}
 use Rattle.sqs_model.specs.Site.{Site}
 use Rattle.sqs_model.specs.Step.{handled}
 use Rattle.sqs_redrive.specs.declared.transfers.Outbound.{Outbound}

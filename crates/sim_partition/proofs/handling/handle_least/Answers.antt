@@ -2,10 +2,10 @@ use Rattle.std.proofs.Common.{List, Some, sym, subst, ◌≡◌, ◌≤◌, ◌�
 use Rattle.std.specs.Prelude.{IfErr, OnOk}
 use Rattle.sim_clock.specs.declared.key.Key.{Key}
 use Rattle.sqs_model.specs.Answers.{most_count}
-use Rattle.sqs_model.specs.Run.{handled_among}
+use Rattle.sqs_model.specs.World.{handled_among}
 use Rattle.sqs_model.specs.Site.{Site}
 use Rattle.sim_partition.specs.Sites.{living}
-use Rattle.sim_machine.specs.Rounds.{part_on}
+use Rattle.sqs_model.specs.Rounds.{part_on}
 use Rattle.sim_partition.specs.Steps.{StopsStep, part_made}
 use Rattle.sim_partition.proofs.Living.{none_some}
 use Rattle.sim_partition.proofs.Marked.{marked_least, stands_least, told_least}

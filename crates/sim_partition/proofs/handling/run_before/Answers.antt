@@ -1,8 +1,8 @@
 use Rattle.std.proofs.Common.{List, Some, ap, arith, subst, sym, ◌≡◌}
 use Rattle.std.proofs.lemmas.Result.{err_from_is_err_and}
 use Rattle.sim_clock.specs.Order.{due_before}
-use Rattle.sim_machine.specs.Rounds.{PartRun}
-use Rattle.sqs_model.specs.Dues.{world_due}
+use Rattle.sqs_model.specs.Rounds.{PartRun}
+use Rattle.sqs_model.specs.World.{world_due}
 use Rattle.sqs_model.specs.Site.{Site}
 use Rattle.sim_partition.specs.Sites.{IsFrom, living}
 use Rattle.sim_partition.specs.Steps.{part_made}

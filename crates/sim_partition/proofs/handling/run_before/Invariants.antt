@@ -1,5 +1,5 @@
 use Rattle.std.proofs.Common.{◌-◌}
-use Rattle.sqs_model.specs.Dues.{world_due}
+use Rattle.sqs_model.specs.World.{world_due}
 use Rattle.sqs_model.specs.Progress.{AreTimely}
 use Rattle.sim_partition.specs.Sites.{IsKept, living}
 use Rattle.sim_partition.specs.Steps.{Continues, StaysOfPast, due_at, part_made}

@@ -1,8 +1,8 @@
 use Rattle.std.proofs.Common.{List, Some, ap, arith, refl, subst, sym, ◌≡◌, ◌≤◌}
 use Rattle.std.proofs.lemmas.Result.{err_from_is_err_and}
-use Rattle.sim_machine.specs.Rounds.{PartRun, part_on}
-use Rattle.sqs_model.specs.Dues.{world_due}
-use Rattle.sqs_model.specs.Run.{handled_among}
+use Rattle.sqs_model.specs.Rounds.{PartRun, part_on}
+use Rattle.sqs_model.specs.World.{world_due}
+use Rattle.sqs_model.specs.World.{handled_among}
 use Rattle.sqs_model.specs.Site.{Site}
 use Rattle.sim_partition.specs.Sites.{AreOfPast, IsFrom, IsLater, living}
 use Rattle.sim_partition.specs.Steps.{part_made}

@@ -1,5 +1,5 @@
 use Rattle.std.proofs.Common.{ℕ, ◌<◌}
-use Rattle.sqs_model.specs.Dues.{world_due}
+use Rattle.sqs_model.specs.World.{world_due}
 use Rattle.sqs_model.specs.Progress.{AreTimely}
 use Rattle.sqs_model.proofs.WorldMoves.{world_count}
 use Rattle.sim_partition.specs.Sites.{IsFrom, IsKept, living}

@@ -7,8 +7,8 @@ use Rattle.std.proofs.lemmas.Result.{IfOk-weaker}
 use Rattle.sim_clock.specs.declared.refusal.Refusal.{Refusal}
 use Rattle.sim_exchange.specs.Layout.{IsLayout, Layout, owner_of}
 use Rattle.sim_exchange.specs.Table.{distance_in}
-use Rattle.sim_machine.specs.Bounds.{AreDistances}
-use Rattle.sim_machine.specs.Parts.{part_of}
+use Rattle.sqs_model.specs.Bounds.{AreDistances}
+use Rattle.sqs_model.specs.Parts.{part_of}
 use Rattle.sim_partition.specs.Sites.{IsPart, alive}
 use Rattle.sim_scenario.specs.Ranges.{IsInRange}
 use Rattle.sim_stage.specs.Stages.{IsOpened, Standing, Stands, standing_of}

@@ -1,7 +1,7 @@
 use Rattle.std.proofs.Common.{◌≡◌, ◌≤◌, rules}
 use Rattle.std.proofs.lemmas.List.Elements.{All-same}
 use Rattle.sqs_model.specs.Scenario.{edges}
-use Rattle.sqs_redrive.specs.declared.settings.Edge.{Edge}
+use Rattle.sim_engine.specs.declared.edge.Edge.{Edge}
 use Rattle.sim_scenario.proofs.WayRanges.{ways_in_range}
 use Rattle.sim_scenario.proofs.ways.edges.Goals as goal
 

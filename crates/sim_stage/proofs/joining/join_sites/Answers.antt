@@ -4,7 +4,7 @@ use Rattle.std.proofs.Common.{ap, arith, refl, sym, ◌∙◌}
 use Rattle.std.proofs.lemmas.List.{length-set}
 use Rattle.sim_clock.specs.declared.refusal.Refusal.{Refusal}
 use Rattle.sim_exchange.specs.Layout.{owner_of}
-use Rattle.sim_machine.specs.Parts.{part_of}
+use Rattle.sqs_model.specs.Parts.{part_of}
 use Rattle.sim_partition.specs.Sites.{alive}
 use Rattle.sim_stage.specs.Joining.{IsNumbered}
 use Rattle.sim_stage.proofs.Joined.{all_taken, left_at, left_first, left_next, many_left, taken_next, turned}

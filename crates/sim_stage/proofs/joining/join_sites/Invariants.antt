@@ -1,7 +1,7 @@
 use Rattle.std.proofs.Common.{◌≡◌, List, Ok, map, length, take}
 use Rattle.std.specs.List.{range_with_len}
 use Rattle.sim_exchange.specs.Layout.{owner_of}
-use Rattle.sim_machine.specs.Parts.{part_of}
+use Rattle.sqs_model.specs.Parts.{part_of}
 use Rattle.sim_partition.specs.Sites.{alive}
 use Rattle.sim_stage.specs.Joining.{IsNumbered}
 use Rattle.sim_stage.proofs.Joined.{lists_left}

@@ -3,7 +3,7 @@ use Rattle.std.specs.Prelude.{None, [], get_or, map, ℕ, ◌++◌, ◌∷◌}
 use Rattle.std.proofs.Common.{ap, arith, sym, ◌∙◌}
 use Rattle.std.proofs.lemmas.List.FromFn.{map-range_with_len_more}
 use Rattle.sim_exchange.specs.Table.{distance_in}
-use Rattle.sim_machine.specs.Bounds.{bound_by}
+use Rattle.sqs_model.specs.Bounds.{bound_by}
 use Rattle.sim_stage.proofs.meeting.bounds_of.Goals as goal
 
 pub loop-part-preserved : goal.loop-part-preserved

@@ -1,7 +1,7 @@
 use Rattle.std.proofs.Common.{None, get_or, map, ◌≡◌}
 use Rattle.std.specs.List.{range_with_len}
 use Rattle.sim_exchange.specs.Table.{distance_in}
-use Rattle.sim_machine.specs.Bounds.{bound_by}
+use Rattle.sqs_model.specs.Bounds.{bound_by}
 use Rattle.sim_stage.proofs.meeting.bounds_of.Given as goal
 
 -- those so far

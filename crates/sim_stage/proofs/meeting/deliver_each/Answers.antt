@@ -7,7 +7,7 @@ use Rattle.sim_clock.specs.declared.refusal.Refusal.TheVariants.{Memory}
 use Rattle.sim_stage.specs.Meeting.{AreReached, IsReached, delivered_each}
 use Rattle.sim_stage.proofs.Delivering.{Next, drop_set, lives_at, next_of, set_next}
 use Rattle.sim_stage.proofs.Places.{map_push}
-use Rattle.sqs_model.specs.Run.{delivered}
+use Rattle.sqs_model.specs.World.{delivered}
 use Rattle.sqs_model.specs.Site.{Site}
 use Rattle.sqs_redrive.specs.declared.transfers.Outbound.{Outbound}
 use Rattle.sim_stage.proofs.meeting.deliver_each.Goals as goal

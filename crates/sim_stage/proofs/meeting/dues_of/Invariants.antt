@@ -1,6 +1,6 @@
 use Rattle.std.proofs.Common.{◌≡◌}
 use Rattle.std.specs.Prelude.{map, take}
-use Rattle.sim_machine.specs.Bounds.{moment_of}
+use Rattle.sqs_model.specs.Bounds.{moment_of}
 use Rattle.sim_partition.specs.Sites.{due_in}
 use Rattle.sim_stage.proofs.meeting.dues_of.Given as goal
 

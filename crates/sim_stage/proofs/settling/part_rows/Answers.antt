@@ -1,6 +1,6 @@
 use Rattle.std.proofs.Common.{Bool, List, [], ap, false, filter, not, refl, true, ◌&&◌, ◌∷◌, ◌≡◌, ◌∙◌, sym}
 use Rattle.std.specs.List.{list_all}
-use Rattle.sim_machine.specs.Prefixes.{is_before}
+use Rattle.sqs_model.specs.Prefixes.{is_before}
 use Rattle.sim_stage.proofs.settling.part_rows.Goals as goal
 
 -- where all pass a test, all are kept by it, and none by the other

@@ -1,5 +1,5 @@
 use Rattle.std.proofs.Common.{Global, List, Vec, ap, filter, map, not, sym, ◌++◌, ◌∷◌, [], ◌∙◌}
-use Rattle.sim_machine.specs.Prefixes.{is_before}
+use Rattle.sqs_model.specs.Prefixes.{is_before}
 use Rattle.sqs_message.specs.declared.row.Row.{Row}
 use Rattle.sim_stage.proofs.Places.{map_push}
 use Rattle.sim_stage.proofs.settling.settle.Goals as goal

@@ -1,5 +1,5 @@
 use Rattle.std.proofs.Common.{filter, map, not, ◌≡◌}
-use Rattle.sim_machine.specs.Prefixes.{is_before}
+use Rattle.sqs_model.specs.Prefixes.{is_before}
 use Rattle.sim_stage.proofs.settling.settle.Given as goal
 
 -- those so far

@@ -1,5 +1,5 @@
 use Rattle.std.proofs.Common.{get_or, ◌≡◌}
-use Rattle.sim_machine.specs.Bounds.{least_bound}
+use Rattle.sqs_model.specs.Bounds.{least_bound}
 use Rattle.sim_stage.proofs.stage.least_of.Given as goal
 
 -- the least so far

@@ -6,8 +6,8 @@ use Rattle.sim_clock.specs.declared.refusal.Refusal.{Refusal}
 use Rattle.sim_clock.specs.declared.refusal.Refusal.TheVariants.{Memory}
 use Rattle.sqs_message.specs.declared.row.Row.{Row}
 use Rattle.sqs_redrive.specs.declared.transfers.Outbound.{Outbound}
-use Rattle.sqs_model.specs.Dues.{world_due}
-use Rattle.sqs_model.specs.Run.{Stepped, delivered, handled_among}
+use Rattle.sqs_model.specs.World.{world_due}
+use Rattle.sqs_model.specs.World.{Stepped, delivered, handled_among}
 use Rattle.sqs_model.specs.Site.{Site}
 use Rattle.sim_partition.specs.Steps.{StopsStep}
 use Rattle.sim_windows.specs.Sinks.{HasHalted}

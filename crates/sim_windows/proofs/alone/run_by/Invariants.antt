@@ -1,6 +1,6 @@
 use Rattle.std.proofs.Common.{◌+◌, ◌-◌}
 use Rattle.std.specs.Prelude.{IsOk}
-use Rattle.sqs_model.specs.Dues.{world_due}
+use Rattle.sqs_model.specs.World.{world_due}
 use Rattle.sim_windows.specs.Sinks.{HasRun}
 use Rattle.sim_windows.specs.Worlds.{due_at, sites_in}
 use Rattle.sim_windows.proofs.alone.run_by.Given as goal

@@ -1,7 +1,7 @@
 use Rattle.std.proofs.Common.{List, Result, Some, arith, subst, ◌≡◌, ◌≤◌}
 use Rattle.std.proofs.lemmas.Result.{err_from_is_err_and}
 use Rattle.sim_clock.specs.declared.refusal.Refusal.{Refusal}
-use Rattle.sqs_model.specs.Dues.{world_due}
+use Rattle.sqs_model.specs.World.{world_due}
 use Rattle.sqs_model.specs.Site.{Site}
 use Rattle.sim_windows.specs.Worlds.{AreOfPast, IsFrom, sites_in}
 use Rattle.sim_windows.proofs.Places.{due_told, past_told, sound_told}

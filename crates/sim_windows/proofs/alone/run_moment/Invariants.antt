@@ -1,6 +1,6 @@
 use Rattle.std.proofs.Common.{ℕ, ◌≤◌}
 use Rattle.std.specs.Prelude.{IsOk}
-use Rattle.sqs_model.specs.Dues.{world_due}
+use Rattle.sqs_model.specs.World.{world_due}
 use Rattle.sqs_model.proofs.WorldMoves.{world_count}
 use Rattle.sim_windows.specs.Sinks.{HasRun}
 use Rattle.sim_windows.specs.Worlds.{IsFrom, sites_in}

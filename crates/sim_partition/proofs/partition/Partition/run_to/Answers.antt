@@ -1,7 +1,7 @@
 use Rattle.std.proofs.Common.{List, Result, ap, subst, sym, ◌∙◌}
 use Rattle.std.specs.Prelude.{All}
 use Rattle.sim_clock.specs.declared.refusal.Refusal.{Refusal}
-use Rattle.sim_machine.specs.Rounds.{PartRun, part_begun}
+use Rattle.sqs_model.specs.Rounds.{PartRun, part_begun}
 use Rattle.sim_site.specs.declared.effects.Effects.{Effects}
 use Rattle.sqs_model.specs.Site.{Site}
 use Rattle.sim_partition.specs.Sites.{IsOfPast, living, spent_or}

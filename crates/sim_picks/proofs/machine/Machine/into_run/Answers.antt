@@ -1,6 +1,6 @@
 use Rattle.std.specs.Prelude.{true, ◌++◌, ◌≡◌}
 use Rattle.std.proofs.Common.{ap, subst, sym, ◌∙◌}
-use Rattle.sim_machine.specs.Machine.{is_finished}
+use Rattle.sqs_model.specs.Machine.{is_finished}
 use Rattle.sim_stage.specs.Stages.{HasRest, standing_of}
 use Rattle.sim_picks.specs.Machines.{IsMachineOf, Played, machine_at}
 use Rattle.sim_picks.proofs.machine.Machine.into_run.Goals as goal

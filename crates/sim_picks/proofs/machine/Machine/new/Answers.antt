@@ -1,6 +1,6 @@
 use Rattle.std.specs.Prelude.{List, None, [], filter, ℕ, ◌≡◌}
 use Rattle.std.proofs.Common.{ap, refl, rules, sym, ◌∙◌}
-use Rattle.sim_machine.specs.Prefixes.{is_before}
+use Rattle.sqs_model.specs.Prefixes.{is_before}
 use Rattle.sim_stage.specs.Stages.{AreSettled, standing_of}
 use Rattle.sim_stage.proofs.Opening.{none_before_zero}
 use Rattle.sqs_message.specs.declared.row.Row.{Row}

@@ -1,8 +1,8 @@
 use Rattle.std.specs.Prelude.{List, None, Option, [], get_or, length, ℕ, ◌++◌, ◌+◌, ◌<◌, ◌≡◌, ◌≤◌}
 use Rattle.std.proofs.Common.{ap, arith, subst, sym, ◌∙◌}
 use Rattle.sim_clock.specs.declared.refusal.Refusal.{Refusal}
-use Rattle.sim_machine.specs.Bounds.{least_bound}
-use Rattle.sim_machine.specs.declared.picks.Pick.{Pick}
+use Rattle.sqs_model.specs.Bounds.{least_bound}
+use Rattle.sim_engine.specs.declared.picks.Pick.{Pick}
 use Rattle.sim_stage.specs.Stages.{AreSettled, Played as HasPlayed, Standing, Stands, effects_in, standing_of}
 use Rattle.sim_stage.proofs.Standing.{least_then}
 use Rattle.sim_picks.specs.Machines.{IsMachine, IsMachineOf, IsMachineUnless, Played}

@@ -2,7 +2,7 @@ use Rattle.std.proofs.Common.{ap, arith, length, List, refl, subst, suc, sym, â„
 use Rattle.sqs_redrive.specs.MoveTasks.{MoveTask}
 use Rattle.sqs_redrive.specs.declared.transfers.Load.{Load}
 use Rattle.sqs_model.specs.Answers.{most_count}
-use Rattle.sqs_model.specs.Limits.{task_count}
+use Rattle.sqs_model.specs.Counts.{task_count}
 use Rattle.sqs_model.specs.Step.{Moved, moves}
 use Rattle.sqs_model.specs.Task.{Task}
 use Rattle.sqs_model.specs.Valid.{IsLatency}

@@ -1,9 +1,9 @@
 use Rattle.std.specs.Prelude.{[], false, filter, not, true, ◌++◌, ◌∷◌, ◌≡◌, ◌||◌}
 use Rattle.std.proofs.Common.{ap, sym, ◌∙◌}
 use Rattle.sim_exchange.specs.Layout.{owner_of}
-use Rattle.sim_machine.specs.Machine.{Machine, has_ready, is_finished}
-use Rattle.sim_machine.specs.declared.picks.Pick.TheVariants.{Barrier}
-use Rattle.sim_machine.specs.Prefixes.{is_before}
+use Rattle.sqs_model.specs.Machine.{Machine, has_ready, is_finished}
+use Rattle.sim_engine.specs.declared.picks.Pick.TheVariants.{Barrier}
+use Rattle.sqs_model.specs.Prefixes.{is_before}
 use Rattle.sim_stage.specs.Stages.{Standing, machine_in, standing_of, takes_effect_in}
 use Rattle.sim_stage.proofs.Meetings.{barrier_none}
 use Rattle.sim_stage.proofs.stage.Stage.barrier.Goals.{then-is_some-via-then-is_some, then-is_some-via-else-is_some+then-is_finished}

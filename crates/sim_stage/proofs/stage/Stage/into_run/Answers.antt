@@ -1,9 +1,9 @@
 use Rattle.std.specs.Prelude.{filter, ◌++◌, ◌≡◌}
 use Rattle.std.proofs.Common.{ap, refl, ◌∙◌}
 use Rattle.std.proofs.lemmas.Result.{err_from_is_err_and}
-use Rattle.sim_machine.specs.Machine.{Machine, flushed}
-use Rattle.sim_machine.specs.Merge.{merged_all, row_cmp}
-use Rattle.sim_machine.specs.Prefixes.{is_before}
+use Rattle.sqs_model.specs.Machine.{Machine, flushed}
+use Rattle.sqs_model.specs.Merge.{merged_all, row_cmp}
+use Rattle.sqs_model.specs.Prefixes.{is_before}
 use Rattle.sim_stage.specs.Stages.{Standing, delivered_by, machine_in, standing_of}
 use Rattle.sim_stage.proofs.Ending.{ends_numbered, is_whole, parts_whole, rows_whole, whole}
 use Rattle.sim_stage.proofs.Meetings.{are_reached, live, parts_in}

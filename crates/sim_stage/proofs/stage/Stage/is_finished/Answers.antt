@@ -6,13 +6,13 @@ use Rattle.std.proofs.lemmas.Bool.{cases_lt}
 use Rattle.sim_clock.specs.declared.key.Key.{Key}
 use Rattle.sim_clock.specs.declared.refusal.Refusal.{Refusal}
 use Rattle.sim_exchange.specs.Layout.{owner_of}
-use Rattle.sim_machine.specs.Machine.{Machine}
-use Rattle.sim_machine.specs.Parts.{part_of}
-use Rattle.sim_machine.proofs.Machines.{not_some}
+use Rattle.sqs_model.specs.Machine.{Machine}
+use Rattle.sqs_model.specs.Parts.{part_of}
+use Rattle.sim_engine.proofs.Machines.{not_some}
 use Rattle.sim_partition.specs.Sites.{due_in}
 use Rattle.sim_stage.specs.Stages.{machine_in, standing_of}
 use Rattle.sim_stage.proofs.Standing.{due_at, many_parts, none_due_is, one_due_is}
-use Rattle.sqs_model.specs.Run.{due_by, next_due}
+use Rattle.sqs_model.specs.World.{due_by, next_due}
 use Rattle.sqs_model.specs.Site.{Site}
 use Rattle.sqs_redrive.specs.declared.transfers.Outbound.{Outbound}
 use Rattle.sim_stage.proofs.stage.Stage.is_finished.Goals as goal

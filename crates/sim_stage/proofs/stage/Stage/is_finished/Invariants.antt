@@ -1,9 +1,9 @@
 use Rattle.std.proofs.Common.{List, None, ℕ, ◌<◌, ◌≡◌}
 use Rattle.sim_exchange.specs.Layout.{owner_of}
-use Rattle.sim_machine.specs.Parts.{part_of}
-use Rattle.sim_machine.specs.declared.picks.Pick.{Pick}
+use Rattle.sqs_model.specs.Parts.{part_of}
+use Rattle.sim_engine.specs.declared.picks.Pick.{Pick}
 use Rattle.sim_stage.specs.Stages.{Stands, machine_in, standing_of}
-use Rattle.sqs_model.specs.Run.{next_due}
+use Rattle.sqs_model.specs.World.{next_due}
 use Rattle.sqs_model.specs.Scenario.{Scenario}
 use Rattle.sim_stage.proofs.stage.Stage.is_finished.Given as goal
 

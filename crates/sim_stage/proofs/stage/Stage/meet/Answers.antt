@@ -4,10 +4,10 @@ use Rattle.std.proofs.Common.{ap, arith, subst, sym, ◌∙◌}
 use Rattle.std.proofs.lemmas.Result.{err_from_is_err_and}
 use Rattle.sim_exchange.specs.Layout.{owner_of}
 use Rattle.sim_exchange.specs.Table.{distance_in}
-use Rattle.sim_machine.specs.Bounds.{bound_by}
-use Rattle.sim_machine.specs.Machine.{Machine, has_ready, is_finished}
-use Rattle.sim_machine.specs.declared.picks.Pick.{Pick}
-use Rattle.sim_machine.specs.declared.picks.Pick.TheVariants.{Barrier}
+use Rattle.sqs_model.specs.Bounds.{bound_by}
+use Rattle.sqs_model.specs.Machine.{Machine, has_ready, is_finished}
+use Rattle.sim_engine.specs.declared.picks.Pick.{Pick}
+use Rattle.sim_engine.specs.declared.picks.Pick.TheVariants.{Barrier}
 use Rattle.sim_stage.specs.Meeting.{due_moments}
 use Rattle.sim_stage.specs.Stages.{Standing, Stands, bounded_by, delivered_by, machine_in, standing_of}
 use Rattle.sim_stage.proofs.Meetings.{are_reached, bounds_in, goes_on, live, many_delivered, meets, parts_in}

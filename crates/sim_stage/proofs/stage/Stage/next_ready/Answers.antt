@@ -6,8 +6,8 @@ use Rattle.sim_clock.specs.declared.key.Key.{Key}
 use Rattle.sim_clock.specs.declared.refusal.Refusal.{Refusal}
 use Rattle.sim_clock.specs.Order.{lesser}
 use Rattle.sim_exchange.specs.Layout.{owner_of}
-use Rattle.sim_machine.specs.Machine.{Machine, ready}
-use Rattle.sim_machine.specs.declared.picks.Pick.{Pick}
+use Rattle.sqs_model.specs.Machine.{Machine, ready}
+use Rattle.sim_engine.specs.declared.picks.Pick.{Pick}
 use Rattle.sim_stage.specs.Stages.{Standing, machine_in, next_ready, standing_of}
 use Rattle.sim_stage.proofs.Fronts.{going_is}
 use Rattle.sim_stage.proofs.Standing.{many_parts, ready_at}

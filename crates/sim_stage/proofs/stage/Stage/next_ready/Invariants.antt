@@ -1,6 +1,6 @@
 use Rattle.std.proofs.Common.{List, ◌≡◌}
 use Rattle.sim_exchange.specs.Layout.{owner_of}
-use Rattle.sim_machine.specs.declared.picks.Pick.{Pick}
+use Rattle.sim_engine.specs.declared.picks.Pick.{Pick}
 use Rattle.sim_stage.specs.Stages.{Stands, machine_in, next_ready, standing_of}
 use Rattle.sqs_model.specs.Scenario.{Scenario}
 use Rattle.sim_stage.proofs.stage.Stage.next_ready.Given as goal

@@ -2,7 +2,7 @@ use Rattle.std.specs.Prelude.{Bool, List, false, take, true, ℕ, ◌++◌, ◌+
 use Rattle.std.proofs.Common.{ap, arith, inl, inr, subst, sym, ◌∙◌}
 use Rattle.std.proofs.lemmas.List.{take_all, take_more}
 use Rattle.std.proofs.lemmas.Result.{err_from_is_err_and}
-use Rattle.sim_machine.specs.declared.picks.Pick.{Pick}
+use Rattle.sim_engine.specs.declared.picks.Pick.{Pick}
 use Rattle.sim_stage.specs.Stages.{Played, standing_of}
 use Rattle.sim_stage.proofs.Playing.{one_more, played_on}
 use Rattle.sim_stage.proofs.stage.Stage.play.Goals.{else-branch, then-branch}

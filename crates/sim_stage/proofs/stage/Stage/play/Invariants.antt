@@ -1,5 +1,5 @@
 use Rattle.std.proofs.Common.{List, take, ◌≤◌}
-use Rattle.sim_machine.specs.declared.picks.Pick.{Pick}
+use Rattle.sim_engine.specs.declared.picks.Pick.{Pick}
 use Rattle.sim_stage.specs.Stages.{AreSettled, IsStanding, Played, Stands, standing_of}
 use Rattle.sqs_model.specs.Scenario.{Scenario}
 use Rattle.sim_stage.proofs.stage.Stage.play.Given as goal

@@ -1,7 +1,7 @@
 use Rattle.std.specs.Prelude.{List, Vec, [], filter, map, ◌∷◌, ◌≡◌}
 use Rattle.std.proofs.Common.{Global, ap, refl, ◌∙◌}
-use Rattle.sim_machine.specs.Merge.{merged_all, row_cmp}
-use Rattle.sim_machine.specs.Prefixes.{is_before}
+use Rattle.sqs_model.specs.Merge.{merged_all, row_cmp}
+use Rattle.sqs_model.specs.Prefixes.{is_before}
 use Rattle.sim_stage.specs.Stages.{Standing, is_from, standing_of}
 use Rattle.sqs_message.specs.declared.row.Row.{Row}
 use Rattle.sim_stage.proofs.stage.Stage.settle_before.Goals as goal

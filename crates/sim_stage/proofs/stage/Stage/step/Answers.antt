@@ -6,19 +6,19 @@ use Rattle.std.proofs.lemmas.Result.{err_from_is_err_and}
 use Rattle.sim_clock.specs.declared.key.Key.{Key}
 use Rattle.sim_clock.specs.declared.refusal.Refusal.{Refusal}
 use Rattle.sim_exchange.specs.Layout.{owner_of}
-use Rattle.sim_machine.specs.Machine.{Machine, ready}
-use Rattle.sim_machine.specs.Parts.{part_of}
-use Rattle.sim_machine.specs.declared.picks.Pick.{Pick}
-use Rattle.sim_machine.specs.declared.picks.Pick.TheVariants.{Part}
-use Rattle.sim_machine.proofs.Machines.{not_some}
+use Rattle.sqs_model.specs.Machine.{Machine, ready}
+use Rattle.sqs_model.specs.Parts.{part_of}
+use Rattle.sim_engine.specs.declared.picks.Pick.{Pick}
+use Rattle.sim_engine.specs.declared.picks.Pick.TheVariants.{Part}
+use Rattle.sim_engine.proofs.Machines.{not_some}
 use Rattle.sim_partition.specs.Sites.{AreOfPast, HasDue, IsOfPast}
 use Rattle.sim_partition.specs.Steps.{StopsStep}
 use Rattle.sim_stage.specs.Stages.{Standing, Stands, machine_in, standing_of}
 use Rattle.sim_stage.proofs.Standing.{many_parts, many_rows, none_past, part_at, ready_at}
 use Rattle.sim_stage.proofs.Stepping.{due_is, has_due, some_key, stepped_by, steps, stops_over, took_none}
 use Rattle.sqs_message.specs.declared.row.Row.{Row}
-use Rattle.sqs_model.specs.Dues.{world_due}
-use Rattle.sqs_model.specs.Run.{Stepped, handled_among}
+use Rattle.sqs_model.specs.World.{world_due}
+use Rattle.sqs_model.specs.World.{Stepped, handled_among}
 use Rattle.sqs_model.specs.Scenario.{Scenario}
 use Rattle.sqs_model.specs.Site.{Site}
 use Rattle.sim_stage.proofs.stage.Stage.step.Goals.{then-place-len-via-then-place-len, then-place-len-via-else-place-len+then-is_none}

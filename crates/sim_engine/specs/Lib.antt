@@ -1,0 +1,17 @@
+pub mod Engine
+pub mod Members
+pub mod World
+pub mod Counts
+pub mod Limits
+pub mod Setting
+pub mod Laws
+pub mod Parts
+pub mod Machine
+pub mod Bounds
+pub mod Merge
+pub mod Theorems
+pub mod Prefixes
+pub mod Rounds
+pub mod Exchange
+pub mod Kept
+pub mod Simulated

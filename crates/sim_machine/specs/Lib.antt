@@ -1,9 +1,0 @@
-pub mod Parts
-pub mod Machine
-pub mod Bounds
-pub mod Merge
-pub mod Theorems
-pub mod Prefixes
-pub mod Rounds
-pub mod Exchange
-pub mod Kept
