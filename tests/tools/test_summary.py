@@ -1,0 +1,566 @@
+"""Tests tools/summary on logs written by hand, on the stored cases by their own reports, and on damaged input."""
+import csv
+import glob
+import io
+import json
+import os
+import pty
+import random
+import subprocess
+import sys
+import unittest
+
+from tool import PROGRAM, ROOT, TOOLS, ToolCase, module_of, needs_program
+
+HEADER = "at,queue,agent,call,answer,message,receipt,detail\n"
+# A long poll; a batch of two; m-0-0 is handled by two consumers, m-0-1 after its timeout, m-0-2 as it has left for d.
+LOG = HEADER + """0,a,left,receive,wait,,,
+100,a,shop,send,new,m-0-0,,900150983cd24fb0d6963f7d28e17f72
+100,a,left,receive,ok,m-0-0,r-0-0-1,o-0-0
+200,a,shop,send,new,m-0-1,,900150983cd24fb0d6963f7d28e17f72
+200,a,desk,send,new,m-0-2,,900150983cd24fb0d6963f7d28e17f72
+300,a,right,receive,ok,m-0-1,r-0-1-1,o-0-1
+300,a,right,receive,ok,m-0-2,r-0-2-1,o-0-2
+2100,a,a,release,visible,m-0-0,,
+2200,a,third,receive,ok,m-0-0,r-0-0-2,o-0-0
+2300,a,a,release,visible,m-0-1,,
+2300,a,a,release,visible,m-0-2,,
+2500,a,left,delete,kept,m-0-0,r-0-0-1,
+2600,a,third,delete,deleted,m-0-0,r-0-0-2,2500
+3000,a,right,delete,deleted,m-0-1,r-0-1-1,2800
+3100,a,right,fail,ok,m-0-2,r-0-2-1,
+3200,a,left,receive,ok,m-0-2,r-0-2-2,o-0-2
+5200,a,a,redrive,out,m-0-2,,d
+5220,d,a,arrive,new,m-1-0,,o-0-2
+5300,a,left,delete,gone,m-0-2,r-0-2-2,
+5400,a,left,delete,gone,m-0-2,r-0-2-2,
+6000,a,left,receive,empty,,,
+7000,a,left,receive,wait,,,
+9000,a,left,receive,empty,,,
+9500,a,shop,change,MessageNotInflight,,r-0-0-1,
+60200,d,d,expire,expired,m-1-0,,60000
+"""
+PARTS = """final,queue,message,origin,place,due,enqueued,receives,group,md5
+transfer,from,to,kind,due,number,message,origin,md5
+task,name,status,moved
+report,queue,sends,repeats,receives,empties,deletes,expiries,redrives,moves,arrivals,OverLimit,MessageNotInflight,\
+ReceiptHandleIsInvalid,BadTimeout,MissingGroup,MissingDeduplication,BadDelay,TaskRunning,NoTask,depth_max,visible,\
+in_flight,delayed,age_sum,age_max,age_p50,age_p95,age_p99
+report,a,3,0,5,2,2,0,1,0,0,0,1,0,0,0,0,0,0,0,3,0,0,0,5300,2800,2500,2800,2800
+report,d,0,0,0,0,0,1,0,0,1,0,0,0,0,0,0,0,0,0,1,0,0,0,0,,,,
+"""
+TEXT = """run.txt: 25 rows, the last at 1 min 0 s
+!! LOST BY EXPIRY: 1 in d
+
+a
+   sent                                   3
+   deleted                                2 of 3
+   handled once                           2 of 3
+   handled more than once                 1 of 3, at most 2 times
+   handled, yet not deleted               1 of 3
+   tries a message, mean               1.67
+   tries a message, greatest              2
+   services that failed                   1
+   dead-lettered                          1 of 3, to d
+   lost by expiry                         0 of 3
+   left at the end                        0 of 3
+   age when deleted, 50 %            2.50 s
+   age when deleted, 95 %            2.80 s
+   age when deleted, 99 %            2.80 s
+   age when deleted, greatest        2.80 s
+   greatest depth                         3 at 200 ms
+   backlog gone at                   5.20 s
+   API requests                          15
+     SendMessage                          3
+     ReceiveMessage                       6
+       of them empty                      2
+     DeleteMessage                        5
+     ChangeMessageVisibility              1
+     of all, refused                      1
+
+d
+   sent                                   0
+   came as dead letters                   1
+   deleted                                0 of 1
+   handled once                           0 of 1
+   handled more than once                 0 of 1
+   dead-lettered                          0 of 1
+!! LOST BY EXPIRY                         1 of 1
+   left at the end                        0 of 1
+   greatest depth                         1 at 5.22 s
+   backlog gone at                1 min 0 s
+   API requests                           0
+     SendMessage                          0
+     ReceiveMessage                       0
+       of them empty                      0
+     DeleteMessage                        0
+     ChangeMessageVisibility              0
+"""
+FIFO = HEADER + """0,f.fifo,shop,send,new,m-0-0,,900150983cd24fb0d6963f7d28e17f72
+5,f.fifo,shop,send,repeat,m-0-0,,900150983cd24fb0d6963f7d28e17f72
+6,f.fifo,shop,send,MissingGroup,,,
+10,f.fifo,left,receive,ok,m-0-0,r-0-0-1,o-0-0
+2010,f.fifo,f.fifo,release,visible,m-0-0,,
+2500,f.fifo,left,delete,ReceiptHandleIsInvalid,,r-0-0-1,
+2501,f.fifo,left,delete,ReceiptHandleIsInvalid,,r-0-0-1,
+2502,f.fifo,left,delete,ReceiptHandleIsInvalid,,"r,""x",
+3000,f.fifo,left,receive,ok,m-0-0,r-0-0-2,o-0-0
+3500,f.fifo,left,delete,deleted,m-0-0,r-0-0-2,3500
+3600,f.fifo,left,delete,gone,m-0-0,r-0-0-7,
+"""
+# A delayed message, a forward that arrives and one that does not, a move, and one message in flight in the end.
+WAYS = HEADER + """0,a,shop,send,new,m-0-0,,900150983cd24fb0d6963f7d28e17f72
+0,a,shop,send,new,m-0-1,,900150983cd24fb0d6963f7d28e17f72
+1000,a,a,release,visible,m-0-1,,
+1500,a,left,receive,ok,m-0-0,r-0-0-1,o-0-0
+1600,a,left,forward,out,m-0-0,r-0-0-1,d
+1600,a,left,delete,deleted,m-0-0,r-0-0-1,1600
+1700,d,left,arrive,new,m-1-0,,o-1-0
+1800,a,left,receive,ok,m-0-1,r-0-1-1,o-0-1
+2000,a,a,release,visible,m-0-1,,
+2000,a,a,redrive,out,m-0-1,,d
+"""
+summary = module_of("summary")
+KEYS = ["log", "rows", "last_row_at_ms", "has_report", "queues"]
+
+
+def cases():
+    """The stored outputs of runs: their path, their log, what follows it, and the report's records by queue."""
+    for path in sorted(glob.glob(os.path.join(ROOT, "tests", "cases", "*", "*.out"))):
+        with open(path, encoding="utf-8", newline="") as file:
+            text = file.read()
+        if "\nreport," in text:
+            log, final, parts = text.partition("\nfinal,")
+            records = list(csv.reader(text[text.index("\nreport,") + 1:].splitlines()))
+            yield path, log + "\n", (final + parts)[1:], [dict(zip(records[0], record)) for record in records[1:]]
+
+
+def rows_of(log):
+    return list(csv.DictReader(io.StringIO(log)))
+
+
+class SummaryCase(ToolCase):
+    def queues(self, *texts):
+        """What --json tells of the queues of one run, by their names."""
+        paths = [self.write(f"text{place}", text) for place, text in enumerate(texts)]
+        status, out, err = self.run_tool("summary", "--json", *paths)
+        self.assertEqual((status, err), (0, ""))
+        run, = json.loads(out)["runs"]
+        return {queue["queue"]: queue for queue in run["queues"]}
+
+    def assert_values(self, values, **expected):
+        self.assertEqual({key: values[key] for key in expected}, expected)
+
+
+class Definitions(SummaryCase):
+    def test_text(self):
+        self.write("run.txt", LOG + PARTS)
+        self.assertEqual(self.run_tool("summary", "run.txt"), (0, TEXT, ""))
+
+    def test_log_and_output_in_two_files(self):
+        self.write("run.txt", LOG)
+        self.write("run.out", PARTS)
+        self.assertEqual(self.run_tool("summary", "run.txt", "run.out"), (0, TEXT, ""))
+
+    def test_handled_by_receipts(self):
+        """A second call with a receipt, and one that was never given, count for nothing."""
+        self.assert_values(self.queues(LOG)["a"], handled_once=2, handled_more_than_once=1, times_handled_greatest=2)
+        self.assert_values(self.queues(FIFO)["f.fifo"], handled_once=0, handled_more_than_once=1, deleted=1,
+                           times_handled_greatest=2, repeated_sends=1, tries_mean=2.0, tries_greatest=2)
+
+    def test_requests(self):
+        self.assert_values(self.queues(FIFO)["f.fifo"], SendMessage=3, ReceiveMessage=2, DeleteMessage=5,
+                           refused_requests=4, requests=10, empty_receives=0)
+        log = HEADER + "5,d,boss,start,ok,,,task\n6,d,boss,start,TaskRunning,,,task\n7,d,boss,cancel,ok,,,task\n" \
+            "8,d,boss,receive,OverLimit,,,\n9,d,boss,receive,BadTimeout,,,\n10,d,boss,receive,wait,,,\n"
+        self.assert_values(self.queues(log)["d"], StartMessageMoveTask=2, CancelMessageMoveTask=1, ReceiveMessage=3,
+                           empty_receives=0, refused_requests=3, requests=6)
+
+    def test_ways_between_queues(self):
+        queues = self.queues(WAYS)
+        self.assert_values(queues["a"], sent=2, came_in=2, forwarded=1, dead_lettered=1, dead_lettered_to=["d"], left=0,
+                           backlog_gone_at_ms=2000, on_their_way_here=0)
+        self.assert_values(queues["d"], sent=0, came_in=1, came_by_forward=1, SendMessage=1, on_their_way_here=1,
+                           left=1, left_visible=None, left_in_flight=0, left_visible_or_delayed=1,
+                           backlog_gone_at_ms=None, not_empty_since_ms=1700)
+        rows = "2500,d,back,receive,ok,m-1-0,r-1-0-1,o-1-0\n2600,d,d,arrive,new,m-1-1,,o-0-1\n" \
+            "3000,d,task,move,out,m-1-1,,a\n3020,a,task,arrive,new,m-0-2,,o-0-1\n"
+        queues = self.queues(WAYS + rows)
+        self.assert_values(queues["a"], came_in=3, came_by_move=1, left=1, not_empty_since_ms=3020)
+        self.assert_values(queues["d"], came_in=2, came_by_redrive=1, moved_away=1, moved_to=["a"], left=1,
+                           left_in_flight=1, left_visible_or_delayed=0, on_their_way_here=0, depth_greatest=2,
+                           depth_greatest_at_ms=2600)
+
+    def test_backlog_gone_and_come_again(self):
+        rows = ["0,q,p,send,new,m-0-0,,x", "5,q,c,receive,ok,m-0-0,r-0-0-1,o-0-0",
+                "9,q,c,delete,deleted,m-0-0,r-0-0-1,9", "20,q,p,send,new,m-0-1,,x",
+                "25,q,c,receive,ok,m-0-1,r-0-1-1,o-0-1"]
+        for length, gone, since in ((1, None, 0), (3, 9, None), (4, None, 20), (5, None, 20)):
+            log = HEADER + "\n".join(rows[:length]) + "\n"
+            self.assert_values(self.queues(log)["q"], backlog_gone_at_ms=gone, not_empty_since_ms=since)
+        self.assertIn("never (not empty since 20 ms)", self.run_tool("summary", self.write("log", log))[1])
+
+    def test_nearest_ranks(self):
+        """Of the ages 1 to 1,000 s the ranks are 500, 950 and 990 s; without a report 16 leading bits are told."""
+        log = HEADER + "".join(f"{i},q,p,send,new,m-0-{i},,x\n" for i in range(1_000))
+        log += "".join(f"2000,q,c,receive,ok,m-0-{i},r-0-{i}-1,o-0-{i}\n" for i in range(1_000))
+        log += "".join(f"3000,q,c,delete,deleted,m-0-{i},r-0-{i}-1,{1_000 * (i + 1)}\n" for i in range(1_000))
+        values = self.queues(log)["q"]
+        for key, age in (("age_p50_ms", 500_000), ("age_p95_ms", 950_000), ("age_p99_ms", 990_000)):
+            self.assertEqual(values[key] >> 4, age >> 4, key)
+        self.assert_values(values, age_greatest_ms=1_000_000, depth_greatest=1_000, depth_greatest_at_ms=999,
+                           ReceiveMessage=1, receives=1_000)
+
+    def test_durations(self):
+        for milliseconds, text in (
+                (0, "0 ms"), (999, "999 ms"), (1_000, "1.00 s"), (9_994, "9.99 s"), (9_995, "10.0 s"),
+                (10_246, "10.2 s"), (59_949, "59.9 s"), (59_950, "1 min 0 s"), (185_000, "3 min 5 s"),
+                (3_599_499, "59 min 59 s"), (3_599_500, "1 h 0 min"), (86_369_999, "23 h 59 min"),
+                (86_370_000, "1 day 0 h"), (2_592_000_000, "30 days 0 h")):
+            self.assertEqual(summary.duration(milliseconds), text)
+
+
+class Stored(SummaryCase):
+    def test_reports(self):
+        """The tool checks each column that it counts; here those that it tells are compared once more."""
+        columns = {"sent": "sends", "repeated_sends": "repeats", "receives": "receives", "empty_receives": "empties",
+                   "deleted": "deletes", "lost_by_expiry": "expiries", "dead_lettered": "redrives",
+                   "moved_away": "moves", "depth_greatest": "depth_max", "left_visible": "visible",
+                   "left_in_flight": "in_flight", "left_delayed": "delayed", "age_greatest_ms": "age_max",
+                   "age_p50_ms": "age_p50", "age_p95_ms": "age_p95", "age_p99_ms": "age_p99"}
+        compared = set()
+        for path, log, parts, report in cases():
+            runs = summary.read_runs([path])
+            self.assertEqual([queue["queue"] for queue in report], list(runs[0].queues))
+            for expected, queue in zip(report, runs[0].queues.values()):
+                values = queue.values()
+                for key, column in columns.items():
+                    told = "" if values[key] is None else str(values[key])
+                    self.assertEqual(told, expected[column], (path, column))
+                self.assertEqual(values["came_in"], int(expected["sends"]) + int(expected["arrivals"]), path)
+                left = values["deleted"] + values["lost_by_expiry"] + values["dead_lettered"] + values["moved_away"]
+                self.assertEqual(values["came_in"] - left, values["left"], path)
+                compared.add((path, queue.name))
+            apart = summary.read_runs([self.write("log", log), self.write("parts", parts)])
+            self.assertEqual(summary.values_of(apart, None), summary.values_of(runs, None), path)
+        self.assertGreater(len(compared), 100)
+        self.assertTrue(any(os.sep + "worked" + os.sep in path for path, _ in compared))
+
+    def test_logs_alone(self):
+        """A log alone tells the same, other than what is visible or delayed."""
+        unknown = {"left_visible": None, "left_delayed": None}
+        for path, log, parts, _ in cases():
+            whole = summary.values_of(summary.read_runs([path]), None)
+            alone = summary.values_of(summary.read_runs([self.write("log", log)]), None)
+            for name, (values,) in alone.items():
+                told = {key: leading(value) if key.startswith("age_p") else value for key, value in values.items()}
+                expected = {key: leading(value) if key.startswith("age_p") else value
+                            for key, value in whole[name][0].items()}
+                self.assertEqual(told, {**expected, **unknown}, path)
+
+    def test_handled_by_brute_force(self):
+        """Of each message the receipts are collected that were given to it and with which a deletion was called."""
+        more = 0
+        for path, log, _, _ in cases():
+            given, used = {}, {}
+            for row in rows_of(log):
+                key = row["queue"], row["receipt"]
+                if (row["call"], row["answer"]) == ("receive", "ok"):
+                    given[key] = row["queue"], row["message"]
+                elif row["call"] == "delete" and key in given:
+                    used.setdefault(given[key], set()).add(key)
+            for queue in summary.read_runs([path])[0].queues.values():
+                numbers = [len(receipts) for (name, _), receipts in used.items() if name == queue.name]
+                told = queue.counts["handled_once"], queue.counts["handled_more_than_once"]
+                self.assertEqual(told, (numbers.count(1), len(numbers) - numbers.count(1)), (path, queue.name))
+                more += told[1]
+        self.assertGreater(more, 5)
+
+    def test_requests_by_brute_force(self):
+        """Calls of receive are their moments of ok or empty, and the polls that nothing ended."""
+        calls = 0
+        for path, log, _, _ in cases():
+            moments, waiting = {}, {}
+            for row in rows_of(log):
+                agent = row["queue"], row["agent"]
+                if row["call"] == "receive":
+                    waiting[agent] = row["answer"] == "wait"
+                    if row["answer"] != "wait":
+                        moments.setdefault(row["queue"], set()).add((row["at"], row["agent"]))
+            for queue in summary.read_runs([path])[0].queues.values():
+                pending = [agent for agent, is_waiting in waiting.items() if is_waiting and agent[0] == queue.name]
+                told = queue.counts["ReceiveMessage"]
+                self.assertEqual(told, len(moments.get(queue.name, ())) + len(pending), (path, queue.name))
+                calls += told
+        self.assertGreater(calls, 1_000)
+
+
+def leading(age):
+    return None if age is None else summary.leading(age)
+
+
+class SideBySide(SummaryCase):
+    def test_two_runs(self):
+        before, after = self.write("before", LOG + PARTS), self.write("after", FIFO)
+        status, out, err = self.run_tool("summary", before, after)
+        self.assertEqual((status, err), (0, ""))
+        self.assertTrue(out.startswith(f"before, {before}: 25 rows, the last at 1 min 0 s\n!! LOST BY EXPIRY: 1 in d\n"
+                                       f"after, {after}: 11 rows, the last at 3.60 s\n   no report follows"))
+        sections = out.split("\n\n")
+        self.assertEqual([section.split()[0] for section in sections[1:]], ["a", "d", "f.fifo"])
+        self.assertIn("!! LOST BY EXPIRY                          1            -             -\n", sections[2])
+
+    def test_differences(self):
+        later = LOG.replace("2500,a,left,delete,kept,m-0-0,r-0-0-1,\n", "").replace(",2800\n", ",2750\n")
+        before, after = self.write("before", LOG), self.write("after", later)
+        _, out, _ = self.run_tool("summary", before, after, "--queue", "a")
+        for line in ("a                                     before        after    difference",
+                     "   handled once                            2            3            +1",
+                     "   handled more than once                  1            0            -1",
+                     "   tries a message, mean                1.67         1.67             0",
+                     "   age when deleted, greatest         2.80 s       2.75 s        -50 ms",
+                     "   greatest depth at                  200 ms       200 ms             0",
+                     "     DeleteMessage                         5            4            -1"):
+            self.assertIn(line + "\n", out)
+        document = json.loads(self.run_tool("summary", before, after, "--json")[1])
+        differences = {queue["queue"]: queue for queue in document["differences"]}
+        self.assert_values(differences["a"], handled_once=1, handled_more_than_once=-1, tries_mean=0.0, requests=-1,
+                           age_greatest_ms=-50, backlog_gone_at_ms=0, left_visible=None)
+
+    def test_columns_align(self):
+        """The texts of each column end below its title, also with a long name and great numbers."""
+        name = "long-name-" * 8
+        logs = [HEADER + "".join(f"{i * step},{name},p,send,new,m-0-{i},,x\n" for i in range(1_000))
+                for step in (1, 2_592_000)]
+        _, out, _ = self.run_tool("summary", self.write("before", logs[0]), self.write("after", logs[1]))
+        lines = out.split("\n\n")[1].splitlines()
+        self.assertEqual(lines[0], name)
+        self.assertEqual({len(line) for line in lines[1:]}, {len(lines[1])})
+        self.assertEqual(lines[1].split(), ["before", "after", "difference"])
+
+    def test_fixed_keys(self):
+        documents = [json.loads(self.run_tool("summary", "--json", *paths)[1]) for paths in (
+            [self.write("a", LOG)], [self.write("b", LOG + PARTS)], [self.write("c", FIFO), self.write("d", WAYS)])]
+        keys = {tuple(queue) for document in documents for run in document["runs"] for queue in run["queues"]}
+        self.assertEqual(len(keys), 1)
+        self.assertEqual({tuple(run) for document in documents for run in document["runs"]}, {tuple(KEYS)})
+        self.assertEqual([len(document["differences"]) for document in documents], [0, 0, 3])
+        told = {tuple(queue) for queue in documents[2]["differences"]}
+        self.assertEqual(told, {tuple(key for key in keys.pop() if key not in ("dead_lettered_to", "moved_to"))})
+
+
+class Stream(SummaryCase):
+    def test_standard_input(self):
+        run = subprocess.run([sys.executable, os.path.join(TOOLS, "summary"), "-"], input=LOG + PARTS,
+                             capture_output=True, text=True)
+        self.assertEqual((run.returncode, run.stderr), (0, ""))
+        self.assertEqual(run.stdout, TEXT.replace("run.txt", "standard input"))
+
+    def test_output_on_standard_input(self):
+        self.write("run.txt", LOG)
+        run = subprocess.run([sys.executable, os.path.join(TOOLS, "summary"), "run.txt", "-"], input=PARTS,
+                             capture_output=True, text=True, cwd=self.folder)
+        self.assertEqual((run.returncode, run.stdout, run.stderr), (0, TEXT, ""))
+
+    def test_messages_that_are_gone_are_forgotten(self):
+        """A log in which five messages at most are alive, one service in ten fails, and one receipt stays open."""
+        rows = ["0,q,p,send,new,m-0-0,,x", "0,q,c,receive,ok,m-0-0,r-0-0-1,o-0-0", "1,q,q,release,visible,m-0-0,,",
+                "2,q,c,receive,ok,m-0-0,r-0-0-2,o-0-0", "3,q,c,delete,deleted,m-0-0,r-0-0-2,3"]
+        for i in range(1, 20_000):
+            rows += [f"{10 * i},q,p,send,new,m-0-{i},,x", f"{10 * i + 1},q,c,receive,ok,m-0-{i},r-0-{i}-1,o-0-{i}",
+                     f"{10 * i + 2},q,c,fail,ok,m-0-{i},r-0-{i}-1," if i % 10 == 0 else
+                     f"{10 * i + 2},q,c,delete,deleted,m-0-{i},r-0-{i}-1,{2 + 100_000 * i}"]
+            rows += [f"{10 * i + 3},q,q,expire,expired,m-0-{i},,9"] * (i % 10 == 0)
+        run, = summary.read_runs([self.write("log", HEADER + "\n".join(rows) + "\n")])
+        queue = run.queues["q"]
+        self.assertEqual((len(queue.alive), list(queue.receipts), len(queue.polls)), (0, ["r-0-0-1"], 1))
+        self.assertEqual((queue.counts["deleted"], queue.counts["lost_by_expiry"]), (18_001, 1_999))
+
+    def test_ages_have_bounded_room(self):
+        """An age of n bits is told by 16 of them at most: 2^15 for each n over 16, and all that are shorter."""
+        ages = {summary.leading(age) for age in range(1 << 20)}
+        self.assertEqual(len(ages), (1 << 16) + 4 * (1 << 15))
+        self.assertEqual([summary.leading(age) for age in (0, 65_535, 65_536, 65_537, 1_209_600_000)],
+                         [0, 65_535, 65_536, 65_536, 1_209_597_952])
+
+    def test_output_that_is_closed_early(self):
+        path = self.write("run.txt", LOG + PARTS)
+        run = subprocess.run(f"{sys.executable} {TOOLS}/summary {path} | true", shell=True, capture_output=True)
+        self.assertEqual(run.stderr, b"")
+        run = subprocess.run(f"{sys.executable} {TOOLS}/summary {path} > /dev/full", shell=True, capture_output=True)
+        self.assertEqual((run.returncode, run.stderr),
+                         (2, b"summary: cannot write standard output: No space left on device\n"))
+        run = subprocess.run(f"{sys.executable} {TOOLS}/summary {path} >&-", shell=True, capture_output=True)
+        self.assertEqual((run.returncode, run.stderr), (2, b"summary: standard output is closed\n"))
+
+
+class Terminal(SummaryCase):
+    def on_terminal(self, **environment):
+        """What the tool writes on a terminal."""
+        path, (parent, child) = self.write("run.txt", LOG + PARTS), pty.openpty()
+        kept = {key: value for key, value in os.environ.items() if key != "NO_COLOR"}
+        run = subprocess.run([sys.executable, os.path.join(TOOLS, "summary"), path], stdout=child, cwd=self.folder,
+                             stderr=subprocess.PIPE, env={**kept, "TERM": "xterm", **environment})
+        os.close(child)
+        self.assertEqual((run.returncode, run.stderr), (0, b""))
+        text = b""
+        while not text.endswith(b"ChangeMessageVisibility              0\r\n"):
+            text += os.read(parent, 65_536)
+        os.close(parent)
+        return text.decode()
+
+    def test_colours(self):
+        text = self.on_terminal()
+        self.assertIn("\033[1;31m!! LOST BY EXPIRY: 1 in d\033[0m\r\n", text)
+        self.assertIn("\033[1;31m!! LOST BY EXPIRY                         1 of 1\033[0m\r\n", text)
+        self.assertIn("\033[1ma\033[0m\r\n", text)
+
+    def test_no_colours(self):
+        self.assertNotIn("\033", self.on_terminal(NO_COLOR="1"))
+        self.assertNotIn("\033", self.on_terminal(TERM="dumb"))
+        self.assertIn("\033", self.on_terminal(NO_COLOR=""))
+
+
+class Faults(SummaryCase):
+    def assert_told(self, text, line, *words):
+        """A text, in a file of that name, is told in one line."""
+        self.write("text", text)
+        self.assert_fault(self.run_tool("summary", "text", *words), f"summary: {line}")
+
+    def test_files(self):
+        first = f"its first line is not {HEADER.strip()}"
+        self.assert_told("", f"text is no log: {first}")
+        self.assert_told("a,b\n", f"text is no log: {first}")
+        self.assert_told(HEADER[:-9], f"text is no log: {first}")
+        self.assert_told(PARTS, "text has no log, and no log without its report stands before it")
+        self.assert_told(HEADER + "x" * 3_000_000, "text has a line of over 1,048,576 letters")
+        self.assert_fault(self.run_tool("summary", "none"), "summary: cannot read none: No such file or directory")
+        self.assert_fault(self.run_tool("summary", self.folder), f"summary: cannot read {self.folder}: Is a directory")
+        with open(self.path("bytes"), "wb") as file:
+            file.write(HEADER.encode() + b"0,a,shop,send,new,m-0-0,,\xff\xfe\n")
+        self.assert_fault(self.run_tool("summary", "bytes"), "summary: bytes is not UTF-8")
+
+    def test_words(self):
+        log = self.write("log", LOG)
+        for words, line in (
+                ((), "the following arguments are required: FILE (--help tells the usage)"),
+                (("-", "-"), "standard input can be read once"),
+                ((log, "--queue"), "argument --queue: expected one argument (--help tells the usage)"),
+                ((log, "--queue", "x"), "there is no queue x"),
+                ((log, "--fast"), "unrecognized arguments: --fast (--help tells the usage)"),
+                ((log, log, log), f"{log} is the log of a third run: two can be told side by side")):
+            self.assert_fault(self.run_tool("summary", *words), f"summary: {line}")
+
+    def test_cut(self):
+        """No front of a whole output is told, other than one that ends with a row of its log."""
+        text = LOG + PARTS
+        whole = {end for end in range(len(LOG) + 1) if LOG[:end].endswith("\n")} | {len(text)}
+        for end in (*range(0, len(LOG) - 150, 7), *range(len(LOG) - 150, len(text) + 1)):
+            path = self.write("text", text[:end])
+            try:
+                summary.read_runs([path])
+                passed = True
+            except summary.Fault:
+                passed = False
+            self.assertEqual(passed, end in whole, text[:end][-60:])
+
+    def test_rows(self):
+        begin = HEADER + "0,a,shop,send,new,m-0-0,,x\n"
+        for row, reason in (
+                ("x,a,shop,send,new,m-0-1,,x", "text line 3 is no row of a log"),
+                ("-1,a,shop,send,new,m-0-1,,x", "text line 3 is no row of a log"),
+                ("\u0661,a,shop,send,new,m-0-1,,x", "text line 3 is no row of a log"),
+                ("99999999999999999999,a,shop,send,new,m-0-1,,x", "text line 3 is no row of a log"),
+                ("1,a,shop,send,new,m-0-1,x", "text line 3 is no row of a log"),
+                ("", "text line 3 is no row of a log"),
+                ('1,a,shop,send,new,m-0-1,"x', "text line 3 is no row of a log"),
+                ("1,a,shop,sing,new,m-0-1,,x", "text line 3 is no row of a log"),
+                ("1,a,shop,send,new,m-0-x,,x", "text line 3: m-0-x cannot come in"),
+                (f"1,a,shop,send,new,m-{'9' * 5_000}-1,,x", f"text line 3: m-{'9' * 98} cannot come in"),
+                ("1,a,shop,send,new,,,x", "text line 3: '' cannot come in"),
+                ("1,a,shop,send,new,m-0-0,,x", "text line 3: m-0-0 cannot come in"),
+                ("1,\033[2J,shop,send,new,m-0-1,,x", r"text line 3: '\x1b[2J' is no name of a queue"),
+                ("1,a,c,receive,ok,m-0-9,r-0-9-1,o-0-9",
+                 "text line 3: m-0-9 is not to be received in a: is this the whole log?"),
+                ("1,a,c,receive,ok,m-0-0,r-0-0-2,o-0-0",
+                 "text line 3: r-0-0-2 is not the next receipt of m-0-0: is this the whole log?"),
+                ("1,a,c,delete,deleted,m-0-0,r-0-0-1,x", "text line 3: x is no age"),
+                ("1,a,c,delete,deleted,m-0-1,r-0-1-1,1", "text line 3: m-0-1 is not in a: is this the whole log?"),
+                ("1,a,a,release,visible,m-0-1,,", "text line 3: m-0-1 is not in a: is this the whole log?"),
+                ("1,a,b,arrive,new,m-0-1,,o-1-0", "text line 3: nothing was on its way to a: is this the whole log?"),
+                ("1,a,a,redrive,out,m-0-0,,", "text line 3: '' is no name of a queue")):
+            with self.subTest(row=row):
+                self.assert_told(begin + row + "\n", reason)
+        self.assert_told(begin + "5,a,a,sample,ok,,,1/0/0\n4,a,a,sample,ok,,,1/0/0\n",
+                         "text line 4 is earlier than the row before it")
+
+    def test_damaged_texts(self):
+        """Letters and lines that are lost, doubled or exchanged make a fault, or another run that can be told."""
+        words, refused = random.Random(1), 0
+        for _ in range(400):
+            pieces = (LOG + PARTS).splitlines(True) if words.random() < 0.5 else list(LOG + PARTS)
+            for _ in range(words.randint(1, 2)):
+                place = words.randrange(len(pieces))
+                other = words.choice([*pieces, ",", "\n", '"', "\0", "\033", "\u0663"])
+                pieces[place] = words.choice(["", pieces[place] * 2, other])
+            try:
+                runs = summary.read_runs([self.write("text", "".join(pieces))])
+                queues = summary.values_of(runs, None)
+                json.loads(summary.json_of(runs, queues))
+                self.assertNotIn("\033", summary.text_of(runs, queues, summary.Style(False)))
+            except summary.Fault as fault:
+                self.assertTrue(str(fault).isprintable())
+                refused += 1
+        self.assertGreater(refused, 200)
+
+    def test_reports(self):
+        text, differs = LOG + PARTS, "text: its report is not of this log: {} by what follows them"
+        for old, new, reason in (
+                ("report,a,3,", "report,a,4,", differs.format("sends of a is 3 by the rows, and 4")),
+                ("report,a,3,", "report,c,3,", differs.format("sends of c is 0 by the rows, and 3")),
+                (",2500,2800,2800", ",2501,2800,2800", differs.format("age_p50 of a is 2500 by the rows, and 2501")),
+                ("report,a,3,", "report,a,three,", "text: three is no number for sends in a report"),
+                ("report,a,3,", "report,a,,", "text: '' is no number for sends in a report"),
+                ("report,d,0,", "report,a,0,", "text: a is no name of a queue, or stands twice in the report"),
+                (PARTS.splitlines()[-1] + "\n", "", "text: its report lacks the queue d"),
+                ("task,name", "a,d,move,9,0,m-0-0,o-0-0,x\ntask,name",
+                 "text line 29 is no record of the part transfer after a log"),
+                ("task,name", "transfer,a,d,move,9,0,m-0-0,o-0-0,x\ntask,name",
+                 differs.format("transfers of d is 0 by the rows, and 1")),
+                ("task,name", "transfer,a,e,move,9,0,m-0-0,o-0-0,x\ntask,name", "text: its report lacks the queue e"),
+                ("report,d,0,", 'report,"d\n,0,', "text is not CSV: unexpected end of data")):
+            with self.subTest(new=new):
+                self.assertIn(old, text)
+                self.assert_told(text.replace(old, new), reason)
+
+    def test_files_of_two_runs(self):
+        self.write("parts", PARTS)
+        self.write("other", FIFO)
+        self.assert_fault(self.run_tool("summary", "other", "parts"), "summary: parts: its report is not of this log: "
+                          "sends of a is 0 by the rows, and 3 by what follows them")
+
+
+class Program(SummaryCase):
+    @needs_program
+    def test_summary_of_the_documents(self):
+        scenario = os.path.join(ROOT, "examples", "dead_letters.toml")
+        run = subprocess.run([PROGRAM, "run", scenario], capture_output=True, check=True)
+        told = subprocess.run([sys.executable, os.path.join(TOOLS, "summary"), "-", "--queue", "orders"],
+                              input=run.stdout, capture_output=True)
+        self.assertEqual((told.returncode, told.stderr), (0, b""))
+        with open(os.path.join(TOOLS, "README.md"), encoding="utf-8") as file:
+            self.assertIn(f"```\n{told.stdout.decode()}```\n", file.read())
+
+    @needs_program
+    def test_examples(self):
+        """Each example is told whole, with a report that agrees with its log."""
+        paths = glob.glob(os.path.join(ROOT, "examples", "**", "*.toml"), recursive=True)
+        self.assertGreater(len(paths), 10)
+        for scenario in paths:
+            run = subprocess.run([PROGRAM, "run", scenario], capture_output=True, check=True, text=True)
+            for values in self.queues(run.stdout).values():
+                self.assertIsNotNone(values["left_visible"], scenario)
+
+
+if __name__ == "__main__":
+    unittest.main()
