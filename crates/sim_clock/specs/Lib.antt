@@ -1,3 +1,4 @@
 pub mod Firsts
+pub mod Places
 pub mod Order
 pub mod Refusals

@@ -13,6 +13,7 @@ use Rattle.sim_engine.proofs.Machines.{Follows, IsRule, begins, follows}
 use Rattle.sim_engine.proofs.Merged.{rows_whole}
 use Rattle.sim_engine.specs.Members.{Each}
 use Rattle.sim_engine.proofs.Whole.{HasWhole, IsTold, finished_whole, whole_told}
+use Rattle.sim_engine.proofs.Numbered.{numbered_ascends}
 use Rattle.sim_engine.proofs.Worlds.{sound_all}
 use Rattle.sim_engine.specs.Setting.{Setting, IsRunOf}
 use Rattle.sim_engine.specs.Laws.{SiteLaws, IsSoundSetting}
@@ -45,7 +46,7 @@ module _ {Site Row Transfer : Type 0} {engine : Engine Site Row Transfer} {condi
         whole_told basics owner home s.edges Fine Fits sound.laws s.horizon s.opening run.0 fine run.1 in
         let has : HasWhole basics owner home s.edges Fine Fits sound.laws s.horizon run.0 whole.0 m =
         finished_whole basics owner home s.edges Fine Fits sound.laws s.horizon s.opening run.0 whole.0 m run.1.ended whole.1 (machine_follows rule r picks) f in
-        let rows : (whole_of engine parts m).rows ≡ run.0.rows = rows_whole basics owner home s.edges Fine Fits sound.laws s.horizon parts o s.opening fine sound.numbered run.0 run.1 whole.0 whole.1 m has in
+        let rows : (whole_of engine parts m).rows ≡ run.0.rows = rows_whole basics owner home s.edges Fine Fits sound.laws s.horizon parts o s.opening fine (numbered_ascends engine 0 s.opening sound.numbered) run.0 run.1 whole.0 whole.1 m has in
         let same : whole_of engine parts m ≡ run.0 = ap (λ (z : List Site). let x : Run engine = record { sites = z; rows = (whole_of engine parts m).rows } in x) has.sites ∙ ap (λ (z : List Row). let x : Run engine = record { sites = run.0.sites; rows = z } in x) rows in
         subst (IsRunOf engine s) (sym same) run.1
 

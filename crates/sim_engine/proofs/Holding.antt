@@ -19,6 +19,7 @@ use Rattle.sim_engine.proofs.Prefixes.{as_after}
 use Rattle.sim_engine.proofs.Progress.{IsLive, comes_to_end, own_live}
 use Rattle.sim_engine.proofs.RunCounts.{run_counts}
 use Rattle.sim_engine.proofs.Whole.{IsTold, whole_told, HasWhole, finished_whole}
+use Rattle.sim_engine.proofs.Numbered.{numbered_ascends}
 use Rattle.sim_engine.proofs.Worlds.{sound_all}
 use Rattle.sim_engine.specs.Setting.{Setting, IsRunOf}
 use Rattle.sim_engine.specs.Laws.{SiteLaws, IsSoundSetting}
@@ -39,23 +40,23 @@ module _ {Site Row Transfer : Type 0} {engine : Engine Site Row Transfer} {condi
         record {
           first = λ picks p. as_after basics owner home s.edges Fine Fits sound.laws s.horizon s.opening (machine_of engine owner rule s picks) p run.1.steps sound.opens ended (machine_follows basics s home Fine Fits sound owner rule r picks);
           early = λ picks moment x w through.
-              picked_rows basics owner home s.edges Fine Fits sound.laws s.horizon moment (is_before engine moment) (λ y e. e) parts o s.opening sound.opens sound.numbered x w (told_of x w).0 (told_of x w).1 (machine_of engine owner rule s picks) (machine_follows basics s home Fine Fits sound owner rule r picks) through;
+              picked_rows basics owner home s.edges Fine Fits sound.laws s.horizon moment (is_before engine moment) (λ y e. e) parts o s.opening sound.opens (numbered_ascends engine 0 s.opening sound.numbered) x w (told_of x w).0 (told_of x w).1 (machine_of engine owner rule s picks) (machine_follows basics s home Fine Fits sound owner rule r picks) through;
           last = λ picks from x w f.
               let order : InOrder basics home s.edges Fine Fits sound.laws (after engine s.horizon w.steps s.opening) =
-              run_order basics owner home s.edges Fine Fits sound.laws s.horizon w.steps s.opening sound.opens sound.numbered in
+              run_order basics owner home s.edges Fine Fits sound.laws s.horizon w.steps s.opening sound.opens (numbered_ascends engine 0 s.opening sound.numbered) in
               let has : HasWhole basics owner home s.edges Fine Fits sound.laws s.horizon x (told_of x w).0 (machine_of engine owner rule s picks) =
               finished_whole basics owner home s.edges Fine Fits sound.laws s.horizon s.opening x (told_of x w).0 (machine_of engine owner rule s picks) w.ended (told_of x w).1 (machine_follows basics s home Fine Fits sound owner rule r picks) f in
               ap (λ z. filter (is_before engine from) x.rows ++ z)
-              (picked_whole basics owner home s.edges Fine Fits sound.laws s.horizon (λ y. not (is_before engine from y)) parts o s.opening sound.opens sound.numbered x w (told_of x w).0 (told_of x w).1 (machine_of engine owner rule s picks) has)
+              (picked_whole basics owner home s.edges Fine Fits sound.laws s.horizon (λ y. not (is_before engine from y)) parts o s.opening sound.opens (numbered_ascends engine 0 s.opening sound.numbered) x w (told_of x w).0 (told_of x w).1 (machine_of engine owner rule s picks) has)
               ∙ rows_rest basics from x.rows (subst (λ (z : Run engine). IsInOrder (row_cmp engine) z.rows) w.reached order.order);
           counts = λ picks p.
               let a : IsAsAfter engine owner s.horizon s.opening p (machine_of engine owner rule s picks) = as_after basics owner home s.edges Fine Fits sound.laws s.horizon s.opening (machine_of engine owner rule s picks) p run.1.steps sound.opens ended (machine_follows basics s home Fine Fits sound owner rule r picks) in
               (a.steps, run_counts basics owner home s.edges Fine Fits sound.laws s.horizon s.opening (machine_of engine owner rule s picks) p sound.opens a);
           next = λ picks from to x w l through.
               let order : InOrder basics home s.edges Fine Fits sound.laws (after engine s.horizon w.steps s.opening) =
-              run_order basics owner home s.edges Fine Fits sound.laws s.horizon w.steps s.opening sound.opens sound.numbered in
+              run_order basics owner home s.edges Fine Fits sound.laws s.horizon w.steps s.opening sound.opens (numbered_ascends engine 0 s.opening sound.numbered) in
               ap (λ z. filter (is_before engine from) x.rows ++ z)
-              (picked_rows basics owner home s.edges Fine Fits sound.laws s.horizon to (is_between engine from to) (λ y e. and_first basics owner (is_before engine to y) (not (is_before engine from y)) e) parts o s.opening sound.opens sound.numbered x w (told_of x w).0 (told_of x w).1 (machine_of engine owner rule s picks) (machine_follows basics s home Fine Fits sound owner rule r picks) through)
+              (picked_rows basics owner home s.edges Fine Fits sound.laws s.horizon to (is_between engine from to) (λ y e. and_first basics owner (is_before engine to y) (not (is_before engine from y)) e) parts o s.opening sound.opens (numbered_ascends engine 0 s.opening sound.numbered) x w (told_of x w).0 (told_of x w).1 (machine_of engine owner rule s picks) (machine_follows basics s home Fine Fits sound owner rule r picks) through)
               ∙ rows_split basics from to x.rows l (subst (λ (z : Run engine). IsInOrder (row_cmp engine) z.rows) w.reached order.order);
         }
 

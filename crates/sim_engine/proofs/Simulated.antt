@@ -12,10 +12,14 @@ use Rattle.sim_engine.proofs.Keeping.{machines_keep_bounds, machines_stay_from}
 use Rattle.sim_engine.proofs.Worlds.{sound_all}
 
 module _ {Site Row Transfer : Type 0} {engine : Engine Site Row Transfer} {conditions : Conditions Site Transfer} (basics : SiteLaws engine conditions) where
-  pub simulated : (s : Setting Site) (home : ℕ → ℕ) (Fine : Site → Type 0) (Fits : Transfer → Type 0) → IsSoundSetting engine conditions home Fine Fits s → IsSimulated engine s
+  pub simulated : (s : Setting Site) (home : ℕ → ℕ) (Fine : Site → Type 0) (Fits : Transfer → Type 0) → IsSoundSetting engine conditions home Fine Fits s → IsSimulated engine conditions s
   simulated s home Fine Fits sound =
-      let run = ends basics s.horizon s.opening (sound_all basics (λ n. n) home s.edges Fine Fits sound.laws s.opening sound.opens) in
+      let time = sound_all basics (λ n. n) home s.edges Fine Fits sound.laws s.opening sound.opens in
+      let run = ends basics s.horizon s.opening time in
       record {
+        numbered = sound.numbered;
+        sound = time;
+        past = sound.past;
         run = run.0;
         is_run = run.1;
         finished = at_own_bounds basics s home Fine Fits sound;

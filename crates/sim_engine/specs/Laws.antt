@@ -5,8 +5,8 @@ use Rattle.sim_clock.specs.declared.key.Key.{Key}
 use Rattle.sim_clock.specs.Order.{key_cmp, lesser, same_key}
 use Rattle.sim_engine.specs.declared.edge.Edge.{Edge}
 use Rattle.sim_engine.specs.Engine.{Engine, Handled}
-use Rattle.sim_engine.specs.Members.{Ascends, Each, In, count_due}
-use Rattle.sim_engine.specs.Setting.{Setting}
+use Rattle.sim_engine.specs.Members.{Each, In, count_due}
+use Rattle.sim_engine.specs.Setting.{IsNumbered, Setting}
 use Rattle.sim_engine.specs.World.{has_key, least_due}
 
 -- what sites and transfers are like at every step of a run
@@ -101,8 +101,9 @@ module _ {Site Row Transfer : Type 0} (engine : Engine Site Row Transfer) (condi
     -- each way takes a millisecond at least
     pub takes_time : (e : Edge) → In edges e → 1 ≤ e.least
 
-  -- a setting whose sites are fine and stand in the order of their numbers
+  -- a setting whose sites are fine and numbered 0, 1, 2, ..; nothing there is from after the beginning
   pub record IsSoundSetting (home : ℕ → ℕ) (Fine : Site → Type 0) (Fits : Transfer → Type 0) (s : Setting Site) : Type 0 where
     pub laws : RunLaws s.edges home Fine Fits
     pub opens : Each Fine s.opening
-    pub numbered : Ascends number 0 s.opening
+    pub numbered : IsNumbered engine 0 s.opening
+    pub past : All (Past 0) s.opening

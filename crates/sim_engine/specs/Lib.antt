@@ -2,8 +2,8 @@ pub mod Engine
 pub mod Members
 pub mod World
 pub mod Counts
-pub mod Limits
 pub mod Setting
+pub mod Limits
 pub mod Laws
 pub mod Parts
 pub mod Machine

@@ -8,11 +8,11 @@ use Rattle.std.proofs.Common.{ap, append_assoc, append-nil, arith, refl, subst, 
 use Rattle.std.proofs.lemmas.Cmp.{on_total, tied_itself}
 use Rattle.sim_clock.specs.Order.{IsInOrder, inserted_by, key_cmp, key_cmp_total}
 use Rattle.sim_clock.proofs.Inserted.{before_upto, ordered_inserted, upto_before}
-use Rattle.sqs_model.specs.Exchange.{sorted, sorted_into}
+use Rattle.sim_engine.specs.Exchange.{sorted, sorted_into}
 use Rattle.sim_engine.proofs.Merge.{after_first}
 use Rattle.sim_engine.specs.Members.{Each}
-use Rattle.sqs_redrive.specs.declared.transfers.Outbound.{Outbound}
-use Rattle.sqs_redrive.specs.Transfers.{transfer_key}
+use Rattle.sim_engine.specs.Engine.{Engine}
+use Rattle.sim_engine.specs.Laws.{Conditions, SiteLaws}
 
 both_false : (a b : Bool) → (not a && not b) ≡ true → (a ≡ false) × (b ≡ false)
 both_false true b h = cc
@@ -102,32 +102,35 @@ module _ {A : Type 0} {R : A → A → Ordering} (total : IsTotalOrder R) where
       let e : x ≡ y = first_by x y xs ys _ _ refl refl i j h in
       let r : xs ≡ ys = same_order xs ys i.1 j.1 (λ w. rest_by x y (tied w xs) (tied w ys) (ties lt w x) (ties lt w y) e (ap (ties lt w) e) (h w)) in cc
 
-abbrev by_key : Outbound → Outbound → Ordering
-by_key = on transfer_key key_cmp
+module _ {Site Row Transfer : Type 0} (engine : Engine Site Row Transfer) where
+  open engine use {transfer_key}
 
-by_key_total : IsTotalOrder by_key
-by_key_total = on_total transfer_key key_cmp_total
+  abbrev by_key : Transfer → Transfer → Ordering
+  by_key = on transfer_key key_cmp
 
-abbrev tied_transfers : Outbound → List Outbound → List Outbound
-tied_transfers x os = filter (ties (λ a b. is_lt (by_key a b)) x) os
+  by_key_total : IsTotalOrder by_key
+  by_key_total = on_total transfer_key key_cmp_total
 
--- insertion keeps the order
-into_order : (done os : List Outbound) → IsInOrder by_key done → IsInOrder by_key (sorted_into done os)
-into_order done [] i = i
-into_order done (o ∷ os) i = into_order (inserted_by by_key o done) os (ordered_inserted by_key_total o done i)
+  abbrev tied_transfers : Transfer → List Transfer → List Transfer
+  tied_transfers x os = filter (ties (λ a b. is_lt (by_key a b)) x) os
 
--- and those that tie as they were
-into_tied : (x : Outbound) (done os : List Outbound) → IsInOrder by_key done → tied_transfers x (sorted_into done os) ≡ tied_transfers x done ++ tied_transfers x os
-into_tied x done [] i = sym (append-nil (tied_transfers x done))
-into_tied x done (o ∷ os) i =
-    into_tied x (inserted_by by_key o done) os (ordered_inserted by_key_total o done i)
-    ∙ ap (λ w. w ++ tied_transfers x os) (tied_inserted by_key_total x o done i)
-    ∙ elim (ties (λ a b. is_lt (by_key a b)) x o) as (λ b. (tied_transfers x done ++ cond b (o ∷ []) []) ++ tied_transfers x os ≡ tied_transfers x done ++ cond b (o ∷ tied_transfers x os) (tied_transfers x os)) [
-      | true ↦ append_assoc (tied_transfers x done) (o ∷ []) (tied_transfers x os)
-      | false ↦ ap (λ w. w ++ tied_transfers x os) (append-nil (tied_transfers x done))
-    ]
+  -- insertion keeps the order
+  into_order : (done os : List Transfer) → IsInOrder by_key done → IsInOrder by_key (sorted_into engine done os)
+  into_order done [] i = i
+  into_order done (o ∷ os) i = into_order (inserted_by by_key o done) os (ordered_inserted by_key_total o done i)
 
--- a list in the order of keys in which those of one key stand as they did
-pub sorted_is : (xs ys : List Outbound) → IsSortedByKey transfer_key key_cmp ys → IsStableByKey transfer_key key_cmp xs ys → ys ≡ sorted xs
-sorted_is xs ys h s =
-    same_order by_key_total ys (sorted xs) (in_order by_key_total ys h) (into_order [] xs tt) (λ w. s w ∙ sym (into_tied w [] xs tt))
+  -- and those that tie as they were
+  into_tied : (x : Transfer) (done os : List Transfer) → IsInOrder by_key done → tied_transfers x (sorted_into engine done os) ≡ tied_transfers x done ++ tied_transfers x os
+  into_tied x done [] i = sym (append-nil (tied_transfers x done))
+  into_tied x done (o ∷ os) i =
+      into_tied x (inserted_by by_key o done) os (ordered_inserted by_key_total o done i)
+      ∙ ap (λ w. w ++ tied_transfers x os) (tied_inserted by_key_total x o done i)
+      ∙ elim (ties (λ a b. is_lt (by_key a b)) x o) as (λ b. (tied_transfers x done ++ cond b (o ∷ []) []) ++ tied_transfers x os ≡ tied_transfers x done ++ cond b (o ∷ tied_transfers x os) (tied_transfers x os)) [
+        | true ↦ append_assoc (tied_transfers x done) (o ∷ []) (tied_transfers x os)
+        | false ↦ ap (λ w. w ++ tied_transfers x os) (append-nil (tied_transfers x done))
+      ]
+
+  -- a list in the order of keys in which those of one key stand as they did
+  pub sorted_is : (xs ys : List Transfer) → IsSortedByKey transfer_key key_cmp ys → IsStableByKey transfer_key key_cmp xs ys → ys ≡ sorted engine xs
+  sorted_is xs ys h s =
+      same_order by_key_total ys (sorted engine xs) (in_order by_key_total ys h) (into_order [] xs tt) (λ w. s w ∙ sym (into_tied w [] xs tt))

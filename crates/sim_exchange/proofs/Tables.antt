@@ -5,7 +5,7 @@ use Rattle.std.proofs.Math.Nat.{mul-le-mul_right}
 use Rattle.std.proofs.lemmas.Bool.{ltb-false, ltb-true}
 use Rattle.std.proofs.lemmas.List.{get_or-append_right, get_or_append_left}
 use Rattle.sim_engine.specs.declared.edge.Edge.{Edge}
-use Rattle.sqs_model.specs.Bounds.{AreDistances, IsDistance, IsWalk}
+use Rattle.sim_engine.specs.Bounds.{AreDistances, IsDistance, IsWalk}
 use Rattle.sim_exchange.specs.Table.{Table, distance_in}
 
 -- a cell stands in an earlier row than those of a later partition

@@ -4,9 +4,9 @@ use Rattle.std.proofs.Common.{ap, arith, eq-eqb, eqb-true, get_or-set_other, get
 use Rattle.std.proofs.lemmas.Bool.{eqb-false}
 use Rattle.std.proofs.lemmas.List.Elements.{All-head, All-tail}
 use Rattle.std.proofs.lemmas.List.Sums.{sum_by-le, sum_by-set}
-use Rattle.sqs_model.specs.Members.{In}
+use Rattle.sim_engine.specs.Members.{In}
 use Rattle.sim_engine.specs.declared.edge.Edge.{Edge}
-use Rattle.sqs_model.specs.Bounds.{IsDistance, IsWalk, latency_of}
+use Rattle.sim_engine.specs.Bounds.{IsDistance, IsWalk, latency_of}
 use Rattle.sim_exchange.specs.Line.{AreShort, AreWalked, IsNearer, IsSettled, IsWithin, distance_or_far, one_if_some, reached_count, so_far, total_of}
 
 module _ (owner : ℕ → ℕ) (ways : List Edge) where

@@ -1,6 +1,6 @@
 //! How soon one partition may reach another.
 ghost use Rattle.std.specs.Prelude.{◌≡◌, ◌+◌, ◌<◌, ◌^◌, ◌≤◌, All, IfOk, None, get_or, length, min, ℕ};
-ghost use Rattle.sqs_model.specs.Bounds.{AreDistances, bound_by, reached};
+ghost use Rattle.sim_engine.specs.Bounds.{AreDistances, bound_by, reached};
 ghost use Rattle.sim_exchange.specs.Layout.{owner_of};
 ghost use Rattle.sim_exchange.specs.Table.{distance_in};
 

@@ -1,8 +1,8 @@
 //! The distances from one partition.
 ghost use Rattle.std.specs.Prelude.{◌≡◌, ◌<◌, ◌≤◌, All, IfOk, List, None, false, get_or, length, true, ℕ};
-ghost use Rattle.sqs_model.specs.Members.{In};
+ghost use Rattle.sim_engine.specs.Members.{In};
 ghost use Rattle.sim_engine.specs.declared.edge.Edge.{Edge};
-ghost use Rattle.sqs_model.specs.Bounds.{IsDistance};
+ghost use Rattle.sim_engine.specs.Bounds.{IsDistance};
 ghost use Rattle.sim_exchange.specs.Layout.{owner_of};
 ghost use Rattle.sim_exchange.specs.Line.{AreShort, AreWalked, IsNearer, IsSettled, IsWithin, so_far, total_of};
 

@@ -1,17 +1,17 @@
 //! Marks of sites.
-ghost use Rattle.std.specs.Prelude.{◌≡◌, IfOk};
+ghost use Rattle.std.specs.Prelude.{◌≡◌, All, IfOk};
 ghost use Rattle.sim_partition.specs.Sites.{AreMarked, mark_of};
 
-use sim_site::Site;
+use sim_engine::Site;
 use sqs_index::{Mark, Marks};
 use std::alloc::{AllocError, Global};
 
-/// As many sites as there are numbers of queues, which have 32 bits.
+/// As many sites as there are numbers of sites, which have 32 bits.
 const MOST_SITES: usize = 4_294_967_296;
 
 /// What is kept of a site: what is due next there.
-pub fn mark_of(site: &Site) -> Mark
-    ensures { result ≡ mark_of site.now }
+pub fn mark_of<S: Site>(site: &S) -> Mark
+    ensures { result ≡ mark_of S.engine site.now }
 {
     Mark {
         due: site.least_due(),
@@ -21,8 +21,8 @@ pub fn mark_of(site: &Site) -> Mark
 
 /// The marks of some sites. The error is want of memory, as which more sites than there are numbers
 /// are refused too.
-pub fn marks_of(alloc: Global, sites: &[Site]) -> Result<Marks, AllocError>
-    ensures { IfOk result (AreMarked sites.now) }
+pub fn marks_of<S: Site>(alloc: Global, sites: &[S]) -> Result<Marks, AllocError>
+    ensures { IfOk result (AreMarked S.engine sites.now) }
 {
     if sites.len() > MOST_SITES {
         return Err(AllocError);

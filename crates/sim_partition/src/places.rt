@@ -1,26 +1,23 @@
 //! Places of sites by their numbers.
-ghost use Rattle.std.specs.Prelude.{◌≡◌, ◌<◌, ◌≤◌, ◌≢◌, MatchOption, get_or, length, map, ℕ};
-ghost use Rattle.sqs_model.specs.Progress.{Ascends};
-ghost use Rattle.sim_partition.specs.Sites.{alive, living, site_number};
+ghost use Rattle.std.specs.Prelude.{◌≡◌, ◌<◌, ◌≤◌, ◌≢◌, All, MatchOption, get_or, length, map, ℕ};
+ghost use Rattle.sim_engine.specs.Members.{Ascends};
 
-use sim_site::Site;
+use sim_engine::Site;
 
 // The number of the site at a place.
-fn number_at(sites: &[Site], place: usize) -> u32
-    requires live { map alive (living sites.now) ≡ sites.now }
+fn number_at<S: Site>(sites: &[S], place: usize) -> u32
     requires within { place < length sites.now }
-    ensures { result ≡ get_or (map site_number (living sites.now)) place 0 }
+    ensures { result ≡ get_or (map S.engine.number sites.now) place 0 }
 {
-    sites[place].queue().site()
+    sites[place].number()
 }
 
 // The first place at which no lesser number stands.
-fn first_from(sites: &[Site], number: u32) -> usize
-    requires live { map alive (living sites.now) ≡ sites.now }
-    requires ascends { Ascends site_number 0 (living sites.now) }
+fn first_from<S: Site>(sites: &[S], number: u32) -> usize
+    requires ascends { Ascends S.engine.number 0 sites.now }
     ensures within { result ≤ length sites.now }
-    ensures before { (k : ℕ) → k < result → get_or (map site_number (living sites.now)) k 0 < number }
-    ensures after { (k : ℕ) → result ≤ k → k < length sites.now → number ≤ get_or (map site_number (living sites.now)) k 0 }
+    ensures before { (k : ℕ) → k < result → get_or (map S.engine.number sites.now) k 0 < number }
+    ensures after { (k : ℕ) → result ≤ k → k < length sites.now → number ≤ get_or (map S.engine.number sites.now) k 0 }
 {
     let mut low = 0;
     let mut high = sites.len();
@@ -36,10 +33,9 @@ fn first_from(sites: &[Site], number: u32) -> usize
 }
 
 /// The place of the site of a number, found by halves.
-pub fn place_of(sites: &[Site], number: u32) -> Option<usize>
-    requires live { map alive (living sites.now) ≡ sites.now }
-    requires ascends { Ascends site_number 0 (living sites.now) }
-    ensures { MatchOption result ((k : ℕ) → k < length sites.now → get_or (map site_number (living sites.now)) k 0 ≢ number) (λ place. (place < length sites.now) × (get_or (map site_number (living sites.now)) place 0 ≡ number)) }
+pub fn place_of<S: Site>(sites: &[S], number: u32) -> Option<usize>
+    requires ascends { Ascends S.engine.number 0 sites.now }
+    ensures { MatchOption result ((k : ℕ) → k < length sites.now → get_or (map S.engine.number sites.now) k 0 ≢ number) (λ place. (place < length sites.now) × (get_or (map S.engine.number sites.now) place 0 ≡ number)) }
 {
     let place = first_from(sites, number);
     if place == sites.len() {

@@ -4,7 +4,7 @@ ghost use Rattle.sim_clock.specs.declared.refusal.Refusal.TheVariants.{Memory};
 
 use sim_clock::Refusal;
 use sim_report::Report;
-use sim_sink::RowSink;
+use sim_windows::RowSink;
 use sqs_message::Row;
 
 /// Adds rows to a report, and keeps nothing else of them.
@@ -17,7 +17,7 @@ pub struct Counter<'a> {
     pub report: &'a mut Report,
 }
 
-impl RowSink for Counter<'_> {
+impl RowSink<Row> for Counter<'_> {
     ghost use Rattle.sim_recorder.specs.Laws.{counted_both, counted_none};
     ghost use Rattle.sim_recorder.specs.Sinks.{Counted};
 

@@ -5,7 +5,7 @@ use crate::watch::Watch;
 use sim_clock::Refusal;
 use sim_records::{Names, Out, write_rows};
 use sim_report::Report;
-use sim_sink::RowSink;
+use sim_windows::RowSink;
 use sqs_message::Row;
 use std::alloc::Global;
 
@@ -31,7 +31,7 @@ pub struct Recorder<'a, W: Out, P: Watch> {
     pub horizon: u64,
 }
 
-impl<W: Out, P: Watch> RowSink for Recorder<'_, W, P> {
+impl<W: Out, P: Watch> RowSink<Row> for Recorder<'_, W, P> {
     ghost use Rattle.sim_recorder.specs.Laws.{recorded_both, recorded_none, stopped_later};
     ghost use Rattle.sim_recorder.specs.Sinks.{Recorded, StoppedAt};
 

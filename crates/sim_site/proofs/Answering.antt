@@ -15,8 +15,7 @@ use Rattle.sqs_model.specs.Receive.{give_most, receive}
 use Rattle.sqs_model.specs.Site.{Core, Effect, Poll}
 use Rattle.sqs_model.proofs.Growth.{polls_up, same, told_to}
 use Rattle.sqs_model.specs.Receive.{to_give}
-use Rattle.sim_site.specs.declared.effects.Effects.{Effects}
-use Rattle.sim_site.specs.Effects.{Did, Stops}
+use Rattle.sim_site.specs.Effects.{Did, Effects, Stops}
 use Rattle.sim_site.proofs.Limiting.{counts_of, given_passes, most_past}
 use Rattle.sim_site.proofs.Passing.{passes_before, stops_then}
 use Rattle.sim_site.proofs.Polling.{polls_go, receive_gives}

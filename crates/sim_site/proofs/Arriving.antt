@@ -10,10 +10,9 @@ use Rattle.sim_clock.specs.declared.refusal.Refusal.{Refusal}
 use Rattle.sqs_message.specs.declared.row.Row.{Row}
 use Rattle.sqs_message.specs.declared.row.RowAnswer.TheVariants as answers
 use Rattle.sqs_redrive.specs.declared.answers.Sent.TheVariants.{New, Repeat}
-use Rattle.sim_site.specs.declared.effects.Effects.{Effects}
 use Rattle.sqs_model.specs.Site.{Core, says, with_queue}
 use Rattle.sqs_model.specs.Step.{arrival_done, arrival_row, expiry_row, load_age}
-use Rattle.sim_site.specs.Effects.{Did}
+use Rattle.sim_site.specs.Effects.{Did, Effects}
 use Rattle.sim_site.proofs.Carried.{did_say, says_if, then_if}
 
 -- a message that comes in and stays

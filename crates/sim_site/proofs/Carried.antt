@@ -4,10 +4,9 @@ use Rattle.sim_clock.specs.declared.refusal.Refusal.{Refusal}
 use Rattle.sqs_message.specs.declared.row.Row.{Row}
 use Rattle.sqs_redrive.specs.declared.transfers.Outbound.{Outbound}
 use Rattle.std.proofs.Common.{Global, Vec, ◌≡◌, [], ◌∷◌, ◌++◌, append_assoc, append-nil, arith, refl, ap, subst, sym, ◌∙◌, ◌≤◌}
-use Rattle.sim_site.specs.declared.effects.Effects.{Effects}
 use Rattle.sqs_model.specs.Limits.{rows_count}
 use Rattle.sqs_model.specs.Site.{Core, Effect, and_then, no_effect, says}
-use Rattle.sim_site.specs.Effects.{Did, Remains}
+use Rattle.sim_site.specs.Effects.{Did, Effects, Remains}
 use Rattle.sim_site.proofs.Passing.{rows_after}
 
 -- one effect, and then what comes of the site that it leaves

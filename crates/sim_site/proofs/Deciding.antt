@@ -11,7 +11,7 @@ use Rattle.sqs_model.specs.Acts.{Made, act_made}
 use Rattle.sqs_model.specs.Answers.{most_count}
 use Rattle.sqs_model.specs.Limits.{PassesCount}
 use Rattle.sqs_model.specs.Counts.{actor_count, greatest, site_count}
-use Rattle.sqs_model.specs.Places.{Stands}
+use Rattle.sim_clock.specs.Places.{Stands}
 use Rattle.sqs_model.specs.Site.{Core, actor_numbered, is_actor, with_actor}
 use Rattle.sqs_model.proofs.Counts.{find_picked}
 use Rattle.sqs_model.proofs.Growth.{Grows, act_up, next_up, same, stands}

@@ -11,14 +11,13 @@ use Rattle.sqs_message.specs.declared.row.RowAnswer.TheVariants as answers
 use Rattle.sqs_redrive.specs.declared.answers.Deleted.{Deleted}
 use Rattle.sqs_redrive.specs.declared.answers.Sent.{Sent}
 use Rattle.sqs_redrive.specs.declared.transfers.Load.{Load}
-use Rattle.sim_site.specs.declared.effects.Effects.{Effects}
 use Rattle.sqs_message.specs.Ids.{read_receipt}
 use Rattle.sqs_model.specs.Actor.{Actor}
 use Rattle.sqs_model.specs.Acts.{came_back, change_answered, change_row, delete_done, delete_made, deleted_row, send_made, send_row, sends}
 use Rattle.sqs_model.specs.Calls.{change, delete}
 use Rattle.sqs_model.specs.Queue.{Queue, id_of}
 use Rattle.sqs_model.specs.Site.{Core, says, with_queue}
-use Rattle.sim_site.specs.Effects.{Did}
+use Rattle.sim_site.specs.Effects.{Did, Effects}
 use Rattle.sim_site.proofs.Carried.{says_if, then_if, did_say}
 use Rattle.std.specs.declared.alloc.AllocError.{AllocError}
 

@@ -13,8 +13,8 @@ use Rattle.sqs_model.specs.Counts.{actor_count, greatest, receipt_count, site_co
 use Rattle.sqs_model.specs.Site.{Core, Effect, actor_numbered, and_then, is_actor, is_task, task_numbered, with_actor, with_task}
 use Rattle.sqs_model.specs.Task.{Task}
 use Rattle.sqs_model.proofs.Growth.{Grows, grown}
-use Rattle.sim_site.specs.declared.effects.Effects.{Effects}
-use Rattle.sim_site.specs.Effects.{Did, Remains, Stops, StopsWhere}
+use Rattle.sim_site.specs.Effects.{Did, Effects, Remains, Stops}
+use Rattle.sim_engine.specs.Limits.{StopsWhere}
 
 -- the receives that rows tell, with rows before them or after them
 pub rows_after : (xs ys : List Row) → rows_count ys ≤ rows_count (xs ++ ys)

@@ -12,13 +12,12 @@ use Rattle.sqs_message.specs.declared.row.Row.{Row}
 use Rattle.sqs_message.specs.declared.row.RowAnswer.TheVariants as answers
 use Rattle.sqs_redrive.specs.declared.answers.Got.{Got}
 use Rattle.sqs_model.specs.declared.acts.Answer.TheVariants as told_by
-use Rattle.sim_site.specs.declared.effects.Effects.{Effects}
 use Rattle.sim_clock.specs.Firsts.{without}
 use Rattle.sqs_model.specs.Acts.{given, receive_row}
 use Rattle.sqs_model.specs.Polls.{answer_polls, can_give, poll_answered, poll_given, told, without_poll}
 use Rattle.sqs_model.specs.Site.{Core, Poll, and_then, no_effect, says}
 use Rattle.sqs_model.specs.Step.{ends_at, handle_poll_end}
-use Rattle.sim_site.specs.Effects.{Did, Stops}
+use Rattle.sim_site.specs.Effects.{Did, Effects, Stops}
 use Rattle.sim_site.proofs.Carried.{did_say, then_if}
 use Rattle.sim_site.proofs.Passing.{stops_then}
 

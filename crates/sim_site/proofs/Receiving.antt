@@ -8,7 +8,6 @@ use Rattle.sqs_message.specs.declared.message.Message.{Message}
 use Rattle.sqs_redrive.specs.declared.answers.Got.{Got}
 use Rattle.sqs_message.specs.declared.row.Row.{Row}
 use Rattle.sqs_model.specs.declared.acts.Answer.TheVariants as told_by
-use Rattle.sim_site.specs.declared.effects.Effects.{Effects}
 use Rattle.sqs_model.specs.Actor.{Actor}
 use Rattle.sqs_message.specs.declared.row.RowAnswer.TheVariants as answers
 use Rattle.sqs_model.specs.Acts.{all_came_back, given, got_row, hosts_from, long_poll, made, receive_made, receive_none, receive_row, receive_some, short_poll}
@@ -19,7 +18,7 @@ use Rattle.sqs_model.specs.Queue.{Queue, in_flight, room}
 use Rattle.sqs_model.specs.Receive.{answered, give, is_bad_timeout, receive, timeout_of}
 use Rattle.sqs_model.specs.Site.{Core, Effect, and_then, with_queue}
 use Rattle.sqs_model.proofs.Branches.{either}
-use Rattle.sim_site.specs.Effects.{DidMake}
+use Rattle.sim_site.specs.Effects.{DidMake, Effects}
 
 -- a receive that gives nothing leaves the queue as it was
 abbrev StillOnNone : Queue → Result (List Got) Refusal × Queue → Type 0

@@ -15,8 +15,7 @@ use Rattle.sqs_model.specs.Progress.{IsRecent}
 use Rattle.sqs_model.specs.Queue.{Queue}
 use Rattle.sqs_model.specs.Receive.{receive}
 use Rattle.sqs_model.specs.Site.{Core, Effect, Poll, with_actor}
-use Rattle.sim_site.specs.declared.effects.Effects.{Effects}
-use Rattle.sim_site.specs.Effects.{Did}
+use Rattle.sim_site.specs.Effects.{Did, Effects}
 use Rattle.sim_site.specs.Turns.{turn_by, turn_next, turn_of}
 use Rattle.sim_site.proofs.Polling.{polls_go}
 

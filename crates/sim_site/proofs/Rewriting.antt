@@ -6,7 +6,7 @@ use Rattle.std.proofs.lemmas.Bool.{or_parts}
 use Rattle.std.proofs.lemmas.Bool.Decides.{nat_tests}
 use Rattle.sim_clock.specs.Firsts.{changed}
 use Rattle.sqs_model.specs.Acts.{runs}
-use Rattle.sqs_model.specs.Places.{Stands}
+use Rattle.sim_clock.specs.Places.{Stands}
 use Rattle.sqs_model.specs.Site.{is_task}
 use Rattle.sqs_model.specs.Task.{Task}
 use Rattle.sqs_model.proofs.Counts.{find_picked}

@@ -3,10 +3,10 @@ use Rattle.std.specs.Prelude.{Err, List, Ok, OnOk, Result, Some, find, get_or, l
 use Rattle.std.proofs.Common.{Global, Vec, ◌≡◌, [], ◌∷◌, ◌++◌, append_assoc, append-nil, refl, ap, arith, sym, ◌∙◌}
 use Rattle.sim_clock.specs.declared.key.Key.{Key}
 use Rattle.sim_clock.specs.declared.refusal.Refusal.{Refusal}
-use Rattle.sim_site.specs.declared.effects.Effects.{Effects}
+use Rattle.sim_site.specs.Effects.{Effects}
 use Rattle.sqs_message.specs.declared.row.Row.{Row}
 use Rattle.sim_clock.specs.Firsts.{changed}
-use Rattle.sqs_model.specs.Places.{Stands}
+use Rattle.sim_clock.specs.Places.{Stands}
 use Rattle.sqs_model.specs.Site.{Core, is_task, number_of}
 use Rattle.sqs_model.specs.Step.{Moved, end_row, move_row, moves}
 use Rattle.sqs_model.specs.Task.{Task}

@@ -15,8 +15,7 @@ use Rattle.sqs_model.specs.Limits.{effect_of}
 use Rattle.sqs_model.specs.Site.{Core, Effect, Site, has_key}
 use Rattle.sqs_model.specs.Step.{Handled, handle_arrival, handled, handled_when, is_arrival, left_with, with_polls}
 use Rattle.sqs_model.proofs.WorldMoves.{least_in}
-use Rattle.sim_site.specs.declared.effects.Effects.{Effects}
-use Rattle.sim_site.specs.Effects.{Did, DidHandle, Stops}
+use Rattle.sim_site.specs.Effects.{Did, DidHandle, Effects, Stops}
 use Rattle.sim_site.proofs.Due.{no_arrival}
 use Rattle.sim_site.proofs.Least.{due_parts}
 

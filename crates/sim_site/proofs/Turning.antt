@@ -9,7 +9,7 @@ use Rattle.sqs_model.specs.declared.acts.Act.{Act}
 use Rattle.sqs_model.specs.declared.acts.Answer.{Answer}
 use Rattle.sqs_model.specs.declared.agents.ActorSettings.{ActorSettings}
 use Rattle.sqs_model.specs.Actor.{Actor, next}
-use Rattle.sqs_model.specs.Places.{Stands}
+use Rattle.sim_clock.specs.Places.{Stands}
 use Rattle.sqs_model.specs.Site.{is_actor}
 use Rattle.sqs_model.proofs.Counts.{find_changed, find_picked}
 use Rattle.sim_actor.specs.Lives.{IsFramed, Meets}

@@ -5,12 +5,11 @@ use Rattle.sim_clock.specs.declared.key.Key.{Key}
 use Rattle.sqs_model.specs.declared.acts.Act.{Act}
 use Rattle.sqs_model.specs.declared.acts.Act.TheVariants as acts
 use Rattle.sqs_model.specs.declared.acts.Answer.{Answer}
-use Rattle.sim_site.specs.declared.effects.Effects.{Effects}
 use Rattle.sqs_model.specs.Actor.{Actor, next}
 use Rattle.sqs_model.specs.Acts.{act_made}
 use Rattle.sqs_model.specs.Polls.{acts_found, acts_most, acts_next}
 use Rattle.sqs_model.specs.Site.{Core, Effect, actor_numbered, and_then}
-use Rattle.sim_site.specs.Effects.{Did}
+use Rattle.sim_site.specs.Effects.{Did, Effects}
 use Rattle.sim_site.specs.Turns.{DidTurn, Turn, turn_next, turn_of}
 use Rattle.sqs_model.proofs.Growth.{Grows, most_up, same}
 use Rattle.sim_site.proofs.Passing.{passes_after, passes_before}

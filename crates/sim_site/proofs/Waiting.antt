@@ -6,12 +6,11 @@ use Rattle.sqs_message.specs.declared.row.Row.{Row}
 use Rattle.sqs_message.specs.declared.row.RowAnswer.TheVariants as answers
 use Rattle.sqs_redrive.specs.declared.answers.Got.{Got}
 use Rattle.sqs_model.specs.declared.acts.Answer.TheVariants as told_by
-use Rattle.sim_site.specs.declared.effects.Effects.{Effects}
 use Rattle.sim_clock.specs.Firsts.{changed}
 use Rattle.sqs_model.specs.Actor.{Actor}
 use Rattle.sqs_model.specs.Acts.{receive_none, receive_row, with_poll}
 use Rattle.sqs_model.specs.Site.{Core, Poll, actor_numbered, is_actor}
-use Rattle.sim_site.specs.Effects.{DidMake}
+use Rattle.sim_site.specs.Effects.{DidMake, Effects}
 use Rattle.sim_site.specs.Turns.{Polled}
 use Rattle.sim_site.proofs.Carried.{did_say}
 

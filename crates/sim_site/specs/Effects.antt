@@ -1,13 +1,19 @@
 -- How the methods of a site carry out the effects of the definitions: rows and transfers are added to those made before.
 use Rattle.std.specs.Prelude.{◌++◌, ◌≡◌, ◌≤◌}
 use Rattle.sim_clock.specs.declared.refusal.Refusal.{Refusal}
-use Rattle.sim_clock.specs.declared.refusal.Refusal.TheVariants as refusals
-use Rattle.sim_site.specs.declared.effects.Effects.{Effects}
+use Rattle.sim_engine.specs.declared.effects.Effects.{Effects as EffectsOf}
+use Rattle.sim_engine.specs.Limits.{StopsWhere}
+use Rattle.sqs_message.specs.declared.row.Row.{Row}
+use Rattle.sqs_redrive.specs.declared.transfers.Outbound.{Outbound}
 use Rattle.sqs_model.specs.declared.acts.Answer.{Answer}
 use Rattle.sqs_model.specs.Acts.{Made}
 use Rattle.sqs_model.specs.Limits.{PassesCount, rows_count}
 use Rattle.sqs_model.specs.Site.{Core, Effect, Site}
 use Rattle.sqs_model.specs.Step.{Handled}
+
+-- rows of the log made and transfers to other queues sent so far
+abbrev pub Effects : Type 0
+Effects = EffectsOf Row Outbound
 
 -- a site after an effect, whose rows and transfers were added
 pub record Did (before after : Effects) (c : Core) (e : Effect) : Type 0 where
@@ -32,12 +38,6 @@ pub record Remains (before after : Effects) (rest whole : Effect) : Type 0 where
   pub rows : after.rows.items ++ rest.rows ≡ before.rows.items ++ whole.rows
   pub sent : after.sent.items ++ rest.sent ≡ before.sent.items ++ whole.sent
   pub told : rows_count rest.rows ≤ rows_count whole.rows
-
--- why something is not done: want of memory, or a count at its limit where this holds
-abbrev pub StopsWhere : Type 0 → Refusal → Type 0
-StopsWhere AtLimit refusals.CountLimit = AtLimit
-StopsWhere AtLimit refusals.Memory = Unit {0}
-StopsWhere AtLimit refusal = ⊥
 
 -- why an effect is not carried out: want of memory, or a count that it takes past the limit
 abbrev pub Stops : Effect → Refusal → Type 0

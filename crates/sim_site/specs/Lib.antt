@@ -2,7 +2,6 @@ pub mod Effects
 pub mod Kept
 pub mod Reading
 pub mod Turns
-pub mod Spent
 pub mod Tasks
 pub mod Origins
 pub mod Steps

@@ -1,7 +1,7 @@
 -- The step of a move task, message by message.
 use Rattle.std.specs.Prelude.{List, Some, find, length, ℕ, ◌++◌, ◌≡◌}
 use Rattle.sim_clock.specs.declared.key.Key.{Key}
-use Rattle.sim_site.specs.declared.effects.Effects.{Effects}
+use Rattle.sim_site.specs.Effects.{Effects}
 use Rattle.sqs_model.specs.Draw.{drawn_latency}
 use Rattle.sim_clock.specs.Firsts.{changed}
 use Rattle.sqs_model.specs.Site.{Core, is_task, number_of}

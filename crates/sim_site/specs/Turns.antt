@@ -4,12 +4,11 @@ use Rattle.sim_clock.specs.declared.key.Key.{Key}
 use Rattle.sqs_model.specs.declared.acts.Act.{Act}
 use Rattle.sqs_model.specs.declared.acts.Answer.{Answer}
 use Rattle.sqs_model.specs.declared.acts.Act.TheVariants as acts
-use Rattle.sim_site.specs.declared.effects.Effects.{Effects}
 use Rattle.sim_clock.specs.Firsts.{changed}
 use Rattle.sqs_model.specs.Actor.{Actor, next}
 use Rattle.sqs_model.specs.Acts.{Made, act_made}
 use Rattle.sqs_model.specs.Site.{Core, Effect, is_actor, no_effect, with_actor}
-use Rattle.sim_site.specs.Effects.{Did}
+use Rattle.sim_site.specs.Effects.{Did, Effects}
 use Rattle.sim_site.specs.Kept.{most_wait}
 
 -- the actor of a number decides on what it is told, and stands in its place after it

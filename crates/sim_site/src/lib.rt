@@ -17,5 +17,4 @@ mod state;
 
 pub use agents::Task;
 pub use arrivals::Arriving;
-pub use effects::{Effects, Handled};
 pub use site::Site;

@@ -1,6 +1,6 @@
 //! Tasks by their numbers and by their places in their lists.
 ghost use Rattle.std.specs.Prelude.{MatchOption, position, ◌≡◌};
-ghost use Rattle.sqs_model.specs.Places.{IsAbsent, Stands};
+ghost use Rattle.sim_clock.specs.Places.{IsAbsent, Stands};
 ghost use Rattle.sqs_model.specs.Site.{is_task};
 
 use crate::agents::Task;

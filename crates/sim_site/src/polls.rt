@@ -4,7 +4,7 @@ ghost use Rattle.sim_clock.specs.Firsts.{without};
 ghost use Rattle.sim_clock.specs.Order.{least};
 ghost use Rattle.sqs_index.specs.Marks.{least_of};
 ghost use Rattle.sqs_model.specs.Dues.{poll_key};
-ghost use Rattle.sqs_model.specs.Places.{IsAbsent, Stands};
+ghost use Rattle.sim_clock.specs.Places.{IsAbsent, Stands};
 ghost use Rattle.sqs_model.specs.Step.{ends_at};
 ghost use Rattle.sim_site.specs.Marked.{AreMarked, AreWaiting, IsFirstAt, end_mark, place_ends_at, waiting};
 

@@ -83,11 +83,6 @@ impl Core {
         }
     }
 
-    /// What it allocates with.
-    pub fn alloc(&self) -> Global {
-        self.alloc
-    }
-
     /// Its queue.
     pub fn queue(&self) -> &Queue
         ensures { result.now ≡ self.now.queue }

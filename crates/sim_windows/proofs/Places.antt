@@ -1,64 +1,55 @@
--- Sites at their places in a world, as a partition.
-use Rattle.std.specs.Prelude.{All, Err, IfOk, IsOk, List, Ok, Option, Result, Some, [], false, map, true, ℕ, ◌+◌, ◌<◌, ◌∷◌, ◌≡◌, ◌≤◌}
-use Rattle.std.proofs.Common.{arith, refl, subst, sym, ◌∙◌}
-use Rattle.std.proofs.lemmas.List.Elements.{All-nil, All-weaker}
-use Rattle.sim_clock.specs.declared.key.Key.{Key}
+-- Lists by place.
+use Rattle.std.specs.List.{range_with_len}
+use Rattle.std.specs.Prelude.{All, List, Result, [], false, get_or, map, set, suc, zero, ℕ, ◌++◌, ◌+◌, ◌<◌, ◌==◌, ◌∷◌, ◌≡◌, ◌≤◌}
+use Rattle.std.proofs.Common.{ap, arith, refl, ◌∙◌}
+use Rattle.std.proofs.lemmas.Bool.{ne_eqb}
+use Rattle.std.proofs.lemmas.List.FromFn.{get_or-map-range_with_len}
+use Rattle.std.proofs.lemmas.List.Elements.{All-head, All-tail}
 use Rattle.sim_clock.specs.declared.refusal.Refusal.{Refusal}
-use Rattle.sim_partition.specs.Sites.{HasDue, IsPart, due_in, site_number}
-use Rattle.sim_partition.proofs.Handled.{past_among}
-use Rattle.sim_partition.proofs.Living.{none_some}
-use Rattle.sim_partition.proofs.Moments.{past_later}
-use Rattle.sqs_redrive.specs.declared.transfers.Outbound.{Outbound}
-use Rattle.sqs_model.proofs.WorldMoves.{among_falls, world_in}
-use Rattle.sqs_model.specs.Answers.{most_count}
-use Rattle.sqs_model.specs.World.{world_due}
-use Rattle.sqs_model.specs.Progress.{Ascends, IsSound}
-use Rattle.sqs_model.specs.World.{Stepped, handled_among}
-use Rattle.sqs_model.specs.Site.{Site}
-use Rattle.sim_windows.specs.Worlds.{AreOfPast, IsNumbered, IsOfPast, IsWorld, alive, sites_in}
+use Rattle.sim_windows.specs.Meeting.{AreReached, IsReached, delivered_each}
+use Rattle.sim_engine.specs.World.{delivered}
+use Rattle.sim_engine.specs.Engine.{Engine}
+use Rattle.sim_engine.specs.Laws.{Conditions, SiteLaws}
 
--- numbers that are places ascend
-ascends : (n : ℕ) (w : List Site) → IsNumbered n w → Ascends site_number n w
-ascends n [] h = tt
-ascends n (s ∷ ss) h = (omega (arith, h.0), subst (λ k. Ascends site_number (k + 1) ss) (sym h.0) (ascends (n + 1) ss h.1))
+module _ {A : Type 0} where
+  pub at_place : (f : ℕ → A) (n p : ℕ) (d : A) → p < n → get_or (map f (range_with_len 0 n)) p d ≡ f p
+  at_place f n p d l = get_or-map-range_with_len f 0 n p p d l (omega arith)
 
--- a world is a partition
-pub world_part : (xs : List (Result Site Refusal)) → IsWorld xs → IsPart xs
-world_part xs h = record { live = h.live; ascends = ascends 0 _ h.numbered; sound = h.sound; past = h.past }
+  pub same_from : (f g : ℕ → A) (a n : ℕ) → ((p : ℕ) → a ≤ p → p < a + n → f p ≡ g p) → map f (range_with_len a n) ≡ map g (range_with_len a n)
+  same_from f g a zero h = refl
+  same_from f g a (suc n) h =
+      ap (λ x. x ∷ map f (range_with_len (a + 1) n)) (h a (omega arith) (omega arith)) ∙ ap (λ xs. g a ∷ xs) (same_from f g (a + 1) n (λ p l k. h p (omega arith) (omega arith)))
 
--- what holds of a partition's sites, where something is due
-pub at_sites : (P : List Site → Type 0) (v : Result (List Site) Refusal) (key : Key) → world_due (sites_in v) ≡ Some key → IfOk v P → P (sites_in v)
-at_sites P (Ok w) key d h = h
-at_sites P (Err e) key d h = absurd (none_some d)
+  -- one put in its place
+  pub set_from : (f g : ℕ → A) (x : A) (a n i p : ℕ) → i < n → a + i ≡ p → x ≡ g p → ((q : ℕ) → (p == q) ≡ false → f q ≡ g q) → set (map f (range_with_len a n)) i x ≡ map g (range_with_len a n)
+  set_from f g x a zero i p l e h o = absurd (omega arith)
+  set_from f g x a (suc n) zero p l e h o =
+      let at : p ≡ a = omega arith in
+      ap (λ y. y ∷ map f (range_with_len (a + 1) n)) (h ∙ ap g at)
+      ∙ ap (λ xs. g a ∷ xs) (same_from f g (a + 1) n (λ q k m. o q (ne_eqb p q (λ (z : p ≡ q). absurd (omega arith)))))
+  set_from f g x a (suc n) (suc i) p l e h o =
+      ap (λ y. y ∷ set (map f (range_with_len (a + 1) n)) i x) (o a (ne_eqb p a (λ (z : p ≡ a). absurd (omega arith))))
+      ∙ ap (λ xs. g a ∷ xs) (set_from f g x (a + 1) n i p (omega arith) (omega arith) h o)
 
-pub has_due : (v : Result (List Site) Refusal) (key : Key) → world_due (sites_in v) ≡ Some key → key.at ≤ most_count → IfOk v HasDue
-has_due (Ok w) key d l = record { key = key; due = d; moment = l }
-has_due (Err e) key d l = tt
+  pub over : {B : Type 0} (h : A → B) (f : ℕ → A) (a n : ℕ) → map h (map f (range_with_len a n)) ≡ map (λ p. h (f p)) (range_with_len a n)
+  over h f a zero = refl
+  over h f a (suc n) = ap (λ xs. h (f a) ∷ xs) (over h f (a + 1) n)
 
--- the transfers that a handling sends come later than what it leaves
-pub sent_later : (key : Key) (w : List Site) → All (λ s. IsSound s.core) w → world_due w ≡ Some key → All (IsOfPast key.at) w → All (λ o. All (IsOfPast o.at) (handled_among key w).sites) (handled_among key w).sent
-sent_later key w s d h =
-    let t : Stepped = handled_among key w in
-    let later : All (λ (o : Outbound). key.at < o.at) t.sent = (among_falls key 0 w (omega arith) s (world_in key w d)).later in
-    All-weaker (λ (o : Outbound). key.at < o.at) (λ (o : Outbound). All (IsOfPast o.at) t.sites) (λ o l. past_later key.at o.at t.sites (omega arith) (past_among key w h).0) t.sent later
+-- what stands at a place, or else the first, is below a bound that all are below
+pub below_all : (xs : List ℕ) (k n : ℕ) → 1 ≤ k → All (λ p. p < k) xs → get_or xs n 0 < k
+below_all [] k n l h = omega arith
+below_all (x ∷ xs) k zero l h = All-head (λ p. p < k) x xs h
+below_all (x ∷ xs) k (suc n) l h = below_all xs k n l (All-tail (λ p. p < k) x xs h)
 
--- what a partition tells, of its sites
-due_sites : (v : Result (List Site) Refusal) → due_in v ≡ world_due (sites_in v)
-due_sites (Ok w) = refl
-due_sites (Err e) = refl
+pub map_push : {A B : Type 0} (f : A → B) (xs : List A) (x : A) → map f (xs ++ x ∷ []) ≡ map f xs ++ f x ∷ []
+map_push f [] x = refl
+map_push f (y ∷ ys) x = ap (λ z. f y ∷ z) (map_push f ys x)
 
-pub due_told : (v : Result (List Site) Refusal) (told o : Option Key) → told ≡ due_in v → told ≡ o → world_due (sites_in v) ≡ o
-due_told v told o e f = sym (due_sites v) ∙ sym e ∙ f
+module _ {Site Row Transfer : Type 0} {engine : Engine Site Row Transfer} {conditions : Conditions Site Transfer} (basics : SiteLaws engine conditions) where
+  pub delivered_places : (f : ℕ → List Transfer) (g : ℕ → List Site) (a n : ℕ) → delivered_each engine (map f (range_with_len a n)) (map g (range_with_len a n)) ≡ map (λ p. delivered engine (f p) (g p)) (range_with_len a n)
+  delivered_places f g a zero = refl
+  delivered_places f g a (suc n) = ap (λ xs. delivered engine (f a) (g a) ∷ xs) (delivered_places f g (a + 1) n)
 
-pub sound_told : (v : Result (List Site) Refusal) → IfOk v (All (λ s. IsSound s.core)) → All (λ s. IsSound s.core) (sites_in v)
-sound_told (Ok w) h = h
-sound_told (Err e) h = All-nil (λ (s : Site). IsSound s.core)
-
-pub past_told : (v : Result (List Site) Refusal) → IfOk v (λ w. AreOfPast w (world_due w)) → AreOfPast (sites_in v) (world_due (sites_in v))
-past_told (Ok w) h = h
-past_told (Err e) h = tt
-
--- the sites of a partition that lives
-pub items_of : (v : Result (List Site) Refusal) (items : List (Result Site Refusal)) → IsOk v → IfOk v (λ w. items ≡ map alive w) → items ≡ map alive (sites_in v)
-items_of (Ok w) items l h = h
-items_of (Err e) items l h = absurd (let k : false ≡ true = l in cc)
+  pub reached_places : (f : ℕ → Result (List Site) Refusal) (g : ℕ → List Transfer) (a n : ℕ) → ((p : ℕ) → a ≤ p → p < a + n → IsReached engine conditions (f p) (g p)) → AreReached engine conditions (map f (range_with_len a n)) (map g (range_with_len a n))
+  reached_places f g a zero h = tt
+  reached_places f g a (suc n) h = (h a (omega arith) (omega arith), reached_places f g (a + 1) n (λ p l k. h p (omega arith) (omega arith)))

@@ -5,122 +5,123 @@ use Rattle.std.proofs.lemmas.Bool.{cases_lt, le-leb, lt-leb}
 use Rattle.std.proofs.lemmas.List.{append-nil}
 use Rattle.std.proofs.lemmas.List.Elements.{All-weaker}
 use Rattle.sim_clock.specs.declared.key.Key.{Key}
-use Rattle.sqs_message.specs.declared.row.Row.{Row}
-use Rattle.sqs_redrive.specs.declared.transfers.Outbound.{Outbound}
-use Rattle.sqs_model.specs.World.{world_due}
-use Rattle.sqs_model.specs.Progress.{IsSound}
-use Rattle.sqs_model.specs.Run.{Run, after}
-use Rattle.sqs_model.specs.World.{Stepped, delivered, handled_among, next_due, run_on, stepped, stepped_at}
-use Rattle.sqs_model.specs.Site.{Site}
-use Rattle.sqs_model.proofs.Counts.{tick, tick_now, tick_past}
-use Rattle.sqs_model.proofs.WorldMoves.{FallsAmong, among_falls, delivered_count, delivered_sound, tick_key, world_count, world_in, world_none}
-use Rattle.sim_windows.specs.Worlds.{IsFrom, IsLater, due_at, sites_after}
+use Rattle.sim_engine.specs.Engine.{Engine}
+use Rattle.sim_engine.specs.Laws.{Conditions, SiteLaws}
+use Rattle.sim_engine.specs.World.{Run, Stepped, after, delivered, handled_among, next_due, run_on, stepped, stepped_at, world_due}
+use Rattle.sim_engine.proofs.Counts.{tick, tick_now, tick_past}
+use Rattle.sim_engine.proofs.WorldMoves.{FallsAmong, among_falls, delivered_count, delivered_sound, tick_key, world_count, world_in, world_none}
+use Rattle.sim_partition.specs.Sites.{IsFrom, IsLater}
+use Rattle.sim_windows.specs.Worlds.{due_at, sites_after}
 
--- a world whose least due is handled, by a moment
-record Falls (key : Key) (e : ℕ) (sites later : List Site) : Type 0 where
-  pub sound : All (λ s. IsSound s.core) later
-  pub fewer : world_count e later + tick e key.at ≤ world_count e sites
+module _ {Site Row Transfer : Type 0} {engine : Engine Site Row Transfer} {conditions : Conditions Site Transfer} (basics : SiteLaws engine conditions) where
+  open engine use {transfer_key}
+  open conditions use {Sound}
 
-falls : (key : Key) (e : ℕ) (w : List Site) → e ≤ key.at → All (λ s. IsSound s.core) w → world_due w ≡ Some key → Falls key e w (sites_after key w)
-falls key e w l h d =
-    let t : Stepped = handled_among key w in
-    let f : FallsAmong key e w t = among_falls key e w l h (world_in key w d) in
-    let later : All (λ (o : Outbound). e < o.at) t.sent = All-weaker (λ (o : Outbound). key.at < o.at) (λ (o : Outbound). e < o.at) (λ o k. omega arith) t.sent f.later in
-    let n : world_count e (delivered t.sent t.sites) ≤ world_count e t.sites = delivered_count e t.sent t.sites later in
-    let m : world_count e t.sites + tick e key.at ≤ world_count e w = f.fewer in
-    record { sound = delivered_sound t.sent t.sites f.sound; fewer = omega arith }
+  -- a world whose least due is handled, by a moment
+  record Falls (key : Key) (e : ℕ) (sites later : List Site) : Type 0 where
+    pub sound : All Sound later
+    pub fewer : world_count basics e later + tick e key.at ≤ world_count basics e sites
 
--- where something is due by its moment, less is afterwards
-pub smaller :
-    (key : Key) (moment : ℕ) (w x : List Site) → moment ≤ key.at → key.at ≤ moment → All (λ s. IsSound s.core) w → world_due w ≡ Some key
-    → x ≡ sites_after key w → world_count moment x < world_count moment w
-smaller key moment w x l m h d e =
-    let f : Falls key moment w (sites_after key w) = falls key moment w l h d in
-    let n : world_count moment (sites_after key w) + tick moment key.at ≤ world_count moment w = f.fewer in
-    let t : tick moment key.at ≡ 1 = tick_now moment key.at m in
-    rw e (omega arith)
+  falls : (key : Key) (e : ℕ) (w : List Site) → e ≤ key.at → All Sound w → world_due engine w ≡ Some key → Falls key e w (sites_after engine key w)
+  falls key e w l h d =
+      let t : Stepped engine = handled_among engine key w in
+      let f : FallsAmong basics key e w t = among_falls basics key e w l h (world_in basics key w d) in
+      let later : All (λ (o : Transfer). e < (transfer_key o).at) t.sent = All-weaker (λ (o : Transfer). key.at < (transfer_key o).at) (λ (o : Transfer). e < (transfer_key o).at) (λ o k. omega arith) t.sent f.later in
+      let n : world_count basics e (delivered engine t.sent t.sites) ≤ world_count basics e t.sites = delivered_count basics e t.sent t.sites later in
+      let m : world_count basics e t.sites + tick e key.at ≤ world_count basics e w = f.fewer in
+      record { sound = delivered_sound basics t.sent t.sites f.sound; fewer = omega arith }
 
--- nothing is due before the present, and nothing comes to be
-none_before : (moment e : ℕ) (sites : List Site) (o : Option Key) → world_due sites ≡ o → IsFrom moment o → e < moment → world_count e sites ≡ 0
-none_before moment e sites None d f l = world_none e sites (ap (tick_key e) d)
-none_before moment e sites (Some k) d f l = world_none e sites (ap (tick_key e) d ∙ tick_past e k.at (omega (arith, f)))
+  -- where something is due by its moment, less is afterwards
+  pub smaller :
+      (key : Key) (moment : ℕ) (w x : List Site) → moment ≤ key.at → key.at ≤ moment → All Sound w → world_due engine w ≡ Some key
+      → x ≡ sites_after engine key w → world_count basics moment x < world_count basics moment w
+  smaller key moment w x l m h d e =
+      let f : Falls key moment w (sites_after engine key w) = falls key moment w l h d in
+      let n : world_count basics moment (sites_after engine key w) + tick moment key.at ≤ world_count basics moment w = f.fewer in
+      let t : tick moment key.at ≡ 1 = tick_now moment key.at m in
+      rw e (omega arith)
 
-least_counts : (key : Key) (w : List Site) → All (λ s. IsSound s.core) w → world_due w ≡ Some key → 1 ≤ world_count key.at w
-least_counts key w h d =
-    let f : Falls key key.at w (sites_after key w) = falls key key.at w (omega arith) h d in
-    let n : world_count key.at (sites_after key w) + tick key.at key.at ≤ world_count key.at w = f.fewer in
-    omega (arith, tick_now key.at key.at (omega arith))
+  -- nothing is due before the present, and nothing comes to be
+  none_before : (moment e : ℕ) (sites : List Site) (o : Option Key) → world_due engine sites ≡ o → IsFrom moment o → e < moment → world_count basics e sites ≡ 0
+  none_before moment e sites None d f l = world_none basics e sites (ap (tick_key e) d)
+  none_before moment e sites (Some k) d f l = world_none basics e sites (ap (tick_key e) d ∙ tick_past e k.at (omega (arith, f)))
 
-from_by : (moment : ℕ) (w : List Site) (o : Option Key) → world_due w ≡ o → All (λ s. IsSound s.core) w → ((e : ℕ) → e < moment → world_count e w ≡ 0) → IsFrom moment o
-from_by moment w None d h z = tt
-from_by moment w (Some k) d h z =
-    elim (cases_lt k.at moment) as (λ _. moment ≤ k.at) [
-      | inl l ↦
-          let one : 1 ≤ world_count k.at w = least_counts k w h d in
-          let none : world_count k.at w ≡ 0 = z k.at l in absurd (omega arith)
-      | inr l ↦ l
-    ]
+  least_counts : (key : Key) (w : List Site) → All Sound w → world_due engine w ≡ Some key → 1 ≤ world_count basics key.at w
+  least_counts key w h d =
+      let f : Falls key key.at w (sites_after engine key w) = falls key key.at w (omega arith) h d in
+      let n : world_count basics key.at (sites_after engine key w) + tick key.at key.at ≤ world_count basics key.at w = f.fewer in
+      omega (arith, tick_now key.at key.at (omega arith))
 
-pub from_after :
-    (key : Key) (moment : ℕ) (w x : List Site) → moment ≤ key.at → All (λ s. IsSound s.core) w → world_due w ≡ Some key → IsFrom moment (world_due w)
-    → x ≡ sites_after key w → IsFrom moment (world_due x)
-from_after key moment w x l h d f e =
-    let y : List Site = sites_after key w in
-    let s : Falls key 0 w y = falls key 0 w (omega arith) h d in
-    rw e (from_by moment y (world_due y) refl s.sound
-    (λ i k.
-    let z : world_count i w ≡ 0 = none_before moment i w (world_due w) refl f k in
-    let g : Falls key i w y = falls key i w (omega arith) h d in
-    let n : world_count i y + tick i key.at ≤ world_count i w = g.fewer in omega arith))
+  from_by : (moment : ℕ) (w : List Site) (o : Option Key) → world_due engine w ≡ o → All Sound w → ((e : ℕ) → e < moment → world_count basics e w ≡ 0) → IsFrom moment o
+  from_by moment w None d h z = tt
+  from_by moment w (Some k) d h z =
+      elim (cases_lt k.at moment) as (λ _. moment ≤ k.at) [
+        | inl l ↦
+            let one : 1 ≤ world_count basics k.at w = least_counts k w h d in
+            let none : world_count basics k.at w ≡ 0 = z k.at l in absurd (omega arith)
+        | inr l ↦ l
+      ]
 
--- the run of one handling
-pub one_after : (horizon : ℕ) (key : Key) (w : List Site) → world_due w ≡ Some key → key.at ≤ horizon → after horizon (suc zero) w ≡ run_on [] (handled_among key w)
-one_after horizon key w d l =
-    let n : next_due horizon w ≡ Some key = rw (d, le-leb key.at horizon l) refl in ap (stepped_at (after horizon zero w)) n
+  pub from_after :
+      (key : Key) (moment : ℕ) (w x : List Site) → moment ≤ key.at → All Sound w → world_due engine w ≡ Some key → IsFrom moment (world_due engine w)
+      → x ≡ sites_after engine key w → IsFrom moment (world_due engine x)
+  from_after key moment w x l h d f e =
+      let y : List Site = sites_after engine key w in
+      let s : Falls key 0 w y = falls key 0 w (omega arith) h d in
+      rw e (from_by moment y (world_due engine y) refl s.sound
+      (λ i k.
+      let z : world_count basics i w ≡ 0 = none_before moment i w (world_due engine w) refl f k in
+      let g : Falls key i w y = falls key i w (omega arith) h d in
+      let n : world_count basics i y + tick i key.at ≤ world_count basics i w = g.fewer in omega arith))
 
--- a run with rows before its own
-abbrev pub behind : List Row → Run → Run
-behind rows r = record { sites = r.sites; rows = rows ++ r.rows }
+  -- the run of one handling
+  pub one_after : (horizon : ℕ) (key : Key) (w : List Site) → world_due engine w ≡ Some key → key.at ≤ horizon → after engine horizon (suc zero) w ≡ run_on engine [] (handled_among engine key w)
+  one_after horizon key w d l =
+      let n : next_due engine horizon w ≡ Some key = rw (d, le-leb key.at horizon l) refl in ap (stepped_at engine (after engine horizon zero w)) n
 
-behind_at : (rows : List Row) (r : Run) (o : Option Key) → stepped_at (behind rows r) o ≡ behind rows (stepped_at r o)
-behind_at rows r None = refl
-behind_at rows r (Some key) =
-    let x : Run = run_on r.rows (handled_among key r.sites) in
-    let run : List Row → Run = λ xs. record { sites = x.sites; rows = xs } in ap run (append_assoc rows r.rows (handled_among key r.sites).rows)
+  -- a run with rows before its own
+  abbrev pub behind : List Row → Run engine → Run engine
+  behind rows r = record { sites = r.sites; rows = rows ++ r.rows }
 
--- handlings after handlings
-pub joined : (horizon m n : ℕ) (start : List Site) → after horizon (m + n) start ≡ behind (after horizon n start).rows (after horizon m (after horizon n start).sites)
-joined horizon zero n start =
-    let e : 0 + n ≡ n = omega arith in
-    let x : Run = after horizon n start in
-    let run : List Row → Run = λ xs. record { sites = x.sites; rows = xs } in
-    ap (λ k. after horizon k start) e ∙ ap run (sym (append-nil x.rows))
-joined horizon (suc m) n start =
-    let e : suc m + n ≡ suc (m + n) = omega arith in
-    let x : Run = after horizon n start in
-    let y : Run = after horizon m x.sites in
-    ap (λ k. after horizon k start) e ∙ ap (stepped horizon) (joined horizon m n start) ∙ behind_at x.rows y (next_due horizon y.sites)
+  behind_at : (rows : List Row) (r : Run engine) (o : Option Key) → stepped_at engine (behind rows r) o ≡ behind rows (stepped_at engine r o)
+  behind_at rows r None = refl
+  behind_at rows r (Some key) =
+      let x : Run engine = run_on engine r.rows (handled_among engine key r.sites) in
+      let run : List Row → Run engine = λ xs. record { sites = x.sites; rows = xs } in ap run (append_assoc rows r.rows (handled_among engine key r.sites).rows)
 
--- where nothing is due any more nothing changes
-stays_at : (r : Run) (o : Option Key) → IsNone o → stepped_at r o ≡ r
-stays_at r None h = refl
-stays_at r (Some key) h = cc
+  -- handlings after handlings
+  pub joined : (horizon m n : ℕ) (start : List Site) → after engine horizon (m + n) start ≡ behind (after engine horizon n start).rows (after engine horizon m (after engine horizon n start).sites)
+  joined horizon zero n start =
+      let e : 0 + n ≡ n = omega arith in
+      let x : Run engine = after engine horizon n start in
+      let run : List Row → Run engine = λ xs. record { sites = x.sites; rows = xs } in
+      ap (λ k. after engine horizon k start) e ∙ ap run (sym (append-nil x.rows))
+  joined horizon (suc m) n start =
+      let e : suc m + n ≡ suc (m + n) = omega arith in
+      let x : Run engine = after engine horizon n start in
+      let y : Run engine = after engine horizon m x.sites in
+      ap (λ k. after engine horizon k start) e ∙ ap (stepped engine horizon) (joined horizon m n start) ∙ behind_at x.rows y (next_due engine horizon y.sites)
 
--- a run that has come to its end stays there
-pub stays : (horizon k m : ℕ) (start : List Site) → IsNone (next_due horizon (after horizon m start).sites) → after horizon (k + m) start ≡ after horizon m start
-stays horizon zero m start h = let e : 0 + m ≡ m = omega arith in ap (λ i. after horizon i start) e
-stays horizon (suc k) m start h =
-    let e : suc k + m ≡ suc (k + m) = omega arith in
-    ap (λ i. after horizon i start) e ∙ ap (stepped horizon) (stays horizon k m start h) ∙ stays_at (after horizon m start) (next_due horizon (after horizon m start).sites) h
+  -- where nothing is due any more nothing changes
+  stays_at : (r : Run engine) (o : Option Key) → IsNone o → stepped_at engine r o ≡ r
+  stays_at r None h = refl
+  stays_at r (Some key) h = cc
 
--- nothing is due by a horizon that the least is past
-pub none_by : (horizon : ℕ) (key : Key) (w : List Site) → world_due w ≡ Some key → horizon < key.at → next_due horizon w ≡ None
-none_by horizon key w d l = rw (d, lt-leb key.at horizon l) refl
+  -- a run that has come to its end stays there
+  pub stays : (horizon k m : ℕ) (start : List Site) → IsNone (next_due engine horizon (after engine horizon m start).sites) → after engine horizon (k + m) start ≡ after engine horizon m start
+  stays horizon zero m start h = let e : 0 + m ≡ m = omega arith in ap (λ i. after engine horizon i start) e
+  stays horizon (suc k) m start h =
+      let e : suc k + m ≡ suc (k + m) = omega arith in
+      ap (λ i. after engine horizon i start) e ∙ ap (stepped engine horizon) (stays horizon k m start h) ∙ stays_at (after engine horizon m start) (next_due engine horizon (after engine horizon m start).sites) h
 
--- what is due later is sooner to a horizon
-sooner_by : (horizon : ℕ) (key : Key) (o : Option Key) → key.at ≤ horizon → IsLater key.at o → horizon + 1 - due_at horizon o < horizon + 1 - key.at
-sooner_by horizon key None l h = omega arith
-sooner_by horizon key (Some k) l h = omega (arith, h)
+  -- nothing is due by a horizon that the least is past
+  pub none_by : (horizon : ℕ) (key : Key) (w : List Site) → world_due engine w ≡ Some key → horizon < key.at → next_due engine horizon w ≡ None
+  none_by horizon key w d l = rw (d, lt-leb key.at horizon l) refl
 
-pub sooner : (horizon : ℕ) (key : Key) (w : List Site) (o : Option Key) → world_due w ≡ Some key → key.at ≤ horizon → IsLater key.at o → horizon + 1 - due_at horizon o < horizon + 1 - due_at horizon (world_due w)
-sooner horizon key w o d l h = rw d (sooner_by horizon key o l h)
+  -- what is due later is sooner to a horizon
+  sooner_by : (horizon : ℕ) (key : Key) (o : Option Key) → key.at ≤ horizon → IsLater key.at o → horizon + 1 - due_at horizon o < horizon + 1 - key.at
+  sooner_by horizon key None l h = omega arith
+  sooner_by horizon key (Some k) l h = omega (arith, h)
+
+  pub sooner : (horizon : ℕ) (key : Key) (w : List Site) (o : Option Key) → world_due engine w ≡ Some key → key.at ≤ horizon → IsLater key.at o → horizon + 1 - due_at horizon o < horizon + 1 - due_at horizon (world_due engine w)
+  sooner horizon key w o d l h = rw d (sooner_by horizon key o l h)

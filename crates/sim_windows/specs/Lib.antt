@@ -1,3 +1,7 @@
-pub mod Homes
-pub mod Sinks
+pub mod Meeting
+pub mod Stages
+pub mod Machines
+pub mod Limits
+pub mod Laws
 pub mod Worlds
+pub mod Sinks

@@ -1,49 +1,47 @@
 -- What a sink takes of a run, as far as the run comes.
-use Rattle.std.specs.Prelude.{List, Result, map, ℕ, ◌++◌, ◌<◌, ◌≡◌, ◌⊎◌}
+use Rattle.std.specs.Prelude.{List, ℕ, ◌++◌, ◌<◌, ◌≡◌, ◌⊎◌}
 use Rattle.sim_clock.specs.declared.refusal.Refusal.{Refusal}
-use Rattle.sim_site.specs.Effects.{StopsWhere}
-use Rattle.sqs_message.specs.declared.row.Row.{Row}
-use Rattle.sqs_model.specs.Answers.{most_count}
-use Rattle.sqs_model.specs.Limits.{IsOver, run_count}
-use Rattle.sqs_model.specs.Run.{IsRunOf, Run, after}
-use Rattle.sqs_model.specs.Scenario.{Scenario}
-use Rattle.sqs_model.specs.Site.{Site}
-use Rattle.sim_windows.specs.Worlds.{alive}
+use Rattle.sim_engine.specs.Counts.{run_count}
+use Rattle.sim_engine.specs.Engine.{Engine}
+use Rattle.sim_engine.specs.Limits.{IsOver, StopsWhere, most_count}
+use Rattle.sim_engine.specs.Setting.{IsRunOf, Setting}
+use Rattle.sim_engine.specs.World.{Run, after}
 
--- rows that a scenario's run begins with
-abbrev pub IsFront : Scenario → List Row → Type 0
-IsFront s rows = (r : Run) → IsRunOf s r → (rest : List Row) × (rows ++ rest ≡ r.rows)
+module _ {Site Row Transfer : Type 0} (engine : Engine Site Row Transfer) where
+  -- rows that a setting's run begins with
+  abbrev pub IsFront : Setting Site → List Row → Type 0
+  IsFront s rows = (r : Run engine) → IsRunOf engine s r → (rest : List Row) × (rows ++ rest ≡ r.rows)
 
--- why the run from some sites by a horizon stops: want of memory, or a count that it takes past the limit some handlings on
-abbrev pub StopsRun : ℕ → List Site → Refusal → Type 0
-StopsRun horizon start = StopsWhere ((n : ℕ) × (most_count < run_count (after horizon n start)))
+  -- why the run from some sites by a horizon stops: want of memory, or a count that it takes past the limit some handlings on
+  abbrev pub StopsRun : ℕ → List Site → Refusal → Type 0
+  StopsRun horizon start = StopsWhere ((n : ℕ) × (most_count < run_count engine (after engine horizon n start)))
 
-module _ {K : Type 0} (took : K → List Row → K → Type 0) where
-  -- the run from some sites by a horizon has come to others, and a sink took its rows
-  pub record HasRun (horizon : ℕ) (start : List Site) (before : K) (sites : List Site) (now : K) : Type 0 where
-    pub steps : ℕ
-    pub reached : (after horizon steps start).sites ≡ sites
-    pub taken : took before (after horizon steps start).rows now
-
-  -- these are the sites of a scenario's last world, and a sink took all rows of its run
-  pub record HasTaken (s : Scenario) (before now : K) (sites : List (Result Site Refusal)) : Type 0 where
-    pub run : Run
-    pub is : IsRunOf s run
-    pub taken : took before run.rows now
-    pub sites_are : sites ≡ map alive run.sites
-
-  module _ (broke : K → List Row → Refusal → K → Type 0) where
-    -- how a run stops at some rows: the sink took them and the run has its reason, or the sink broke at them
-    abbrev pub StopsAt : (Refusal → Type 0) → List Row → K → Refusal → K → Type 0
-    StopsAt Stops rows before refusal now = (took before rows now × Stops refusal) ⊎ broke before rows refusal now
-
-    -- the run from some sites by a horizon stops on its way
-    pub record HasHalted (horizon : ℕ) (start : List Site) (before : K) (refusal : Refusal) (now : K) : Type 0 where
+  module _ {K : Type 0} (took : K → List Row → K → Type 0) where
+    -- the run from some sites by a horizon has come to others, and a sink took its rows
+    pub record HasRun (horizon : ℕ) (start : List Site) (before : K) (sites : List Site) (now : K) : Type 0 where
       pub steps : ℕ
-      pub at_rows : StopsAt (StopsRun horizon start) (after horizon steps start).rows before refusal now
+      pub reached : (after engine horizon steps start).sites ≡ sites
+      pub taken : took before (after engine horizon steps start).rows now
 
-    -- a scenario's run stops on its way: for want of memory, for a count that it takes past the limit, or since the sink broke
-    pub record HasStopped (s : Scenario) (before : K) (refusal : Refusal) (now : K) : Type 0 where
-      pub rows : List Row
-      pub front : IsFront s rows
-      pub at_rows : StopsAt (StopsWhere (IsOver s)) rows before refusal now
+    -- these are the sites of a setting's last world, and a sink took all rows of its run
+    pub record HasTaken (s : Setting Site) (before now : K) (sites : List Site) : Type 0 where
+      pub run : Run engine
+      pub is : IsRunOf engine s run
+      pub taken : took before run.rows now
+      pub sites_are : sites ≡ run.sites
+
+    module _ (broke : K → List Row → Refusal → K → Type 0) where
+      -- how a run stops at some rows: the sink took them and the run has its reason, or the sink broke at them
+      abbrev pub StopsAt : (Refusal → Type 0) → List Row → K → Refusal → K → Type 0
+      StopsAt Stops rows before refusal now = (took before rows now × Stops refusal) ⊎ broke before rows refusal now
+
+      -- the run from some sites by a horizon stops on its way
+      pub record HasHalted (horizon : ℕ) (start : List Site) (before : K) (refusal : Refusal) (now : K) : Type 0 where
+        pub steps : ℕ
+        pub at_rows : StopsAt (StopsRun horizon start) (after engine horizon steps start).rows before refusal now
+
+      -- a setting's run stops on its way: for want of memory, for a count that it takes past the limit, or since the sink broke
+      pub record HasStopped (s : Setting Site) (before : K) (refusal : Refusal) (now : K) : Type 0 where
+        pub rows : List Row
+        pub front : IsFront s rows
+        pub at_rows : StopsAt (StopsWhere (IsOver engine s)) rows before refusal now

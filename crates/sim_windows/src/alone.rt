@@ -1,55 +1,57 @@
-//! The run of a scenario on one thread.
+//! The run of a world on one thread.
 ghost use Rattle.std.specs.Prelude.{◌≡◌, ◌≤◌, All, IsNone, IsOk, Some, IfErr, IfOk, OnOk, ℕ};
-ghost use Rattle.sqs_model.specs.Answers.{most_count};
-ghost use Rattle.sqs_model.specs.World.{world_due};
-ghost use Rattle.sqs_model.specs.Progress.{IsSound};
-ghost use Rattle.sqs_model.specs.World.{next_due};
-ghost use Rattle.sqs_model.specs.Scenario.{HasItsQueues};
+ghost use Rattle.sim_engine.specs.Limits.{most_count};
+ghost use Rattle.sim_engine.specs.Simulated.{IsSimulated};
+ghost use Rattle.sim_engine.specs.World.{next_due, world_due};
+ghost use Rattle.sim_partition.specs.Sites.{IsFrom, IsLater};
 ghost use Rattle.sim_windows.specs.Sinks.{HasHalted, HasRun, HasStopped, HasTaken};
-ghost use Rattle.sim_windows.specs.Worlds.{IsFrom, IsLater, IsOfPast, sites_after, sites_in};
+ghost use Rattle.sim_windows.specs.Worlds.{sites_after, sites_in};
 
-use crate::opening::opening_sites;
+use crate::sink::RowSink;
+use crate::world::World;
 use sim_clock::{Key, Refusal};
+use sim_engine::{Effects, Site};
 use sim_partition::Partition;
-use sim_scenario::Scenario;
-use sim_sink::RowSink;
-use sim_site::{Handled, Site};
 use std::alloc::Global;
 
 // Handles what is due next, delivers what that sends, and hands its rows to the sink.
-fn handle<K: RowSink>(partition: &mut Partition, key: Key, sink: &mut K) -> Result<(), Refusal>
-    requires due { world_due (sites_in partition.old) ≡ Some key }
+fn handle<S: Site, K: RowSink<S::Row>>(
+    partition: &mut Partition<S>,
+    key: Key,
+    sink: &mut K,
+) -> Result<(), Refusal>
+    requires due { world_due S.engine (sites_in partition.old) ≡ Some key }
     requires moment { key.at ≤ most_count }
-    requires sound { All (λ s. IsSound s.core) (sites_in partition.old) }
-    requires past { All (IsOfPast key.at) (sites_in partition.old) }
+    requires sound { All S.conditions.Sound (sites_in partition.old) }
+    requires past { All (S.conditions.Past key.at) (sites_in partition.old) }
     requires ready { K.ready sink.old }
     ensures ready { OnOk result (K.ready sink.new) }
     ensures lives { OnOk result (IsOk partition.new) }
-    ensures done { OnOk result (sites_in partition.new ≡ sites_after key (sites_in partition.old)) }
-    ensures ran { OnOk result ((horizon : ℕ) → key.at ≤ horizon → HasRun K.took horizon (sites_in partition.old) sink.old (sites_in partition.new) sink.new) }
-    ensures stops { IfErr result (λ refusal. (horizon : ℕ) → key.at ≤ horizon → HasHalted K.took K.broke horizon (sites_in partition.old) sink.old refusal sink.new) }
+    ensures done { OnOk result (sites_in partition.new ≡ sites_after S.engine key (sites_in partition.old)) }
+    ensures ran { OnOk result ((horizon : ℕ) → key.at ≤ horizon → HasRun S.engine K.took horizon (sites_in partition.old) sink.old (sites_in partition.new) sink.new) }
+    ensures stops { IfErr result (λ refusal. (horizon : ℕ) → key.at ≤ horizon → HasHalted S.engine K.took K.broke horizon (sites_in partition.old) sink.old refusal sink.new) }
 {
     let handled = partition.step()?;
-    let Handled { rows, outbound } = handled;
-    partition.deliver(outbound)?;
+    let Effects { rows, sent } = handled;
+    partition.deliver(sent)?;
     sink.take(rows.as_slice())
 }
 
 // Handles all that is due at the least moment.
-fn run_moment<K: RowSink>(
-    partition: &mut Partition,
+fn run_moment<S: Site, K: RowSink<S::Row>>(
+    partition: &mut Partition<S>,
     moment: u64,
     sink: &mut K,
 ) -> Result<(), Refusal>
     requires lives { IsOk partition.old }
-    requires from { IsFrom moment (world_due (sites_in partition.old)) }
+    requires from { IsFrom moment (world_due S.engine (sites_in partition.old)) }
     requires moment { moment ≤ most_count }
     requires ready { K.ready sink.old }
     ensures ready { OnOk result (K.ready sink.new) }
     ensures lives { OnOk result (IsOk partition.new) }
-    ensures ran { OnOk result ((horizon : ℕ) → moment ≤ horizon → HasRun K.took horizon (sites_in partition.old) sink.old (sites_in partition.new) sink.new) }
-    ensures done { OnOk result (IsLater moment (world_due (sites_in partition.new))) }
-    ensures stops { IfErr result (λ refusal. (horizon : ℕ) → moment ≤ horizon → HasHalted K.took K.broke horizon (sites_in partition.old) sink.old refusal sink.new) }
+    ensures ran { OnOk result ((horizon : ℕ) → moment ≤ horizon → HasRun S.engine K.took horizon (sites_in partition.old) sink.old (sites_in partition.new) sink.new) }
+    ensures done { OnOk result (IsLater moment (world_due S.engine (sites_in partition.new))) }
+    ensures stops { IfErr result (λ refusal. (horizon : ℕ) → moment ≤ horizon → HasHalted S.engine K.took K.broke horizon (sites_in partition.old) sink.old refusal sink.new) }
 {
     while let Some(key) = partition.least_due() {
         if key.at > moment {
@@ -61,15 +63,19 @@ fn run_moment<K: RowSink>(
 }
 
 // Handles all that is due by the horizon.
-fn run_by<K: RowSink>(partition: &mut Partition, horizon: u64, sink: &mut K) -> Result<(), Refusal>
+fn run_by<S: Site, K: RowSink<S::Row>>(
+    partition: &mut Partition<S>,
+    horizon: u64,
+    sink: &mut K,
+) -> Result<(), Refusal>
     requires lives { IsOk partition.old }
     requires horizon { horizon ≤ most_count }
     requires ready { K.ready sink.old }
     ensures ready { OnOk result (K.ready sink.new) }
     ensures lives { OnOk result (IsOk partition.new) }
-    ensures ran { OnOk result (HasRun K.took horizon (sites_in partition.old) sink.old (sites_in partition.new) sink.new) }
-    ensures ended { OnOk result (IsNone (next_due horizon (sites_in partition.new))) }
-    ensures stops { IfErr result (λ refusal. HasHalted K.took K.broke horizon (sites_in partition.old) sink.old refusal sink.new) }
+    ensures ran { OnOk result (HasRun S.engine K.took horizon (sites_in partition.old) sink.old (sites_in partition.new) sink.new) }
+    ensures ended { OnOk result (IsNone (next_due S.engine horizon (sites_in partition.new))) }
+    ensures stops { IfErr result (λ refusal. HasHalted S.engine K.took K.broke horizon (sites_in partition.old) sink.old refusal sink.new) }
 {
     while let Some(key) = partition.least_due() {
         if key.at > horizon {
@@ -80,7 +86,7 @@ fn run_by<K: RowSink>(partition: &mut Partition, horizon: u64, sink: &mut K) -> 
     Ok(())
 }
 
-/// Runs a scenario to its horizon on this thread, due by due, each time the least of the whole
+/// Runs a world to its horizon on this thread, entry by entry, each time the least of the whole
 /// world, and hands the rows of each handling to a sink as it is done. Answers the sites of the
 /// last world, by number.
 ///
@@ -88,19 +94,19 @@ fn run_by<K: RowSink>(partition: &mut Partition, horizon: u64, sink: &mut K) -> 
 ///
 /// `Memory` where a growth is refused, and `CountLimit`, only where the run takes a count past
 /// 2^62 - 1: the sink took rows that the run's begin with. Else the sink's refusal, at such rows.
-pub fn run_alone<K: RowSink>(
+pub fn run_alone<S: Site, K: RowSink<S::Row>>(
     alloc: Global,
-    scenario: Scenario,
+    world: World<S>,
     sink: &mut K,
-) -> Result<Vec<Site>, Refusal>
+) -> Result<Vec<S>, Refusal>
+    requires simulated { IsSimulated S.engine S.conditions world }
+    requires horizon { world.horizon ≤ most_count }
     requires ready { K.ready sink.old }
     ensures ready { OnOk result (K.ready sink.new) }
-    ensures whole { IfOk result (λ sites. HasTaken K.took scenario sink.old sink.new sites.items) }
-    ensures has_queues { IfOk result (λ _. HasItsQueues scenario) }
-    ensures stops { IfErr result (λ refusal. HasStopped K.took K.broke scenario sink.old refusal sink.new) }
+    ensures whole { IfOk result (λ sites. HasTaken S.engine K.took world sink.old sink.new sites.items) }
+    ensures stops { IfErr result (λ refusal. HasStopped S.engine K.took K.broke world sink.old refusal sink.new) }
 {
-    let horizon = scenario.horizon();
-    let sites = opening_sites(alloc, scenario)?;
+    let World { horizon, sites, .. } = world;
     let mut partition = Partition::new(alloc, sites)?;
     run_by(&mut partition, horizon, sink)?;
     Ok(partition.into_sites())

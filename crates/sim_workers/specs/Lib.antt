@@ -1,3 +1,5 @@
 pub mod Pieces
 pub mod Rounds
 pub mod Owners
+pub mod Paces
+pub mod Runs

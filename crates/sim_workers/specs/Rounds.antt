@@ -2,15 +2,10 @@
 use Rattle.std.specs.Prelude.{Err, List, None, Ok, Option, Result, Some, [], map, ℕ, ◌∷◌, ◌⊎◌, ◌≡◌}
 use Rattle.sim_clock.specs.declared.refusal.Refusal.{Refusal}
 use Rattle.sim_clock.specs.declared.refusal.Refusal.TheVariants as refusals
+use Rattle.sim_engine.specs.Engine.{Engine}
+use Rattle.sim_engine.specs.Laws.{Conditions}
 use Rattle.sim_workers.specs.Pieces.{Comes}
 use Rattle.sim_workers.specs.declared.piece.Came.{Came}
-use Rattle.sqs_model.specs.Site.{Site}
-
--- what may come of partitions, each of which is run to its bound
-abbrev pub AllCome : List ℕ → List (Result (List Site) Refusal) → List (Result Came Refusal) → Type 0
-AllCome [] [] [] = Unit {0}
-AllCome (b ∷ bounds) (p ∷ parts) (o ∷ outcomes) = Comes b p o × AllCome bounds parts outcomes
-AllCome _ _ _ = ⊥
 
 -- of two refusals want of memory, and else the first
 abbrev pub graver : Refusal → Refusal → Refusal
@@ -22,26 +17,35 @@ abbrev pub gravest_of : Option Refusal → Refusal → Refusal
 gravest_of None second = second
 gravest_of (Some first) second = graver first second
 
--- the refusal that some outcomes come to, after those before them
-abbrev pub gravest_from : Option Refusal → List (Result Came Refusal) → Option Refusal
-gravest_from before [] = before
-gravest_from before (Ok came ∷ rest) = gravest_from before rest
-gravest_from before (Err refusal ∷ rest) = gravest_from (Some (gravest_of before refusal)) rest
+module _ {C : Type 0} where
+  -- the refusal that some outcomes come to, after those before them
+  abbrev pub gravest_from : Option Refusal → List (Result C Refusal) → Option Refusal
+  gravest_from before [] = before
+  gravest_from before (Ok came ∷ rest) = gravest_from before rest
+  gravest_from before (Err refusal ∷ rest) = gravest_from (Some (gravest_of before refusal)) rest
 
--- the refusal that some outcomes come to: want of memory where one is, and else the first
-abbrev pub gravest : List (Result Came Refusal) → Option Refusal
-gravest outcomes = gravest_from None outcomes
+  -- the refusal that some outcomes come to: want of memory where one is, and else the first
+  abbrev pub gravest : List (Result C Refusal) → Option Refusal
+  gravest outcomes = gravest_from None outcomes
 
--- each of some partitions has come back, run to its bound
-abbrev pub HaveCome : List ℕ → List (Result (List Site) Refusal) → List Came → Type 0
-HaveCome bounds parts came = AllCome bounds parts (map (λ c. Ok c) came)
+module _ {Site Row Transfer : Type 0} (engine : Engine Site Row Transfer) (conditions : Conditions Site Transfer) where
+  -- what may come of partitions, each of which is run to its bound
+  abbrev pub AllCome : List ℕ
+      → List (Result (List Site) Refusal) → List (Result (Came Site Row Transfer) Refusal) → Type 0
+  AllCome [] [] [] = Unit {0}
+  AllCome (b ∷ bounds) (p ∷ parts) (o ∷ outcomes) = Comes engine conditions b p o × AllCome bounds parts outcomes
+  AllCome _ _ _ = ⊥
 
--- what the outcomes of a round come to, where one of its partitions is refused
-pub record IsRefused (bounds : List ℕ) (parts : List (Result (List Site) Refusal)) (refusal : Refusal) : Type 0 where
-  pub outcomes : List (Result Came Refusal)
-  pub come : AllCome bounds parts outcomes
-  pub graver : gravest outcomes ≡ Some refusal
+  -- each of some partitions has come back, run to its bound
+  abbrev pub HaveCome : List ℕ → List (Result (List Site) Refusal) → List (Came Site Row Transfer) → Type 0
+  HaveCome bounds parts came = AllCome bounds parts (map (λ c. Ok c) came)
 
--- why a round is refused: want of memory before it, or what its outcomes come to
-abbrev pub IsRefusedRound : List ℕ → List (Result (List Site) Refusal) → Refusal → Type 0
-IsRefusedRound bounds parts refusal = (refusal ≡ refusals.Memory) ⊎ IsRefused bounds parts refusal
+  -- what the outcomes of a round come to, where one of its partitions is refused
+  pub record IsRefused (bounds : List ℕ) (parts : List (Result (List Site) Refusal)) (refusal : Refusal) : Type 0 where
+    pub outcomes : List (Result (Came Site Row Transfer) Refusal)
+    pub come : AllCome bounds parts outcomes
+    pub graver : gravest outcomes ≡ Some refusal
+
+  -- why a round is refused: want of memory before it, or what its outcomes come to
+  abbrev pub IsRefusedRound : List ℕ → List (Result (List Site) Refusal) → Refusal → Type 0
+  IsRefusedRound bounds parts refusal = (refusal ≡ refusals.Memory) ⊎ IsRefused bounds parts refusal

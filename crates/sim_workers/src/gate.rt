@@ -1,5 +1,6 @@
 //! What carries out a piece.
 use crate::piece::{Done, Piece, Running};
+use sim_engine::Site;
 use sim_handoff::Work;
 use std::sync::Wait;
 
@@ -14,11 +15,15 @@ pub trait Gate<W: Work> {
 /// A gate that only runs the piece.
 pub struct Open;
 
-impl Gate<Running> for Open {
+impl<S: Site + Send> Gate<Running<S>> for Open
+where
+    S::Row: Send,
+    S::Transfer: Send,
+{
     ghost use Rattle.sim_workers.specs.Pieces.{Comes};
 
-    fn run<R: Wait>(&self, _rt: &R, _part: usize, piece: Piece) -> Done
-        ensures { Comes piece.bound piece.part result.outcome }
+    fn run<R: Wait>(&self, _rt: &R, _part: usize, piece: Piece<S>) -> Done<S>
+        ensures { Comes S.engine S.conditions piece.bound piece.part result.outcome }
     {
         piece.run()
     }

@@ -1,14 +1,21 @@
-//! Workers for a whole run: partitions run in rounds on several threads, and meet between the rounds.
+//! A run of a world on several threads, round by round: each partition runs to its bound, or to the
+//! moment at which the round is cut, on whatever thread takes it; where none may go on, all meet. The
+//! rows that nothing can come before any more go to a sink.
 #![tactic(auto)]
 
 mod gate;
+mod one_round;
+mod pace;
 mod piece;
+mod returning;
 mod rounds;
+mod run;
 mod scope;
 mod worker;
 
 pub use gate::{Gate, Open};
-pub use piece::{Came, Done, Piece, Running};
-pub use rounds::round;
+pub use one_round::round;
+pub use piece::{Came, Done, Packs, PartWork, Piece, Running};
+pub use run::run_workers;
 pub use scope::{join_all, start_all};
 pub use worker::collect_at;

@@ -1,35 +1,36 @@
 //! What is handed to a worker, and what comes back.
-ghost use Rattle.std.specs.Prelude.{◌≡◌, ◌≤◌, ◌+◌};
+ghost use Rattle.std.specs.Prelude.{◌≡◌, ◌≤◌, ◌+◌, ℕ};
+ghost use Rattle.sim_engine.specs.Limits.{most_count};
 ghost use Rattle.sim_workers.specs.Pieces.{Comes, row_count};
-ghost use Rattle.sqs_model.specs.Answers.{most_count};
 
 use sim_clock::Refusal;
+use sim_engine::{Effects, Site};
 use sim_handoff::Work;
-use sim_partition::{Partition, Ran};
-use std::marker::Model;
+use sim_partition::Partition;
+use std::marker::{Model, PhantomData};
 
 /// A partition, and the bound to which it is to run, in milliseconds.
 #[derive(Drop)]
-pub struct Piece {
-    part: Partition,
+pub struct Piece<S: Site> {
+    part: Partition<S>,
     bound: u64,
 }
 
-impl Model for Piece {
+impl<S: Site> Model for Piece<S> {
     ghost use Rattle.std.specs.Prelude.{◌≤◌, ◌+◌};
+    ghost use Rattle.sim_engine.specs.Limits.{most_count};
     ghost use Rattle.sim_workers.specs.Pieces.{Task};
-    ghost use Rattle.sqs_model.specs.Answers.{most_count};
 
-    ghost Value = { Task };
+    ghost Value = { Task S };
 
     ghost view = { λ p. record { part = p.part; bound = p.bound } };
 
     ghost invariant = { λ p. p.bound ≤ most_count + 1 };
 }
 
-impl Piece {
+impl<S: Site> Piece<S> {
     /// A partition with its bound.
-    pub fn new(part: Partition, bound: u64) -> Piece
+    pub fn new(part: Partition<S>, bound: u64) -> Piece<S>
         requires { bound ≤ most_count + 1 }
         ensures { result ≡ record { part = part; bound = bound } }
     {
@@ -37,13 +38,13 @@ impl Piece {
     }
 
     /// Runs the partition to its bound.
-    pub fn run(self) -> Done
-        ensures { Comes self.bound self.part result.outcome }
+    pub fn run(self) -> Done<S>
+        ensures { Comes S.engine S.conditions self.bound self.part result.outcome }
     {
         let Piece { mut part, bound } = self;
         match part.run_to(bound) {
-            Ok(ran) => Done {
-                outcome: Ok(Came { part, ran }),
+            Ok(made) => Done {
+                outcome: Ok(Came { part, made }),
             },
             Err(refusal) => Done {
                 outcome: Err(refusal),
@@ -54,38 +55,103 @@ impl Piece {
 
 /// A partition that ran, with what it did.
 #[derive(Drop)]
-pub struct Came {
-    pub part: Partition,
-    pub ran: Ran,
+pub struct Came<S: Site> {
+    pub part: Partition<S>,
+    pub made: Effects<S::Row, S::Transfer>,
 }
 
 /// What came of a piece: the partition with what it did, or the refusal that spent it.
 #[derive(Drop)]
-pub struct Done {
-    pub outcome: Result<Came, Refusal>,
+pub struct Done<S: Site> {
+    pub outcome: Result<Came<S>, Refusal>,
 }
 
-impl Done {
+impl<S: Site> Done<S> {
     /// How many rows were made; 0 for a refusal.
     pub fn rows(&self) -> u64
         ensures { result ≡ row_count self.now }
     {
         match &self.outcome {
-            Ok(came) => came.ran.rows.len() as u64,
+            Ok(came) => came.made.rows.len() as u64,
             Err(_) => 0,
         }
     }
 }
 
-/// The running of partitions, as a work that is handed over. It stands in types alone.
-pub struct Running;
+/// A work whose pieces are made of a part and a bound, and whose answers tell what came of it.
+pub trait Packs<P, O>: Work {
+    // The part of a piece, and its bound.
+    ghost packed: { Self.Piece → P × ℕ };
 
-impl Work for Running {
+    // What an answer tells.
+    ghost told: { Self.Done → O };
+
+    /// Makes a piece of a part and its bound.
+    fn pack(part: P, bound: u64) -> Self::Piece
+        requires { bound ≤ most_count + 1 }
+        ensures { packed result ≡ (part, bound) };
+
+    /// What an answer tells.
+    fn unpack(done: Self::Done) -> O
+        ensures { result ≡ told done };
+}
+
+/// A work of running partitions, each to its bound.
+pub trait PartWork<S: Site>: Packs<Partition<S>, Result<Came<S>, Refusal>> {
+    // A right answer tells what may come of the partition.
+    ghost comes: { (piece : Self.Piece) (done : Self.Done) → Self.does piece done → Comes S.engine S.conditions (Self.packed piece).1 (Self.packed piece).0 (Self.told done) };
+}
+
+/// The running of partitions, as a work that is handed over. It stands in types alone.
+pub struct Running<S> {
+    of: PhantomData<S>,
+}
+
+impl<S: Site + Send> Work for Running<S>
+where
+    S::Row: Send,
+    S::Transfer: Send,
+{
     ghost use Rattle.sim_workers.specs.Pieces.{Comes};
 
-    type Piece = Piece;
+    type Piece = Piece<S>;
 
-    type Done = Done;
+    type Done = Done<S>;
 
-    ghost does = { λ piece done. Comes piece.bound piece.part done.outcome };
+    ghost does = { λ piece done. Comes S.engine S.conditions piece.bound piece.part done.outcome };
+}
+
+impl<S: Site + Send> Packs<Partition<S>, Result<Came<S>, Refusal>> for Running<S>
+where
+    S::Row: Send,
+    S::Transfer: Send,
+{
+    ghost use Rattle.std.specs.Prelude.{◌≡◌, ◌≤◌, ◌+◌};
+    ghost use Rattle.sim_engine.specs.Limits.{most_count};
+
+    ghost packed = { λ piece. (piece.part, piece.bound) };
+
+    ghost told = { λ done. done.outcome };
+
+    fn pack(part: Partition<S>, bound: u64) -> Piece<S>
+        requires { bound ≤ most_count + 1 }
+        ensures { result ≡ record { part = part; bound = bound } }
+    {
+        Piece::new(part, bound)
+    }
+
+    fn unpack(done: Done<S>) -> Result<Came<S>, Refusal>
+        ensures { result ≡ done.outcome }
+    {
+        let Done { outcome } = done;
+        outcome
+    }
+}
+
+impl<S: Site + Send> PartWork<S> for Running<S>
+where
+    S::Row: Send,
+    S::Transfer: Send,
+{
+    ghost comes = { λ piece done right. right };
 }

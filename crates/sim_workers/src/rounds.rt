@@ -1,222 +1,192 @@
-//! One round: each partition that has something due before its bound runs to it.
-ghost use Rattle.std.specs.Prelude.{◌≡◌, ◌≢◌, ◌<◌, ◌≤◌, ◌+◌, ℕ, All, [], None, Ok, Some, length, map, vec_capacity, IfOk, IfErr};
-ghost use Rattle.sim_clock.specs.Order.{due_before};
-ghost use Rattle.sim_handoff.specs.Place.{place_record, IsFree};
-ghost use Rattle.sim_handoff.specs.Seats.{table_of, places_of, owner_table, owner_record, IsIdleHand};
-ghost use Rattle.sim_partition.specs.Sites.{AreOfPast, due_in};
-ghost use Rattle.sim_workers.specs.Owners.{IsAllFree, IsResting, AreResting, IsSentOut, AreSentOut, IsCollected, AreCollected};
-ghost use Rattle.sim_workers.specs.Pieces.{Comes};
-ghost use Rattle.sim_workers.specs.Rounds.{HaveCome, IsRefusedRound, gravest, gravest_of};
-ghost use Rattle.sqs_model.specs.Answers.{most_count};
-ghost use Rattle.sqs_model.specs.World.{world_due};
-ghost use Rattle.sqs_model.specs.Progress.{IsSound};
+//! Rounds one after another, until nothing is left.
+ghost use Rattle.std.specs.Prelude.{◌≡◌, IfErr, IfOk, OnOk, length};
+ghost use Rattle.sim_handoff.specs.Seats.{IsIdleHand, owner_record, owner_table, places_of, table_of};
+ghost use Rattle.sim_workers.specs.Runs.{HasAdvanced, HasTold, IsAtEnd, rows_made};
+ghost use Rattle.sim_engine.specs.Limits.{IsOver, StopsWhere};
+ghost use Rattle.sim_engine.specs.Setting.{Setting};
+ghost use Rattle.sim_windows.specs.Stages.{IsSame, IsStanding, StandsOn, standing_of};
+ghost use Rattle.sim_windows.specs.Sinks.{HasStopped, HasTaken};
+ghost use Rattle.sim_workers.specs.Owners.{IsAllFree};
 
 use crate::gate::Gate;
-use crate::piece::{Came, Done, Piece, Running};
-use crate::worker::collect_at;
+use crate::one_round::round;
+use crate::pace::Pace;
+use crate::piece::{Came, PartWork};
+use crate::returning::come_back;
 use sim_clock::Refusal;
+use sim_engine::Site;
 use sim_handoff::{Hand, Handoff, Owner};
-use sim_partition::{Partition, Ran};
-use std::alloc::Global;
+use sim_windows::{RowSink, Stage};
+use std::mem;
 use std::sync::Wait;
 
-// What comes of a partition that is run to its bound.
-type Outcome = Result<Came, Refusal>;
-
-// What comes of a partition that has nothing due before its bound: itself, with nothing done, or
-// the refusal that spent it before.
-fn at_rest(alloc: Global, part: Partition, bound: u64) -> Outcome
-    requires done { due_before bound (due_in part) ≡ None }
-    requires moves_on { IfOk part (All (λ s. IsSound s.core)) }
-    requires past { IfOk part (λ w. AreOfPast w (world_due w)) }
-    ensures { Comes bound part result }
+// How many rows some partitions made.
+fn rows_made<S: Site>(came: &[Came<S>]) -> u64
+    ensures { result ≡ rows_made came.now }
 {
-    if let Some(refusal) = part.spent() {
-        return Err(refusal);
+    let mut rows: u64 = 0;
+    for one in came {
+        rows = rows.saturating_add(one.made.rows.len() as u64);
     }
-    let ran = Ran {
-        rows: Vec::new(alloc),
-        outbound: Vec::new(alloc),
-    };
-    Ok(Came { part, ran })
+    rows
 }
 
-// Offers a partition where something is due before its bound, and else tells what comes of it.
-fn offer_one(
-    alloc: Global,
-    handoff: &Handoff<Running>,
-    owner: &mut Owner<Running>,
-    place: usize,
-    bound: u64,
-    part: Partition,
-) -> Option<Outcome>
-    requires here { owner_table owner.old ≡ table_of handoff.now }
-    requires place { place < places_of handoff.now }
-    requires range { bound ≤ most_count + 1 }
-    requires free { IsFree (owner_record owner.old) place }
-    ensures here { owner_table owner.new ≡ table_of handoff.now }
-    ensures sent { IsSentOut (owner_record owner.new) place bound part result }
-    ensures others { (other : ℕ) → other ≢ place
-        → place_record (owner_record owner.new) other ≡ place_record (owner_record owner.old) other }
-{
-    match part.least_due() {
-        Some(key) if key.at < bound => {
-            owner.offer(handoff, place, Piece::new(part, bound));
-            None
-        }
-        _ => Some(at_rest(alloc, part, bound)),
-    }
-}
-
-// Offers each partition that has something due before its bound, and tells what comes of the
-// others.
-fn offer_due(
-    alloc: Global,
-    handoff: &Handoff<Running>,
-    owner: &mut Owner<Running>,
-    bounds: &[u64],
-    parts: Vec<Partition>,
-    mut homes: Vec<Option<Outcome>>,
-) -> Vec<Option<Outcome>>
-    requires here { owner_table owner.old ≡ table_of handoff.now }
-    requires places { length parts.items ≡ places_of handoff.now }
-    requires bounds { length bounds.now ≡ length parts.items }
-    requires range { All (λ b. b ≤ most_count + 1) bounds.now }
-    requires free { IsAllFree (owner_record owner.old) }
-    requires room { (homes.items ≡ []) × (length parts.items ≤ vec_capacity homes) }
-    ensures here { owner_table owner.new ≡ table_of handoff.now }
-    ensures sent { AreSentOut (owner_record owner.new) 0 bounds.now parts.items result.items }
-    ensures after { (place : ℕ) → length parts.items ≤ place → IsFree (owner_record owner.new) place }
-{
-    for part in parts {
-        let place = homes.len();
-        let home = offer_one(alloc, handoff, owner, place, bounds[place], part);
-        homes.push_reserved(home);
-    }
-    homes
-}
-
-// What comes of the partition at a place: the answer that is collected there, or what is at home.
-fn come<G: Gate<Running>, R: Wait>(
+// Runs each partition to its bound, or to a cut if that is sooner, and takes all of them back. Answers
+// how many rows they made.
+fn run_round<S: Site, W: PartWork<S>, G: Gate<W>, R: Wait>(
     rt: &R,
-    handoff: &Handoff<Running>,
-    owner: &mut Owner<Running>,
-    hand: &mut Hand<Running>,
+    handoff: &Handoff<W>,
+    owner: &mut Owner<W>,
+    hand: &mut Hand<W>,
     gate: &G,
-    place: usize,
-    home: Option<Outcome>,
-) -> Outcome
+    stage: &mut Stage<S>,
+    cut: u64,
+) -> Result<u64, Refusal>
     requires here { owner_table owner.old ≡ table_of handoff.now }
     requires idle { IsIdleHand (table_of handoff.now) hand.old }
-    requires place { place < places_of handoff.now }
-    requires resting { IsResting (owner_record owner.old) place home }
+    requires free { IsAllFree (owner_record owner.old) }
+    requires places { length stage.old.parts.items ≡ places_of handoff.now }
+    requires stands { IsStanding S.engine S.conditions (standing_of stage.old) }
     ensures here { owner_table owner.new ≡ table_of handoff.now }
     ensures idle { IsIdleHand (table_of handoff.now) hand.new }
-    ensures free { IsFree (owner_record owner.new) place }
-    ensures others { (other : ℕ) → other ≢ place
-        → place_record (owner_record owner.new) other ≡ place_record (owner_record owner.old) other }
-    ensures collected { IsCollected (owner_record owner.old) place home result }
+    ensures free { IsAllFree (owner_record owner.new) }
+    ensures on { (s : Setting S) → StandsOn S.engine S.conditions s (standing_of stage.old) → OnOk result (StandsOn S.engine S.conditions s (standing_of stage.new)) }
+    ensures same { OnOk result (IsSame (standing_of stage.old) (standing_of stage.new)) }
+    ensures settled { OnOk result (stage.new.settled ≡ stage.old.settled) }
+    ensures stops { (s : Setting S) → StandsOn S.engine S.conditions s (standing_of stage.old) → IfErr result (StopsWhere (IsOver S.engine s)) }
 {
-    match home {
+    let ends = stage.ends(cut)?;
+    let parts = mem::replace(&mut stage.parts, Vec::new(stage.alloc));
+    let came = round(rt, stage.alloc, handoff, owner, hand, gate, &ends, parts)?;
+    let rows = rows_made(&came);
+    come_back(stage, came)?;
+    Ok(rows)
+}
+
+// Goes on by a round where a partition may go on, and else by a barrier. Answers whether nothing was
+// left.
+fn advance<S: Site, W: PartWork<S>, G: Gate<W>, R: Wait>(
+    rt: &R,
+    handoff: &Handoff<W>,
+    owner: &mut Owner<W>,
+    hand: &mut Hand<W>,
+    gate: &G,
+    stage: &mut Stage<S>,
+    pace: &mut Pace,
+) -> Result<bool, Refusal>
+    requires here { owner_table owner.old ≡ table_of handoff.now }
+    requires idle { IsIdleHand (table_of handoff.now) hand.old }
+    requires free { IsAllFree (owner_record owner.old) }
+    requires places { length stage.old.parts.items ≡ places_of handoff.now }
+    requires stands { IsStanding S.engine S.conditions (standing_of stage.old) }
+    ensures here { owner_table owner.new ≡ table_of handoff.now }
+    ensures idle { IsIdleHand (table_of handoff.now) hand.new }
+    ensures free { IsAllFree (owner_record owner.new) }
+    ensures on { (s : Setting S) → StandsOn S.engine S.conditions s (standing_of stage.old) → IfOk result (λ ended. HasAdvanced S.engine S.conditions s ended (standing_of stage.new)) }
+    ensures same { OnOk result (IsSame (standing_of stage.old) (standing_of stage.new)) }
+    ensures settled { OnOk result (stage.new.settled ≡ stage.old.settled) }
+    ensures stops { (s : Setting S) → StandsOn S.engine S.conditions s (standing_of stage.old) → IfErr result (StopsWhere (IsOver S.engine s)) }
+{
+    match stage.next_ready() {
+        Some(next) => {
+            let cut = pace.cut_at(next.at);
+            let rows = run_round(rt, handoff, owner, hand, gate, stage, cut)?;
+            pace.count(rows);
+            Ok(false)
+        }
         None => {
-            let Done { outcome } = collect_at(rt, handoff, owner, hand, gate, place);
-            outcome
-        }
-        Some(outcome) => outcome,
-    }
-}
-
-// Collects what was offered, and puts it with what is at home.
-fn collect_all<G: Gate<Running>, R: Wait>(
-    rt: &R,
-    handoff: &Handoff<Running>,
-    owner: &mut Owner<Running>,
-    hand: &mut Hand<Running>,
-    gate: &G,
-    homes: Vec<Option<Outcome>>,
-    mut came: Vec<Outcome>,
-) -> Vec<Outcome>
-    requires here { owner_table owner.old ≡ table_of handoff.now }
-    requires idle { IsIdleHand (table_of handoff.now) hand.old }
-    requires places { length homes.items ≡ places_of handoff.now }
-    requires resting { AreResting (owner_record owner.old) 0 homes.items }
-    requires after { (place : ℕ) → length homes.items ≤ place → IsFree (owner_record owner.old) place }
-    requires room { (came.items ≡ []) × (length homes.items ≤ vec_capacity came) }
-    ensures here { owner_table owner.new ≡ table_of handoff.now }
-    ensures idle { IsIdleHand (table_of handoff.now) hand.new }
-    ensures free { IsAllFree (owner_record owner.new) }
-    ensures collected { AreCollected (owner_record owner.old) 0 homes.items result.items }
-{
-    for home in homes {
-        let place = came.len();
-        let outcome = come(rt, handoff, owner, hand, gate, place, home);
-        came.push_reserved(outcome);
-    }
-    came
-}
-
-// Of two refusals want of memory, and else the first.
-fn graver(before: Option<Refusal>, refusal: Refusal) -> Refusal
-    ensures { result ≡ gravest_of before refusal }
-{
-    match (before, refusal) {
-        (None, _) | (_, Refusal::Memory) => refusal,
-        (Some(first), _) => first,
-    }
-}
-
-// What came, where no outcome is a refusal; else the gravest of them.
-fn all_came(outcomes: Vec<Outcome>, mut all: Vec<Came>) -> Result<Vec<Came>, Refusal>
-    requires room { (all.items ≡ []) × (length outcomes.items ≤ vec_capacity all) }
-    ensures came { IfOk result (λ all. outcomes.items ≡ map (λ c. Ok c) all.items) }
-    ensures refused { IfErr result (λ refusal. gravest outcomes.items ≡ Some refusal) }
-{
-    let mut refused = None;
-    for outcome in outcomes {
-        match outcome {
-            Ok(came) => all.push_reserved(came),
-            Err(refusal) => refused = Some(graver(refused, refusal)),
+            if stage.is_finished() {
+                return Ok(true);
+            }
+            stage.meet()?;
+            Ok(false)
         }
     }
-    match refused {
-        None => Ok(all),
-        Some(refusal) => Err(refusal),
-    }
 }
 
-/// Runs every partition that has something due before its bound to that bound, on whatever threads
-/// have hands. All that was offered is collected, also where one is refused.
-///
-/// # Errors
-///
-/// `Memory` where a growth is refused here, before anything is offered. Else, where partitions are
-/// spent by refusals, `Memory` where one of these is, and else that of the first.
-pub fn round<G: Gate<Running>, R: Wait>(
+// Hands the rows that nothing can come before any more to the sink, where enough wait.
+fn hand_on<S: Site, K: RowSink<S::Row>>(
+    stage: &mut Stage<S>,
+    pace: &mut Pace,
+    sink: &mut K,
+) -> Result<(), Refusal>
+    requires stands { IsStanding S.engine S.conditions (standing_of stage.old) }
+    requires ready { K.ready sink.old }
+    ensures ready { OnOk result (K.ready sink.new) }
+    ensures on { (s : Setting S) → StandsOn S.engine S.conditions s (standing_of stage.old) → OnOk result (StandsOn S.engine S.conditions s (standing_of stage.new)) }
+    ensures same { OnOk result (IsSame (standing_of stage.old) (standing_of stage.new)) }
+    ensures told { (s : Setting S) (first : K) → StandsOn S.engine S.conditions s (standing_of stage.old) → HasTold S.engine K.took s stage.old.settled first sink.old → OnOk result (HasTold S.engine K.took s stage.new.settled first sink.new) }
+    ensures stops { (s : Setting S) (first : K) → StandsOn S.engine S.conditions s (standing_of stage.old) → HasTold S.engine K.took s stage.old.settled first sink.old → IfErr result (λ refusal. HasStopped S.engine K.took K.broke s first refusal sink.new) }
+{
+    if !pace.is_full() {
+        return Ok(());
+    }
+    let rows = stage.settle()?;
+    pace.settle(rows.len() as u64);
+    sink.take(rows.as_slice())
+}
+
+// Goes on until nothing is left by the horizon. Rows go to the sink as they are settled.
+fn run_rounds<S: Site, W: PartWork<S>, G: Gate<W>, K: RowSink<S::Row>, R: Wait>(
     rt: &R,
-    alloc: Global,
-    handoff: &Handoff<Running>,
-    owner: &mut Owner<Running>,
-    hand: &mut Hand<Running>,
+    handoff: &Handoff<W>,
+    owner: &mut Owner<W>,
+    hand: &mut Hand<W>,
     gate: &G,
-    bounds: &[u64],
-    parts: Vec<Partition>,
-) -> Result<Vec<Came>, Refusal>
+    stage: &mut Stage<S>,
+    sink: &mut K,
+) -> Result<(), Refusal>
     requires here { owner_table owner.old ≡ table_of handoff.now }
     requires idle { IsIdleHand (table_of handoff.now) hand.old }
-    requires places { length parts.items ≡ places_of handoff.now }
-    requires bounds { length bounds.now ≡ length parts.items }
-    requires range { All (λ b. b ≤ most_count + 1) bounds.now }
     requires free { IsAllFree (owner_record owner.old) }
+    requires places { length stage.old.parts.items ≡ places_of handoff.now }
+    requires stands { IsStanding S.engine S.conditions (standing_of stage.old) }
+    requires fresh { stage.old.settled ≡ 0 }
+    requires ready { K.ready sink.old }
     ensures here { owner_table owner.new ≡ table_of handoff.now }
     ensures idle { IsIdleHand (table_of handoff.now) hand.new }
     ensures free { IsAllFree (owner_record owner.new) }
-    ensures came { IfOk result (λ came. HaveCome bounds.now parts.items came.items) }
-    ensures refused { IfErr result (IsRefusedRound bounds.now parts.items) }
+    ensures ready { OnOk result (K.ready sink.new) }
+    ensures ended { (s : Setting S) → StandsOn S.engine S.conditions s (standing_of stage.old) → OnOk result (IsAtEnd S.engine S.conditions s (standing_of stage.new)) }
+    ensures told { (s : Setting S) → StandsOn S.engine S.conditions s (standing_of stage.old) → OnOk result (HasTold S.engine K.took s stage.new.settled sink.old sink.new) }
+    ensures stops { (s : Setting S) → StandsOn S.engine S.conditions s (standing_of stage.old) → IfErr result (λ refusal. HasStopped S.engine K.took K.broke s sink.old refusal sink.new) }
 {
-    let homes = Vec::with_capacity(alloc, parts.len())?;
-    let came = Vec::with_capacity(alloc, parts.len())?;
-    let all = Vec::with_capacity(alloc, parts.len())?;
-    let homes = offer_due(alloc, handoff, owner, bounds, parts, homes);
-    let outcomes = collect_all(rt, handoff, owner, hand, gate, homes, came);
-    all_came(outcomes, all)
+    let mut pace = Pace::new();
+    for _ in rt.forever() {
+        if advance(rt, handoff, owner, hand, gate, stage, &mut pace)? {
+            return Ok(());
+        }
+        hand_on(stage, &mut pace, sink)?;
+    }
+    unreachable!()
+}
+
+/// Runs a stage to its end, and hands all rows to the sink as it comes to them. Answers the sites of the
+/// last world, by number.
+pub fn run_stage<S: Site, W: PartWork<S>, G: Gate<W>, K: RowSink<S::Row>, R: Wait>(
+    rt: &R,
+    handoff: &Handoff<W>,
+    owner: &mut Owner<W>,
+    hand: &mut Hand<W>,
+    gate: &G,
+    mut stage: Stage<S>,
+    sink: &mut K,
+) -> Result<Vec<S>, Refusal>
+    requires here { owner_table owner.old ≡ table_of handoff.now }
+    requires idle { IsIdleHand (table_of handoff.now) hand.old }
+    requires free { IsAllFree (owner_record owner.old) }
+    requires places { length stage.parts.items ≡ places_of handoff.now }
+    requires stands { IsStanding S.engine S.conditions (standing_of stage) }
+    requires fresh { stage.settled ≡ 0 }
+    requires ready { K.ready sink.old }
+    ensures here { owner_table owner.new ≡ table_of handoff.now }
+    ensures free { IsAllFree (owner_record owner.new) }
+    ensures ready { OnOk result (K.ready sink.new) }
+    ensures whole { (s : Setting S) → StandsOn S.engine S.conditions s (standing_of stage) → IfOk result (λ sites. HasTaken S.engine K.took s sink.old sink.new sites.items) }
+    ensures stops { (s : Setting S) → StandsOn S.engine S.conditions s (standing_of stage) → IfErr result (λ refusal. HasStopped S.engine K.took K.broke s sink.old refusal sink.new) }
+{
+    run_rounds(rt, handoff, owner, hand, gate, &mut stage, sink)?;
+    let ended = stage.into_run()?;
+    sink.take(ended.rows.as_slice())?;
+    Ok(ended.sites)
 }

@@ -32,9 +32,11 @@ struct Late;
 
 impl Gate<Running> for Late {
     ghost use Rattle.sim_workers.specs.Pieces.{Comes};
+    ghost use Rattle.sqs_model.specs.Conditions.{sqs_conditions};
+    ghost use Rattle.sqs_model.specs.Sqs.{sqs};
 
     fn run<R: Wait>(&self, _rt: &R, _part: usize, piece: Piece) -> Done
-        ensures { Comes piece.bound piece.part result.outcome }
+        ensures { Comes sqs sqs_conditions piece.bound piece.part result.outcome }
     {
         let done = piece.run();
         for _ in 0..TURNS {

@@ -2,19 +2,24 @@
 use Rattle.std.specs.Ordering.{is_lt}
 use Rattle.std.specs.List.{enumerate_from}
 use Rattle.std.specs.Prelude.{All, List, [], false, map, ℕ, ◌+◌, ◌∷◌, ◌≡◌, ◌≤◌}
-use Rattle.std.proofs.Common.{arith}
-use Rattle.std.proofs.lemmas.List.Elements.{All-head, All-tail}
+use Rattle.std.proofs.Common.{arith, refl}
+use Rattle.std.proofs.lemmas.List.Elements.{All-cons, All-head, All-nil, All-tail}
 use Rattle.sim_clock.specs.declared.key.Key.{Key}
 use Rattle.sim_clock.specs.Order.{key_cmp}
 use Rattle.sim_engine.proofs.Simulated.{simulated}
 use Rattle.sim_engine.specs.Laws.{IsSoundSetting, RunLaws}
-use Rattle.sim_engine.specs.Members.{Ascends, Each, In}
+use Rattle.sim_engine.specs.Members.{Each, In}
+use Rattle.sim_engine.specs.Setting.{IsNumbered}
 use Rattle.sim_engine.specs.declared.edge.Edge.{Edge}
 use Rattle.sqs_redrive.specs.declared.settings.QueueSettings.{QueueSettings}
 use Rattle.sqs_model.specs.Delivery.{IsSorted}
 use Rattle.sqs_model.specs.Dues.{dues}
 use Rattle.sqs_model.specs.NoneBefore.{HasNoneBefore}
-use Rattle.sqs_model.specs.Progress.{IsSound, IsSoundScenario}
+use Rattle.sqs_model.specs.Progress.{IsSound, IsSoundScenario, WasEnqueuedBy}
+use Rattle.sqs_model.specs.Longest.{deduplication_interval}
+use Rattle.sqs_model.specs.Queue.{Entry}
+use Rattle.sqs_message.specs.declared.message.Message.{Message}
+use Rattle.sqs_redrive.specs.declared.transfers.Outbound.{Outbound}
 use Rattle.sqs_model.specs.Scenario.{Scenario, edges, opening_site, sources}
 use Rattle.sqs_model.specs.Site.{Site, number_of}
 use Rattle.sqs_model.specs.Step.{handled}
@@ -28,7 +33,7 @@ use Rattle.sqs_model.proofs.WayOpening.{opens_with_ways}
 use Rattle.sqs_model.proofs.Ways.{goes_along, ways_accepted}
 use Rattle.sqs_model.proofs.Instance.{sqs_laws}
 use Rattle.sqs_model.specs.Run.{setting_of}
-use Rattle.sqs_model.specs.Conditions.{sqs_conditions}
+use Rattle.sqs_model.specs.Conditions.{IsOfPast, sqs_conditions}
 use Rattle.sqs_model.specs.Sqs.{sqs}
 use Rattle.sim_engine.specs.Simulated.{IsSimulated}
 
@@ -77,10 +82,22 @@ opens_each s (x ∷ xs) a b =
       opens_each s xs (All-tail (λ (y : Site). IsSound y.core) one rest a) (All-tail (HasWays (edges s) (home_of s) (Leads s)) one rest b),
     )
 
--- the sites of a scenario stand in the order of their numbers
-numbered_from : (s : Scenario) (n : ℕ) (xs : List QueueSettings) → Ascends sqs.number n (map (opening_site s) (enumerate_from n xs))
+-- the sites of a scenario have the numbers of its queues
+numbered_from : (s : Scenario) (n : ℕ) (xs : List QueueSettings) → IsNumbered sqs n (map (opening_site s) (enumerate_from n xs))
 numbered_from s n [] = tt
-numbered_from s n (x ∷ xs) = (omega arith, numbered_from s (n + 1) xs)
+numbered_from s n (x ∷ xs) = (refl, numbered_from s (n + 1) xs)
+
+-- nothing there is from after the beginning
+past_from : (s : Scenario) (xs : List (ℕ × QueueSettings)) → All (IsOfPast 0) (map (opening_site s) xs)
+past_from s [] = All-nil (IsOfPast 0)
+past_from s (x ∷ xs) =
+    All-cons (IsOfPast 0) (opening_site s x) (map (opening_site s) xs)
+    (record {
+      recent = All-nil (λ (e : Entry). e.end ≤ 0 + deduplication_interval);
+      filled = All-nil (λ (m : Message). m.enqueued ≤ 0);
+      arriving = All-nil (λ (o : Outbound). WasEnqueuedBy o.at o.load);
+    })
+    (past_from s xs)
 
 -- a sound scenario is a sound setting
 pub sound_setting : (s : Scenario) → IsSoundScenario s → IsSoundSetting sqs sqs_conditions (home_of s) (IsFine (edges s) (home_of s) (sources s)) (FitsWays (Leads s)) (setting_of s)
@@ -89,8 +106,9 @@ sound_setting s h =
       laws = run_laws (edges s) (home_of s) (sources s) (λ e i. of_all (λ (x : Edge). 1 ≤ x.least) (edges s) e (opens_with_ways s h).take_time i);
       opens = opens_each s (enumerate_from 0 s.queues) (opens_sound s h) (opens_with_ways s h).sites;
       numbered = numbered_from s 0 s.queues;
+      past = past_from s (enumerate_from 0 s.queues);
     }
 
 -- so a run of it in partitions comes to its one-list run
-pub sound_simulated : (s : Scenario) → IsSoundScenario s → IsSimulated sqs (setting_of s)
+pub sound_simulated : (s : Scenario) → IsSoundScenario s → IsSimulated sqs sqs_conditions (setting_of s)
 sound_simulated s h = simulated sqs_laws (setting_of s) (home_of s) (IsFine (edges s) (home_of s) (sources s)) (FitsWays (Leads s)) (sound_setting s h)

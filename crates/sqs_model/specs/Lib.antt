@@ -1,4 +1,3 @@
-pub mod Places
 pub mod Draw
 pub mod Queue
 pub mod Texts

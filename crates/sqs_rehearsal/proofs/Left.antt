@@ -1,10 +1,10 @@
 -- What sites leave, one site after another.
-use Rattle.std.proofs.Common.{◌≡◌, ℕ, zero, suc, ◌+◌, ◌<◌, List, Err, Ok, Result, false, true, [], ◌∷◌, ◌++◌, append_assoc, append-nil, arith, flat_map, get_or, length, map, refl, subst, sym, ap, take, ◌∙◌}
+use Rattle.std.proofs.Common.{◌≡◌, ℕ, zero, suc, ◌+◌, ◌<◌, List, false, true, [], ◌∷◌, ◌++◌, append_assoc, append-nil, arith, flat_map, get_or, length, map, refl, sym, ap, take, ◌∙◌}
 use Rattle.std.proofs.lemmas.Cmp.{nat_cmp_total, on_total}
 use Rattle.std.proofs.lemmas.List.{map-append, take_more}
 use Rattle.std.specs.Cmp.{IsTotalOrder}
 use Rattle.std.specs.Ordering.{is_lt, nat_cmp, on}
-use Rattle.std.specs.Prelude.{IfOk, if◌then◌else◌}
+use Rattle.std.specs.Prelude.{if◌then◌else◌}
 use Rattle.std.specs.declared.cmp.Ordering.{Ordering}
 use Rattle.sim_clock.specs.Order.{inserted_by, key_cmp, key_cmp_total}
 use Rattle.sim_clock.specs.declared.key.Key.{Key}
@@ -15,45 +15,20 @@ use Rattle.sqs_model.specs.declared.finals.FinalTransfer.{FinalTransfer}
 use Rattle.sqs_redrive.specs.declared.transfers.Outbound.{Outbound}
 use Rattle.sqs_rehearsal.proofs.Sorting.{in_order}
 use Rattle.sqs_rehearsal.specs.Left.{keyed}
-use Rattle.sim_clock.specs.declared.refusal.Refusal.{Refusal}
-use Rattle.sim_windows.specs.Worlds.{alive}
 use Rattle.sqs_model.specs.Site.{Site}
 
--- one more site that lives
-pub record More {X : Type 0} (f : Site → List X) (w : List Site) (i : ℕ) (x : Result Site Refusal) : Type 0 where
-  pub site : Site
-  pub lives : x ≡ Ok site
-  pub more : flat_map f (take (i + 1) w) ≡ flat_map f (take i w) ++ f site
-
-pub one_more : {X : Type 0} (f : Site → List X) (w : List Site) (i : ℕ) (d x : Result Site Refusal) → i < length (map alive w) → x ≡ get_or (map alive w) i d → More f w i x
-one_more f [] i d x h e = absurd (omega (arith, h))
-one_more f (s ∷ w) zero d x h e = record { site = s; lives = e; more = append-nil (f s) }
-one_more f (s ∷ w) (suc i) d x h e =
-    let m = one_more f w i d x (omega (arith, h)) e in
+-- what one more of a list leaves, behind what those before it leave
+one_more : {X : Type 0} (f : Site → List X) (w : List Site) (i : ℕ) (d : Site) → i < length w → flat_map f (take (i + 1) w) ≡ flat_map f (take i w) ++ f (get_or w i d)
+one_more f [] i d h = absurd (omega (arith, h))
+one_more f (s ∷ w) zero d h = append-nil (f s)
+one_more f (s ∷ w) (suc i) d h =
     let n : suc i + 1 ≡ suc (i + 1) = omega arith in
-    record {
-      site = m.site;
-      lives = m.lives;
-      more = ap (λ k. flat_map f (take k (s ∷ w))) n ∙ ap (λ t. f s ++ t) m.more ∙ sym (append_assoc (f s) (flat_map f (take i w)) (f m.site));
-    }
+    ap (λ k. flat_map f (take k (s ∷ w))) n ∙ ap (λ t. f s ++ t) (one_more f w i d (omega (arith, h))) ∙ sym (append_assoc (f s) (flat_map f (take i w)) (f (get_or w i d)))
 
--- what holds of a site that lives
-pub of_living : (P : Site → Type 0) (s : Site) (x : Result Site Refusal) → x ≡ Ok s → IfOk x P → P s
-of_living P s x e p = subst (λ (y : Result Site Refusal). IfOk y P) e p
-
--- the same, of one thing that follows from another
-pub if_ok : (P Q : Site → Type 0) (x : Result Site Refusal) → ((s : Site) → P s → Q s) → IfOk x P → IfOk x Q
-if_ok P Q (Ok s) f p = f s p
-if_ok P Q (Err e) f p = tt
-
--- what one more site leaves, behind what those before it leave
-pub site_added : {X : Type 0} (f : Site → List X) (w : List Site) (i : ℕ) (d x : Result Site Refusal) (sites : List (Result Site Refusal)) (old new part : List X)
-    → sites ≡ map alive w → i < length sites → x ≡ get_or sites i d → IfOk x (λ s. part ≡ f s)
-    → old ≡ flat_map f (take i w) → new ≡ old ++ part → new ≡ flat_map f (take (i + 1) w)
-site_added f w i d x sites old new part e h is p o n =
-    let m = one_more f w i d x (subst (λ t. i < length t) e h) (subst (λ t. x ≡ get_or t i d) e is) in
-    let here : part ≡ f m.site = of_living (λ s. part ≡ f s) m.site x m.lives p in
-    n ∙ ap (λ t. t ++ part) o ∙ ap (λ t. flat_map f (take i w) ++ t) here ∙ sym m.more
+pub site_added : {X : Type 0} (f : Site → List X) (w : List Site) (i : ℕ) (d x : Site) (old new part : List X)
+    → i < length w → x ≡ get_or w i d → part ≡ f x → old ≡ flat_map f (take i w) → new ≡ old ++ part → new ≡ flat_map f (take (i + 1) w)
+site_added f w i d x old new part h is p o n =
+    n ∙ ap (λ t. t ++ part) o ∙ ap (λ t. flat_map f (take i w) ++ t) (p ∙ ap f is) ∙ sym (one_more f w i d h)
 
 -- the order by a part of each
 pub by_key : IsTotalOrder (on (λ (p : Key × FinalTransfer). p.0) key_cmp)

@@ -5,7 +5,7 @@ use Rattle.std.proofs.lemmas.List.{map-append}
 use Rattle.std.specs.Io.KnownBytes.{Appends}
 use Rattle.csv.proofs.WriteFacts.{appends-more}
 use Rattle.sim_clock.specs.declared.refusal.Refusal.{Refusal}
-use Rattle.sim_parallel.specs.Runs.{StopsAnyhow}
+use Rattle.sim_workers.specs.Runs.{StopsAnyhow}
 use Rattle.sim_recorder.proofs.Fronts.{all_are_front}
 use Rattle.sim_recorder.specs.Sinks.{IsSame, Recorded, StoppedAt}
 use Rattle.sim_recorder.specs.declared.recorder.Recorder.{Recorder}
@@ -13,13 +13,14 @@ use Rattle.sim_records.proofs.Writes.{front_of_first, front_of_second, several-o
 use Rattle.sim_records.specs.Writes.{AppendsFront, Wrote, WroteSeveral}
 use Rattle.sim_report.specs.Running.{running}
 use Rattle.sim_report.specs.declared.queue.QueueCounts.{QueueCounts}
-use Rattle.sim_site.specs.Effects.{StopsWhere}
+use Rattle.sim_engine.specs.Limits.{StopsWhere}
 use Rattle.sim_windows.specs.Sinks.{HasTaken}
 use Rattle.sqs_formats.specs.Output.{log_of, queue_names}
 use Rattle.sqs_formats.specs.Rows.{line, lines, log_header, row_fields}
 use Rattle.sqs_message.specs.declared.row.Row.{Row}
 use Rattle.sqs_model.specs.Limits.{IsOver}
-use Rattle.sqs_model.specs.Run.{IsRunOf, Run}
+use Rattle.sqs_model.specs.Run.{IsRunOf, Run, setting_of}
+use Rattle.sqs_model.specs.Sqs.{sqs}
 use Rattle.sqs_model.specs.Scenario.{Scenario}
 use Rattle.sqs_model.specs.Site.{Site}
 use Rattle.sqs_rehearsal.specs.Logs.{HasLogged, StopsLogging, rows_text}
@@ -59,21 +60,21 @@ stops_after s header text old mid new failed refusals.Write h p = record { bytes
 stops_after s header text old mid new failed e h p = absurd p
 
 -- the header and then the rows are the log
-pub logs_after : (s : Scenario) (old mid new : Option (List ℕ)) (failed : Bool) (counts : List QueueCounts) (sites : List (Result Site Refusal))
+pub logs_after : (s : Scenario) (old mid new : Option (List ℕ)) (failed : Bool) (counts : List QueueCounts) (sites : List Site)
     → Appends old mid (line log_header) → HasLogged s (rows_text s) (record { before = mid; after = new; failed = failed }) counts sites
     → HasLogged s (log_of s) (record { before = old; after = new; failed = failed }) counts sites
 logs_after s old mid new failed counts sites h p =
     record { ended = p.ended; got = record { bytes = appends-more old mid new (line log_header) (rows_text s p.ended.run) h p.got.bytes; whole = p.got.whole } }
 
 -- what was written is flushed
-pub logs_flushed : (s : Scenario) (text : Run → List ℕ) (old mid new : Option (List ℕ)) (f failed : Bool) (counts : List QueueCounts) (sites : List (Result Site Refusal)) (u : Unit {0})
+pub logs_flushed : (s : Scenario) (text : Run → List ℕ) (old mid new : Option (List ℕ)) (f failed : Bool) (counts : List QueueCounts) (sites : List Site) (u : Unit {0})
     → HasLogged s text (record { before = old; after = mid; failed = f }) counts sites → WroteSeveral mid new failed [] (Ok u)
     → HasLogged s text (record { before = old; after = new; failed = failed }) counts sites
 logs_flushed s text old mid new f failed counts sites u p q =
     record { ended = p.ended; got = record { bytes = subst (λ (t : List ℕ). Appends old new t) (append-nil (text p.ended.run)) (appends-more old mid new (text p.ended.run) [] p.got.bytes q.0); whole = q.1 } }
 
 -- or could not be
-pub stops_unflushed : (s : Scenario) (start : List ℕ) (text : Run → List ℕ) (old mid new : Option (List ℕ)) (f failed : Bool) (counts : List QueueCounts) (sites : List (Result Site Refusal)) (e : Refusal)
+pub stops_unflushed : (s : Scenario) (start : List ℕ) (text : Run → List ℕ) (old mid new : Option (List ℕ)) (f failed : Bool) (counts : List QueueCounts) (sites : List Site) (e : Refusal)
     → HasLogged s text (record { before = old; after = mid; failed = f }) counts sites → WroteSeveral mid new failed [] (Err e)
     → (r : Run) → IsRunOf s r → StopsLogging s start (text r) (record { before = old; after = new; failed = failed }) e
 stops_unflushed s start text old mid new f failed counts sites e p q r is =
@@ -87,7 +88,7 @@ module _ {L P : Type 0} (held : L → Option (List ℕ)) (failed : L → Bool) w
   writer_of before after = record { before = held before.out.now; after = held after.out.now; failed = failed after.out.now }
 
   -- a recorder took all rows of a run
-  pub logs_whole : (s : Scenario) (before after : Recorder L P) (sites : List (Result Site Refusal)) → HasTaken (Recorded held failed) s before after sites
+  pub logs_whole : (s : Scenario) (before after : Recorder L P) (sites : List Site) → HasTaken sqs (Recorded held failed) (setting_of s) before after sites
       → before.names.now ≡ s.names → failed before.out.now ≡ false → before.report.now ≡ running (queue_names s) []
       → HasLogged s (rows_text s) (writer_of before after) after.report.now sites
   logs_whole s before after sites p names works fresh =
@@ -101,7 +102,7 @@ module _ {L P : Type 0} (held : L → Option (List ℕ)) (failed : L → Bool) w
 
   -- why a run with a recorder stops
   abbrev pub StopsRecorded : Scenario → Recorder L P → Refusal → Recorder L P → Type 0
-  StopsRecorded s before e after = StopsAnyhow (λ recorder. failed recorder.out.now ≡ false) (Recorded held failed) (StoppedAt held failed) s before e after
+  StopsRecorded s before e after = StopsAnyhow sqs (λ recorder. failed recorder.out.now ≡ false) (Recorded held failed) (StoppedAt held failed) (setting_of s) before e after
 
   -- its writer and its report are the same then
   pub stops_same : (s : Scenario) (before after : Recorder L P) (e : Refusal) → StopsRecorded s before e after → IsSame before after

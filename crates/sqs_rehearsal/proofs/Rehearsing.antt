@@ -41,7 +41,7 @@ module _ (q : Request) (x : Scenario) (stated : scenario_of q.scripts q.text ≡
         refused_at_log q (with_run run.0 run.1) log report e (stops run.0 run.1) none
 
     -- its log was written
-    module _ (log : Writer) (counts : List QueueCounts) (sites : List (Result Site Refusal)) (logged : HasLogged x (log_of x) log counts sites) where
+    module _ (log : Writer) (counts : List QueueCounts) (sites : List Site) (logged : HasLogged x (log_of x) log counts sites) where
       -- and then memory was wanting
       pub refused_after : (report : Writer) → AppendsFront report.before report.after (ending_of x logged.ended.run) → report.failed ≡ false → IsRefused q log report (faults.Refused refusals.Memory)
       refused_after report front works =

@@ -2,7 +2,7 @@
 use Rattle.std.proofs.Common.{◌≡◌, ℕ, List, None, Ok, ap, arith, sym, subst, ◌+◌, ◌∙◌}
 use Rattle.std.specs.Prelude.{IsNone}
 use Rattle.sim_scenario.specs.Ranges.{IsInRange}
-use Rattle.sim_windows.proofs.Openings.{has_queues}
+use Rattle.sqs_runs.proofs.Openings.{has_queues}
 use Rattle.sim_windows.proofs.Runs.{stays}
 use Rattle.sqs_model.specs.Accounts.{EachHasOnePlace, NoOtherHasPlace}
 use Rattle.sqs_model.specs.Run.{IsRunOf, Run, after}
@@ -10,6 +10,7 @@ use Rattle.sqs_model.specs.World.{next_due}
 use Rattle.sqs_model.specs.Scenario.{HasItsQueues, Scenario, opening}
 use Rattle.sqs_model.specs.Site.{Site}
 use Rattle.sqs_model.proofs.Ends.{ends}
+use Rattle.sqs_model.proofs.Instance.{sqs_laws}
 use Rattle.sqs_model.proofs.WorldAccounts.{each_keeps, no_other}
 use Rattle.sqs_rehearsal.specs.Options.{split_fault}
 use Rattle.sqs_rehearsal.specs.Rehearsals.{Rehearsed, Request, Stated}
@@ -19,7 +20,7 @@ stays_at : (s : Scenario) (r : Run) (is : IsRunOf s r) (n : ℕ) → after s.hor
 stays_at s r is n =
     let start : List Site = opening s in
     let ended : IsNone (next_due s.horizon (after s.horizon is.steps start).sites) = subst (λ (y : Run). IsNone (next_due s.horizon y.sites)) (sym is.reached) is.ended in
-    stays s.horizon n is.steps start ended ∙ is.reached
+    stays sqs_laws s.horizon n is.steps start ended ∙ is.reached
 
 -- a scenario has one run
 pub one_run : (s : Scenario) (r x : Run) → IsRunOf s r → IsRunOf s x → r ≡ x

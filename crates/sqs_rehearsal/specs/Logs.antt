@@ -16,7 +16,7 @@ abbrev pub rows_text : Scenario → Run → List ℕ
 rows_text s r = lines (map (row_fields s.names) r.rows)
 
 -- a scenario's one-list run has come to its end, and a log got this text of it
-pub record HasLogged (s : Scenario) (text : Run → List ℕ) (log : Writer) (counts : List QueueCounts) (sites : List (Result Site Refusal)) : Type 0 where
+pub record HasLogged (s : Scenario) (text : Run → List ℕ) (log : Writer) (counts : List QueueCounts) (sites : List Site) : Type 0 where
   pub ended : HasCounted s counts sites
   pub got : Got log (text ended.run)
 

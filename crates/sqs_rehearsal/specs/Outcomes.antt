@@ -3,8 +3,7 @@ use Rattle.std.specs.Prelude.{List, Result, map, ◌≡◌}
 use Rattle.sim_clock.specs.declared.refusal.Refusal.{Refusal}
 use Rattle.sim_report.specs.Running.{running}
 use Rattle.sim_report.specs.declared.queue.QueueCounts.{QueueCounts}
-use Rattle.sim_site.specs.Effects.{StopsWhere}
-use Rattle.sim_windows.specs.Worlds.{alive}
+use Rattle.sim_engine.specs.Limits.{StopsWhere}
 use Rattle.sqs_formats.specs.Output.{queue_names}
 use Rattle.sqs_model.specs.Finals.{finals_of}
 use Rattle.sqs_model.specs.Limits.{IsOver}
@@ -14,11 +13,11 @@ use Rattle.sqs_model.specs.Site.{Site}
 use Rattle.sqs_rehearsal.specs.declared.outcome.Outcome.{Outcome}
 
 -- a scenario's one-list run has come to its end: its rows are counted, and these are the sites of its last world
-pub record HasCounted (s : Scenario) (counts : List QueueCounts) (sites : List (Result Site Refusal)) : Type 0 where
+pub record HasCounted (s : Scenario) (counts : List QueueCounts) (sites : List Site) : Type 0 where
   pub run : Run
   pub is_run : IsRunOf s run
   pub counted : counts ≡ running (queue_names s) run.rows
-  pub sites_are : sites ≡ map alive run.sites
+  pub sites_are : sites ≡ run.sites
 
 -- what the run of a scenario leaves: the counts of all its rows, and what is in its last world
 pub record IsLeftBy (s : Scenario) (r : Run) (o : Outcome) : Type 0 where

@@ -1,11 +1,9 @@
 //! What is left in sites at the end of a run.
-ghost use Rattle.std.specs.Prelude.{◌≡◌, ◌++◌, IfOk, List, OnOk, flat_map, map};
+ghost use Rattle.std.specs.Prelude.{◌≡◌, ◌++◌, IfOk, OnOk, flat_map, map};
 ghost use Rattle.std.specs.Ordering.{is_lt};
 ghost use Rattle.sim_clock.specs.Order.{key_cmp};
-ghost use Rattle.sim_windows.specs.Worlds.{alive};
 ghost use Rattle.sqs_model.specs.Finals.{final_message, final_task, final_transfer, finals_of as the_finals_of, in_key_order, in_number_order, messages_at};
 ghost use Rattle.sqs_model.specs.Queue.{Queue as TheQueue};
-ghost use Rattle.sqs_model.specs.Site.{Site as TheSite};
 ghost use Rattle.sqs_rehearsal.specs.Left.{keyed, keyed_at, tasks_at};
 
 use sim_clock::Key;
@@ -59,7 +57,7 @@ fn add_messages(
 
 // The messages of all queues, in order of arrival in each.
 fn messages_of(alloc: Global, sites: &[Site]) -> Result<Vec<FinalMessage>, AllocError>
-    ensures { (w : List TheSite) → sites.now ≡ map alive w → IfOk result (λ m. m.items ≡ flat_map messages_at w) }
+    ensures { IfOk result (λ m. m.items ≡ flat_map messages_at sites.now) }
 {
     let mut messages = Vec::new(alloc);
     for site in sites {
@@ -114,7 +112,7 @@ fn add_transfers(
 
 // The transfers under way to all sites, each with its key.
 fn keyed_transfers(alloc: Global, sites: &[Site]) -> Result<Vec<(Key, FinalTransfer)>, AllocError>
-    ensures { (w : List TheSite) → sites.now ≡ map alive w → IfOk result (λ t. t.items ≡ flat_map keyed_at w) }
+    ensures { IfOk result (λ t. t.items ≡ flat_map keyed_at sites.now) }
 {
     let mut transfers = Vec::new(alloc);
     for site in sites {
@@ -146,7 +144,7 @@ fn without_keys(
 
 // The transfers under way to all sites, in the order of their keys.
 fn transfers_of(alloc: Global, sites: &[Site]) -> Result<Vec<FinalTransfer>, AllocError>
-    ensures { (w : List TheSite) → sites.now ≡ map alive w → IfOk result (λ t. t.items ≡ map final_transfer (in_key_order (flat_map (λ s. s.arriving) w))) }
+    ensures { IfOk result (λ t. t.items ≡ map final_transfer (in_key_order (flat_map (λ s. s.arriving) sites.now))) }
 {
     let mut keyed = keyed_transfers(alloc, sites)?;
     keyed.reverse();
@@ -177,7 +175,7 @@ fn add_tasks(list: &mut Vec<FinalTask>, tasks: &[Task]) -> Result<(), AllocError
 
 // The move tasks of all sites.
 fn site_tasks(alloc: Global, sites: &[Site]) -> Result<Vec<FinalTask>, AllocError>
-    ensures { (w : List TheSite) → sites.now ≡ map alive w → IfOk result (λ t. t.items ≡ flat_map tasks_at w) }
+    ensures { IfOk result (λ t. t.items ≡ flat_map tasks_at sites.now) }
 {
     let mut tasks = Vec::new(alloc);
     for site in sites {
@@ -188,7 +186,7 @@ fn site_tasks(alloc: Global, sites: &[Site]) -> Result<Vec<FinalTask>, AllocErro
 
 // The move tasks of all sites, by number.
 fn tasks_of(alloc: Global, sites: &[Site]) -> Result<Vec<FinalTask>, AllocError>
-    ensures { (w : List TheSite) → sites.now ≡ map alive w → IfOk result (λ t. t.items ≡ map final_task (in_number_order (flat_map (λ s. s.core.tasks) w))) }
+    ensures { IfOk result (λ t. t.items ≡ map final_task (in_number_order (flat_map (λ s. s.core.tasks) sites.now))) }
 {
     let mut tasks = site_tasks(alloc, sites)?;
     tasks.reverse();
@@ -204,7 +202,7 @@ fn tasks_of(alloc: Global, sites: &[Site]) -> Result<Vec<FinalTask>, AllocError>
 /// `AllocError` where a growth is refused.
 #[tactic(auto, unfolding(sqs_model::specs::Finals::finals_of))]
 pub fn finals_of(alloc: Global, sites: &[Site]) -> Result<Finals, AllocError>
-    ensures { (w : List TheSite) → sites.now ≡ map alive w → IfOk result (λ finals. finals ≡ the_finals_of w) }
+    ensures { IfOk result (λ finals. finals ≡ the_finals_of sites.now) }
 {
     let messages = messages_of(alloc, sites)?;
     let transfers = transfers_of(alloc, sites)?;

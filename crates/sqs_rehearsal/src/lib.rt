@@ -12,5 +12,5 @@ pub use finals::finals_of;
 pub use options::{Options, Split};
 pub use outcome::{Outcome, compare};
 pub use rehearsal::{Fault, rehearse, rehearse_watched};
-pub use sim_parallel::{Done, Gate, Open, Piece, Running};
 pub use sim_recorder::{Unwatched, Watch};
+pub use sqs_runs::{Done, Gate, Open, Piece, Running};

@@ -2,7 +2,6 @@
 ghost use Rattle.std.specs.Prelude.{◌≡◌, [], false, map, IfErr, IfOk, OnOk};
 ghost use Rattle.sim_records.specs.Writes.{WroteSeveral};
 ghost use Rattle.sim_report.specs.Running.{running};
-ghost use Rattle.sim_windows.specs.Worlds.{alive};
 ghost use Rattle.sqs_formats.specs.Comparison.{comparison};
 ghost use Rattle.sqs_formats.specs.Output.{ending_of, queue_names, report_of};
 ghost use Rattle.sqs_model.specs.Run.{Run};
@@ -16,9 +15,9 @@ use sim_records::{Names, Out, write_finals};
 use sim_report::Report;
 use sim_scenario::Scenario;
 use sim_site::Site;
-use sim_windows::run_alone;
 use sqs_message::Text;
 use sqs_model::Finals;
+use sqs_runs::run_alone;
 use std::alloc::{AllocError, Global};
 
 /// What the whole run of a scenario leaves: the report of its rows, and what is left in its queues, on
@@ -91,7 +90,7 @@ impl Outcome {
         report: Report,
         sites: &[Site],
     ) -> Result<Outcome, AllocError>
-        ensures { (s : TheScenario) (r : Run) → report ≡ running (queue_names s) r.rows → sites.now ≡ map alive r.sites → IfOk result (IsLeftBy s r) }
+        ensures { (s : TheScenario) (r : Run) → report ≡ running (queue_names s) r.rows → sites.now ≡ r.sites → IfOk result (IsLeftBy s r) }
     {
         let finals = finals_of(alloc, sites)?;
         Ok(Outcome { report, finals })

@@ -9,11 +9,11 @@ use crate::logging::run_logged;
 use crate::options::Options;
 use crate::outcome::{Outcome, copies, fresh_report};
 use sim_clock::Refusal;
-use sim_parallel::{Gate, Running};
 use sim_recorder::{Unwatched, Watch};
 use sim_records::{Names, Out};
 use sim_scenario::{ReadError, Scenario, Scripts, read};
 use sqs_formats::ScenarioFault;
+use sqs_runs::{Gate, Running};
 use std::alloc::Global;
 use std::sync::Wait;
 use std::thread::Threads;
@@ -123,7 +123,7 @@ pub fn rehearse_watched<
 /// Rehearses a scenario: reads its text, with its scripts by their names, runs it with so many workers,
 /// its queues in partitions, writes the log to one writer as the run goes on, and then what is left at
 /// the end and the report to the other. Both are flushed. How the run is split does not change what is
-/// written. Each piece of a partition's run goes through the gate; `sim_parallel::Open` only runs it.
+/// written. Each piece of a partition's run goes through the gate; `Open` only runs it.
 ///
 /// # Errors
 ///

@@ -5,8 +5,7 @@ use crate::same::same;
 use sim_clock::{Class, Key, Refusal};
 use sim_engine::Edge;
 use sim_exchange::{Distances, PartMap, exchange, merge_rows};
-use sqs_message::{Detail, MessageId, Row, RowAnswer, RowKind, RowReceipt, Text};
-use sqs_redrive::{Load, Outbound};
+use sim_ring::{Counter, Token, Told};
 use std::alloc::{AllocError, Global};
 use std::process::Abort;
 
@@ -48,94 +47,83 @@ fn a_map_gives_each_queue_a_partition(rt: HostRuntime) {
     }
 }
 
-// A transfer that arrives at a moment, by its sender and how many it sent before.
-fn transfer(alloc: Global, at: u64, sender: u32, number: u64, from: u32, to: u32) -> Outbound {
-    Outbound {
-        at,
-        sender,
-        number,
-        from,
-        to,
-        load: Load::Forward {
-            id: MessageId { site: 0, number: 0 },
-            body: Text::new(Vec::new(alloc)),
-            group: None,
+// A token that comes to a counter at a moment, by its sender and how many it sent before.
+fn token(at: u64, sender: u32, number: u64, to: u32) -> Token {
+    Token {
+        key: Key {
+            at,
+            agent: sender,
+            class: Class::Arrival,
+            number,
         },
+        to,
     }
 }
 
-// Compares the moment, sender, number and first queue of each transfer.
-fn try_transfers(rt: &impl Abort, found: &[Outbound], wanted: &[(u64, u32, u64, u32)]) {
+// Compares the moment, sender, number and destination of each token.
+fn try_tokens(rt: &impl Abort, found: &[Token], wanted: &[(u64, u32, u64, u32)]) {
     same(rt, found.len(), wanted.len());
     for (one, &wanted) in found.iter().zip(wanted) {
-        same(rt, (one.at, one.sender, one.number, one.from), wanted);
+        let key = one.key;
+        same(rt, (key.at, key.agent, key.number, one.to), wanted);
     }
 }
 
 // What the partitions 0 and 1 have to send.
-fn sent(alloc: Global) -> Result<Vec<Vec<Outbound>>, AllocError> {
-    let first = vec![in alloc;
-        transfer(alloc, 50, 1, 0, 4, 2),
-        transfer(alloc, 50, 0, 3, 4, 0),
-        transfer(alloc, 40, 9, 0, 4, 2),
-    ]?;
+fn sent(alloc: Global) -> Result<Vec<Vec<Token>>, AllocError> {
+    let first = vec![in alloc; token(50, 1, 0, 3), token(50, 0, 3, 0), token(40, 9, 0, 2)]?;
     let second = vec![in alloc;
-        transfer(alloc, 50, 0, 1, 5, 1),
-        transfer(alloc, 50, 0, 2, 5, 2),
-        transfer(alloc, 50, 1, 0, 5, 2),
-        transfer(alloc, 30, 5, 7, 5, 0),
+        token(50, 0, 1, 1),
+        token(50, 0, 2, 2),
+        token(50, 1, 0, 2),
+        token(30, 5, 7, 0),
     ]?;
     Ok(vec![in alloc; first, second]?)
 }
 
-// What comes to each of them. Two transfers have one key: the one that stood first comes first.
+// What comes to each of them. Two tokens have one key: the one that stood first comes first.
 const DEALT: [&[(u64, u32, u64, u32)]; 2] = [
-    &[(30, 5, 7, 5), (50, 0, 1, 5), (50, 0, 3, 4)],
-    &[(40, 9, 0, 4), (50, 0, 2, 5), (50, 1, 0, 4), (50, 1, 0, 5)],
+    &[(30, 5, 7, 0), (50, 0, 1, 1), (50, 0, 3, 0)],
+    &[(40, 9, 0, 2), (50, 0, 2, 2), (50, 1, 0, 3), (50, 1, 0, 2)],
 ];
 
 #[test]
 fn each_partition_gets_its_transfers_in_order(rt: HostRuntime) {
-    // Queues 0 and 1 are in partition 0, queue 2 is in partition 1.
-    let owners = [0, 0, 1].to_vec(rt.alloc()).expect(&rt, "memory");
-    let layout = PartMap::new(3, 2, owners).expect(&rt, "a map");
+    // Counters 0 and 1 are in partition 0, counters 2 and 3 in partition 1.
+    let owners = [0, 0, 1, 1].to_vec(rt.alloc()).expect(&rt, "memory");
+    let layout = PartMap::new(4, 2, owners).expect(&rt, "a map");
     let sent = sent(rt.alloc()).expect(&rt, "memory");
-    let lists = exchange(rt.alloc(), sent, &layout).expect(&rt, "memory");
+    let lists = exchange::<Counter>(rt.alloc(), sent, &layout).expect(&rt, "memory");
     same(&rt, lists.len(), 2);
     for (found, &wanted) in lists.iter().zip(&DEALT) {
-        try_transfers(&rt, found, wanted);
+        try_tokens(&rt, found, wanted);
     }
 }
 
-// A row of a handling at a moment, at a queue, by the list where it stands.
-fn row(at: u64, queue: u32, list: u32) -> Row {
-    Row {
+// A row of a handling at a moment, at a site, by the list where it stands.
+fn row(at: u64, site: u32, list: u64) -> Told {
+    Told {
         key: Key {
             at,
             agent: 7,
             class: Class::Wake,
             number: 0,
         },
-        queue,
-        agent: list,
-        kind: RowKind::Send,
-        answer: RowAnswer::Ok,
-        message: None,
-        receipt: RowReceipt::Absent,
-        detail: Detail::Absent,
+        number: site,
+        count: list,
     }
 }
 
-// Merges lists of rows, and compares moment, queue and list of each row.
-fn try_merge(rt: &impl Abort, alloc: Global, lists: Vec<Vec<Row>>, wanted: &[(u64, u32, u32)]) {
-    let rows = merge_rows(alloc, lists).expect(rt, "memory");
+// Merges lists of rows, and compares moment, site and list of each row.
+fn try_merge(rt: &impl Abort, alloc: Global, lists: Vec<Vec<Told>>, wanted: &[(u64, u32, u64)]) {
+    let rows = merge_rows::<Counter>(alloc, lists).expect(rt, "memory");
     same(rt, rows.len(), wanted.len());
     for (row, &wanted) in rows.iter().zip(wanted) {
-        same(rt, (row.key.at, row.queue, row.agent), wanted);
+        same(rt, (row.key.at, row.number, row.count), wanted);
     }
 }
 
-fn three_lists(alloc: Global) -> Result<Vec<Vec<Row>>, AllocError> {
+fn three_lists(alloc: Global) -> Result<Vec<Vec<Told>>, AllocError> {
     let first = vec![in alloc; row(10, 2, 0), row(20, 0, 0)]?;
     let second = vec![in alloc; row(10, 1, 1), row(10, 2, 1), row(30, 1, 1)]?;
     let third = vec![in alloc; row(10, 0, 2), row(20, 0, 2)]?;
@@ -143,7 +131,7 @@ fn three_lists(alloc: Global) -> Result<Vec<Vec<Row>>, AllocError> {
 }
 
 #[test]
-fn rows_come_by_key_and_queue(rt: HostRuntime) {
+fn rows_come_by_key_and_site(rt: HostRuntime) {
     let wanted = [
         (10, 0, 2),
         (10, 1, 1),
@@ -158,7 +146,7 @@ fn rows_come_by_key_and_queue(rt: HostRuntime) {
 }
 
 // Two lists with no rows about one with a row.
-fn about_one(alloc: Global) -> Result<Vec<Vec<Row>>, AllocError> {
+fn about_one(alloc: Global) -> Result<Vec<Vec<Told>>, AllocError> {
     let rows = vec![in alloc; row(10, 2, 1)]?;
     Ok(vec![in alloc; Vec::new(alloc), rows, Vec::new(alloc)]?)
 }

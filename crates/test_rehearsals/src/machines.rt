@@ -9,15 +9,14 @@ use sim_clock::Refusal;
 use sim_draw::Draws;
 use sim_engine::Pick;
 use sim_exchange::PartMap;
-use sim_picks::{Ended, Machine};
 use sim_records::{Names, ToWriter, write_finals, write_header, write_rows};
 use sim_report::Report;
 use sim_scenario::{Scenario, Scripts, read};
-use sim_sink::RowSink;
 use sim_site::Site;
-use sim_windows::run_alone;
+use sim_windows::{Ended, Machine, RowSink};
 use sqs_message::{Row, Text};
 use sqs_rehearsal::finals_of;
+use sqs_runs::{open_machine, run_alone};
 use std::alloc::{AllocError, Global};
 use std::fmt::Write;
 use std::process::Abort;
@@ -31,7 +30,7 @@ struct Logged {
     report: Report,
 }
 
-impl RowSink for Logged {
+impl RowSink<Row> for Logged {
     ghost use Rattle.std.specs.Prelude.{◌≡◌, false};
     ghost use Rattle.sim_records.specs.Writers.{has_failed};
 
@@ -65,7 +64,7 @@ impl Logged {
     }
 
     /// Writes all of a run that has ended.
-    fn write_run(&mut self, ended: &Ended) -> Result<(), Refusal>
+    fn write_run(&mut self, ended: &Ended<Site>) -> Result<(), Refusal>
         requires { has_failed self.old.out ≡ false }
     {
         self.take(ended.rows.as_slice())?;
@@ -147,13 +146,18 @@ pub fn in_turn(alloc: Global, queues: usize, parts: u32) -> Result<PartMap, Refu
 }
 
 /// The machine of a scenario, its queues in so many partitions, by turns.
-fn machine(alloc: Global, scenario: Scenario, parts: u32, window: u64) -> Result<Machine, Refusal> {
+fn machine(
+    alloc: Global,
+    scenario: Scenario,
+    parts: u32,
+    window: u64,
+) -> Result<Machine<Site>, Refusal> {
     let layout = in_turn(alloc, scenario.queues().len(), parts)?;
-    Machine::new(alloc, scenario, layout, window)
+    open_machine(alloc, scenario, layout, window)
 }
 
 /// The machine of a text, and its log.
-fn opened(alloc: Global, text: &[u8], parts: u32, window: u64) -> Option<(Machine, Logged)>
+fn opened(alloc: Global, text: &[u8], parts: u32, window: u64) -> Option<(Machine<Site>, Logged)>
     ensures { IfSome result (λ p. has_failed p.1.out ≡ false) }
 {
     let scenario = scenario(alloc, text)?;
@@ -172,7 +176,7 @@ fn pick(number: u32, parts: u32) -> Pick {
 }
 
 /// Picks each partition, and then a barrier. Answers how many took effect.
-fn pick_each(machine: &mut Machine, parts: u32) -> Result<u64, Refusal> {
+fn pick_each(machine: &mut Machine<Site>, parts: u32) -> Result<u64, Refusal> {
     let mut effects: u64 = 0;
     for number in 0..=parts {
         effects = effects.saturating_add(machine.play(&[pick(number, parts)])?);
@@ -181,7 +185,7 @@ fn pick_each(machine: &mut Machine, parts: u32) -> Result<u64, Refusal> {
 }
 
 /// Plays on until the machine is finished. Answers how many picks took effect.
-fn play_on(machine: &mut Machine, parts: u32) -> Option<u64> {
+fn play_on(machine: &mut Machine<Site>, parts: u32) -> Option<u64> {
     let mut effects: u64 = 0;
     for _ in 0..1_000_000 {
         if machine.finished() {
@@ -193,7 +197,7 @@ fn play_on(machine: &mut Machine, parts: u32) -> Option<u64> {
 }
 
 /// Writes what a finished machine comes to.
-fn write_end(machine: Machine, logged: &mut Logged) -> Result<(), Refusal>
+fn write_end(machine: Machine<Site>, logged: &mut Logged) -> Result<(), Refusal>
     requires { has_failed logged.old.out ≡ false }
 {
     let ended = machine.into_run()?;
@@ -201,7 +205,7 @@ fn write_end(machine: Machine, logged: &mut Logged) -> Result<(), Refusal>
 }
 
 /// What a finished machine comes to.
-fn told_by(machine: Machine, mut logged: Logged) -> Option<Vec<u8>>
+fn told_by(machine: Machine<Site>, mut logged: Logged) -> Option<Vec<u8>>
     requires { has_failed logged.out ≡ false }
 {
     write_end(machine, &mut logged).ok()?;
@@ -212,7 +216,7 @@ fn told_by(machine: Machine, mut logged: Logged) -> Option<Vec<u8>>
 type Play<'a> = (&'a [Pick], u64, u64);
 
 /// Whether picks take effect so.
-fn take_effect(machine: &mut Machine, plays: &[Play<'_>]) -> bool {
+fn take_effect(machine: &mut Machine<Site>, plays: &[Play<'_>]) -> bool {
     for (picks, effects, end) in plays {
         match machine.play(picks) {
             Ok(count) if count == *effects && machine.window_end() == *end => {}
@@ -294,7 +298,12 @@ fn worked_scenarios_in_partitions(rt: HostRuntime) {
 }
 
 /// Makes picks of partitions and barriers, as many as are asked for, drawn under a seed.
-fn play_drawn(machine: &mut Machine, seed: u64, parts: u32, count: usize) -> Result<(), Refusal>
+fn play_drawn(
+    machine: &mut Machine<Site>,
+    seed: u64,
+    parts: u32,
+    count: usize,
+) -> Result<(), Refusal>
     requires { count ≤ 10000 }
 {
     let mut draws = Draws::new(seed, 0);

@@ -1,28 +1,29 @@
 //! Transfers on their way to a site and their arrival, a partition without sites, and a task that was
 //! never started.
-ghost use Rattle.std.specs.Prelude.{◌≤◌, IfOk};
+ghost use Rattle.std.specs.Prelude.{◌≤◌, IfOk, OnOk};
 ghost use Rattle.sqs_model.specs.Answers.{most_count};
-ghost use Rattle.sqs_model.specs.Progress.{AreTimely, IsRecent};
+ghost use Rattle.sqs_model.specs.Conditions.{IsOfPast};
 
 use crate::machines::scenario;
 use sim_clock::{Class, Key, Refusal};
+use sim_engine::{Effects, Site as _};
 use sim_partition::Partition;
-use sim_site::{Handled, Site, Task};
-use sim_windows::opening_sites;
-use sqs_message::{MessageId, Text};
+use sim_site::{Site, Task};
+use sqs_message::{MessageId, Row, Text};
 use sqs_redrive::{Kind, Latency, Load, Outbound, QueueSettings, TaskSettings, TaskStatus};
+use sqs_runs::open_world;
 use std::alloc::{AllocError, Global};
 
 // The sites of a standard queue and of a FIFO queue, with neither actors nor tasks.
 fn two_sites(alloc: Global) -> Option<Vec<Site>> {
     let text = b"version = 1\nhorizon = 90\n[[queue]]\nname = 'q'\n[[queue]]\nname = 'q.fifo'\n";
-    opening_sites(alloc, scenario(alloc, text)?).ok()
+    let world = open_world(alloc, scenario(alloc, text)?).ok()?;
+    Some(world.sites)
 }
 
 // A forward of one message is on its way.
 fn accept(alloc: Global, site: &mut Site, at: u64) -> Result<(), Refusal>
-    ensures recent { IfOk site.old (λ s. IsRecent 0 s.core.queue) → IfOk site.new (λ s. IsRecent 0 s.core.queue) }
-    ensures timely { IfOk site.old (λ s. AreTimely s.arriving) → IfOk site.new (λ s. AreTimely s.arriving) }
+    ensures past { OnOk result (IsOfPast 0 site.old → IsOfPast 0 site.new) }
 {
     let load = Load::Forward {
         id: MessageId { site: 2, number: 0 },
@@ -76,10 +77,10 @@ fn has_arriving(site: &Site, moments: &[u64]) -> bool {
     true
 }
 
-// Whether a site that lives and has no task has forwards on their way that arrive at these moments.
+// Whether a site that has no task has forwards on their way that arrive at these moments.
 fn waits_for(site: &Site, moments: &[u64]) -> bool {
-    let lives_alone = site.spent().is_none() && site.tasks().is_empty();
-    lives_alone && next_arrival(site) == moments.first().copied() && has_arriving(site, moments)
+    let is_next = next_arrival(site) == moments.first().copied();
+    site.tasks().is_empty() && is_next && has_arriving(site, moments)
 }
 
 // Whether nothing waits for a site at first, and forwards that it accepts in an order wait in another.
@@ -111,8 +112,7 @@ fn transfers_wait_in_the_order_of_their_keys(rt: HostRuntime) {
 
 // A site of a standard queue, with neither actors nor tasks.
 fn open(alloc: Global) -> Result<Site, AllocError>
-    ensures recent { IfOk result (λ site. IfOk site (λ s. IsRecent 0 s.core.queue)) }
-    ensures timely { IfOk result (λ site. IfOk site (λ s. AreTimely s.arriving)) }
+    ensures past { IfOk result (IsOfPast 0) }
 {
     let settings = QueueSettings {
         kind: Kind::Standard {
@@ -130,13 +130,16 @@ fn open(alloc: Global) -> Result<Site, AllocError>
 }
 
 // The handling of what is due next, at a moment.
-fn handle_next(site: &mut Site, now: u64) -> Result<Handled, Refusal>
+fn handle_next(
+    site: &mut Site,
+    now: u64,
+    effects: &mut Effects<Row, Outbound>,
+) -> Result<(), Refusal>
     requires moment { now ≤ most_count }
-    requires recent { IfOk site.old (λ s. IsRecent now s.core.queue) }
-    requires timely { IfOk site.old (λ s. AreTimely s.arriving) }
+    requires past { IsOfPast now site.old }
 {
     match site.least_due() {
-        Some(key) if key.at == now => site.handle(key),
+        Some(key) if key.at == now => site.handle_into(key, effects),
         _ => Err(Refusal::Memory),
     }
 }
@@ -151,8 +154,9 @@ fn last_enqueued(site: &Site) -> Option<u64> {
 fn arrival(alloc: Global) -> Result<(usize, usize, usize, Option<u64>), Refusal> {
     let mut site = open(alloc)?;
     accept(alloc, &mut site, 0)?;
-    let handled = handle_next(&mut site, 0)?;
-    let (rows, sent) = (handled.rows.len(), handled.outbound.len());
+    let mut effects = Effects::new(alloc);
+    handle_next(&mut site, 0, &mut effects)?;
+    let (rows, sent) = (effects.rows.len(), effects.sent.len());
     Ok((rows, sent, site.arriving().len(), last_enqueued(&site)))
 }
 
@@ -163,7 +167,7 @@ fn a_forward_arrives(rt: HostRuntime) {
 
 // Whether nothing is due in a partition without sites.
 fn is_idle(alloc: Global) -> bool {
-    match Partition::new(alloc, Vec::new(alloc)) {
+    match Partition::<Site>::new(alloc, Vec::new(alloc)) {
         Ok(partition) => partition.least_due() == None,
         Err(_) => false,
     }

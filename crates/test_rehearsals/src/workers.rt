@@ -3,9 +3,9 @@ use crate::machines::{in_turn, scenario};
 use crate::rehearsals::{MANY, ends, split, whole, wrong_log};
 use crate::worked::{EIGHT_QUEUES, THREE_QUEUES};
 use sim_clock::Refusal;
-use sim_parallel::run_workers;
-use sim_sink::Limit;
+use sim_windows::Limit;
 use sqs_rehearsal::{Done, Gate, Open, Piece, Running};
+use sqs_runs::run_workers;
 use std::alloc::Global;
 use std::sync::Wait;
 use std::sync::atomic::{AtomicU64, Ordering};
@@ -33,9 +33,11 @@ fn have_begun(begun: &AtomicU64, wanted: u64) -> bool {
 
 impl Gate<Running> for Fours {
     ghost use Rattle.sim_workers.specs.Pieces.{Comes};
+    ghost use Rattle.sqs_model.specs.Conditions.{sqs_conditions};
+    ghost use Rattle.sqs_model.specs.Sqs.{sqs};
 
     fn run<R: Wait>(&self, _rt: &R, _part: usize, piece: Piece) -> Done
-        ensures { Comes piece.bound piece.part result.outcome }
+        ensures { Comes sqs sqs_conditions piece.bound piece.part result.outcome }
     {
         let earlier = self.begun.fetch_add(1, Ordering::SeqCst);
         let wanted = if earlier < 4 { 4 } else { 8 };

@@ -1,4 +1,4 @@
-//! Tests of actors, partitions, machines and of what writes a run: each public call once with ample
+//! Tests of actors, partitions, machines, workers and of what writes a run: each public call once with ample
 //! memory, and what no clause says. There is no code here but tests.
 #![tactic(auto)]
 
@@ -14,6 +14,8 @@ mod recorder;
 mod records;
 #[cfg(test)]
 mod report;
+#[cfg(test)]
+mod ring;
 #[cfg(test)]
 mod same;
 #[cfg(test)]

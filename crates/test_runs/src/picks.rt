@@ -3,8 +3,10 @@ use crate::same::same;
 use sim_clock::Refusal;
 use sim_engine::Pick;
 use sim_exchange::PartMap;
-use sim_picks::Machine;
 use sim_scenario::{Scripts, read};
+use sim_site::Site;
+use sim_windows::Machine;
+use sqs_runs::open_machine;
 use std::alloc::Global;
 use std::process::Abort;
 
@@ -14,11 +16,11 @@ const THERE_AND_BACK: &[u8] =
     b"version = 1\nhorizon = 100\n[[queue]]\nname = 'a'\n[[queue]]\nname = 'b'\n[[actor]]\nname = 'p'\nkind = 'script'\nqueue = 'a'\ncalls = '''\nat,call,body,group,id,delay,receipt,max,wait,timeout,task\n0,send,abc,,,,,,,,\n'''\n[[actor]]\nname = 'x'\nkind = 'consumer'\nqueue = 'a'\nstart_ms = 1\nservice_min_ms = 14\nservice_max_ms = 14\nidle_ms = 86400000\nforward = 'b'\nlatency_ms = 10\n[[actor]]\nname = 'y'\nkind = 'consumer'\nqueue = 'b'\nstart_ms = 50\nservice_min_ms = 14\nservice_max_ms = 14\nidle_ms = 86400000\nforward = 'a'\nlatency_ms = 10\n";
 
 // The machine of two queues, each in a partition of its own.
-fn machine(rt: &impl Abort, alloc: Global, window: u64) -> Result<Machine, Refusal> {
+fn machine(rt: &impl Abort, alloc: Global, window: u64) -> Result<Machine<Site>, Refusal> {
     let owners = [0, 1].to_vec(alloc).expect(rt, "memory");
     let layout = PartMap::new(2, 2, owners).expect(rt, "a map");
     match read(alloc, THERE_AND_BACK, &Scripts::new(Vec::new(alloc))) {
-        Ok(scenario) => Machine::new(alloc, scenario, layout, window),
+        Ok(scenario) => open_machine(alloc, scenario, layout, window),
         Err(_) => Err(Refusal::NotToml),
     }
 }
@@ -35,7 +37,7 @@ const FIRST: [Pick; 7] = [
 ];
 
 // What is played, and what is told of it.
-fn try_play(rt: &impl Abort, machine: &mut Machine) {
+fn try_play(rt: &impl Abort, machine: &mut Machine<Site>) {
     same(rt, machine.window_end(), 10);
     let played = machine.play(&FIRST).expect(rt, "a play");
     same(rt, (played, machine.window_end()), (5, 35));
@@ -61,7 +63,7 @@ fn a_cycle_bounds_its_own_partition(rt: HostRuntime) {
 }
 
 // The refusal, if there is one.
-fn refusal_of(machine: Result<Machine, Refusal>) -> Option<Refusal> {
+fn refusal_of(machine: Result<Machine<Site>, Refusal>) -> Option<Refusal> {
     match machine {
         Ok(_) => None,
         Err(refusal) => Some(refusal),

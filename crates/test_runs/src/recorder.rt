@@ -11,7 +11,7 @@ use sim_clock::{Class, Key, Refusal};
 use sim_recorder::{Counter, Recorder, Unwatched};
 use sim_records::{Names, Out, ToWriter};
 use sim_report::{Finals, Report};
-use sim_sink::RowSink;
+use sim_windows::RowSink;
 use sqs_message::{Detail, Row, RowAnswer, RowKind, RowReceipt, Text};
 use sqs_model::{FinalMessages, FinalTasks, FinalTransfers};
 use std::alloc::Global;
@@ -97,7 +97,11 @@ fn try_report(rt: &impl Abort, alloc: Global, report: &Report) {
 }
 
 /// Hands rows to a sink in two batches.
-fn in_two_batches<S: RowSink>(sink: &mut S, first: &[Row], second: &[Row]) -> Result<(), Refusal>
+fn in_two_batches<S: RowSink<Row>>(
+    sink: &mut S,
+    first: &[Row],
+    second: &[Row],
+) -> Result<(), Refusal>
     requires { S.ready sink.old }
     ensures took { OnOk result (S.took sink.old (first.now ++ second.now) sink.new) }
     ensures broke { IfErr result (λ refusal. S.broke sink.old first.now refusal sink.new ⊎ S.broke sink.old (first.now ++ second.now) refusal sink.new) }

@@ -6,6 +6,7 @@ ghost use Rattle.sim_workers.specs.Owners.{IsAllFree};
 use crate::same::same;
 use sim_handoff::{Hand, Handoff, Owner, Work};
 use sim_partition::Partition;
+use sim_ring::Counter;
 use sim_workers::{Gate, Open, Running, collect_at, join_all, round, start_all};
 use std::alloc::Global;
 use std::process::Abort;
@@ -118,7 +119,7 @@ fn three_at_once(rt: HostRuntime) {
 }
 
 // One partition, with no site.
-fn one_partition(rt: &impl Abort, alloc: Global) -> Vec<Partition>
+fn one_partition(rt: &impl Abort, alloc: Global) -> Vec<Partition<Counter>>
     ensures { length result.items ≡ 1 }
 {
     let part = Partition::new(alloc, Vec::new(alloc)).expect(rt, "memory");
@@ -129,7 +130,7 @@ fn one_partition(rt: &impl Abort, alloc: Global) -> Vec<Partition>
 fn nothing_due_comes_back(rt: HostRuntime) {
     let alloc: Global = rt.alloc();
     let parts = one_partition(&rt, alloc);
-    let (handoff, mut owner) = Handoff::<Running>::make(alloc, 1).expect(&rt, "memory");
+    let (handoff, mut owner) = Handoff::<Running<Counter>>::make(alloc, 1).expect(&rt, "memory");
     let mut hand = owner.hand(&handoff);
     let came = round(
         &rt,
@@ -144,6 +145,6 @@ fn nothing_due_comes_back(rt: HostRuntime) {
     .expect(&rt, "a round");
     same(&rt, came.len(), 1);
     for one in &came {
-        same(&rt, (one.ran.rows.len(), one.part.least_due()), (0, None));
+        same(&rt, (one.made.rows.len(), one.part.least_due()), (0, None));
     }
 }

@@ -8,7 +8,8 @@ ghost use Rattle.sqs_model.specs.Progress.{IsRecent, WasEnqueuedBy};
 ghost use Rattle.sqs_model.specs.Queue.{IsFramed};
 ghost use Rattle.sqs_model.specs.Site.{Core, number_of};
 ghost use Rattle.sqs_model.specs.Step.{arrival_done, arrival_row as the_arrival_row, load_age as the_load_age, load_origin};
-ghost use Rattle.sim_site.specs.Effects.{Did, Stops, StopsWhere};
+ghost use Rattle.sim_site.specs.Effects.{Did, Stops};
+ghost use Rattle.sim_engine.specs.Limits.{StopsWhere};
 ghost use Rattle.sim_site.specs.Origins.{origin_or};
 
 use super::Core;

@@ -11,7 +11,8 @@ ghost use Rattle.std.specs.Result.{result_map_both};
 ghost use Rattle.sqs_model.specs.Site.{Core, actor_numbered, number_of};
 ghost use Rattle.sqs_model.specs.Valid.{IsStandard, MayBeTimeout};
 ghost use Rattle.sqs_model.specs.Receive.{to_give};
-ghost use Rattle.sim_site.specs.Effects.{DidMake, Stops, StopsWhere};
+ghost use Rattle.sim_site.specs.Effects.{DidMake, Stops};
+ghost use Rattle.sim_engine.specs.Limits.{StopsWhere};
 ghost use Rattle.sim_site.specs.Kept.{most_wait};
 
 use super::Core;

@@ -8,7 +8,8 @@ ghost use Rattle.sqs_model.specs.Answers.{most_count};
 ghost use Rattle.sqs_model.specs.Progress.{IsRecent};
 ghost use Rattle.sqs_model.specs.Queue.{IsFramed};
 ghost use Rattle.sqs_model.specs.Site.{Core, number_of};
-ghost use Rattle.sim_site.specs.Effects.{Did, Stops, StopsWhere};
+ghost use Rattle.sim_site.specs.Effects.{Did, Stops};
+ghost use Rattle.sim_engine.specs.Limits.{StopsWhere};
 
 use super::Core;
 use crate::effects::Effects;

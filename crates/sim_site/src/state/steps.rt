@@ -6,13 +6,14 @@ ghost use Rattle.sqs_model.specs.Answers.{most_count};
 ghost use Rattle.sqs_model.specs.Draw.{drawn_latency};
 ghost use Rattle.sqs_model.specs.Dues.{core_dues};
 ghost use Rattle.sqs_model.specs.Counts.{task_count};
-ghost use Rattle.sqs_model.specs.Places.{Stands};
+ghost use Rattle.sim_clock.specs.Places.{Stands};
 ghost use Rattle.sqs_model.specs.Site.{Core as TheCore, is_task, number_of, task_numbered};
 ghost use Rattle.sqs_model.specs.Step.{handle_step, end_row as the_end_row, load_id as the_load_id, move_row as the_move_row, moves, one_sent};
 ghost use Rattle.sqs_model.specs.Task.{Task as TheTask};
 ghost use Rattle.sqs_model.specs.Valid.{IsLatency};
 ghost use Rattle.sim_site.specs.Due.{IsAmong};
-ghost use Rattle.sim_site.specs.Effects.{Did, Stops, StopsWhere};
+ghost use Rattle.sim_site.specs.Effects.{Did, Stops};
+ghost use Rattle.sim_engine.specs.Limits.{StopsWhere};
 ghost use Rattle.sim_site.specs.Kept.{numbered_settings};
 ghost use Rattle.sim_site.specs.Steps.{DidMove, IsKept, SendsOn, Stepped, stepped_moves};
 

@@ -4,7 +4,7 @@ ghost use Rattle.std.specs.List.{list_any};
 ghost use Rattle.sqs_model.specs.Actor.{Actor};
 ghost use Rattle.sqs_model.specs.Acts.{cancel_made, runs, start_made, task_row as the_task_row};
 ghost use Rattle.sqs_model.specs.Answers.{most_count};
-ghost use Rattle.sqs_model.specs.Places.{Stands};
+ghost use Rattle.sim_clock.specs.Places.{Stands};
 ghost use Rattle.sqs_model.specs.Site.{Core, is_task, number_of, task_numbered};
 ghost use Rattle.sim_site.specs.Effects.{Did};
 ghost use Rattle.sim_site.specs.Kept.{numbered_settings};

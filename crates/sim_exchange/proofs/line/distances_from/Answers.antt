@@ -1,6 +1,6 @@
 use Rattle.std.proofs.Common.{List, None, Option, arith, drop, get_or, length, subst, sym, take, ◌++◌, ◌∙◌, ◌≡◌, ℕ}
 use Rattle.std.proofs.lemmas.List.{take-append-le, take_all}
-use Rattle.sqs_model.specs.Bounds.{IsDistance}
+use Rattle.sim_engine.specs.Bounds.{IsDistance}
 use Rattle.sim_exchange.specs.Layout.{owner_of}
 use Rattle.sim_exchange.specs.Line.{IsSettled}
 use Rattle.sim_exchange.proofs.Walks.{all_in, are_distances}

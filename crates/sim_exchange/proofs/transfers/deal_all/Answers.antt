@@ -5,6 +5,6 @@ use Rattle.sim_exchange.proofs.Dealing.{dealt_length}
 use Rattle.sim_exchange.proofs.transfers.deal_all.Goals as goal
 
 pub deal-requires : goal.deal-requires
-deal-requires c =
+deal-requires g c =
     sym (length-map c.loop-list.lists.items (λ v. v.items)) ∙ ap length c.loop-list.invariant
-    ∙ dealt_length (owner_of c.args.layout.now) c.args.layout.now.parts (flat_map (λ v. v.items) c.loop-list.yielded)
+    ∙ dealt_length g.S.Site.engine (owner_of c.args.layout.now) c.args.layout.now.parts (flat_map (λ v. v.items) c.loop-list.yielded)

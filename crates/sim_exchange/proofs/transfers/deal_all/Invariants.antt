@@ -5,4 +5,4 @@ use Rattle.sim_exchange.proofs.transfers.deal_all.Given as goal
 
 -- what was dealt so far
 abbrev pub invariant-loop-list : goal.invariant-loop-list
-invariant-loop-list l = map (λ v. v.items) l.lists.items ≡ dealt (owner_of l.layout) l.layout.parts (flat_map (λ v. v.items) l.yielded)
+invariant-loop-list g l = map (λ v. v.items) l.lists.items ≡ dealt g.S.Site.engine (owner_of l.layout) l.layout.parts (flat_map (λ v. v.items) l.yielded)

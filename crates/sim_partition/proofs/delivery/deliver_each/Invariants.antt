@@ -1,12 +1,12 @@
-use Rattle.std.proofs.Common.{map, ◌≡◌}
-use Rattle.sqs_model.specs.World.{delivered}
-use Rattle.sim_partition.specs.Sites.{AreMarked, alive, living}
+use Rattle.std.proofs.Common.{◌≡◌}
+use Rattle.sim_engine.specs.World.{delivered}
+use Rattle.sim_partition.specs.Sites.{AreMarked}
 use Rattle.sim_partition.proofs.delivery.deliver_each.Given as goal
 
 -- those so far are delivered
 abbrev pub invariant-loop-transfer : goal.invariant-loop-transfer
-invariant-loop-transfer l =
+invariant-loop-transfer g l =
     record {
-      delivered : l.sites.items ≡ map alive (delivered l.yielded (living l.initial.sites.items));
-      marked : AreMarked l.sites.items l.dues;
+      delivered : l.sites.items ≡ delivered g.S.Site.engine l.yielded l.initial.sites.items;
+      marked : AreMarked g.S.Site.engine l.sites.items l.dues;
     }

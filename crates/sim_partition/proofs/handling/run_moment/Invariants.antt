@@ -1,21 +1,21 @@
 use Rattle.std.proofs.Common.{ℕ, ◌<◌}
-use Rattle.sqs_model.specs.World.{world_due}
-use Rattle.sqs_model.specs.Progress.{AreTimely}
-use Rattle.sqs_model.proofs.WorldMoves.{world_count}
-use Rattle.sim_partition.specs.Sites.{IsFrom, IsKept, living}
+use Rattle.std.specs.Prelude.{All}
+use Rattle.sim_engine.proofs.WorldMoves.{world_count}
+use Rattle.sim_engine.specs.World.{world_due}
+use Rattle.sim_partition.specs.Sites.{IsFrom, IsKept}
 use Rattle.sim_partition.specs.Steps.{Continues, StaysOfPast, part_made}
 use Rattle.sim_partition.proofs.handling.run_moment.Given as goal
 
 abbrev pub invariant-loop-key : goal.invariant-loop-key
-invariant-loop-key l =
+invariant-loop-key g l =
     record {
-      kept : IsKept l.sites.items l.dues;
-      from : IsFrom l.moment (world_due (living l.sites.items));
-      goes_on : (bound : ℕ) → l.moment < bound → Continues bound (part_made (living l.initial.sites.items) l.initial.effects) (part_made (living l.sites.items) l.effects);
-      past : StaysOfPast l.moment (living l.initial.sites.items) (living l.sites.items);
-      timely : AreTimely l.initial.effects.sent.items → AreTimely l.effects.sent.items;
+      kept : IsKept g.S.Site.engine g.S.Site.conditions l.sites.items l.dues;
+      from : IsFrom l.moment (world_due g.S.Site.engine l.sites.items);
+      goes_on : (bound : ℕ) → l.moment < bound → Continues g.S.Site.engine bound (part_made g.S.Site.engine l.initial.sites.items l.initial.effects) (part_made g.S.Site.engine l.sites.items l.effects);
+      past : StaysOfPast g.S.Site.conditions l.moment l.initial.sites.items l.sites.items;
+      timely : All g.S.Site.conditions.Timely l.initial.effects.sent.items → All g.S.Site.conditions.Timely l.effects.sent.items;
     }
 
 -- what is due by the moment
 abbrev pub decreases-loop-key : goal.decreases-loop-key
-decreases-loop-key l = world_count l.moment (living l.sites.items)
+decreases-loop-key g l = world_count g.met.S.Site.laws l.moment l.sites.items

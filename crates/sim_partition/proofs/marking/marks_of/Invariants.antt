@@ -4,4 +4,4 @@ use Rattle.sim_partition.proofs.marking.marks_of.Given as goal
 
 -- the marks of those so far
 abbrev pub invariant-loop-site : goal.invariant-loop-site
-invariant-loop-site l = record { same : l.marks.items ≡ map mark_of (take l.site-index l.sites); long : length l.marks.items ≡ l.site-index }
+invariant-loop-site g l = record { same : l.marks.items ≡ map (mark_of g.S.Site.engine) (take l.site-index l.sites); long : length l.marks.items ≡ l.site-index }

@@ -1,4 +1,4 @@
-use Rattle.sqs_model.specs.Places.{place_from_position}
+use Rattle.sim_clock.specs.Places.{place_from_position}
 use Rattle.sqs_model.specs.Site.{is_task}
 use Rattle.sim_site.proofs.places.place_of_task.Goals as goal
 

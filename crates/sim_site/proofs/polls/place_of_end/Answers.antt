@@ -1,4 +1,4 @@
-use Rattle.sqs_model.specs.Places.{place_from_position}
+use Rattle.sim_clock.specs.Places.{place_from_position}
 use Rattle.sim_site.specs.Marked.{place_ends_at}
 use Rattle.sim_site.proofs.Ending.{least_matched}
 use Rattle.sim_site.proofs.polls.place_of_end.Goals as goal

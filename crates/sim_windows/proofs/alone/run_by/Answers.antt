@@ -11,7 +11,7 @@ loop-key-preserved g c =
       ready = c.in_ok-run_moment.ensures.ready;
       lives = c.in_ok-run_moment.ensures.lives;
       ran =
-          runs_on g.K.RowSink.took c.args.horizon g.met.K.RowSink.took_both (sites_in c.args.partition.now) (sites_in c.loop-key.partition) (sites_in c.run_moment.new.partition) c.args.sink.now c.loop-key.sink c.run_moment.new.sink
+          runs_on g.met.S.Site.laws g.K.RowSink.took c.args.horizon g.met.K.RowSink.took_both (sites_in c.args.partition.now) (sites_in c.loop-key.partition) (sites_in c.run_moment.new.partition) c.args.sink.now c.loop-key.sink c.run_moment.new.sink
           c.loop-key.invariant.ran (c.in_ok-run_moment.ensures.ran c.args.horizon (omega (arith, c.if-key-horizon.false)));
     }
 
@@ -20,5 +20,5 @@ returns-in_err-run_moment-clause-stops g c =
     let e : Refusal = c.in_err-run_moment.field-0.0 in
     let told = err_from_is_err_and c.from_residual.result c.from_residual.ensures.1 in
     rw (told.1, told.2)
-    (halts_on g.K.RowSink.took c.args.horizon g.K.RowSink.broke g.met.K.RowSink.took_both g.met.K.RowSink.broke_later (sites_in c.args.partition.now) (sites_in c.loop-key.partition) c.args.sink.now c.loop-key.sink c.run_moment.new.sink e
+    (halts_on g.met.S.Site.laws g.K.RowSink.took c.args.horizon g.K.RowSink.broke g.met.K.RowSink.took_both g.met.K.RowSink.broke_later (sites_in c.args.partition.now) (sites_in c.loop-key.partition) c.args.sink.now c.loop-key.sink c.run_moment.new.sink e
     c.loop-key.invariant.ran (c.in_err-run_moment.ensures.stops c.args.horizon (omega (arith, c.if-key-horizon.false))))

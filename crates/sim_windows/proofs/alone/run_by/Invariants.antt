@@ -1,6 +1,6 @@
 use Rattle.std.proofs.Common.{◌+◌, ◌-◌}
 use Rattle.std.specs.Prelude.{IsOk}
-use Rattle.sqs_model.specs.World.{world_due}
+use Rattle.sim_engine.specs.World.{world_due}
 use Rattle.sim_windows.specs.Sinks.{HasRun}
 use Rattle.sim_windows.specs.Worlds.{due_at, sites_in}
 use Rattle.sim_windows.proofs.alone.run_by.Given as goal
@@ -10,9 +10,9 @@ invariant-loop-key g l =
     record {
       ready : g.K.RowSink.ready l.sink;
       lives : IsOk l.partition;
-      ran : HasRun g.K.RowSink.took l.horizon (sites_in l.initial.partition) l.initial.sink (sites_in l.partition) l.sink;
+      ran : HasRun g.S.Site.engine g.K.RowSink.took l.horizon (sites_in l.initial.partition) l.initial.sink (sites_in l.partition) l.sink;
     }
 
 -- the time to the horizon
 abbrev pub decreases-loop-key : goal.decreases-loop-key
-decreases-loop-key g l = l.horizon + 1 - due_at l.horizon (world_due (sites_in l.partition))
+decreases-loop-key g l = l.horizon + 1 - due_at l.horizon (world_due g.S.Site.engine (sites_in l.partition))

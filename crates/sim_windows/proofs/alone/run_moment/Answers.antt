@@ -1,42 +1,42 @@
 use Rattle.std.proofs.Common.{List, Result, Some, arith, subst, ◌≡◌, ◌≤◌}
 use Rattle.std.proofs.lemmas.Result.{err_from_is_err_and}
 use Rattle.sim_clock.specs.declared.refusal.Refusal.{Refusal}
-use Rattle.sqs_model.specs.World.{world_due}
-use Rattle.sqs_model.specs.Site.{Site}
-use Rattle.sim_windows.specs.Worlds.{AreOfPast, IsFrom, sites_in}
-use Rattle.sim_windows.proofs.Places.{due_told, past_told, sound_told}
+use Rattle.sim_engine.specs.World.{world_due}
+use Rattle.sim_partition.specs.Sites.{AreOfPast, IsFrom}
+use Rattle.sim_windows.specs.Worlds.{sites_in}
+use Rattle.sim_windows.proofs.Whole.{due_told, past_told, sound_told}
 use Rattle.sim_windows.proofs.Runs.{from_after, smaller}
 use Rattle.sim_windows.proofs.Sinking.{halts_on, runs_on}
 use Rattle.sim_windows.proofs.alone.run_moment.Goals as goal
 
 pub handle-requires-clause-past : goal.handle-requires-clause-past
 handle-requires-clause-past g c =
-    let v : Result (List Site) Refusal = c.loop-key.partition in
-    let due : world_due (sites_in v) ≡ Some c.in-Some.key = due_told v c.least_due.result (Some c.in-Some.key) c.least_due.ensures.due c.in-Some.is in
-    subst (AreOfPast (sites_in v)) due (past_told v c.least_due.ensures.past)
+    let v = c.loop-key.partition in
+    let due : world_due g.S.Site.engine (sites_in v) ≡ Some c.in-Some.key = due_told g.met.S.Site.laws v c.least_due.result (Some c.in-Some.key) c.least_due.ensures.due c.in-Some.is in
+    subst (AreOfPast g.S.Site.conditions (sites_in v)) due (past_told g.met.S.Site.laws v c.least_due.ensures.past)
 
 pub loop-key-smaller : goal.loop-key-smaller
 loop-key-smaller g c =
-    let w : List Site = sites_in c.loop-key.partition in
+    let w = sites_in c.loop-key.partition in
     let key = c.in-Some.key in
-    let due : world_due w ≡ Some key = due_told c.loop-key.partition c.least_due.result (Some key) c.least_due.ensures.due c.in-Some.is in
+    let due : world_due g.S.Site.engine w ≡ Some key = due_told g.met.S.Site.laws c.loop-key.partition c.least_due.result (Some key) c.least_due.ensures.due c.in-Some.is in
     let from : c.args.moment ≤ key.at = subst (IsFrom c.args.moment) due c.loop-key.invariant.from in
-    smaller key c.args.moment w (sites_in c.handle.new.partition) from (omega (arith, c.if-key-moment.false)) (sound_told c.loop-key.partition c.least_due.ensures.moves_on) due c.in_ok-handle.ensures.done
+    smaller g.met.S.Site.laws key c.args.moment w (sites_in c.handle.new.partition) from (omega (arith, c.if-key-moment.false)) (sound_told g.met.S.Site.laws c.loop-key.partition c.least_due.ensures.moves_on) due c.in_ok-handle.ensures.done
 
 pub loop-key-preserved : goal.loop-key-preserved
 loop-key-preserved g c =
-    let w : List Site = sites_in c.loop-key.partition in
-    let x : List Site = sites_in c.handle.new.partition in
+    let w = sites_in c.loop-key.partition in
+    let x = sites_in c.handle.new.partition in
     let key = c.in-Some.key in
-    let due : world_due w ≡ Some key = due_told c.loop-key.partition c.least_due.result (Some key) c.least_due.ensures.due c.in-Some.is in
+    let due : world_due g.S.Site.engine w ≡ Some key = due_told g.met.S.Site.laws c.loop-key.partition c.least_due.result (Some key) c.least_due.ensures.due c.in-Some.is in
     let from : c.args.moment ≤ key.at = subst (IsFrom c.args.moment) due c.loop-key.invariant.from in
     record {
       ready = c.in_ok-handle.ensures.ready;
       lives = c.in_ok-handle.ensures.lives;
       ran = λ horizon l.
-          runs_on g.K.RowSink.took horizon g.met.K.RowSink.took_both (sites_in c.args.partition.now) w x c.args.sink.now c.loop-key.sink c.handle.new.sink (c.loop-key.invariant.ran horizon l)
+          runs_on g.met.S.Site.laws g.K.RowSink.took horizon g.met.K.RowSink.took_both (sites_in c.args.partition.now) w x c.args.sink.now c.loop-key.sink c.handle.new.sink (c.loop-key.invariant.ran horizon l)
           (c.in_ok-handle.ensures.ran horizon (omega (arith, l, c.if-key-moment.false)));
-      from = from_after key c.args.moment w x from (sound_told c.loop-key.partition c.least_due.ensures.moves_on) due c.loop-key.invariant.from c.in_ok-handle.ensures.done;
+      from = from_after g.met.S.Site.laws key c.args.moment w x from (sound_told g.met.S.Site.laws c.loop-key.partition c.least_due.ensures.moves_on) due c.loop-key.invariant.from c.in_ok-handle.ensures.done;
     }
 
 pub returns-in_err-handle-clause-stops : goal.returns-in_err-handle-clause-stops
@@ -45,5 +45,5 @@ returns-in_err-handle-clause-stops g c =
     let told = err_from_is_err_and c.from_residual.result c.from_residual.ensures.1 in
     rw (told.1, told.2)
     (λ horizon l.
-    halts_on g.K.RowSink.took horizon g.K.RowSink.broke g.met.K.RowSink.took_both g.met.K.RowSink.broke_later (sites_in c.args.partition.now) (sites_in c.loop-key.partition) c.args.sink.now c.loop-key.sink c.handle.new.sink e
+    halts_on g.met.S.Site.laws g.K.RowSink.took horizon g.K.RowSink.broke g.met.K.RowSink.took_both g.met.K.RowSink.broke_later (sites_in c.args.partition.now) (sites_in c.loop-key.partition) c.args.sink.now c.loop-key.sink c.handle.new.sink e
     (c.loop-key.invariant.ran horizon l) (c.in_err-handle.ensures.stops horizon (omega (arith, l, c.if-key-moment.false))))

@@ -1,8 +1,6 @@
-use Rattle.std.proofs.Common.{◌≡◌, List, flat_map, map, take}
-use Rattle.sim_windows.specs.Worlds.{alive}
+use Rattle.std.proofs.Common.{◌≡◌, flat_map, take}
 use Rattle.sqs_model.specs.Finals.{messages_at}
-use Rattle.sqs_model.specs.Site.{Site}
 use Rattle.sqs_rehearsal.proofs.finals.messages_of.Given as goal
 
 abbrev pub invariant-loop-site : goal.invariant-loop-site
-invariant-loop-site l = (w : List Site) → l.sites ≡ map alive w → l.messages.items ≡ flat_map messages_at (take l.site-index w)
+invariant-loop-site l = l.messages.items ≡ flat_map messages_at (take l.site-index l.sites)

@@ -14,7 +14,7 @@ use Rattle.sqs_rehearsal.proofs.finals.transfers_of.Goals as goal
 
 pub returns : goal.returns
 returns c =
-    λ w e.
+    let w = c.args.sites.now in
     let lt = λ (p q : Key × FinalTransfer). is_lt (key_cmp p.0 q.0) in
     let weak = ranks_by key_cmp_total (λ (p : Key × FinalTransfer). p.0) in
     let compares = always_returns_same _ _ _ (λ a r f k. search rules) in
@@ -23,6 +23,6 @@ returns c =
     let sorted : IsSortedBy lt new = c.in_ok-sort_by.ensures.sorted lt weak compares in
     let stable : IsStableBy lt (reverse list) new = subst (λ t. IsStableBy lt t new) c.reverse.ensures.items (c.in_ok-sort_by.ensures.stable lt weak compares) in
     let transfers = flat_map (λ s. s.arriving) w in
-    let all : list ≡ map keyed transfers = c.in_ok-keyed.ensures w e ∙ map_flat keyed (λ s. s.arriving) w in
+    let all : list ≡ map keyed transfers = c.in_ok-keyed.ensures ∙ map_flat keyed (λ s. s.arriving) w in
     let ordered : new ≡ map keyed (in_key_order transfers) = stable_in_order by_key list new sorted stable ∙ ap (in_order by_key) all ∙ sym (keys_in_order transfers) in
     subst (λ (t : List FinalTransfer). IfOk c.without_keys.result (λ v. v.items ≡ t)) (ap (map (λ (p : Key × FinalTransfer). p.1)) ordered ∙ without_keys (in_key_order transfers)) c.without_keys.ensures

@@ -1,5 +1,8 @@
-use Rattle.sim_site.proofs.Timely.{accepts_timely}
+use Rattle.std.proofs.Common.{subst, sym}
+use Rattle.std.proofs.lemmas.Result.{on_ok_weaker}
+use Rattle.sqs_model.proofs.Instance.{sqs_laws}
+use Rattle.sqs_model.specs.Conditions.{IsOfPast}
 use Rattle.test_rehearsals.proofs.sites.accept.Goals as goal
 
-pub returns-clause-timely : goal.returns-clause-timely
-returns-clause-timely c = λ h. accepts_timely _ c.args.site.now c.accept.new.self c.accept.result tt c.accept.ensures.accepted c.accept.ensures.spent c.accept.ensures.stays h
+pub returns : goal.returns
+returns c = on_ok_weaker c.accept.result (λ e h. subst (IsOfPast 0) (sym e) (sqs_laws.past_accepted 0 _ c.args.site.now tt h)) c.accept.ensures.accepted

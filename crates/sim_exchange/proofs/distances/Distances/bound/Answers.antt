@@ -1,5 +1,5 @@
 use Rattle.std.proofs.Common.{None, Option, ap, arith, get_or, min, subst, suc, ◌+◌, ◌∙◌, ◌<◌, ◌^◌, ◌≡◌, ℕ}
-use Rattle.sqs_model.specs.Bounds.{bound_by, reached}
+use Rattle.sim_engine.specs.Bounds.{bound_by, reached}
 use Rattle.sim_exchange.specs.Table.{distance_in}
 use Rattle.sim_exchange.proofs.distances.Distances.bound.Goals as goal
 

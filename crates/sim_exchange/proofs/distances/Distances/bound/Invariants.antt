@@ -1,5 +1,5 @@
 use Rattle.std.proofs.Common.{None, get_or, ◌+◌, ◌≡◌, ◌≤◌}
-use Rattle.sqs_model.specs.Bounds.{bound_by}
+use Rattle.sim_engine.specs.Bounds.{bound_by}
 use Rattle.sim_exchange.specs.Table.{distance_in}
 use Rattle.sim_exchange.proofs.distances.Distances.bound.Given as goal
 

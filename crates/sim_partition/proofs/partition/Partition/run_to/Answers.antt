@@ -1,49 +1,45 @@
-use Rattle.std.proofs.Common.{List, Result, ap, subst, sym, ◌∙◌}
+use Rattle.std.proofs.Common.{ap, subst, ◌∙◌}
 use Rattle.std.specs.Prelude.{All}
-use Rattle.sim_clock.specs.declared.refusal.Refusal.{Refusal}
-use Rattle.sqs_model.specs.Rounds.{PartRun, part_begun}
-use Rattle.sim_site.specs.declared.effects.Effects.{Effects}
-use Rattle.sqs_model.specs.Site.{Site}
-use Rattle.sim_partition.specs.Sites.{IsOfPast, living, spent_or}
+use Rattle.sim_engine.specs.Rounds.{PartRun, part_begun}
+use Rattle.sim_partition.specs.Sites.{spent_or}
 use Rattle.sim_partition.specs.Steps.{Continues, StopsFrom, StopsRun, part_made}
 use Rattle.sim_partition.proofs.Runs.{after_more, stops_run}
 use Rattle.sim_partition.proofs.Spent.{begins, lives_as, now_lives}
 use Rattle.sim_partition.proofs.partition.Partition.run_to.Goals as goal
 
 pub returns-in-Err-clause-stops : goal.returns-in-Err-clause-stops
-returns-in-Err-clause-stops c =
-    let xs : List (Result Site Refusal) = c.self.inside.sites.items in
-    let w : List Site = living xs in
+returns-in-Err-clause-stops g c =
+    let e = g.S.Site.engine in
+    let w = c.self.inside.sites.items in
     let refusal = c.in-Err.refusal in
-    lives_as (λ v. StopsRun c.args.end v refusal) c.args.self.now w (now_lives c.self.inside.spent xs c.args.self.now c.in_default.is c.self.view_is)
-    (stops_run c.args.end w refusal
-    (subst (λ (r : PartRun). StopsFrom c.args.end r refusal) (begins w c.new-effects.result c.new-effects.ensures.rows c.new-effects.ensures.sent) c.in-Err.ensures.stops))
+    lives_as (λ v. StopsRun e c.args.end v refusal) c.args.self.now w (now_lives c.self.inside.spent w c.args.self.now c.in_default.is c.self.view_is)
+    (stops_run g.met.S.Site.laws c.args.end w refusal
+    (subst (λ (r : PartRun e). StopsFrom e c.args.end r refusal) (begins e w c.new-effects.result c.new-effects.ensures.rows c.new-effects.ensures.sent) c.in-Err.ensures.stops))
 
 pub returns-clause-ran : goal.returns-clause-ran
-returns-clause-ran c =
-    let xs : List (Result Site Refusal) = c.self.inside.sites.items in
-    let w : List Site = living xs in
-    let ys : List (Result Site Refusal) = c.run_before.new.sites.items in
-    let effects : Effects = c.run_before.new.effects in
-    let x : PartRun = part_made (living ys) effects in
-    let made = c.into_handled-rows.ensures in
-    let on : Continues c.args.end (part_begun w) x = subst (λ (r : PartRun). Continues c.args.end r x) (begins w c.new-effects.result c.new-effects.ensures.rows c.new-effects.ensures.sent) c.in_default-run_before.ensures.goes_on in
-    lives_as _ c.args.self.now w (now_lives c.self.inside.spent xs c.args.self.now c.in_default.is c.self.view_is)
+returns-clause-ran g c =
+    let e = g.S.Site.engine in
+    let w = c.self.inside.sites.items in
+    let v = c.run_before.new.sites.items in
+    let x : PartRun e = part_made e v c.run_before.new.effects in
+    let on : Continues e c.args.end (part_begun e w) x =
+    subst (λ (r : PartRun e). Continues e c.args.end r x) (begins e w c.new-effects.result c.new-effects.ensures.rows c.new-effects.ensures.sent) c.in_default-run_before.ensures.goes_on in
+    lives_as _ c.args.self.now w (now_lives c.self.inside.spent w c.args.self.now c.in_default.is c.self.view_is)
     (record {
-      sites = living ys;
-      lives = ap (λ s. spent_or s ys) c.in_default.is;
+      sites = v;
+      lives = ap (λ s. spent_or s v) c.in_default.is;
       run =
           record {
             steps = on.steps;
-            reached = after_more c.args.end on.steps w ∙ on.reached ∙ (λ k. record { sites = living ys; rows = (sym made.rows k).items; sent = (sym made.outbound k).items });
+            reached = after_more g.met.S.Site.laws c.args.end on.steps w ∙ on.reached;
             done = c.in_default-run_before.ensures.done;
           };
     })
 
 pub returns-clause-past : goal.returns-clause-past
-returns-clause-past c =
-    let xs : List (Result Site Refusal) = c.self.inside.sites.items in
-    let w : List Site = living xs in
-    let ys : List (Result Site Refusal) = c.run_before.new.sites.items in
-    lives_as _ c.args.self.now w (now_lives c.self.inside.spent xs c.args.self.now c.in_default.is c.self.view_is)
-    (λ moment l p. lives_as (All (IsOfPast moment)) (spent_or c.self.inside.spent ys) (living ys) (ap (λ s. spent_or s ys) c.in_default.is) (c.in_default-run_before.ensures.past moment l p))
+returns-clause-past g c =
+    let e = g.S.Site.engine in
+    let w = c.self.inside.sites.items in
+    let v = c.run_before.new.sites.items in
+    lives_as _ c.args.self.now w (now_lives c.self.inside.spent w c.args.self.now c.in_default.is c.self.view_is)
+    (λ moment l p. lives_as (All (g.S.Site.conditions.Past moment)) (spent_or c.self.inside.spent v) v (ap (λ s. spent_or s v) c.in_default.is) (c.in_default-run_before.ensures.past moment l p))

@@ -1,7 +1,7 @@
 use Rattle.std.proofs.Common.{subst, ◌∙◌}
 use Rattle.std.specs.Prelude.{List, MatchOption}
 use Rattle.sqs_model.specs.Actor.{Actor}
-use Rattle.sqs_model.specs.Places.{IsAbsent, Stands, place_from_position}
+use Rattle.sim_clock.specs.Places.{IsAbsent, Stands, place_from_position}
 use Rattle.sqs_model.specs.Site.{is_actor}
 use Rattle.sim_site.proofs.actors.Actors.place_of.Goals as goal
 

@@ -1,6 +1,6 @@
 use Rattle.std.proofs.Common.{List, ap, subst, ◌∙◌, ◌≡◌}
 use Rattle.sim_clock.specs.Firsts.{without}
-use Rattle.sqs_model.specs.Places.{IsAbsent, Stands}
+use Rattle.sim_clock.specs.Places.{IsAbsent, Stands}
 use Rattle.sqs_model.specs.Site.{Poll}
 use Rattle.sqs_model.specs.Step.{ends_at}
 use Rattle.sim_site.specs.Marked.{place_ends_at, waiting}

@@ -1,5 +1,5 @@
 use Rattle.std.proofs.Common.{List, Global, Vec, ap, subst, sym}
-use Rattle.sqs_model.specs.Places.{Stands}
+use Rattle.sim_clock.specs.Places.{Stands}
 use Rattle.sqs_model.specs.Site.{is_task}
 use Rattle.sqs_model.specs.Task.{Task}
 use Rattle.sim_site.specs.contracts.state.Core.{the_view}

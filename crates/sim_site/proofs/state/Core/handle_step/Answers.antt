@@ -2,7 +2,7 @@ use Rattle.sqs_model.specs.Limits.{PassesCount}
 use Rattle.std.specs.Prelude.{IfErr, List, Some}
 use Rattle.std.proofs.Common.{ap, subst, sym, ◌≡◌, ◌∙◌}
 use Rattle.sqs_redrive.specs.declared.settings.TaskSettings.{TaskSettings}
-use Rattle.sqs_model.specs.Places.{Stands}
+use Rattle.sim_clock.specs.Places.{Stands}
 use Rattle.sqs_model.specs.Queue.{Queue}
 use Rattle.sqs_model.specs.Step.{handle_step}
 use Rattle.sqs_model.specs.Task.{Task, take_movable}

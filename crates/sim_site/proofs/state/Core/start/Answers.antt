@@ -1,7 +1,7 @@
 use Rattle.std.proofs.Common.{◌≡◌, ◌∙◌, true, false, List, ap, subst, sym}
 use Rattle.std.specs.List.{list_any}
 use Rattle.sqs_model.specs.Acts.{runs}
-use Rattle.sqs_model.specs.Places.{Stands}
+use Rattle.sim_clock.specs.Places.{Stands}
 use Rattle.sqs_model.specs.Site.{is_task}
 use Rattle.sqs_model.specs.Task.{Task}
 use Rattle.sim_site.specs.contracts.state.Core.{the_view}

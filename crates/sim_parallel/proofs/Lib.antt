@@ -1,5 +1,0 @@
-pub mod Back
-pub mod Fronts
-pub mod Refused
-pub mod Ranges
-pub mod Ran

@@ -1,0 +1,4 @@
+pub mod Ring
+pub mod Opening
+pub mod Keys
+pub mod Laws

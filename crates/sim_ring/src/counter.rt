@@ -1,0 +1,120 @@
+//! Counters: a kind of sites.
+ghost use Rattle.std.specs.Prelude.{◌≡◌};
+
+use sim_clock::{Agenda, Class, Key, Refusal};
+use sim_engine::{Effects, Site};
+
+/// The most that a counter counts: the engine's limit of counts.
+const MOST: u64 = 4_611_686_018_427_387_903;
+
+/// A token on its way to a counter: what sites of this kind send to one another. A transfer has a key,
+/// which says when it arrives and tells it from all others, and the number of the site that it is for.
+#[derive(Drop)]
+pub struct Token {
+    /// The key of its arrival. Its agent is the number of the counter that sent it, and its number
+    /// how many that one had sent before.
+    pub key: Key,
+    /// The number of the counter that it is for.
+    pub to: u32,
+}
+
+/// What a counter tells when it has counted a token: a row of sites of this kind. A row has the key of
+/// the handling that made it, and the number of the site at which it was made.
+#[derive(Drop)]
+pub struct Told {
+    /// The key of the token's arrival.
+    pub key: Key,
+    /// The number of the counter.
+    pub number: u32,
+    /// How many tokens it has counted, with this one.
+    pub count: u64,
+}
+
+/// Counts the tokens that reach it, and hands each on to the next counter. What is due at it are the
+/// arrivals of the tokens on their way to it.
+#[derive(Drop)]
+pub struct Counter {
+    /// Its number.
+    pub number: u32,
+    /// The number of the counter that it hands tokens on to.
+    pub next: u32,
+    /// How long a token takes to that one, in milliseconds.
+    pub way: u32,
+    /// How many tokens it has counted so far.
+    pub count: u64,
+    /// The keys of the tokens on their way to it.
+    pub arriving: Agenda,
+}
+
+// A kind of sites has three ghost members. `engine` defines what its functions do, and they are proved
+// to do that. `conditions` are what its sites and transfers are like at every step of a run. `laws` are
+// the proof that handlings and deliveries keep to what the engine asks of every site.
+impl Site for Counter {
+    ghost use Rattle.sim_ring.specs.Ring.{ring, ring_conditions};
+    ghost use Rattle.sim_ring.specs.Laws.{ring_laws};
+
+    type Row = Told;
+
+    type Transfer = Token;
+
+    ghost engine = { ring };
+
+    ghost conditions = { ring_conditions };
+
+    fn transfer_key(transfer: &Token) -> Key {
+        transfer.key
+    }
+
+    fn to(transfer: &Token) -> u32 {
+        transfer.to
+    }
+
+    fn row_key(row: &Told) -> Key {
+        row.key
+    }
+
+    fn row_site(row: &Told) -> u32 {
+        row.number
+    }
+
+    fn number(&self) -> u32 {
+        self.number
+    }
+
+    fn least_due(&self) -> Option<Key> {
+        self.arriving.peek()
+    }
+
+    // A token is on its way: the key of its arrival is due from now on.
+    fn accept(&mut self, transfer: Token) -> Result<(), Refusal> {
+        self.arriving.push(transfer.key)
+    }
+
+    // A token has arrived: it is counted, and handed on. What is handled is always the least due, so
+    // that is what leaves the agenda.
+    fn handle_into(&mut self, key: Key, effects: &mut Effects<Told, Token>) -> Result<(), Refusal> {
+        if self.count >= MOST {
+            return Err(Refusal::CountLimit);
+        }
+        self.arriving.pop_least();
+        let token = Token {
+            key: Key {
+                at: key.at + u64::from(self.way),
+                agent: self.number,
+                class: Class::Arrival,
+                number: self.count,
+            },
+            to: self.next,
+        };
+        self.count += 1;
+        let told = Told {
+            key,
+            number: self.number,
+            count: self.count,
+        };
+        effects.say_sent(told, token)?;
+        Ok(())
+    }
+
+    ghost laws = { ring_laws };
+}

@@ -1,6 +1,0 @@
-use Rattle.std.proofs.Common.{◌≡◌, [], map}
-use Rattle.std.specs.List.{range_with_len}
-use Rattle.sim_stage.proofs.parting.no_sites.Given as goal
-
-abbrev pub invariant-loop : goal.invariant-loop
-invariant-loop l = map (λ x. x.items) l.lists.items ≡ map (λ p. []) (range_with_len 0 l.counter)

@@ -1,0 +1,81 @@
+-- A machine at which nothing was done.
+use Rattle.std.specs.List.{range_with_len}
+use Rattle.std.specs.Prelude.{All, Bool, List, None, Ok, Option, Result, Some, [], cond, false, filter, length, map, true, ℕ, ◌∷◌, ◌≡◌, ◌≤◌}
+use Rattle.std.proofs.Common.{ap, arith, refl, subst, sym, ◌∙◌}
+use Rattle.std.proofs.lemmas.Bool.{le-ltb}
+use Rattle.std.proofs.lemmas.List.Elements.{All-cons, All-head, All-nil, All-tail}
+use Rattle.std.proofs.lemmas.List.FromFn.{length-map-range_with_len}
+use Rattle.sim_clock.specs.declared.key.Key.{Key}
+use Rattle.sim_clock.specs.declared.refusal.Refusal.{Refusal}
+use Rattle.sim_clock.specs.Order.{due_before}
+use Rattle.sim_engine.specs.Bounds.{AreDistances, own_bound}
+use Rattle.sim_engine.specs.Engine.{Engine}
+use Rattle.sim_engine.specs.Laws.{Conditions, SiteLaws}
+use Rattle.sim_engine.specs.Limits.{most_count}
+use Rattle.sim_engine.specs.Parts.{is_of, part_due, part_of}
+use Rattle.sim_engine.specs.Prefixes.{is_before}
+use Rattle.sim_engine.specs.Setting.{Setting}
+use Rattle.sim_engine.specs.Simulated.{IsSimulated}
+use Rattle.sim_exchange.specs.Layout.{IsLayout, Layout, owner_of}
+use Rattle.sim_exchange.specs.Table.{Table, distance_in}
+use Rattle.sim_partition.proofs.Moments.{all_later}
+use Rattle.sim_windows.specs.Stages.{IsForward, IsOpened, Shows, Standing, Stands, machine_in}
+use Rattle.sim_windows.proofs.Meetings.{bounds_set}
+
+none_at_zero : (d : Option Key) → due_before 0 d ≡ None
+none_at_zero None = refl
+none_at_zero (Some k) = rw (le-ltb k.at 0 (omega arith)) refl
+
+pub all_picked : {A : Type 0} (P : A → Type 0) (f : A → Bool) (xs : List A) → All P xs → All P (filter f xs)
+all_picked P f [] h = All-nil P
+all_picked P f (x ∷ xs) h =
+    elim (f x) as (λ b. All P (cond b (x ∷ filter f xs) (filter f xs))) [
+      | true ↦ All-cons P x (filter f xs) (All-head P x xs h) (all_picked P f xs (All-tail P x xs h))
+      | false ↦ all_picked P f xs (All-tail P x xs h)
+    ]
+
+module _ {Site Row Transfer : Type 0} {engine : Engine Site Row Transfer} {conditions : Conditions Site Transfer} (basics : SiteLaws engine conditions) where
+  open engine use {row_key}
+  open conditions use {Past, Timely}
+
+  -- nothing is from before the first moment
+  pub none_before_zero : (xs : List Row) → filter (is_before engine 0) xs ≡ []
+  none_before_zero [] = refl
+  none_before_zero (x ∷ xs) =
+      ap (λ b. cond b (x ∷ filter (is_before engine 0) xs) (filter (is_before engine 0) xs)) (le-ltb (row_key x).at 0 (omega arith)) ∙ none_before_zero xs
+
+  -- it stands as the definitions' machine at which nothing was picked
+  pub opens :
+      (s : Setting Site) → IsSimulated engine conditions s → (layout : Layout) → IsLayout layout → (table : Table) → table.parts ≡ layout.parts → AreDistances (owner_of layout) s.edges (distance_in table)
+      → s.horizon ≤ most_count → (parts : List (Result (List Site) Refusal)) → parts ≡ map (λ p. Ok (part_of engine (owner_of layout) p s.opening)) (range_with_len 0 layout.parts)
+      → (g : Standing Site Row Transfer) → IsOpened engine layout table s.horizon parts g → Stands engine conditions s [] g
+  opens s sound layout ok table same distances range parts is g o =
+      let n : ℕ = layout.parts in
+      let rule : List Site → ℕ → ℕ = own_bound engine (owner_of layout) (distance_in table) n s.horizon in
+      let at : Standing Site Row Transfer = record { layout = layout; distances = table; horizon = s.horizon; parts = parts; bounds = o.bounds; rows = map (λ p. []) (range_with_len 0 (length parts)); waiting = []; settled = 0 } in
+      let many : length parts ≡ n = ap (λ xs. length xs) is ∙ length-map-range_with_len (λ p. let x : Result (List Site) Refusal = Ok (part_of engine (owner_of layout) p s.opening) in x) 0 n in
+      let bounds : o.bounds ≡ map (rule s.opening) (range_with_len 0 n) = bounds_set basics (owner_of layout) table s.horizon n s.opening parts is table.parts same o.bounds o.set in
+      let shows : Shows engine at (machine_in engine layout table s []) = record {
+        parts = is;
+        bounds = bounds;
+        rows = ap (λ k. let f : ℕ → List Row = λ p. [] in map f (range_with_len 0 k)) many;
+        waiting = refl;
+      } in
+      let forward : IsForward engine conditions layout s.horizon 0 (machine_in engine layout table s []) = record {
+        past = λ p l. all_later basics 0 (rule s.opening p) (part_of engine (owner_of layout) p s.opening) (omega arith) (all_picked (Past 0) (is_of engine (owner_of layout) p) s.opening sound.past);
+        timely = All-nil Timely;
+        within = omega arith;
+        reached = λ p l. omega arith;
+        none = λ p. none_at_zero (part_due engine (owner_of layout) p s.opening);
+      } in
+      let stands : Stands engine conditions s [] at = record {
+        sound = sound;
+        layout = ok;
+        horizon = refl;
+        range = range;
+        parts = same;
+        distances = distances;
+        shows = shows;
+        forward = forward;
+      } in
+      subst (Stands engine conditions s []) (sym o.stands) stands

@@ -1,0 +1,56 @@
+-- Picks one after another.
+use Rattle.std.specs.Prelude.{Bool, List, [], false, if◌then◌else◌, true, ℕ, ◌++◌, ◌+◌, ◌∷◌, ◌≡◌}
+use Rattle.std.proofs.Common.{ap, append_assoc, refl, subst, sym, ◌∙◌}
+use Rattle.sim_exchange.specs.Layout.{Layout, owner_of}
+use Rattle.sim_exchange.specs.Table.{Table, distance_in}
+use Rattle.sim_engine.specs.Bounds.{own_bound}
+use Rattle.sim_engine.specs.Machine.{Machine, effects, played, played_all, takes_effect}
+use Rattle.sim_engine.specs.declared.picks.Pick.{Pick}
+use Rattle.sim_windows.specs.Stages.{Played, Standing, Stands, Took, machine_in}
+use Rattle.sim_windows.proofs.Standing.{more_picks}
+use Rattle.sim_engine.specs.Setting.{Setting}
+use Rattle.sim_engine.specs.Engine.{Engine}
+use Rattle.sim_engine.specs.Laws.{Conditions, SiteLaws}
+
+-- one more, if it takes effect
+abbrev pub one_more : Bool → ℕ → ℕ
+one_more took n = if took then n + 1 else n
+
+swapped_counts : (a b : Bool) (n : ℕ) → one_more a (one_more b n) ≡ one_more b (one_more a n)
+swapped_counts true true n = refl
+swapped_counts true false n = refl
+swapped_counts false true n = refl
+swapped_counts false false n = refl
+
+module _ {Site Row Transfer : Type 0} {engine : Engine Site Row Transfer} {conditions : Conditions Site Transfer} (basics : SiteLaws engine conditions) where
+  -- how many take effect, with one more
+  effects_push :
+      (owner : ℕ → ℕ) (horizon : ℕ) (rule : List Site → ℕ → ℕ) (xs : List Pick) (x : Pick) (m : Machine engine)
+      → effects engine owner horizon rule (xs ++ x ∷ []) m ≡ one_more (takes_effect engine owner horizon (played_all engine owner horizon rule xs m) x) (effects engine owner horizon rule xs m)
+  effects_push owner horizon rule [] x m = refl
+  effects_push owner horizon rule (y ∷ ys) x m =
+      let n : Machine engine = played engine owner horizon rule m y in
+      let t : Bool = takes_effect engine owner horizon m y in
+      ap (one_more t) (effects_push owner horizon rule ys x n) ∙ swapped_counts t (takes_effect engine owner horizon (played_all engine owner horizon rule ys n) x) (effects engine owner horizon rule ys n)
+
+  -- nothing yet
+  pub played_none : (s : Setting Site) (done : List Pick) (g : Standing Site Row Transfer) → Stands engine conditions s done g → Stands engine conditions s (done ++ []) g → Played engine conditions g g s done [] 0
+  played_none s done g st on = record { stands = on; same = record { layout = refl; distances = refl }; effects = refl }
+
+  -- a pick more
+  pub played_on :
+      (s : Setting Site) (done more : List Pick) (x : Pick) (g h k : Standing Site Row Transfer) (count : ℕ) (took : Bool) → Stands engine conditions s done g → Played engine conditions g h s done more count → Took engine conditions h k s (done ++ more) x took
+      → Played engine conditions g k s done (more ++ x ∷ []) (one_more took count)
+  played_on s done more x g h k count took st p t =
+      let m : Machine engine = machine_in engine g.layout g.distances s done in
+      let rule : List Site → ℕ → ℕ = own_bound engine (owner_of g.layout) (distance_in g.distances) g.layout.parts s.horizon in
+      let there : took ≡ takes_effect engine (owner_of g.layout) s.horizon (machine_in engine g.layout g.distances s (done ++ more)) x =
+      t.effect ∙ ap (λ (l : Layout). takes_effect engine (owner_of l) s.horizon (machine_in engine l h.distances s (done ++ more)) x) p.same.layout
+      ∙ ap (λ (d : Table). takes_effect engine (owner_of g.layout) s.horizon (machine_in engine g.layout d s (done ++ more)) x) p.same.distances in
+      let here : took ≡ takes_effect engine (owner_of g.layout) s.horizon (played_all engine (owner_of g.layout) s.horizon rule more m) x =
+      there ∙ ap (λ (y : Machine engine). takes_effect engine (owner_of g.layout) s.horizon y x) (more_picks basics s done g st more) in
+      record {
+        stands = subst (λ ps. Stands engine conditions s ps k) (append_assoc done more (x ∷ [])) t.stands;
+        same = record { layout = t.same.layout ∙ p.same.layout; distances = t.same.distances ∙ p.same.distances };
+        effects = ap (λ b. one_more b count) here ∙ ap (one_more (takes_effect engine (owner_of g.layout) s.horizon (played_all engine (owner_of g.layout) s.horizon rule more m) x)) p.effects ∙ sym (effects_push (owner_of g.layout) s.horizon rule more x m);
+      }

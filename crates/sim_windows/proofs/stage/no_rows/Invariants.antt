@@ -1,0 +1,7 @@
+use Rattle.std.proofs.Common.{[], map, ◌≡◌}
+use Rattle.std.specs.List.{range_with_len}
+use Rattle.sim_windows.proofs.stage.no_rows.Given as goal
+
+-- those so far
+abbrev pub invariant-loop : goal.invariant-loop
+invariant-loop given l = map (λ v. v.items) l.lists.items ≡ map (λ p. []) (range_with_len 0 l.counter)

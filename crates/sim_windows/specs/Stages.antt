@@ -1,0 +1,185 @@
+-- What is kept of a machine of partitions, and which state of the definitions' machine it shows.
+use Rattle.std.specs.List.{range_with_len}
+use Rattle.std.specs.Prelude.{All, Bool, List, None, Ok, Option, Result, Some, [], filter, get_or, length, map, min, not, suc, zero, ℕ, ◌++◌, ◌+◌, ◌<◌, ◌∷◌, ◌≡◌, ◌≤◌}
+use Rattle.sim_clock.specs.declared.key.Key.{Key}
+use Rattle.sim_clock.specs.declared.refusal.Refusal.{Refusal}
+use Rattle.sim_clock.specs.Order.{lesser}
+use Rattle.sim_engine.specs.Bounds.{AreDistances, bound_by, least_bound, own_bound}
+use Rattle.sim_engine.specs.Engine.{Engine}
+use Rattle.sim_engine.specs.Exchange.{exchanged}
+use Rattle.sim_engine.specs.Kept.{IsAllFrom}
+use Rattle.sim_engine.specs.Laws.{Conditions}
+use Rattle.sim_engine.specs.Limits.{most_count}
+use Rattle.sim_engine.specs.Machine.{Machine, effects, flushed, ready, takes_effect}
+use Rattle.sim_engine.specs.Parts.{part_of}
+use Rattle.sim_engine.specs.Prefixes.{is_before}
+use Rattle.sim_engine.specs.Setting.{IsRunOf, Setting}
+use Rattle.sim_engine.specs.Simulated.{IsSimulated}
+use Rattle.sim_engine.specs.Theorems.{machine_of, rows_by}
+use Rattle.sim_engine.specs.World.{Run}
+use Rattle.sim_engine.specs.declared.picks.Pick.{Pick}
+use Rattle.sim_exchange.specs.Layout.{IsLayout, Layout, owner_of}
+use Rattle.sim_exchange.specs.Table.{Table, distance_in}
+use Rattle.sim_windows.specs.Meeting.{delivered_each, due_moments}
+use Rattle.sim_windows.specs.declared.stage.Stage.{Stage}
+
+-- a moment, or that of what is due, whichever is first
+abbrev pub up_to : ℕ → Option Key → ℕ
+up_to moment None = moment
+up_to moment (Some key) = min moment key.at
+
+-- what is kept of a machine: whose sites are whose, the distances, the last moment of the run; the partitions with their bounds, the rows that each made and that are not settled, the transfers that wait; and the moment up to which all is settled
+pub record Standing (Site Row Transfer : Type 0) : Type 0 where
+  pub layout : Layout
+  pub distances : Table
+  pub horizon : ℕ
+  pub parts : List (Result (List Site) Refusal)
+  pub bounds : List ℕ
+  pub rows : List (List Row)
+  pub waiting : List Transfer
+  pub settled : ℕ
+
+module _ {Site Row Transfer : Type 0} where
+  -- the same of a stage
+  abbrev pub standing_of : Stage Site Row Transfer → Standing Site Row Transfer
+  standing_of g =
+      record {
+        layout = g.layout;
+        distances = g.distances;
+        horizon = g.horizon;
+        parts = g.parts.items;
+        bounds = g.bounds.items;
+        rows = map (λ l. l.items) g.rows.items;
+        waiting = g.waiting.items;
+        settled = g.settled;
+      }
+
+  -- once its bounds are set
+  abbrev pub bounded_by : Standing Site Row Transfer → List ℕ → Standing Site Row Transfer
+  bounded_by g bounds = record g { bounds = bounds }
+
+  -- it stands over the same setting, split the same
+  pub record IsSame (g h : Standing Site Row Transfer) : Type 0 where
+    pub layout : h.layout ≡ g.layout
+    pub distances : h.distances ≡ g.distances
+
+module _ {Site Row Transfer : Type 0} (engine : Engine Site Row Transfer) where
+  -- the definitions' machine of a setting, split so, after some picks
+  abbrev pub machine_in : Layout → Table → Setting Site → List Pick → Machine engine
+  machine_in layout table s picks = machine_of engine (owner_of layout) (own_bound engine (owner_of layout) (distance_in table) layout.parts s.horizon) s picks
+
+  -- the least of what so many partitions of a machine may handle
+  abbrev pub next_ready : (ℕ → ℕ) → ℕ → Machine engine → Option Key
+  next_ready owner zero m = None
+  next_ready owner (suc p) m = lesser (ready engine owner p m) (next_ready owner p m)
+
+  -- the moment that nothing may come before any more: that of what a partition may handle next, or the least bound, whichever is first
+  abbrev pub front : (ℕ → ℕ) → ℕ → ℕ → Machine engine → ℕ
+  front owner parts horizon m = up_to (least_bound horizon m.bounds parts) (next_ready owner parts m)
+
+  -- a row that is not from before a moment
+  abbrev pub is_from : ℕ → Row → Bool
+  is_from moment r = not (is_before engine moment r)
+
+  -- so much of a machine is shown: its partitions, bounds, rows from a moment on, and waiting transfers
+  pub record Shows (g : Standing Site Row Transfer) (m : Machine engine) : Type 0 where
+    pub parts : g.parts ≡ map (λ p. Ok (part_of engine (owner_of g.layout) p m.sites)) (range_with_len 0 g.layout.parts)
+    pub bounds : g.bounds ≡ map m.bounds (range_with_len 0 g.layout.parts)
+    pub rows : g.rows ≡ map (λ p. filter (is_from g.settled) (rows_by engine m.told p)) (range_with_len 0 g.layout.parts)
+    pub waiting : g.waiting ≡ m.waiting
+
+  -- how a machine stands once the rows from before a moment are settled
+  abbrev pub settled_by : Standing Site Row Transfer → ℕ → Standing Site Row Transfer
+  settled_by g moment =
+      record g {
+        rows = map (filter (is_from moment)) g.rows;
+        settled = moment;
+      }
+
+  -- once each partition, of these sites, has got what waited for it
+  abbrev pub delivered_by : Standing Site Row Transfer → List (List Site) → Standing Site Row Transfer
+  delivered_by g ws = record g { parts = map (λ w. Ok w) (delivered_each engine (exchanged engine (owner_of g.layout) g.layout.parts g.waiting) ws); waiting = [] }
+
+  -- the rows of a setting's one-list run from before a moment
+  abbrev pub AreSettled : Setting Site → ℕ → List Row → Type 0
+  AreSettled s moment rows = (r : Run engine) → IsRunOf engine s r → rows ≡ filter (is_before engine moment) r.rows
+
+  -- those that follow the ones from before a moment, up to a later one
+  abbrev pub AreNext : Setting Site → ℕ → ℕ → List Row → Type 0
+  AreNext s from to rows = (r : Run engine) → IsRunOf engine s r → filter (is_before engine from) r.rows ++ rows ≡ filter (is_before engine to) r.rows
+
+  -- the moment that nothing may come before any more where a machine stands
+  abbrev pub front_in : Standing Site Row Transfer → Setting Site → List Pick → ℕ
+  front_in g s picks = front (owner_of g.layout) g.layout.parts s.horizon (machine_in g.layout g.distances s picks)
+
+  -- whether a pick takes effect where a machine stands
+  abbrev pub takes_effect_in : Standing Site Row Transfer → Setting Site → List Pick → Pick → Bool
+  takes_effect_in g s picks x = takes_effect engine (owner_of g.layout) s.horizon (machine_in g.layout g.distances s picks) x
+
+  -- how many of some picks do
+  abbrev pub effects_in : Standing Site Row Transfer → Setting Site → List Pick → List Pick → ℕ
+  effects_in g s picks more = effects engine (owner_of g.layout) s.horizon (own_bound engine (owner_of g.layout) (distance_in g.distances) g.layout.parts s.horizon) more (machine_in g.layout g.distances s picks)
+
+  -- it has the bounds that are set by what is due in its partitions
+  pub record HasBounds (g h : Standing Site Row Transfer) : Type 0 where
+    pub bounds : List ℕ
+    pub set : bounds ≡ map (λ p. bound_by (distance_in g.distances) g.horizon (λ q. get_or (due_moments engine g.parts) q None) p g.distances.parts) (range_with_len 0 g.distances.parts)
+    pub stands : h ≡ bounded_by g bounds
+
+  -- these are the rows of a setting's one-list run that are left once those from before a moment are settled, and the sites of its last world
+  pub record HasRest (s : Setting Site) (moment : ℕ) (rows : List Row) (sites : List Site) : Type 0 where
+    pub run : Run engine
+    pub is : IsRunOf engine s run
+    pub rows_are : filter (is_before engine moment) run.rows ++ rows ≡ run.rows
+    pub sites_are : sites ≡ run.sites
+
+  -- how partitions stand at which nothing was done, with the bounds that are set by what is due
+  pub record IsOpened (layout : Layout) (table : Table) (horizon : ℕ) (parts : List (Result (List Site) Refusal)) (g : Standing Site Row Transfer) : Type 0 where
+    pub bounds : List ℕ
+    pub set : bounds ≡ map (λ p. bound_by (distance_in table) horizon (λ q. get_or (due_moments engine parts) q None) p table.parts) (range_with_len 0 table.parts)
+    pub stands : g ≡ record { layout = layout; distances = table; horizon = horizon; parts = parts; bounds = bounds; rows = map (λ p. []) (range_with_len 0 (length parts)); waiting = []; settled = 0 }
+
+module _ {Site Row Transfer : Type 0} (engine : Engine Site Row Transfer) (conditions : Conditions Site Transfer) where
+  open conditions use {Past, Timely}
+
+  -- nothing in a machine is from after where it may go on, and nothing comes before what is settled
+  pub record IsForward (layout : Layout) (horizon settled : ℕ) (m : Machine engine) : Type 0 where
+    pub past : (p : ℕ) → p < layout.parts → All (Past (m.bounds p)) (part_of engine (owner_of layout) p m.sites)
+    pub timely : All Timely m.waiting
+    pub within : settled ≤ horizon + 1
+    pub reached : (p : ℕ) → p < layout.parts → settled ≤ m.bounds p
+    pub none : IsAllFrom engine (owner_of layout) settled (flushed engine m)
+
+  -- how a machine of a setting stands after some picks
+  pub record Stands (s : Setting Site) (picks : List Pick) (g : Standing Site Row Transfer) : Type 0 where
+    pub sound : IsSimulated engine conditions s
+    pub layout : IsLayout g.layout
+    pub horizon : g.horizon ≡ s.horizon
+    pub range : g.horizon ≤ most_count
+    pub parts : g.distances.parts ≡ g.layout.parts
+    pub distances : AreDistances (owner_of g.layout) s.edges (distance_in g.distances)
+    pub shows : Shows engine g (machine_in engine g.layout g.distances s picks)
+    pub forward : IsForward g.layout s.horizon g.settled (machine_in engine g.layout g.distances s picks)
+
+  -- how a machine of a setting stands after some picks
+  pub record StandsOn (s : Setting Site) (g : Standing Site Row Transfer) : Type 0 where
+    pub picks : List Pick
+    pub stands : Stands s picks g
+
+  -- how some machine stands
+  pub record IsStanding (g : Standing Site Row Transfer) : Type 0 where
+    pub setting : Setting Site
+    pub picks : List Pick
+    pub stands : Stands setting picks g
+
+  -- what comes of one pick more
+  pub record Took (g h : Standing Site Row Transfer) (s : Setting Site) (picks : List Pick) (x : Pick) (took : Bool) : Type 0 where
+    pub stands : Stands s (picks ++ x ∷ []) h
+    pub same : IsSame g h
+    pub effect : took ≡ takes_effect_in engine g s picks x
+
+  -- what comes of some picks more, and how many took effect
+  pub record Played (g h : Standing Site Row Transfer) (s : Setting Site) (picks more : List Pick) (count : ℕ) : Type 0 where
+    pub stands : Stands s (picks ++ more) h
+    pub same : IsSame g h
+    pub effects : count ≡ effects_in engine g s picks more

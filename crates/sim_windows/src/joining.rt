@@ -1,0 +1,49 @@
+//! The sites of partitions, in one list again.
+ghost use Rattle.std.specs.List.{range_with_len};
+ghost use Rattle.std.specs.Prelude.{◌≡◌, IfOk, List, Ok, map, reverse};
+ghost use Rattle.sim_exchange.specs.Layout.{owner_of};
+ghost use Rattle.sim_engine.specs.Parts.{part_of};
+ghost use Rattle.sim_engine.specs.Setting.{IsNumbered};
+
+use sim_engine::Site;
+use sim_exchange::PartMap;
+use sim_partition::Partition;
+use std::alloc::{AllocError, Global};
+
+// The sites of each partition, the last of them first.
+fn turned_sites<S: Site>(alloc: Global, parts: Vec<Partition<S>>) -> Result<Vec<Vec<S>>, AllocError>
+    ensures { (ws : List (List S)) → parts.items ≡ map (λ w. Ok w) ws → IfOk result (λ lists. map (λ l. l.items) lists.items ≡ map (λ w. reverse w) ws) }
+{
+    let mut lists = Vec::new(alloc);
+    for part in parts {
+        let mut sites = part.into_sites();
+        sites.reverse();
+        lists.push(sites)?;
+    }
+    Ok(lists)
+}
+
+/// The sites of all partitions, by number. The error is want of memory.
+pub fn join_sites<S: Site>(
+    alloc: Global,
+    parts: Vec<Partition<S>>,
+    layout: &PartMap,
+) -> Result<Vec<S>, AllocError>
+    ensures { (w : List S) → IsNumbered S.engine 0 w → parts.items ≡ map (λ p. Ok (part_of S.engine (owner_of layout.now) p w)) (range_with_len 0 layout.now.parts) → IfOk result (λ sites. sites.items ≡ w) }
+{
+    let mut lists = turned_sites(alloc, parts)?;
+    let mut sites = Vec::new(alloc);
+    // These are not the partitions of the layout.
+    if lists.len() != layout.parts() as usize {
+        return Ok(sites);
+    }
+    for number in 0..=u32::MAX {
+        let part = layout.part_of(number) as usize;
+        match lists[part].pop() {
+            Some(site) => sites.push(site)?,
+            None => return Ok(sites),
+        }
+    }
+    // No world has so many sites that their numbers go past 32 bits.
+    Err(AllocError)
+}

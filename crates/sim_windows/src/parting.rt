@@ -1,0 +1,57 @@
+//! A world in partitions.
+ghost use Rattle.std.specs.List.{range_with_len};
+ghost use Rattle.std.specs.Prelude.{◌≡◌, ◌<◌, ◌^◌, All, IfOk, List, Ok, [], length, map};
+ghost use Rattle.sim_exchange.specs.Layout.{owner_of};
+ghost use Rattle.sim_engine.specs.Parts.{part_of};
+ghost use Rattle.sim_partition.specs.Sites.{IsPart};
+ghost use Rattle.sim_engine.specs.Setting.{IsNumbered};
+
+use sim_engine::Site;
+use sim_exchange::PartMap;
+use sim_partition::Partition;
+use std::alloc::{AllocError, Global};
+
+// So many lists of sites, none of which has any.
+fn no_sites<S: Site>(alloc: Global, parts: u32) -> Result<Vec<Vec<S>>, AllocError>
+    ensures { IfOk result (λ lists. map (λ l. l.items) lists.items ≡ map (λ p. []) (range_with_len 0 parts)) }
+{
+    let mut lists = Vec::new(alloc);
+    for _ in 0..parts {
+        lists.push(Vec::new(alloc))?;
+    }
+    Ok(lists)
+}
+
+/// The sites of a world, by number, each in the list of its partition. The error is want of memory.
+pub fn split_sites<S: Site>(
+    alloc: Global,
+    sites: Vec<S>,
+    layout: &PartMap,
+) -> Result<Vec<Vec<S>>, AllocError>
+    requires { length sites.items < 2 ^ 32 }
+    ensures { IsNumbered S.engine 0 sites.items → IfOk result (λ lists. map (λ l. l.items) lists.items ≡ map (λ p. part_of S.engine (owner_of layout.now) p sites.items) (range_with_len 0 layout.now.parts)) }
+{
+    let mut lists = no_sites(alloc, layout.parts())?;
+    let mut number = 0;
+    for site in sites {
+        let part = layout.part_of(number) as usize;
+        lists[part].push(site)?;
+        number += 1;
+    }
+    Ok(lists)
+}
+
+/// The partitions of some lists of sites. The error is want of memory.
+pub fn open_parts<S: Site>(
+    alloc: Global,
+    lists: Vec<Vec<S>>,
+) -> Result<Vec<Partition<S>>, AllocError>
+    requires { All (λ l. IsPart S.engine S.conditions l.items) lists.items }
+    ensures { IfOk result (λ parts. parts.items ≡ map (λ l. Ok l.items) lists.items) }
+{
+    let mut parts = Vec::new(alloc);
+    for sites in lists {
+        parts.push(Partition::new(alloc, sites)?)?;
+    }
+    Ok(parts)
+}

@@ -1,0 +1,79 @@
+//! Rows of the log, partition by partition, that are settled: nothing may come before them any more.
+ghost use Rattle.std.specs.List.{list_all};
+ghost use Rattle.std.specs.Prelude.{◌≡◌, ◌++◌, IfOk, filter, map, not};
+ghost use Rattle.sim_engine.specs.Merge.{merged_all, row_cmp};
+ghost use Rattle.sim_engine.specs.Prefixes.{is_before};
+
+use sim_engine::Site;
+use sim_exchange::merge_rows;
+use std::alloc::{AllocError, Global};
+
+/// Some rows in two: those from before a moment, and the others.
+#[derive(Drop)]
+pub struct Parted<R> {
+    pub before: Vec<R>,
+    pub others: Vec<R>,
+}
+
+// Whether rows are all from before a moment.
+fn are_before<S: Site>(rows: &[S::Row], moment: u64) -> bool
+    ensures { result ≡ list_all (is_before S.engine moment) rows.now }
+{
+    rows.iter().all(|row| S::row_key(row).at < moment)
+}
+
+// Parts rows at a moment. Where all are from before it, they stay in their list.
+fn part_rows<S: Site>(
+    alloc: Global,
+    rows: Vec<S::Row>,
+    moment: u64,
+) -> Result<Parted<S::Row>, AllocError>
+    ensures before { IfOk result (λ parted. parted.before.items ≡ filter (is_before S.engine moment) rows.items) }
+    ensures others { IfOk result (λ parted. parted.others.items ≡ filter (λ r. not (is_before S.engine moment r)) rows.items) }
+{
+    if are_before::<S>(&rows, moment) {
+        let others = Vec::new(alloc);
+        return Ok(Parted {
+            before: rows,
+            others,
+        });
+    }
+    let mut before = Vec::new(alloc);
+    let mut others = Vec::new(alloc);
+    for row in rows {
+        if S::row_key(&row).at < moment {
+            before.push(row)?;
+        } else {
+            others.push(row)?;
+        }
+    }
+    Ok(Parted { before, others })
+}
+
+/// The rows of each partition in two, those from before a moment in one list, in the order of keys,
+/// and the others by partition.
+#[derive(Drop)]
+pub struct Settled<R> {
+    pub rows: Vec<R>,
+    pub kept: Vec<Vec<R>>,
+}
+
+/// Settles the rows from before a moment.
+pub fn settle<S: Site>(
+    alloc: Global,
+    lists: Vec<Vec<S::Row>>,
+    moment: u64,
+) -> Result<Settled<S::Row>, AllocError>
+    ensures rows { IfOk result (λ settled. settled.rows.items ≡ merged_all (row_cmp S.engine) (map (λ l. filter (is_before S.engine moment) l.items) lists.items)) }
+    ensures kept { IfOk result (λ settled. map (λ l. l.items) settled.kept.items ≡ map (λ l. filter (λ r. not (is_before S.engine moment r)) l.items) lists.items) }
+{
+    let mut fronts = Vec::new(alloc);
+    let mut kept = Vec::new(alloc);
+    for rows in lists {
+        let parted = part_rows::<S>(alloc, rows, moment)?;
+        fronts.push(parted.before)?;
+        kept.push(parted.others)?;
+    }
+    let rows = merge_rows::<S>(alloc, fronts)?;
+    Ok(Settled { rows, kept })
+}

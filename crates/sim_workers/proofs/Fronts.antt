@@ -1,0 +1,91 @@
+-- The rows from before a moment are ones that a scenario's run begins with.
+use Rattle.std.specs.Prelude.{List, [], filter, true, ℕ, ◌++◌, ◌≡◌}
+use Rattle.std.proofs.Common.{ap, inl, inr, subst, sym, ◌∙◌}
+use Rattle.std.proofs.lemmas.List.{append-nil}
+use Rattle.sim_clock.specs.declared.refusal.Refusal.{Refusal}
+use Rattle.sim_clock.specs.declared.refusal.Refusal.TheVariants as refusals
+use Rattle.sim_exchange.specs.Layout.{owner_of}
+use Rattle.sim_exchange.specs.Table.{distance_in}
+use Rattle.sim_engine.specs.Bounds.{own_bound}
+use Rattle.sim_engine.specs.Machine.{is_finished}
+use Rattle.sim_engine.specs.Prefixes.{Holds, is_before, rows_from}
+use Rattle.sim_engine.specs.Theorems.{machine_of}
+use Rattle.sim_engine.specs.declared.picks.Pick.{Pick}
+use Rattle.sim_workers.specs.Runs.{HasTold}
+use Rattle.sim_engine.specs.Limits.{IsOver, StopsWhere, most_count}
+use Rattle.sim_windows.specs.Stages.{AreNext, Standing, Stands, StandsOn}
+use Rattle.sim_windows.proofs.Beginning.{none_before_zero}
+use Rattle.sim_windows.proofs.Standing.{below}
+use Rattle.sim_windows.specs.Sinks.{HasStopped, IsFront}
+use Rattle.sim_engine.specs.Setting.{IsRunOf, Setting}
+use Rattle.sim_engine.specs.World.{Run}
+use Rattle.sim_engine.specs.Setting.{Setting}
+use Rattle.sim_engine.specs.Engine.{Engine}
+use Rattle.sim_engine.specs.Laws.{Conditions, SiteLaws}
+
+module _ {Site Row Transfer : Type 0} {engine : Engine Site Row Transfer} {conditions : Conditions Site Transfer} (basics : SiteLaws engine conditions) where
+  module _ (s : Setting Site) (done : List Pick) (g : Standing Site Row Transfer) (st : Stands engine conditions s done g) where
+    abbrev pub rule : List Site → ℕ → ℕ
+    rule = own_bound engine (owner_of g.layout) (distance_in g.distances) g.layout.parts s.horizon
+
+    -- some picks that come to the end
+    abbrev pub end : (picks : List Pick) × (is_finished engine s.horizon (machine_of engine (owner_of g.layout) rule s picks) ≡ true)
+    end = st.sound.ends (owner_of g.layout) g.layout.parts (below basics s done g st) (distance_in g.distances) st.distances []
+
+    abbrev pub rest : ℕ → List Row
+    rest moment = rows_from engine g.layout.parts moment (machine_of engine (owner_of g.layout) rule s end.0)
+
+    holds : Holds engine s (owner_of g.layout) g.layout.parts rule
+    holds = st.sound.holds (owner_of g.layout) g.layout.parts (below basics s done g st) (distance_in g.distances) st.distances
+
+    -- all rows, from a moment on after those from before it
+    pub all_rows : (moment : ℕ) (r : Run engine) → IsRunOf engine s r → filter (is_before engine moment) r.rows ++ rest moment ≡ r.rows
+    all_rows moment r w = holds.last end.0 moment r w end.1
+
+    pub whole : (r : Run engine) → IsRunOf engine s r → r.rows ≡ rest 0
+    whole r w = sym (all_rows 0 r w) ∙ ap (λ z. z ++ rest 0) (none_before_zero basics r.rows)
+
+    -- each run begins with them
+    pub front : (moment : ℕ) (r : Run engine) → IsRunOf engine s r → IsFront engine s (filter (is_before engine moment) r.rows)
+    front moment r w x v = (rest moment, ap (λ z. filter (is_before engine moment) z ++ rest moment) (whole r w ∙ sym (whole x v)) ∙ all_rows moment x v)
+
+    -- and with all of its own
+    pub whole_front : (r : Run engine) → IsRunOf engine s r → IsFront engine s r.rows
+    whole_front r w x v = ([], append-nil r.rows ∙ whole r w ∙ sym (whole x v))
+
+  -- a sink that took what was settled, where a run stops
+  module _ {K : Type 0} (took : K → List Row → K → Type 0) (broke : K → List Row → Refusal → K → Type 0) (s : Setting Site) (g : Standing Site Row Transfer) (on : StandsOn engine conditions s g) (moment : ℕ) (before now : K) (told : HasTold engine took s moment before now) where
+    some_run : (r : Run engine) × IsRunOf engine s r
+    some_run = (on.stands.sound.run, on.stands.sound.is_run)
+
+    -- for a reason of its own
+    pub stops_so : (e : Refusal) → StopsWhere (IsOver engine s) e → HasStopped engine took broke s before e now
+    stops_so e h =
+        record {
+          rows = filter (is_before engine moment) some_run.0.rows;
+          front = front s on.picks g on.stands moment some_run.0 some_run.1;
+          at_rows = inl (told some_run.0 some_run.1, h);
+        }
+
+    module _ (broke_later : (a b c : K) (xs ys : List Row) (e : Refusal) → took a xs b → broke b ys e c → broke a (xs ++ ys) e c) (rows : List Row) (e : Refusal) (after : K) (broken : broke now rows e after) where
+      -- since the sink broke at what is settled next
+      pub breaks_so : (to : ℕ) → AreNext engine s moment to rows → HasStopped engine took broke s before e after
+      breaks_so to next =
+          record {
+            rows = filter (is_before engine to) some_run.0.rows;
+            front = front s on.picks g on.stands to some_run.0 some_run.1;
+            at_rows = inr (subst (λ xs. broke before xs e after) (next some_run.0 some_run.1) (broke_later before now after (filter (is_before engine moment) some_run.0.rows) rows e (told some_run.0 some_run.1) broken));
+          }
+
+      -- or at the rest
+      pub breaks_last : (r : Run engine) → IsRunOf engine s r → filter (is_before engine moment) r.rows ++ rows ≡ r.rows → HasStopped engine took broke s before e after
+      breaks_last r w is =
+          record {
+            rows = r.rows;
+            front = whole_front s on.picks g on.stands r w;
+            at_rows = inr (subst (λ xs. broke before xs e after) is (broke_later before now after (filter (is_before engine moment) r.rows) rows e (told r w) broken));
+          }
+
+  -- want of memory is a reason
+  pub memory_stops : (s : Setting Site) (e : Refusal) → e ≡ refusals.Memory → StopsWhere (IsOver engine s) e
+  memory_stops s e h = subst (StopsWhere (IsOver engine s)) (sym h) tt

@@ -1,0 +1,224 @@
+//! One round: each partition that has something due before its bound runs to it.
+ghost use Rattle.std.specs.Prelude.{◌≡◌, ◌≢◌, ◌<◌, ◌≤◌, ◌+◌, ℕ, All, [], length, map, vec_capacity};
+ghost use Rattle.std.specs.Prelude.{None, Ok, Some, IfOk, IfErr};
+ghost use Rattle.sim_clock.specs.Order.{due_before};
+ghost use Rattle.sim_engine.specs.Limits.{most_count};
+ghost use Rattle.sim_engine.specs.World.{world_due};
+ghost use Rattle.sim_handoff.specs.Place.{place_record, IsFree};
+ghost use Rattle.sim_handoff.specs.Seats.{table_of, places_of, owner_table, owner_record, IsIdleHand};
+ghost use Rattle.sim_partition.specs.Sites.{AreOfPast, due_in};
+ghost use Rattle.sim_workers.specs.Owners.{IsAllFree, IsResting, AreResting, IsSentOut, AreSentOut};
+ghost use Rattle.sim_workers.specs.Owners.{IsCollected, AreCollected};
+ghost use Rattle.sim_workers.specs.Pieces.{Comes};
+ghost use Rattle.sim_workers.specs.Rounds.{HaveCome, IsRefusedRound, gravest, gravest_of};
+
+use crate::gate::Gate;
+use crate::piece::{Came, PartWork};
+use crate::worker::collect_at;
+use sim_clock::Refusal;
+use sim_engine::{Effects, Site};
+use sim_handoff::{Hand, Handoff, Owner};
+use sim_partition::Partition;
+use std::alloc::Global;
+use std::sync::Wait;
+
+// What comes of a partition that is run to its bound.
+type Outcome<S> = Result<Came<S>, Refusal>;
+
+// What comes of a partition that has nothing due before its bound: itself, with nothing done, or
+// the refusal that spent it before.
+fn at_rest<S: Site>(alloc: Global, part: Partition<S>, bound: u64) -> Outcome<S>
+    requires done { due_before bound (due_in S.engine part) ≡ None }
+    requires moves_on { IfOk part (All S.conditions.Sound) }
+    requires past { IfOk part (λ w. AreOfPast S.conditions w (world_due S.engine w)) }
+    ensures { Comes S.engine S.conditions bound part result }
+{
+    if let Some(refusal) = part.spent() {
+        return Err(refusal);
+    }
+    let made = Effects::new(alloc);
+    Ok(Came { part, made })
+}
+
+// Offers a partition where something is due before its bound, and else tells what comes of it.
+fn offer_one<S: Site, W: PartWork<S>>(
+    alloc: Global,
+    handoff: &Handoff<W>,
+    owner: &mut Owner<W>,
+    place: usize,
+    bound: u64,
+    part: Partition<S>,
+) -> Option<Outcome<S>>
+    requires here { owner_table owner.old ≡ table_of handoff.now }
+    requires place { place < places_of handoff.now }
+    requires range { bound ≤ most_count + 1 }
+    requires free { IsFree (owner_record owner.old) place }
+    ensures here { owner_table owner.new ≡ table_of handoff.now }
+    ensures sent { IsSentOut S.engine S.conditions W.packed (owner_record owner.new) place bound part result }
+    ensures others { (other : ℕ) → other ≢ place
+        → place_record (owner_record owner.new) other ≡ place_record (owner_record owner.old) other }
+{
+    match part.least_due() {
+        Some(key) if key.at < bound => {
+            owner.offer(handoff, place, W::pack(part, bound));
+            None
+        }
+        _ => Some(at_rest(alloc, part, bound)),
+    }
+}
+
+// Offers each partition that has something due before its bound, and tells what comes of the
+// others.
+fn offer_due<S: Site, W: PartWork<S>>(
+    alloc: Global,
+    handoff: &Handoff<W>,
+    owner: &mut Owner<W>,
+    bounds: &[u64],
+    parts: Vec<Partition<S>>,
+    mut homes: Vec<Option<Outcome<S>>>,
+) -> Vec<Option<Outcome<S>>>
+    requires here { owner_table owner.old ≡ table_of handoff.now }
+    requires places { length parts.items ≡ places_of handoff.now }
+    requires bounds { length bounds.now ≡ length parts.items }
+    requires range { All (λ b. b ≤ most_count + 1) bounds.now }
+    requires free { IsAllFree (owner_record owner.old) }
+    requires room { (homes.items ≡ []) × (length parts.items ≤ vec_capacity homes) }
+    ensures here { owner_table owner.new ≡ table_of handoff.now }
+    ensures sent { AreSentOut S.engine S.conditions W.packed (owner_record owner.new) 0 bounds.now parts.items result.items }
+    ensures after { (place : ℕ) → length parts.items ≤ place → IsFree (owner_record owner.new) place }
+{
+    for part in parts {
+        let place = homes.len();
+        let home = offer_one(alloc, handoff, owner, place, bounds[place], part);
+        homes.push_reserved(home);
+    }
+    homes
+}
+
+// What comes of the partition at a place: the answer that is collected there, or what is at home.
+fn come<S: Site, W: PartWork<S>, G: Gate<W>, R: Wait>(
+    rt: &R,
+    handoff: &Handoff<W>,
+    owner: &mut Owner<W>,
+    hand: &mut Hand<W>,
+    gate: &G,
+    place: usize,
+    home: Option<Outcome<S>>,
+) -> Outcome<S>
+    requires here { owner_table owner.old ≡ table_of handoff.now }
+    requires idle { IsIdleHand (table_of handoff.now) hand.old }
+    requires place { place < places_of handoff.now }
+    requires resting { IsResting (owner_record owner.old) place home }
+    ensures here { owner_table owner.new ≡ table_of handoff.now }
+    ensures idle { IsIdleHand (table_of handoff.now) hand.new }
+    ensures free { IsFree (owner_record owner.new) place }
+    ensures others { (other : ℕ) → other ≢ place
+        → place_record (owner_record owner.new) other ≡ place_record (owner_record owner.old) other }
+    ensures collected { IsCollected S.engine S.conditions W.packed (owner_record owner.old) place home result }
+{
+    match home {
+        None => {
+            let done = collect_at(rt, handoff, owner, hand, gate, place);
+            W::unpack(done)
+        }
+        Some(outcome) => outcome,
+    }
+}
+
+// Collects what was offered, and puts it with what is at home.
+fn collect_all<S: Site, W: PartWork<S>, G: Gate<W>, R: Wait>(
+    rt: &R,
+    handoff: &Handoff<W>,
+    owner: &mut Owner<W>,
+    hand: &mut Hand<W>,
+    gate: &G,
+    homes: Vec<Option<Outcome<S>>>,
+    mut came: Vec<Outcome<S>>,
+) -> Vec<Outcome<S>>
+    requires here { owner_table owner.old ≡ table_of handoff.now }
+    requires idle { IsIdleHand (table_of handoff.now) hand.old }
+    requires places { length homes.items ≡ places_of handoff.now }
+    requires resting { AreResting (owner_record owner.old) 0 homes.items }
+    requires after { (place : ℕ) → length homes.items ≤ place → IsFree (owner_record owner.old) place }
+    requires room { (came.items ≡ []) × (length homes.items ≤ vec_capacity came) }
+    ensures here { owner_table owner.new ≡ table_of handoff.now }
+    ensures idle { IsIdleHand (table_of handoff.now) hand.new }
+    ensures free { IsAllFree (owner_record owner.new) }
+    ensures collected { AreCollected S.engine S.conditions W.packed (owner_record owner.old) 0 homes.items result.items }
+{
+    for home in homes {
+        let place = came.len();
+        let outcome = come(rt, handoff, owner, hand, gate, place, home);
+        came.push_reserved(outcome);
+    }
+    came
+}
+
+// Of two refusals want of memory, and else the first.
+fn graver(before: Option<Refusal>, refusal: Refusal) -> Refusal
+    ensures { result ≡ gravest_of before refusal }
+{
+    match (before, refusal) {
+        (None, _) | (_, Refusal::Memory) => refusal,
+        (Some(first), _) => first,
+    }
+}
+
+// What came, where no outcome is a refusal; else the gravest of them.
+fn all_came<S: Site>(
+    outcomes: Vec<Outcome<S>>,
+    mut all: Vec<Came<S>>,
+) -> Result<Vec<Came<S>>, Refusal>
+    requires room { (all.items ≡ []) × (length outcomes.items ≤ vec_capacity all) }
+    ensures came { IfOk result (λ all. outcomes.items ≡ map (λ c. Ok c) all.items) }
+    ensures refused { IfErr result (λ refusal. gravest outcomes.items ≡ Some refusal) }
+{
+    let mut refused = None;
+    for outcome in outcomes {
+        match outcome {
+            Ok(came) => all.push_reserved(came),
+            Err(refusal) => refused = Some(graver(refused, refusal)),
+        }
+    }
+    match refused {
+        None => Ok(all),
+        Some(refusal) => Err(refusal),
+    }
+}
+
+/// Runs every partition that has something due before its bound to that bound, on whatever threads
+/// have hands. All that was offered is collected, also where one is refused.
+///
+/// # Errors
+///
+/// `Memory` where a growth is refused here, before anything is offered. Else, where partitions are
+/// spent by refusals, `Memory` where one of these is, and else that of the first.
+pub fn round<S: Site, W: PartWork<S>, G: Gate<W>, R: Wait>(
+    rt: &R,
+    alloc: Global,
+    handoff: &Handoff<W>,
+    owner: &mut Owner<W>,
+    hand: &mut Hand<W>,
+    gate: &G,
+    bounds: &[u64],
+    parts: Vec<Partition<S>>,
+) -> Result<Vec<Came<S>>, Refusal>
+    requires here { owner_table owner.old ≡ table_of handoff.now }
+    requires idle { IsIdleHand (table_of handoff.now) hand.old }
+    requires places { length parts.items ≡ places_of handoff.now }
+    requires bounds { length bounds.now ≡ length parts.items }
+    requires range { All (λ b. b ≤ most_count + 1) bounds.now }
+    requires free { IsAllFree (owner_record owner.old) }
+    ensures here { owner_table owner.new ≡ table_of handoff.now }
+    ensures idle { IsIdleHand (table_of handoff.now) hand.new }
+    ensures free { IsAllFree (owner_record owner.new) }
+    ensures came { IfOk result (λ came. HaveCome S.engine S.conditions bounds.now parts.items came.items) }
+    ensures refused { IfErr result (IsRefusedRound S.engine S.conditions bounds.now parts.items) }
+{
+    let homes = Vec::with_capacity(alloc, parts.len())?;
+    let came = Vec::with_capacity(alloc, parts.len())?;
+    let all = Vec::with_capacity(alloc, parts.len())?;
+    let homes = offer_due(alloc, handoff, owner, bounds, parts, homes);
+    let outcomes = collect_all(rt, handoff, owner, hand, gate, homes, came);
+    all_came(outcomes, all)
+}
