@@ -5,7 +5,7 @@ use Rattle.std.proofs.Common.{ap, inl, inr, refl, subst, sym, ◌∙◌}
 use Rattle.std.proofs.lemmas.List.Elements.{All-head, All-map, All-tail, All-weaker}
 use Rattle.sim_clock.specs.declared.key.Key.{Key}
 use Rattle.sim_clock.specs.Order.{key_cmp, lesser}
-use Rattle.sqs_index.proofs.Spans.{lesser_assoc, lesser_self, swapped}
+use Rattle.sim_index.proofs.Spans.{lesser_assoc, lesser_self, swapped}
 use Rattle.sim_engine.specs.Engine.{Engine}
 use Rattle.sim_engine.specs.Laws.{Conditions, SiteLaws}
 use Rattle.sim_engine.specs.Members.{Ascends}

@@ -13,8 +13,8 @@ use Rattle.sim_engine.specs.World.{is_due, least_due, world_due}
 use Rattle.sim_engine.proofs.Keys.{key_self}
 use Rattle.sim_engine.proofs.WorldMoves.{is_due_least}
 use Rattle.sim_partition.specs.Sites.{AreMarked, is_due_there, mark_of}
-use Rattle.sqs_index.specs.declared.mark.Mark.{Mark}
-use Rattle.sqs_index.specs.Marks.{IsPlaceOfLeast, least_of, no_mark, node}
+use Rattle.sim_index.specs.declared.mark.Mark.{Mark}
+use Rattle.sim_index.specs.Marks.{IsPlaceOfLeast, least_of, no_mark, node}
 
 -- the same marks tell the same least, whatever empty places follow
 same_least : (xs ys : List Mark) → ((i : ℕ) → node xs i ≡ node ys i) → least_of xs ≡ least_of ys

@@ -10,8 +10,8 @@ use Rattle.sim_engine.specs.Rounds.{PartRun, part_begun}
 use Rattle.sim_partition.specs.Sites.{IsKeptUnless, due_in, spent_or}
 use Rattle.sim_partition.specs.Steps.{part_made}
 use Rattle.sim_partition.proofs.Marked.{marked_least}
-use Rattle.sqs_index.specs.declared.mark.Mark.{Mark}
-use Rattle.sqs_index.specs.Marks.{least_of}
+use Rattle.sim_index.specs.declared.mark.Mark.{Mark}
+use Rattle.sim_index.specs.Marks.{least_of}
 
 -- one that is not spent lives
 pub now_lives : {A : Type 0} (spent : Option Refusal) (xs : A) (v : Result A Refusal) → spent ≡ None → spent_or spent xs ≡ v → v ≡ Ok xs

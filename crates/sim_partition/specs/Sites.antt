@@ -7,8 +7,8 @@ use Rattle.sim_engine.specs.Laws.{Conditions}
 use Rattle.sim_engine.specs.Limits.{most_count}
 use Rattle.sim_engine.specs.Members.{Ascends}
 use Rattle.sim_engine.specs.World.{is_due, least_due, world_due}
-use Rattle.sqs_index.specs.declared.mark.Mark.{Mark}
-use Rattle.sqs_index.specs.Marks.{node}
+use Rattle.sim_index.specs.declared.mark.Mark.{Mark}
+use Rattle.sim_index.specs.Marks.{node}
 
 -- nothing, or later than a moment
 abbrev pub IsLater : ℕ → Option Key → Type 0

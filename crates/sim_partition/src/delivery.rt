@@ -8,7 +8,7 @@ use crate::marking::mark_of;
 use crate::places::place_of;
 use sim_clock::Refusal;
 use sim_engine::Site;
-use sqs_index::Marks;
+use sim_index::Marks;
 
 // Hands a transfer to the site that it goes to, if it is one of these.
 fn deliver_one<S: Site>(

@@ -12,7 +12,7 @@ ghost use Rattle.sim_partition.specs.Steps.{Continues, StaysOfPast, StopsFrom, S
 use crate::marking::mark_of;
 use sim_clock::{Key, Refusal};
 use sim_engine::{Effects, Site};
-use sqs_index::Marks;
+use sim_index::Marks;
 
 // The site at a place, the first at which a key is due next, handles it. What follows is added to
 // what was made before.

@@ -3,7 +3,7 @@ ghost use Rattle.std.specs.Prelude.{◌≡◌, All, IfOk};
 ghost use Rattle.sim_partition.specs.Sites.{AreMarked, mark_of};
 
 use sim_engine::Site;
-use sqs_index::{Mark, Marks};
+use sim_index::{Mark, Marks};
 use std::alloc::{AllocError, Global};
 
 /// As many sites as there are numbers of sites, which have 32 bits.

@@ -11,7 +11,7 @@ use crate::handling::{handle_least, run_before};
 use crate::marking::marks_of;
 use sim_clock::{Key, Refusal};
 use sim_engine::{Effects, Site};
-use sqs_index::Marks;
+use sim_index::Marks;
 use std::alloc::{AllocError, Global};
 use std::marker::Model;
 

@@ -8,9 +8,9 @@ use Rattle.std.proofs.lemmas.List.Sums.{position_or_len_is}
 use Rattle.sim_clock.specs.declared.key.Key.{Key}
 use Rattle.sim_clock.specs.Firsts.{without}
 use Rattle.sim_clock.specs.Order.{least, lesser}
-use Rattle.sqs_index.specs.declared.mark.Mark.{Mark}
-use Rattle.sqs_index.specs.Marks.{IsNextIn, IsPlaceOfLeast, NoneIn, least_of, meets, no_mark, node, tells}
-use Rattle.sqs_index.proofs.Spans.{same_least}
+use Rattle.sim_index.specs.declared.mark.Mark.{Mark}
+use Rattle.sim_index.specs.Marks.{IsNextIn, IsPlaceOfLeast, NoneIn, least_of, meets, no_mark, node, tells}
+use Rattle.sim_index.proofs.Spans.{same_least}
 use Rattle.sqs_model.proofs.Counts.{find_picked}
 use Rattle.sqs_model.proofs.StepMoves.{key_self}
 use Rattle.sqs_model.proofs.WorldMoves.{is_due_least}

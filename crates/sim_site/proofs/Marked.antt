@@ -4,9 +4,9 @@ use Rattle.std.proofs.Common.{ap, arith, inl, inr, refl, subst, sym, ◌∙◌}
 use Rattle.std.proofs.lemmas.Bool.{cases_eq}
 use Rattle.std.proofs.lemmas.List.{get_or-map, get_or-set_other, get_or-set_same, length-set}
 use Rattle.sim_clock.specs.Order.{least, lesser}
-use Rattle.sqs_index.specs.declared.mark.Mark.{Mark}
-use Rattle.sqs_index.specs.Marks.{least_of, no_mark, node}
-use Rattle.sqs_index.proofs.Spans.{same_least}
+use Rattle.sim_index.specs.declared.mark.Mark.{Mark}
+use Rattle.sim_index.specs.Marks.{least_of, no_mark, node}
+use Rattle.sim_index.proofs.Spans.{same_least}
 use Rattle.sqs_model.specs.Actor.{Actor}
 use Rattle.sqs_model.specs.Dues.{actor_dues}
 use Rattle.sim_site.specs.Marked.{AreMarked, AreMarkedBut, IsSetAt, wake_mark}

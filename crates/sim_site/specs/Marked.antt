@@ -3,8 +3,8 @@ use Rattle.std.specs.Prelude.{Bool, IfSome, false, true, List, None, Option, Som
 use Rattle.std.specs.List.Sorted.{IsNonDecreasingBy}
 use Rattle.sim_clock.specs.declared.key.Key.{Key}
 use Rattle.sim_clock.specs.Order.{least}
-use Rattle.sqs_index.specs.declared.mark.Mark.{Mark}
-use Rattle.sqs_index.specs.Marks.{no_mark, node}
+use Rattle.sim_index.specs.declared.mark.Mark.{Mark}
+use Rattle.sim_index.specs.Marks.{no_mark, node}
 use Rattle.sqs_model.specs.Actor.{Actor}
 use Rattle.sqs_model.specs.Dues.{actor_dues, poll_key}
 use Rattle.sqs_model.specs.Site.{Poll}

@@ -17,7 +17,7 @@ use crate::agents::wake_of;
 use crate::dues::least_wake;
 use sim_actor::Actor;
 use sim_clock::{Key, Refusal};
-use sqs_index::{Mark, Marks};
+use sim_index::{Mark, Marks};
 use sqs_model::{Act, Answer};
 use std::alloc::{AllocError, Global};
 use std::marker::Model;

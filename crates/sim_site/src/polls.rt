@@ -2,7 +2,7 @@
 ghost use Rattle.std.specs.Prelude.{IfOk, MatchOption, OnErr, OnOk, None, Some, [], drop, length, map, position, set, true, ◌++◌, ◌<◌, ◌∷◌, ◌==◌, ◌≡◌};
 ghost use Rattle.sim_clock.specs.Firsts.{without};
 ghost use Rattle.sim_clock.specs.Order.{least};
-ghost use Rattle.sqs_index.specs.Marks.{least_of};
+ghost use Rattle.sim_index.specs.Marks.{least_of};
 ghost use Rattle.sqs_model.specs.Dues.{poll_key};
 ghost use Rattle.sim_clock.specs.Places.{IsAbsent, Stands};
 ghost use Rattle.sqs_model.specs.Step.{ends_at};
@@ -10,7 +10,7 @@ ghost use Rattle.sim_site.specs.Marked.{AreMarked, AreWaiting, IsFirstAt, end_ma
 
 use crate::agents::Poll;
 use sim_clock::Key;
-use sqs_index::{Mark, Marks, NO_MARK};
+use sim_index::{Mark, Marks, NO_MARK};
 use std::alloc::{AllocError, Global};
 use std::marker::Model;
 

@@ -12,7 +12,7 @@ use Rattle.sim_engine.specs.Prefixes.{Holds, is_before, rows_from}
 use Rattle.sim_engine.specs.Theorems.{machine_of}
 use Rattle.sim_engine.specs.declared.picks.Pick.{Pick}
 use Rattle.sim_workers.specs.Runs.{HasTold}
-use Rattle.sim_engine.specs.Limits.{IsOver, StopsWhere, most_count}
+use Rattle.sim_engine.specs.Limits.{IsOver, StopsWhere}
 use Rattle.sim_windows.specs.Stages.{AreNext, Standing, Stands, StandsOn}
 use Rattle.sim_windows.proofs.Beginning.{none_before_zero}
 use Rattle.sim_windows.proofs.Standing.{below}

@@ -84,7 +84,8 @@ fn offer_due<S: Site, W: PartWork<S>>(
     requires free { IsAllFree (owner_record owner.old) }
     requires room { (homes.items ≡ []) × (length parts.items ≤ vec_capacity homes) }
     ensures here { owner_table owner.new ≡ table_of handoff.now }
-    ensures sent { AreSentOut S.engine S.conditions W.packed (owner_record owner.new) 0 bounds.now parts.items result.items }
+    ensures sent { AreSentOut S.engine S.conditions W.packed (owner_record owner.new) 0
+        bounds.now parts.items result.items }
     ensures after { (place : ℕ) → length parts.items ≤ place → IsFree (owner_record owner.new) place }
 {
     for part in parts {
@@ -144,7 +145,8 @@ fn collect_all<S: Site, W: PartWork<S>, G: Gate<W>, R: Wait>(
     ensures here { owner_table owner.new ≡ table_of handoff.now }
     ensures idle { IsIdleHand (table_of handoff.now) hand.new }
     ensures free { IsAllFree (owner_record owner.new) }
-    ensures collected { AreCollected S.engine S.conditions W.packed (owner_record owner.old) 0 homes.items result.items }
+    ensures collected { AreCollected S.engine S.conditions W.packed (owner_record owner.old) 0
+        homes.items result.items }
 {
     for home in homes {
         let place = came.len();

@@ -96,10 +96,12 @@ pub trait Packs<P, O>: Work {
         ensures { result ≡ told done };
 }
 
-/// A work of running partitions, each to its bound.
+/// A work of running partitions, each to its bound. Rounds ask no more of a work, and name no other, so
+/// that what starts threads can leave open which work it is.
 pub trait PartWork<S: Site>: Packs<Partition<S>, Result<Came<S>, Refusal>> {
     // A right answer tells what may come of the partition.
-    ghost comes: { (piece : Self.Piece) (done : Self.Done) → Self.does piece done → Comes S.engine S.conditions (Self.packed piece).1 (Self.packed piece).0 (Self.told done) };
+    ghost comes: { (piece : Self.Piece) (done : Self.Done) → Self.does piece done
+        → Comes S.engine S.conditions (Self.packed piece).1 (Self.packed piece).0 (Self.told done) };
 }
 
 /// The running of partitions, as a work that is handed over. It stands in types alone.

@@ -28,7 +28,10 @@ fn add_rows<R: Drop>(rows: &mut Vec<R>, mut more: Vec<R>) -> Result<(), AllocErr
 pub fn come_back<S: Site>(stage: &mut Stage<S>, came: Vec<Came<S>>) -> Result<(), AllocError>
     requires out { stage.old.parts.items ≡ [] }
     requires room { length came.items ≤ length stage.old.rows.items }
-    ensures back { (s : Setting S) (parts : List (Result (List S) TheRefusal)) (ends : List ℕ) → StandsOn S.engine S.conditions s (with_parts parts (standing_of stage.old)) → AreWithin ends stage.old.bounds.items → HaveCome S.engine S.conditions ends parts came.items → OnOk result (StandsOn S.engine S.conditions s (standing_of stage.new)) }
+    ensures back { (s : Setting S) (parts : List (Result (List S) TheRefusal)) (ends : List ℕ)
+        → StandsOn S.engine S.conditions s (with_parts parts (standing_of stage.old))
+        → AreWithin ends stage.old.bounds.items → HaveCome S.engine S.conditions ends parts came.items
+        → OnOk result (StandsOn S.engine S.conditions s (standing_of stage.new)) }
     ensures same { OnOk result (IsSame (standing_of stage.old) (standing_of stage.new)) }
     ensures settled { OnOk result (stage.new.settled ≡ stage.old.settled) }
 {

@@ -50,10 +50,12 @@ fn run_round<S: Site, W: PartWork<S>, G: Gate<W>, R: Wait>(
     ensures here { owner_table owner.new ≡ table_of handoff.now }
     ensures idle { IsIdleHand (table_of handoff.now) hand.new }
     ensures free { IsAllFree (owner_record owner.new) }
-    ensures on { (s : Setting S) → StandsOn S.engine S.conditions s (standing_of stage.old) → OnOk result (StandsOn S.engine S.conditions s (standing_of stage.new)) }
+    ensures on { (s : Setting S) → StandsOn S.engine S.conditions s (standing_of stage.old)
+        → OnOk result (StandsOn S.engine S.conditions s (standing_of stage.new)) }
     ensures same { OnOk result (IsSame (standing_of stage.old) (standing_of stage.new)) }
     ensures settled { OnOk result (stage.new.settled ≡ stage.old.settled) }
-    ensures stops { (s : Setting S) → StandsOn S.engine S.conditions s (standing_of stage.old) → IfErr result (StopsWhere (IsOver S.engine s)) }
+    ensures stops { (s : Setting S) → StandsOn S.engine S.conditions s (standing_of stage.old)
+        → IfErr result (StopsWhere (IsOver S.engine s)) }
 {
     let ends = stage.ends(cut)?;
     let parts = mem::replace(&mut stage.parts, Vec::new(stage.alloc));
@@ -82,10 +84,12 @@ fn advance<S: Site, W: PartWork<S>, G: Gate<W>, R: Wait>(
     ensures here { owner_table owner.new ≡ table_of handoff.now }
     ensures idle { IsIdleHand (table_of handoff.now) hand.new }
     ensures free { IsAllFree (owner_record owner.new) }
-    ensures on { (s : Setting S) → StandsOn S.engine S.conditions s (standing_of stage.old) → IfOk result (λ ended. HasAdvanced S.engine S.conditions s ended (standing_of stage.new)) }
+    ensures on { (s : Setting S) → StandsOn S.engine S.conditions s (standing_of stage.old)
+        → IfOk result (λ ended. HasAdvanced S.engine S.conditions s ended (standing_of stage.new)) }
     ensures same { OnOk result (IsSame (standing_of stage.old) (standing_of stage.new)) }
     ensures settled { OnOk result (stage.new.settled ≡ stage.old.settled) }
-    ensures stops { (s : Setting S) → StandsOn S.engine S.conditions s (standing_of stage.old) → IfErr result (StopsWhere (IsOver S.engine s)) }
+    ensures stops { (s : Setting S) → StandsOn S.engine S.conditions s (standing_of stage.old)
+        → IfErr result (StopsWhere (IsOver S.engine s)) }
 {
     match stage.next_ready() {
         Some(next) => {
@@ -113,10 +117,15 @@ fn hand_on<S: Site, K: RowSink<S::Row>>(
     requires stands { IsStanding S.engine S.conditions (standing_of stage.old) }
     requires ready { K.ready sink.old }
     ensures ready { OnOk result (K.ready sink.new) }
-    ensures on { (s : Setting S) → StandsOn S.engine S.conditions s (standing_of stage.old) → OnOk result (StandsOn S.engine S.conditions s (standing_of stage.new)) }
+    ensures on { (s : Setting S) → StandsOn S.engine S.conditions s (standing_of stage.old)
+        → OnOk result (StandsOn S.engine S.conditions s (standing_of stage.new)) }
     ensures same { OnOk result (IsSame (standing_of stage.old) (standing_of stage.new)) }
-    ensures told { (s : Setting S) (first : K) → StandsOn S.engine S.conditions s (standing_of stage.old) → HasTold S.engine K.took s stage.old.settled first sink.old → OnOk result (HasTold S.engine K.took s stage.new.settled first sink.new) }
-    ensures stops { (s : Setting S) (first : K) → StandsOn S.engine S.conditions s (standing_of stage.old) → HasTold S.engine K.took s stage.old.settled first sink.old → IfErr result (λ refusal. HasStopped S.engine K.took K.broke s first refusal sink.new) }
+    ensures told { (s : Setting S) (first : K) → StandsOn S.engine S.conditions s (standing_of stage.old)
+        → HasTold S.engine K.took s stage.old.settled first sink.old
+        → OnOk result (HasTold S.engine K.took s stage.new.settled first sink.new) }
+    ensures stops { (s : Setting S) (first : K) → StandsOn S.engine S.conditions s (standing_of stage.old)
+        → HasTold S.engine K.took s stage.old.settled first sink.old
+        → IfErr result (λ refusal. HasStopped S.engine K.took K.broke s first refusal sink.new) }
 {
     if !pace.is_full() {
         return Ok(());
@@ -147,9 +156,12 @@ fn run_rounds<S: Site, W: PartWork<S>, G: Gate<W>, K: RowSink<S::Row>, R: Wait>(
     ensures idle { IsIdleHand (table_of handoff.now) hand.new }
     ensures free { IsAllFree (owner_record owner.new) }
     ensures ready { OnOk result (K.ready sink.new) }
-    ensures ended { (s : Setting S) → StandsOn S.engine S.conditions s (standing_of stage.old) → OnOk result (IsAtEnd S.engine S.conditions s (standing_of stage.new)) }
-    ensures told { (s : Setting S) → StandsOn S.engine S.conditions s (standing_of stage.old) → OnOk result (HasTold S.engine K.took s stage.new.settled sink.old sink.new) }
-    ensures stops { (s : Setting S) → StandsOn S.engine S.conditions s (standing_of stage.old) → IfErr result (λ refusal. HasStopped S.engine K.took K.broke s sink.old refusal sink.new) }
+    ensures ended { (s : Setting S) → StandsOn S.engine S.conditions s (standing_of stage.old)
+        → OnOk result (IsAtEnd S.engine S.conditions s (standing_of stage.new)) }
+    ensures told { (s : Setting S) → StandsOn S.engine S.conditions s (standing_of stage.old)
+        → OnOk result (HasTold S.engine K.took s stage.new.settled sink.old sink.new) }
+    ensures stops { (s : Setting S) → StandsOn S.engine S.conditions s (standing_of stage.old)
+        → IfErr result (λ refusal. HasStopped S.engine K.took K.broke s sink.old refusal sink.new) }
 {
     let mut pace = Pace::new();
     for _ in rt.forever() {
@@ -182,8 +194,10 @@ pub fn run_stage<S: Site, W: PartWork<S>, G: Gate<W>, K: RowSink<S::Row>, R: Wai
     ensures here { owner_table owner.new ≡ table_of handoff.now }
     ensures free { IsAllFree (owner_record owner.new) }
     ensures ready { OnOk result (K.ready sink.new) }
-    ensures whole { (s : Setting S) → StandsOn S.engine S.conditions s (standing_of stage) → IfOk result (λ sites. HasTaken S.engine K.took s sink.old sink.new sites.items) }
-    ensures stops { (s : Setting S) → StandsOn S.engine S.conditions s (standing_of stage) → IfErr result (λ refusal. HasStopped S.engine K.took K.broke s sink.old refusal sink.new) }
+    ensures whole { (s : Setting S) → StandsOn S.engine S.conditions s (standing_of stage)
+        → IfOk result (λ sites. HasTaken S.engine K.took s sink.old sink.new sites.items) }
+    ensures stops { (s : Setting S) → StandsOn S.engine S.conditions s (standing_of stage)
+        → IfErr result (λ refusal. HasStopped S.engine K.took K.broke s sink.old refusal sink.new) }
 {
     run_rounds(rt, handoff, owner, hand, gate, &mut stage, sink)?;
     let ended = stage.into_run()?;

@@ -54,7 +54,8 @@ fn run_in_scope<
     requires none { outcome.old ≡ Err Refusal.NoWorker }
     ensures same_sink { result.0.ghost_name ≡ sink.entry.ghost_name }
     ensures same_outcome { result.1.ghost_name ≡ outcome.entry.ghost_name }
-    ensures ran { (s : Setting S) → StandsOn S.engine S.conditions s (standing_of stage) → RanOn S.engine K.ready K.took K.broke s sink.entry.now result.1.now result.0.now }
+    ensures ran { (s : Setting S) → StandsOn S.engine S.conditions s (standing_of stage)
+        → RanOn S.engine K.ready K.took K.broke s sink.entry.now result.1.now result.0.now }
 {
     thread::scope(
         thread::scope_env(),
@@ -70,7 +71,8 @@ fn run_in_scope<
             requires none { outcome.now ≡ Err Refusal.NoWorker }
             ensures same_sink { result.0.ghost_name ≡ sink.entry.ghost_name }
             ensures same_outcome { result.1.ghost_name ≡ outcome.entry.ghost_name }
-            ensures ran { (s : Setting S) → StandsOn S.engine S.conditions s (standing_of stage) → RanOn S.engine K.ready K.took K.broke s sink.entry.now result.1.now result.0.now }
+            ensures ran { (s : Setting S) → StandsOn S.engine S.conditions s (standing_of stage)
+                → RanOn S.engine K.ready K.took K.broke s sink.entry.now result.1.now result.0.now }
         {
             let mut hand = owner.hand(handoff);
             let ready = start_all(scope, rt, handoff, &mut owner, gate, &mut handles, threads);
@@ -108,7 +110,8 @@ fn run_threads<
     requires fresh { stage.settled ≡ 0 }
     requires ready { K.ready sink.old }
     requires room { (vec_len handles ≡ 0) × (threads ≤ vec_capacity handles) }
-    ensures { (s : Setting S) → StandsOn S.engine S.conditions s (standing_of stage) → RanOn S.engine K.ready K.took K.broke s sink.old result sink.new }
+    ensures { (s : Setting S) → StandsOn S.engine S.conditions s (standing_of stage)
+        → RanOn S.engine K.ready K.took K.broke s sink.old result sink.new }
 {
     let mut outcome = Err(Refusal::NoWorker);
     run_in_scope(

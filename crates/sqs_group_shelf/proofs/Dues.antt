@@ -4,8 +4,8 @@ use Rattle.std.specs.Prelude.{All}
 use Rattle.std.proofs.lemmas.List.Elements.{All-head, All-tail}
 use Rattle.sim_clock.specs.declared.key.Key.{Key}
 use Rattle.sim_clock.specs.Order.{least, lesser}
-use Rattle.sqs_index.specs.Marks.{least_of}
-use Rattle.sqs_index.proofs.Spans.{lesser_assoc}
+use Rattle.sim_index.specs.Marks.{least_of}
+use Rattle.sim_index.proofs.Spans.{lesser_assoc}
 use Rattle.sqs_model.specs.Dues.{message_dues}
 use Rattle.sqs_shelf.specs.Heads.{told}
 use Rattle.sqs_shelf.specs.Slots.{Shelved}

@@ -6,7 +6,7 @@ use Rattle.std.proofs.lemmas.Bool.Decides.{nat_tests}
 use Rattle.std.proofs.lemmas.List.Elements.{All-cons, All-head, All-nil, All-tail}
 use Rattle.sim_clock.specs.Firsts.{changed}
 use Rattle.sim_clock.specs.declared.key.Key.{Key}
-use Rattle.sqs_index.specs.Marks.{meets}
+use Rattle.sim_index.specs.Marks.{meets}
 use Rattle.sqs_message.specs.declared.message.Message.{Message}
 use Rattle.sqs_model.specs.Progress.{Ascends}
 use Rattle.sqs_model.specs.Queue.{is_visible}

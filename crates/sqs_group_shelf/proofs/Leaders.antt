@@ -4,7 +4,7 @@ use Rattle.std.specs.Prelude.{All, find}
 use Rattle.std.specs.Option.{option_map}
 use Rattle.std.proofs.lemmas.List.{map-append, take_all, take_at}
 use Rattle.std.proofs.lemmas.List.Elements.{All-head, All-tail}
-use Rattle.sqs_index.specs.Marks.{meets}
+use Rattle.sim_index.specs.Marks.{meets}
 use Rattle.sqs_message.specs.declared.message.Message.{Message}
 use Rattle.sqs_model.specs.Available.{by_group, open_from}
 use Rattle.sqs_model.specs.Progress.{Ascends}

@@ -6,7 +6,7 @@ ghost use Rattle.sqs_group_shelf.specs.Groups.{in_flight_at};
 ghost use Rattle.sqs_message.specs.declared.message.Message.{Message};
 
 use sim_clock::{Class, Key, lesser};
-use sqs_index::Mark;
+use sim_index::Mark;
 use sqs_message::{Message, Place};
 
 // The hosts in the mark of a message that leads its group: that is the first of its group and

@@ -6,9 +6,9 @@ use Rattle.std.proofs.lemmas.List.Elements.{All-cons, All-head, All-map, All-tai
 use Rattle.sim_clock.specs.declared.key.Key.{Key}
 use Rattle.sim_clock.specs.Firsts.{changed, is_empty, without}
 use Rattle.sim_clock.specs.Order.{least, lesser}
-use Rattle.sqs_index.specs.declared.mark.Mark.{Mark}
-use Rattle.sqs_index.specs.Marks.{least_of, meets}
-use Rattle.sqs_index.proofs.Spans.{lesser_assoc}
+use Rattle.sim_index.specs.declared.mark.Mark.{Mark}
+use Rattle.sim_index.specs.Marks.{least_of, meets}
+use Rattle.sim_index.proofs.Spans.{lesser_assoc}
 use Rattle.sqs_message.specs.declared.message.Message.{Message}
 use Rattle.sqs_message.specs.declared.message.Place.{Place}
 use Rattle.sqs_message.specs.declared.message.Place.TheVariants as places

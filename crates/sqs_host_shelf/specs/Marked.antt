@@ -1,7 +1,7 @@
 -- The marks of a standard queue's messages.
 use Rattle.std.specs.Prelude.{◌≡◌, All, List, ℕ, ◌%◌, ◌^◌}
 use Rattle.sim_clock.specs.Order.{least}
-use Rattle.sqs_index.specs.declared.mark.Mark.{Mark}
+use Rattle.sim_index.specs.declared.mark.Mark.{Mark}
 use Rattle.sqs_message.specs.declared.message.Message.{Message}
 use Rattle.sqs_message.specs.declared.message.Place.{Place}
 use Rattle.sqs_message.specs.declared.message.Place.TheVariants as places

@@ -9,7 +9,7 @@ ghost use Rattle.sqs_model.specs.Dues.{release_due};
 ghost use Rattle.sqs_shelf.specs.Slots.{restated};
 
 use sim_clock::{Class, Key, lesser};
-use sqs_index::Mark;
+use sim_index::Mark;
 use sqs_message::{Message, Place};
 use sqs_redrive::{Kind, QueueSettings};
 use sqs_shelf::State;

@@ -12,9 +12,11 @@ ghost use Rattle.std.specs.Prelude.{◌≡◌};
 ghost use Rattle.sqs_late_workers.specs.Statuses.{status_of};
 
 use sim_clock::Refusal;
+use sim_engine::Site;
 use sim_records::ToWriter;
 use sim_scenario::Scripts;
-use sqs_rehearsal::{Done, Fault, Gate, Options, Piece, Running, rehearse};
+use sim_workers::{Done, Gate, Piece, Running};
+use sqs_rehearsal::{Fault, Options, rehearse};
 use std::alloc::{AllocError, Global};
 use std::io::Read;
 use std::process::ExitCode;
@@ -30,13 +32,15 @@ const TURNS: u32 = 1000;
 // A gate that is late.
 struct Late;
 
-impl Gate<Running> for Late {
+impl<S: Site + Send> Gate<Running<S>> for Late
+where
+    S::Row: Send,
+    S::Transfer: Send,
+{
     ghost use Rattle.sim_workers.specs.Pieces.{Comes};
-    ghost use Rattle.sqs_model.specs.Conditions.{sqs_conditions};
-    ghost use Rattle.sqs_model.specs.Sqs.{sqs};
 
-    fn run<R: Wait>(&self, _rt: &R, _part: usize, piece: Piece) -> Done
-        ensures { Comes sqs sqs_conditions piece.bound piece.part result.outcome }
+    fn run<R: Wait>(&self, _rt: &R, _part: usize, piece: Piece<S>) -> Done<S>
+        ensures { Comes S.engine S.conditions piece.bound piece.part result.outcome }
     {
         let done = piece.run();
         for _ in 0..TURNS {

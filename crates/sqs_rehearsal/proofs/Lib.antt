@@ -1,3 +1,4 @@
+pub mod Openings
 pub mod Writing
 pub mod Runs
 pub mod Barred

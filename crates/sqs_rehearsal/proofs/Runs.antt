@@ -2,7 +2,7 @@
 use Rattle.std.proofs.Common.{◌≡◌, ℕ, List, None, Ok, ap, arith, sym, subst, ◌+◌, ◌∙◌}
 use Rattle.std.specs.Prelude.{IsNone}
 use Rattle.sim_scenario.specs.Ranges.{IsInRange}
-use Rattle.sqs_runs.proofs.Openings.{has_queues}
+use Rattle.sqs_rehearsal.proofs.Openings.{has_queues}
 use Rattle.sim_windows.proofs.Runs.{stays}
 use Rattle.sqs_model.specs.Accounts.{EachHasOnePlace, NoOtherHasPlace}
 use Rattle.sqs_model.specs.Run.{IsRunOf, Run, after}

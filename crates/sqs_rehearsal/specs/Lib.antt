@@ -1,3 +1,4 @@
+pub mod Homes
 pub mod Options
 pub mod Outcomes
 pub mod Writers

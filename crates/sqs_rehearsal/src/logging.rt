@@ -10,13 +10,14 @@ ghost use Rattle.sqs_rehearsal.specs.Writers.{Writer};
 
 use crate::options::Split;
 use crate::outcome::flush;
+use crate::running::{Running, run_workers};
 use sim_clock::Refusal;
 use sim_recorder::{Recorder, Watch};
 use sim_records::{Names, Out, write_header};
 use sim_report::Report;
 use sim_scenario::Scenario;
 use sim_site::Site;
-use sqs_runs::{Gate, Running, run_workers};
+use sim_workers::Gate;
 use std::alloc::Global;
 use std::sync::Wait;
 use std::thread::Threads;

@@ -9,6 +9,7 @@ ghost use Rattle.sqs_model.specs.Scenario.{Scenario as TheScenario};
 ghost use Rattle.sqs_rehearsal.specs.Outcomes.{HasCounted, IsLeftBy, IsOutcomeOf, Stops};
 
 use crate::finals::finals_of;
+use crate::running::run_alone;
 use sim_clock::Refusal;
 use sim_recorder::Counter;
 use sim_records::{Names, Out, write_finals};
@@ -17,7 +18,6 @@ use sim_scenario::Scenario;
 use sim_site::Site;
 use sqs_message::Text;
 use sqs_model::Finals;
-use sqs_runs::run_alone;
 use std::alloc::{AllocError, Global};
 
 /// What the whole run of a scenario leaves: the report of its rows, and what is left in its queues, on

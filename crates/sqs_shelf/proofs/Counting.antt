@@ -14,7 +14,7 @@ use Rattle.sqs_model.specs.Queue.{is_delayed, is_in_flight, is_visible}
 use Rattle.sqs_shelf.specs.declared.counts.Counts.{Counts}
 use Rattle.sqs_shelf.specs.Counted.{count_at, counts_of, with_one}
 use Rattle.sqs_shelf.specs.Heads.{told}
-use Rattle.sqs_index.specs.declared.mark.Mark.{Mark}
+use Rattle.sim_index.specs.declared.mark.Mark.{Mark}
 use Rattle.sqs_shelf.specs.declared.slot.Slot.{Slot}
 use Rattle.sqs_shelf.specs.Shelves.{AreShelf}
 use Rattle.sqs_shelf.specs.Slots.{IsOn, Shelved, is_numbered, number_of, shelved, shown, with_hosts}

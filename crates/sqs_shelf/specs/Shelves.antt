@@ -1,7 +1,7 @@
 -- What every shelf keeps.
 use Rattle.std.specs.Prelude.{◌≡◌, All, List, length, map, vec_capacity, vec_len, ℕ, ◌<◌, ◌^◌, ◌≤◌}
-use Rattle.sqs_index.specs.declared.mark.Mark.{Mark}
-use Rattle.sqs_index.specs.Marks.{node}
+use Rattle.sim_index.specs.declared.mark.Mark.{Mark}
+use Rattle.sim_index.specs.Marks.{node}
 use Rattle.sqs_shelf.specs.Counted.{counts_of}
 use Rattle.sqs_shelf.specs.Heads.{told}
 use Rattle.sqs_shelf.specs.Slots.{AreOrdered, Holding, IsNamed, is_ready, mark_of, shelved}

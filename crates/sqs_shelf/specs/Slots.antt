@@ -3,8 +3,8 @@ use Rattle.std.specs.Prelude.{◌≡◌, ◌==◌, ◌&&◌, nat_lt, Bool, IsSom
 use Rattle.std.specs.List.{filter_map}
 use Rattle.std.specs.Option.{option_map}
 use Rattle.sim_clock.specs.Firsts.{changed, without}
-use Rattle.sqs_index.specs.declared.mark.Mark.{Mark}
-use Rattle.sqs_index.specs.Marks.{no_mark}
+use Rattle.sim_index.specs.declared.mark.Mark.{Mark}
+use Rattle.sim_index.specs.Marks.{no_mark}
 use Rattle.sqs_message.specs.declared.message.Message.{Message}
 use Rattle.sqs_shelf.specs.declared.slot.Slot.{Slot}
 use Rattle.sqs_shelf.specs.declared.slot.State.{State}

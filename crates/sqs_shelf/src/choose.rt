@@ -1,6 +1,6 @@
 //! The first messages whose marks tell of some hosts.
 ghost use Rattle.std.specs.Prelude.{◌≡◌, IfOk, filter, map, take};
-ghost use Rattle.sqs_index.specs.Marks.{meets};
+ghost use Rattle.sim_index.specs.Marks.{meets};
 ghost use Rattle.sqs_shelf.specs.Slots.{number_of};
 
 use crate::shelf::Shelf;

@@ -1,11 +1,11 @@
 //! Room for one more message.
 ghost use Rattle.std.specs.Prelude.{◌≡◌, ◌+◌, ◌*◌, ◌<◌, ◌≤◌, ◌^◌, [], IfOk, OnOk, OnErr, false, filter, length, map, true, vec_capacity, vec_len};
-ghost use Rattle.sqs_index.specs.Marks.{IsPower, node};
+ghost use Rattle.sim_index.specs.Marks.{IsPower, node};
 ghost use Rattle.sqs_shelf.specs.Slots.{is_living, is_ready, mark_of};
 ghost use Rattle.sqs_shelf.specs.Room.{HasRoom};
 
 use crate::slot::Slot;
-use sqs_index::{Mark, Marks};
+use sim_index::{Mark, Marks};
 use std::alloc::{AllocError, Global};
 use std::mem;
 

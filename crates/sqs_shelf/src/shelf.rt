@@ -2,7 +2,7 @@
 ghost use Rattle.std.specs.Prelude.{◌≡◌, ◌+◌, ◌<◌, ◌≤◌, ◌^◌, ◌++◌, ◌∷◌, [], ◌&&◌, All, IsOk, OnOk, OnErr, IfSome, count_by, false, find, length, map, nat_le, true};
 ghost use Rattle.std.specs.Option.{option_copied, option_map};
 ghost use Rattle.sim_clock.specs.Firsts.{changed, without};
-ghost use Rattle.sqs_index.specs.Marks.{least_of, meets};
+ghost use Rattle.sim_index.specs.Marks.{least_of, meets};
 ghost use Rattle.sqs_model.specs.Progress.{Ascends};
 ghost use Rattle.sqs_model.specs.Queue.{is_delayed, is_in_flight, is_visible};
 ghost use Rattle.sqs_shelf.specs.Heads.{told};
@@ -13,7 +13,7 @@ use crate::messages::{Messages, messages_in};
 use crate::room::make_room;
 use crate::slot::{Slot, State, clear, first_from, place_of, write};
 use sim_clock::Key;
-use sqs_index::{Mark, Marks, NO_MARK};
+use sim_index::{Mark, Marks, NO_MARK};
 use sqs_message::Message;
 use std::alloc::{AllocError, Global};
 use std::marker::Model;

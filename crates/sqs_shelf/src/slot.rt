@@ -5,7 +5,7 @@ ghost use Rattle.sqs_message.specs.declared.message.Message.{Message};
 ghost use Rattle.sqs_shelf.specs.Slots.{AreOrdered, IsNamed, IsOff, IsOn, restated};
 ghost use Rattle.sqs_shelf.specs.declared.slot.Slot.{Slot};
 
-use sqs_index::Mark;
+use sim_index::Mark;
 use sqs_message::{Message, Place};
 
 /// What of a message changes while it stands in a queue. Times are milliseconds from the start of the

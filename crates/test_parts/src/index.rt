@@ -3,7 +3,7 @@ ghost use Rattle.std.specs.Prelude.{◌≡◌, IfOk, length};
 
 use crate::same::same;
 use sim_clock::{Class, Key};
-use sqs_index::{Mark, Marks};
+use sim_index::{Mark, Marks};
 use std::alloc::{AllocError, Global};
 use std::process::Abort;
 

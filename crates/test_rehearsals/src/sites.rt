@@ -1,18 +1,13 @@
-//! Transfers on their way to a site and their arrival, a partition without sites, and a task that was
-//! never started.
-ghost use Rattle.std.specs.Prelude.{◌≤◌, IfOk, OnOk};
-ghost use Rattle.sqs_model.specs.Answers.{most_count};
-ghost use Rattle.sqs_model.specs.Conditions.{IsOfPast};
-
+//! Transfers on their way to a site, a partition without sites, and a task that was never started.
 use crate::machines::scenario;
 use sim_clock::{Class, Key, Refusal};
-use sim_engine::{Effects, Site as _};
+use sim_engine::Site as _;
 use sim_partition::Partition;
 use sim_site::{Site, Task};
-use sqs_message::{MessageId, Row, Text};
-use sqs_redrive::{Kind, Latency, Load, Outbound, QueueSettings, TaskSettings, TaskStatus};
-use sqs_runs::open_world;
-use std::alloc::{AllocError, Global};
+use sqs_message::{MessageId, Text};
+use sqs_redrive::{Latency, Load, Outbound, TaskSettings, TaskStatus};
+use sqs_rehearsal::open_world;
+use std::alloc::Global;
 
 // The sites of a standard queue and of a FIFO queue, with neither actors nor tasks.
 fn two_sites(alloc: Global) -> Option<Vec<Site>> {
@@ -22,9 +17,7 @@ fn two_sites(alloc: Global) -> Option<Vec<Site>> {
 }
 
 // A forward of one message is on its way.
-fn accept(alloc: Global, site: &mut Site, at: u64) -> Result<(), Refusal>
-    ensures past { OnOk result (IsOfPast 0 site.old → IsOfPast 0 site.new) }
-{
+fn accept(alloc: Global, site: &mut Site, at: u64) -> Result<(), Refusal> {
     let load = Load::Forward {
         id: MessageId { site: 2, number: 0 },
         body: Text::new(Vec::new(alloc)),
@@ -108,61 +101,6 @@ fn transfers_wait_in_the_order_of_their_keys(rt: HostRuntime) {
         }
         None => assert!(rt; false),
     }
-}
-
-// A site of a standard queue, with neither actors nor tasks.
-fn open(alloc: Global) -> Result<Site, AllocError>
-    ensures past { IfOk result (IsOfPast 0) }
-{
-    let settings = QueueSettings {
-        kind: Kind::Standard {
-            hosts: 4,
-            sampled: 2,
-        },
-        visibility: 30000,
-        delay: 0,
-        retention: 60000,
-        in_flight_limit: 10,
-        policy: None,
-    };
-    let (actors, tasks) = (Vec::new(alloc), Vec::new(alloc));
-    Site::new(alloc, 0, settings, actors, tasks, 7, 0)
-}
-
-// The handling of what is due next, at a moment.
-fn handle_next(
-    site: &mut Site,
-    now: u64,
-    effects: &mut Effects<Row, Outbound>,
-) -> Result<(), Refusal>
-    requires moment { now ≤ most_count }
-    requires past { IsOfPast now site.old }
-{
-    match site.least_due() {
-        Some(key) if key.at == now => site.handle_into(key, effects),
-        _ => Err(Refusal::Memory),
-    }
-}
-
-// When the last message of a site's queue was enqueued.
-fn last_enqueued(site: &Site) -> Option<u64> {
-    site.queue().view().last().map(|message| message.enqueued)
-}
-
-// How many rows the arrival of a forward at the start makes, how many transfers it sends, how many are
-// left on their way, and when its message was enqueued.
-fn arrival(alloc: Global) -> Result<(usize, usize, usize, Option<u64>), Refusal> {
-    let mut site = open(alloc)?;
-    accept(alloc, &mut site, 0)?;
-    let mut effects = Effects::new(alloc);
-    handle_next(&mut site, 0, &mut effects)?;
-    let (rows, sent) = (effects.rows.len(), effects.sent.len());
-    Ok((rows, sent, site.arriving().len(), last_enqueued(&site)))
-}
-
-#[test]
-fn a_forward_arrives(rt: HostRuntime) {
-    assert!(rt; arrival(rt.alloc()) == Ok((1, 0, 0, Some(0))));
 }
 
 // Whether nothing is due in a partition without sites.

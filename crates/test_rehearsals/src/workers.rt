@@ -3,9 +3,10 @@ use crate::machines::{in_turn, scenario};
 use crate::rehearsals::{MANY, ends, split, whole, wrong_log};
 use crate::worked::{EIGHT_QUEUES, THREE_QUEUES};
 use sim_clock::Refusal;
+use sim_engine::Site;
 use sim_windows::Limit;
-use sqs_rehearsal::{Done, Gate, Open, Piece, Running};
-use sqs_runs::run_workers;
+use sim_workers::{Done, Gate, Open, Piece, Running};
+use sqs_rehearsal::run_workers;
 use std::alloc::Global;
 use std::sync::Wait;
 use std::sync::atomic::{AtomicU64, Ordering};
@@ -31,13 +32,15 @@ fn have_begun(begun: &AtomicU64, wanted: u64) -> bool {
     false
 }
 
-impl Gate<Running> for Fours {
+impl<S: Site + Send> Gate<Running<S>> for Fours
+where
+    S::Row: Send,
+    S::Transfer: Send,
+{
     ghost use Rattle.sim_workers.specs.Pieces.{Comes};
-    ghost use Rattle.sqs_model.specs.Conditions.{sqs_conditions};
-    ghost use Rattle.sqs_model.specs.Sqs.{sqs};
 
-    fn run<R: Wait>(&self, _rt: &R, _part: usize, piece: Piece) -> Done
-        ensures { Comes sqs sqs_conditions piece.bound piece.part result.outcome }
+    fn run<R: Wait>(&self, _rt: &R, _part: usize, piece: Piece<S>) -> Done<S>
+        ensures { Comes S.engine S.conditions piece.bound piece.part result.outcome }
     {
         let earlier = self.begun.fetch_add(1, Ordering::SeqCst);
         let wanted = if earlier < 4 { 4 } else { 8 };

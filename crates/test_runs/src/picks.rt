@@ -6,7 +6,7 @@ use sim_exchange::PartMap;
 use sim_scenario::{Scripts, read};
 use sim_site::Site;
 use sim_windows::Machine;
-use sqs_runs::open_machine;
+use sqs_rehearsal::open_machine;
 use std::alloc::Global;
 use std::process::Abort;
 

@@ -1,4 +1,4 @@
-use Rattle.std.specs.Prelude.{Ok, [], drop, get_or, length, map, set, ◌++◌, ◌+◌, ◌<◌, ◌∷◌, ◌≡◌, ◌≤◌}
+use Rattle.std.specs.Prelude.{Ok, [], drop, get_or, length, set, ◌++◌, ◌+◌, ◌<◌, ◌∷◌, ◌≡◌, ◌≤◌}
 use Rattle.std.proofs.Common.{ap, append_assoc, arith, length-append, subst, sym, ◌∙◌}
 use Rattle.std.proofs.lemmas.List.{append-nil, drop_all, length-map, length-set, nil_from_length}
 use Rattle.sim_workers.specs.Runs.{with_parts}

@@ -1,13 +1,9 @@
 use Rattle.std.specs.Option.{is_some}
-use Rattle.std.specs.Prelude.{List, [], false, not, true, ◌++◌, ◌∷◌, ◌≡◌, ◌||◌}
+use Rattle.std.specs.Prelude.{[], ◌++◌, ◌∷◌}
 use Rattle.std.proofs.Common.{ap, sym, ◌∙◌}
 use Rattle.std.proofs.lemmas.Result.{err_from_is_err_and}
-use Rattle.sim_exchange.specs.Layout.{owner_of}
-use Rattle.sim_engine.specs.Machine.{Machine, has_ready, is_finished}
-use Rattle.sim_engine.specs.declared.picks.Pick.{Pick}
 use Rattle.sim_engine.specs.declared.picks.Pick.TheVariants.{Barrier}
-use Rattle.sim_windows.specs.Stages.{Standing, machine_in, standing_of, takes_effect_in}
-use Rattle.sim_engine.specs.Setting.{Setting}
+use Rattle.sim_windows.specs.Stages.{standing_of}
 use Rattle.sim_workers.proofs.Advancing.{takes}
 use Rattle.sim_workers.proofs.rounds.advance.Goals as goal
 

@@ -1,4 +1,4 @@
-use Rattle.std.specs.Prelude.{List, Result, Vec, length, map, min, ℕ, ◌≡◌}
+use Rattle.std.specs.Prelude.{List, Vec, length, map, min, ℕ, ◌≡◌}
 use Rattle.std.proofs.Common.{Global, ap, arith, subst, ◌∙◌}
 use Rattle.std.proofs.lemmas.Result.{err_from_is_err_and}
 use Rattle.sim_clock.specs.declared.refusal.Refusal.{Refusal}
@@ -7,7 +7,7 @@ use Rattle.sim_workers.proofs.Back.{many_back}
 use Rattle.sim_workers.proofs.Ranges.{ends_within, short_ends}
 use Rattle.sim_workers.proofs.Refused.{round_over}
 use Rattle.sim_workers.proofs.Returned.{rows_many}
-use Rattle.sim_windows.specs.Stages.{Standing, standing_of}
+use Rattle.sim_windows.specs.Stages.{standing_of}
 use Rattle.sim_windows.proofs.Standing.{many_parts, many_rows}
 use Rattle.sim_workers.specs.Rounds.{HaveCome, IsRefusedRound}
 use Rattle.sim_workers.proofs.rounds.run_round.Goals as goal

@@ -6,7 +6,7 @@ use Rattle.sim_engine.specs.Prefixes.{is_before}
 use Rattle.sim_workers.specs.Runs.{HasAdvanced}
 use Rattle.sim_engine.specs.Laws.{SiteLaws}
 use Rattle.sim_workers.proofs.Fronts.{stops_so}
-use Rattle.sim_windows.specs.Stages.{IsStanding, Standing, StandsOn, standing_of}
+use Rattle.sim_windows.specs.Stages.{StandsOn, standing_of}
 use Rattle.sim_windows.proofs.Beginning.{none_before_zero}
 use Rattle.sim_windows.proofs.Standing.{many_parts}
 use Rattle.sim_engine.specs.Setting.{Setting}

@@ -3,7 +3,7 @@ use Rattle.std.proofs.lemmas.Result.{err_from_is_err_and}
 use Rattle.sim_workers.specs.Runs.{IsAtEnd}
 use Rattle.sim_engine.specs.Laws.{SiteLaws}
 use Rattle.sim_workers.proofs.Fronts.{breaks_last, memory_stops, stops_so}
-use Rattle.sim_windows.specs.Stages.{HasRest, Standing, standing_of}
+use Rattle.sim_windows.specs.Stages.{HasRest, standing_of}
 use Rattle.sim_workers.proofs.rounds.run_stage.Goals as goal
 
 pub into_run-requires : goal.into_run-requires

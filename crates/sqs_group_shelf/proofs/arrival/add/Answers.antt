@@ -1,5 +1,5 @@
 use Rattle.std.proofs.Common.{◌≡◌, ◌+◌, ◌<◌, ◌≤◌, ◌^◌, ap, arith, false, subst, sym, ◌∙◌}
-use Rattle.sqs_index.specs.Marks.{meets}
+use Rattle.sim_index.specs.Marks.{meets}
 use Rattle.sqs_model.specs.Queue.{is_in_flight}
 use Rattle.sqs_shelf.specs.Slots.{Shelved}
 use Rattle.sqs_group_shelf.specs.Groups.{AreGrouped, bit, group_at, group_by}

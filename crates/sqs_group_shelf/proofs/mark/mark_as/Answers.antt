@@ -2,7 +2,7 @@ use Rattle.std.proofs.Common.{◌+◌, ◌≡◌, ℕ, Option, Some, ap, refl, �
 use Rattle.sim_clock.specs.declared.key.Key.{Key}
 use Rattle.sim_clock.specs.declared.key.Class.TheVariants.{Expiry}
 use Rattle.sim_clock.specs.Order.{lesser}
-use Rattle.sqs_index.specs.declared.mark.Mark.{Mark}
+use Rattle.sim_index.specs.declared.mark.Mark.{Mark}
 use Rattle.sqs_group_shelf.proofs.mark.mark_as.Goals as goal
 
 pub returns : goal.returns

@@ -3,7 +3,7 @@ use Rattle.sim_clock.specs.declared.key.Key.{Key}
 use Rattle.sim_clock.specs.declared.key.Class.TheVariants.{Expiry}
 use Rattle.sim_clock.specs.Order.{lesser}
 use Rattle.sqs_host_shelf.specs.Marked.{host_mark}
-use Rattle.sqs_index.specs.declared.mark.Mark.{Mark}
+use Rattle.sim_index.specs.declared.mark.Mark.{Mark}
 use Rattle.sqs_host_shelf.proofs.marking.mark_as.Goals as goal
 
 pub returns : goal.returns

@@ -3,7 +3,7 @@ use Rattle.std.specs.Prelude.{All, find}
 use Rattle.std.specs.Vec.{with_items}
 use Rattle.std.proofs.lemmas.List.{with_items_is}
 use Rattle.sim_clock.specs.Firsts.{changed, without}
-use Rattle.sqs_index.specs.Marks.{meets}
+use Rattle.sim_index.specs.Marks.{meets}
 use Rattle.sqs_message.specs.declared.message.Message.{Message}
 use Rattle.sqs_model.specs.Answers.{most_count}
 use Rattle.sqs_model.specs.Queue.{Queue, has_number, is_in_flight, numbered, taken_out, with_change}

@@ -1,5 +1,5 @@
 use Rattle.std.proofs.Common.{ap, map, ◌∙◌}
-use Rattle.sqs_index.specs.Marks.{least_of}
+use Rattle.sim_index.specs.Marks.{least_of}
 use Rattle.sqs_shelf.specs.Slots.{Holding}
 use Rattle.sqs_shelf.proofs.Marked.{shelf_least}
 use Rattle.sqs_shelf.proofs.shelf.Shelf.least.Goals as goal

@@ -1,0 +1,164 @@
+-- Nodes of marks.
+use Rattle.std.proofs.Common.{◌≡◌, ℕ, zero, suc, ◌+◌, ◌*◌, ◌/◌, ◌^◌, ◌<◌, ◌≤◌, Bool, true, false, not, List, length, set, bit_and, bit_or, inl, inr, ◌⊎◌, arith, refl, ap, sym, subst, ◌∙◌}
+use Rattle.std.specs.Prelude.{◌==◌, ◌≢◌}
+use Rattle.std.proofs.lemmas.Nat.{and_assoc, and_comm, and_le_r, and_or_apart, and_or_self, or_comm}
+use Rattle.std.proofs.lemmas.Bool.Decides.{nat_tests}
+use Rattle.std.proofs.lemmas.Bool.{cases_eq, cases_lt}
+use Rattle.std.proofs.lemmas.List.{get_or-set_other, get_or-set_same, length-set}
+use Rattle.std.proofs.lemmas.Nat.{pow_pos}
+use Rattle.std.proofs.Math.Nat.{pow-succ'}
+use Rattle.sim_index.specs.declared.mark.Mark.{Mark}
+use Rattle.sim_index.specs.Marks.{ArePairs, ArePairsBut, IsNextIn, IsPair, IsPower, NoneIn, beyond, joined, meets, no_mark, node, tells}
+
+none_or : (a b s : ℕ) → bit_and a s ≡ 0 → bit_and b s ≡ 0 → bit_and (bit_or a b) s ≡ 0
+none_or a b s h k = and_or_apart s a b k ∙ h
+
+none_first : (a b s : ℕ) → bit_and (bit_or a b) s ≡ 0 → bit_and a s ≡ 0
+none_first a b s h =
+    let same : bit_and a (bit_or a b) ≡ a = and_comm a (bit_or a b) ∙ ap (λ o. bit_and o a) (or_comm a b) ∙ and_or_self a b in
+    let last : bit_and a 0 ≡ 0 = omega (arith, and_le_r a 0) in
+    ap (λ x. bit_and x s) (sym same) ∙ and_assoc s a (bit_or a b) ∙ ap (bit_and a) h ∙ last
+
+none_second : (a b s : ℕ) → bit_and (bit_or a b) s ≡ 0 → bit_and b s ≡ 0
+none_second a b s h = none_first b a s (ap (λ o. bit_and o s) (or_comm b a) ∙ h)
+
+no_test : (n : ℕ) → not (n == 0) ≡ false → n ≡ 0
+no_test n h = grind (arith, nat_tests)
+
+test_no : (n : ℕ) → n ≡ 0 → not (n == 0) ≡ false
+test_no n h = grind (arith, nat_tests)
+
+-- a pair tells of no host exactly where neither does
+pub pair_none : (hosts : ℕ) (a b : Mark) → meets hosts a ≡ false → meets hosts b ≡ false → meets hosts (joined a b) ≡ false
+pair_none hosts a b h k = test_no _ (none_or a.hosts b.hosts hosts (no_test _ h) (no_test _ k))
+
+pub none_pair_first : (hosts : ℕ) (a b : Mark) → meets hosts (joined a b) ≡ false → meets hosts a ≡ false
+none_pair_first hosts a b h = test_no _ (none_first a.hosts b.hosts hosts (no_test _ h))
+
+pub none_pair_second : (hosts : ℕ) (a b : Mark) → meets hosts (joined a b) ≡ false → meets hosts b ≡ false
+none_pair_second hosts a b h = test_no _ (none_second a.hosts b.hosts hosts (no_test _ h))
+
+split_le : (a b : ℕ) → (a ≤ b) ⊎ (b < a)
+split_le a b = elim (cases_lt b a) [ inl l ↦ inr l | inr l ↦ inl l ]
+
+-- where a node tells of no host, neither of the two below it does
+quiet_pair : (nodes : List Mark) (hosts i : ℕ) → IsPair nodes i → tells nodes hosts i ≡ false → (tells nodes hosts (2 * i) ≡ false) × (tells nodes hosts (2 * i + 1) ≡ false)
+quiet_pair nodes hosts i h e =
+    let n : meets hosts (joined (node nodes (2 * i)) (node nodes (2 * i + 1))) ≡ false = ap (meets hosts) (sym h) ∙ e in
+    (none_pair_first hosts (node nodes (2 * i)) (node nodes (2 * i + 1)) n, none_pair_second hosts (node nodes (2 * i)) (node nodes (2 * i + 1)) n)
+
+quiet_by : (nodes : List Mark) (hosts p i : ℕ) → (i ≡ 2 * p) ⊎ (i ≡ 2 * p + 1) → (tells nodes hosts (2 * p) ≡ false) × (tells nodes hosts (2 * p + 1) ≡ false) → tells nodes hosts i ≡ false
+quiet_by nodes hosts p i (inl e) h = ap (tells nodes hosts) e ∙ h.0
+quiet_by nodes hosts p i (inr e) h = ap (tells nodes hosts) e ∙ h.1
+
+-- a node is the first or the second of a pair
+pub of_pair : (i : ℕ) → (i ≡ 2 * (i / 2)) ⊎ (i ≡ 2 * (i / 2) + 1)
+of_pair i = elim (split_le (2 * (i / 2) + 1) i) [ inl l ↦ inr (omega arith) | inr l ↦ inl (omega arith) ]
+
+-- what a node tells nothing of, no node below it does
+pub quiet : (nodes : List Mark) (hosts i : ℕ) → ArePairs nodes → 2 ≤ i → 2 * (i / 2) + 1 < length nodes → tells nodes hosts (i / 2) ≡ false → tells nodes hosts i ≡ false
+quiet nodes hosts i pairs low high e =
+    quiet_by nodes hosts (i / 2) i (of_pair i) (quiet_pair nodes hosts (i / 2) (pairs (i / 2) (omega arith) (omega arith)) e)
+
+-- a row of a power of two, below another
+pub record IsBelow (nodes : List Mark) (row : ℕ) : Type 0 where
+  pub power : IsPower (row / 2)
+  pub twice : 2 * (row / 2) ≡ row
+  pub some : 1 ≤ row / 2
+
+pub is_below : (nodes : List Mark) (row : ℕ) → IsPower row → row ≢ 1 → IsBelow nodes row
+is_below nodes row h n = by h.0 h.1
+  where
+    by : (k : ℕ) → row ≡ 2 ^ k → IsBelow nodes row
+    by zero e = absurd (n e)
+    by (suc k) e =
+        let p : 2 ^ suc k ≡ 2 * 2 ^ k = pow-succ' 2 k in
+        let l : 1 ≤ 2 ^ k = pow_pos k in
+        let q : row / 2 ≡ 2 ^ k = omega (arith, p, e) in
+        record { power = (k, q); twice = omega (arith, p, e, q); some = omega (arith, q, l) }
+
+-- nothing in a row, up to a pair, where there is nothing in the row above up to the node of that pair
+pub none_below : (nodes : List Mark) (hosts row from p : ℕ) → ArePairs nodes → 2 * row ≤ length nodes → IsBelow nodes row → row ≤ from → p ≤ row → NoneIn nodes hosts from (beyond from)
+    → NoneIn nodes hosts (from / 2 + 1) p → NoneIn nodes hosts from (2 * p)
+none_below nodes hosts row from p pairs fits below start end near none i l u =
+    elim (split_le (from / 2 + 1) (i / 2)) [
+      | inl m ↦ quiet nodes hosts i pairs (omega (arith, below.some, below.twice)) (omega arith) (none (i / 2) m (omega arith))
+      | inr m ↦ near i l (omega arith)
+    ]
+
+-- in the first row there is but one
+pub none_first_row : (nodes : List Mark) (hosts from : ℕ) → 1 ≤ from → NoneIn nodes hosts from (beyond from) → NoneIn nodes hosts from 2
+none_first_row nodes hosts from l near i m u = near i m (omega arith)
+
+second_tells : (nodes : List Mark) (hosts p : ℕ) → IsPair nodes p → tells nodes hosts p ≡ true → tells nodes hosts (2 * p) ≡ false → (b : Bool) → tells nodes hosts (2 * p + 1) ≡ b → b ≡ true
+second_tells nodes hosts p h e f true g = refl
+second_tells nodes hosts p h e f false g =
+    let none : tells nodes hosts p ≡ false = ap (meets hosts) h ∙ pair_none hosts (node nodes (2 * p)) (node nodes (2 * p + 1)) f g in
+    cc
+
+-- the first of a row, by that of the row above
+pub next_below : (nodes : List Mark) (hosts row from p place : ℕ) → ArePairs nodes → 2 * row ≤ length nodes → IsBelow nodes row → row ≤ from → NoneIn nodes hosts from (beyond from)
+    → IsNextIn nodes hosts (from / 2 + 1) (2 * (row / 2)) p
+    → ((tells nodes hosts (2 * p) ≡ true) × (place ≡ 2 * p)) ⊎ ((tells nodes hosts (2 * p) ≡ false) × (place ≡ 2 * p + 1)) → IsNextIn nodes hosts from (2 * row) place
+next_below nodes hosts row from p place pairs fits below start near next (inl h) =
+    rw h.1
+    (record {
+      past = omega (arith, next.past);
+      within = omega (arith, next.within, below.twice);
+      found = h.0;
+      none_before = none_below nodes hosts row from p pairs fits below start (omega (arith, next.within, below.twice)) near next.none_before;
+    })
+next_below nodes hosts row from p place pairs fits below start near next (inr h) =
+    let there : tells nodes hosts (2 * p + 1) ≡ true =
+    second_tells nodes hosts p (pairs p (omega (arith, next.past)) (omega (arith, next.within, below.twice))) next.found h.0 (tells nodes hosts (2 * p + 1)) refl in
+    rw h.1
+    (record {
+      past = omega (arith, next.past);
+      within = omega (arith, next.within, below.twice);
+      found = there;
+      none_before = λ i l u.
+          elim (split_le (2 * p) i) [
+            | inl m ↦ let same : i ≡ 2 * p = omega arith in ap (tells nodes hosts) same ∙ h.0
+            | inr m ↦ none_below nodes hosts row from p pairs fits below start (omega (arith, next.within, below.twice)) near next.none_before i l m
+          ];
+    })
+
+-- a node that is mended
+pub mended : (nodes : List Mark) (i : ℕ) (mark : Mark) → ArePairsBut nodes i → 0 < i → 2 * i < length nodes → mark ≡ joined (node nodes (2 * i)) (node nodes (2 * i + 1)) → ArePairsBut (set nodes i mark) (i / 2)
+mended nodes i mark h some within is j low high other =
+    let long : length (set nodes i mark) ≡ length nodes = length-set nodes i mark in
+    elim (cases_eq j i) [
+      | inl e ↦
+          rw e
+          (get_or-set_same nodes i mark no_mark (omega arith)
+          ∙ is
+          ∙ (λ k. joined (sym (get_or-set_other nodes i (2 * i) mark no_mark (λ e. omega arith)) k) (sym (get_or-set_other nodes i (2 * i + 1) mark no_mark (λ e. omega arith)) k)))
+      | inr n ↦
+          get_or-set_other nodes i j mark no_mark n
+          ∙ h j low (omega (arith, long)) n
+          ∙ (λ k. joined (sym (get_or-set_other nodes i (2 * j) mark no_mark (λ e. other (omega arith))) k) (sym (get_or-set_other nodes i (2 * j + 1) mark no_mark (λ e. other (omega arith))) k))
+    ]
+
+-- where the one node left out is in order too, all are
+pub all_pairs : (nodes : List Mark) (i : ℕ) → ArePairsBut nodes i → IsPair nodes i → ArePairs nodes
+all_pairs nodes i h is j low high = elim (cases_eq j i) [ inl e ↦ rw e is | inr n ↦ h j low high n ]
+
+-- an empty place tells of none
+pub no_meets : (hosts : ℕ) → meets hosts no_mark ≡ false
+no_meets hosts = test_no (bit_and 0 hosts) (let l : bit_and hosts 0 ≤ 0 = and_le_r hosts 0 in omega (arith, and_comm 0 hosts, l))
+
+-- where the first node tells of no host, no node does of a row of a power of two
+pub quiet_tree : (nodes : List Mark) (hosts k : ℕ) → ArePairs nodes → 2 * 2 ^ k ≤ length nodes → tells nodes hosts 1 ≡ false → NoneIn nodes hosts (2 ^ k) (2 * 2 ^ k)
+quiet_tree nodes hosts zero pairs long e = λ i from within.
+    let one : i ≡ 1 = omega (arith, from, within) in
+    ap (tells nodes hosts) one ∙ e
+quiet_tree nodes hosts (suc k) pairs long e = λ i from within.
+    let p : 2 ^ suc k ≡ 2 * 2 ^ k = pow-succ' 2 k in
+    let l : 1 ≤ 2 ^ k = pow_pos k in
+    let above = quiet_tree nodes hosts k pairs (omega (arith, p, long)) e in
+    quiet nodes hosts i pairs (omega (arith, from, p, l)) (omega (arith, within, long)) (above (i / 2) (omega (arith, from, p)) (omega (arith, within, p)))
+
+pub quiet_row : (nodes : List Mark) (hosts row : ℕ) → ArePairs nodes → IsPower row → 2 * row ≤ length nodes → tells nodes hosts 1 ≡ false → NoneIn nodes hosts row (2 * row)
+quiet_row nodes hosts row pairs h long e =
+    let same : row ≡ 2 ^ h.0 = h.1 in
+    subst (λ r. NoneIn nodes hosts r (2 * r)) (sym same) (quiet_tree nodes hosts h.0 pairs (omega (arith, long, same)) e)

@@ -1,0 +1,88 @@
+//! What is kept of one place, or of several together.
+ghost use Rattle.std.specs.Prelude.{IsTrue, if◌then◌else◌, ◌↔◌, ◌≡◌, ◌+◌, ◌<◌, ◌≤◌, length, get_or};
+ghost use Rattle.sim_clock.specs.Order.{lesser};
+ghost use Rattle.sim_index.specs.Marks.{joined, meets, no_mark};
+
+use sim_clock::Key;
+
+/// What is kept of one place of a list, or of several together: the least of what is due there, and
+/// the hosts on which a message may be received, as bits.
+#[derive(Clone, Copy, Debug)]
+pub struct Mark {
+    /// The least of what is due.
+    pub due: Option<Key>,
+    /// The hosts, by their bits.
+    pub hosts: u32,
+}
+
+/// The mark of an empty place.
+pub const NO_MARK: Mark = Mark {
+    due: None,
+    hosts: 0,
+};
+
+// Whether the second of two that may be due comes before the first.
+fn comes_before(first: &Option<Key>, second: &Option<Key>) -> bool
+    ensures { lesser first.now second.now ≡ (if result then second.now else first.now) }
+{
+    match (first, second) {
+        (_, None) => false,
+        (None, Some(_)) => true,
+        (Some(first), Some(second)) => second.is_before(first),
+    }
+}
+
+/// What two marks tell together.
+pub fn join(first: &Mark, second: &Mark) -> Mark
+    ensures { result ≡ joined first.now second.now }
+{
+    let least = if comes_before(&first.due, &second.due) {
+        second
+    } else {
+        first
+    };
+    Mark {
+        due: least.due,
+        hosts: first.hosts | second.hosts,
+    }
+}
+
+// Whether two keys are one.
+fn is_same_key(first: &Key, second: &Key) -> bool
+    ensures { IsTrue result ↔ (first.now ≡ second.now) }
+{
+    first.at == second.at
+        && first.number == second.number
+        && first.agent == second.agent
+        && first.class == second.class
+}
+
+/// Whether two marks are one.
+pub fn is_same(first: &Mark, second: &Mark) -> bool
+    ensures { IsTrue result ↔ (first.now ≡ second.now) }
+{
+    let is_due = match (&first.due, &second.due) {
+        (None, None) => true,
+        (Some(first), Some(second)) => is_same_key(first, second),
+        _ => false,
+    };
+    is_due && first.hosts == second.hosts
+}
+
+/// Whether a mark tells of a message on one of these hosts.
+pub fn meets(mark: &Mark, hosts: u32) -> bool
+    ensures { result ≡ meets hosts mark.now }
+{
+    mark.hosts & hosts != 0
+}
+
+/// The mark at a place, or that of an empty place past the end.
+pub fn mark_at(marks: &[Mark], place: usize) -> Mark
+    ensures { result ≡ get_or marks.now place no_mark }
+{
+    if place < marks.len() {
+        marks[place]
+    } else {
+        NO_MARK
+    }
+}

@@ -1,9 +1,0 @@
-use Rattle.std.proofs.Common.{◌*◌, ◌-◌, ◌<◌, ◌≤◌}
-use Rattle.sqs_index.proofs.Told.{IsFirstTold}
-use Rattle.sqs_index.proofs.marks.first_told.Given as goal
-
-abbrev pub invariant-loop-node : goal.invariant-loop-node
-invariant-loop-node l = record { some : 1 ≤ l.node; within : l.node < 2 * l.width; first : IsFirstTold l.nodes l.hosts l.node }
-
-abbrev pub decreases-loop-node : goal.decreases-loop-node
-decreases-loop-node l = 2 * l.width - l.node

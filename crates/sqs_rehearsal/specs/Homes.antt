@@ -1,0 +1,39 @@
+-- The actors and tasks of a scenario, each at its home.
+use Rattle.std.specs.Prelude.{All, List, [], filter, map, ℕ, ◌+◌, ◌==◌, ◌∷◌, ◌≡◌}
+use Rattle.sqs_model.specs.declared.agents.ActorSettings.{ActorSettings}
+use Rattle.sqs_redrive.specs.declared.settings.TaskSettings.{TaskSettings}
+use Rattle.sim_actor.specs.Lives.{IsRole}
+use Rattle.sim_site.specs.Kept.{HasShortWaits}
+use Rattle.sqs_model.specs.Progress.{Ascends}
+use Rattle.sqs_model.specs.Valid.{IsLatency}
+use Rattle.sqs_rehearsal.specs.declared.opening.Home.{Home}
+
+-- the actors of a home
+abbrev pub actors_in : Home → List (ℕ × ActorSettings)
+actors_in h = h.actors.items
+
+-- its tasks
+abbrev pub tasks_in : Home → List (ℕ × TaskSettings)
+tasks_in h = h.tasks.items
+
+-- a home with nothing there
+pub record IsVacant (h : Home) : Type 0 where
+  pub actors : actors_in h ≡ []
+  pub tasks : tasks_in h ≡ []
+
+-- whether each of some homes, numbered from this on, has those agents that are at home there, in their order
+abbrev pub AtHome : {A : Type 0} → (A → ℕ) → ℕ → List (List (ℕ × A)) → List (ℕ × A) → Type 0
+AtHome home n [] agents = Unit {0}
+AtHome home n (here ∷ rest) agents = (here ≡ filter (λ x. home x.1 == n) agents) × AtHome home (n + 1) rest agents
+
+-- homes, by number, of all these actors and tasks
+pub record IsSettled (homes : List Home) (roles : List (ℕ × ActorSettings)) (moves : List (ℕ × TaskSettings)) : Type 0 where
+  pub actors : AtHome (λ a. a.home) 0 (map actors_in homes) roles
+  pub tasks : AtHome (λ t. t.home) 0 (map tasks_in homes) moves
+
+-- a home with which a site can be set up: roles are in range, waits are short, latencies are in range, and each task has a number of its own
+pub record IsFit (h : Home) : Type 0 where
+  pub roles : All (λ x. IsRole x.1.role) (actors_in h)
+  pub waits : All (λ a. HasShortWaits a.role) (map (λ x. x.1) (actors_in h))
+  pub latencies : All (λ t. IsLatency t.1.latency) (tasks_in h)
+  pub numbered : Ascends (λ t. t.0) 0 (tasks_in h)
