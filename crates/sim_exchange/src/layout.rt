@@ -31,7 +31,10 @@ impl PartMap {
     /// `BadMap` where there are not 1 to 256 partitions, or the list does not give each queue one of
     /// them.
     pub fn new(queues: usize, parts: u32, owners: Vec<u32>) -> Result<PartMap, Refusal>
-        ensures { result ≡ (if is_layout queues (record { parts = parts; owners = owners.items }) then Ok (record { parts = parts; owners = owners.items }) else Err Refusal.BadMap) }
+        ensures { result ≡ (
+            if is_layout queues (record { parts = parts; owners = owners.items })
+            then Ok (record { parts = parts; owners = owners.items })
+            else Err Refusal.BadMap) }
     {
         if is_whole(queues, parts, &owners) {
             Ok(PartMap { parts, owners })

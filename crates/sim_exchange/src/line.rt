@@ -54,7 +54,9 @@ fn shorten_by(line: &mut [Option<u64>], way: &Edge, layout: &PartMap, start: u32
     requires few { layout.now.parts ≤ 256 }
     requires short { AreShort line.old }
     ensures short { AreShort line.new }
-    ensures walked { (ways : List Edge) → In ways way.now → AreWalked (owner_of layout.now) ways start line.old → AreWalked (owner_of layout.now) ways start line.new }
+    ensures walked { (ways : List Edge) → In ways way.now →
+        AreWalked (owner_of layout.now) ways start line.old →
+        AreWalked (owner_of layout.now) ways start line.new }
     ensures nearer { result ≡ true → total_of line.new < total_of line.old }
     ensures same { result ≡ false → line.new ≡ line.old }
     ensures settled { result ≡ false → IsSettled (owner_of layout.now) start line.new way.now }

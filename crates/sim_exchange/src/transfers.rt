@@ -20,7 +20,9 @@ pub fn exchange<S: Site>(
     sent: Vec<Vec<S::Transfer>>,
     layout: &PartMap,
 ) -> Result<Vec<Vec<S::Transfer>>, AllocError>
-    ensures { IfOk result (λ lists. map (λ l. l.items) lists.items ≡ exchanged S.engine (owner_of layout.now) layout.now.parts (flat_map (λ l. l.items) sent.items)) }
+    ensures { IfOk result (λ lists.
+        map (λ l. l.items) lists.items
+        ≡ exchanged S.engine (owner_of layout.now) layout.now.parts (flat_map (λ l. l.items) sent.items)) }
 {
     let mut lists = deal_all::<S>(alloc, sent, layout)?;
     sort_each::<S>(&mut lists)?;
@@ -33,7 +35,9 @@ fn deal_all<S: Site>(
     sent: Vec<Vec<S::Transfer>>,
     layout: &PartMap,
 ) -> Result<Vec<Vec<S::Transfer>>, AllocError>
-    ensures { IfOk result (λ lists. map (λ l. l.items) lists.items ≡ dealt S.engine (owner_of layout.now) layout.now.parts (flat_map (λ l. l.items) sent.items)) }
+    ensures { IfOk result (λ lists.
+        map (λ l. l.items) lists.items
+        ≡ dealt S.engine (owner_of layout.now) layout.now.parts (flat_map (λ l. l.items) sent.items)) }
 {
     let mut lists = no_lists::<S>(alloc, layout.parts())?;
     for list in sent {
@@ -61,7 +65,11 @@ fn deal<S: Site>(
 ) -> Result<(), AllocError>
     requires { length lists.old.items ≡ layout.now.parts }
     ensures lists { OnOk result (length lists.new.items ≡ layout.now.parts) }
-    ensures dealt { OnOk result ((os : List S.Transfer) → map (λ l. l.items) lists.old.items ≡ dealt S.engine (owner_of layout.now) layout.now.parts os → map (λ l. l.items) lists.new.items ≡ dealt S.engine (owner_of layout.now) layout.now.parts (os ++ sent.items)) }
+    ensures dealt { OnOk result (
+        (os : List S.Transfer) →
+        map (λ l. l.items) lists.old.items ≡ dealt S.engine (owner_of layout.now) layout.now.parts os →
+        map (λ l. l.items) lists.new.items
+        ≡ dealt S.engine (owner_of layout.now) layout.now.parts (os ++ sent.items)) }
 {
     for transfer in sent {
         let part = layout.part_of(S::to(&transfer));
@@ -78,7 +86,10 @@ fn put<S: Site>(
 ) -> Result<(), AllocError>
     requires { place < length lists.old.items }
     ensures lists { length lists.new.items ≡ length lists.old.items }
-    ensures put { OnOk result (map (λ l. l.items) lists.new.items ≡ slice_set (map (λ l. l.items) lists.old.items) place (get_or (map (λ l. l.items) lists.old.items) place [] ++ transfer ∷ [])) }
+    ensures put { OnOk result (
+        map (λ l. l.items) lists.new.items
+        ≡ slice_set (map (λ l. l.items) lists.old.items) place
+        (get_or (map (λ l. l.items) lists.old.items) place [] ++ transfer ∷ [])) }
 {
     let list = &mut lists[place];
     list.push(transfer)?;

@@ -27,7 +27,9 @@ fn handle_at<S: Site>(
     requires due { world_due S.engine sites.old.items ≡ Some key }
     requires there { Stands (is_due_there S.engine key) sites.old.items place }
     requires moment { key.at ≤ most_count }
-    ensures handled { OnOk result (part_made S.engine sites.new.items effects.new ≡ part_on S.engine (part_made S.engine sites.old.items effects.old) (handled_among S.engine key sites.old.items)) }
+    ensures handled { OnOk result (
+        part_made S.engine sites.new.items effects.new
+        ≡ part_on S.engine (part_made S.engine sites.old.items effects.old) (handled_among S.engine key sites.old.items)) }
     ensures kept { OnOk result (IsKept S.engine S.conditions sites.new.items dues.new) }
     ensures timely { All S.conditions.Timely effects.old.sent.items → OnOk result (All S.conditions.Timely effects.new.sent.items) }
     ensures stops { IfErr result (StopsStep S.engine (handled_among S.engine key sites.old.items)) }
@@ -45,10 +47,14 @@ pub fn handle_least<S: Site>(
 ) -> Result<(), Refusal>
     requires kept { IsKept S.engine S.conditions sites.old.items dues.old }
     requires due { HasDue S.engine sites.old.items }
-    ensures handled { (key : TheKey) → world_due S.engine sites.old.items ≡ Some key → OnOk result (part_made S.engine sites.new.items effects.new ≡ part_on S.engine (part_made S.engine sites.old.items effects.old) (handled_among S.engine key sites.old.items)) }
+    ensures handled { (key : TheKey) → world_due S.engine sites.old.items ≡ Some key →
+        OnOk result (
+        part_made S.engine sites.new.items effects.new
+        ≡ part_on S.engine (part_made S.engine sites.old.items effects.old) (handled_among S.engine key sites.old.items)) }
     ensures kept { OnOk result (IsKept S.engine S.conditions sites.new.items dues.new) }
     ensures timely { All S.conditions.Timely effects.old.sent.items → OnOk result (All S.conditions.Timely effects.new.sent.items) }
-    ensures stops { (key : TheKey) → world_due S.engine sites.old.items ≡ Some key → IfErr result (StopsStep S.engine (handled_among S.engine key sites.old.items)) }
+    ensures stops { (key : TheKey) → world_due S.engine sites.old.items ≡ Some key →
+        IfErr result (StopsStep S.engine (handled_among S.engine key sites.old.items)) }
 {
     let Some(place) = dues.place_of_least() else {
         unreachable!();
@@ -69,12 +75,17 @@ fn run_moment<S: Site>(
     requires kept { IsKept S.engine S.conditions sites.old.items dues.old }
     requires from { IsFrom moment (world_due S.engine sites.old.items) }
     requires moment { moment ≤ most_count }
-    ensures goes_on { OnOk result ((bound : ℕ) → moment < bound → Continues S.engine bound (part_made S.engine sites.old.items effects.old) (part_made S.engine sites.new.items effects.new)) }
+    ensures goes_on { OnOk result (
+        (bound : ℕ) → moment < bound →
+        Continues S.engine bound (part_made S.engine sites.old.items effects.old)
+        (part_made S.engine sites.new.items effects.new)) }
     ensures done { OnOk result (IsLater moment (world_due S.engine sites.new.items)) }
     ensures kept { OnOk result (IsKept S.engine S.conditions sites.new.items dues.new) }
     ensures past { OnOk result (StaysOfPast S.conditions moment sites.old.items sites.new.items) }
     ensures timely { All S.conditions.Timely effects.old.sent.items → OnOk result (All S.conditions.Timely effects.new.sent.items) }
-    ensures stops { IfErr result (λ refusal. (bound : ℕ) → moment < bound → StopsFrom S.engine bound (part_made S.engine sites.old.items effects.old) refusal) }
+    ensures stops { IfErr result (λ refusal.
+        (bound : ℕ) → moment < bound →
+        StopsFrom S.engine bound (part_made S.engine sites.old.items effects.old) refusal) }
 {
     while let Some(key) = dues.least() {
         if key.at > moment {
@@ -94,7 +105,9 @@ pub fn run_before<S: Site>(
 ) -> Result<(), Refusal>
     requires kept { IsKept S.engine S.conditions sites.old.items dues.old }
     requires end { end ≤ most_count + 1 }
-    ensures goes_on { OnOk result (Continues S.engine end (part_made S.engine sites.old.items effects.old) (part_made S.engine sites.new.items effects.new)) }
+    ensures goes_on { OnOk result (
+        Continues S.engine end (part_made S.engine sites.old.items effects.old)
+        (part_made S.engine sites.new.items effects.new)) }
     ensures done { OnOk result (due_before end (world_due S.engine sites.new.items) ≡ None) }
     ensures kept { OnOk result (IsKept S.engine S.conditions sites.new.items dues.new) }
     ensures past { OnOk result (StaysOfPast S.conditions end sites.old.items sites.new.items) }

@@ -78,10 +78,17 @@ impl<S: Site> Partition<S> {
     /// one that is spent answers what spent it.
     pub fn step(&mut self) -> Result<Effects<S::Row, S::Transfer>, Refusal>
         requires due { IfOk self.old (HasDue S.engine) }
-        ensures handled { IfOk self.old (λ w. (key : TheKey) → world_due S.engine w ≡ Some key → IfOk result (λ made. (self.new ≡ Ok (handled_among S.engine key w).sites) × (made.rows.items ≡ (handled_among S.engine key w).rows) × (made.sent.items ≡ (handled_among S.engine key w).sent))) }
+        ensures handled { IfOk self.old (λ w.
+            (key : TheKey) → world_due S.engine w ≡ Some key →
+            IfOk result (λ made.
+            (self.new ≡ Ok (handled_among S.engine key w).sites)
+            × (made.rows.items ≡ (handled_among S.engine key w).rows)
+            × (made.sent.items ≡ (handled_among S.engine key w).sent))) }
         ensures timely { IfOk result (λ made. All S.conditions.Timely made.sent.items) }
         ensures spent { IfErr result (λ refusal. self.new ≡ Err refusal) }
-        ensures stops { IfOk self.old (λ w. (key : TheKey) → world_due S.engine w ≡ Some key → IfErr result (StopsStep S.engine (handled_among S.engine key w))) }
+        ensures stops { IfOk self.old (λ w.
+            (key : TheKey) → world_due S.engine w ≡ Some key →
+            IfErr result (StopsStep S.engine (handled_among S.engine key w))) }
         ensures stays { IfErr self.old (λ refusal. result ≡ Err refusal) }
     {
         if let Some(refusal) = self.spent {
@@ -105,7 +112,10 @@ impl<S: Site> Partition<S> {
         ensures none_later { IfOk self.old (λ w. AreOfPast S.conditions w (world_due S.engine w)) }
         ensures ran { IfOk self.old (λ w. IfOk result (λ made. RanTo S.engine end w self.new made)) }
         ensures timely { IfOk result (λ ran. All S.conditions.Timely ran.sent.items) }
-        ensures past { IfOk self.old (λ w. (moment : ℕ) → end ≤ moment → All (S.conditions.Past moment) w → IfOk result (λ _. IfOk self.new (All (S.conditions.Past moment)))) }
+        ensures past { IfOk self.old (λ w.
+            (moment : ℕ) → end ≤ moment →
+            All (S.conditions.Past moment) w →
+            IfOk result (λ _. IfOk self.new (All (S.conditions.Past moment)))) }
         ensures spent { IfErr result (λ refusal. self.new ≡ Err refusal) }
         ensures stops { IfOk self.old (λ w. IfErr result (StopsRun S.engine end w)) }
         ensures stays { IfErr self.old (λ refusal. result ≡ Err refusal) }

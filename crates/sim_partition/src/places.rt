@@ -35,7 +35,9 @@ fn first_from<S: Site>(sites: &[S], number: u32) -> usize
 /// The place of the site of a number, found by halves.
 pub fn place_of<S: Site>(sites: &[S], number: u32) -> Option<usize>
     requires ascends { Ascends S.engine.number 0 sites.now }
-    ensures { MatchOption result ((k : ℕ) → k < length sites.now → get_or (map S.engine.number sites.now) k 0 ≢ number) (λ place. (place < length sites.now) × (get_or (map S.engine.number sites.now) place 0 ≡ number)) }
+    ensures { MatchOption result
+        ((k : ℕ) → k < length sites.now → get_or (map S.engine.number sites.now) k 0 ≢ number)
+        (λ place. (place < length sites.now) × (get_or (map S.engine.number sites.now) place 0 ≡ number)) }
 {
     let place = first_from(sites, number);
     if place == sites.len() {

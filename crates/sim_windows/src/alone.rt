@@ -28,8 +28,12 @@ fn handle<S: Site, K: RowSink<S::Row>>(
     ensures ready { OnOk result (K.ready sink.new) }
     ensures lives { OnOk result (IsOk partition.new) }
     ensures done { OnOk result (sites_in partition.new ≡ sites_after S.engine key (sites_in partition.old)) }
-    ensures ran { OnOk result ((horizon : ℕ) → key.at ≤ horizon → HasRun S.engine K.took horizon (sites_in partition.old) sink.old (sites_in partition.new) sink.new) }
-    ensures stops { IfErr result (λ refusal. (horizon : ℕ) → key.at ≤ horizon → HasHalted S.engine K.took K.broke horizon (sites_in partition.old) sink.old refusal sink.new) }
+    ensures ran { OnOk result (
+        (horizon : ℕ) → key.at ≤ horizon →
+        HasRun S.engine K.took horizon (sites_in partition.old) sink.old (sites_in partition.new) sink.new) }
+    ensures stops { IfErr result (λ refusal.
+        (horizon : ℕ) → key.at ≤ horizon →
+        HasHalted S.engine K.took K.broke horizon (sites_in partition.old) sink.old refusal sink.new) }
 {
     let handled = partition.step()?;
     let Effects { rows, sent } = handled;
@@ -49,9 +53,13 @@ fn run_moment<S: Site, K: RowSink<S::Row>>(
     requires ready { K.ready sink.old }
     ensures ready { OnOk result (K.ready sink.new) }
     ensures lives { OnOk result (IsOk partition.new) }
-    ensures ran { OnOk result ((horizon : ℕ) → moment ≤ horizon → HasRun S.engine K.took horizon (sites_in partition.old) sink.old (sites_in partition.new) sink.new) }
+    ensures ran { OnOk result (
+        (horizon : ℕ) → moment ≤ horizon →
+        HasRun S.engine K.took horizon (sites_in partition.old) sink.old (sites_in partition.new) sink.new) }
     ensures done { OnOk result (IsLater moment (world_due S.engine (sites_in partition.new))) }
-    ensures stops { IfErr result (λ refusal. (horizon : ℕ) → moment ≤ horizon → HasHalted S.engine K.took K.broke horizon (sites_in partition.old) sink.old refusal sink.new) }
+    ensures stops { IfErr result (λ refusal.
+        (horizon : ℕ) → moment ≤ horizon →
+        HasHalted S.engine K.took K.broke horizon (sites_in partition.old) sink.old refusal sink.new) }
 {
     while let Some(key) = partition.least_due() {
         if key.at > moment {

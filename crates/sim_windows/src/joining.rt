@@ -12,7 +12,8 @@ use std::alloc::{AllocError, Global};
 
 // The sites of each partition, the last of them first.
 fn turned_sites<S: Site>(alloc: Global, parts: Vec<Partition<S>>) -> Result<Vec<Vec<S>>, AllocError>
-    ensures { (ws : List (List S)) → parts.items ≡ map (λ w. Ok w) ws → IfOk result (λ lists. map (λ l. l.items) lists.items ≡ map (λ w. reverse w) ws) }
+    ensures { (ws : List (List S)) → parts.items ≡ map (λ w. Ok w) ws →
+        IfOk result (λ lists. map (λ l. l.items) lists.items ≡ map (λ w. reverse w) ws) }
 {
     let mut lists = Vec::new(alloc);
     for part in parts {
@@ -29,7 +30,9 @@ pub fn join_sites<S: Site>(
     parts: Vec<Partition<S>>,
     layout: &PartMap,
 ) -> Result<Vec<S>, AllocError>
-    ensures { (w : List S) → IsNumbered S.engine 0 w → parts.items ≡ map (λ p. Ok (part_of S.engine (owner_of layout.now) p w)) (range_with_len 0 layout.now.parts) → IfOk result (λ sites. sites.items ≡ w) }
+    ensures { (w : List S) → IsNumbered S.engine 0 w →
+        parts.items ≡ map (λ p. Ok (part_of S.engine (owner_of layout.now) p w)) (range_with_len 0 layout.now.parts) →
+        IfOk result (λ sites. sites.items ≡ w) }
 {
     let mut lists = turned_sites(alloc, parts)?;
     let mut sites = Vec::new(alloc);

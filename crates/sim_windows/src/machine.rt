@@ -39,7 +39,8 @@ impl<S: Site> Model for Machine<S> {
 
     ghost view = { λ m. record { standing = standing_of m.stage; rows = m.rows.items; end = m.end; spent = m.spent } };
 
-    ghost invariant = { λ m. IsMachineUnless S.engine S.conditions m.spent (record { standing = standing_of m.stage; rows = m.rows.items; end = m.end; spent = m.spent }) };
+    ghost invariant = { λ m. IsMachineUnless S.engine S.conditions m.spent
+        (record { standing = standing_of m.stage; rows = m.rows.items; end = m.end; spent = m.spent }) };
 }
 
 impl<S: Site> Machine<S> {
@@ -72,10 +73,14 @@ impl<S: Site> Machine<S> {
     /// `Memory` where a growth is refused, and `CountLimit`, only where the world's run takes a
     /// count past 2^62 - 1, spend it; one that is spent answers what spent it.
     pub fn play(&mut self, picks: &[Pick]) -> Result<u64, Refusal>
-        ensures played { (s : Setting S) (done : List ThePick) → IsMachineOf S.engine S.conditions s done self.old → IfOk result (λ count. IsMachineOf S.engine S.conditions s (done ++ picks.now) self.new × (count ≡ effects_in S.engine self.old.standing s done picks.now)) }
+        ensures played { (s : Setting S) (done : List ThePick) → IsMachineOf S.engine S.conditions s done self.old →
+            IfOk result (λ count.
+            IsMachineOf S.engine S.conditions s (done ++ picks.now) self.new
+            × (count ≡ effects_in S.engine self.old.standing s done picks.now)) }
         ensures spent { IfErr result (λ refusal. self.new.spent ≡ Some refusal) }
         ensures end { IfErr result (λ _. self.new.end ≡ self.old.end) }
-        ensures stops { (s : Setting S) (done : List ThePick) → IsMachineOf S.engine S.conditions s done self.old → IfErr result (StopsWhere (IsOver S.engine s)) }
+        ensures stops { (s : Setting S) (done : List ThePick) → IsMachineOf S.engine S.conditions s done self.old →
+            IfErr result (StopsWhere (IsOver S.engine s)) }
         ensures stays { (refusal : TheRefusal) → self.old.spent ≡ Some refusal → result ≡ Err refusal }
     {
         if let Some(refusal) = self.spent {
@@ -103,7 +108,8 @@ impl<S: Site> Machine<S> {
 
     /// Whether nothing is left by the horizon, due or on its way. A spent machine is not finished.
     pub fn finished(&self) -> bool
-        ensures finished { (s : Setting S) (done : List ThePick) → IsMachineOf S.engine S.conditions s done self.now → result ≡ is_finished S.engine s.horizon (machine_at S.engine self.now s done) }
+        ensures finished { (s : Setting S) (done : List ThePick) → IsMachineOf S.engine S.conditions s done self.now →
+            result ≡ is_finished S.engine s.horizon (machine_at S.engine self.now s done) }
         ensures spent { (refusal : TheRefusal) → self.now.spent ≡ Some refusal → result ≡ false }
     {
         self.spent.is_none() && self.stage.is_finished()
@@ -132,7 +138,9 @@ impl<S: Site> Machine<S> {
     ///
     /// `Memory` where a growth is refused; a spent machine answers what spent it.
     pub fn into_run(self) -> Result<Ended<S>, Refusal>
-        ensures ended { (s : Setting S) (done : List ThePick) → IsMachineOf S.engine S.conditions s done self → is_finished S.engine s.horizon (machine_at S.engine self s done) ≡ true → IfOk result (λ ended. HasRun S.engine s ended.rows.items ended.sites.items) }
+        ensures ended { (s : Setting S) (done : List ThePick) → IsMachineOf S.engine S.conditions s done self →
+            is_finished S.engine s.horizon (machine_at S.engine self s done) ≡ true →
+            IfOk result (λ ended. HasRun S.engine s ended.rows.items ended.sites.items) }
         ensures memory { self.spent ≡ None → IfErr result (λ refusal. refusal ≡ Refusal.Memory) }
         ensures spent { (refusal : TheRefusal) → self.spent ≡ Some refusal → result ≡ Err refusal }
     {

@@ -46,7 +46,10 @@ pub fn bounds_of(
     requires dues { length dues.now ≡ distances.now.parts }
     requires parts { distances.now.parts < 2 ^ 32 }
     requires horizon { horizon + 1 < 2 ^ 64 }
-    ensures { IfOk result (λ bounds. bounds.items ≡ map (λ p. bound_by (distance_in distances.now) horizon (λ q. get_or dues.now q None) p distances.now.parts) (range_with_len 0 distances.now.parts)) }
+    ensures { IfOk result (λ bounds.
+        bounds.items
+        ≡ map (λ p. bound_by (distance_in distances.now) horizon (λ q. get_or dues.now q None) p distances.now.parts)
+        (range_with_len 0 distances.now.parts)) }
 {
     let mut bounds = Vec::new(alloc);
     for part in 0..dues.len() {
@@ -61,7 +64,8 @@ pub fn deliver_each<S: Site>(
     lists: Vec<Vec<S::Transfer>>,
 ) -> Result<(), Refusal>
     requires past { AreReached S.engine S.conditions parts.old.items (map (λ l. l.items) lists.items) }
-    ensures delivered { (ws : List (List S)) → parts.old.items ≡ map Ok ws → OnOk result (parts.new.items ≡ map Ok (delivered_each S.engine (map (λ l. l.items) lists.items) ws)) }
+    ensures delivered { (ws : List (List S)) → parts.old.items ≡ map Ok ws →
+        OnOk result (parts.new.items ≡ map Ok (delivered_each S.engine (map (λ l. l.items) lists.items) ws)) }
     ensures memory { (ws : List (List S)) → parts.old.items ≡ map Ok ws → IfErr result (λ refusal. refusal ≡ Refusal.Memory) }
 {
     let mut place = 0;

@@ -29,7 +29,10 @@ pub fn split_sites<S: Site>(
     layout: &PartMap,
 ) -> Result<Vec<Vec<S>>, AllocError>
     requires { length sites.items < 2 ^ 32 }
-    ensures { IsNumbered S.engine 0 sites.items → IfOk result (λ lists. map (λ l. l.items) lists.items ≡ map (λ p. part_of S.engine (owner_of layout.now) p sites.items) (range_with_len 0 layout.now.parts)) }
+    ensures { IsNumbered S.engine 0 sites.items →
+        IfOk result (λ lists.
+        map (λ l. l.items) lists.items
+        ≡ map (λ p. part_of S.engine (owner_of layout.now) p sites.items) (range_with_len 0 layout.now.parts)) }
 {
     let mut lists = no_sites(alloc, layout.parts())?;
     let mut number = 0;

@@ -64,8 +64,12 @@ pub fn settle<S: Site>(
     lists: Vec<Vec<S::Row>>,
     moment: u64,
 ) -> Result<Settled<S::Row>, AllocError>
-    ensures rows { IfOk result (λ settled. settled.rows.items ≡ merged_all (row_cmp S.engine) (map (λ l. filter (is_before S.engine moment) l.items) lists.items)) }
-    ensures kept { IfOk result (λ settled. map (λ l. l.items) settled.kept.items ≡ map (λ l. filter (λ r. not (is_before S.engine moment r)) l.items) lists.items) }
+    ensures rows { IfOk result (λ settled.
+        settled.rows.items
+        ≡ merged_all (row_cmp S.engine) (map (λ l. filter (is_before S.engine moment) l.items) lists.items)) }
+    ensures kept { IfOk result (λ settled.
+        map (λ l. l.items) settled.kept.items
+        ≡ map (λ l. filter (λ r. not (is_before S.engine moment r)) l.items) lists.items) }
 {
     let mut fronts = Vec::new(alloc);
     let mut kept = Vec::new(alloc);

@@ -34,5 +34,6 @@ pub trait RowSink<R> {
     ghost took_both: { (a b c : Self) (xs ys : List R) → took a xs b → took b ys c → took a (xs ++ ys) c };
 
     // It breaks at what it took before as well.
-    ghost broke_later: { (a b c : Self) (xs ys : List R) (refusal : TheRefusal) → took a xs b → broke b ys refusal c → broke a (xs ++ ys) refusal c };
+    ghost broke_later: { (a b c : Self) (xs ys : List R) (refusal : TheRefusal) →
+        took a xs b → broke b ys refusal c → broke a (xs ++ ys) refusal c };
 }

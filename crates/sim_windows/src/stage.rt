@@ -135,8 +135,11 @@ impl<S: Site> Stage<S> {
     fn ready_at(&self, place: usize) -> Option<Key>
         requires parts { place < length self.now.parts.items }
         requires bounds { place < length self.now.bounds.items }
-        ensures ready { (d : Result (List S) TheRefusal) → result ≡ due_before (get_or self.now.bounds.items place 0) (due_in S.engine (get_or self.now.parts.items place d)) }
-        ensures past { (d : Result (List S) TheRefusal) → IfOk (get_or self.now.parts.items place d) (λ w. AreOfPast S.conditions w (world_due S.engine w)) }
+        ensures ready { (d : Result (List S) TheRefusal) →
+            result
+            ≡ due_before (get_or self.now.bounds.items place 0) (due_in S.engine (get_or self.now.parts.items place d)) }
+        ensures past { (d : Result (List S) TheRefusal) →
+            IfOk (get_or self.now.parts.items place d) (λ w. AreOfPast S.conditions w (world_due S.engine w)) }
     {
         before(self.parts[place].least_due(), self.bounds[place])
     }
@@ -144,8 +147,13 @@ impl<S: Site> Stage<S> {
     /// The least of what the partitions may handle now; none where no partition may go on.
     pub fn next_ready(&self) -> Option<Key>
         requires { IsStanding S.engine S.conditions (standing_of self.now) }
-        ensures least { (s : Setting S) (done : List ThePick) → Stands S.engine S.conditions s done (standing_of self.now) → result ≡ next_ready S.engine (owner_of self.now.layout) self.now.layout.parts (machine_in S.engine self.now.layout self.now.distances s done) }
-        ensures going { (s : Setting S) (done : List ThePick) → Stands S.engine S.conditions s done (standing_of self.now) → is_some result ≡ has_ready S.engine (owner_of self.now.layout) (machine_in S.engine self.now.layout self.now.distances s done) }
+        ensures least { (s : Setting S) (done : List ThePick) → Stands S.engine S.conditions s done (standing_of self.now) →
+            result
+            ≡ next_ready S.engine (owner_of self.now.layout) self.now.layout.parts
+            (machine_in S.engine self.now.layout self.now.distances s done) }
+        ensures going { (s : Setting S) (done : List ThePick) → Stands S.engine S.conditions s done (standing_of self.now) →
+            is_some result
+            ≡ has_ready S.engine (owner_of self.now.layout) (machine_in S.engine self.now.layout self.now.distances s done) }
     {
         let mut next = None;
         for place in 0..self.parts.len() {
@@ -169,7 +177,8 @@ impl<S: Site> Stage<S> {
     /// Whether nothing is left by the horizon, due or waiting.
     pub fn is_finished(&self) -> bool
         requires { IsStanding S.engine S.conditions (standing_of self.now) }
-        ensures { (s : Setting S) (done : List ThePick) → Stands S.engine S.conditions s done (standing_of self.now) → result ≡ is_finished S.engine s.horizon (machine_in S.engine self.now.layout self.now.distances s done) }
+        ensures { (s : Setting S) (done : List ThePick) → Stands S.engine S.conditions s done (standing_of self.now) →
+            result ≡ is_finished S.engine s.horizon (machine_in S.engine self.now.layout self.now.distances s done) }
     {
         for part in &self.parts {
             if is_by(part.least_due(), self.horizon) {
@@ -183,9 +192,12 @@ impl<S: Site> Stage<S> {
     // whether it did.
     fn step(&mut self, part: u32) -> Result<bool, Refusal>
         requires { IsStanding S.engine S.conditions (standing_of self.old) }
-        ensures took { (s : Setting S) (done : List ThePick) → Stands S.engine S.conditions s done (standing_of self.old) → IfOk result (λ took. Took S.engine S.conditions (standing_of self.old) (standing_of self.new) s done (Part part) took) }
+        ensures took { (s : Setting S) (done : List ThePick) → Stands S.engine S.conditions s done (standing_of self.old) →
+            IfOk result (λ took.
+            Took S.engine S.conditions (standing_of self.old) (standing_of self.new) s done (Part part) took) }
         ensures settled { IfOk result (λ _. self.new.settled ≡ self.old.settled) }
-        ensures stops { (s : Setting S) (done : List ThePick) → Stands S.engine S.conditions s done (standing_of self.old) → IfErr result (StopsWhere (IsOver S.engine s)) }
+        ensures stops { (s : Setting S) (done : List ThePick) → Stands S.engine S.conditions s done (standing_of self.old) →
+            IfErr result (StopsWhere (IsOver S.engine s)) }
     {
         let place = part as usize;
         if place >= self.parts.len() || self.ready_at(place).is_none() {
@@ -199,9 +211,12 @@ impl<S: Site> Stage<S> {
 
     // Each partition gets what waits for it.
     fn deliver(&mut self) -> Result<(), Refusal>
-        requires reached { AreReached S.engine S.conditions self.old.parts.items (exchanged S.engine (owner_of self.old.layout) self.old.layout.parts self.old.waiting.items) }
-        ensures delivered { (ws : List (List S)) → self.old.parts.items ≡ map (λ w. Ok w) ws → OnOk result (standing_of self.new ≡ delivered_by S.engine (standing_of self.old) ws) }
-        ensures memory { (ws : List (List S)) → self.old.parts.items ≡ map (λ w. Ok w) ws → IfErr result (λ refusal. refusal ≡ Refusal.Memory) }
+        requires reached { AreReached S.engine S.conditions self.old.parts.items
+            (exchanged S.engine (owner_of self.old.layout) self.old.layout.parts self.old.waiting.items) }
+        ensures delivered { (ws : List (List S)) → self.old.parts.items ≡ map (λ w. Ok w) ws →
+            OnOk result (standing_of self.new ≡ delivered_by S.engine (standing_of self.old) ws) }
+        ensures memory { (ws : List (List S)) → self.old.parts.items ≡ map (λ w. Ok w) ws →
+            IfErr result (λ refusal. refusal ≡ Refusal.Memory) }
     {
         let waiting = mem::replace(&mut self.waiting, Vec::new(self.alloc));
         let mut sent = Vec::new(self.alloc);
@@ -213,7 +228,9 @@ impl<S: Site> Stage<S> {
     // The rows from before a moment are settled. Answers them, in the order of keys.
     fn settle_before(&mut self, moment: u64) -> Result<Vec<S::Row>, AllocError>
         ensures settled { IfOk result (λ _. standing_of self.new ≡ settled_by S.engine (standing_of self.old) moment) }
-        ensures rows { IfOk result (λ rows. rows.items ≡ merged_all (row_cmp S.engine) (map (filter (is_row_before S.engine moment)) (standing_of self.old).rows)) }
+        ensures rows { IfOk result (λ rows.
+            rows.items
+            ≡ merged_all (row_cmp S.engine) (map (filter (is_row_before S.engine moment)) (standing_of self.old).rows)) }
     {
         let rows = mem::replace(&mut self.rows, Vec::new(self.alloc));
         let settled = settle::<S>(self.alloc, rows, moment)?;
@@ -238,7 +255,8 @@ impl<S: Site> Stage<S> {
     // least bound.
     fn front(&self) -> u64
         requires { IsStanding S.engine S.conditions (standing_of self.now) }
-        ensures { (s : Setting S) (done : List ThePick) → Stands S.engine S.conditions s done (standing_of self.now) → result ≡ front_in S.engine (standing_of self.now) s done }
+        ensures { (s : Setting S) (done : List ThePick) → Stands S.engine S.conditions s done (standing_of self.now) →
+            result ≡ front_in S.engine (standing_of self.now) s done }
     {
         let least = least_of(&self.bounds, self.horizon);
         match self.next_ready() {
@@ -251,9 +269,14 @@ impl<S: Site> Stage<S> {
     /// they follow those that were settled before. The error is want of memory.
     pub fn settle(&mut self) -> Result<Vec<S::Row>, AllocError>
         requires { IsStanding S.engine S.conditions (standing_of self.old) }
-        ensures stands { (s : Setting S) (done : List ThePick) → Stands S.engine S.conditions s done (standing_of self.old) → IfOk result (λ _. Stands S.engine S.conditions s done (standing_of self.new) × IsSame (standing_of self.old) (standing_of self.new)) }
-        ensures next { (s : Setting S) (done : List ThePick) → Stands S.engine S.conditions s done (standing_of self.old) → IfOk result (λ rows. AreNext S.engine s self.old.settled self.new.settled rows.items) }
-        ensures front { (s : Setting S) (done : List ThePick) → Stands S.engine S.conditions s done (standing_of self.old) → IfOk result (λ _. self.new.settled ≡ front_in S.engine (standing_of self.old) s done) }
+        ensures stands { (s : Setting S) (done : List ThePick) → Stands S.engine S.conditions s done (standing_of self.old) →
+            IfOk result (λ _.
+            Stands S.engine S.conditions s done (standing_of self.new)
+            × IsSame (standing_of self.old) (standing_of self.new)) }
+        ensures next { (s : Setting S) (done : List ThePick) → Stands S.engine S.conditions s done (standing_of self.old) →
+            IfOk result (λ rows. AreNext S.engine s self.old.settled self.new.settled rows.items) }
+        ensures front { (s : Setting S) (done : List ThePick) → Stands S.engine S.conditions s done (standing_of self.old) →
+            IfOk result (λ _. self.new.settled ≡ front_in S.engine (standing_of self.old) s done) }
     {
         let moment = self.front();
         self.settle_before(moment)
@@ -262,7 +285,11 @@ impl<S: Site> Stage<S> {
     /// What waits is delivered, and the bounds are set anew.
     pub fn meet(&mut self) -> Result<(), Refusal>
         requires stands { IsStanding S.engine S.conditions (standing_of self.old) }
-        ensures met { (s : Setting S) (done : List ThePick) → Stands S.engine S.conditions s done (standing_of self.old) → takes_effect_in S.engine (standing_of self.old) s done Barrier ≡ true → OnOk result (Stands S.engine S.conditions s (done ++ Barrier ∷ []) (standing_of self.new) × IsSame (standing_of self.old) (standing_of self.new)) }
+        ensures met { (s : Setting S) (done : List ThePick) → Stands S.engine S.conditions s done (standing_of self.old) →
+            takes_effect_in S.engine (standing_of self.old) s done Barrier ≡ true →
+            OnOk result (
+            Stands S.engine S.conditions s (done ++ Barrier ∷ []) (standing_of self.new)
+            × IsSame (standing_of self.old) (standing_of self.new)) }
         ensures settled { OnOk result (self.new.settled ≡ self.old.settled) }
         ensures memory { IfErr result (λ refusal. refusal ≡ Refusal.Memory) }
     {
@@ -275,8 +302,12 @@ impl<S: Site> Stage<S> {
     // to those before. Answers whether it was one.
     fn barrier(&mut self, told: &mut Vec<S::Row>) -> Result<bool, Refusal>
         requires { IsStanding S.engine S.conditions (standing_of self.old) }
-        ensures settled { (s : Setting S) (done : List ThePick) → Stands S.engine S.conditions s done (standing_of self.old) → AreSettled S.engine s self.old.settled told.old.items → IfOk result (λ _. AreSettled S.engine s self.new.settled told.new.items) }
-        ensures took { (s : Setting S) (done : List ThePick) → Stands S.engine S.conditions s done (standing_of self.old) → IfOk result (λ took. Took S.engine S.conditions (standing_of self.old) (standing_of self.new) s done Barrier took) }
+        ensures settled { (s : Setting S) (done : List ThePick) → Stands S.engine S.conditions s done (standing_of self.old) →
+            AreSettled S.engine s self.old.settled told.old.items →
+            IfOk result (λ _. AreSettled S.engine s self.new.settled told.new.items) }
+        ensures took { (s : Setting S) (done : List ThePick) → Stands S.engine S.conditions s done (standing_of self.old) →
+            IfOk result (λ took.
+            Took S.engine S.conditions (standing_of self.old) (standing_of self.new) s done Barrier took) }
         ensures memory { IfErr result (λ refusal. refusal ≡ Refusal.Memory) }
     {
         if self.next_ready().is_some() || self.is_finished() {
@@ -291,9 +322,14 @@ impl<S: Site> Stage<S> {
     // Does one thing more. Answers whether it took effect.
     fn take(&mut self, pick: Pick, told: &mut Vec<S::Row>) -> Result<bool, Refusal>
         requires { IsStanding S.engine S.conditions (standing_of self.old) }
-        ensures settled { (s : Setting S) (done : List ThePick) → Stands S.engine S.conditions s done (standing_of self.old) → AreSettled S.engine s self.old.settled told.old.items → IfOk result (λ _. AreSettled S.engine s self.new.settled told.new.items) }
-        ensures took { (s : Setting S) (done : List ThePick) → Stands S.engine S.conditions s done (standing_of self.old) → IfOk result (λ took. Took S.engine S.conditions (standing_of self.old) (standing_of self.new) s done pick took) }
-        ensures stops { (s : Setting S) (done : List ThePick) → Stands S.engine S.conditions s done (standing_of self.old) → IfErr result (StopsWhere (IsOver S.engine s)) }
+        ensures settled { (s : Setting S) (done : List ThePick) → Stands S.engine S.conditions s done (standing_of self.old) →
+            AreSettled S.engine s self.old.settled told.old.items →
+            IfOk result (λ _. AreSettled S.engine s self.new.settled told.new.items) }
+        ensures took { (s : Setting S) (done : List ThePick) → Stands S.engine S.conditions s done (standing_of self.old) →
+            IfOk result (λ took.
+            Took S.engine S.conditions (standing_of self.old) (standing_of self.new) s done pick took) }
+        ensures stops { (s : Setting S) (done : List ThePick) → Stands S.engine S.conditions s done (standing_of self.old) →
+            IfErr result (StopsWhere (IsOver S.engine s)) }
     {
         match pick {
             Pick::Part(part) => self.step(part),
@@ -305,9 +341,14 @@ impl<S: Site> Stage<S> {
     /// before. Answers how many took effect.
     pub fn play(&mut self, picks: &[Pick], told: &mut Vec<S::Row>) -> Result<u64, Refusal>
         requires { IsStanding S.engine S.conditions (standing_of self.old) }
-        ensures settled { (s : Setting S) (done : List ThePick) → Stands S.engine S.conditions s done (standing_of self.old) → AreSettled S.engine s self.old.settled told.old.items → IfOk result (λ _. AreSettled S.engine s self.new.settled told.new.items) }
-        ensures played { (s : Setting S) (done : List ThePick) → Stands S.engine S.conditions s done (standing_of self.old) → IfOk result (λ count. Played S.engine S.conditions (standing_of self.old) (standing_of self.new) s done picks.now count) }
-        ensures stops { (s : Setting S) (done : List ThePick) → Stands S.engine S.conditions s done (standing_of self.old) → IfErr result (StopsWhere (IsOver S.engine s)) }
+        ensures settled { (s : Setting S) (done : List ThePick) → Stands S.engine S.conditions s done (standing_of self.old) →
+            AreSettled S.engine s self.old.settled told.old.items →
+            IfOk result (λ _. AreSettled S.engine s self.new.settled told.new.items) }
+        ensures played { (s : Setting S) (done : List ThePick) → Stands S.engine S.conditions s done (standing_of self.old) →
+            IfOk result (λ count.
+            Played S.engine S.conditions (standing_of self.old) (standing_of self.new) s done picks.now count) }
+        ensures stops { (s : Setting S) (done : List ThePick) → Stands S.engine S.conditions s done (standing_of self.old) →
+            IfErr result (StopsWhere (IsOver S.engine s)) }
     {
         let mut effects = 0;
         for pick in picks {
@@ -322,7 +363,9 @@ impl<S: Site> Stage<S> {
     /// its way to them. The error is want of memory.
     pub fn into_run(mut self) -> Result<Ended<S>, Refusal>
         requires { IsStanding S.engine S.conditions (standing_of self) }
-        ensures ended { (s : Setting S) (done : List ThePick) → Stands S.engine S.conditions s done (standing_of self) → is_finished S.engine s.horizon (machine_in S.engine self.layout self.distances s done) ≡ true → IfOk result (λ ended. HasRest S.engine s self.settled ended.rows.items ended.sites.items) }
+        ensures ended { (s : Setting S) (done : List ThePick) → Stands S.engine S.conditions s done (standing_of self) →
+            is_finished S.engine s.horizon (machine_in S.engine self.layout self.distances s done) ≡ true →
+            IfOk result (λ ended. HasRest S.engine s self.settled ended.rows.items ended.sites.items) }
         ensures memory { IfErr result (λ refusal. refusal ≡ Refusal.Memory) }
     {
         self.deliver()?;
