@@ -9,7 +9,6 @@ use Rattle.std.proofs.lemmas.List.FromFn.{get_or-map-range_with_len, length-map-
 use Rattle.sim_engine.specs.Exchange.{exchanged, sorted, to_part}
 use Rattle.sim_exchange.specs.Dealt.{dealt}
 use Rattle.sim_engine.specs.Engine.{Engine}
-use Rattle.sim_engine.specs.Laws.{Conditions, SiteLaws}
 
 -- one of some lists gets one more
 pub put_last :

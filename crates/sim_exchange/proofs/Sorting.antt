@@ -12,7 +12,6 @@ use Rattle.sim_engine.specs.Exchange.{sorted, sorted_into}
 use Rattle.sim_engine.proofs.Merge.{after_first}
 use Rattle.sim_engine.specs.Members.{Each}
 use Rattle.sim_engine.specs.Engine.{Engine}
-use Rattle.sim_engine.specs.Laws.{Conditions, SiteLaws}
 
 both_false : (a b : Bool) → (not a && not b) ≡ true → (a ≡ false) × (b ≡ false)
 both_false true b h = cc

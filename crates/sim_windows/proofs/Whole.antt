@@ -1,5 +1,5 @@
 -- A world as one partition.
-use Rattle.std.specs.Prelude.{All, Err, IfOk, IsOk, List, Ok, None, Option, Result, Some, [], false, true, ℕ, ◌<◌, ◌≡◌, ◌≤◌}
+use Rattle.std.specs.Prelude.{All, Err, IfOk, IsOk, List, Ok, None, Option, Result, Some, false, true, ◌<◌, ◌≡◌, ◌≤◌}
 use Rattle.std.proofs.Common.{arith, refl, sym, ◌∙◌}
 use Rattle.std.proofs.lemmas.List.Elements.{All-nil, All-weaker}
 use Rattle.sim_clock.specs.declared.key.Key.{Key}

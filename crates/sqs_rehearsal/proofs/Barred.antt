@@ -1,5 +1,5 @@
 -- Why a request is refused before anything is written.
-use Rattle.std.proofs.Common.{◌≡◌, Err, None, Option, Some, false, true, inl, inr, length, refl, subst, sym, ℕ}
+use Rattle.std.proofs.Common.{◌≡◌, None, Option, Some, false, true, inl, inr, length, subst, sym, ℕ}
 use Rattle.std.specs.Prelude.{if◌then◌else◌, nat_lt}
 use Rattle.sim_clock.specs.declared.refusal.Refusal.{Refusal}
 use Rattle.sim_exchange.specs.Layout.{is_layout}

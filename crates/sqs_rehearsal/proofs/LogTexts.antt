@@ -1,5 +1,5 @@
 -- What a log got of a run.
-use Rattle.std.proofs.Common.{◌≡◌, ◌++◌, ◌∙◌, [], ℕ, Bool, Err, List, Ok, Option, Result, ap, append-nil, false, inl, inr, map, subst, sym}
+use Rattle.std.proofs.Common.{◌≡◌, ◌++◌, ◌∙◌, [], ℕ, Bool, Err, List, Ok, Option, ap, append-nil, false, inl, inr, map, subst, sym}
 use Rattle.std.proofs.lemmas.Grind.{flat_map-append}
 use Rattle.std.proofs.lemmas.List.{map-append}
 use Rattle.std.specs.Io.KnownBytes.{Appends}
@@ -9,8 +9,8 @@ use Rattle.sim_workers.specs.Runs.{StopsAnyhow}
 use Rattle.sim_recorder.proofs.Fronts.{all_are_front}
 use Rattle.sim_recorder.specs.Sinks.{IsSame, Recorded, StoppedAt}
 use Rattle.sim_recorder.specs.declared.recorder.Recorder.{Recorder}
-use Rattle.sim_records.proofs.Writes.{front_of_first, front_of_second, several-one, several_after, several_stopped}
-use Rattle.sim_records.specs.Writes.{AppendsFront, Wrote, WroteSeveral}
+use Rattle.sim_records.proofs.Writes.{front_of_first, front_of_second, several_after, several_stopped}
+use Rattle.sim_records.specs.Writes.{AppendsFront, WroteSeveral}
 use Rattle.sim_report.specs.Running.{running}
 use Rattle.sim_report.specs.declared.queue.QueueCounts.{QueueCounts}
 use Rattle.sim_engine.specs.Limits.{StopsWhere}
@@ -24,7 +24,7 @@ use Rattle.sqs_model.specs.Sqs.{sqs}
 use Rattle.sqs_model.specs.Scenario.{Scenario}
 use Rattle.sqs_model.specs.Site.{Site}
 use Rattle.sqs_rehearsal.specs.Logs.{HasLogged, StopsLogging, rows_text}
-use Rattle.sqs_rehearsal.specs.Writers.{Got, GotFront, Writer}
+use Rattle.sqs_rehearsal.specs.Writers.{GotFront, Writer}
 use Rattle.sqs_rehearsal.proofs.Runs.{one_run}
 use Rattle.sim_clock.specs.declared.refusal.Refusal.TheVariants as refusals
 

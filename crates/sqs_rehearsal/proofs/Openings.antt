@@ -1,17 +1,11 @@
 -- How actors and tasks come to their homes, and the world that a scenario opens with.
 use Rattle.std.specs.List.{enumerate_from}
-use Rattle.std.specs.Prelude.{All, Bool, List, None, Ok, Option, Result, Some, [], cond, false, filter, get_or, length, map, set, true, suc, zero, ℕ, ◌++◌, ◌+◌, ◌<◌, ◌==◌, ◌∷◌, ◌≡◌, ◌≤◌}
+use Rattle.std.specs.Prelude.{All, Bool, List, [], cond, false, filter, get_or, length, map, set, true, suc, zero, ℕ, ◌++◌, ◌+◌, ◌<◌, ◌==◌, ◌∷◌, ◌≡◌, ◌≤◌}
 use Rattle.std.proofs.Common.{add-one, append_assoc, ap, arith, drop, refl, subst, sym, ◌∙◌}
 use Rattle.std.proofs.lemmas.Bool.Decides.{nat_tests}
 use Rattle.std.proofs.lemmas.List.{append-nil, get_or-map, length-append, length-map, length-set, map-set}
 use Rattle.std.proofs.lemmas.List.Elements.{All-cons, All-filter, All-head, All-map, All-nil, All-tail, All-weaker, filter-append}
 use Rattle.std.proofs.Math.Seq.{drop-cons, map-set_same}
-use Rattle.sim_clock.specs.declared.key.Key.{Key}
-use Rattle.sqs_message.specs.declared.message.Message.{Message}
-use Rattle.sqs_redrive.specs.declared.transfers.Outbound.{Outbound}
-use Rattle.sqs_model.specs.Queue.{Entry}
-use Rattle.sqs_model.specs.World.{world_due}
-use Rattle.sim_clock.specs.declared.refusal.Refusal.{Refusal}
 use Rattle.sqs_message.specs.declared.calls.Call.{Call}
 use Rattle.sqs_message.specs.declared.calls.Call.TheVariants as calls
 use Rattle.sqs_message.specs.declared.calls.ScriptCall.{ScriptCall}
@@ -22,9 +16,9 @@ use Rattle.sqs_model.specs.declared.agents.ActorSettings.{ActorSettings}
 use Rattle.sqs_model.specs.declared.agents.Role.{Role}
 use Rattle.sqs_model.specs.declared.agents.Role.TheVariants.{Consumer, Producer, Script}
 use Rattle.sqs_model.proofs.Counts.{ascends_lower}
-use Rattle.sqs_model.proofs.Opening.{all_enumerated, opens_sound}
-use Rattle.sqs_model.specs.Progress.{Ascends, IsSound, IsSoundScenario, WasEnqueuedBy}
-use Rattle.sqs_model.specs.Scenario.{HasItsQueues, MayBeWithin, Scenario, fresh_core, numbered_actors, numbered_tasks, opening, opening_site}
+use Rattle.sqs_model.proofs.Opening.{all_enumerated}
+use Rattle.sqs_model.specs.Progress.{Ascends}
+use Rattle.sqs_model.specs.Scenario.{HasItsQueues, MayBeWithin, Scenario, fresh_core, numbered_actors, numbered_tasks, opening_site}
 use Rattle.sqs_model.specs.Site.{Site}
 use Rattle.sqs_model.specs.Valid.{IsLatency, IsTaskSettings}
 use Rattle.sim_actor.specs.Lives.{IsRole}

@@ -1,5 +1,5 @@
 -- What came of a rehearsal, from what came of its run.
-use Rattle.std.proofs.Common.{◌≡◌, Err, List, None, Ok, Result, inl, inr, false, subst, sym}
+use Rattle.std.proofs.Common.{◌≡◌, Err, List, None, Ok, Result, inr, false, subst, sym}
 use Rattle.std.specs.Prelude.{IfErr, OnOk}
 use Rattle.sim_clock.specs.declared.refusal.Refusal.{Refusal}
 use Rattle.sim_records.specs.Writes.{AppendsFront, WroteSeveral}
@@ -14,7 +14,7 @@ use Rattle.sqs_model.specs.Site.{Site}
 use Rattle.sqs_rehearsal.specs.Logs.{HasLogged, StopsLogging}
 use Rattle.sqs_rehearsal.specs.Options.{IsUnsplit, Options, split_fault}
 use Rattle.sqs_rehearsal.specs.Rehearsals.{IsRefused, IsUnwritten, IsWritten, Rehearsed, Request}
-use Rattle.sqs_rehearsal.specs.Writers.{Got, GotNothing, Writer}
+use Rattle.sqs_rehearsal.specs.Writers.{GotNothing, Writer}
 use Rattle.sqs_rehearsal.proofs.Barred.{split_bars}
 use Rattle.sqs_rehearsal.proofs.Runs.{rehearsed, some_run}
 use Rattle.sqs_rehearsal.proofs.Stopped.{refused_at_log, refused_at_report, refused_barred}

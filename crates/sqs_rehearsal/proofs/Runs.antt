@@ -1,5 +1,5 @@
 -- What is known of the run of a scenario.
-use Rattle.std.proofs.Common.{◌≡◌, ℕ, List, None, Ok, ap, arith, sym, subst, ◌+◌, ◌∙◌}
+use Rattle.std.proofs.Common.{◌≡◌, ℕ, List, None, ap, arith, sym, subst, ◌+◌, ◌∙◌}
 use Rattle.std.specs.Prelude.{IsNone}
 use Rattle.sim_scenario.specs.Ranges.{IsInRange}
 use Rattle.sqs_rehearsal.proofs.Openings.{has_queues}

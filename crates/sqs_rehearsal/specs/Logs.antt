@@ -1,5 +1,5 @@
 -- What the log of a run holds, where the run comes to its end and where it stops.
-use Rattle.std.specs.Prelude.{List, Result, false, map, true, ℕ}
+use Rattle.std.specs.Prelude.{List, false, map, true, ℕ}
 use Rattle.sim_clock.specs.declared.refusal.Refusal.{Refusal}
 use Rattle.sim_clock.specs.declared.refusal.Refusal.TheVariants as refusals
 use Rattle.sim_report.specs.declared.queue.QueueCounts.{QueueCounts}

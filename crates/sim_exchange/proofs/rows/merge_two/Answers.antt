@@ -1,4 +1,4 @@
-use Rattle.std.proofs.Common.{List, ap, arith, eqb-true, sym, ◌∙◌, ◌≡◌, length}
+use Rattle.std.proofs.Common.{ap, arith, eqb-true, sym, ◌∙◌, ◌≡◌, length}
 use Rattle.std.proofs.lemmas.List.{nil_from_length}
 use Rattle.sim_engine.specs.Merge.{merged, row_cmp}
 use Rattle.sim_exchange.proofs.Merging.{merged_nothing}

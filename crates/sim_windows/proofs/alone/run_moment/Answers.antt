@@ -1,4 +1,4 @@
-use Rattle.std.proofs.Common.{List, Result, Some, arith, subst, ◌≡◌, ◌≤◌}
+use Rattle.std.proofs.Common.{Some, arith, subst, ◌≡◌, ◌≤◌}
 use Rattle.std.proofs.lemmas.Result.{err_from_is_err_and}
 use Rattle.sim_clock.specs.declared.refusal.Refusal.{Refusal}
 use Rattle.sim_engine.specs.World.{world_due}

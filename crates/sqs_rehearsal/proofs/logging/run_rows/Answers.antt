@@ -1,6 +1,5 @@
 use Rattle.std.proofs.Common.{sym, ◌≡◌}
 use Rattle.std.proofs.lemmas.Result.{IfErr-weaker, IfOk-weaker}
-use Rattle.sqs_rehearsal.specs.Logs.{HasLogged, StopsLogging, rows_text}
 use Rattle.sqs_rehearsal.proofs.LogTexts.{logs_front, logs_whole, stops_same}
 use Rattle.sqs_rehearsal.proofs.logging.run_rows.Goals as goal
 

@@ -1,6 +1,5 @@
-use Rattle.std.proofs.Common.{List, Result, arith, map, refl, subst, sym, ◌≡◌}
+use Rattle.std.proofs.Common.{List, arith, refl, subst, sym, ◌≡◌}
 use Rattle.std.proofs.lemmas.Result.{IfOk-weaker}
-use Rattle.sim_clock.specs.declared.refusal.Refusal.{Refusal}
 use Rattle.sim_scenario.specs.declared.scenario.ScenarioParts.{ScenarioParts}
 use Rattle.sqs_redrive.specs.declared.settings.QueueSettings.{QueueSettings}
 use Rattle.sqs_model.specs.Scenario.{HasItsQueues, Scenario, numbered_actors, numbered_tasks, opening}

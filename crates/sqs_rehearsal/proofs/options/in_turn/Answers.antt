@@ -1,5 +1,4 @@
-use Rattle.std.specs.List.{range_with_len}
-use Rattle.std.proofs.Common.{ap, arith, map, sym, ℕ, ◌%◌, ◌++◌, ◌∷◌, ◌∙◌, []}
+use Rattle.std.proofs.Common.{ap, arith, sym, ℕ, ◌%◌, ◌++◌, ◌∷◌, ◌∙◌, []}
 use Rattle.std.proofs.lemmas.List.FromFn.{map-range_with_len_more}
 use Rattle.sqs_rehearsal.proofs.options.in_turn.Goals as goal
 

@@ -1,4 +1,4 @@
-use Rattle.std.proofs.Common.{refl, rules, subst, ◌∙◌, ◌≡◌}
+use Rattle.std.proofs.Common.{refl, rules, subst, ◌∙◌}
 use Rattle.sim_clock.specs.declared.refusal.Refusal.TheVariants.{Memory}
 use Rattle.sim_records.proofs.Writes.{front_none}
 use Rattle.sim_scenario.specs.Ranges.{IsInRange}
