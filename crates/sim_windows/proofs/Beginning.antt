@@ -1,7 +1,7 @@
 -- A machine at which nothing was done.
 use Rattle.std.specs.List.{range_with_len}
 use Rattle.std.specs.Prelude.{All, Bool, List, None, Ok, Option, Result, Some, [], cond, false, filter, length, map, true, ℕ, ◌∷◌, ◌≡◌, ◌≤◌}
-use Rattle.std.proofs.Common.{ap, arith, refl, subst, sym, ◌∙◌}
+use Rattle.std.proofs.Common.{ap, arith, refl, ◌∙◌}
 use Rattle.std.proofs.lemmas.Bool.{le-ltb}
 use Rattle.std.proofs.lemmas.List.Elements.{All-cons, All-head, All-nil, All-tail}
 use Rattle.std.proofs.lemmas.List.FromFn.{length-map-range_with_len}
@@ -19,7 +19,7 @@ use Rattle.sim_engine.specs.Simulated.{IsSimulated}
 use Rattle.sim_exchange.specs.Layout.{IsLayout, Layout, owner_of}
 use Rattle.sim_exchange.specs.Table.{Table, distance_in}
 use Rattle.sim_partition.proofs.Moments.{all_later}
-use Rattle.sim_windows.specs.Stages.{IsForward, IsOpened, Shows, Standing, Stands, machine_in}
+use Rattle.sim_windows.specs.Stages.{IsForward, Shows, Standing, Stands, bounds_by, machine_in, opened}
 use Rattle.sim_windows.proofs.Meetings.{bounds_set}
 
 none_at_zero : (d : Option Key) → due_before 0 d ≡ None
@@ -48,13 +48,13 @@ module _ {Site Row Transfer : Type 0} {engine : Engine Site Row Transfer} {condi
   pub opens :
       (s : Setting Site) → IsSimulated engine conditions s → (layout : Layout) → IsLayout layout → (table : Table) → table.parts ≡ layout.parts → AreDistances (owner_of layout) s.edges (distance_in table)
       → s.horizon ≤ most_count → (parts : List (Result (List Site) Refusal)) → parts ≡ map (λ p. Ok (part_of engine (owner_of layout) p s.opening)) (range_with_len 0 layout.parts)
-      → (g : Standing Site Row Transfer) → IsOpened engine layout table s.horizon parts g → Stands engine conditions s [] g
-  opens s sound layout ok table same distances range parts is g o =
+      → Stands engine conditions s [] (opened engine layout table s.horizon parts)
+  opens s sound layout ok table same distances range parts is =
       let n : ℕ = layout.parts in
       let rule : List Site → ℕ → ℕ = own_bound engine (owner_of layout) (distance_in table) n s.horizon in
-      let at : Standing Site Row Transfer = record { layout = layout; distances = table; horizon = s.horizon; parts = parts; bounds = o.bounds; rows = map (λ p. []) (range_with_len 0 (length parts)); waiting = []; settled = 0 } in
+      let at : Standing Site Row Transfer = opened engine layout table s.horizon parts in
       let many : length parts ≡ n = ap (λ xs. length xs) is ∙ length-map-range_with_len (λ p. let x : Result (List Site) Refusal = Ok (part_of engine (owner_of layout) p s.opening) in x) 0 n in
-      let bounds : o.bounds ≡ map (rule s.opening) (range_with_len 0 n) = bounds_set basics (owner_of layout) table s.horizon n s.opening parts is table.parts same o.bounds o.set in
+      let bounds : bounds_by engine table s.horizon parts ≡ map (rule s.opening) (range_with_len 0 n) = bounds_set basics (owner_of layout) table s.horizon n s.opening parts is table.parts same (bounds_by engine table s.horizon parts) refl in
       let shows : Shows engine at (machine_in engine layout table s []) = record {
         parts = is;
         bounds = bounds;
@@ -68,7 +68,7 @@ module _ {Site Row Transfer : Type 0} {engine : Engine Site Row Transfer} {condi
         reached = λ p l. omega arith;
         none = λ p. none_at_zero (part_due engine (owner_of layout) p s.opening);
       } in
-      let stands : Stands engine conditions s [] at = record {
+      record {
         sound = sound;
         layout = ok;
         horizon = refl;
@@ -77,5 +77,4 @@ module _ {Site Row Transfer : Type 0} {engine : Engine Site Row Transfer} {condi
         distances = distances;
         shows = shows;
         forward = forward;
-      } in
-      subst (Stands engine conditions s []) (sym o.stands) stands
+      }

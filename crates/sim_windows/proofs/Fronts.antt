@@ -9,7 +9,7 @@ use Rattle.sim_clock.specs.Order.{due_before, lesser}
 use Rattle.sim_exchange.specs.Layout.{owner_of}
 use Rattle.sim_exchange.specs.Table.{distance_in}
 use Rattle.sim_engine.specs.Bounds.{least_bound, own_bound}
-use Rattle.sim_engine.specs.Kept.{IsAllFrom, KeepsBounds}
+use Rattle.sim_engine.specs.Kept.{IsAllFrom}
 use Rattle.sim_engine.specs.Machine.{Machine, flushed, has_ready, ready}
 use Rattle.sim_engine.specs.Merge.{merged_all, row_cmp}
 use Rattle.sim_engine.specs.Parts.{part_due}
@@ -21,11 +21,11 @@ use Rattle.sim_engine.proofs.OneList.{both_none}
 use Rattle.sim_engine.proofs.Parts.{before_lesser}
 use Rattle.sim_engine.proofs.ReadByParts.{machines_are_read_by_parts}
 use Rattle.sim_engine.proofs.Worlds.{not_before}
-use Rattle.sim_windows.specs.Stages.{AreNext, IsForward, Shows, Standing, Stands, front, is_from, machine_in, next_ready, settled_by, up_to}
+use Rattle.sim_windows.specs.Stages.{AreNext, IsForward, Shows, Standing, Stands, is_from, machine_in, settled_by, up_to}
 use Rattle.sim_windows.proofs.Least.{least_from, least_of_all, least_within}
 use Rattle.sim_windows.proofs.Picked.{filter_both, from_later}
 use Rattle.sim_windows.proofs.Places.{over, same_from}
-use Rattle.sim_windows.proofs.Standing.{below, none_ready_is}
+use Rattle.sim_windows.proofs.Standing.{below, keeps, none_ready_is}
 use Rattle.sim_engine.specs.World.{world_due}
 use Rattle.sim_engine.specs.Setting.{Setting}
 use Rattle.sim_engine.specs.Engine.{Engine}
@@ -61,6 +61,16 @@ none_over early bound (Some k) l h =
       | true ↦ λ e g. g
       | false ↦ λ e g. let n : bound ≤ k.at = ltb-false k.at bound e in rw (le-ltb k.at early (omega arith)) refl
     ] refl h
+
+module _ {Site Row Transfer : Type 0} (engine : Engine Site Row Transfer) where
+  -- the least of what so many partitions of a machine may handle
+  abbrev pub next_ready : (ℕ → ℕ) → ℕ → Machine engine → Option Key
+  next_ready owner zero m = None
+  next_ready owner (suc p) m = lesser (ready engine owner p m) (next_ready owner p m)
+
+  -- the moment that nothing may come before any more: that of what a partition may handle next, or the least bound
+  abbrev pub front : (ℕ → ℕ) → ℕ → ℕ → Machine engine → ℕ
+  front owner parts horizon m = up_to (least_bound horizon m.bounds parts) (next_ready owner parts m)
 
 module _ {Site Row Transfer : Type 0} {engine : Engine Site Row Transfer} {conditions : Conditions Site Transfer} (basics : SiteLaws engine conditions) where
   module _ (owner : ℕ → ℕ) (m : Machine engine) where
@@ -127,9 +137,6 @@ module _ {Site Row Transfer : Type 0} {engine : Engine Site Row Transfer} {condi
     abbrev m : Machine engine
     m = machine_in engine g.layout g.distances s done
 
-    keeps : KeepsBounds engine o s.horizon rule m
-    keeps = st.sound.kept o n (below basics s done g st) (distance_in g.distances) st.distances done
-
     -- whether a partition may go on is whether there is a least of what they may handle
     pub going_is : is_some (next_ready engine (owner_of g.layout) g.layout.parts (machine_in engine g.layout g.distances s done)) ≡ has_ready engine (owner_of g.layout) (machine_in engine g.layout g.distances s done)
     going_is =
@@ -149,7 +156,7 @@ module _ {Site Row Transfer : Type 0} {engine : Engine Site Row Transfer} {condi
       -- all that was settled is from before it
       forward_to : g.settled ≤ moment
       forward_to =
-          let early : (p : ℕ) → p < n → due_before g.settled (part_due engine o p m.sites) ≡ None = λ p l. sym (keeps.early p g.settled (st.forward.reached p l)) ∙ st.forward.none p in
+          let early : (p : ℕ) → p < n → due_before g.settled (part_due engine o p m.sites) ≡ None = λ p l. sym ((keeps basics s done g st).early p g.settled (st.forward.reached p l)) ∙ st.forward.none p in
           subst (λ k. g.settled ≤ k) (sym is) (front_from o m n s.horizon g.settled st.forward.within (record { none = early; bounds = st.forward.reached }))
 
       within : moment ≤ s.horizon + 1
@@ -160,7 +167,7 @@ module _ {Site Row Transfer : Type 0} {engine : Engine Site Row Transfer} {condi
       none_in : IsAllFrom engine o moment (flushed engine m)
       none_in p =
           elim (cases_lt p n) as (λ _. due_before moment (part_due engine o p (flushed engine m)) ≡ None) [
-            | inl l ↦ keeps.early p moment (through_it.bounds p l) ∙ through_it.none p l
+            | inl l ↦ (keeps basics s done g st).early p moment (through_it.bounds p l) ∙ through_it.none p l
             | inr k ↦ ap (λ w. due_before moment (world_due engine w)) (part_empty basics o n p (below basics s done g st) (omega arith) (flushed engine m))
           ]
 

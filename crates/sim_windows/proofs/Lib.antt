@@ -17,3 +17,8 @@ pub mod Stopping
 pub mod Sinking
 pub mod Whole
 pub mod Handed
+pub mod Reading
+pub mod Back
+pub mod Returned
+pub mod Ranges
+pub mod Stepped

@@ -13,7 +13,6 @@ use Rattle.sim_exchange.specs.Layout.{owner_of}
 use Rattle.sim_exchange.specs.Table.{Table, distance_in}
 use Rattle.sim_engine.specs.Bounds.{bound_by, moment_of, own_bound}
 use Rattle.sim_engine.specs.Exchange.{exchanged, sorted, sorted_into, to_part}
-use Rattle.sim_engine.specs.Kept.{KeepsBounds}
 use Rattle.sim_engine.specs.Machine.{Machine, flushed, has_ready, is_finished, with_barrier}
 use Rattle.sim_engine.specs.Parts.{part_due, part_of}
 use Rattle.sim_engine.specs.declared.picks.Pick.{Pick}
@@ -26,7 +25,7 @@ use Rattle.sim_windows.specs.Meeting.{AreReached, delivered_each, due_moments}
 use Rattle.sim_windows.specs.Stages.{IsForward, Shows, Standing, Stands, Took, bounded_by, delivered_by, machine_in}
 use Rattle.sim_windows.proofs.Least.{same_bounds}
 use Rattle.sim_windows.proofs.Places.{at_place, delivered_places, over, reached_places, same_from}
-use Rattle.sim_windows.proofs.Standing.{below, more_picks, stands_on}
+use Rattle.sim_windows.proofs.Standing.{keeps, more_picks, stands_on}
 use Rattle.sim_engine.specs.World.{delivered}
 use Rattle.sim_engine.specs.Setting.{Setting}
 use Rattle.sim_engine.specs.Engine.{Engine}
@@ -98,9 +97,6 @@ module _ {Site Row Transfer : Type 0} {engine : Engine Site Row Transfer} {condi
     abbrev m : Machine engine
     m = machine_in engine g.layout g.distances s done
 
-    keeps : KeepsBounds engine o s.horizon rule m
-    keeps = st.sound.kept o n (below basics s done g st) (distance_in g.distances) st.distances done
-
     -- the sites of the partitions
     abbrev pub parts_in : List (List Site)
     parts_in = map (λ p. part_of engine (owner_of g.layout) p (machine_in engine g.layout g.distances s done).sites) (range_with_len 0 g.layout.parts)
@@ -118,7 +114,7 @@ module _ {Site Row Transfer : Type 0} {engine : Engine Site Row Transfer} {condi
     reached_to p l =
         all_sent (λ (x : Transfer). All (Past (transfer_key x).at) (part_of engine o p m.sites)) o p m.waiting
         (All-weaker (λ (x : Transfer). m.bounds (o (to x)) ≤ (transfer_key x).at) (λ (x : Transfer). o (to x) ≡ p → All (Past (transfer_key x).at) (part_of engine o p m.sites))
-        (λ x h e. all_later basics (m.bounds p) (transfer_key x).at (part_of engine o p m.sites) (subst (λ q. m.bounds q ≤ (transfer_key x).at) e h) (st.forward.past p l)) m.waiting keeps.late)
+        (λ x h e. all_later basics (m.bounds p) (transfer_key x).at (part_of engine o p m.sites) (subst (λ q. m.bounds q ≤ (transfer_key x).at) e h) (st.forward.past p l)) m.waiting (keeps basics s done g st).late)
 
     -- what waits may be delivered
     pub are_reached : AreReached engine conditions g.parts (exchanged engine (owner_of g.layout) g.layout.parts g.waiting)
@@ -156,7 +152,7 @@ module _ {Site Row Transfer : Type 0} {engine : Engine Site Row Transfer} {condi
       past_in : (p : ℕ) → p < n → All (Past (rule (flushed engine m) p)) (part_of engine o p (flushed engine m))
       past_in p l =
           subst (All (Past (rule (flushed engine m) p))) (sym (parts_get_sorted basics o p m.waiting m.sites))
-          (all_later basics (m.bounds p) (rule (flushed engine m) p) (delivered engine (sent_to p) (part_of engine o p m.sites)) (keeps.grows stopped p)
+          (all_later basics (m.bounds p) (rule (flushed engine m) p) (delivered engine (sent_to p) (part_of engine o p m.sites)) ((keeps basics s done g st).grows stopped p)
           (past_delivered basics (m.bounds p) (sent_to p) (part_of engine o p m.sites) (timely_to p) (st.forward.past p l)))
 
       -- it stands as the definitions' machine does after the barrier
@@ -168,7 +164,7 @@ module _ {Site Row Transfer : Type 0} {engine : Engine Site Row Transfer} {condi
             past = past_in;
             timely = All-nil Timely;
             within = st.forward.within;
-            reached = λ p l. let a : g.settled ≤ m.bounds p = st.forward.reached p l in let b : m.bounds p ≤ rule (flushed engine m) p = keeps.grows stopped p in omega arith;
+            reached = λ p l. let a : g.settled ≤ m.bounds p = st.forward.reached p l in let b : m.bounds p ≤ rule (flushed engine m) p = (keeps basics s done g st).grows stopped p in omega arith;
             none = st.forward.none;
           } in
           record {

@@ -1,12 +1,13 @@
 -- Picks one after another.
 use Rattle.std.specs.Prelude.{Bool, List, [], false, if◌then◌else◌, true, ℕ, ◌++◌, ◌+◌, ◌∷◌, ◌≡◌}
 use Rattle.std.proofs.Common.{ap, append_assoc, refl, subst, sym, ◌∙◌}
+use Rattle.sim_clock.specs.declared.refusal.Refusal.{Refusal}
 use Rattle.sim_exchange.specs.Layout.{Layout, owner_of}
 use Rattle.sim_exchange.specs.Table.{Table, distance_in}
 use Rattle.sim_engine.specs.Bounds.{own_bound}
 use Rattle.sim_engine.specs.Machine.{Machine, effects, played, played_all, takes_effect}
 use Rattle.sim_engine.specs.declared.picks.Pick.{Pick}
-use Rattle.sim_windows.specs.Stages.{Played, Standing, Stands, Took, machine_in}
+use Rattle.sim_windows.specs.Stages.{Played, Plays, Standing, Stands, StopsAt, Takes, Tells, Took, machine_in}
 use Rattle.sim_windows.proofs.Standing.{more_picks}
 use Rattle.sim_engine.specs.Setting.{Setting}
 use Rattle.sim_engine.specs.Engine.{Engine}
@@ -54,3 +55,15 @@ module _ {Site Row Transfer : Type 0} {engine : Engine Site Row Transfer} {condi
         same = record { layout = t.same.layout ∙ p.same.layout; distances = t.same.distances ∙ p.same.distances };
         effects = ap (λ b. one_more b count) here ∙ ap (one_more (takes_effect engine (owner_of g.layout) s.horizon (played_all engine (owner_of g.layout) s.horizon rule more m) x)) p.effects ∙ sym (effects_push (owner_of g.layout) s.horizon rule more x m);
       }
+
+  -- wherever it stands
+  pub plays_on : (g h k : Standing Site Row Transfer) (more : List Pick) (x : Pick) (count : ℕ) (took : Bool) → Plays engine conditions g h more count → Takes engine conditions h k x took → Plays engine conditions g k (more ++ x ∷ []) (one_more took count)
+  plays_on g h k more x count took plays takes s done st =
+      let p : Played engine conditions g h s done more count = plays s done st in played_on s done more x g h k count took st p (takes s (done ++ more) p.stands)
+
+  module _ (g h : Standing Site Row Transfer) (more : List Pick) (count : ℕ) where
+    pub stops_on : (refusal : Refusal) → Plays engine conditions g h more count → StopsAt engine conditions h refusal → StopsAt engine conditions g refusal
+    stops_on refusal plays stops s on = stops s (record { picks = on.picks ++ more; stands = (plays s on.picks on.stands).stands })
+
+  pub tells_on : (g h k : Standing Site Row Transfer) (more : List Pick) (count : ℕ) (first told all : List Row) → Plays engine conditions g h more count → Tells engine conditions g first h told → Tells engine conditions h told k all → Tells engine conditions g first k all
+  tells_on g h k more count first told all plays before after s on is = after s (record { picks = on.picks ++ more; stands = (plays s on.picks on.stands).stands }) (before s on is)

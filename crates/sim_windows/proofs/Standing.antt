@@ -8,6 +8,7 @@ use Rattle.sim_clock.specs.Order.{due_before}
 use Rattle.sim_exchange.specs.Layout.{owner_of}
 use Rattle.sim_exchange.specs.Table.{distance_in}
 use Rattle.sim_engine.specs.Bounds.{least_bound, own_bound}
+use Rattle.sim_engine.specs.Kept.{KeepsBounds}
 use Rattle.sim_engine.specs.Machine.{Machine, has_ready, played_all, ready}
 use Rattle.sim_engine.specs.Parts.{part_due, part_of}
 use Rattle.sim_engine.specs.Theorems.{begun}
@@ -30,6 +31,10 @@ module _ {Site Row Transfer : Type 0} {engine : Engine Site Row Transfer} {condi
     -- each site is in one of the partitions
     pub below : (n : ℕ) → owner_of g.layout n < g.layout.parts
     below n = below_all g.layout.owners g.layout.parts n st.layout.some st.layout.below
+
+    -- what it keeps to of bounds
+    pub keeps : KeepsBounds engine (owner_of g.layout) s.horizon (own_bound engine (owner_of g.layout) (distance_in g.distances) g.layout.parts s.horizon) (machine_in engine g.layout g.distances s done)
+    keeps = st.sound.kept (owner_of g.layout) g.layout.parts below (distance_in g.distances) st.distances done
 
     -- there are as many partitions, bounds and lists of rows as the layout says
     pub many_parts : length g.parts ≡ g.layout.parts

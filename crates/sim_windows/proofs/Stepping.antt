@@ -31,7 +31,7 @@ use Rattle.sim_partition.proofs.Moments.{all_later}
 use Rattle.sim_windows.specs.Stages.{Standing, Stands, Took, is_from, machine_in}
 use Rattle.sim_windows.proofs.Picked.{all_from}
 use Rattle.sim_windows.proofs.Places.{at_place, set_from}
-use Rattle.sim_windows.proofs.Standing.{below, more_picks, stands_on}
+use Rattle.sim_windows.proofs.Standing.{below, keeps, more_picks, stands_on}
 use Rattle.sim_engine.specs.World.{world_due, Stepped, after, handled_among}
 use Rattle.sim_engine.specs.Counts.{rows_count, run_count, sites_count}
 use Rattle.sim_engine.specs.Setting.{Setting}
@@ -155,7 +155,7 @@ module _ {Site Row Transfer : Type 0} {engine : Engine Site Row Transfer} {condi
     has_due =
         let before : key.at < (machine_in engine g.layout g.distances s done).bounds p =
         before_at ((machine_in engine g.layout g.distances s done).bounds p) (world_due engine (part_of engine (owner_of g.layout) p (machine_in engine g.layout g.distances s done).sites)) key ready_is in
-        let capped : (machine_in engine g.layout g.distances s done).bounds p ≤ s.horizon + 1 = (st.sound.kept (owner_of g.layout) g.layout.parts (below basics s done g st) (distance_in g.distances) st.distances done).capped p in
+        let capped : (machine_in engine g.layout g.distances s done).bounds p ≤ s.horizon + 1 = (keeps basics s done g st).capped p in
         record { key = key; due = due_is; moment = omega (arith, st.range, st.horizon) }
 
     -- where its handling passes a count, the run does

@@ -4,4 +4,5 @@ pub mod Machines
 pub mod Limits
 pub mod Laws
 pub mod Worlds
+pub mod Rounds
 pub mod Sinks

@@ -1,27 +1,29 @@
 -- What is kept of a machine of partitions, and which state of the definitions' machine it shows.
-use Rattle.std.specs.List.{range_with_len}
-use Rattle.std.specs.Prelude.{All, Bool, List, None, Ok, Option, Result, Some, [], filter, get_or, length, map, min, not, suc, zero, ℕ, ◌++◌, ◌+◌, ◌<◌, ◌∷◌, ◌≡◌, ◌≤◌}
+use Rattle.std.specs.List.{list_all, range_with_len}
+use Rattle.std.specs.Option.{is_some}
+use Rattle.std.specs.Prelude.{All, Bool, List, None, Ok, Option, Result, Some, [], filter, get_or, length, map, min, nat_le, not, suc, zero, ℕ, ◌&&◌, ◌++◌, ◌+◌, ◌<◌, ◌∷◌, ◌≡◌, ◌≤◌}
 use Rattle.sim_clock.specs.declared.key.Key.{Key}
 use Rattle.sim_clock.specs.declared.refusal.Refusal.{Refusal}
-use Rattle.sim_clock.specs.Order.{lesser}
+use Rattle.sim_clock.specs.Order.{due_before, lesser}
 use Rattle.sim_engine.specs.Bounds.{AreDistances, bound_by, least_bound, own_bound}
 use Rattle.sim_engine.specs.Engine.{Engine}
 use Rattle.sim_engine.specs.Exchange.{exchanged}
 use Rattle.sim_engine.specs.Kept.{IsAllFrom}
 use Rattle.sim_engine.specs.Laws.{Conditions}
-use Rattle.sim_engine.specs.Limits.{most_count}
-use Rattle.sim_engine.specs.Machine.{Machine, effects, flushed, ready, takes_effect}
+use Rattle.sim_engine.specs.Limits.{IsOver, StopsWhere, most_count}
+use Rattle.sim_engine.specs.Machine.{Machine, effects, flushed, takes_effect}
 use Rattle.sim_engine.specs.Parts.{part_of}
 use Rattle.sim_engine.specs.Prefixes.{is_before}
 use Rattle.sim_engine.specs.Setting.{IsRunOf, Setting}
 use Rattle.sim_engine.specs.Simulated.{IsSimulated}
 use Rattle.sim_engine.specs.Theorems.{machine_of, rows_by}
-use Rattle.sim_engine.specs.World.{Run}
+use Rattle.sim_engine.specs.World.{Run, arrival, due_by}
 use Rattle.sim_engine.specs.declared.picks.Pick.{Pick}
 use Rattle.sim_exchange.specs.Layout.{IsLayout, Layout, owner_of}
 use Rattle.sim_exchange.specs.Table.{Table, distance_in}
+use Rattle.sim_partition.specs.Sites.{due_in}
 use Rattle.sim_windows.specs.Meeting.{delivered_each, due_moments}
-use Rattle.sim_windows.specs.declared.stage.Stage.{Stage}
+use Rattle.sim_windows.specs.declared.kept.Kept.{Kept}
 
 -- a moment, or that of what is due, whichever is first
 abbrev pub up_to : ℕ → Option Key → ℕ
@@ -40,19 +42,23 @@ pub record Standing (Site Row Transfer : Type 0) : Type 0 where
   pub settled : ℕ
 
 module _ {Site Row Transfer : Type 0} where
-  -- the same of a stage
-  abbrev pub standing_of : Stage Site Row Transfer → Standing Site Row Transfer
-  standing_of g =
+  -- the same of what a stage keeps, and its partitions
+  abbrev pub standing_of : Kept Site Row Transfer → List (Result (List Site) Refusal) → Standing Site Row Transfer
+  standing_of k parts =
       record {
-        layout = g.layout;
-        distances = g.distances;
-        horizon = g.horizon;
-        parts = g.parts.items;
-        bounds = g.bounds.items;
-        rows = map (λ l. l.items) g.rows.items;
-        waiting = g.waiting.items;
-        settled = g.settled;
+        layout = k.layout;
+        distances = k.distances;
+        horizon = k.horizon;
+        parts = parts;
+        bounds = k.bounds.items;
+        rows = map (λ l. l.items) k.rows.items;
+        waiting = k.waiting.items;
+        settled = k.settled;
       }
+
+  -- with these partitions
+  abbrev pub with_parts : List (Result (List Site) Refusal) → Standing Site Row Transfer → Standing Site Row Transfer
+  with_parts parts g = record g { parts = parts }
 
   -- once its bounds are set
   abbrev pub bounded_by : Standing Site Row Transfer → List ℕ → Standing Site Row Transfer
@@ -63,19 +69,39 @@ module _ {Site Row Transfer : Type 0} where
     pub layout : h.layout ≡ g.layout
     pub distances : h.distances ≡ g.distances
 
+  -- the least of its bounds, and of the moment after the horizon
+  abbrev pub end_in : Standing Site Row Transfer → ℕ
+  end_in g = least_bound g.horizon (λ p. get_or g.bounds p 0) (length g.bounds)
+
 module _ {Site Row Transfer : Type 0} (engine : Engine Site Row Transfer) where
   -- the definitions' machine of a setting, split so, after some picks
   abbrev pub machine_in : Layout → Table → Setting Site → List Pick → Machine engine
   machine_in layout table s picks = machine_of engine (owner_of layout) (own_bound engine (owner_of layout) (distance_in table) layout.parts s.horizon) s picks
 
-  -- the least of what so many partitions of a machine may handle
-  abbrev pub next_ready : (ℕ → ℕ) → ℕ → Machine engine → Option Key
-  next_ready owner zero m = None
-  next_ready owner (suc p) m = lesser (ready engine owner p m) (next_ready owner p m)
+  abbrev pub machine_at : Standing Site Row Transfer → Setting Site → List Pick → Machine engine
+  machine_at g s picks = machine_in g.layout g.distances s picks
 
-  -- the moment that nothing may come before any more: that of what a partition may handle next, or the least bound, whichever is first
-  abbrev pub front : (ℕ → ℕ) → ℕ → ℕ → Machine engine → ℕ
-  front owner parts horizon m = up_to (least_bound horizon m.bounds parts) (next_ready owner parts m)
+  -- what a partition has due before its bound
+  abbrev pub ready_in : Standing Site Row Transfer → ℕ → Option Key
+  ready_in g p = due_before (get_or g.bounds p 0) (due_in engine (get_or g.parts p (Ok [])))
+
+  -- the least of what so many partitions have, and of what all have: what may be handled next
+  abbrev pub next_of : Standing Site Row Transfer → ℕ → Option Key
+  next_of g zero = None
+  next_of g (suc p) = lesser (ready_in g p) (next_of g p)
+
+  abbrev pub next_in : Standing Site Row Transfer → Option Key
+  next_in g = next_of g (length g.parts)
+
+  -- the moment that nothing may come before any more: that of what may be handled next, or the least bound, whichever is first
+  abbrev pub front_in : Standing Site Row Transfer → ℕ
+  front_in g = up_to (end_in g) (next_in g)
+
+  -- whether nothing is left by the horizon, due or waiting
+  abbrev pub is_finished_in : Standing Site Row Transfer → Bool
+  is_finished_in g =
+      list_all (λ part. not (is_some (due_by g.horizon (due_in engine part)))) g.parts
+      && list_all (λ o. not (nat_le (arrival engine o) g.horizon)) g.waiting
 
   -- a row that is not from before a moment
   abbrev pub is_from : ℕ → Row → Bool
@@ -108,10 +134,6 @@ module _ {Site Row Transfer : Type 0} (engine : Engine Site Row Transfer) where
   abbrev pub AreNext : Setting Site → ℕ → ℕ → List Row → Type 0
   AreNext s from to rows = (r : Run engine) → IsRunOf engine s r → filter (is_before engine from) r.rows ++ rows ≡ filter (is_before engine to) r.rows
 
-  -- the moment that nothing may come before any more where a machine stands
-  abbrev pub front_in : Standing Site Row Transfer → Setting Site → List Pick → ℕ
-  front_in g s picks = front (owner_of g.layout) g.layout.parts s.horizon (machine_in g.layout g.distances s picks)
-
   -- whether a pick takes effect where a machine stands
   abbrev pub takes_effect_in : Standing Site Row Transfer → Setting Site → List Pick → Pick → Bool
   takes_effect_in g s picks x = takes_effect engine (owner_of g.layout) s.horizon (machine_in g.layout g.distances s picks) x
@@ -120,11 +142,10 @@ module _ {Site Row Transfer : Type 0} (engine : Engine Site Row Transfer) where
   abbrev pub effects_in : Standing Site Row Transfer → Setting Site → List Pick → List Pick → ℕ
   effects_in g s picks more = effects engine (owner_of g.layout) s.horizon (own_bound engine (owner_of g.layout) (distance_in g.distances) g.layout.parts s.horizon) more (machine_in g.layout g.distances s picks)
 
-  -- it has the bounds that are set by what is due in its partitions
-  pub record HasBounds (g h : Standing Site Row Transfer) : Type 0 where
-    pub bounds : List ℕ
-    pub set : bounds ≡ map (λ p. bound_by (distance_in g.distances) g.horizon (λ q. get_or (due_moments engine g.parts) q None) p g.distances.parts) (range_with_len 0 g.distances.parts)
-    pub stands : h ≡ bounded_by g bounds
+  -- the bounds that are set by what is due in some partitions
+  abbrev pub bounds_by : Table → ℕ → List (Result (List Site) Refusal) → List ℕ
+  bounds_by table horizon parts =
+      map (λ p. bound_by (distance_in table) horizon (λ q. get_or (due_moments engine parts) q None) p table.parts) (range_with_len 0 table.parts)
 
   -- these are the rows of a setting's one-list run that are left once those from before a moment are settled, and the sites of its last world
   pub record HasRest (s : Setting Site) (moment : ℕ) (rows : List Row) (sites : List Site) : Type 0 where
@@ -133,11 +154,19 @@ module _ {Site Row Transfer : Type 0} (engine : Engine Site Row Transfer) where
     pub rows_are : filter (is_before engine moment) run.rows ++ rows ≡ run.rows
     pub sites_are : sites ≡ run.sites
 
-  -- how partitions stand at which nothing was done, with the bounds that are set by what is due
-  pub record IsOpened (layout : Layout) (table : Table) (horizon : ℕ) (parts : List (Result (List Site) Refusal)) (g : Standing Site Row Transfer) : Type 0 where
-    pub bounds : List ℕ
-    pub set : bounds ≡ map (λ p. bound_by (distance_in table) horizon (λ q. get_or (due_moments engine parts) q None) p table.parts) (range_with_len 0 table.parts)
-    pub stands : g ≡ record { layout = layout; distances = table; horizon = horizon; parts = parts; bounds = bounds; rows = map (λ p. []) (range_with_len 0 (length parts)); waiting = []; settled = 0 }
+  -- how partitions stand at which nothing was done
+  abbrev pub opened : Layout → Table → ℕ → List (Result (List Site) Refusal) → Standing Site Row Transfer
+  opened layout table horizon parts =
+      record {
+        layout = layout;
+        distances = table;
+        horizon = horizon;
+        parts = parts;
+        bounds = bounds_by table horizon parts;
+        rows = map (λ p. []) (range_with_len 0 (length parts));
+        waiting = [];
+        settled = 0;
+      }
 
 module _ {Site Row Transfer : Type 0} (engine : Engine Site Row Transfer) (conditions : Conditions Site Transfer) where
   open conditions use {Past, Timely}
@@ -183,3 +212,53 @@ module _ {Site Row Transfer : Type 0} (engine : Engine Site Row Transfer) (condi
     pub stands : Stands s (picks ++ more) h
     pub same : IsSame g h
     pub effects : count ≡ effects_in engine g s picks more
+
+  -- wherever the one stands, the other does, those picks on
+  pub record Follows (g h : Standing Site Row Transfer) (more : List Pick) : Type 0 where
+    pub stands : (s : Setting Site) (picks : List Pick) → Stands s picks g → Stands s (picks ++ more) h
+    pub same : IsSame g h
+    pub count : length h.parts ≡ length g.parts
+
+  -- the same, some picks on
+  abbrev pub LeadsTo : Standing Site Row Transfer → Standing Site Row Transfer → Type 0
+  LeadsTo g h = (s : Setting Site) → StandsOn s g → StandsOn s h
+
+  -- and no more is settled
+  pub record GoesOn (g h : Standing Site Row Transfer) : Type 0 where
+    pub on : LeadsTo g h
+    pub same : IsSame g h
+    pub count : length h.parts ≡ length g.parts
+    pub settled : h.settled ≡ g.settled
+
+  -- what comes of one pick more, and of some, wherever it stands
+  abbrev pub Takes : Standing Site Row Transfer → Standing Site Row Transfer → Pick → Bool → Type 0
+  Takes g h x took = (s : Setting Site) (picks : List Pick) → Stands s picks g → Took g h s picks x took
+
+  abbrev pub Plays : Standing Site Row Transfer → Standing Site Row Transfer → List Pick → ℕ → Type 0
+  Plays g h more count = (s : Setting Site) (picks : List Pick) → Stands s picks g → Played g h s picks more count
+
+  -- where the first rows are those settled at the one, the others are those settled at the other
+  abbrev pub Tells : Standing Site Row Transfer → List Row → Standing Site Row Transfer → List Row → Type 0
+  Tells g first h others = (s : Setting Site) → StandsOn s g → AreSettled engine s g.settled first → AreSettled engine s h.settled others
+
+  -- why nothing comes of what is done next: want of memory, or a count past its limit in the run on one list too
+  abbrev pub StopsAt : Standing Site Row Transfer → Refusal → Type 0
+  StopsAt g refusal = (s : Setting Site) → StandsOn s g → StopsWhere (IsOver engine s) refusal
+
+  -- the rows that nothing may come before any more are settled, and it stands as it did
+  pub record Settles (g h : Standing Site Row Transfer) (rows : List Row) : Type 0 where
+    pub follows : Follows g h []
+    pub front : h.settled ≡ front_in engine g
+    pub next : (s : Setting Site) → StandsOn s g → AreNext engine s g.settled h.settled rows
+
+  -- these rows are left, and these are the sites of the last world
+  abbrev pub EndsAs : Standing Site Row Transfer → List Row → List Site → Type 0
+  EndsAs g rows sites = (s : Setting Site) → StandsOn s g → HasRest engine s g.settled rows sites
+
+  -- it has lent its partitions, each to run to its bound, or to a cut if that is sooner
+  pub record IsLent (g : Standing Site Row Transfer) (cut : ℕ) (lent : Standing Site Row Transfer) (parts : List (Result (List Site) Refusal)) (ends : List ℕ) : Type 0 where
+    pub stands : IsStanding g
+    pub lent_is : lent ≡ with_parts [] g
+    pub parts_are : parts ≡ g.parts
+    pub ends_are : ends ≡ map (λ bound. min bound cut) g.bounds
+    pub range : All (λ end. end ≤ most_count + 1) ends

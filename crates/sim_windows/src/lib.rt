@@ -6,10 +6,11 @@
 
 mod alone;
 mod joining;
+mod kept;
+mod lent;
 mod limit;
 mod machine;
 mod meeting;
-mod opening;
 mod parting;
 mod settling;
 mod sink;
@@ -17,9 +18,9 @@ mod stage;
 mod world;
 
 pub use alone::run_alone;
+pub use lent::{Came, Lent};
 pub use limit::Limit;
 pub use machine::Machine;
-pub use opening::open_stage;
 pub use sink::RowSink;
-pub use stage::{Ended, Stage};
+pub use stage::{Ended, Loan, Stage};
 pub use world::World;

@@ -1,23 +1,25 @@
 //! Machines of partitions: a run of a world in which partitions handle what is due each by its own
 //! order, in whatever order they are picked.
-ghost use Rattle.std.specs.Prelude.{◌≡◌, ◌++◌, ◌≤◌, [], All, Err, IfErr, IfOk, List, None, Some, false, true};
+ghost use Rattle.std.specs.Prelude.{◌≡◌, ◌++◌, ◌≤◌, [], All, Err, IfErr, IfOk, List, None, false, true};
 ghost use Rattle.sim_clock.specs.declared.refusal.Refusal.{Refusal as TheRefusal};
 ghost use Rattle.sim_engine.specs.Limits.{IsOver, StopsWhere, most_count};
 ghost use Rattle.sim_engine.specs.Machine.{is_finished};
 ghost use Rattle.sim_engine.specs.Setting.{Setting};
 ghost use Rattle.sim_engine.specs.Simulated.{IsSimulated};
 ghost use Rattle.sim_engine.specs.declared.picks.Pick.{Pick as ThePick};
-ghost use Rattle.sim_windows.specs.Machines.{HasRun, IsMachineOf, machine_at};
-ghost use Rattle.sim_windows.specs.Stages.{effects_in};
+ghost use Rattle.sim_exchange.specs.Layout.{Layout as TheLayout};
+ghost use Rattle.sim_partition.specs.Sites.{refusal_in};
+ghost use Rattle.sim_windows.specs.Machines.{HasRun, IsMachineOf};
+ghost use Rattle.sim_windows.specs.Stages.{effects_in, machine_at};
 
-use crate::opening::open_stage;
-use crate::stage::{Ended, Stage, least_of};
+use crate::stage::{Ended, Stage};
 use crate::world::World;
 use sim_clock::Refusal;
 use sim_engine::{Pick, Site};
 use sim_exchange::PartMap;
 use std::alloc::{AllocError, Global};
 use std::marker::Model;
+use std::mem;
 
 /// A run of a world in partitions. Each handles what it has due before its bound, picked in any
 /// order; at a barrier each gets what was sent to it, and the bounds are set anew, by what is due and
@@ -25,22 +27,20 @@ use std::marker::Model;
 /// one list. Want of memory, or a count at its limit, spends it.
 #[derive(Drop)]
 pub struct Machine<S: Site> {
-    stage: Stage<S>,
+    state: Result<Stage<S>, Refusal>,
     rows: Vec<S::Row>,
     end: u64,
-    spent: Option<Refusal>,
 }
 
 impl<S: Site> Model for Machine<S> {
-    ghost use Rattle.sim_windows.specs.Stages.{standing_of};
     ghost use Rattle.sim_windows.specs.Machines.{IsMachineUnless, Seen};
 
     ghost Value = { Seen S S.Row S.Transfer };
 
-    ghost view = { λ m. record { standing = standing_of m.stage; rows = m.rows.items; end = m.end; spent = m.spent } };
+    ghost view = { λ m. record { state = m.state; rows = m.rows.items; end = m.end } };
 
-    ghost invariant = { λ m. IsMachineUnless S.engine S.conditions m.spent
-        (record { standing = standing_of m.stage; rows = m.rows.items; end = m.end; spent = m.spent }) };
+    ghost invariant = { λ m. IsMachineUnless S.engine S.conditions m.state
+        (record { state = m.state; rows = m.rows.items; end = m.end }) };
 }
 
 impl<S: Site> Machine<S> {
@@ -51,16 +51,14 @@ impl<S: Site> Machine<S> {
         requires simulated { IsSimulated S.engine S.conditions world }
         requires horizon { world.horizon ≤ most_count }
         requires ways { All (λ e. (1 ≤ e.least) × (e.least ≤ 900000)) world.edges }
-        ensures opened { IfOk result (λ m. IsMachineOf S.engine S.conditions world [] m) }
-        ensures layout { IfOk result (λ m. m.standing.layout ≡ layout) }
+        ensures { IfOk result (IsMachineOf S.engine S.conditions layout world []) }
     {
-        let stage = open_stage(alloc, world, layout)?;
-        let end = least_of(&stage.bounds, stage.horizon);
+        let stage = Stage::open(alloc, world, layout)?;
+        let end = stage.window_end();
         Ok(Machine {
-            stage,
+            state: Ok(stage),
             rows: Vec::new(alloc),
             end,
-            spent: None,
         })
     }
 
@@ -73,26 +71,30 @@ impl<S: Site> Machine<S> {
     /// `Memory` where a growth is refused, and `CountLimit`, only where the world's run takes a
     /// count past 2^62 - 1, spend it; one that is spent answers what spent it.
     pub fn play(&mut self, picks: &[Pick]) -> Result<u64, Refusal>
-        ensures played { (s : Setting S) (done : List ThePick) → IsMachineOf S.engine S.conditions s done self.old →
+        ensures played { (layout : TheLayout) (s : Setting S) (done : List ThePick) →
+            (was : IsMachineOf S.engine S.conditions layout s done self.old) →
             IfOk result (λ count.
-            IsMachineOf S.engine S.conditions s (done ++ picks.now) self.new
-            × (count ≡ effects_in S.engine self.old.standing s done picks.now)) }
-        ensures spent { IfErr result (λ refusal. self.new.spent ≡ Some refusal) }
+            IsMachineOf S.engine S.conditions layout s (done ++ picks.now) self.new
+            × (count ≡ effects_in S.engine was.standing s done picks.now)) }
+        ensures spent { IfErr result (λ refusal. self.new.state ≡ Err refusal) }
         ensures end { IfErr result (λ _. self.new.end ≡ self.old.end) }
-        ensures stops { (s : Setting S) (done : List ThePick) → IsMachineOf S.engine S.conditions s done self.old →
+        ensures stops { (layout : TheLayout) (s : Setting S) (done : List ThePick) →
+            IsMachineOf S.engine S.conditions layout s done self.old →
             IfErr result (StopsWhere (IsOver S.engine s)) }
-        ensures stays { (refusal : TheRefusal) → self.old.spent ≡ Some refusal → result ≡ Err refusal }
+        ensures stays { (refusal : TheRefusal) → self.old.state ≡ Err refusal → result ≡ Err refusal }
     {
-        if let Some(refusal) = self.spent {
-            return Err(refusal);
+        if let Err(refusal) = &self.state {
+            return Err(*refusal);
         }
-        match self.stage.play(picks, &mut self.rows) {
-            Ok(count) => {
-                self.end = least_of(&self.stage.bounds, self.stage.horizon);
+        let state = mem::replace(&mut self.state, Err(Refusal::Memory));
+        match state?.play(picks, &mut self.rows) {
+            Ok((stage, count)) => {
+                self.end = stage.window_end();
+                self.state = Ok(stage);
                 Ok(count)
             }
             Err(refusal) => {
-                self.spent = Some(refusal);
+                self.state = Err(refusal);
                 Err(refusal)
             }
         }
@@ -108,18 +110,25 @@ impl<S: Site> Machine<S> {
 
     /// Whether nothing is left by the horizon, due or on its way. A spent machine is not finished.
     pub fn finished(&self) -> bool
-        ensures finished { (s : Setting S) (done : List ThePick) → IsMachineOf S.engine S.conditions s done self.now →
-            result ≡ is_finished S.engine s.horizon (machine_at S.engine self.now s done) }
-        ensures spent { (refusal : TheRefusal) → self.now.spent ≡ Some refusal → result ≡ false }
+        ensures finished { (layout : TheLayout) (s : Setting S) (done : List ThePick) →
+            (is : IsMachineOf S.engine S.conditions layout s done self.now) →
+            result ≡ is_finished S.engine s.horizon (machine_at S.engine is.standing s done) }
+        ensures spent { (refusal : TheRefusal) → self.now.state ≡ Err refusal → result ≡ false }
     {
-        self.spent.is_none() && self.stage.is_finished()
+        match &self.state {
+            Ok(stage) => stage.is_finished(),
+            Err(_) => false,
+        }
     }
 
     /// The refusal that spent it, if one did.
     pub fn spent(&self) -> Option<Refusal>
-        ensures { result ≡ self.now.spent }
+        ensures { result ≡ refusal_in self.now.state }
     {
-        self.spent
+        match &self.state {
+            Ok(_) => None,
+            Err(refusal) => Some(*refusal),
+        }
     }
 
     /// The rows that were settled at barriers, in the order of keys: all that come before the least
@@ -138,21 +147,19 @@ impl<S: Site> Machine<S> {
     ///
     /// `Memory` where a growth is refused; a spent machine answers what spent it.
     pub fn into_run(self) -> Result<Ended<S>, Refusal>
-        ensures ended { (s : Setting S) (done : List ThePick) → IsMachineOf S.engine S.conditions s done self →
-            is_finished S.engine s.horizon (machine_at S.engine self s done) ≡ true →
+        ensures ended { (layout : TheLayout) (s : Setting S) (done : List ThePick) →
+            (is : IsMachineOf S.engine S.conditions layout s done self) →
+            is_finished S.engine s.horizon (machine_at S.engine is.standing s done) ≡ true →
             IfOk result (λ ended. HasRun S.engine s ended.rows.items ended.sites.items) }
-        ensures memory { self.spent ≡ None → IfErr result (λ refusal. refusal ≡ Refusal.Memory) }
-        ensures spent { (refusal : TheRefusal) → self.spent ≡ Some refusal → result ≡ Err refusal }
+        ensures memory { refusal_in self.state ≡ None → IfErr result (λ refusal. refusal ≡ Refusal.Memory) }
+        ensures spent { (refusal : TheRefusal) → self.state ≡ Err refusal → result ≡ Err refusal }
     {
-        if let Some(refusal) = self.spent {
-            return Err(refusal);
-        }
         let Machine {
-            stage,
+            state,
             mut rows,
             ..
         } = self;
-        let mut rest = stage.into_run()?;
+        let mut rest = state?.into_run()?;
         rows.append(&mut rest.rows)?;
         Ok(Ended {
             rows,

@@ -1,47 +1,49 @@
-//! What is kept of a machine of partitions while it lives, and what it does pick by pick.
+//! A machine of partitions while it lives, and what it does pick by pick.
+ghost use Rattle.std.specs.Prelude.{◌≡◌, ◌≤◌, ◌+◌, ◌<◌, ◌^◌, ◌∷◌, [], All, IfErr, IfOk, false, get_or, length, map, true};
 ghost use Rattle.std.specs.List.{list_all, range_with_len};
 ghost use Rattle.std.specs.Option.{is_some};
-ghost use Rattle.std.specs.Prelude.{◌≡◌, ◌≤◌, ◌++◌, ◌+◌, ◌<◌, ◌^◌, ◌∷◌, [], IfErr, IfOk, List, Ok, OnOk, Result, filter, get_or, length, map, min, nat_le, not, true};
-ghost use Rattle.sim_clock.specs.declared.refusal.Refusal.{Refusal as TheRefusal};
+ghost use Rattle.std.specs.Prelude.{None, Ok, nat_le, not};
 ghost use Rattle.sim_clock.specs.Order.{due_before};
 ghost use Rattle.sim_engine.specs.Bounds.{least_bound};
-ghost use Rattle.sim_engine.specs.Exchange.{exchanged};
-ghost use Rattle.sim_engine.specs.Machine.{has_ready, is_finished};
-ghost use Rattle.sim_engine.specs.Merge.{merged_all, row_cmp};
-ghost use Rattle.sim_engine.specs.Prefixes.{is_before as is_row_before};
-ghost use Rattle.sim_engine.specs.declared.picks.Pick.{Pick as ThePick};
-ghost use Rattle.sim_engine.specs.declared.picks.Pick.TheVariants.{Barrier, Part};
-ghost use Rattle.sim_partition.specs.Sites.{AreOfPast, due_in};
-ghost use Rattle.sim_exchange.specs.Layout.{owner_of};
-ghost use Rattle.sim_engine.specs.Limits.{IsOver, StopsWhere};
+ghost use Rattle.sim_engine.specs.Limits.{most_count};
+ghost use Rattle.sim_engine.specs.Simulated.{IsSimulated};
 ghost use Rattle.sim_engine.specs.World.{arrival, due_by, world_due};
-ghost use Rattle.sim_engine.specs.Setting.{Setting};
-ghost use Rattle.sim_windows.specs.Meeting.{AreReached};
-ghost use Rattle.sim_windows.specs.Stages.{AreNext, AreSettled, HasBounds, HasRest, IsOpened, IsSame, IsStanding, Played, Stands, Took, delivered_by, front_in, machine_in, next_ready, settled_by, standing_of, takes_effect_in};
+ghost use Rattle.sim_engine.specs.declared.picks.Pick.TheVariants.{Barrier, Part};
+ghost use Rattle.sim_partition.specs.Sites.{AreOfPast};
+ghost use Rattle.sim_windows.specs.Stages.{EndsAs, Follows, IsLent, IsStanding, Plays, Settles, Stands, StopsAt, Takes, Tells, end_in, front_in, is_finished_in, next_in, ready_in, standing_of};
 
 use crate::joining::join_sites;
-use crate::meeting::{bounds_of, deliver_each, dues_of};
-use crate::settling::settle;
+use crate::kept::Kept;
+use crate::lent::Lent;
+use crate::meeting::{bounds_of, dues_of};
+use crate::parting::{open_parts, split_sites};
+use crate::world::World;
 use sim_clock::{Key, Refusal, lesser};
 use sim_engine::{Pick, Site};
-use sim_exchange::{Distances, PartMap, exchange, merge_rows};
+use sim_exchange::{Distances, PartMap, merge_rows};
 use sim_partition::Partition;
 use std::alloc::{AllocError, Global};
-use std::mem;
+use std::marker::Model;
 
-/// The partitions of a world with the bound of each, the rows that each made and that are not
-/// settled yet, and the transfers that wait for a barrier; and the moment up to which all is settled.
+/// As many sites as there are numbers of sites, which have 32 bits.
+const MOST_SITES: usize = 4_294_967_296;
+
+/// The partitions of a world, which stand as the definitions' machine of that world does after some
+/// picks. What is done takes the stage and gives it back; a refusal leaves none.
 #[derive(Drop)]
 pub struct Stage<S: Site> {
-    pub alloc: Global,
-    pub layout: PartMap,
-    pub distances: Distances,
-    pub horizon: u64,
-    pub parts: Vec<Partition<S>>,
-    pub bounds: Vec<u64>,
-    pub rows: Vec<Vec<S::Row>>,
-    pub waiting: Vec<S::Transfer>,
-    pub settled: u64,
+    kept: Kept<S>,
+    parts: Vec<Partition<S>>,
+}
+
+impl<S: Site> Model for Stage<S> {
+    ghost use Rattle.sim_windows.specs.Stages.{IsStanding, Standing, standing_of};
+
+    ghost Value = { Standing S S.Row S.Transfer };
+
+    ghost view = { λ g. standing_of g.kept g.parts.items };
+
+    ghost invariant = { λ g. IsStanding S.engine S.conditions (standing_of g.kept g.parts.items) };
 }
 
 /// What a machine comes to: its rows, in the order of keys, and the sites, by number.
@@ -49,6 +51,15 @@ pub struct Stage<S: Site> {
 pub struct Ended<S: Site> {
     pub rows: Vec<S::Row>,
     pub sites: Vec<S>,
+}
+
+/// A stage whose partitions are lent; the partitions; and the moment to which each is to run, in
+/// milliseconds.
+#[derive(Drop)]
+pub struct Loan<S: Site> {
+    pub lent: Lent<S>,
+    pub parts: Vec<Partition<S>>,
+    pub ends: Vec<u64>,
 }
 
 // What is due, if it comes before a bound.
@@ -70,7 +81,7 @@ fn is_by(due: Option<Key>, horizon: u64) -> bool
 }
 
 // The least of some bounds and the moment after the horizon.
-pub fn least_of(bounds: &[u64], horizon: u64) -> u64
+fn least_of(bounds: &[u64], horizon: u64) -> u64
     requires { horizon + 1 < 2 ^ 64 }
     ensures { result ≡ least_bound horizon (λ p. get_or bounds.now p 0) (length bounds.now) }
 {
@@ -102,58 +113,71 @@ fn no_rows<S: Site>(alloc: Global, parts: usize) -> Result<Vec<Vec<S::Row>>, All
 }
 
 impl<S: Site> Stage<S> {
-    /// A stage of these partitions, at which nothing was done. The error is want of memory.
-    pub fn new(
-        alloc: Global,
-        layout: PartMap,
-        distances: Distances,
-        horizon: u64,
-        parts: Vec<Partition<S>>,
-    ) -> Result<Stage<S>, AllocError>
-        requires parts { length parts.items ≡ distances.parts }
-        requires range { distances.parts < 2 ^ 32 }
-        requires horizon { horizon + 1 < 2 ^ 64 }
-        ensures { IfOk result (λ g. IsOpened S.engine layout distances horizon parts.items (standing_of g)) }
+    /// The stage of a world, its sites in partitions by a map, at which nothing was done. Each way takes 1
+    /// to 900,000 milliseconds. The error is want of memory, as which as many sites as there are numbers
+    /// are refused too.
+    pub fn open(alloc: Global, world: World<S>, layout: PartMap) -> Result<Stage<S>, AllocError>
+        requires simulated { IsSimulated S.engine S.conditions world }
+        requires horizon { world.horizon ≤ most_count }
+        requires ways { All (λ e. (1 ≤ e.least) × (e.least ≤ 900000)) world.edges }
+        ensures stands { IfOk result (Stands S.engine S.conditions world []) }
+        ensures layout { IfOk result (λ g. g.layout ≡ layout) }
+        ensures settled { IfOk result (λ g. g.settled ≡ 0) }
     {
+        let World {
+            horizon,
+            sites,
+            edges,
+        } = world;
+        if sites.len() >= MOST_SITES {
+            return Err(AllocError);
+        }
+        let distances = Distances::new(alloc, &edges, &layout)?;
+        let lists = split_sites(alloc, sites, &layout)?;
+        let parts = open_parts(alloc, lists)?;
         let dues = dues_of(alloc, &parts)?;
         let bounds = bounds_of(alloc, &distances, &dues, horizon)?;
         let rows = no_rows::<S>(alloc, parts.len())?;
-        Ok(Stage {
+        let kept = Kept {
             alloc,
             layout,
             distances,
             horizon,
-            parts,
             bounds,
             rows,
             waiting: Vec::new(alloc),
             settled: 0,
-        })
+        };
+        Ok(Stage { kept, parts })
+    }
+
+    /// Where it takes its memory.
+    pub fn alloc(&self) -> Global {
+        self.kept.alloc
+    }
+
+    /// How many partitions there are.
+    pub fn part_count(&self) -> usize
+        ensures { result ≡ length self.now.parts }
+    {
+        self.parts.len()
     }
 
     // What a partition, by its place, has due before its bound.
     fn ready_at(&self, place: usize) -> Option<Key>
-        requires parts { place < length self.now.parts.items }
-        requires bounds { place < length self.now.bounds.items }
-        ensures ready { (d : Result (List S) TheRefusal) →
-            result
-            ≡ due_before (get_or self.now.bounds.items place 0) (due_in S.engine (get_or self.now.parts.items place d)) }
-        ensures past { (d : Result (List S) TheRefusal) →
-            IfOk (get_or self.now.parts.items place d) (λ w. AreOfPast S.conditions w (world_due S.engine w)) }
+        ensures ready { result ≡ ready_in S.engine self.now place }
+        ensures past { IfOk (get_or self.now.parts place (Ok [])) (λ w.
+            AreOfPast S.conditions w (world_due S.engine w)) }
     {
-        before(self.parts[place].least_due(), self.bounds[place])
+        if place >= self.parts.len() {
+            return None;
+        }
+        before(self.parts[place].least_due(), self.kept.bounds[place])
     }
 
     /// The least of what the partitions may handle now; none where no partition may go on.
     pub fn next_ready(&self) -> Option<Key>
-        requires { IsStanding S.engine S.conditions (standing_of self.now) }
-        ensures least { (s : Setting S) (done : List ThePick) → Stands S.engine S.conditions s done (standing_of self.now) →
-            result
-            ≡ next_ready S.engine (owner_of self.now.layout) self.now.layout.parts
-            (machine_in S.engine self.now.layout self.now.distances s done) }
-        ensures going { (s : Setting S) (done : List ThePick) → Stands S.engine S.conditions s done (standing_of self.now) →
-            is_some result
-            ≡ has_ready S.engine (owner_of self.now.layout) (machine_in S.engine self.now.layout self.now.distances s done) }
+        ensures { result ≡ next_in S.engine self.now }
     {
         let mut next = None;
         for place in 0..self.parts.len() {
@@ -162,174 +186,108 @@ impl<S: Site> Stage<S> {
         next
     }
 
-    /// How far each partition runs in a round that is cut at a moment: to its bound, or to the cut if
-    /// that is sooner. The error is want of memory.
-    pub fn ends(&self, cut: u64) -> Result<Vec<u64>, AllocError>
-        ensures { IfOk result (λ ends. ends.items ≡ map (λ bound. min bound cut) self.now.bounds.items) }
-    {
-        let mut ends = Vec::new(self.alloc);
-        for bound in &self.bounds {
-            ends.push(cut.min(*bound))?;
-        }
-        Ok(ends)
-    }
-
     /// Whether nothing is left by the horizon, due or waiting.
     pub fn is_finished(&self) -> bool
-        requires { IsStanding S.engine S.conditions (standing_of self.now) }
-        ensures { (s : Setting S) (done : List ThePick) → Stands S.engine S.conditions s done (standing_of self.now) →
-            result ≡ is_finished S.engine s.horizon (machine_in S.engine self.now.layout self.now.distances s done) }
+        ensures { result ≡ is_finished_in S.engine self.now }
     {
+        let horizon = self.kept.horizon;
         for part in &self.parts {
-            if is_by(part.least_due(), self.horizon) {
+            if is_by(part.least_due(), horizon) {
                 return false;
             }
         }
-        are_past::<S>(&self.waiting, self.horizon)
+        are_past::<S>(&self.kept.waiting, horizon)
     }
 
-    // The least due of a partition is handled, if it comes before the partition's bound. Answers
-    // whether it did.
-    fn step(&mut self, part: u32) -> Result<bool, Refusal>
-        requires { IsStanding S.engine S.conditions (standing_of self.old) }
-        ensures took { (s : Setting S) (done : List ThePick) → Stands S.engine S.conditions s done (standing_of self.old) →
-            IfOk result (λ took.
-            Took S.engine S.conditions (standing_of self.old) (standing_of self.new) s done (Part part) took) }
-        ensures settled { IfOk result (λ _. self.new.settled ≡ self.old.settled) }
-        ensures stops { (s : Setting S) (done : List ThePick) → Stands S.engine S.conditions s done (standing_of self.old) →
-            IfErr result (StopsWhere (IsOver S.engine s)) }
+    /// The least of the partitions' bounds, in milliseconds.
+    pub fn window_end(&self) -> u64
+        ensures { result ≡ end_in self.now }
     {
-        let place = part as usize;
-        if place >= self.parts.len() || self.ready_at(place).is_none() {
-            return Ok(false);
-        }
-        let mut handled = self.parts[place].step()?;
-        self.rows[place].append(&mut handled.rows)?;
-        self.waiting.append(&mut handled.sent)?;
-        Ok(true)
-    }
-
-    // Each partition gets what waits for it.
-    fn deliver(&mut self) -> Result<(), Refusal>
-        requires reached { AreReached S.engine S.conditions self.old.parts.items
-            (exchanged S.engine (owner_of self.old.layout) self.old.layout.parts self.old.waiting.items) }
-        ensures delivered { (ws : List (List S)) → self.old.parts.items ≡ map (λ w. Ok w) ws →
-            OnOk result (standing_of self.new ≡ delivered_by S.engine (standing_of self.old) ws) }
-        ensures memory { (ws : List (List S)) → self.old.parts.items ≡ map (λ w. Ok w) ws →
-            IfErr result (λ refusal. refusal ≡ Refusal.Memory) }
-    {
-        let waiting = mem::replace(&mut self.waiting, Vec::new(self.alloc));
-        let mut sent = Vec::new(self.alloc);
-        sent.push(waiting)?;
-        let lists = exchange::<S>(self.alloc, sent, &self.layout)?;
-        deliver_each(&mut self.parts, lists)
-    }
-
-    // The rows from before a moment are settled. Answers them, in the order of keys.
-    fn settle_before(&mut self, moment: u64) -> Result<Vec<S::Row>, AllocError>
-        ensures settled { IfOk result (λ _. standing_of self.new ≡ settled_by S.engine (standing_of self.old) moment) }
-        ensures rows { IfOk result (λ rows.
-            rows.items
-            ≡ merged_all (row_cmp S.engine) (map (filter (is_row_before S.engine moment)) (standing_of self.old).rows)) }
-    {
-        let rows = mem::replace(&mut self.rows, Vec::new(self.alloc));
-        let settled = settle::<S>(self.alloc, rows, moment)?;
-        self.rows = settled.kept;
-        self.settled = moment;
-        Ok(settled.rows)
-    }
-
-    // The bounds are set anew.
-    fn set_bounds(&mut self) -> Result<(), AllocError>
-        requires parts { length self.old.parts.items ≡ self.old.distances.parts }
-        requires range { self.old.distances.parts < 2 ^ 32 }
-        requires horizon { self.old.horizon + 1 < 2 ^ 64 }
-        ensures { OnOk result (HasBounds S.engine (standing_of self.old) (standing_of self.new)) }
-    {
-        let dues = dues_of(self.alloc, &self.parts)?;
-        self.bounds = bounds_of(self.alloc, &self.distances, &dues, self.horizon)?;
-        Ok(())
+        least_of(&self.kept.bounds, self.kept.horizon)
     }
 
     // The moment that nothing may come before any more: that of what a partition may handle next, or the
     // least bound.
     fn front(&self) -> u64
-        requires { IsStanding S.engine S.conditions (standing_of self.now) }
-        ensures { (s : Setting S) (done : List ThePick) → Stands S.engine S.conditions s done (standing_of self.now) →
-            result ≡ front_in S.engine (standing_of self.now) s done }
+        ensures { result ≡ front_in S.engine self.now }
     {
-        let least = least_of(&self.bounds, self.horizon);
+        let end = self.window_end();
         match self.next_ready() {
-            None => least,
-            Some(next) => least.min(next.at),
+            None => end,
+            Some(next) => end.min(next.at),
         }
     }
 
-    /// The rows that nothing may come before any more are settled. Answers them, in the order of keys;
-    /// they follow those that were settled before. The error is want of memory.
-    pub fn settle(&mut self) -> Result<Vec<S::Row>, AllocError>
-        requires { IsStanding S.engine S.conditions (standing_of self.old) }
-        ensures stands { (s : Setting S) (done : List ThePick) → Stands S.engine S.conditions s done (standing_of self.old) →
-            IfOk result (λ _.
-            Stands S.engine S.conditions s done (standing_of self.new)
-            × IsSame (standing_of self.old) (standing_of self.new)) }
-        ensures next { (s : Setting S) (done : List ThePick) → Stands S.engine S.conditions s done (standing_of self.old) →
-            IfOk result (λ rows. AreNext S.engine s self.old.settled self.new.settled rows.items) }
-        ensures front { (s : Setting S) (done : List ThePick) → Stands S.engine S.conditions s done (standing_of self.old) →
-            IfOk result (λ _. self.new.settled ≡ front_in S.engine (standing_of self.old) s done) }
+    // The least due of a partition is handled, if it comes before the partition's bound. Answers
+    // whether it did.
+    fn step(self, part: u32) -> Result<(Stage<S>, bool), Refusal>
+        ensures took { IfOk result (λ r. Takes S.engine S.conditions self r.0 (Part part) r.1) }
+        ensures settled { IfOk result (λ r. r.0.settled ≡ self.settled) }
+        ensures stops { IfErr result (StopsAt S.engine S.conditions self) }
     {
-        let moment = self.front();
-        self.settle_before(moment)
+        let place = part as usize;
+        if self.ready_at(place).is_none() {
+            return Ok((self, false));
+        }
+        let Stage {
+            mut kept,
+            mut parts,
+        } = self;
+        let mut handled = parts[place].step()?;
+        kept.rows[place].append(&mut handled.rows)?;
+        kept.waiting.append(&mut handled.sent)?;
+        Ok((Stage { kept, parts }, true))
     }
 
-    /// What waits is delivered, and the bounds are set anew.
-    pub fn meet(&mut self) -> Result<(), Refusal>
-        requires stands { IsStanding S.engine S.conditions (standing_of self.old) }
-        ensures met { (s : Setting S) (done : List ThePick) → Stands S.engine S.conditions s done (standing_of self.old) →
-            takes_effect_in S.engine (standing_of self.old) s done Barrier ≡ true →
-            OnOk result (
-            Stands S.engine S.conditions s (done ++ Barrier ∷ []) (standing_of self.new)
-            × IsSame (standing_of self.old) (standing_of self.new)) }
-        ensures settled { OnOk result (self.new.settled ≡ self.old.settled) }
+    /// The rows that nothing may come before any more are settled. Answers them too, in the order of keys;
+    /// they follow those that were settled before. The error is want of memory.
+    pub fn settle(self) -> Result<(Stage<S>, Vec<S::Row>), AllocError>
+        ensures { IfOk result (λ r. Settles S.engine S.conditions self r.0 r.1.items) }
+    {
+        let moment = self.front();
+        let Stage { mut kept, parts } = self;
+        let rows = kept.settle_before(moment)?;
+        Ok((Stage { kept, parts }, rows))
+    }
+
+    /// What waits is delivered, and the bounds are set anew. No partition may go on, and something is
+    /// left. The error is want of memory.
+    pub fn meet(self) -> Result<Stage<S>, Refusal>
+        requires rests { next_in S.engine self ≡ None }
+        requires left { is_finished_in S.engine self ≡ false }
+        ensures met { IfOk result (λ g. Follows S.engine S.conditions self g (Barrier ∷ [])) }
+        ensures settled { IfOk result (λ g. g.settled ≡ self.settled) }
         ensures memory { IfErr result (λ refusal. refusal ≡ Refusal.Memory) }
     {
-        self.deliver()?;
-        self.set_bounds()?;
-        Ok(())
+        let Stage {
+            mut kept,
+            mut parts,
+        } = self;
+        kept.deliver(&mut parts)?;
+        kept.set_bounds(&parts)?;
+        Ok(Stage { kept, parts })
     }
 
     // A barrier, if no partition may go on and something is left; the rows that are settled are added
     // to those before. Answers whether it was one.
-    fn barrier(&mut self, told: &mut Vec<S::Row>) -> Result<bool, Refusal>
-        requires { IsStanding S.engine S.conditions (standing_of self.old) }
-        ensures settled { (s : Setting S) (done : List ThePick) → Stands S.engine S.conditions s done (standing_of self.old) →
-            AreSettled S.engine s self.old.settled told.old.items →
-            IfOk result (λ _. AreSettled S.engine s self.new.settled told.new.items) }
-        ensures took { (s : Setting S) (done : List ThePick) → Stands S.engine S.conditions s done (standing_of self.old) →
-            IfOk result (λ took.
-            Took S.engine S.conditions (standing_of self.old) (standing_of self.new) s done Barrier took) }
+    fn barrier(self, told: &mut Vec<S::Row>) -> Result<(Stage<S>, bool), Refusal>
+        ensures took { IfOk result (λ r. Takes S.engine S.conditions self r.0 Barrier r.1) }
+        ensures tells { IfOk result (λ r. Tells S.engine S.conditions self told.old.items r.0 told.new.items) }
         ensures memory { IfErr result (λ refusal. refusal ≡ Refusal.Memory) }
     {
         if self.next_ready().is_some() || self.is_finished() {
-            return Ok(false);
+            return Ok((self, false));
         }
-        self.meet()?;
-        let mut rows = self.settle()?;
+        let (stage, mut rows) = self.meet()?.settle()?;
         told.append(&mut rows)?;
-        Ok(true)
+        Ok((stage, true))
     }
 
     // Does one thing more. Answers whether it took effect.
-    fn take(&mut self, pick: Pick, told: &mut Vec<S::Row>) -> Result<bool, Refusal>
-        requires { IsStanding S.engine S.conditions (standing_of self.old) }
-        ensures settled { (s : Setting S) (done : List ThePick) → Stands S.engine S.conditions s done (standing_of self.old) →
-            AreSettled S.engine s self.old.settled told.old.items →
-            IfOk result (λ _. AreSettled S.engine s self.new.settled told.new.items) }
-        ensures took { (s : Setting S) (done : List ThePick) → Stands S.engine S.conditions s done (standing_of self.old) →
-            IfOk result (λ took.
-            Took S.engine S.conditions (standing_of self.old) (standing_of self.new) s done pick took) }
-        ensures stops { (s : Setting S) (done : List ThePick) → Stands S.engine S.conditions s done (standing_of self.old) →
-            IfErr result (StopsWhere (IsOver S.engine s)) }
+    fn take(self, pick: Pick, told: &mut Vec<S::Row>) -> Result<(Stage<S>, bool), Refusal>
+        ensures took { IfOk result (λ r. Takes S.engine S.conditions self r.0 pick r.1) }
+        ensures tells { IfOk result (λ r. Tells S.engine S.conditions self told.old.items r.0 told.new.items) }
+        ensures stops { IfErr result (StopsAt S.engine S.conditions self) }
     {
         match pick {
             Pick::Part(part) => self.step(part),
@@ -339,38 +297,63 @@ impl<S: Site> Stage<S> {
 
     /// Does some things more, one after another; the rows that are settled are added to those
     /// before. Answers how many took effect.
-    pub fn play(&mut self, picks: &[Pick], told: &mut Vec<S::Row>) -> Result<u64, Refusal>
-        requires { IsStanding S.engine S.conditions (standing_of self.old) }
-        ensures settled { (s : Setting S) (done : List ThePick) → Stands S.engine S.conditions s done (standing_of self.old) →
-            AreSettled S.engine s self.old.settled told.old.items →
-            IfOk result (λ _. AreSettled S.engine s self.new.settled told.new.items) }
-        ensures played { (s : Setting S) (done : List ThePick) → Stands S.engine S.conditions s done (standing_of self.old) →
-            IfOk result (λ count.
-            Played S.engine S.conditions (standing_of self.old) (standing_of self.new) s done picks.now count) }
-        ensures stops { (s : Setting S) (done : List ThePick) → Stands S.engine S.conditions s done (standing_of self.old) →
-            IfErr result (StopsWhere (IsOver S.engine s)) }
+    pub fn play(self, picks: &[Pick], told: &mut Vec<S::Row>) -> Result<(Stage<S>, u64), Refusal>
+        ensures played { IfOk result (λ r. Plays S.engine S.conditions self r.0 picks.now r.1) }
+        ensures tells { IfOk result (λ r. Tells S.engine S.conditions self told.old.items r.0 told.new.items) }
+        ensures stops { IfErr result (StopsAt S.engine S.conditions self) }
     {
+        let mut stage = self;
         let mut effects = 0;
         for pick in picks {
-            if self.take(*pick, told)? {
+            let (next, took) = stage.take(*pick, told)?;
+            stage = next;
+            if took {
                 effects += 1;
             }
         }
-        Ok(effects)
+        Ok((stage, effects))
+    }
+
+    /// Lends the partitions, each to run to its bound, or to a moment in milliseconds if that is sooner.
+    /// The error is want of memory.
+    pub fn lend(self, cut: u64) -> Result<Loan<S>, AllocError>
+        ensures { IfOk result (λ loan.
+            IsLent S.engine S.conditions self cut loan.lent loan.parts.items loan.ends.items) }
+    {
+        let Stage { kept, parts } = self;
+        let mut ends = Vec::new(kept.alloc);
+        for bound in &kept.bounds {
+            ends.push(cut.min(*bound))?;
+        }
+        Ok(Loan {
+            lent: Lent::new(kept),
+            parts,
+            ends,
+        })
     }
 
     /// The rows that are not settled, in the order of keys, and all sites by number, with what waits on
     /// its way to them. The error is want of memory.
-    pub fn into_run(mut self) -> Result<Ended<S>, Refusal>
-        requires { IsStanding S.engine S.conditions (standing_of self) }
-        ensures ended { (s : Setting S) (done : List ThePick) → Stands S.engine S.conditions s done (standing_of self) →
-            is_finished S.engine s.horizon (machine_in S.engine self.layout self.distances s done) ≡ true →
-            IfOk result (λ ended. HasRest S.engine s self.settled ended.rows.items ended.sites.items) }
+    pub fn into_run(self) -> Result<Ended<S>, Refusal>
+        ensures ended { is_finished_in S.engine self ≡ true →
+            IfOk result (λ ended. EndsAs S.engine S.conditions self ended.rows.items ended.sites.items) }
         ensures memory { IfErr result (λ refusal. refusal ≡ Refusal.Memory) }
     {
-        self.deliver()?;
-        let rows = merge_rows::<S>(self.alloc, self.rows)?;
-        let sites = join_sites(self.alloc, self.parts, &self.layout)?;
+        let Stage {
+            mut kept,
+            mut parts,
+        } = self;
+        kept.deliver(&mut parts)?;
+        let rows = merge_rows::<S>(kept.alloc, kept.rows)?;
+        let sites = join_sites(kept.alloc, parts, &kept.layout)?;
         Ok(Ended { rows, sites })
     }
+}
+
+/// Makes a stage of what it keeps and its partitions.
+pub fn stage_of<S: Site>(kept: Kept<S>, parts: Vec<Partition<S>>) -> Stage<S>
+    requires { IsStanding S.engine S.conditions (standing_of kept parts.items) }
+    ensures { result ≡ standing_of kept parts.items }
+{
+    Stage { kept, parts }
 }

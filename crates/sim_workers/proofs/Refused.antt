@@ -13,15 +13,14 @@ use Rattle.sim_engine.specs.Rounds.{PartRun, part_after, picks_of}
 use Rattle.sim_engine.specs.Theorems.{rows_by}
 use Rattle.sim_engine.specs.declared.picks.Pick.{Pick}
 use Rattle.sim_engine.proofs.Rounds.{HasRun, part_runs_to}
-use Rattle.sim_workers.specs.Runs.{AreWithin}
 use Rattle.sim_partition.specs.Steps.{StopsRun, ran_count}
 use Rattle.sim_engine.specs.Limits.{IsOver, StopsWhere, most_count}
 use Rattle.sim_partition.proofs.Passing.{more_passes, rows_after, stops_for}
 use Rattle.sim_windows.specs.Stages.{Standing, Stands, machine_in}
 use Rattle.sim_windows.proofs.Standing.{below, bound_at, many_bounds, many_parts, more_picks, part_at}
-use Rattle.sim_workers.specs.Pieces.{Comes}
-use Rattle.sim_workers.specs.Rounds.{AllCome, IsRefusedRound, graver, gravest_from, gravest_of}
-use Rattle.sim_workers.specs.declared.piece.Came.{Came}
+use Rattle.sim_windows.specs.Rounds.{AllCome, AreWithin, Comes}
+use Rattle.sim_workers.specs.Rounds.{IsRefusedRound, graver, gravest_from, gravest_of}
+use Rattle.sim_windows.specs.declared.lent.Came.{Came}
 use Rattle.sim_engine.specs.Limits.{most_count}
 use Rattle.sim_engine.specs.Counts.{rows_count, run_count, sites_count}
 use Rattle.sim_engine.specs.World.{after}

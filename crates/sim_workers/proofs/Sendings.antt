@@ -7,10 +7,10 @@ use Rattle.sim_engine.specs.Engine.{Engine}
 use Rattle.sim_engine.specs.Laws.{Conditions}
 use Rattle.sim_handoff.specs.declared.records.PartyRecord.{PartyRecord}
 use Rattle.sim_handoff.specs.Place.{IsFree, last_of, place_record}
-use Rattle.sim_workers.specs.declared.piece.Came.{Came}
+use Rattle.sim_windows.specs.declared.lent.Came.{Came}
 use Rattle.sim_workers.specs.Owners.{AreCollected, AreResting, AreSentOut, Home, IsCollected, IsSentOut}
-use Rattle.sim_workers.specs.Pieces.{Comes}
-use Rattle.sim_workers.specs.Rounds.{AllCome, gravest_from, gravest_of}
+use Rattle.sim_windows.specs.Rounds.{AllCome, Comes}
+use Rattle.sim_workers.specs.Rounds.{gravest_from, gravest_of}
 
 -- the length with one more
 pub one_more : {B : Type 0} (ys : List B) (y : B) → length (ys ++ y ∷ []) ≡ length ys + 1

@@ -7,8 +7,8 @@ use Rattle.sim_engine.specs.Laws.{Conditions}
 use Rattle.sim_handoff.specs.Place.{IsFree, last_of, place_record}
 use Rattle.sim_handoff.specs.declared.records.PartyRecord.{PartyRecord}
 use Rattle.sim_partition.specs.Sites.{due_in}
-use Rattle.sim_workers.specs.Pieces.{Comes}
-use Rattle.sim_workers.specs.declared.piece.Came.{Came}
+use Rattle.sim_windows.specs.Rounds.{Comes}
+use Rattle.sim_windows.specs.declared.lent.Came.{Came}
 
 -- nothing is to be collected at any place
 abbrev pub IsAllFree : {P : Type 0} → PartyRecord P → Type 0

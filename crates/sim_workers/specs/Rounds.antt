@@ -1,11 +1,11 @@
 -- A round: each of some partitions is run to its bound.
-use Rattle.std.specs.Prelude.{Err, List, None, Ok, Option, Result, Some, [], map, ℕ, ◌∷◌, ◌⊎◌, ◌≡◌}
+use Rattle.std.specs.Prelude.{Err, List, None, Ok, Option, Result, Some, [], ℕ, ◌∷◌, ◌⊎◌, ◌≡◌}
 use Rattle.sim_clock.specs.declared.refusal.Refusal.{Refusal}
 use Rattle.sim_clock.specs.declared.refusal.Refusal.TheVariants as refusals
 use Rattle.sim_engine.specs.Engine.{Engine}
 use Rattle.sim_engine.specs.Laws.{Conditions}
-use Rattle.sim_workers.specs.Pieces.{Comes}
-use Rattle.sim_workers.specs.declared.piece.Came.{Came}
+use Rattle.sim_windows.specs.Rounds.{AllCome}
+use Rattle.sim_windows.specs.declared.lent.Came.{Came}
 
 -- of two refusals want of memory, and else the first
 abbrev pub graver : Refusal → Refusal → Refusal
@@ -29,21 +29,10 @@ module _ {C : Type 0} where
   gravest outcomes = gravest_from None outcomes
 
 module _ {Site Row Transfer : Type 0} (engine : Engine Site Row Transfer) (conditions : Conditions Site Transfer) where
-  -- what may come of partitions, each of which is run to its bound
-  abbrev pub AllCome : List ℕ
-      → List (Result (List Site) Refusal) → List (Result (Came Site Row Transfer) Refusal) → Type 0
-  AllCome [] [] [] = Unit {0}
-  AllCome (b ∷ bounds) (p ∷ parts) (o ∷ outcomes) = Comes engine conditions b p o × AllCome bounds parts outcomes
-  AllCome _ _ _ = ⊥
-
-  -- each of some partitions has come back, run to its bound
-  abbrev pub HaveCome : List ℕ → List (Result (List Site) Refusal) → List (Came Site Row Transfer) → Type 0
-  HaveCome bounds parts came = AllCome bounds parts (map (λ c. Ok c) came)
-
   -- what the outcomes of a round come to, where one of its partitions is refused
   pub record IsRefused (bounds : List ℕ) (parts : List (Result (List Site) Refusal)) (refusal : Refusal) : Type 0 where
     pub outcomes : List (Result (Came Site Row Transfer) Refusal)
-    pub come : AllCome bounds parts outcomes
+    pub come : AllCome engine conditions bounds parts outcomes
     pub graver : gravest outcomes ≡ Some refusal
 
   -- why a round is refused: want of memory before it, or what its outcomes come to

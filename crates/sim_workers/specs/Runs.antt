@@ -1,30 +1,20 @@
--- A machine whose partitions were out to run, and what a sink has taken of a run by then.
+-- What a sink has taken of a run, and what comes of the run.
 use Rattle.std.specs.Global.{Global}
 use Rattle.std.specs.List.{sum_by}
-use Rattle.std.specs.Prelude.{Bool, Err, List, Ok, Result, Vec, [], false, filter, get_or, length, true, ℕ, ◌<◌, ◌⊎◌, ◌≡◌, ◌≤◌}
+use Rattle.std.specs.Prelude.{Err, List, Ok, Result, Vec, [], filter, length, ℕ, ◌⊎◌, ◌≡◌}
 use Rattle.sim_clock.specs.declared.refusal.Refusal.{Refusal}
 use Rattle.sim_clock.specs.declared.refusal.Refusal.TheVariants as refusals
 use Rattle.sim_engine.specs.Engine.{Engine}
 use Rattle.sim_engine.specs.Laws.{Conditions}
-use Rattle.sim_engine.specs.Machine.{is_finished}
 use Rattle.sim_engine.specs.Prefixes.{is_before}
 use Rattle.sim_engine.specs.Setting.{IsRunOf, Setting}
 use Rattle.sim_engine.specs.World.{Run}
-use Rattle.sim_engine.specs.declared.picks.Pick.{Pick}
-use Rattle.sim_workers.specs.Paces.{word_of}
-use Rattle.sim_windows.specs.Stages.{Standing, Stands, StandsOn, machine_in}
 use Rattle.sim_windows.specs.Sinks.{HasStopped, HasTaken}
-use Rattle.sim_workers.specs.declared.piece.Came.{Came}
-
--- no partition is to run past its bound
-abbrev pub AreWithin : List ℕ → List ℕ → Type 0
-AreWithin ends bounds = (p : ℕ) → p < length bounds → get_or ends p 0 ≤ get_or bounds p 0
+use Rattle.sim_windows.specs.Stages.{Standing, StandsOn}
+use Rattle.sim_windows.specs.declared.lent.Came.{Came}
+use Rattle.sim_workers.specs.Paces.{word_of}
 
 module _ {Site Row Transfer : Type 0} where
-  -- how a machine stands with these partitions
-  abbrev pub with_parts : List (Result (List Site) Refusal) → Standing Site Row Transfer → Standing Site Row Transfer
-  with_parts parts g = record g { parts = parts }
-
   -- how many rows some partitions made, as far as a word counts
   abbrev pub rows_made : List (Came Site Row Transfer) → ℕ
   rows_made came = word_of (sum_by (λ one. length one.made.rows.items) came)
@@ -44,14 +34,25 @@ module _ {Site Row Transfer : Type 0} (engine : Engine Site Row Transfer) where
     RanOn s before (Ok sites) now = ready now × HasTaken engine took s before now sites.items
     RanOn s before (Err refusal) now = StopsAnyhow s before refusal now
 
-module _ {Site Row Transfer : Type 0} (engine : Engine Site Row Transfer) (conditions : Conditions Site Transfer) where
-  -- how a machine of a setting stands after some picks, where nothing is left by the horizon
-  pub record IsAtEnd (s : Setting Site) (g : Standing Site Row Transfer) : Type 0 where
-    pub picks : List Pick
-    pub stands : Stands engine conditions s picks g
-    pub finished : is_finished engine s.horizon (machine_in engine g.layout g.distances s picks) ≡ true
+module _ {Site Row Transfer : Type 0} (engine : Engine Site Row Transfer) (conditions : Conditions Site Transfer) {K : Type 0} where
+  -- where a sink had taken what is settled at the one, since it was so, it has taken what is settled at the other
+  abbrev pub HandsOn : (K → List Row → K → Type 0) → Standing Site Row Transfer → K → Standing Site Row Transfer → K → Type 0
+  HandsOn took g before h now =
+      (s : Setting Site) (first : K) → StandsOn engine conditions s g → HasTold engine took s g.settled first before
+      → HasTold engine took s h.settled first now
 
-  -- how a machine stands after a round or a barrier, or at its end
-  abbrev pub HasAdvanced : Setting Site → Bool → Standing Site Row Transfer → Type 0
-  HasAdvanced s true g = IsAtEnd s g
-  HasAdvanced s false g = StandsOn engine conditions s g
+  -- where a sink had taken what is settled there, the run stops so
+  abbrev pub StopsHanding : (K → List Row → K → Type 0)
+      → (K → List Row → Refusal → K → Type 0) → Standing Site Row Transfer → K → Refusal → K → Type 0
+  StopsHanding took broke g before refusal now =
+      (s : Setting Site) (first : K) → StandsOn engine conditions s g → HasTold engine took s g.settled first before
+      → HasStopped engine took broke s first refusal now
+
+  -- a sink takes what is settled at the other, of whatever setting the one stands on; and the run stops so
+  abbrev pub Told : (K → List Row → K → Type 0) → Standing Site Row Transfer → K → Standing Site Row Transfer → K → Type 0
+  Told took g before h now = (s : Setting Site) → StandsOn engine conditions s g → HasTold engine took s h.settled before now
+
+  abbrev pub Stopped : (K → List Row → K → Type 0)
+      → (K → List Row → Refusal → K → Type 0) → Standing Site Row Transfer → K → Refusal → K → Type 0
+  Stopped took broke g before refusal now =
+      (s : Setting Site) → StandsOn engine conditions s g → HasStopped engine took broke s before refusal now

@@ -7,7 +7,6 @@ mod gate;
 mod one_round;
 mod pace;
 mod piece;
-mod returning;
 mod rounds;
 mod run;
 mod scope;
@@ -15,7 +14,7 @@ mod worker;
 
 pub use gate::{Gate, Open};
 pub use one_round::round;
-pub use piece::{Came, Done, Packs, PartWork, Piece, Running};
+pub use piece::{Done, Packs, PartWork, Piece, Running};
 pub use run::run_workers;
 pub use scope::{join_all, start_all};
 pub use worker::collect_at;

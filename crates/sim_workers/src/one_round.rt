@@ -9,16 +9,17 @@ ghost use Rattle.sim_handoff.specs.Seats.{table_of, places_of, owner_table, owne
 ghost use Rattle.sim_partition.specs.Sites.{AreOfPast, due_in};
 ghost use Rattle.sim_workers.specs.Owners.{IsAllFree, IsResting, AreResting, IsSentOut, AreSentOut};
 ghost use Rattle.sim_workers.specs.Owners.{IsCollected, AreCollected};
-ghost use Rattle.sim_workers.specs.Pieces.{Comes};
-ghost use Rattle.sim_workers.specs.Rounds.{HaveCome, IsRefusedRound, gravest, gravest_of};
+ghost use Rattle.sim_windows.specs.Rounds.{Comes, HaveCome};
+ghost use Rattle.sim_workers.specs.Rounds.{IsRefusedRound, gravest, gravest_of};
 
 use crate::gate::Gate;
-use crate::piece::{Came, PartWork};
+use crate::piece::PartWork;
 use crate::worker::collect_at;
 use sim_clock::Refusal;
 use sim_engine::{Effects, Site};
 use sim_handoff::{Hand, Handoff, Owner};
 use sim_partition::Partition;
+use sim_windows::Came;
 use std::alloc::Global;
 use std::sync::Wait;
 

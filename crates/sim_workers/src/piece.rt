@@ -1,12 +1,14 @@
 //! What is handed to a worker, and what comes back.
 ghost use Rattle.std.specs.Prelude.{◌≡◌, ◌≤◌, ◌+◌, ℕ};
 ghost use Rattle.sim_engine.specs.Limits.{most_count};
-ghost use Rattle.sim_workers.specs.Pieces.{Comes, row_count};
+ghost use Rattle.sim_windows.specs.Rounds.{Comes};
+ghost use Rattle.sim_workers.specs.Pieces.{row_count};
 
 use sim_clock::Refusal;
-use sim_engine::{Effects, Site};
+use sim_engine::Site;
 use sim_handoff::Work;
 use sim_partition::Partition;
+use sim_windows::Came;
 use std::marker::{Model, PhantomData};
 
 /// A partition, and the bound to which it is to run, in milliseconds.
@@ -51,13 +53,6 @@ impl<S: Site> Piece<S> {
             },
         }
     }
-}
-
-/// A partition that ran, with what it did.
-#[derive(Drop)]
-pub struct Came<S: Site> {
-    pub part: Partition<S>,
-    pub made: Effects<S::Row, S::Transfer>,
 }
 
 /// What came of a piece: the partition with what it did, or the refusal that spent it.
@@ -114,7 +109,7 @@ where
     S::Row: Send,
     S::Transfer: Send,
 {
-    ghost use Rattle.sim_workers.specs.Pieces.{Comes};
+    ghost use Rattle.sim_windows.specs.Rounds.{Comes};
 
     type Piece = Piece<S>;
 

@@ -1,7 +1,7 @@
 //! A whole run: its threads, started once, and its rounds.
 ghost use Rattle.std.specs.Prelude.{◌≡◌, ◌≤◌, ◌<◌, All, Err, IfErr, IfOk, OnOk, length, vec_capacity, vec_len};
 ghost use Rattle.sim_handoff.specs.Seats.{owner_record, owner_table, places_of, table_of};
-ghost use Rattle.sim_windows.specs.Stages.{IsStanding, StandsOn, standing_of};
+ghost use Rattle.sim_windows.specs.Stages.{StandsOn};
 ghost use Rattle.sim_windows.specs.Sinks.{HasTaken};
 ghost use Rattle.sim_workers.specs.Runs.{RanOn, StopsAnyhow};
 ghost use Rattle.sim_workers.specs.Owners.{IsAllFree};
@@ -17,7 +17,7 @@ use sim_clock::Refusal;
 use sim_engine::Site;
 use sim_exchange::PartMap;
 use sim_handoff::{Handoff, Owner};
-use sim_windows::{RowSink, Stage, World, open_stage};
+use sim_windows::{RowSink, Stage, World};
 use std::alloc::Global;
 use std::sync::Wait;
 use std::thread;
@@ -45,16 +45,15 @@ fn run_in_scope<
     outcome: &'b mut Result<Vec<S>, Refusal>,
 ) -> (&'a mut K, &'b mut Result<Vec<S>, Refusal>)
     requires here { owner_table owner ≡ table_of handoff.now }
-    requires places { length stage.parts.items ≡ places_of handoff.now }
+    requires places { length stage.parts ≡ places_of handoff.now }
     requires free { IsAllFree (owner_record owner) }
-    requires stands { IsStanding S.engine S.conditions (standing_of stage) }
     requires fresh { stage.settled ≡ 0 }
     requires ready { K.ready sink.old }
     requires room { (vec_len handles ≡ 0) × (threads ≤ vec_capacity handles) }
     requires none { outcome.old ≡ Err Refusal.NoWorker }
     ensures same_sink { result.0.ghost_name ≡ sink.entry.ghost_name }
     ensures same_outcome { result.1.ghost_name ≡ outcome.entry.ghost_name }
-    ensures ran { (s : Setting S) → StandsOn S.engine S.conditions s (standing_of stage)
+    ensures ran { (s : Setting S) → StandsOn S.engine S.conditions s stage
         → RanOn S.engine K.ready K.took K.broke s sink.entry.now result.1.now result.0.now }
 {
     thread::scope(
@@ -62,16 +61,15 @@ fn run_in_scope<
         rt,
         move |scope| -> (&mut K, &mut Result<Vec<S>, Refusal>)
             requires here { owner_table owner ≡ table_of handoff.now }
-            requires places { length stage.parts.items ≡ places_of handoff.now }
+            requires places { length stage.parts ≡ places_of handoff.now }
             requires free { IsAllFree (owner_record owner) }
-            requires stands { IsStanding S.engine S.conditions (standing_of stage) }
             requires fresh { stage.settled ≡ 0 }
             requires ready { K.ready sink.now }
             requires room { (vec_len handles ≡ 0) × (threads ≤ vec_capacity handles) }
             requires none { outcome.now ≡ Err Refusal.NoWorker }
             ensures same_sink { result.0.ghost_name ≡ sink.entry.ghost_name }
             ensures same_outcome { result.1.ghost_name ≡ outcome.entry.ghost_name }
-            ensures ran { (s : Setting S) → StandsOn S.engine S.conditions s (standing_of stage)
+            ensures ran { (s : Setting S) → StandsOn S.engine S.conditions s stage
                 → RanOn S.engine K.ready K.took K.broke s sink.entry.now result.1.now result.0.now }
         {
             let mut hand = owner.hand(handoff);
@@ -104,13 +102,12 @@ fn run_threads<
     sink: &mut K,
 ) -> Result<Vec<S>, Refusal>
     requires here { owner_table owner ≡ table_of handoff.now }
-    requires places { length stage.parts.items ≡ places_of handoff.now }
+    requires places { length stage.parts ≡ places_of handoff.now }
     requires free { IsAllFree (owner_record owner) }
-    requires stands { IsStanding S.engine S.conditions (standing_of stage) }
     requires fresh { stage.settled ≡ 0 }
     requires ready { K.ready sink.old }
     requires room { (vec_len handles ≡ 0) × (threads ≤ vec_capacity handles) }
-    ensures { (s : Setting S) → StandsOn S.engine S.conditions s (standing_of stage)
+    ensures { (s : Setting S) → StandsOn S.engine S.conditions s stage
         → RanOn S.engine K.ready K.took K.broke s sink.old result sink.new }
 {
     let mut outcome = Err(Refusal::NoWorker);
@@ -164,8 +161,8 @@ where
     ensures whole { IfOk result (λ sites. HasTaken S.engine K.took world sink.old sink.new sites.items) }
     ensures stops { IfErr result (λ refusal. StopsAnyhow S.engine K.ready K.took K.broke world sink.old refusal sink.new) }
 {
-    let stage = open_stage(alloc, world, layout)?;
-    let (handoff, owner) = Handoff::make(alloc, stage.parts.len())?;
+    let stage = Stage::open(alloc, world, layout)?;
+    let (handoff, owner) = Handoff::make(alloc, stage.part_count())?;
     let threads = workers.saturating_sub(1);
     let handles = Vec::with_capacity(alloc, threads)?;
     run_threads(rt, &handoff, owner, gate, handles, threads, stage, sink)

@@ -112,8 +112,7 @@ pub fn open_machine(
     layout: PartMap,
     window: u64,
 ) -> Result<Machine<Site>, Refusal>
-    ensures opened { IfOk result (λ m. IsMachineOf sqs sqs_conditions (setting_of scenario) [] m) }
-    ensures layout { IfOk result (λ m. m.standing.layout ≡ layout) }
+    ensures opened { IfOk result (IsMachineOf sqs sqs_conditions layout (setting_of scenario) []) }
     ensures window { the_least_latency scenario < window → result ≡ Err (Refusal.WindowTooLong window (the_least_latency scenario)) }
     ensures memory { window ≤ the_least_latency scenario → IfErr result (λ refusal. refusal ≡ Refusal.Memory) }
 {

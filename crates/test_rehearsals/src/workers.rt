@@ -37,7 +37,7 @@ where
     S::Row: Send,
     S::Transfer: Send,
 {
-    ghost use Rattle.sim_workers.specs.Pieces.{Comes};
+    ghost use Rattle.sim_windows.specs.Rounds.{Comes};
 
     fn run<R: Wait>(&self, _rt: &R, _part: usize, piece: Piece<S>) -> Done<S>
         ensures { Comes S.engine S.conditions piece.bound piece.part result.outcome }

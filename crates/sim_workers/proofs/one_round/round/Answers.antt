@@ -1,6 +1,7 @@
 use Rattle.std.proofs.Common.{rules, ◌≡◌, ◌≤◌, length, arith, subst, ◌∙◌, inr, map, vec_capacity, Ok, Some}
 use Rattle.std.proofs.lemmas.Result.{IfOk-weaker, IfErr-weaker}
-use Rattle.sim_workers.specs.Rounds.{AllCome, HaveCome, IsRefusedRound, gravest}
+use Rattle.sim_windows.specs.Rounds.{AllCome, HaveCome}
+use Rattle.sim_workers.specs.Rounds.{IsRefusedRound, gravest}
 use Rattle.sim_handoff.specs.Seats.{owner_record}
 use Rattle.sim_workers.proofs.Sendings.{as_many_homes, as_many_outcomes, resting_of, round_of}
 use Rattle.sim_workers.proofs.one_round.round.Goals as goal

@@ -1,64 +1,43 @@
-use Rattle.std.specs.Prelude.{List, Vec, length, map, min, ℕ, ◌≡◌}
-use Rattle.std.proofs.Common.{Global, ap, arith, subst, ◌∙◌}
+use Rattle.std.specs.Prelude.{map, min, ◌≡◌}
+use Rattle.std.proofs.Common.{ap, subst, sym, ◌∙◌}
 use Rattle.std.proofs.lemmas.Result.{err_from_is_err_and}
-use Rattle.sim_clock.specs.declared.refusal.Refusal.{Refusal}
-use Rattle.sim_engine.specs.Laws.{SiteLaws}
-use Rattle.sim_workers.proofs.Back.{many_back}
-use Rattle.sim_workers.proofs.Ranges.{ends_within, short_ends}
+use Rattle.sim_windows.specs.Rounds.{AreWithin, HaveCome}
+use Rattle.sim_windows.specs.Stages.{GoesOn, IsStanding, Standing, with_parts}
+use Rattle.sim_windows.proofs.Ranges.{ends_within}
+use Rattle.sim_workers.specs.Rounds.{IsRefusedRound}
 use Rattle.sim_workers.proofs.Refused.{round_over}
-use Rattle.sim_workers.proofs.Returned.{rows_many}
-use Rattle.sim_windows.specs.Stages.{standing_of}
-use Rattle.sim_windows.proofs.Standing.{many_parts, many_rows}
-use Rattle.sim_workers.specs.Rounds.{HaveCome, IsRefusedRound}
 use Rattle.sim_workers.proofs.rounds.run_round.Goals as goal
-
--- the partitions that were taken out
-taken_out : {P : Type 0} (xs ys : Vec P Global) → xs ≡ ys → xs.items ≡ ys.items
-taken_out {P} xs ys e = ap (λ (v : Vec P Global). v.items) e
-
--- how far each is to run
-ends_are : (ends : Vec ℕ Global) (bounds taken : List ℕ) (cut : ℕ) → taken ≡ ends.items → ends.items ≡ map (λ b. min b cut) bounds → taken ≡ map (λ b. min b cut) bounds
-ends_are ends bounds taken cut e f = e ∙ f
-
-pub round-requires-clause-range : goal.round-requires-clause-range
-round-requires-clause-range g c _ _ =
-    let laws : SiteLaws g.S.Site.engine g.S.Site.conditions = g.met.S.Site.laws in
-    let r = c.requires.stands in
-    let h = standing_of c.args.stage.now in
-    short_ends laws r.setting r.picks h r.stands c.args.cut c.deref.result.now (ends_are c.in_ok-ends.ends h.bounds c.deref.result.now c.args.cut c.deref.ensures.value c.in_ok-ends.ensures)
 
 pub returns-in_err-came-clause-stops : goal.returns-in_err-came-clause-stops
 returns-in_err-came-clause-stops g c =
-    let laws : SiteLaws g.S.Site.engine g.S.Site.conditions = g.met.S.Site.laws in
-    λ s on.
-    let h = standing_of c.args.stage.now in
-    let refusal : Refusal = c.in_err-came.field-0.0 in
+    let lent = c.in_ok-lent.ensures in
     let ends = c.deref.result.now in
-    let parts = taken_out c.replace-parts.result c.args.stage.now.parts c.replace-parts.ensures.value in
-    let refused : IsRefusedRound g.S.Site.engine g.S.Site.conditions ends h.parts refusal = subst (λ ps. IsRefusedRound g.S.Site.engine g.S.Site.conditions ends ps refusal) parts c.in_err-came.ensures.refused in
+    let refusal = c.in_err-came.field-0.0 in
+    let are : ends ≡ map (λ bound. min bound c.args.cut) c.args.stage.bounds = c.deref.ensures.value ∙ lent.ends_are in
+    let refused : IsRefusedRound g.S.Site.engine g.S.Site.conditions ends c.args.stage.parts refusal = subst (λ ps. IsRefusedRound g.S.Site.engine g.S.Site.conditions ends ps refusal) lent.parts_are c.in_err-came.ensures.refused in
     let told = err_from_is_err_and c.from_residual-in_err-came.result c.from_residual-in_err-came.ensures.1 in
-    rw (told.1, told.2) (round_over laws s on.picks h on.stands ends refusal (ends_within c.args.cut ends h.bounds (ends_are c.in_ok-ends.ends h.bounds ends c.args.cut c.deref.ensures.value c.in_ok-ends.ensures)) refused)
+    rw (told.1, told.2) (λ s on. round_over g.met.S.Site.laws s on.picks c.args.stage on.stands ends refusal (ends_within c.args.cut ends c.args.stage.bounds are) refused)
 
-pub come_back-requires-clause-room : goal.come_back-requires-clause-room
-come_back-requires-clause-room g c =
-    let laws : SiteLaws g.S.Site.engine g.S.Site.conditions = g.met.S.Site.laws in
-    let r = c.requires.stands in
-    let h = standing_of c.args.stage.now in
-    let parts = taken_out c.replace-parts.result c.args.stage.now.parts c.replace-parts.ensures.value in
-    let rows = c.args.stage.now.rows.items in
-    omega (
-      arith,
-      many_back laws c.deref.result.now c.replace-parts.result.items c.in_ok-came.came.items c.in_ok-came.ensures.came,
-      ap (λ ps. length ps) parts,
-      many_parts laws r.setting r.picks h r.stands,
-      many_rows laws r.setting r.picks h r.stands,
-      rows_many rows,
-    )
+pub come_back-requires : goal.come_back-requires
+come_back-requires g c =
+    let lent = c.in_ok-lent.ensures in
+    let ends = c.deref.result.now in
+    let are : ends ≡ map (λ bound. min bound c.args.cut) c.args.stage.bounds = c.deref.ensures.value ∙ lent.ends_are in
+    record {
+      came = record {
+        parts = c.args.stage.parts;
+        ends = ends;
+        stands = subst (λ (x : Standing _ _ _). IsStanding g.S.Site.engine g.S.Site.conditions (with_parts c.args.stage.parts x)) (sym lent.lent_is) lent.stands;
+        within = subst (λ (x : Standing _ _ _). AreWithin ends x.bounds) (sym lent.lent_is) (ends_within c.args.cut ends c.args.stage.bounds are);
+        have = subst (λ ps. HaveCome g.S.Site.engine g.S.Site.conditions ends ps c.in_ok-came.came.items) lent.parts_are c.in_ok-came.ensures.came;
+      };
+    }
 
 pub returns-clause-on : goal.returns-clause-on
-returns-clause-on g c = λ s on.
-    let h = standing_of c.args.stage.now in
+returns-clause-on g c =
+    let lent = c.in_ok-lent.ensures in
     let ends = c.deref.result.now in
-    let parts = taken_out c.replace-parts.result c.args.stage.now.parts c.replace-parts.ensures.value in
-    let have : HaveCome g.S.Site.engine g.S.Site.conditions ends h.parts c.in_ok-came.came.items = subst (λ ps. HaveCome g.S.Site.engine g.S.Site.conditions ends ps c.in_ok-came.came.items) parts c.in_ok-came.ensures.came in
-    c.in_ok-come_back.ensures.back s h.parts ends on (ends_within c.args.cut ends h.bounds (ends_are c.in_ok-ends.ends h.bounds ends c.args.cut c.deref.ensures.value c.in_ok-ends.ensures)) have
+    let are : ends ≡ map (λ bound. min bound c.args.cut) c.args.stage.bounds = c.deref.ensures.value ∙ lent.ends_are in
+    subst (λ (x : Standing _ _ _). GoesOn g.S.Site.engine g.S.Site.conditions (with_parts c.args.stage.parts x) c.in_ok-come_back.field-0) lent.lent_is
+    (c.in_ok-come_back.ensures.back c.args.stage.parts ends (subst (λ (x : Standing _ _ _). AreWithin ends x.bounds) (sym lent.lent_is) (ends_within c.args.cut ends c.args.stage.bounds are))
+    (subst (λ ps. HaveCome g.S.Site.engine g.S.Site.conditions ends ps c.in_ok-came.came.items) lent.parts_are c.in_ok-came.ensures.came))

@@ -1,76 +1,72 @@
-use Rattle.std.specs.Prelude.{List, None, Option, get_or, length, ℕ, ◌++◌, ◌≡◌}
-use Rattle.std.proofs.Common.{ap, arith, subst, sym, ◌∙◌}
+use Rattle.std.specs.Prelude.{Err, List, Ok, Result, ℕ, ◌++◌, ◌≡◌}
+use Rattle.std.proofs.Common.{ap, refl, subst, sym, ◌∙◌}
 use Rattle.sim_clock.specs.declared.refusal.Refusal.{Refusal}
 use Rattle.sim_engine.specs.Bounds.{least_bound}
 use Rattle.sim_engine.specs.Engine.{Engine}
 use Rattle.sim_engine.specs.Laws.{Conditions, SiteLaws}
 use Rattle.sim_engine.specs.Setting.{Setting}
 use Rattle.sim_engine.specs.declared.picks.Pick.{Pick}
+use Rattle.sim_exchange.specs.Layout.{Layout}
 use Rattle.sim_windows.specs.Machines.{IsMachine, IsMachineOf, IsMachineUnless, Seen}
-use Rattle.sim_windows.specs.Stages.{AreSettled, Played, Standing, effects_in, standing_of}
-use Rattle.sim_windows.proofs.Standing.{least_then}
+use Rattle.sim_windows.specs.Stages.{Played, Plays, Standing, Stands, Tells, effects_in, end_in, machine_at}
+use Rattle.sim_windows.proofs.Reading.{end_is, same_state}
 use Rattle.sim_windows.proofs.machine.Machine.play.Goals as goal
 
-module _ {Site Row Transfer : Type 0} {engine : Engine Site Row Transfer} {conditions : Conditions Site Transfer} (basics : SiteLaws engine conditions) where
-  -- a machine that no refusal spent is one of some setting
-  lives : (spent : Option Refusal) (x : Seen Site Row Transfer) → spent ≡ None → IsMachineUnless engine conditions spent x → IsMachine engine conditions x
-  lives spent x e h = subst (λ (o : Option Refusal). IsMachineUnless engine conditions o x) e h
+-- no refusal is a standing
+never : {A : Type 0} {e : Refusal} {a : A} → (let x : Result A Refusal = Err e in x) ≡ Ok a → ⊥
+never h = cc
 
+module _ {Site Row Transfer : Type 0} {engine : Engine Site Row Transfer} {conditions : Conditions Site Transfer} (basics : SiteLaws engine conditions) where
   -- a machine after some picks more
   after :
-      (s : Setting Site) (done more : List Pick) (g h : Standing Site Row Transfer) (count end : ℕ) (bounds : List ℕ) (rows : List Row) (spent : Option Refusal)
-      → spent ≡ None → Played engine conditions g h s done more count → AreSettled engine s h.settled rows → bounds ≡ h.bounds
-      → end ≡ least_bound h.horizon (λ p. get_or bounds p 0) (length bounds) → IsMachineOf engine conditions s (done ++ more) (record { standing = h; rows = rows; end = end; spent = spent })
-  after s done more g h count end bounds rows spent e p told same least =
-      record { lives = e; stands = p.stands; settled = told; end = least_then basics s (done ++ more) h p.stands end bounds same least }
+      (layout : Layout) (s : Setting Site) (done more : List Pick) (x : Seen Site Row Transfer) (was : IsMachineOf engine conditions layout s done x) (g h : Standing Site Row Transfer) (count end : ℕ) (rows : List Row)
+      → x.state ≡ Ok g → Plays engine conditions g h more count → Tells engine conditions g x.rows h rows → end ≡ end_in h
+      → IsMachineOf engine conditions layout s (done ++ more) (record { state = Ok h; rows = rows; end = end }) × (count ≡ effects_in engine was.standing s done more)
+  after layout s done more x was g h count end rows state plays tells ends =
+      let same : g ≡ was.standing = same_state g was.standing (sym state ∙ was.lives) in
+      let p : Played engine conditions was.standing h s done more count = subst (λ (y : Standing Site Row Transfer). Plays engine conditions y h more count) same plays s done was.stands in
+      let split : h.layout ≡ layout = p.same.layout ∙ was.split in (
+        record {
+          standing = h;
+          lives = refl;
+          split = split;
+          stands = p.stands;
+          settled = subst (λ (y : Standing Site Row Transfer). Tells engine conditions y x.rows h rows) same tells s (record { picks = done; stands = was.stands }) was.settled;
+          end = ends ∙ end_is basics s (done ++ more) h p.stands ∙ ap (λ (l : Layout). least_bound s.horizon (machine_at engine h s (done ++ more)).bounds l.parts) split;
+        },
+        p.effects,
+      )
 
-pub least_of-self-inside-requires : goal.least_of-self-inside-requires
-least_of-self-inside-requires given c =
+pub invariant_of-self-in-Ok : goal.invariant_of-self-in-Ok
+invariant_of-self-in-Ok g c =
+    let e = g.S.Site.engine in
+    let cs = g.S.Site.conditions in
     let inside = c.self.inside in
-    let is : IsMachine given.S.Site.engine given.S.Site.conditions (record { standing = standing_of inside.stage; rows = inside.rows.items; end = inside.end; spent = inside.spent }) =
-    lives given.met.S.Site.laws inside.spent (record { standing = standing_of inside.stage; rows = inside.rows.items; end = inside.end; spent = inside.spent }) c.in_default.is c.self.invariant in
-    let played = c.in-Ok.ensures.played is.setting is.picks is.is.stands in
-    omega (arith, played.stands.range)
-
-pub invariant_of-self : goal.invariant_of-self
-invariant_of-self given c =
-    let engine = given.S.Site.engine in
-    let conditions = given.S.Site.conditions in
-    let laws = given.met.S.Site.laws in
-    let inside = c.self.inside in
-    let is : IsMachine engine conditions (record { standing = standing_of inside.stage; rows = inside.rows.items; end = inside.end; spent = inside.spent }) =
-    lives laws inside.spent (record { standing = standing_of inside.stage; rows = inside.rows.items; end = inside.end; spent = inside.spent }) c.in_default.is c.self.invariant in
-    let played = c.in-Ok.ensures.played is.setting is.picks is.is.stands in
-    let told = c.in-Ok.ensures.settled is.setting is.picks is.is.stands is.is.settled in
-    let x : Seen _ _ _ = record { standing = standing_of c.play.new.self; rows = c.play.new.told.items; end = c.least_of-self-inside.result; spent = inside.spent } in
-    let made : IsMachine engine conditions x = record {
+    let x : Seen _ _ _ = record { state = inside.state; rows = inside.rows.items; end = inside.end } in
+    let state : inside.state ≡ Ok c.in_ok-state.field-0 = sym c.in_ok-state.ensures.value in
+    let is : IsMachine e cs x = subst (λ (o : Result (Standing _ _ _) Refusal). IsMachineUnless e cs o x) state c.self.invariant in
+    record {
+      layout = is.layout;
       setting = is.setting;
       picks = is.picks ++ c.args.picks.now;
-      is = after laws is.setting is.picks c.args.picks.now (standing_of inside.stage) (standing_of c.play.new.self) c.in-Ok.count c.least_of-self-inside.result c.deref.result.now c.play.new.told.items inside.spent c.in_default.is played told c.deref.ensures.value c.least_of-self-inside.ensures;
-    } in
-    subst (λ (o : Option Refusal). IsMachineUnless engine conditions o x) (sym c.in_default.is) made
+      is = (after g.met.S.Site.laws is.layout is.setting is.picks c.args.picks.now x is.is c.in_ok-state.field-0 c.in-Ok.stage c.in-Ok.count c.window_end-self-inside.result c.play.new.told.items state c.in-Ok.ensures.played c.in-Ok.ensures.tells c.window_end-self-inside.ensures).0;
+    }
 
 pub returns-in-Ok-clause-played : goal.returns-in-Ok-clause-played
-returns-in-Ok-clause-played given c =
-    let engine = given.S.Site.engine in
-    let conditions = given.S.Site.conditions in
-    let laws = given.met.S.Site.laws in
-    λ s done h.
-    let inside = c.self.inside in
-    let here : IsMachineOf engine conditions s done (record { standing = standing_of inside.stage; rows = inside.rows.items; end = inside.end; spent = inside.spent }) =
-    subst (IsMachineOf engine conditions s done) (sym c.self.view_is) h in
-    let played = c.in-Ok.ensures.played s done here.stands in
-    let told = c.in-Ok.ensures.settled s done here.stands here.settled in (
-      after laws s done c.args.picks.now (standing_of inside.stage) (standing_of c.play.new.self) c.in-Ok.count c.least_of-self-inside.result c.deref.result.now c.play.new.told.items inside.spent c.in_default.is played told c.deref.ensures.value c.least_of-self-inside.ensures,
-      played.effects ∙ ap (λ (x : Seen _ _ _). effects_in engine x.standing s done c.args.picks.now) c.self.view_is,
-    )
+returns-in-Ok-clause-played g c = λ layout s done was.
+    let e = g.S.Site.engine in
+    let cs = g.S.Site.conditions in
+    let x : Seen _ _ _ = c.args.self.now in
+    let state : x.state ≡ Ok c.in_ok-state.field-0 = sym (ap (λ (y : Seen _ _ _). y.state) c.self.view_is) ∙ sym c.in_ok-state.ensures.value in
+    let tells : Tells e cs c.in_ok-state.field-0 x.rows c.in-Ok.stage c.play.new.told.items =
+    subst (λ rows. Tells e cs c.in_ok-state.field-0 rows c.in-Ok.stage c.play.new.told.items) (ap (λ (y : Seen _ _ _). y.rows) c.self.view_is) c.in-Ok.ensures.tells in
+    after g.met.S.Site.laws layout s done c.args.picks.now x was c.in_ok-state.field-0 c.in-Ok.stage c.in-Ok.count c.window_end-self-inside.result c.play.new.told.items state c.in-Ok.ensures.played tells c.window_end-self-inside.ensures
+
+pub returns-in-Err-play-clause-stops : goal.returns-in-Err-play-clause-stops
+returns-in-Err-play-clause-stops g c = λ layout s done was.
+    let stage : Standing _ _ _ = c.in_ok-state.field-0 in
+    let same : stage ≡ was.standing = same_state stage was.standing (sym (sym (ap (λ (y : Seen _ _ _). y.state) c.self.view_is) ∙ sym c.in_ok-state.ensures.value) ∙ was.lives) in
+    c.in-Err-play.ensures.stops s (record { picks = done; stands = subst (Stands g.S.Site.engine g.S.Site.conditions s done) (sym same) was.stands })
 
 pub returns-in-Err-clause-stops : goal.returns-in-Err-clause-stops
-returns-in-Err-clause-stops given c =
-    let engine = given.S.Site.engine in
-    let conditions = given.S.Site.conditions in
-    λ s done h.
-    let inside = c.self.inside in
-    let here : IsMachineOf engine conditions s done (record { standing = standing_of inside.stage; rows = inside.rows.items; end = inside.end; spent = inside.spent }) =
-    subst (IsMachineOf engine conditions s done) (sym c.self.view_is) h in
-    c.in-Err.ensures.stops s done here.stands
+returns-in-Err-clause-stops g c = λ layout s done was. absurd (never (sym c.in-Err.is ∙ ap (λ (y : Seen _ _ _). y.state) c.self.view_is ∙ was.lives))

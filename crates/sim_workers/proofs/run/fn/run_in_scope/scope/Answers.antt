@@ -1,4 +1,5 @@
 use Rattle.std.proofs.Common.{refl, subst, sym, ◌∙◌}
+use Rattle.std.proofs.lemmas.Result.{IfErr-weaker}
 use Rattle.sim_workers.specs.Runs.{RanOn}
 use Rattle.sim_engine.specs.Laws.{SiteLaws}
 use Rattle.sim_workers.proofs.Ran.{ran_not, ran_so}
@@ -14,7 +15,7 @@ returns g c =
       ran = λ s on.
           elim c.if-ready.branch [
             | then-ready w ↦
-                let ran = ran_so laws g.K.RowSink.ready g.K.RowSink.took g.K.RowSink.broke s c.captures.sink.now w.run_stage.result w.run_stage.new.sink w.run_stage.ensures.ready (w.run_stage.ensures.whole s on) (w.run_stage.ensures.stops s on) in
+                let ran = ran_so laws g.K.RowSink.ready g.K.RowSink.took g.K.RowSink.broke s c.captures.sink.now w.run_stage.result w.run_stage.new.sink w.run_stage.ensures.ready (w.run_stage.ensures.whole s on) (IfErr-weaker w.run_stage.result _ _ (λ refusal stopped. stopped s on) w.run_stage.ensures.stops) in
                 subst (λ o. RanOn g.S.Site.engine g.K.RowSink.ready g.K.RowSink.took g.K.RowSink.broke s c.captures.sink.now o c.if-ready.sink) (sym w.outcome-is)
                 (subst (λ k. RanOn g.S.Site.engine g.K.RowSink.ready g.K.RowSink.took g.K.RowSink.broke s c.captures.sink.now w.run_stage.result k) (sym w.sink-is) ran)
             | else-ready w ↦

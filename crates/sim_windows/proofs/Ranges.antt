@@ -4,13 +4,11 @@ use Rattle.std.specs.Prelude.{All, List, [], get_or, map, min, suc, zero, ℕ, �
 use Rattle.std.proofs.Common.{ap, arith, subst, sym, ◌∙◌}
 use Rattle.std.proofs.lemmas.List.Elements.{All-cons, All-head, All-nil, All-tail}
 use Rattle.std.proofs.lemmas.List.{get_or-map}
-use Rattle.sim_exchange.specs.Layout.{owner_of}
-use Rattle.sim_exchange.specs.Table.{distance_in}
 use Rattle.sim_engine.specs.Machine.{Machine}
 use Rattle.sim_engine.specs.declared.picks.Pick.{Pick}
-use Rattle.sim_workers.specs.Runs.{AreWithin}
+use Rattle.sim_windows.specs.Rounds.{AreWithin}
 use Rattle.sim_windows.specs.Stages.{Standing, Stands, machine_in}
-use Rattle.sim_windows.proofs.Standing.{below}
+use Rattle.sim_windows.proofs.Standing.{keeps}
 use Rattle.sim_engine.specs.Limits.{most_count}
 use Rattle.sim_engine.specs.Setting.{Setting}
 use Rattle.sim_engine.specs.Engine.{Engine}
@@ -37,7 +35,7 @@ module _ {Site Row Transfer : Type 0} {engine : Engine Site Row Transfer} {condi
       let m : Machine engine = machine_in engine g.layout g.distances s done in
       subst (All (λ b. b ≤ most_count + 1)) (sym st.shows.bounds)
       (all_range (λ b. b ≤ most_count + 1) m.bounds 0 g.layout.parts
-      (λ p. let capped : m.bounds p ≤ s.horizon + 1 = (st.sound.kept (owner_of g.layout) g.layout.parts (below basics s done g st) (distance_in g.distances) st.distances done).capped p in omega (arith, st.range, st.horizon)))
+      (λ p. let capped : m.bounds p ≤ s.horizon + 1 = (keeps basics s done g st).capped p in omega (arith, st.range, st.horizon)))
 
   -- nor is the end of a round that is cut
   pub short_ends : (s : Setting Site) (done : List Pick) (g : Standing Site Row Transfer) → Stands engine conditions s done g → (cut : ℕ) (ends : List ℕ) → ends ≡ map (λ b. min b cut) g.bounds → All (λ b. b ≤ most_count + 1) ends

@@ -3,9 +3,8 @@ use Rattle.std.specs.Prelude.{Err, List, Ok, Result, [], drop, get_or, length, s
 use Rattle.std.proofs.Common.{ap, arith, append_assoc, length-append, refl, sym, ◌∙◌}
 use Rattle.std.proofs.lemmas.List.{drop_more, get_or_at, set_at}
 use Rattle.sim_clock.specs.declared.refusal.Refusal.{Refusal}
-use Rattle.sim_workers.specs.Pieces.{CameBack, Comes}
-use Rattle.sim_workers.specs.Rounds.{HaveCome}
-use Rattle.sim_workers.specs.declared.piece.Came.{Came}
+use Rattle.sim_windows.specs.Rounds.{CameBack, Comes, HaveCome}
+use Rattle.sim_windows.specs.declared.lent.Came.{Came}
 use Rattle.sim_engine.specs.Engine.{Engine}
 use Rattle.sim_engine.specs.Laws.{Conditions, SiteLaws}
 

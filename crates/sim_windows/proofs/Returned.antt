@@ -8,12 +8,11 @@ use Rattle.sim_engine.specs.Laws.{Conditions, SiteLaws}
 use Rattle.sim_engine.specs.Rounds.{PartRun}
 use Rattle.sim_engine.specs.Setting.{Setting}
 use Rattle.sim_partition.specs.Steps.{part_made}
-use Rattle.sim_workers.specs.Runs.{with_parts}
-use Rattle.sim_workers.proofs.Back.{Next, next_part, next_set}
-use Rattle.sim_windows.specs.Stages.{Standing, StandsOn}
+use Rattle.sim_windows.proofs.Back.{Next, next_part, next_set}
+use Rattle.sim_windows.specs.Stages.{Standing, StandsOn, with_parts}
 use Rattle.sim_windows.proofs.Rounds.{RunsOn, ran_by, runs_on}
 use Rattle.sim_windows.proofs.Standing.{many_bounds, many_parts, many_rows}
-use Rattle.sim_workers.specs.declared.piece.Came.{Came}
+use Rattle.sim_windows.specs.declared.lent.Came.{Came}
 
 -- as many lists as there are
 pub rows_many : {R : Type 0} (rows : List (Vec R Global)) → length (map (λ (v : Vec R Global). v.items) rows) ≡ length rows

@@ -1,0 +1,98 @@
+use Rattle.std.specs.List.{range_with_len}
+use Rattle.std.specs.Prelude.{List, None, Ok, Result, Vec, [], get_or, length, map, ℕ, ◌≡◌, ◌≤◌}
+use Rattle.std.proofs.Common.{Global, ap, arith, subst, sym, ◌∙◌}
+use Rattle.std.proofs.lemmas.List.{length-map}
+use Rattle.std.proofs.lemmas.List.FromFn.{length-map-range_with_len}
+use Rattle.sim_clock.specs.declared.refusal.Refusal.{Refusal}
+use Rattle.sim_engine.specs.Bounds.{AreDistances, bound_by, moment_of}
+use Rattle.sim_engine.specs.Engine.{Engine}
+use Rattle.sim_engine.specs.Laws.{Conditions, SiteLaws}
+use Rattle.sim_engine.specs.Limits.{most_count}
+use Rattle.sim_engine.specs.Parts.{part_of}
+use Rattle.sim_engine.specs.Setting.{IsNumbered, Setting}
+use Rattle.sim_engine.specs.Simulated.{IsSimulated}
+use Rattle.sim_exchange.specs.Layout.{IsLayout, Layout, owner_of}
+use Rattle.sim_exchange.specs.Table.{Table, distance_in}
+use Rattle.sim_partition.specs.Sites.{IsPart, due_in}
+use Rattle.sim_windows.specs.Meeting.{due_moments}
+use Rattle.sim_windows.specs.Stages.{Standing, Stands, bounds_by, opened}
+use Rattle.sim_windows.proofs.Beginning.{opens}
+use Rattle.sim_windows.proofs.Divided.{made_of, of_lists, opens_part}
+use Rattle.sim_windows.proofs.stage.Stage.open.Goals as goal
+
+pub open_parts-requires : goal.open_parts-requires
+open_parts-requires g c =
+    let engine = g.S.Site.engine in
+    let inside = c.world.inside in
+    let s : Setting _ = record { horizon = inside.horizon; opening = inside.sites.items; edges = inside.edges.items } in
+    let sound : IsSimulated engine g.S.Site.conditions s = subst (IsSimulated engine g.S.Site.conditions) (sym c.world.view_is) c.requires.simulated in
+    let owner = owner_of c.args.layout in
+    of_lists (IsPart engine g.S.Site.conditions) c.in_ok-lists.lists.items (λ p. part_of engine owner p inside.sites.items) c.args.layout.parts (c.in_ok-lists.ensures sound.numbered) (λ p. opens_part g.met.S.Site.laws s sound owner p)
+
+pub bounds_of-requires-clause-dues : goal.bounds_of-requires-clause-dues
+bounds_of-requires-clause-dues g c =
+    let engine = g.S.Site.engine in
+    let inside = c.world.inside in
+    let s : Setting _ = record { horizon = inside.horizon; opening = inside.sites.items; edges = inside.edges.items } in
+    let sound : IsSimulated engine g.S.Site.conditions s = subst (IsSimulated engine g.S.Site.conditions) (sym c.world.view_is) c.requires.simulated in
+    let part : ℕ → List _ = λ p. part_of engine (owner_of c.args.layout) p inside.sites.items in
+    let parts = made_of part c.args.layout.parts c.in_ok-lists.lists.items c.in_ok-parts.parts.items (c.in_ok-lists.ensures sound.numbered) c.in_ok-parts.ensures in
+    ap (λ xs. length xs) c.deref-3.ensures.value ∙ ap (λ xs. length xs) c.in_ok-dues.ensures ∙ length-map c.deref-2.result.now (λ (p : Result (List _) Refusal). moment_of (due_in engine p))
+    ∙ ap (λ xs. length xs) c.deref-2.ensures.value ∙ ap (λ xs. length xs) parts
+    ∙ length-map-range_with_len (λ p. let x : Result (List _) Refusal = Ok (part p) in x) 0 c.args.layout.parts ∙ sym c.in_ok-distances.ensures.parts
+
+module _ {Site Row Transfer : Type 0} {engine : Engine Site Row Transfer} {conditions : Conditions Site Transfer} (basics : SiteLaws engine conditions) where
+  -- what was made is a stage at which nothing was done
+  opens_so :
+      (s world : Setting Site) → s ≡ world → IsSimulated engine conditions world → world.horizon ≤ most_count → (layout : Layout) → IsLayout layout → (table : Table) → table.parts ≡ layout.parts → AreDistances (owner_of layout) s.edges (distance_in table)
+      → (lists : List (Vec Site Global)) (parts : List (Result (List Site) Refusal)) → (IsNumbered engine 0 s.opening → map (λ l. l.items) lists ≡ map (λ p. part_of engine (owner_of layout) p s.opening) (range_with_len 0 layout.parts)) → parts ≡ map (λ l. Ok l.items) lists
+      → (h : Standing Site Row Transfer) → h ≡ opened engine layout table s.horizon parts → Stands engine conditions world [] h
+  opens_so s world is simulated short layout ok table many distances lists parts split parted h opens_as =
+      let sound : IsSimulated engine conditions s = subst (IsSimulated engine conditions) (sym is) simulated in
+      let range : s.horizon ≤ most_count = subst (λ (x : Setting Site). x.horizon ≤ most_count) (sym is) short in
+      let all = made_of (λ p. part_of engine (owner_of layout) p s.opening) layout.parts lists parts (split sound.numbered) parted in
+      subst (λ (x : Setting Site). Stands engine conditions x [] h) is (subst (Stands engine conditions s []) (sym opens_as) (opens basics s sound layout ok table many distances range parts all))
+
+pub invariant_of-result : goal.invariant_of-result
+invariant_of-result g c =
+    let engine = g.S.Site.engine in
+    let inside = c.world.inside in
+    let s : Setting _ = record { horizon = inside.horizon; opening = inside.sites.items; edges = inside.edges.items } in
+    let table = c.in_ok-distances.distances in
+    let parts = c.in_ok-parts.parts.items in
+    let layout = c.args.layout in
+    let none : ℕ → List _ = λ p. [] in
+    let rows : map (λ l. l.items) c.in_ok-rows.rows.items ≡ map none (range_with_len 0 (length parts)) =
+    c.in_ok-rows.ensures ∙ ap (λ n. map none (range_with_len 0 n)) (let many : c.len-2.result ≡ length parts = omega (arith, c.len-2.ensures, c.in_ok-parts.parts.ok.0) in many) in
+    let bounds : c.in_ok-bounds.bounds.items ≡ bounds_by engine table s.horizon parts =
+    c.in_ok-bounds.ensures
+    ∙ ap (λ dues. map (λ p. bound_by (distance_in table) s.horizon (λ q. get_or dues q None) p table.parts) (range_with_len 0 table.parts)) (c.deref-3.ensures.value ∙ c.in_ok-dues.ensures ∙ ap (due_moments engine) c.deref-2.ensures.value) in
+    let h : Standing _ _ _ = record { layout = layout; distances = table; horizon = s.horizon; parts = parts; bounds = c.in_ok-bounds.bounds.items; rows = map (λ l. l.items) c.in_ok-rows.rows.items; waiting = c.new-2.result.items; settled = 0 } in
+    let is : h ≡ opened engine layout table s.horizon parts = λ i. record { layout = layout; distances = table; horizon = s.horizon; parts = parts; bounds = bounds i; rows = rows i; waiting = c.new-2.ensures.items i; settled = 0 } in
+    let ok : IsLayout layout = subst IsLayout c.layout.view_is c.layout.invariant in
+    let distances : AreDistances (owner_of layout) inside.edges.items (distance_in table) = subst (λ ways. AreDistances (owner_of layout) ways (distance_in table)) c.deref.ensures.value c.in_ok-distances.ensures.distances in
+    record {
+      setting = c.args.world;
+      picks = [];
+      stands = opens_so g.met.S.Site.laws s c.args.world c.world.view_is c.requires.simulated c.requires.horizon layout ok table c.in_ok-distances.ensures.parts distances c.in_ok-lists.lists.items parts c.in_ok-lists.ensures c.in_ok-parts.ensures h is;
+    }
+
+pub returns-clause-stands : goal.returns-clause-stands
+returns-clause-stands g c =
+    let engine = g.S.Site.engine in
+    let inside = c.world.inside in
+    let s : Setting _ = record { horizon = inside.horizon; opening = inside.sites.items; edges = inside.edges.items } in
+    let table = c.in_ok-distances.distances in
+    let parts = c.in_ok-parts.parts.items in
+    let layout = c.args.layout in
+    let none : ℕ → List _ = λ p. [] in
+    let rows : map (λ l. l.items) c.in_ok-rows.rows.items ≡ map none (range_with_len 0 (length parts)) =
+    c.in_ok-rows.ensures ∙ ap (λ n. map none (range_with_len 0 n)) (let many : c.len-2.result ≡ length parts = omega (arith, c.len-2.ensures, c.in_ok-parts.parts.ok.0) in many) in
+    let bounds : c.in_ok-bounds.bounds.items ≡ bounds_by engine table s.horizon parts =
+    c.in_ok-bounds.ensures
+    ∙ ap (λ dues. map (λ p. bound_by (distance_in table) s.horizon (λ q. get_or dues q None) p table.parts) (range_with_len 0 table.parts)) (c.deref-3.ensures.value ∙ c.in_ok-dues.ensures ∙ ap (due_moments engine) c.deref-2.ensures.value) in
+    let h : Standing _ _ _ = record { layout = layout; distances = table; horizon = s.horizon; parts = parts; bounds = c.in_ok-bounds.bounds.items; rows = map (λ l. l.items) c.in_ok-rows.rows.items; waiting = c.new-2.result.items; settled = 0 } in
+    let is : h ≡ opened engine layout table s.horizon parts = λ i. record { layout = layout; distances = table; horizon = s.horizon; parts = parts; bounds = bounds i; rows = rows i; waiting = c.new-2.ensures.items i; settled = 0 } in
+    let ok : IsLayout layout = subst IsLayout c.layout.view_is c.layout.invariant in
+    let distances : AreDistances (owner_of layout) inside.edges.items (distance_in table) = subst (λ ways. AreDistances (owner_of layout) ways (distance_in table)) c.deref.ensures.value c.in_ok-distances.ensures.distances in
+    opens_so g.met.S.Site.laws s c.args.world c.world.view_is c.requires.simulated c.requires.horizon layout ok table c.in_ok-distances.ensures.parts distances c.in_ok-lists.lists.items parts c.in_ok-lists.ensures c.in_ok-parts.ensures h is

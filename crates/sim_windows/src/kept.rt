@@ -1,0 +1,83 @@
+//! What a stage keeps beside its partitions, and what is done to both at once.
+ghost use Rattle.std.specs.Prelude.{◌≡◌, ◌+◌, ◌<◌, ◌^◌, IfErr, IfOk, List, Ok, OnOk, Result, filter, length, map};
+ghost use Rattle.sim_clock.specs.declared.refusal.Refusal.{Refusal as TheRefusal};
+ghost use Rattle.sim_engine.specs.Exchange.{exchanged};
+ghost use Rattle.sim_engine.specs.Merge.{merged_all, row_cmp};
+ghost use Rattle.sim_engine.specs.Prefixes.{is_before as is_row_before};
+ghost use Rattle.sim_exchange.specs.Layout.{owner_of};
+ghost use Rattle.sim_windows.specs.Meeting.{AreReached};
+ghost use Rattle.sim_windows.specs.Stages.{bounded_by, bounds_by, delivered_by, settled_by, standing_of};
+
+use crate::meeting::{bounds_of, deliver_each, dues_of};
+use crate::settling::settle;
+use sim_clock::Refusal;
+use sim_engine::Site;
+use sim_exchange::{Distances, PartMap, exchange};
+use sim_partition::Partition;
+use std::alloc::{AllocError, Global};
+use std::mem;
+
+/// Whose sites are whose, the distances between partitions and the last moment of the run; the bound of
+/// each partition, the rows that each made and that are not settled yet, and the transfers that wait for
+/// a barrier; and the moment up to which all is settled.
+#[derive(Drop)]
+pub struct Kept<S: Site> {
+    pub alloc: Global,
+    pub layout: PartMap,
+    pub distances: Distances,
+    pub horizon: u64,
+    pub bounds: Vec<u64>,
+    pub rows: Vec<Vec<S::Row>>,
+    pub waiting: Vec<S::Transfer>,
+    pub settled: u64,
+}
+
+impl<S: Site> Kept<S> {
+    /// Each partition gets what waits for it.
+    pub fn deliver(&mut self, parts: &mut Vec<Partition<S>>) -> Result<(), Refusal>
+        requires reached { AreReached S.engine S.conditions parts.old.items
+            (exchanged S.engine (owner_of self.old.layout) self.old.layout.parts self.old.waiting.items) }
+        ensures delivered { (ws : List (List S)) → parts.old.items ≡ map (λ w. Ok w) ws →
+            OnOk result (
+            standing_of self.new parts.new.items ≡ delivered_by S.engine (standing_of self.old parts.old.items) ws) }
+        ensures memory { (ws : List (List S)) → parts.old.items ≡ map (λ w. Ok w) ws →
+            IfErr result (λ refusal. refusal ≡ Refusal.Memory) }
+    {
+        let waiting = mem::replace(&mut self.waiting, Vec::new(self.alloc));
+        let mut sent = Vec::new(self.alloc);
+        sent.push(waiting)?;
+        let lists = exchange::<S>(self.alloc, sent, &self.layout)?;
+        deliver_each(parts, lists)
+    }
+
+    /// The rows from before a moment are settled. Answers them, in the order of keys.
+    pub fn settle_before(&mut self, moment: u64) -> Result<Vec<S::Row>, AllocError>
+        ensures settled { (parts : List (Result (List S) TheRefusal)) →
+            IfOk result (λ _. standing_of self.new parts ≡ settled_by S.engine (standing_of self.old parts) moment) }
+        ensures rows { IfOk result (λ rows.
+            rows.items
+            ≡ merged_all (row_cmp S.engine)
+            (map (filter (is_row_before S.engine moment)) (map (λ l. l.items) self.old.rows.items))) }
+    {
+        let rows = mem::replace(&mut self.rows, Vec::new(self.alloc));
+        let settled = settle::<S>(self.alloc, rows, moment)?;
+        self.rows = settled.kept;
+        self.settled = moment;
+        Ok(settled.rows)
+    }
+
+    /// The bounds are set anew, by what is due in the partitions.
+    pub fn set_bounds(&mut self, parts: &[Partition<S>]) -> Result<(), AllocError>
+        requires parts { length parts.now ≡ self.old.distances.parts }
+        requires range { self.old.distances.parts < 2 ^ 32 }
+        requires horizon { self.old.horizon + 1 < 2 ^ 64 }
+        ensures { OnOk result (
+            standing_of self.new parts.now
+            ≡ bounded_by (standing_of self.old parts.now)
+            (bounds_by S.engine self.old.distances self.old.horizon parts.now)) }
+    {
+        let dues = dues_of(self.alloc, parts)?;
+        self.bounds = bounds_of(self.alloc, &self.distances, &dues, self.horizon)?;
+        Ok(())
+    }
+}

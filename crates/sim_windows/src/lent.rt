@@ -1,0 +1,77 @@
+//! Partitions that are lent by their stage, and come back.
+ghost use Rattle.std.specs.Prelude.{◌≡◌, ◌++◌, [], IfOk, List, OnOk, Result, ℕ};
+ghost use Rattle.sim_clock.specs.declared.refusal.Refusal.{Refusal as TheRefusal};
+ghost use Rattle.sim_windows.specs.Rounds.{AreWithin, CanComeBack, HaveCome};
+ghost use Rattle.sim_windows.specs.Stages.{GoesOn, standing_of, with_parts};
+
+use crate::kept::Kept;
+use crate::stage::{Stage, stage_of};
+use sim_engine::{Effects, Site};
+use sim_partition::Partition;
+use std::alloc::AllocError;
+use std::marker::Model;
+
+/// A partition that ran, with what it did.
+#[derive(Drop)]
+pub struct Came<S: Site> {
+    pub part: Partition<S>,
+    pub made: Effects<S::Row, S::Transfer>,
+}
+
+/// A stage whose partitions are lent.
+#[derive(Drop)]
+pub struct Lent<S: Site> {
+    kept: Kept<S>,
+}
+
+impl<S: Site> Model for Lent<S> {
+    ghost use Rattle.std.specs.Prelude.{[]};
+    ghost use Rattle.sim_windows.specs.Stages.{Standing, standing_of};
+
+    ghost Value = { Standing S S.Row S.Transfer };
+
+    ghost view = { λ l. standing_of l.kept [] };
+}
+
+// Adds rows to a list. A list with nothing in it takes their own.
+fn add_rows<R: Drop>(rows: &mut Vec<R>, mut more: Vec<R>) -> Result<(), AllocError>
+    ensures { OnOk result (rows.new.items ≡ rows.old.items ++ more.items) }
+{
+    if rows.is_empty() {
+        *rows = more;
+        return Ok(());
+    }
+    rows.append(&mut more)?;
+    Ok(())
+}
+
+impl<S: Site> Lent<S> {
+    /// A stage without its partitions.
+    pub fn new(kept: Kept<S>) -> Lent<S>
+        ensures { result ≡ standing_of kept [] }
+    {
+        Lent { kept }
+    }
+
+    /// Takes the partitions back, each run to an end that is not past its bound, with what they did. The
+    /// error is want of memory.
+    pub fn come_back(self, came: Vec<Came<S>>) -> Result<Stage<S>, AllocError>
+        requires came { CanComeBack S.engine S.conditions self came.items }
+        ensures back { (parts : List (Result (List S) TheRefusal)) (ends : List ℕ) →
+            AreWithin ends self.bounds → HaveCome S.engine S.conditions ends parts came.items →
+            IfOk result (GoesOn S.engine S.conditions (with_parts parts self)) }
+    {
+        let Lent { mut kept } = self;
+        let mut parts = Vec::new(kept.alloc);
+        let mut place = 0;
+        for one in came {
+            let Came { part, made } = one;
+            let Effects { rows, mut sent } = made;
+            parts.push(part)?;
+            add_rows(&mut kept.rows[place], rows)?;
+            kept.waiting.append(&mut sent)?;
+            place += 1;
+        }
+        Ok(stage_of(kept, parts))
+    }
+}
