@@ -20,8 +20,8 @@ use sim_windows::{RowSink, Stage};
 use std::mem;
 use std::sync::Wait;
 
-// How many rows some partitions made.
-fn rows_made<S: Site>(came: &[Came<S>]) -> u64
+/// How many rows some partitions made.
+pub fn rows_made<S: Site>(came: &[Came<S>]) -> u64
     ensures { result ≡ rows_made came.now }
 {
     let mut rows: u64 = 0;
