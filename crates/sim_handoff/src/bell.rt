@@ -3,7 +3,7 @@ use std::hint::spin_loop;
 use std::sync::Wait;
 use std::sync::atomic::{AtomicU64, Ordering};
 
-// How often a wait looks before it sleeps: for some 20 microseconds.
+// How often a wait looks before it sleeps: for 3 to 40 microseconds, as processors differ.
 const LOOKS: u32 = 512;
 
 /// Counts how often it was rung. Who waits for something reads the count, then looks for what it waits for,
