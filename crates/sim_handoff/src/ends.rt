@@ -94,7 +94,16 @@ pub fn close<W: Work>(
 {
     let all = Vec::with_capacity(alloc, handoff.places)?;
     take_in_all(&mut owner, &handoff, hands);
-    let Handoff { table, places } = handoff;
-    let Owner { seat } = owner;
+    let Handoff {
+        table,
+        places,
+        offers: _,
+        answers: _,
+    } = handoff;
+    let Owner {
+        seat,
+        uncalled: _,
+        alone: _,
+    } = owner;
     Ok(unload(table.close_with(seat), places, all))
 }

@@ -4,6 +4,7 @@ ghost use Rattle.sim_handoff.specs.declared.records.Slot.TheVariants.{Nothing};
 ghost use Rattle.sim_handoff.specs.Place.{place_record, IsFree, HoldsNothing, AnswersLast, AnswersHeld};
 ghost use Rattle.sim_handoff.specs.Steps.{at, offered, collected, holding, returned, stopped, with_hand, new_hand, opening_record, LearnsClaims};
 
+use crate::bell::Bell;
 use crate::records::{PartyRecord, Slot};
 use crate::rule::{CLAIMED, DONE, EMPTY, HandoffRule, OFFERED, RUNNING, STOPPED, Work};
 use crate::steps::{
@@ -21,12 +22,15 @@ type SeatOf<W> = Seat<SlotOf<W>, RecordOf<W>>;
 
 type TableOf<W> = Table<SlotOf<W>, RecordOf<W>, usize, HandoffRule<W>, Global>;
 
-/// A fixed number of places, each of them empty, offered, claimed or done, and a flag. Its owner
-/// and its hands share it by reference, each on a thread of its own if they like.
+/// A fixed number of places, each of them empty, offered, claimed or done, and a flag; and a bell on
+/// which hands wait for offers, and one on which the owner waits for answers. Its owner and its hands
+/// share it by reference, each on a thread of its own if they like.
 #[derive(Drop)]
 pub struct Handoff<W: Work> {
     pub(crate) table: TableOf<W>,
     pub(crate) places: usize,
+    pub(crate) offers: Bell,
+    pub(crate) answers: Bell,
     ghost sized: { (table.shared.table_id.words ≡ places + 1)
         × (table.shared.table_id.slots ≡ places) × (table.shared.key ≡ places) },
 }
@@ -36,6 +40,10 @@ pub struct Handoff<W: Work> {
 #[derive(Drop)]
 pub struct Owner<W: Work> {
     pub(crate) seat: SeatOf<W>,
+    // How many pieces it has offered since it called hands last.
+    pub(crate) uncalled: u64,
+    // Whether it calls none.
+    pub(crate) alone: bool,
     ghost seated: { (seat.id ≡ 0) × (seat.me.1 ≡ [])
         × (length seat.me.0.by_place ≡ seat.table_id.slots) },
     ghost rests: { (place : ℕ) → (place_record seat.me.0 place).lifted ≡ false },
@@ -99,7 +107,19 @@ impl<W: Work> Handoff<W> {
         let words = Vec::from_elem(alloc, EMPTY, places + 1)?;
         let slots = empty_slots(alloc, places)?;
         match Table::new(alloc, words.as_slice(), slots, &places) {
-            Ok((table, seat)) => Ok((Handoff { table, places }, Owner { seat })),
+            Ok((table, seat)) => Ok((
+                Handoff {
+                    table,
+                    places,
+                    offers: Bell::new(),
+                    answers: Bell::new(),
+                },
+                Owner {
+                    seat,
+                    uncalled: 0,
+                    alone: false,
+                },
+            )),
             Err(Refused { slots: _ }) => Err(Refusal::Memory),
         }
     }
@@ -109,6 +129,17 @@ impl<W: Work> Handoff<W> {
         ensures { result ≡ places_of self.now }
     {
         self.places
+    }
+
+    /// The bell that is rung when there are pieces to claim, and when the owner has stopped. Hands
+    /// wait on it.
+    pub fn offers(&self) -> &Bell {
+        &self.offers
+    }
+
+    /// The bell that is rung when there are answers to collect. The owner waits on it.
+    pub fn answers(&self) -> &Bell {
+        &self.answers
     }
 }
 
@@ -131,7 +162,30 @@ impl<W: Work> Owner<W> {
         Hand { seat }
     }
 
-    /// Sets the flag of the owner's hand-off, which stays set. The owner's record says so.
+    /// Calls the hands that wait, where several pieces were offered since it was called last; one
+    /// piece the owner's own thread can as well claim. An owner that works alone calls none. The
+    /// owner's record stays as it was.
+    pub fn call(&mut self, handoff: &Handoff<W>)
+        ensures here { owner_table self.new ≡ owner_table self.old }
+        ensures same { owner_record self.new ≡ owner_record self.old }
+    {
+        if self.uncalled > 1 && !self.alone {
+            handoff.offers.ring();
+        }
+        self.uncalled = 0;
+    }
+
+    /// Says whether the owner works alone from now on: then `call` calls nobody. The owner's record
+    /// stays as it was.
+    pub fn work_alone(&mut self, alone: bool)
+        ensures here { owner_table self.new ≡ owner_table self.old }
+        ensures same { owner_record self.new ≡ owner_record self.old }
+    {
+        self.alone = alone;
+    }
+
+    /// Sets the flag of the owner's hand-off, which stays set, and calls all hands. The owner's
+    /// record says so.
     pub fn stop(&mut self, handoff: &Handoff<W>)
         requires here { owner_table self.old ≡ table_of handoff.now }
         ensures here { owner_table self.new ≡ owner_table self.old }
@@ -141,6 +195,7 @@ impl<W: Work> Owner<W> {
             .table
             .shared
             .store::<Stop>(&mut self.seat, handoff.places, STOPPED);
+        handoff.offers.ring();
     }
 
     // Takes in a hand that holds nothing.
@@ -175,6 +230,7 @@ impl<W: Work> Owner<W> {
             Slot::Piece(_) | Slot::Answer(_) => unreachable!(),
         }
         shared.store::<Offer>(&mut self.seat, place, OFFERED);
+        self.uncalled = self.uncalled.saturating_add(1);
     }
 
     /// Collects, at any place of the owner's hand-off, an answer to its last offer there; the place

@@ -1,12 +1,14 @@
 //! Owned values handed from an owner to many hands, and their answers handed back, with no lock.
 #![tactic(auto)]
 
+mod bell;
 mod ends;
 mod handoff;
 mod records;
 mod rule;
 mod steps;
 
+pub use bell::Bell;
 pub use ends::{Left, close};
 pub use handoff::{Claimed, Hand, Handoff, Owner};
 pub use rule::Work;

@@ -23,9 +23,12 @@ module _ {Site Row Transfer : Type 0} {engine : Engine Site Row Transfer} {condi
     ran_not o now e same none = subst (λ x. RanOn engine ready took broke s before x now) (sym e) (inr (refl, subst (λ n. took before [] n) (sym same) none))
 
     -- of one that was not begun, for want of memory
+    pub stopped_none : (e : Refusal) → e ≡ refusals.Memory → took before [] before → HasStopped engine took broke s before e before
+    stopped_none e memory none =
+        record { rows = []; front = λ r w. (r.rows, refl); at_rows = inl (none, subst (StopsWhere (IsOver engine s)) (sym memory) tt) }
+
     pub ran_none : (e : Refusal) → e ≡ refusals.Memory → took before [] before → StopsAnyhow engine ready took broke s before e before
-    ran_none e memory none =
-        inl (record { rows = []; front = λ r w. (r.rows, refl); at_rows = inl (none, subst (StopsWhere (IsOver engine s)) (sym memory) tt) })
+    ran_none e memory none = inl (stopped_none e memory none)
 
     -- and the other way round
     pub ran_ready : (o : Result (Vec Site Global) Refusal) (now : K) → RanOn engine ready took broke s before o now → OnOk o (ready now)

@@ -1,6 +1,6 @@
 //! One round: each partition that has something due before its bound runs to it.
 ghost use Rattle.std.specs.Prelude.{◌≡◌, ◌≢◌, ◌<◌, ◌≤◌, ◌+◌, ℕ, All, [], length, map, vec_capacity};
-ghost use Rattle.std.specs.Prelude.{None, Ok, Some, IfOk, IfErr};
+ghost use Rattle.std.specs.Prelude.{None, Ok, Some, IfOk, IfErr, nat_lt};
 ghost use Rattle.sim_clock.specs.Order.{due_before};
 ghost use Rattle.sim_engine.specs.Limits.{most_count};
 ghost use Rattle.sim_engine.specs.World.{world_due};
@@ -10,10 +10,12 @@ ghost use Rattle.sim_partition.specs.Sites.{AreOfPast, due_in};
 ghost use Rattle.sim_workers.specs.Owners.{IsAllFree, IsResting, AreResting, IsSentOut, AreSentOut};
 ghost use Rattle.sim_workers.specs.Owners.{IsCollected, AreCollected};
 ghost use Rattle.sim_windows.specs.Rounds.{Comes, HaveCome};
+ghost use Rattle.sim_workers.specs.Runs.{rows_made};
 ghost use Rattle.sim_workers.specs.Rounds.{IsRefusedRound, gravest, gravest_of};
 
 use crate::gate::Gate;
 use crate::piece::PartWork;
+use crate::rounds::rows_made;
 use crate::worker::collect_at;
 use sim_clock::Refusal;
 use sim_engine::{Effects, Site};
@@ -22,6 +24,9 @@ use sim_partition::Partition;
 use sim_windows::Came;
 use std::alloc::Global;
 use std::sync::Wait;
+
+// A round of fewer rows is followed by one that the owner's own thread runs.
+const FEW: u64 = 1_024;
 
 // What comes of a partition that is run to its bound.
 type Outcome<S> = Result<Came<S>, Refusal>;
@@ -189,8 +194,19 @@ fn all_came<S: Site>(
     }
 }
 
+// Whether so few rows were made that to hand partitions to other threads costs more than it saves.
+fn are_few<S: Site>(came: &Result<Vec<Came<S>>, Refusal>) -> bool
+    ensures { IfOk came.now (λ all. result ≡ nat_lt (rows_made all.items) 1024) }
+{
+    match came {
+        Ok(all) => rows_made(all) < FEW,
+        Err(_) => true,
+    }
+}
+
 /// Runs every partition that has something due before its bound to that bound, on whatever threads
-/// have hands. All that was offered is collected, also where one is refused.
+/// have hands. All that was offered is collected, also where one is refused. Where the round before made
+/// few rows, hands that wait are not called, and the owner's own thread runs all.
 ///
 /// # Errors
 ///
@@ -223,5 +239,7 @@ pub fn round<S: Site, W: PartWork<S>, G: Gate<W>, R: Wait>(
     let all = Vec::with_capacity(alloc, parts.len())?;
     let homes = offer_due(alloc, handoff, owner, bounds, parts, homes);
     let outcomes = collect_all(rt, handoff, owner, hand, gate, homes, came);
-    all_came(outcomes, all)
+    let came = all_came(outcomes, all);
+    owner.work_alone(are_few(&came));
+    came
 }

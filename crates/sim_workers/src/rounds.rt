@@ -17,8 +17,8 @@ use sim_handoff::{Hand, Handoff, Owner};
 use sim_windows::{Came, Loan, RowSink, Stage};
 use std::sync::Wait;
 
-// How many rows some partitions made.
-fn rows_made<S: Site>(came: &[Came<S>]) -> u64
+/// How many rows some partitions made.
+pub fn rows_made<S: Site>(came: &[Came<S>]) -> u64
     ensures { result ≡ rows_made came.now }
 {
     let mut rows: u64 = 0;

@@ -2,7 +2,7 @@
 ghost use Rattle.std.specs.Prelude.{◌≡◌, ◌≤◌, ◌<◌, All, Err, IfErr, IfOk, OnOk, length, vec_capacity, vec_len};
 ghost use Rattle.sim_handoff.specs.Seats.{owner_record, owner_table, places_of, table_of};
 ghost use Rattle.sim_windows.specs.Stages.{StandsOn};
-ghost use Rattle.sim_windows.specs.Sinks.{HasTaken};
+ghost use Rattle.sim_windows.specs.Sinks.{HasStopped, HasTaken};
 ghost use Rattle.sim_workers.specs.Runs.{RanOn, StopsAnyhow};
 ghost use Rattle.sim_workers.specs.Owners.{IsAllFree};
 ghost use Rattle.sim_engine.specs.Limits.{most_count};
@@ -55,6 +55,8 @@ fn run_in_scope<
     ensures same_outcome { result.1.ghost_name ≡ outcome.entry.ghost_name }
     ensures ran { (s : Setting S) → StandsOn S.engine S.conditions s stage
         → RanOn S.engine K.ready K.took K.broke s sink.entry.now result.1.now result.0.now }
+    ensures alone { threads ≡ 0 → (s : Setting S) → StandsOn S.engine S.conditions s stage
+        → IfErr result.1.now (λ refusal. HasStopped S.engine K.took K.broke s sink.entry.now refusal result.0.now) }
 {
     thread::scope(
         thread::scope_env(),
@@ -71,6 +73,8 @@ fn run_in_scope<
             ensures same_outcome { result.1.ghost_name ≡ outcome.entry.ghost_name }
             ensures ran { (s : Setting S) → StandsOn S.engine S.conditions s stage
                 → RanOn S.engine K.ready K.took K.broke s sink.entry.now result.1.now result.0.now }
+            ensures alone { threads ≡ 0 → (s : Setting S) → StandsOn S.engine S.conditions s stage
+                → IfErr result.1.now (λ refusal. HasStopped S.engine K.took K.broke s sink.entry.now refusal result.0.now) }
         {
             let mut hand = owner.hand(handoff);
             let ready = start_all(scope, rt, handoff, &mut owner, gate, &mut handles, threads);
@@ -107,8 +111,10 @@ fn run_threads<
     requires fresh { stage.settled ≡ 0 }
     requires ready { K.ready sink.old }
     requires room { (vec_len handles ≡ 0) × (threads ≤ vec_capacity handles) }
-    ensures { (s : Setting S) → StandsOn S.engine S.conditions s stage
+    ensures ran { (s : Setting S) → StandsOn S.engine S.conditions s stage
         → RanOn S.engine K.ready K.took K.broke s sink.old result sink.new }
+    ensures alone { threads ≡ 0 → (s : Setting S) → StandsOn S.engine S.conditions s stage
+        → IfErr result (λ refusal. HasStopped S.engine K.took K.broke s sink.old refusal sink.new) }
 {
     let mut outcome = Err(Refusal::NoWorker);
     run_in_scope(
@@ -133,9 +139,10 @@ fn run_threads<
 ///
 /// # Errors
 ///
-/// `NoWorker` where the start of a thread is refused: the sink took nothing. `Memory` where a growth is
-/// refused, and `CountLimit`, only where the run takes a count past 2^62 - 1: the sink took rows that
-/// the run's begin with, none of the round in which this came. Else the sink's refusal, at such rows.
+/// `NoWorker` where the start of a thread is refused: the sink took nothing. One worker needs no thread,
+/// and is refused only as follows. `Memory` where a growth is refused, and `CountLimit`, only where the
+/// run takes a count past 2^62 - 1: the sink took rows that the run's begin with, none of the round in
+/// which this came. Else the sink's refusal, at such rows.
 pub fn run_workers<
     S: Site + Send + Sync,
     G: Gate<Running<S>> + Sync,
@@ -160,6 +167,7 @@ where
     ensures ready { OnOk result (K.ready sink.new) }
     ensures whole { IfOk result (λ sites. HasTaken S.engine K.took world sink.old sink.new sites.items) }
     ensures stops { IfErr result (λ refusal. StopsAnyhow S.engine K.ready K.took K.broke world sink.old refusal sink.new) }
+    ensures alone { workers ≤ 1 → IfErr result (λ refusal. HasStopped S.engine K.took K.broke world sink.old refusal sink.new) }
 {
     let stage = Stage::open(alloc, world, layout)?;
     let (handoff, owner) = Handoff::make(alloc, stage.part_count())?;

@@ -1,5 +1,5 @@
 //! Workers on threads of their own.
-ghost use Rattle.std.specs.Prelude.{◌≡◌, ◌≤◌, vec_len, vec_capacity};
+ghost use Rattle.std.specs.Prelude.{◌≡◌, ◌≤◌, true, vec_len, vec_capacity};
 ghost use Rattle.sim_handoff.specs.Seats.{table_of, owner_table, owner_record, IsIdleHand};
 ghost use Rattle.sim_workers.specs.Owners.{IsAllFree};
 
@@ -10,7 +10,8 @@ use std::sync::Wait;
 use std::thread::{JoinHandle, Scope, Threads};
 
 /// Starts so many threads, each of which works with a hand of its own. The hands begin at places
-/// that lie evenly apart, past the first, where the owner begins. Answers whether all were started.
+/// that lie evenly apart, past the first, where the owner begins. Answers whether all were started; that
+/// is so wherever none is asked for.
 pub fn start_all<'s, 'e: 's, W: Work + Sync, G: Gate<W> + Sync, R: Wait + Sync>(
     scope: &'s Scope<'s, &'e ()>,
     rt: &'e R,
@@ -25,6 +26,7 @@ pub fn start_all<'s, 'e: 's, W: Work + Sync, G: Gate<W> + Sync, R: Wait + Sync>(
     requires room { (vec_len handles.old ≡ 0) × (threads ≤ vec_capacity handles.old) }
     ensures here { owner_table owner.new ≡ table_of handoff.now }
     ensures free { IsAllFree (owner_record owner.new) }
+    ensures alone { threads ≡ 0 → result ≡ true }
 {
     let apart = handoff.places() / threads.saturating_add(1);
     let mut own = 0usize;

@@ -38,8 +38,8 @@ collect_all-outcomes-requires-clause-room g c _ _ =
     let room : length c.args.parts.items ≤ vec_capacity c.in_ok-came.came = search rules in
     (c.in_ok-came.ensures.items, omega (arith, homes, room))
 
-pub all_came-requires : goal.all_came-requires
-all_came-requires g c =
+pub all_came-came-requires : goal.all_came-came-requires
+all_came-came-requires g c =
     let e = g.S.Site.engine in
     let k = g.S.Site.conditions in
     let owner = owner_record c.offer_due-homes.new.owner in
@@ -58,10 +58,10 @@ returns-clause-came g c =
     let outcomes = c.collect_all-outcomes.result.items in
     let sent = c.offer_due-homes.ensures.sent in
     let come = round_of e k g.W.Packs.packed owner bounds _ _ _ c.requires.bounds sent c.collect_all-outcomes.ensures.collected in
-    IfOk-weaker c.all_came.result (λ all. outcomes ≡ map (λ d. Ok d) all.items)
+    IfOk-weaker c.all_came-came.result (λ all. outcomes ≡ map (λ d. Ok d) all.items)
     (λ all. HaveCome e k bounds parts all.items)
     (λ all is. subst (λ os. AllCome e k bounds parts os) is come)
-    c.all_came.ensures.came
+    c.all_came-came.ensures.came
 
 pub returns-clause-refused : goal.returns-clause-refused
 returns-clause-refused g c =
@@ -73,6 +73,6 @@ returns-clause-refused g c =
     let outcomes = c.collect_all-outcomes.result.items in
     let sent = c.offer_due-homes.ensures.sent in
     let come = round_of e k g.W.Packs.packed owner bounds _ _ _ c.requires.bounds sent c.collect_all-outcomes.ensures.collected in
-    IfErr-weaker c.all_came.result (λ refusal. gravest outcomes ≡ Some refusal) (IsRefusedRound e k bounds parts)
+    IfErr-weaker c.all_came-came.result (λ refusal. gravest outcomes ≡ Some refusal) (IsRefusedRound e k bounds parts)
     (λ refusal is. inr (record { outcomes = outcomes; come = come; graver = is }))
-    c.all_came.ensures.refused
+    c.all_came-came.ensures.refused
