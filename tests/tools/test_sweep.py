@@ -166,7 +166,8 @@ class Sweep(ToolCase):
         """The greatest age is 5 s with a worker; without one no message is deleted, and nothing holds of ages."""
         scenario = self.write("worker.toml", SCENARIO.replace("seed = 0", "seed = 5") + WORKER)
         for text, status in (("q.age_p99<=5s", 0), ("q.age_p99 < 5001 ms", 0), ("q.age_p99<5000", 1),
-                             ("q.age_p99=5000", 0), ("q.age_p99!=0.0833m", 0), ("q.age_p99>1h", 1), ("q.age_p50<1d", 1)):
+                             ("q.age_p99=5000", 0), ("q.age_p99!=0.0833m", 0), ("q.age_p99>1h", 1),
+                             ("q.age_p50<1d", 1)):
             with self.subTest(text=text):
                 self.assertEqual(self.sweep(scenario, "--require", text)[0], status)
         _, _, err = self.sweep(scenario, "--require", "q.age_p99<5s")
