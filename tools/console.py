@@ -22,8 +22,9 @@ class Fault(Exception):
 class Parser(argparse.ArgumentParser):
     """A parser of the command line that tells a fault in one line."""
 
-    def __init__(self, description):
-        super().__init__(description=description, formatter_class=argparse.RawDescriptionHelpFormatter)
+    def __init__(self, description=None, **more):
+        more.setdefault("formatter_class", argparse.RawDescriptionHelpFormatter)
+        super().__init__(description=description, **more)
 
     def error(self, message):
         raise Fault(f"{message} (--help tells the usage)")

@@ -36,6 +36,56 @@ sys.stdin.read()
 sys.exit(os.environ["REFUSAL"])
 """
 
+PAID = '[[queue]]\nname = "paid"\n'
+INLINE = TOP + 'queue = [{name = "q", latency_ms = 3}, {name = "d.fifo", hosts = 2}]\n'
+ACTOR = ORDERS + '[[actor]]\nname = "{}"\nkind = "{}"\nqueue = "{}"\n'
+# Scenarios, how each is refused, where, and what is told.
+REASONS = (
+    (ORDERS.replace("delay_s", "dely_s"), "11 UnknownKey at queue[0].dely_s", "6:1",
+     "dely_s is no key of the queue orders; it has name, visibility_s, delay_s, retention_s, in_flight, "
+     "hosts, "
+     "sampled, dead_letter, max_receives, latency_ms. Did you mean delay_s?"),
+    (INLINE, "11 UnknownKey at queue[0].latency_ms", "3:23",
+     "latency_ms stands only together with dead_letter, which the queue q does not have."),
+    (INLINE, "11 UnknownKey at queue[1].hosts", "3:58",
+     "hosts is a key of standard queues alone, and the queue d.fifo is a FIFO queue."),
+    (ACTOR.format("shop", "producer", "orders") + "batch = 3\n", "11 UnknownKey at actor[0].batch", "11:1",
+     "batch is a key of a consumer, and the producer shop is none."),
+    (ORDERS + 'dead_letter = "x"\nlatency_min_ms = 3\n', "11 UnknownKey at queue[0].latency_min_ms", "8:1",
+     "latency_min_ms is a key of version 2; version 1 has latency_ms."),
+    (ORDERS + PAID + 'dead_letter = "orders"\n', "12 MissingKey at queue[1].max_receives", "7:1",
+     "The queue paid has no max_receives, which is required beside dead_letter. It has 1 to 1,000."),
+    (ACTOR.format("shop", "producer", "orders") + "cuont = 3\n", "12 MissingKey at actor[0].count", "7:1",
+     "The producer shop has no count, which is required. It has 1 to 1,000,000. Is cuont meant to be it?"),
+    (ORDERS.replace("901", '"5"'), "13 WrongType at queue[0].delay_s", "6:11",
+     "delay_s of the queue orders is a text, and has to be a whole number. A number stands without "
+     "quotes. It "
+     "has 0 to 900, and 0 where it is not given."),
+    (TOP + "queue = 3\n", "13 WrongType at queue", "3:9",
+     "queue of the scenario is a whole number, and has to be a list of tables. Each begins with "
+     "[[queue]]."),
+    (ACTOR.format("a", "consumr", "orders"), "14 OutOfRange at actor[0].kind", "9:8",
+     "kind of the actor a is consumr. It is script, producer or consumer. Did you mean consumer?"),
+    (ACTOR.format("a", "producer", "orders") + "gap_min_ms = 9\ngap_max_ms = 8\n",
+     "14 OutOfRange at actor[0].gap_max_ms", "12:14",
+     "gap_max_ms of the producer a is 8. It may not be less than gap_min_ms, which is 9."),
+    (ORDERS.replace("orders", "or ders"), "15 BadName at queue[0].name", "5:8",
+     "The name or ders will not do. A queue's name has 1 to 80 ASCII letters, digits, - and _, and for a "
+     "FIFO "
+     "queue .fifo at its end, which counts among the 80."),
+    (ORDERS + PAID.replace("paid", "orders"), "16 NameTwice at queue[1].name", "8:8",
+     "The queue in line 5 has the name orders already; queues, actors and tasks share their names."),
+    (ACTOR.format("a", "script", "ordres"), "17 UnknownQueue at actor[0].queue", "10:9",
+     "queue of the script a is ordres, and there is no queue of this name. Did you mean orders?"),
+    (ORDERS + 'dead_letter = "orders"\n', "17 UnknownQueue at queue[0].dead_letter", "7:15",
+     "dead_letter of the queue orders is the queue itself; it has to be another one."),
+    (ORDERS + 'dead_letter = "d.fifo"\n', "18 KindMismatch at queue[0].dead_letter", "7:15",
+     "dead_letter of the queue orders is d.fifo, a FIFO queue, and orders is a standard queue; both have "
+     "to be "
+     "of one kind."),
+    (TOP + "x = [1,\n  ,]\n", "10 NotToml", "4:3", "Invalid value."),
+    (TOP + 'x = """a', "10 NotToml", "3:9", "Unterminated string, as the text ends."))
+
 
 class Explain(ToolCase):
     def setUp(self):
@@ -57,54 +107,7 @@ class Explain(ToolCase):
                          "given.\n")
 
     def test_reasons(self):
-        second = '[[queue]]\nname = "paid"\n'
-        inline = TOP + 'queue = [{name = "q", latency_ms = 3}, {name = "d.fifo", hosts = 2}]\n'
-        actor = ORDERS + '[[actor]]\nname = "{}"\nkind = "{}"\nqueue = "{}"\n'
-        for text, refusal, place, reason in (
-                (ORDERS.replace("delay_s", "dely_s"), "11 UnknownKey at queue[0].dely_s", "6:1",
-                 "dely_s is no key of the queue orders; it has name, visibility_s, delay_s, retention_s, in_flight, "
-                 "hosts, "
-                 "sampled, dead_letter, max_receives, latency_ms. Did you mean delay_s?"),
-                (inline, "11 UnknownKey at queue[0].latency_ms", "3:23",
-                 "latency_ms stands only together with dead_letter, which the queue q does not have."),
-                (inline, "11 UnknownKey at queue[1].hosts", "3:58",
-                 "hosts is a key of standard queues alone, and the queue d.fifo is a FIFO queue."),
-                (actor.format("shop", "producer", "orders") + "batch = 3\n", "11 UnknownKey at actor[0].batch", "11:1",
-                 "batch is a key of a consumer, and the producer shop is none."),
-                (ORDERS + 'dead_letter = "x"\nlatency_min_ms = 3\n', "11 UnknownKey at queue[0].latency_min_ms", "8:1",
-                 "latency_min_ms is a key of version 2; version 1 has latency_ms."),
-                (ORDERS + second + 'dead_letter = "orders"\n', "12 MissingKey at queue[1].max_receives", "7:1",
-                 "The queue paid has no max_receives, which is required beside dead_letter. It has 1 to 1,000."),
-                (actor.format("shop", "producer", "orders") + "cuont = 3\n", "12 MissingKey at actor[0].count", "7:1",
-                 "The producer shop has no count, which is required. It has 1 to 1,000,000. Is cuont meant to be it?"),
-                (ORDERS.replace("901", '"5"'), "13 WrongType at queue[0].delay_s", "6:11",
-                 "delay_s of the queue orders is a text, and has to be a whole number. A number stands without "
-                 "quotes. It "
-                 "has 0 to 900, and 0 where it is not given."),
-                (TOP + "queue = 3\n", "13 WrongType at queue", "3:9",
-                 "queue of the scenario is a whole number, and has to be a list of tables. Each begins with "
-                 "[[queue]]."),
-                (actor.format("a", "consumr", "orders"), "14 OutOfRange at actor[0].kind", "9:8",
-                 "kind of the actor a is consumr. It is script, producer or consumer. Did you mean consumer?"),
-                (actor.format("a", "producer", "orders") + "gap_min_ms = 9\ngap_max_ms = 8\n",
-                 "14 OutOfRange at actor[0].gap_max_ms", "12:14",
-                 "gap_max_ms of the producer a is 8. It may not be less than gap_min_ms, which is 9."),
-                (ORDERS.replace("orders", "or ders"), "15 BadName at queue[0].name", "5:8",
-                 "The name or ders will not do. A queue's name has 1 to 80 ASCII letters, digits, - and _, and for a "
-                 "FIFO "
-                 "queue .fifo at its end, which counts among the 80."),
-                (ORDERS + second.replace("paid", "orders"), "16 NameTwice at queue[1].name", "8:8",
-                 "The queue in line 5 has the name orders already; queues, actors and tasks share their names."),
-                (actor.format("a", "script", "ordres"), "17 UnknownQueue at actor[0].queue", "10:9",
-                 "queue of the script a is ordres, and there is no queue of this name. Did you mean orders?"),
-                (ORDERS + 'dead_letter = "orders"\n', "17 UnknownQueue at queue[0].dead_letter", "7:15",
-                 "dead_letter of the queue orders is the queue itself; it has to be another one."),
-                (ORDERS + 'dead_letter = "d.fifo"\n', "18 KindMismatch at queue[0].dead_letter", "7:15",
-                 "dead_letter of the queue orders is d.fifo, a FIFO queue, and orders is a standard queue; both have "
-                 "to be "
-                 "of one kind."),
-                (TOP + "x = [1,\n  ,]\n", "10 NotToml", "4:3", "Invalid value."),
-                (TOP + 'x = """a', "10 NotToml", "3:9", "Unterminated string, as the text ends.")):
+        for text, refusal, place, reason in REASONS:
             with self.subTest(refusal=refusal):
                 lines = self.explained(text, f"refused {refusal}").splitlines()
                 self.assertEqual((lines[0], lines[-1]), (f"s.toml:{place}: refused {refusal}", reason))
