@@ -1,5 +1,7 @@
 """Tests tools/metrics on a log whose numbers are worked out by hand."""
 import os
+import subprocess
+import sys
 import unittest
 
 from tool import TOOLS, ToolCase, needs_program
@@ -53,6 +55,11 @@ class Metrics(ToolCase):
         self.assertEqual(self.run_tool("metrics", log, "--queue", "d", "--output", "new/d.csv"), (0, "", ""))
         with open(self.path("new/d.csv"), encoding="utf-8") as file:
             self.assertEqual(file.read(), NAMES + "".join(line for line in ROWS.splitlines(True) if ",d," in line))
+
+    def test_from_standard_input(self):
+        run = subprocess.run([sys.executable, os.path.join(TOOLS, "metrics"), "-"], input=LOG, text=True,
+                             capture_output=True)
+        self.assertEqual((run.returncode, run.stdout, run.stderr), (0, NAMES + ROWS, ""))
 
     def test_another_period(self):
         """In one period of five minutes all is counted, and what is left is m-1-1 of d."""
