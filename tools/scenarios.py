@@ -1,117 +1,149 @@
-"""Changes single settings in the text of a scenario. tools/sweep imports it; it is not run by itself."""
+"""Reads a scenario, changes settings of it, and writes it. The tools import it; it is not run by itself."""
+import copy
+import datetime
+import fnmatch
 import json
 import re
+import tomllib
 
-from console import Fault
+from console import Fault, read_text
 
 LISTS = ("queue", "actor", "task")
-SPACE = re.compile(r"(?:\ufeff|\s|#[^\n]*)*")
-HEADER = re.compile(r"""\[(\[?)\s*["']?([^\]"'\s]*)["']?\s*\]\]?[^\n]*\n?""")
-KEY = re.compile(r"""["']?([A-Za-z0-9_.-]+)["']?[ \t]*=[ \t]*""")
-BARE_VALUE = re.compile(r"[^\s#]*")
-SHORT_STRING = re.compile(r'''"(?:[^"\\\n]|\\.)*"|'[^'\n]*\'''')
-ENDS_OF_LONG_STRINGS = {'"""': re.compile(r'\\.|("{3,5})', re.S), "'''": re.compile("('{3,5})")}
-IN_BRACKETS = re.compile(r"""[\[\]{}"']|#[^\n]*""")
+COPIES_MOST = 10_000
+BARE_KEY = re.compile("[A-Za-z0-9_-]+")
+WHOLE_NUMBER = re.compile("[+-]?[0-9]{1,30}")
 
 
-class Table:
-    """A table of a scenario: its list, where a new key may be put in, and where the value of each key stands."""
-
-    def __init__(self, of, place):
-        self.of, self.place, self.values = of, place, {}
-
-
-def unreadable(text, at):
-    return Fault(f"line {text.count(chr(10), 0, at) + 1} of the scenario is not TOML that can be varied")
+def parsed(text, path):
+    """The tables of a scenario's text, as the program finds them."""
+    try:
+        return tomllib.loads(text.removeprefix("\ufeff"))
+    except (ValueError, RecursionError) as error:
+        reason = "it is nested too deep" if isinstance(error, RecursionError) else error
+        raise Fault(f"{path} is no TOML: {reason}") from None
 
 
-def string_end(text, at):
-    for mark, ends in ENDS_OF_LONG_STRINGS.items():
-        if text.startswith(mark, at):
-            found = next((match for match in ends.finditer(text, at + 3) if match[1]), None)
-            break
-    else:
-        found = SHORT_STRING.match(text, at)
-    if not found:
-        raise unreadable(text, at)
-    return found.end()
+def scenario_at(path):
+    """The scenario in a file, or on standard input where the path is -."""
+    return parsed(read_text(path), path)
 
 
-def value_end(text, at):
-    """Where the value that begins at `at` ends: a string, a list or table in brackets, or a plain word."""
-    if text[at:at + 1] in ('"', "'"):
-        return string_end(text, at)
-    if text[at:at + 1] not in ("[", "{"):
-        return BARE_VALUE.match(text, at).end()
-    depth, start = 0, at
-    while True:
-        found = IN_BRACKETS.search(text, at)
-        if not found:
-            raise unreadable(text, start)
-        at = string_end(text, found.start()) if found[0] in ('"', "'") else found.end()
-        depth += {"[": 1, "{": 1, "]": -1, "}": -1}.get(found[0], 0)
-        if depth == 0:
-            return at
+def items_of(scenario, of):
+    """The tables of a list of a scenario; what else stands there, which the program refuses, is passed over."""
+    found = scenario.get(of, [])
+    return [item for item in found if isinstance(item, dict)] if isinstance(found, list) else []
 
 
-def tables_of(text):
-    """The tables of a scenario's text in their order, the top one first."""
-    at = SPACE.match(text).end()
-    tables = [Table("", at)]
-    while at < len(text):
-        header, key = HEADER.match(text, at), KEY.match(text, at)
-        if header:
-            at = header.end()
-            tables.append(Table(header[2] if header[1] else None, at))
-        elif key:
-            at = value_end(text, key.end())
-            tables[-1].values[key[1]] = key.end(), at
-        else:
-            raise unreadable(text, at)
-        at = SPACE.match(text, at).end()
-    return tables
+def names_of(scenario, of):
+    return [item["name"] for item in items_of(scenario, of) if isinstance(item.get("name"), str)]
 
 
-def name_in(text, table):
-    start, end = table.values.get("name", (0, 0))
-    return text[start:end].strip("\"'")
+def text_of_string(text):
+    """A string in TOML's double quotes; JSON's escapes are also TOML's, which wants one more."""
+    return json.dumps(text, ensure_ascii=False).replace("\x7f", "\\u007F")
 
 
-def as_toml(word):
-    """A setting as it stands in a scenario: a number, true, false or what is quoted as it is, other words quoted."""
-    if re.fullmatch(r'[+-]?[0-9]+|true|false|"[^"]*"', word):
-        return word
-    return json.dumps(word, ensure_ascii=False)
+def text_of_key(key):
+    return key if BARE_KEY.fullmatch(key) else text_of_string(key)
+
+
+def text_of_value(value):
+    """A value in TOML, in one line."""
+    if isinstance(value, bool):
+        return "true" if value else "false"
+    if isinstance(value, str):
+        return text_of_string(value)
+    if isinstance(value, list):
+        return "[" + ", ".join(map(text_of_value, value)) + "]"
+    if isinstance(value, dict):
+        return "{" + ", ".join(f"{text_of_key(key)} = {text_of_value(item)}" for key, item in value.items()) + "}"
+    if isinstance(value, (datetime.date, datetime.time)):
+        return value.isoformat()
+    return str(value)
+
+
+def lines_of_table(table):
+    return [f"{text_of_key(key)} = {text_of_value(value)}" for key, value in table.items()]
+
+
+def written(scenario):
+    """The text of a scenario: what stands at its top, then a table for each item of its lists."""
+    is_list = {key: isinstance(value, list) and value != [] and all(isinstance(item, dict) for item in value)
+               for key, value in scenario.items()}
+    lines = lines_of_table({key: value for key, value in scenario.items() if not is_list[key]})
+    for key, value in scenario.items():
+        for item in value if is_list[key] else ():
+            lines += ["", f"[[{text_of_key(key)}]]", *lines_of_table(item)]
+    return "\n".join(lines) + "\n"
+
+
+def value_of(word):
+    """A setting as a word gives it: a whole number, true, false, or a text, which may stand in double quotes."""
+    if WHOLE_NUMBER.fullmatch(word):
+        return int(word)
+    if word in ("true", "false"):
+        return word == "true"
+    if re.fullmatch(r'"[^"]*"', word):
+        return parsed(f"word = {word}", word)["word"]
+    return word
 
 
 class Setting:
-    """A place of a scenario that can be set: a key at the top, as seed, or of a table, as queue.orders.delay_s."""
+    """A place of a scenario that can be set.
+
+    It is a key at the top, as seed; a key of a table, as queue.orders.delay_s, or of all whose names are like a name
+    with asterisks, as actor.worker-*.batch; or count.NAME, how many copies of an actor's table there are.
+    """
 
     def __init__(self, path):
         self.path = path
         self.of, _, rest = path.partition(".") if "." in path else ("", "", path)
-        self.name, _, self.key = rest.rpartition(".")
-        if self.of not in ("", *LISTS) or bool(self.of) != bool(self.name) or not re.fullmatch("[a-z_]+", self.key):
-            raise Fault(f"{path} is no setting, as seed, queue.NAME.KEY, actor.NAME.KEY or task.NAME.KEY")
+        self.name, _, self.key = (rest, ".", "count") if self.of == "count" else rest.rpartition(".")
+        if self.of not in ("", "count", *LISTS) or bool(self.of) != bool(self.name) \
+                or not re.fullmatch("[a-z_]+", self.key):
+            raise Fault(f"{path} is no setting, as seed, queue.NAME.KEY, actor.NAME.KEY, task.NAME.KEY or count.NAME")
 
-    def table(self, text, tables):
+    @property
+    def is_count(self):
+        return self.of == "count"
+
+    def put(self, scenario, word):
+        """Puts the setting to a word; gives in how many tables."""
+        if not self.of:
+            scenario[self.key] = value_of(word)
+            return 1
+        tables = [item for item in items_of(scenario, self.of)
+                  if isinstance(item.get("name"), str) and fnmatch.fnmatchcase(item["name"], self.name)]
         for table in tables:
-            if table.of == self.of and (not self.of or name_in(text, table) == self.name):
-                return table
-        raise Fault(f"the scenario has no table [[{self.of}]] with the name {self.name}")
+            table[self.key] = value_of(word)
+        return len(tables)
+
+    def copy_actor(self, scenario, word):
+        """Puts copies of the actor's table where it stands, with the names NAME-1, NAME-2 and so on."""
+        if not re.fullmatch("[0-9]{1,5}", word) or not 1 <= int(word) <= COPIES_MOST:
+            raise Fault(f"{self.path} of {shown_word(word)} is no number of copies, which has 1 to {COPIES_MOST}")
+        if self.name not in names_of(scenario, "actor"):
+            raise Fault(f"the scenario has no table [[actor]] with the name {self.name}")
+        actors = []
+        for actor in scenario["actor"]:
+            is_copied = isinstance(actor, dict) and actor.get("name") == self.name
+            actors += [{**actor, "name": f"{self.name}-{number}"} for number in range(1, int(word) + 1)] \
+                if is_copied else [actor]
+        scenario["actor"] = actors
 
 
-def varied(text, tables, words):
-    """The text with each setting of `words` put to its word."""
-    line_end = "\r\n" if "\r\n" in text else "\n"
-    edits = []
+def shown_word(word):
+    return word if len(word) < 30 else word[:30] + ".."
+
+
+def varied(scenario, words):
+    """A scenario with each setting of `words` put to its word; actors are copied after what names them is set."""
+    scenario = copy.deepcopy(scenario)
+    places = {setting: 0 if setting.is_count else setting.put(scenario, word) for setting, word in words.items()}
     for setting, word in words.items():
-        table = setting.table(text, tables)
-        if setting.key in table.values:
-            edits.append((*table.values[setting.key], as_toml(word)))
-        else:
-            before = "" if table.place == 0 or text[table.place - 1] in "\n\ufeff" else line_end
-            edits.append((table.place, table.place, f"{before}{setting.key} = {as_toml(word)}{line_end}"))
-    for start, end, new in reversed(sorted(edits, key=lambda edit: edit[0])):
-        text = text[:start] + new + text[end:]
-    return text
+        if setting.is_count:
+            setting.copy_actor(scenario, word)
+    for setting, word in words.items():
+        if not setting.is_count and not places[setting] + setting.put(scenario, word):
+            raise Fault(f"the scenario has no table [[{setting.of}]] with the name {setting.name}")
+    return scenario

@@ -20,7 +20,9 @@ PAYMENTS = {
 }
 FAILED = {"QueueArn": ARN + "failed", "VisibilityTimeout": "30", "MessageRetentionPeriod": "1209600",
           "DelaySeconds": "0", "RedriveAllowPolicy": "{\"redrivePermission\":\"allowAll\"}", "Policy": "{}"}
-HEAD = """# Queues from their attributes. Each DEFAULT marks what the attributes do not tell: check it.
+HEAD = """# Queues from their attributes. Each DEFAULT marks what is not told there: check it.
+# DEFAULT of every queue: in_flight of 120000, the quota of SQS, and for standard queues hosts of 1, so that a short
+# poll sees every message; bodies have at most 1,024 bytes.
 # To rehearse them, add actors that send and receive.
 version = 1
 horizon = 3600000 # DEFAULT: how long to rehearse, in milliseconds.
@@ -31,15 +33,10 @@ ORDERS_TABLE = """name = "orders"
 visibility_s = 45
 delay_s = 5
 retention_s = 86400
-in_flight = 120000
 dead_letter = "failed"
 max_receives = 3
 latency_ms = 100
-# DEFAULT: in_flight of 120000, the quota of SQS, as the attributes do not tell it.
-# DEFAULT: hosts of 1, so that a short poll sees every message, as the attributes do not tell them.
-# DEFAULT: latency_ms of 100, how long a redrive takes, as the attributes do not tell it.
-# MaximumMessageSize is left out: the scenario's bodies have at most 1,024 bytes.
-# SqsManagedSseEnabled is left out: the model has no encryption.
+# DEFAULT: latency_ms of 100, how long a redrive takes, as nothing tells it.
 # ReceiveMessageWaitTimeSeconds is left out: give its consumers wait_s = 20.
 # its present messages are left out: a rehearsal begins with empty queues.
 """
@@ -52,13 +49,11 @@ PAYMENTS_TABLE = """name = "pay.fifo"
 visibility_s = 30
 delay_s = 0
 retention_s = 345600
-in_flight = 120000
 content_dedup = true
 dedup_scope = "group"
-# DEFAULT: in_flight of 120000, the quota of SQS, as the attributes do not tell it.
 # FifoThroughputLimit perMessageGroupId is left out: the model has no throughput quota.
 # KmsMasterKeyId is left out: the model has no encryption.
-# New?Key is left out: this tool does not know it.
+# 'New\\nKey' is left out: this tool does not know it.
 """
 
 
@@ -72,7 +67,7 @@ class FromQueue(ToolCase):
     def test_standard_queue_without_the_file_of_its_dead_letters(self):
         status, out, err = self.run_tool("from-queue", self.file("orders.json", ORDERS))
         self.assertEqual((status, out), (0, HEAD + ORDERS_TABLE + FAILED_TABLE))
-        comments = [line for line in out.splitlines()[4:] if line.startswith("#")]
+        comments = [line for line in out.splitlines()[6:] if line.startswith("#")]
         self.assertEqual(len(err.splitlines()), len(comments))
         told = "from-queue: failed: DEFAULT: all its settings, as no file is of this dead-letter queue of orders"
         self.assertIn(told, err.splitlines())
@@ -102,7 +97,7 @@ class FromQueue(ToolCase):
     def test_settings_that_are_not_given(self):
         status, out, _ = self.run_tool("from-queue", self.file("a.json", {"QueueArn": ARN + "a"}))
         self.assertEqual(status, 0)
-        self.assertIn("# DEFAULT: visibility_s, as VisibilityTimeout is not given.\n", out)
+        self.assertIn("# DEFAULT: visibility_s of 30, as VisibilityTimeout is not given.\n", out)
 
     def test_values_beyond_a_scenario(self):
         policy = json.dumps({"deadLetterTargetArn": ARN + "failed", "maxReceiveCount": 1001})
@@ -138,8 +133,33 @@ class FromQueue(ToolCase):
         path = self.file("unnamed.json", {})
         self.assert_fault(self.run_tool("from-queue", path),
                           f"from-queue: {path} has neither QueueArn nor QueueUrl, so the queue's name is not known")
-        status, _, err = self.run_tool("from-queue", self.write("no.json", "{"))
-        self.assertEqual((status, len(err.splitlines())), (2, 1))
+
+    def test_files_that_are_no_attributes(self):
+        for data in (b"", b"{", b"\x00\xff\xfe", bytes(range(256)), b"[" * 100_000, b"\xff\xfe{",
+                     b'{"Attributes": 1' + b"0" * 9_000, b"at,queue,agent,call\n"):
+            with open(self.path("no.json"), "wb") as file:
+                file.write(data)
+            status, out, err = self.run_tool("from-queue", "no.json")
+            self.assertEqual((status, out, len(err.splitlines())), (2, "", 1), err)
+
+    def test_encodings(self):
+        text = json.dumps({"Attributes": ORDERS})
+        for encoding in ("utf-8", "utf-8-sig", "utf-16", "utf-16-be"):
+            mark = "\ufeff" if encoding == "utf-16-be" else ""
+            with open(self.path("orders.json"), "w", encoding=encoding) as file:
+                file.write(mark + text)
+            status, out, _ = self.run_tool("from-queue", "orders.json")
+            self.assertEqual((status, out), (0, HEAD + ORDERS_TABLE + FAILED_TABLE), encoding)
+
+    def test_an_output_that_cannot_be_written(self):
+        path = self.file("orders.json", ORDERS)
+        self.assert_fault(self.run_tool("from-queue", path, "--output", "orders.json/x"),
+                          "from-queue: cannot write orders.json/x: File exists")
+
+    def test_help_has_a_loop_for_an_account(self):
+        status, out, _ = self.run_tool("from-queue", "--help")
+        self.assertEqual(status, 0)
+        self.assertIn("for url in $(aws sqs list-queues --query 'QueueUrls[]' --output text); do\n", out)
 
     @needs_program
     def test_program_accepts_it(self):

@@ -1,12 +1,24 @@
-"""Tests tools/picture: what it counts, by the stored reports, and that no two texts of a picture overlap."""
+"""Tests tools/picture: what it counts, by hand and by the stored reports, and that no two texts of it overlap."""
 import csv
 import glob
+import itertools
 import os
+import re
+import subprocess
+import sys
 import unittest
-import xml.etree.ElementTree
 
-from tool import ROOT, ToolCase, module_of, needs_program
+from tool import ROOT, TOOLS, ToolCase, module_of, needs_program
+from console import Fault, library
 from logs import Log
+from histories import PLACES, Histories, History, ages_in, counts_in, levels, oldest, thinned
+
+try:
+    numpy, matplotlib = library("numpy", "python3-numpy"), library("matplotlib", "python3-matplotlib")
+except Fault:
+    numpy = None
+needs_numpy = unittest.skipUnless(numpy, "matplotlib is missing, which tools/setup installs")
+picture = module_of("picture")
 
 HEADER = "at,queue,agent,call,answer,message,receipt,detail\n"
 LOG = HEADER + """0,a,shop,send,new,m-0-0,,900150983cd24fb0d6963f7d28e17f72
@@ -20,59 +32,81 @@ LOG = HEADER + """0,a,shop,send,new,m-0-0,,900150983cd24fb0d6963f7d28e17f72
 6000,a,a,redrive,out,m-0-1,,d
 6020,d,a,arrive,new,m-1-0,,o-0-1
 """
-picture = module_of("picture")
 
 
-def queues_of(path):
-    return picture.read_queues(Log(path))
+def histories_of(path):
+    return Histories(Log(path, wanted=("final", "report")), "test")
 
 
-def text_boxes(svg):
-    """A box (left, top, right, bottom) around each text, with letters as wide as those of wide fonts."""
-    for text in svg.iter("{http://www.w3.org/2000/svg}text"):
-        size, x, y = float(text.get("font-size")), float(text.get("x")), float(text.get("y"))
-        width = size * 0.62 * len(text.text)
-        left = x - width * {"start": 0, "middle": 0.5, "end": 1}[text.get("text-anchor")]
-        yield text.text, (left, y - 0.8 * size, left + width, y + 0.22 * size)
+def pairs(arrays):
+    return [(int(at), int(number)) for at, number in zip(*arrays)]
 
 
-def overlap(a, b):
-    return a[0] < b[2] and b[0] < a[2] and a[1] < b[3] and b[1] < a[3]
-
-
+@needs_numpy
 class Counts(ToolCase):
     def test_levels_of_a_small_log(self):
-        queues, start, end = queues_of(self.write("log", LOG))
-        a = queues["a"]
-        self.assertEqual((start, end), (0, 6020))
-        self.assertEqual(a.levels("delayed", 0, 6020), [(0, 1), (1000, 0), (6020, 0)])
-        self.assertEqual(a.levels("visible", 0, 6020),
+        found = histories_of(self.write("log", LOG))
+        a, d = found.queues["a"], found.queues["d"]
+        self.assertEqual((found.first, found.last), (0, 6020))
+        visible, in_flight, delayed = PLACES.values()
+        self.assertEqual(pairs(levels(a, delayed, 0, 6020)), [(0, 1), (1000, 0), (6020, 0)])
+        self.assertEqual(pairs(levels(a, visible, 0, 6020)),
                          [(0, 0), (5, 1), (1000, 2), (1500, 0), (3500, 1), (4000, 0), (6020, 0)])
-        self.assertEqual(a.levels("in flight", 0, 6020),
+        self.assertEqual(pairs(levels(a, in_flight, 0, 6020)),
                          [(0, 0), (1500, 2), (2500, 1), (3500, 0), (4000, 1), (6000, 0), (6020, 0)])
-        self.assertEqual(a.levels("in flight", 2000, 3000), [(2000, 2), (2500, 1), (3000, 1)])
-        self.assertEqual((a.ages, a.redrives), ([(2500, 2500)], [6000]))
-        self.assertEqual(a.summary(), "Whole run: 2 came in, 1 deleted, 1 redriven, 0 left")
-        self.assertEqual(queues["d"].levels("visible", 0, 6020), [(0, 0), (6020, 1), (6020, 1)])
+        self.assertEqual(pairs(levels(a, in_flight, 2000, 3000)), [(2000, 2), (2500, 1), (3000, 1)])
+        self.assertEqual((list(a.deleted_at), list(a.ages), list(a.redrives)), ([2500], [2500], [6000]))
+        self.assertEqual((a.counts(), a.peak, a.peak_at), ("2 came in, 1 deleted, 1 redriven, 0 left", 2, 5))
+        self.assertEqual(pairs(levels(d, visible, 0, 6020)), [(0, 0), (6020, 1), (6020, 1)])
+
+    def test_the_oldest_message(self):
+        """m-0-0 is the oldest until it is deleted at 2,500 ms; then it is m-0-1, which came at 5, until 6,000."""
+        a = histories_of(self.write("log", LOG)).queues["a"]
+        times, ages = oldest(a, 0, 6020, 100)
+        found = [(int(at), None if numpy.isnan(age) else int(age)) for at, age in zip(times, ages)]
+        self.assertEqual([pair for pair, _ in itertools.groupby(found)],
+                         [(0, 0), (2500, 2500), (2500, 2495), (6000, 5995), (6000, None), (6020, None)])
+        times, ages = oldest(a, 1000, 2000, 100)
+        self.assertEqual(pairs((times, ages)), [(1000, 1000), (2000, 2000)])
+
+    def test_ages_and_counts_of_bins(self):
+        """Of the ages 1 to 20 in the first bin the ranks are 10, 19 and 20; nothing is in the second one."""
+        queue = History("q")
+        for age in range(20, 0, -1):
+            queue.deleted_at.append(20 - age)
+            queue.ages.append(age)
+        queue.deleted_at.append(300)
+        queue.ages.append(7)
+        bounds = numpy.array([0, 100, 200, 300])
+        found = [[None if numpy.isnan(age) else int(age) for age in ages] for ages in ages_in(queue, bounds)]
+        self.assertEqual(found, [[10, None, 7], [19, None, 7], [20, None, 7]])
+        self.assertEqual(list(counts_in(queue.deleted_at, bounds)), [20, 0, 1])
+
+    def test_thinned_lines_keep_peaks(self):
+        times, numbers = numpy.arange(100_000), numpy.zeros(100_000, dtype=int)
+        numbers[77_777], numbers[33_333] = 9, -9
+        thin_times, thin_numbers = thinned(times, numbers, numbers, 500)
+        self.assertLess(len(thin_times), 2_100)
+        self.assertEqual((thin_numbers.max(), thin_numbers.min(), thin_times[0]), (9, -9, 0))
 
     def test_stored_reports(self):
         """What is left, deleted, redriven, moved and expired is what the stored report of each case says."""
         compared = 0
         for path in glob.glob(os.path.join(ROOT, "tests", "cases", "*", "*.out")):
-            with open(path, newline="") as file:
+            with open(path, newline="", encoding="utf-8") as file:
                 text = file.read()
             if text.startswith(HEADER + "final,") or "\nreport," not in text:
                 continue
-            queues, _, end = queues_of(path)
+            found = histories_of(path)
             records = list(csv.reader(text[text.index("\nreport,") + 1:].splitlines()))
             for record in records[1:]:
                 report = dict(zip(records[0][2:], record[2:]))
-                queue = queues.get(record[1], picture.Queue(record[1]))
-                last = [str(queue.levels(place, 0, end)[-1][1]) for place in picture.PLACES]
-                found = [*last, str(len(queue.ages)), str(sum(age for _, age in queue.ages)), str(len(queue.redrives)),
-                         str(queue.moved), str(queue.expired)]
-                columns = "visible,in_flight,delayed,deletes,age_sum,redrives,moves,expiries".split(",")
-                self.assertEqual(found, [report[column] for column in columns], (path, record[1]))
+                queue = found.queues.get(record[1], History(record[1]))
+                last = [int(levels(queue, place, 0, found.last)[1][-1]) for place in PLACES.values()]
+                numbers = [*last, len(queue.ages), sum(queue.ages), len(queue.redrives), queue.moved,
+                           len(queue.expiries), queue.peak]
+                columns = "visible,in_flight,delayed,deletes,age_sum,redrives,moves,expiries,depth_max".split(",")
+                self.assertEqual(numbers, [int(report[column]) for column in columns], (path, record[1]))
                 compared += 1
         self.assertGreater(compared, 100)
 
@@ -80,106 +114,180 @@ class Counts(ToolCase):
         """Where a sample is the only row of its queue at its time, the counts at that time are the sample's."""
         compared = 0
         for path in glob.glob(os.path.join(ROOT, "tests", "cases", "*", "*.out")):
-            with open(path, newline="") as file:
+            with open(path, newline="", encoding="utf-8") as file:
                 if ",sample,ok," not in file.read():
                     continue
-            queues, _, _ = queues_of(path)
-            rows = list(Log(path).rows())
-            alone = {}
-            for row in rows:
+            found, alone = histories_of(path), {}
+            for row in Log(path).rows():
                 alone.setdefault((row.queue, row.at), []).append(row)
-            for (name, at), found in alone.items():
-                if len(found) == 1 and found[0].call == "sample":
-                    counts = [queues[name].levels(place, 0, at)[-1][1] for place in picture.PLACES]
-                    self.assertEqual("/".join(map(str, counts)), found[0].detail, (path, name, at))
+            for (name, at), rows in alone.items():
+                if len(rows) == 1 and rows[0].call == "sample":
+                    counts = [int(levels(found.queues[name], place, 0, at)[1][-1]) for place in PLACES.values()]
+                    self.assertEqual("/".join(map(str, counts)), rows[0].detail, (path, name, at))
                     compared += 1
         self.assertGreater(compared, 100)
 
 
+@needs_numpy
 class Geometry(ToolCase):
-    def assert_readable(self, text):
-        svg = xml.etree.ElementTree.fromstring(text)
-        width, height = float(svg.get("width")), float(svg.get("height"))
-        boxes = list(text_boxes(svg))
-        for i, (label, box) in enumerate(boxes):
-            self.assertTrue(0 <= box[0] and 0 <= box[1] and box[2] <= width and box[3] <= height, (label, box))
-            for other, second in boxes[:i]:
-                self.assertFalse(overlap(box, second), (label, other))
-        for line in svg.iter("{http://www.w3.org/2000/svg}polyline"):
-            points = [tuple(map(float, point.split(","))) for point in line.get("points").split()]
-            self.assertLess(len(points), 5 * width)
-            self.assertTrue(all(0 <= x <= width and 0 <= y <= height for x, y in points))
-        return svg, [label for label, _ in boxes]
+    def texts_of(self, log, *words):
+        """The texts of a picture, each of which is inside it and apart from all others."""
+        options = picture.options_of([self.write("log", log), *words])
+        found = histories_of(options.log)
+        start = found.first if options.start is None else options.start
+        end = found.last if options.end is None else options.end
+        queues, left_out = found.chosen(options.queue, picture.QUEUES_MOST)
+        parts = [picture.Part(queue, start, end, options.width) for queue in queues]
+        figure = picture.picture(parts, start, end, (options.title, left_out), options.width, options.height)
+        return self.assert_readable(figure)
 
-    def draw(self, log, *words):
-        status, out, err = self.run_tool("picture", self.write("log", log), *words)
-        self.assertEqual((status, err), (0, ""))
-        return self.assert_readable(out)
+    def assert_readable(self, figure):
+        figure.canvas.draw()
+        renderer, whole = figure.canvas.get_renderer(), figure.bbox
+        boxes = []
+        for text in figure.findobj(library("matplotlib.text", "python3-matplotlib").Text):
+            box = text.get_window_extent(renderer)
+            if not text.get_text() or not text.get_visible() or box.width < 2:
+                continue
+            if text.axes is not None and not self.is_drawn(text, box):
+                continue
+            self.assertTrue(whole.x0 <= box.x0 and whole.y0 <= box.y0 and box.x1 <= whole.x1 and box.y1 <= whole.y1,
+                            text.get_text())
+            boxes.append((text.get_text(), box))
+        for (one, first), (other, second) in itertools.combinations(boxes, 2):
+            apart = (first.x1 <= second.x0 or second.x1 <= first.x0 or first.y1 <= second.y0 + 1
+                     or second.y1 <= first.y0 + 1)
+            self.assertTrue(apart, (one, other))
+        return [text for text, _ in boxes]
+
+    def is_drawn(self, text, box):
+        """Whether a text of a plot is drawn: labels of ticks beyond its ends are not."""
+        frame = text.axes.get_window_extent()
+        middle = (box.x0 + box.x1) / 2, (box.y0 + box.y1) / 2
+        return frame.x0 - 90 <= middle[0] <= frame.x1 + 1 and frame.y0 - 30 <= middle[1] <= frame.y1 + 40
 
     def test_small_log(self):
-        _, labels = self.draw(LOG)
-        for label in ("visible", "in flight", "delayed", "redriven", "age when deleted", "a", "d", "time (s)",
-                      "age when deleted (ms), each message", "no message was deleted in this time"):
-            self.assertIn(label, labels)
+        texts = self.texts_of(LOG)
+        for text in ("visible", "in flight", "delayed", "redriven", "expired", "middle", "95 %", "greatest", "a", "d",
+                     "time (s)", "age when deleted (ms):", "oldest message", "0", "2"):
+            self.assertIn(text, texts)
+        told = "Whole run: 2 came in, 1 deleted, 1 redriven, 0 left. The peak was 2 messages at 5\u00a0ms."
+        self.assertIn(told, texts)
+
+    def test_panels_without_anything_are_left_out_and_told(self):
+        texts = self.texts_of(LOG, "--queue", "d")
+        self.assertNotIn("middle", texts)
+        self.assertNotIn("redriven", texts)
+        self.assertIn("no message was deleted and none was redriven or expired.", " ".join(texts))
+
+    def test_a_queue_without_rows_is_drawn_where_it_is_asked_for(self):
+        texts = self.texts_of(LOG, "--queue", "quiet", "--queue", "a")
+        self.assertIn("quiet", texts)
+        self.assertIn("no message was there and no message was deleted", " ".join(texts))
 
     def test_widths_and_heights(self):
-        for words in (("--width", "640"), ("--width", "3000", "--height", "600"), ("--height", "700", "--queue", "d"),
-                      ("--from", "1400", "--to", "1600"), ("--queue", "d", "--queue", "a")):
+        for words in (("--width", "640"), ("--width", "1600"), ("--width", "3000", "--height", "900"),
+                      ("--height", "700", "--queue", "d"), ("--from", "1400", "--to", "1600"),
+                      ("--queue", "d", "--queue", "a"), ("--title", "$x^2$ " + "title " * 60, "--width", "640")):
             with self.subTest(words=words):
-                self.draw(LOG, *words)
+                self.texts_of(LOG, *words)
 
     def test_spans_of_time(self):
         for span in (1, 7, 999, 2_999, 60_000, 178_000, 3_599_999, 10_800_000, 86_399_999, 259_200_000, 2_592_000_000):
-            with self.subTest(span=span):
-                path = self.write("log", f"{HEADER}0,q,a,send,new,m-0-0,,x\n{span},q,a,delete,deleted,m-0-0,r,{span}\n")
-                queues, start, end = queues_of(path)
-                for width in (640, 1000, 1730):
-                    self.assert_readable(picture.picture(list(queues.values()), start, end, "t", width, None))
-
-    def test_many_rows(self):
-        """100,000 rows make lines of some thousand points at most."""
-        rows = [HEADER]
-        for i in range(33_400):
-            rows.append(f"{30 * i},q,p,send,new,m-0-{i},,x\n{30 * i + 5},q,c,receive,ok,m-0-{i},r-0-{i}-1,o-0-{i}\n")
-            rows.append(f"{30 * i + 6 + i % 20},q,c,delete,deleted,m-0-{i},r-0-{i}-1,{6 + i % 20}\n")
-        svg, labels = self.draw("".join(rows))
-        self.assertIn("Whole run: 33,400 came in, 33,400 deleted, 0 left", labels)
-        self.assertLess(len(list(svg.iter())), 200)
+            log = f"{HEADER}0,q,a,send,new,m-0-0,,x\n{span},q,a,delete,deleted,m-0-0,r,{span}\n"
+            for width in ("640", "1000", "1730"):
+                with self.subTest(span=span, width=width):
+                    self.texts_of(log, "--width", width)
 
     def test_long_names_and_many_queues(self):
         names = [f"{'long-name' * 8}-{i}" for i in range(25)]
         log = HEADER + "".join(f"{i},{name},p,send,new,m-{i}-0,,x\n" for i, name in enumerate(names))
-        _, labels = self.draw(log, "--width", "640")
-        self.assertIn("Queues over time: the 20 busiest of 25 queues", labels)
+        self.assertIn("the 20 busiest of 25 queues", self.texts_of(log, "--width", "640"))
+
+
+@needs_numpy
+class Tool(ToolCase):
+    def test_formats(self):
+        log = self.write("log", LOG)
+        self.write("s.toml", "version = 1\nseed = 5\nhorizon = 6020\n")
+        for name, head in (("p.svg", b"<?xml"), ("p.PNG", b"\x89PNG"), ("p.pdf", b"%PDF"), ("new/p.svg", b"<?xml")):
+            words = log, "--output", name, "--scenario", "s.toml", "--title", "My <queues>"
+            self.assertEqual(self.run_tool("picture", *words), (0, "", ""))
+            with open(self.path(name), "rb") as file:
+                data = file.read()
+            self.assertTrue(data.startswith(head))
+            self.run_tool("picture", *words)
+            with open(self.path(name), "rb") as file:
+                self.assertEqual(file.read(), data, name)
+        text = data.decode()
+        self.assertIn("My &lt;queues&gt;", text)
+        self.assertIn("s.toml, version 1, seed 5", text)
+
+    def test_width_of_a_png(self):
+        self.run_tool("picture", self.write("log", LOG), "--output", "p.png", "--width", "1600", "--height", "1200")
+        with open(self.path("p.png"), "rb") as file:
+            data = file.read(24)
+        self.assertEqual([int.from_bytes(data[at:at + 4], "big") for at in (16, 20)], [1600, 1200])
+
+    def test_many_rows(self):
+        """100,000 rows make a picture of some ten thousand points at most, also from standard input."""
+        rows = [HEADER]
+        for i in range(33_400):
+            rows.append(f"{30 * i},q,p,send,new,m-0-{i},,x\n{30 * i + 5},q,c,receive,ok,m-0-{i},r-0-{i}-1,o-0-{i}\n")
+            rows.append(f"{30 * i + 6 + i % 20},q,c,delete,deleted,m-0-{i},r-0-{i}-1,{6 + i % 20}\n")
+        run = subprocess.run([sys.executable, os.path.join(TOOLS, "picture"), "-"], input="".join(rows), text=True,
+                             capture_output=True)
+        self.assertEqual((run.returncode, run.stderr), (0, ""))
+        self.assertIn("Whole run: 33,400 came in, 33,400 deleted, 0 left.", run.stdout)
+        self.assertLess(len(run.stdout), 700_000)
 
     def test_faults(self):
         log = self.write("log", LOG)
+        report = self.write("all", LOG + "".join(f"{header}\n" for header in (
+            "final,queue,message,origin,place,due,enqueued,receives,group,md5",
+            "report,queue,sends,repeats,receives,empties,deletes,expiries,redrives,moves,arrivals,OverLimit,"
+            "MessageNotInflight,ReceiptHandleIsInvalid,BadTimeout,MissingGroup,MissingDeduplication,BadDelay,"
+            "TaskRunning,NoTask,depth_max,visible,in_flight,delayed,age_sum,age_max,age_p50,age_p95,age_p99")))
         for words, line in (
                 (("none",), "cannot read none: No such file or directory"),
                 ((self.write("empty", HEADER),), f"{self.path('empty')} has no rows to draw"),
-                ((log, "--queue", "x"), "no row of the log is of queue x"),
-                ((log, "--width", "639"), "a width of 639 is too small: 640 is enough"),
+                ((report, "--queue", "x"), "the run has no queue x"),
+                ((log, "--width", "639"), "a width of 639 will not do: it is 640 to 20000"),
                 ((log, "--width", "x"), "argument --width: invalid int value: 'x' (--help tells the usage)"),
                 ((log, "--from", "9", "--to", "9"), "there is no time from 9 to 9 ms"),
+                ((log, "--output", "p.jpg"), "p.jpg ends in none of .svg, .png, .pdf"),
+                ((log, "--output", "p"), "p ends in none of .svg, .png, .pdf"),
+                ((log, "--output", "log/p.svg"), "cannot write log/p.svg: File exists"),
+                ((log, "--scenario", "none.toml"), "cannot read none.toml: No such file or directory"),
+                ((log, "--height", "60000"), "a height of 60000 is too great: 50000 is the most"),
                 ((self.write("cut", "".join(LOG.splitlines(True)[:1] + LOG.splitlines(True)[3:])),),
-                 f"{self.path('cut')}: m-0-0 at 1000 never came into a: is this the whole log?")):
+                 f"{self.path('cut')} line 2: m-0-0 cannot be: is this the whole log?")):
             with self.subTest(words=words):
                 self.assert_fault(self.run_tool("picture", *words), f"picture: {line}")
 
-    @needs_program
-    def test_picture_of_the_documents(self):
-        with open(os.path.join(ROOT, "docs", "picture.svg"), encoding="utf-8") as file:
-            stored = file.read()
-        log = self.log_of_example("dead_letters.toml")
-        self.assertEqual(self.run_tool("picture", log, "--to", "40000"), (0, stored, ""))
-        self.assert_readable(stored)
+    def test_hostile_logs(self):
+        self.assert_hostile_logs("picture")
 
     def test_a_height_that_is_too_small_tells_one_that_is_enough(self):
         log = self.write("log", LOG)
         status, _, err = self.run_tool("picture", log, "--height", "100")
         self.assertEqual(status, 2)
         enough = err.split(": ")[-1].split()[0]
-        self.draw(LOG, "--height", enough)
+        self.assertEqual(self.run_tool("picture", log, "--height", enough, "--output", "p.png")[0], 0)
+
+    @needs_program
+    def test_picture_of_the_documents(self):
+        """The stored picture is the one that is drawn, by the same version of matplotlib, or has the same texts."""
+        with open(os.path.join(ROOT, "docs", "picture.svg"), encoding="utf-8") as file:
+            stored = file.read()
+        log, scenario = self.log_of_example("dead_letters.toml"), os.path.join(ROOT, "examples", "dead_letters.toml")
+        status, out, err = self.run_tool("picture", log, "--to", "40000", "--scenario", scenario)
+        self.assertEqual((status, err), (0, ""))
+        texts = [re.findall(r"<text [^>]*>([^<]*)</text>", svg) for svg in (stored, out)]
+        self.assertEqual(*texts)
+        self.assertGreater(len(texts[0]), 40)
+        if f"Matplotlib v{matplotlib.__version__}," in stored:
+            self.assertEqual(out, stored)
 
 
 if __name__ == "__main__":

@@ -1,103 +1,103 @@
-"""Tests that tools/scenarios.py changes one setting of a text and nothing else."""
+"""Tests that tools/scenarios.py finds what a text has, changes one setting and nothing else, and writes it whole."""
 import glob
 import os
+import tomllib
 import unittest
 
 import tool  # which also puts the tools on the path
 from console import Fault, read_text
-from scenarios import LISTS, Setting, name_in, tables_of, varied
+from scenarios import Setting, parsed, varied, written
 
-try:
-    import tomllib
-except ImportError:
-    tomllib = None
-
-TEXT = '''# A scenario.
+TEXT = r'''# A scenario.
 version = 1 # one
 "horizon"=60000
+queue = [{name = 'orders', visibility_s = 5}, {"visibility_s" = 7, name = "pay\u002Efifo"}]
 
-[[queue]] # [[queue]]
-name = 'orders' # name = "other"
-visibility_s=5# five
-
-[[ queue ]]
-visibility_s = 7
-name = "pay.fifo"
 [[actor]]
-name = "shop"
-kind = "script"
+name = "worker"
+kind = "consumer"
 queue = "orders"
 calls = """
 at,call,body
-0,send,"[[queue]] \\""" name = x"
+0,send,"[[queue]] \""" name = x"
 """
 list = [ "]", # ]
-  { a = "}" } ]
+  { a = "}", b = [1.5, inf, 1979-05-27T07:32:00Z] } ]
+[[actor]]
+name = "worker-9"
+batch = 2
 [[task]]
 name = """back"""
 queue = "orders"'''
 
 
-class Varied(unittest.TestCase):
-    def varied(self, text, **words):
-        return varied(text, tables_of(text), {Setting(path.replace("__", ".")): word for path, word in words.items()})
+def changed(*texts):
+    """The scenario with settings put to words, each as seed=1."""
+    settings = dict(text.split("=", 1) for text in texts)
+    return varied(parsed(TEXT, "text"), {Setting(path): word for path, word in settings.items()})
 
-    def test_a_value_is_put_in_its_place(self):
-        self.assertEqual(self.varied(TEXT, queue__orders__visibility_s="20"),
-                         TEXT.replace("visibility_s=5# five", "visibility_s=20# five"))
-        self.assertEqual(self.varied(TEXT, horizon="1"), TEXT.replace("60000", "1"))
-        self.assertEqual(self.varied(TEXT, actor__shop__queue="other"),
-                         TEXT.replace('kind = "script"\nqueue = "orders"', 'kind = "script"\nqueue = "other"'))
 
-    def test_a_name_may_have_a_dot(self):
-        text = varied(TEXT, tables_of(TEXT), {Setting("queue.pay.fifo.visibility_s"): "8"})
-        self.assertEqual(text, TEXT.replace("visibility_s = 7", "visibility_s = 8"))
+class Written(unittest.TestCase):
+    def test_what_is_written_is_what_was_read(self):
+        read = tomllib.loads(TEXT)
+        self.assertEqual(tomllib.loads(written(read)), read)
+        odd = {"a b": "\x7f\x00\"\\\n\u2028", "empty": [], "mixed": [1, {"x": {"y": True}}], "": 0, "list": [{}]}
+        self.assertEqual(tomllib.loads(written(odd)), odd)
 
-    def test_a_key_is_added_to_its_table(self):
-        self.assertEqual(self.varied(TEXT, seed="7"), TEXT.replace("version = 1", "seed = 7\nversion = 1"))
-        self.assertEqual(self.varied(TEXT, task__back__to="orders"),
-                         TEXT.replace("[[task]]\n", '[[task]]\nto = "orders"\n'))
-        self.assertEqual(self.varied(TEXT, queue__orders__delay_s="3"),
-                         TEXT.replace("# [[queue]]\n", "# [[queue]]\ndelay_s = 3\n"))
-
-    def test_several_at_once(self):
-        self.assertEqual(self.varied(TEXT, seed="7", sample="9", horizon="1", queue__orders__visibility_s="100"),
-                         TEXT.replace("version", "seed = 7\nsample = 9\nversion").replace("60000", "1")
-                         .replace("=5#", "=100#"))
-
-    def test_words_are_quoted_where_they_are_no_numbers(self):
-        for word, value in (("5", "5"), ("true", "true"), ("group", '"group"'), ('"5"', '"5"'), ("a\\b", '"a\\\\b"')):
-            self.assertIn(f"x = {value}\n", self.varied("version = 1\n", x=word))
-
-    def test_line_ends_and_a_byte_order_mark_stay(self):
-        self.assertEqual(self.varied("\ufeffversion = 1\r\n", seed="2"), "\ufeffseed = 2\r\nversion = 1\r\n")
-        self.assertEqual(self.varied('version = 1\n[[queue]]\nname = "q"', queue__q__delay_s="2"),
-                         'version = 1\n[[queue]]\ndelay_s = 2\nname = "q"')
-        self.assertEqual(self.varied("# nothing", seed="2"), "# nothing\nseed = 2\n")
-
-    @unittest.skipUnless(tomllib, "this Python has no tomllib")
-    def test_tables_of_stored_scenarios(self):
+    def test_stored_scenarios(self):
         paths = [path for folder in ("worked", "by-hand", "one-queue", "networks", "version-2")
                  for path in glob.glob(os.path.join(tool.ROOT, "tests", "cases", folder, "*.toml"))]
         self.assertGreater(len(paths), 50)
         for path in paths:
             with self.subTest(path=path):
-                text = read_text(path)
-                top, *found = [(table.of, name_in(text, table), set(table.values)) for table in tables_of(text)]
-                read = tomllib.loads(text.replace("\ufeff", ""))
-                wanted = [(of, table["name"], set(table)) for of in LISTS for table in read.get(of, [])]
-                self.assertEqual(top[2], set(read) - set(LISTS))
-                self.assertCountEqual(found, wanted)
+                read = parsed(read_text(path), path)
+                self.assertEqual(parsed(written(read), path), read)
+
+
+class Varied(unittest.TestCase):
+    def test_a_value_is_put_in_its_place_and_nothing_else_changes(self):
+        whole = tomllib.loads(TEXT)
+        self.assertEqual(changed("horizon=1"), {**whole, "horizon": 1})
+        self.assertEqual(changed("seed=-7"), {**whole, "seed": -7})
+        first, second = whole["queue"]
+        self.assertEqual(changed("queue.orders.visibility_s=20")["queue"], [{**first, "visibility_s": 20}, second])
+        self.assertEqual(changed("queue.orders.delay_s=3")["queue"], [{**first, "delay_s": 3}, second])
+
+    def test_a_name_with_a_dot_or_an_escape_is_found(self):
+        self.assertEqual(changed("queue.pay.fifo.visibility_s=8")["queue"][1], {"visibility_s": 8, "name": "pay.fifo"})
+
+    def test_asterisks_tie_tables(self):
+        self.assertEqual([queue["delay_s"] for queue in changed("queue.*.delay_s=4")["queue"]], [4, 4])
+        self.assertEqual([actor.get("batch") for actor in changed("actor.worker*.batch=5")["actor"]], [5, 5])
+        self.assertEqual([actor.get("batch") for actor in changed("actor.worker-*.batch=5")["actor"]], [None, 5])
+
+    def test_copies_of_an_actor_stand_in_its_place(self):
+        self.assertEqual([actor["name"] for actor in changed("count.worker=2")["actor"]],
+                         ["worker-1", "worker-2", "worker-9"])
+        for setting, waits in (("actor.worker", [1, 1, None]), ("actor.worker-2", [None, 1, None]),
+                               ("actor.worker-*", [1, 1, 1])):
+            actors = changed("count.worker=2", f"{setting}.wait_s=1")["actor"]
+            self.assertEqual([actor.get("wait_s") for actor in actors], waits)
+
+    def test_words(self):
+        for word, value in (("5", 5), ("true", True), ("group", "group"), ('"5"', "5"), ("a\\b", "a\\b"),
+                            ("1.5", "1.5"), ('"a\\tb"', "a\tb"), ("99999999999999999999", 99999999999999999999)):
+            self.assertEqual(changed(f"x={word}")["x"], value)
 
     def test_faults(self):
-        for path in ("queue.orders", "queues.orders.delay_s", "Seed", "queue.orders.", "."):
+        for path in ("queue.orders", "queues.orders.delay_s", "Seed", "queue.orders.", ".", "count."):
             with self.assertRaisesRegex(Fault, "is no setting"):
                 Setting(path)
-        with self.assertRaisesRegex(Fault, r"has no table \[\[actor\]\] with the name orders"):
-            self.varied(TEXT, actor__orders__delay_s="1")
-        for text in ("version", "a = [1", 'a = "', "a = '''x''"):
-            with self.assertRaisesRegex(Fault, "^line 2 of the scenario is not TOML"):
-                tables_of("version = 1\n" + text)
+        for text in ("actor.orders.delay_s=1", "count.orders=1", "actor.worker-3.batch=1"):
+            with self.assertRaisesRegex(Fault, r"has no table \[\[actor\]\] with the name (orders|worker-3)"):
+                changed(text)
+        for word in ("0", "10001", "x", "-1", "1" * 5_000):
+            with self.assertRaisesRegex(Fault, "is no number of copies, which has 1 to 10000"):
+                changed(f"count.worker={word}")
+        for text in ("version", "a = [1", 'a = "', "a = '''x''", "a = " + "[" * 5_000, "a = " + "1" * 5_000):
+            with self.assertRaisesRegex(Fault, "^file is no TOML: ") as caught:
+                parsed(text, "file")
+            self.assertNotIn("\n", str(caught.exception))
 
 
 if __name__ == "__main__":

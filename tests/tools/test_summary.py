@@ -11,6 +11,7 @@ import sys
 import unittest
 
 from tool import PROGRAM, ROOT, TOOLS, ToolCase, module_of, needs_program
+import summaries
 
 HEADER = "at,queue,agent,call,answer,message,receipt,detail\n"
 # A long poll; a batch of two; m-0-0 is handled by two consumers, m-0-1 after its timeout, m-0-2 as it has left for d.
@@ -296,7 +297,7 @@ class Stored(SummaryCase):
 
 
 def leading(age):
-    return None if age is None else summary.leading(age)
+    return None if age is None else summaries.leading(age)
 
 
 class SideBySide(SummaryCase):
@@ -378,9 +379,9 @@ class Stream(SummaryCase):
 
     def test_ages_have_bounded_room(self):
         """An age of n bits is told by 16 of them at most: 2^15 for each n over 16, and all that are shorter."""
-        ages = {summary.leading(age) for age in range(1 << 20)}
+        ages = {summaries.leading(age) for age in range(1 << 20)}
         self.assertEqual(len(ages), (1 << 16) + 4 * (1 << 15))
-        self.assertEqual([summary.leading(age) for age in (0, 65_535, 65_536, 65_537, 1_209_600_000)],
+        self.assertEqual([summaries.leading(age) for age in (0, 65_535, 65_536, 65_537, 1_209_600_000)],
                          [0, 65_535, 65_536, 65_536, 1_209_597_952])
 
     def test_output_that_is_closed_early(self):

@@ -3,11 +3,13 @@ import csv
 import io
 import os
 import shlex
+import signal
 import subprocess
 import sys
+import time
 import unittest
 
-from tool import PROGRAM, ROOT, ToolCase, needs_program
+from tool import PROGRAM, ROOT, TOOLS, ToolCase, needs_program
 
 COLUMNS = ("sends,repeats,receives,empties,deletes,expiries,redrives,moves,arrivals,OverLimit,MessageNotInflight,"
            "ReceiptHandleIsInvalid,BadTimeout,MissingGroup,MissingDeduplication,BadDelay,TaskRunning,NoTask,depth_max,"
@@ -21,19 +23,28 @@ visibility_s = 1
 [[queue]]
 name = "r"
 """
+WORKER = """[[actor]]
+name = "worker"
+kind = "consumer"
+queue = "q"
+"""
 # Reports 100 sends for each second of visibility and one for each unit of the seed, and refuses a visibility over 50.
+# A seed of 77 takes a minute; with a worker the greatest age is the seed in seconds, and without one it is not there.
 STAND_IN = f"""#!{sys.executable}
-import re, sys
+import re, sys, time
 if sys.argv[1:] == ["--help"]:
     sys.exit(0)
-assert sys.argv[1:5] == ["run", "--scripts", sys.argv[3], "--log"], sys.argv
-text = open(sys.argv[-1]).read()
+assert sys.argv[1:] == ["run", "--scripts", sys.argv[3], "--log", "/dev/null"], sys.argv
+text = sys.stdin.read()
 seed, visibility = (int(re.search(key + " = ([0-9]+)", text)[1]) for key in ("seed", "visibility_s"))
+if seed == 77:
+    time.sleep(60)
 if visibility > 50:
     sys.exit("refused 14 OutOfRange at queue[0].visibility_s")
 print("final,queue,message,origin,place,due,enqueued,receives,group,md5")
 print("report,queue,{COLUMNS}")
-print(f"report,q,{{100 * visibility + seed}}," + "0," * 21 + f"{{seed}},{{seed}},,,")
+workers = len(re.findall('name = "worker', text))
+print(f"report,q,{{100 * visibility + seed}}," + "0," * 21 + f"{{seed}},{{seed}},,,{{1000 * seed if workers else ''}}")
 print("report,r," + "0," * 22 + "0,,,,")
 """
 
@@ -101,8 +112,9 @@ class Sweep(ToolCase):
 
     def test_faults(self):
         for words, line in (
-                ((), "a SCENARIO and at least one --vary are needed (--help tells the usage)"),
-                ((self.scenario,), "a SCENARIO and at least one --vary are needed (--help tells the usage)"),
+                ((), "a SCENARIO and at least one --vary or --require are needed (--help tells the usage)"),
+                ((self.scenario,),
+                 "a SCENARIO and at least one --vary or --require are needed (--help tells the usage)"),
                 ((self.scenario, "--vary", "seed"), "seed is no setting with values, as seed=1..20"),
                 ((self.scenario, "--vary", "seed=1,,2"), "1,,2 is no list of values, as 2,5,10 or 1..20"),
                 ((self.scenario, "--vary", "seed=3..1"), "3..1 has no values or over 1000000"),
@@ -115,9 +127,90 @@ class Sweep(ToolCase):
                 ((self.scenario, "--vary", "seed=1", "--program", "/nowhere"), "there is no program /nowhere"),
                 (("none", "--vary", "seed=1"), "cannot read none: No such file or directory"),
                 (("--collect", "none"), "cannot read none: No such file or directory"),
+                ((self.scenario, "--require", "q.sends"), "q.sends is no requirement, as orders.age_p95<60s"),
+                ((self.scenario, "--require", "q.sends<1s"), "q.sends<1s: 1s is not a number without a unit"),
+                ((self.scenario, "--require", "q.age_max<x"),
+                 "q.age_max<x: x is not a number with a unit, as 60s"),
+                ((self.scenario, "--require", "x.sends<1"), "x.sends<1: there is no queue x"),
+                ((self.scenario, "--require", "q.sense<1"),
+                 "q.sense<1: the report has no column sense; it has " + COLUMNS.replace(",", ", ")),
+                ((self.scenario, "--vary", "seed=1", "--columns", "sends,x"),
+                 "the report has no column x; it has " + COLUMNS.replace(",", ", ")),
+                ((self.scenario, "--vary", "count.q=1"), "the scenario has no table [[actor]] with the name q"),
+                ((self.scenario, "--vary", "seed=1", "--jobs", "0"), "--jobs is 1 to 1024"),
+                ((self.scenario, "--vary", "seed=77", "--output", "s.toml/rows.csv"),
+                 "cannot write s.toml/rows.csv: File exists"),
+                ((self.scenario, "--vary", "seed=77", "--output", "."), "cannot write .: Is a directory"),
                 (("--collect", "."), ". has the files of 0 sweeps, which should be one")):
             with self.subTest(words=words):
                 self.assert_fault(self.sweep(*words), f"sweep: {line}")
+
+    def test_files_that_are_no_scenario(self):
+        for data in (b"\x00\x01", b"version = ", "version = 1".encode("utf-16"), b"a = " + b"[" * 3_000):
+            with open(self.path("bad.toml"), "wb") as file:
+                file.write(data)
+            status, out, err = self.sweep("bad.toml", "--vary", "seed=1")
+            self.assertEqual((status, out, len(err.splitlines())), (2, "", 1), err)
+
+    def test_requirements(self):
+        words = self.scenario, "--vary", "queue.q.visibility_s=2,51", "--vary", "seed=1,3"
+        status, _, err = self.sweep(*words, "--require", "q.sends<203", "--require", "*.expiries=0")
+        told = [line for line in err.splitlines() if "variants run" not in line]
+        self.assertEqual((status, told), (1, [
+            "sweep: q.sends<203 fails with queue.q.visibility_s=2 seed=3: it is 203",
+            "sweep: nothing is known of queue.q.visibility_s=51 seed=1: refused 14 OutOfRange at queue[0].visibility_s",
+            "sweep: nothing is known of queue.q.visibility_s=51 seed=3: refused 14 OutOfRange at queue[0].visibility_s",
+            "sweep: requirements that hold: 5 of 6"]))
+
+    def test_requirements_of_ages(self):
+        """The greatest age is 5 s with a worker; without one no message is deleted, and nothing holds of ages."""
+        scenario = self.write("worker.toml", SCENARIO.replace("seed = 0", "seed = 5") + WORKER)
+        for text, status in (("q.age_p99<=5s", 0), ("q.age_p99 < 5001 ms", 0), ("q.age_p99<5000", 1),
+                             ("q.age_p99=5000", 0), ("q.age_p99!=0.0833m", 0), ("q.age_p99>1h", 1),
+                             ("q.age_p50<1d", 1)):
+            with self.subTest(text=text):
+                self.assertEqual(self.sweep(scenario, "--require", text)[0], status)
+        _, _, err = self.sweep(scenario, "--require", "q.age_p99<5s")
+        self.assertIn("sweep: q.age_p99<5s fails with the scenario as it is: it is 5000 ms, 5.00 s\n", err)
+        _, _, err = self.sweep(self.scenario, "--require", "q.age_p99<5s")
+        self.assertIn("sweep: q.age_p99<5s fails with the scenario as it is: no message was deleted\n", err)
+
+    def test_requirements_of_collected_rows(self):
+        _, jobs, _ = self.sweep(self.scenario, "--vary", "seed=1..2", "--print-jobs", "jobs")
+        for job in jobs.splitlines():
+            subprocess.run(["sh", "-c", f"{shlex.quote(sys.executable)} {job}"], check=True, capture_output=True)
+        status, _, err = self.sweep("--collect", "jobs", "--require", "q.sends=101", "--spread", "seed")
+        self.assertEqual((status, err), (1, "sweep: q.sends=101 fails with seed=2: it is 102\n"
+                                         "sweep: requirements that hold: 1 of 2\n"))
+
+    def test_columns_and_a_table(self):
+        words = self.scenario, "--vary", "seed=1,10", "--columns", "age_sum,sends,age_p50"
+        self.assertEqual(self.sweep(*words)[1], "seed,failed,queue,age_sum,sends,age_p50\n1,,q,1,101,\n1,,r,0,0,\n"
+                         "10,,q,10,110,\n10,,r,0,0,\n")
+        self.assertEqual(self.sweep(*words, "--table")[1], "seed  queue  age_sum  sends\n   1  q            1    101\n"
+                         "   1  r            0      0\n  10  q           10    110\n  10  r            0      0\n")
+        self.assertEqual(self.sweep(*words, "--spread", "seed", "--output", "new/rows.csv")[0], 0)
+        with open(self.path("new/rows.csv"), encoding="utf-8") as file:
+            header, rows = self.records(file.read())
+        self.assertEqual((header[:5], rows[0][:5]), (["failed", "queue", "runs", "age_sum_mean", "age_sum_deviation"],
+                                                     ["", "q", "2", "5.5", "6.364"]))
+
+    def test_rows_so_far_are_kept_on_an_interrupt(self):
+        for number, words in ((signal.SIGINT, ()), (signal.SIGTERM, ("--output", "rows.csv"))):
+            command = [sys.executable, os.path.join(TOOLS, "sweep"), self.scenario, "--vary", "seed=1,2,77,4",
+                       "--jobs", "1", "--columns", "sends", "--program", self.program, *words]
+            pipe = subprocess.PIPE
+            process = subprocess.Popen(command, cwd=self.folder, stdout=pipe, stderr=pipe, text=True)
+            self.assertIn("1 of 4 variants run", process.stderr.readline())
+            time.sleep(1)
+            process.send_signal(number)
+            out, err = process.communicate(timeout=20)
+            if words:
+                with open(self.path("rows.csv"), encoding="utf-8") as file:
+                    out = file.read()
+            self.assertEqual((process.returncode, out), (130, "seed,failed,queue,sends\n1,,q,101\n1,,r,0\n2,,q,102\n"
+                                                         "2,,r,0\n"))
+            self.assertIn("sweep: interrupted after 2 of 4 variants\n", err)
 
     def test_faults_of_the_scenario_come_before_those_of_the_program(self):
         ran = self.sweep("none", "--vary", "seed=1", "--program", "/nowhere")
@@ -134,6 +227,36 @@ class Sweep(ToolCase):
         self.write("jobs/1-of-2.csv", header + "\n")
         self.assert_fault(self.sweep("--collect", folder),
                           f"sweep: {folder} has the files of 2 sweeps, which should be one")
+
+    @needs_program
+    def test_copies_with_the_program(self):
+        """Each of n copies of a producer of three messages sends its three."""
+        scenario = self.write("p.toml", """version = 1
+horizon = 10000
+queue = [{name = "q"}]
+[[actor]]
+name = "shop"
+kind = "producer"
+queue = "q"
+count = 3
+gap_min_ms = 1
+gap_max_ms = 1
+body = "b"
+""")
+        status, out, _ = self.sweep(scenario, "--program", PROGRAM, "--vary", "count.shop=1..4", "--columns", "sends")
+        self.assertEqual((status, [row[-1] for row in self.records(out)[1]]), (0, ["3", "6", "9", "12"]))
+
+    @needs_program
+    def test_example_of_the_documents(self):
+        with open(os.path.join(TOOLS, "README.md"), encoding="utf-8") as file:
+            text = file.read()
+        start = text.index("$ tools/sweep examples/dead_letters.toml")
+        quoted, told = text[start:text.index("\n```", start)].split("--table\n")
+        words = shlex.split(quoted.replace("\\\n", "").replace("$ tools/sweep examples/", ROOT + "/examples/"))
+        status, out, err = self.sweep(*words, "--table", "--program", PROGRAM)
+        lines = [line for line in err.splitlines() if "variants run" not in line or " 4 of " in line]
+        self.assertEqual((status, sorted(lines) + out.splitlines()), (1, sorted(told.splitlines()[:4])
+                         + told.splitlines()[4:]))
 
     @needs_program
     def test_with_the_program(self):

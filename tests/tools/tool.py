@@ -34,6 +34,22 @@ def module_of(name):
     return module_at(os.path.join(TOOLS, name), name)
 
 
+LOG_HEADER = b"at,queue,agent,call,answer,message,receipt,detail\n"
+SENT = b"0,q,shop,send,new,m-0-0,,900150983cd24fb0d6963f7d28e17f72\n"
+# Files that are no logs, by what is wrong with them.
+HOSTILE_LOGS = {
+    "empty": b"", "binary": bytes(range(256)) * 9, "no line end": LOG_HEADER + SENT + b"5,q,shop",
+    "JSON": b'{"Attributes": {}}\n', "UTF-16": "at,queue\n".encode("utf-16"), "a picture": b"\x89PNG\r\n\x1a\n\0\0\0",
+    "huge time": LOG_HEADER + SENT + b"9" * 5_000 + b",q,shop,send,new,m-0-1,,x\n",
+    "no column detail": LOG_HEADER.replace(b",detail", b"") + b"0,q,shop,send,new,m-0-0,\n",
+    "a row without its last column": LOG_HEADER + b"0,q,shop,send,new,m-0-0,\n",
+    "a huge id": LOG_HEADER + b"0,q,shop,send,new,m-0-" + b"9" * 50 + b",,x\n",
+    "no number for an age": LOG_HEADER + SENT + b"1,q,shop,delete,deleted,m-0-0,r-0-0-1,old\n",
+    "backward": LOG_HEADER + SENT.replace(b"0,q", b"9,q", 1) + SENT,
+    "a line without end": LOG_HEADER + b"0" * 3_000_000,
+}
+
+
 class ToolCase(unittest.TestCase):
     """A test with a folder of its own, in which it writes files and runs tools."""
 
@@ -62,6 +78,19 @@ class ToolCase(unittest.TestCase):
         run = subprocess.run([sys.executable, os.path.join(TOOLS, name), *words], cwd=self.folder, text=True,
                              capture_output=True, env={**os.environ, **environment})
         return run.returncode, run.stdout, run.stderr
+
+    def assert_hostile_logs(self, name, *words):
+        """The tool tells one line on standard error of each file that is no log, and nothing else."""
+        for case, data in HOSTILE_LOGS.items():
+            with open(self.path("hostile"), "wb") as file:
+                file.write(data)
+            for log in ("hostile", "-"):
+                with self.subTest(case=case, log=log), open(self.path("hostile"), "rb") as stream:
+                    run = subprocess.run([sys.executable, os.path.join(TOOLS, name), log, *words], cwd=self.folder,
+                                         stdin=stream, capture_output=True)
+                    told = run.returncode, run.stdout, len(run.stderr.splitlines())
+                    self.assertEqual(told, (2, b"", 1), run.stderr)
+                    self.assertTrue(run.stderr.startswith(f"{name}: ".encode()), run.stderr)
 
     def assert_fault(self, ran, line):
         """The tool told one line on standard error, and nothing else."""

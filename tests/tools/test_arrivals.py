@@ -1,0 +1,168 @@
+"""Tests tools/arrivals: exact times where they are given, and counts and bounds where they come by chance."""
+import csv
+import io
+import json
+import os
+import subprocess
+import unittest
+
+from tool import PROGRAM, TOOLS, ToolCase, needs_program
+
+HEADER = "at,call,body,group,id,delay,receipt,max,wait,timeout,task\n"
+MINUTE = 60_000
+METRIC = {"MetricDataResults": [
+    {"Id": "sent", "Label": "NumberOfMessagesSent", "StatusCode": "Complete",
+     "Timestamps": ["2024-05-01T12:03:00+00:00", "2024-05-01T12:00:00+00:00"], "Values": [7.0, 40.0]},
+    {"Id": "other", "Timestamps": ["2024-05-01T12:00:00Z"], "Values": [1]}], "Messages": []}
+
+
+class Arrivals(ToolCase):
+    def made(self, *words):
+        """The records of the script that is made, which ascend strictly."""
+        status, out, err = self.run_tool("arrivals", *words)
+        self.assertEqual((status, err), (0, ""))
+        self.assertTrue(out.startswith(HEADER))
+        records = list(csv.DictReader(io.StringIO(out)))
+        times = [int(record["at"]) for record in records]
+        self.assertTrue(all(early < late for early, late in zip(times, times[1:])))
+        return records, times
+
+    def test_times_of_a_file(self):
+        """Seconds from the earliest on; two at 2.5 s are a millisecond apart, and the third is put off by two."""
+        path = self.write("t.csv", "12.5\n10\n12.5\n\n12.501\n")
+        self.assertEqual(self.run_tool("arrivals", "times", path, "--start", "100"), (0, HEADER + "".join(
+            f"{at},send,message {n},,,,,,,,\n" for n, at in enumerate((100, 2600, 2601, 2602))), ""))
+        self.assertEqual(self.made("times", path, "--unit", "ms", "--origin", "4")[1], [6, 8, 9, 10])
+
+    def test_moments_columns_and_bodies(self):
+        text = 'id,when,what\n1,2024-05-01T12:00:01Z,"a, b"\n2,2024-05-01T14:00:00.250+02:00,c {n}\n'
+        path = self.write("t.csv", text)
+        records, times = self.made("times", path, "--column", "when", "--bodies", "what", "--origin",
+                                   "2024-05-01T12:00:00")
+        self.assertEqual((times, [record["body"] for record in records]), ([250, 1000], ["c 0", "a, b"]))
+
+    def test_a_metric_of_cloudwatch(self):
+        """In each period so many as it says, the first at the beginning of the run."""
+        _, times = self.made("metric", self.write("m.json", json.dumps(METRIC)), "--id", "sent")
+        self.assertEqual([sum(start <= at < start + MINUTE for at in times) for start in (0, 3 * MINUTE)], [40, 7])
+        self.assertEqual(len(times), 47)
+        points = {"Datapoints": [{"Timestamp": "2024-05-01T12:05:00Z", "Sum": 3.0, "Unit": "Count"}]}
+        path = self.write("m.json", json.dumps(points))
+        _, times = self.made("metric", path, "--period", "1", "--origin", "2024-05-01T12:00:00Z")
+        self.assertTrue(len(times) == 3 and all(300_000 <= at < 301_000 for at in times))
+
+    def test_poisson(self):
+        """10,000 are expected of ten a second in 1,000 seconds; 400 are four deviations, and gaps are exponential."""
+        words = "poisson", "--rate", "10/s", "--duration", "1000s"
+        records, times = self.made(*words, "--seed", "5")
+        self.assertTrue(9_600 <= len(times) <= 10_400 and times[-1] < 1_000_000)
+        longer = sum(late - early > 100 for early, late in zip(times, times[1:])) / len(times)
+        self.assertTrue(0.34 < longer < 0.40, longer)
+        self.assertEqual(records[7]["body"], "message 7")
+        self.assertEqual(self.made(*words, "--seed", "5")[1], times)
+        self.assertNotEqual(self.made(*words, "--seed", "6")[1][:20], times[:20])
+
+    def test_bursts(self):
+        """Bursts of five at 0, 90 and 180 s, each within three seconds; the next would be after the end."""
+        _, times = self.made("bursts", "--size", "5", "--every", "90s", "--over", "3s", "--duration", "4min")
+        counts = [sum(start <= at < start + 3_005 for at in times) for start in (0, 90_000, 180_000)]
+        self.assertEqual(counts, [5, 5, 5])
+        self.assertEqual(len(times), 15)
+
+    def test_hours_of_the_day(self):
+        """400 are expected in the second hour of each of two days, within four deviations, and none in another."""
+        numbers = ",".join(["0", "400"] + ["0"] * 22)
+        _, times = self.made("hours", "--numbers", numbers, "--duration", "2d")
+        days = [sum(start <= at < start + 3_600_000 for at in times) for start in (3_600_000, 90_000_000)]
+        self.assertTrue(all(320 <= count <= 480 for count in days), days)
+        self.assertEqual(sum(days), len(times))
+
+    def test_groups_and_ids_of_a_fifo_queue(self):
+        records, _ = self.made("bursts", "--size", "3", "--every", "1h", "--over", "1s", "--duration", "1s", "--queue",
+                               "q.fifo", "--groups", "2")
+        self.assertEqual([(record["group"], record["id"]) for record in records],
+                         [("g0", "m0"), ("g1", "m1"), ("g0", "m2")])
+
+    def test_several_files(self):
+        words = "poisson", "--rate", "300/s", "--duration", "500s", "--queue", "q"
+        self.assertEqual(self.run_tool("arrivals", *words)[0], 2)
+        status, out, _ = self.run_tool("arrivals", *words, "--output", "in/a.csv")
+        self.assertEqual(status, 0)
+        actor = '[[actor]]\nname = "a-{0}"\nkind = "script"\nqueue = "q"\nscript = "a-{0}.csv"\n'
+        self.assertEqual(out, "\n".join(map(actor.format, (1, 2))))
+        lengths = []
+        for number in (1, 2):
+            with open(self.path(f"in/a-{number}.csv"), encoding="utf-8") as file:
+                lengths.append(len(file.readlines()) - 1)
+        self.assertEqual(lengths[0], 100_000)
+
+    def test_faults(self):
+        times = self.write("t.csv", "when\n1\n")
+        metric = self.write("m.json", json.dumps(METRIC))
+        for words, line in (
+                (("poisson", "--rate", "5", "--duration", "1s"), "5 is no rate, as 5/s or 300/min"),
+                (("poisson", "--rate", "0/s", "--duration", "1s"), "0/s is no rate, as 5/s or 300/min"),
+                (("poisson", "--rate", "5/s", "--duration", "9"),
+                 "9 is no time with a unit, as 90s or 2h, within 4,294,967,295 ms"),
+                (("poisson", "--rate", "9999999999/ms", "--duration", "1h"), "over 5,000,000 messages"),
+                (("poisson", "--rate", "5/s"), "poisson needs --duration (--help tells the usage)"),
+                (("bursts", "--size", "0", "--every", "1s", "--over", "1s", "--duration", "1s"),
+                 "--size is at least 1"),
+                (("bursts", "--size", "99999999", "--every", "1s", "--over", "1s", "--duration", "1s"),
+                 "over 5,000,000 messages"),
+                (("hours", "--numbers", "1,2", "--duration", "1d"),
+                 "--numbers has a number of messages for each of the 24 hours of a day, between commas"),
+                (("times",), "times needs a FILE (--help tells the usage)"),
+                (("times", "none"), "cannot read none: No such file or directory"),
+                (("times", times, "--column", "x"), f"{times} has no column x; it has when"),
+                (("times", times, "--unit", "y"), "y is no unit; units are ms, s, m, min, h, d"),
+                (("times", times, "--origin", "2"), "a time is before the origin 2"),
+                (("times", times, "--origin", "x"), "x is no time"),
+                (("times", times, "--body", ""), "the body of message 0 has not 1 to 1,024 bytes: ''"),
+                (("times", times, "--start", "4294967295", "--output", "t.csv/x"), "cannot write t.csv/x: File exists"),
+                (("metric", metric), f"{metric} has 2 results, of which --id names one: sent, other"),
+                (("metric", metric, "--id", "sent", "--period", "0"), "a period has 1 to 86400 seconds")):
+            with self.subTest(words=words):
+                self.assert_fault(self.run_tool("arrivals", *words), f"arrivals: {line}")
+
+    def test_files_of_other_kinds(self):
+        for data in (b"", b"\n\n", b"\x00\xff", bytes(range(256)), b"when\n", b"1\nx\n", b'1\n"2', b"1" * 5_000,
+                     b"1e400\n", b"1\n9999999999\n", b"\xff\xfe1", b"[" * 100_000, b"{}", b'{"MetricDataResults": []}',
+                     b'{"Datapoints": [{"Timestamp": "x", "Sum": 1}]}',
+                     b'{"Datapoints": [{"Timestamp": "1", "Sum": 1e999}]}',
+                     b'{"MetricDataResults": [{"Timestamps": ["2024-05-01"], "Values": []}]}',
+                     b'{"MetricDataResults": [{"Timestamps": ["2024-05-01"], "Values": ["1"]}]}'):
+            with open(self.path("given"), "wb") as file:
+                file.write(data)
+            for kind in ("times", "metric"):
+                with self.subTest(data=data[:40], kind=kind):
+                    status, out, err = self.run_tool("arrivals", kind, "given")
+                    self.assertEqual((status, out, len(err.splitlines())), (2, "", 1), err)
+
+    @needs_program
+    def test_what_is_made_runs(self):
+        """A standard and a FIFO queue, each with the messages of its script."""
+        top = "version = 1\nhorizon = 100000\n"
+        for queue in ("q", "q.fifo"):
+            status, actors, _ = self.run_tool("arrivals", "bursts", "--size", "20", "--every", "10s", "--over", "9s",
+                                              "--duration", "30s", "--queue", queue, "--output", "a.csv")
+            self.assertEqual(status, 0)
+            scenario = self.write("s.toml", f'{top}[[queue]]\nname = "{queue}"\n{actors}')
+            run = subprocess.run([PROGRAM, "run", "--scripts", self.folder, "--log", os.devnull, scenario],
+                                 capture_output=True, text=True)
+            self.assertEqual((run.returncode, run.stderr), (0, ""))
+            self.assertIn(f"\nreport,{queue},60,0,", run.stdout)
+
+    def test_example_of_the_documents(self):
+        words = "bursts", "--size", "2", "--every", "10min", "--over", "5s", "--duration", "20min", "--queue", "orders"
+        _, script, _ = self.run_tool("arrivals", *words)
+        _, actors, _ = self.run_tool("arrivals", *words, "--output", "orders.csv")
+        with open(os.path.join(TOOLS, "README.md"), encoding="utf-8") as file:
+            text = file.read()
+        self.assertIn(" ".join(words), text)
+        self.assertIn(script, text)
+        self.assertIn(actors, text)
+
+
+if __name__ == "__main__":
+    unittest.main()

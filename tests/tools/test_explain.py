@@ -1,0 +1,215 @@
+"""Tests tools/explain with a stand-in for the program that refuses as it is told, and with the program itself."""
+import glob
+import os
+import subprocess
+import sys
+import unittest
+
+from tool import PROGRAM, ROOT, TOOLS, ToolCase, needs_program
+from positions import Positions
+
+TOP = "version = 1\nhorizon = 60000\n"
+ORDERS = TOP + """
+[[queue]]
+name = "orders"
+delay_s = 901 # too long
+"""
+SHOP = ORDERS + """[[actor]]
+name = "shop"
+kind = "script"
+queue = "orders"
+calls = \"\"\"
+at,call,body,group,id,delay,receipt,max,wait,timeout,task
+0,send,"two
+lines",,,,,,,,
+
+5,receive,,,,,,1,2,,
+2005,sent,x,,,,,,,,
+\"\"\"
+"""
+STAND_IN = f"""#!{sys.executable}
+import os, sys
+if sys.argv[1:] == ["--help"]:
+    sys.exit(0)
+assert sys.argv[1] == "check", sys.argv
+sys.stdin.read()
+sys.exit(os.environ["REFUSAL"])
+"""
+
+PAID = '[[queue]]\nname = "paid"\n'
+INLINE = TOP + 'queue = [{name = "q", latency_ms = 3}, {name = "d.fifo", hosts = 2}]\n'
+ACTOR = ORDERS + '[[actor]]\nname = "{}"\nkind = "{}"\nqueue = "{}"\n'
+# Scenarios, how each is refused, where, and what is told.
+REASONS = (
+    (ORDERS.replace("delay_s", "dely_s"), "11 UnknownKey at queue[0].dely_s", "6:1",
+     "dely_s is no key of the queue orders; it has name, visibility_s, delay_s, retention_s, in_flight, "
+     "hosts, "
+     "sampled, dead_letter, max_receives, latency_ms. Did you mean delay_s?"),
+    (INLINE, "11 UnknownKey at queue[0].latency_ms", "3:23",
+     "latency_ms stands only together with dead_letter, which the queue q does not have."),
+    (INLINE, "11 UnknownKey at queue[1].hosts", "3:58",
+     "hosts is a key of standard queues alone, and the queue d.fifo is a FIFO queue."),
+    (ACTOR.format("shop", "producer", "orders") + "batch = 3\n", "11 UnknownKey at actor[0].batch", "11:1",
+     "batch is a key of a consumer, and the producer shop is none."),
+    (ORDERS + 'dead_letter = "x"\nlatency_min_ms = 3\n', "11 UnknownKey at queue[0].latency_min_ms", "8:1",
+     "latency_min_ms is a key of version 2; version 1 has latency_ms."),
+    (ORDERS + PAID + 'dead_letter = "orders"\n', "12 MissingKey at queue[1].max_receives", "7:1",
+     "The queue paid has no max_receives, which is required beside dead_letter. It has 1 to 1,000."),
+    (ACTOR.format("shop", "producer", "orders") + "cuont = 3\n", "12 MissingKey at actor[0].count", "7:1",
+     "The producer shop has no count, which is required. It has 1 to 1,000,000. Is cuont meant to be it?"),
+    (ORDERS.replace("901", '"5"'), "13 WrongType at queue[0].delay_s", "6:11",
+     "delay_s of the queue orders is a text, and has to be a whole number. A number stands without "
+     "quotes. It "
+     "has 0 to 900, and 0 where it is not given."),
+    (TOP + "queue = 3\n", "13 WrongType at queue", "3:9",
+     "queue of the scenario is a whole number, and has to be a list of tables. Each begins with "
+     "[[queue]]."),
+    (ACTOR.format("a", "consumr", "orders"), "14 OutOfRange at actor[0].kind", "9:8",
+     "kind of the actor a is consumr. It is script, producer or consumer. Did you mean consumer?"),
+    (ACTOR.format("a", "producer", "orders") + "gap_min_ms = 9\ngap_max_ms = 8\n",
+     "14 OutOfRange at actor[0].gap_max_ms", "12:14",
+     "gap_max_ms of the producer a is 8. It may not be less than gap_min_ms, which is 9."),
+    (ORDERS.replace("orders", "or ders"), "15 BadName at queue[0].name", "5:8",
+     "The name or ders will not do. A queue's name has 1 to 80 ASCII letters, digits, - and _, and for a "
+     "FIFO "
+     "queue .fifo at its end, which counts among the 80."),
+    (ORDERS + PAID.replace("paid", "orders"), "16 NameTwice at queue[1].name", "8:8",
+     "The queue in line 5 has the name orders already; queues, actors and tasks share their names."),
+    (ACTOR.format("a", "script", "ordres"), "17 UnknownQueue at actor[0].queue", "10:9",
+     "queue of the script a is ordres, and there is no queue of this name. Did you mean orders?"),
+    (ORDERS + 'dead_letter = "orders"\n', "17 UnknownQueue at queue[0].dead_letter", "7:15",
+     "dead_letter of the queue orders is the queue itself; it has to be another one."),
+    (ORDERS + 'dead_letter = "d.fifo"\n', "18 KindMismatch at queue[0].dead_letter", "7:15",
+     "dead_letter of the queue orders is d.fifo, a FIFO queue, and orders is a standard queue; both have "
+     "to be "
+     "of one kind."),
+    (TOP + "x = [1,\n  ,]\n", "10 NotToml", "4:3", "Invalid value."),
+    (TOP + 'x = """a', "10 NotToml", "3:9", "Unterminated string, as the text ends."))
+
+
+class Explain(ToolCase):
+    def setUp(self):
+        super().setUp()
+        self.program = self.write("program", STAND_IN)
+        os.chmod(self.program, 0o755)
+
+    def explained(self, text, refusal, *words):
+        """What is told of a scenario that is refused so."""
+        self.write("s.toml", text)
+        status, out, err = self.run_tool("explain", "s.toml", *words, SQS_REHEARSE=self.program, REFUSAL=refusal)
+        self.assertEqual((status, err), (1, ""))
+        return out
+
+    def test_place_line_and_range(self):
+        self.assertEqual(self.explained(ORDERS, "refused 14 OutOfRange at queue[0].delay_s"),
+                         "s.toml:6:11: refused 14 OutOfRange at queue[0].delay_s\n  delay_s = 901 # too long\n"
+                         "            ^\ndelay_s of the queue orders is 901. It has 0 to 900, and 0 where it is not "
+                         "given.\n")
+
+    def test_reasons(self):
+        for text, refusal, place, reason in REASONS:
+            with self.subTest(refusal=refusal):
+                lines = self.explained(text, f"refused {refusal}").splitlines()
+                self.assertEqual((lines[0], lines[-1]), (f"s.toml:{place}: refused {refusal}", reason))
+                self.assertEqual(lines[2].index("^") - 1, int(place.split(":")[1]))
+
+    def test_a_script_in_the_scenario(self):
+        """The record after the blank line and the text of two lines is the fourth, in the second line after them."""
+        self.assertEqual(self.explained(SHOP, "refused 20 BadScript at actor[0].calls:4"),
+                         "s.toml:17: refused 20 BadScript at actor[0].calls:4\n  2005,sent,x,,,,,,,,\n"
+                         "Record 4 of the script shop: There is no call sent; calls are send, receive, delete, change, "
+                         "start, cancel. Did you mean send?\n")
+        for old, new, reason in (
+                ("2005,sent", "2005,send", "Its time 2005 is not after 2005, the end of the wait of the receive "
+                                           "before it."),
+                ("2005,sent,x,,,,,,,,", "3000,send,x,g,,,,,,,",
+                 "It has the field group, which messages of a FIFO queue have alone."),
+                ("2005,sent,x,,,,,,,,", "3000,send,x,,,,,,,", "It has 10 fields, and needs 11: "
+                                                              "at,call,body,group,id,delay,"
+                 "receipt,max,wait,timeout,task."),
+                ("2005,sent,x,,,,,,,,", "3000,receive,,,,,,11,,,", "Its max is 11, and has 1 to 10."),
+                ("2005,sent,x", "03000,send,x", "Its at has to be a whole number without leading zeros, and is 03000."),
+                ("2005,sent,x,,,,,,,,", "3000,delete,,,,,,,,,", "A delete needs the field receipt."),
+                ("2005,sent,x,,,,,,,,", "3000,start,,,,,,,,,k", "No task at this queue has the name k."),
+                ("2005,sent,x", "3000,send," + "x" * 1_025, "Its body has 1,025 bytes, and may have 1,024.")):
+            out = self.explained(SHOP.replace(old, new), "refused 20 BadScript at actor[0].calls:4")
+            self.assertEqual(out.splitlines()[-1], f"Record 4 of the script shop: {reason}")
+
+    def test_a_script_in_a_file(self):
+        text = SHOP[:SHOP.index("calls")] + 'script = "calls.csv"\n'
+        refusal = "refused 20 BadScript at actor[0].script:1"
+        self.assertEqual(self.explained(text, refusal).splitlines()[-1], "The script of the script shop is to be in "
+                         "./calls.csv, and there is no such file; --scripts names the folder.")
+        os.mkdir(self.path("in"))
+        self.write("in/calls.csv", "\nat,call\n")
+        self.assertEqual(self.explained(text, refusal, "--scripts", "in"),
+                         f"in/calls.csv:2: {refusal}\n  at,call\nRecord 1 of the script shop: The first record has to "
+                         f"be "
+                         "at,call,body,group,id,delay,receipt,max,wait,timeout,task.\n")
+
+    def test_texts_of_other_kinds(self):
+        for data in (b"\x00\xff", b"", b"a = " + b"[" * 9_000, b"a = " + b"1" * 9_000, b"\xef\xbb\xbfa", b"\r\n\r\n=",
+                     b'"\\uD800" = 1'):
+            with open(self.path("s.toml"), "wb") as file:
+                file.write(data)
+            ran = self.run_tool("explain", "s.toml", SQS_REHEARSE=self.program, REFUSAL="refused 10 NotToml")
+            self.assertEqual((ran[0], ran[2]), (1, ""))
+            self.assertGreater(len(ran[1].splitlines()), 1)
+
+    def test_faults(self):
+        self.write("s.toml", TOP)
+        for words, refusal, line in (
+                (("none",), "x", "cannot read none: No such file or directory"), ((), "x", None),
+                (("s.toml", "--program", "/nowhere"), "x", "there is no program /nowhere"),
+                (("s.toml",), "cannot read -", "cannot read -")):
+            status, out, err = self.run_tool("explain", *words, SQS_REHEARSE=self.program, REFUSAL=refusal)
+            self.assertEqual((status, out, len(err.splitlines())), (2, "", 1), words)
+            if line:
+                self.assertEqual(err, f"explain: {line}\n")
+
+    @needs_program
+    def test_all_stored_faults(self):
+        """Each case that is refused has its refusal in the first line, and a sentence in the last."""
+        paths = [path for folder in ("faults", "faulty")
+                 for path in glob.glob(os.path.join(ROOT, "tests", "cases", folder, "*.err"))]
+        self.assertGreater(len(paths), 70)
+        for path in paths:
+            with open(path, encoding="utf-8") as file:
+                refusal = file.read().strip("\n")
+            with self.subTest(path=path):
+                status, out, err = self.run_tool("explain", path.replace(".err", ".toml"))
+                self.assertEqual((status, err), (1, ""))
+                lines = out.splitlines()
+                self.assertTrue(lines[0].endswith(f": {refusal}"), lines)
+                self.assertTrue(lines[-1].endswith((".", "?")) and len(lines) > 1, lines)
+                self.assertNotIn("?:", lines[0])
+
+    @needs_program
+    def test_a_good_scenario_and_the_example_of_the_documents(self):
+        example = os.path.join(ROOT, "examples", "first.toml")
+        self.assertEqual(self.run_tool("explain", example), (0, "ok queues=1 actors=1 tasks=0 least=60001\n", ""))
+        with open(example, "rb") as file, open(os.path.join(TOOLS, "README.md"), encoding="utf-8") as document:
+            data, text = file.read().replace(b"visibility_s = 5", b"visibility_s = 50000"), document.read()
+        run = subprocess.run([sys.executable, os.path.join(TOOLS, "explain"), "-"], input=data, capture_output=True,
+                             env={**os.environ, "SQS_REHEARSE": PROGRAM})
+        self.assertIn(f"```\n{run.stdout.decode()}```\n", text)
+
+
+class Places(unittest.TestCase):
+    def test_positions_of_keys_and_values(self):
+        text = '\ufeff# [[queue]]\n"a\\u0062" = """x\n"""" # y\nt = {b = [1, {c = 2}], "d.e".f=3}\n' \
+               "[[q]]\nn = 'x]'\n" \
+               "[[q]]\n[q.s]\nn = 1979-05-27 07:32:00\n"
+        found = Positions(text)
+        lines = {path: found.line_and_column(at) for path, at in found.keys.items()}
+        self.assertEqual(lines, {
+            ("ab",): (2, 1), ("t",): (4, 1), ("t", "b"): (4, 6), ("t", "b", 0): (4, 11), ("t", "b", 1): (4, 14),
+            ("t", "b", 1, "c"): (4, 15), ("t", "d.e"): (4, 24), ("t", "d.e", "f"): (4, 24), ("q", 0): (5, 1),
+            ("q", 0, "n"): (6, 1), ("q", 1): (7, 1), ("q", 1, "s"): (8, 1), ("q", 1, "s", "n"): (9, 1)})
+        values = {path: text[start:end] for path, (start, end) in found.values.items()}
+        self.assertEqual((values["ab",], values["q", 0, "n"], values["q", 1, "s", "n"]),
+                         ('"""x\n""""', "'x]'", "1979-05-27 07:32:00"))
+
+
+if __name__ == "__main__":
+    unittest.main()

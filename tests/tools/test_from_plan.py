@@ -1,0 +1,287 @@
+"""Tests tools/from-plan on plans of Terraform and templates of CloudFormation written by hand."""
+import json
+import os
+import subprocess
+import sys
+import unittest
+
+from tool import PROGRAM, TOOLS, ToolCase, needs_program
+
+ARN = "arn:aws:sqs:eu-central-1:123456789012:"
+
+
+def resource(address, of="aws_sqs_queue", mode="managed", **values):
+    return {"address": address, "mode": mode, "type": of, "values": values}
+
+
+def configured(address, **references):
+    return {"address": address, "expressions": {key: {"references": found} for key, found in references.items()}}
+
+
+# The root has orders with failed; the module pay has a queue whose policy is a resource of its own and names, by a
+# variable, the output of the module dead.
+PLAN = {
+    "format_version": "1.2",
+    "planned_values": {"root_module": {
+        "resources": [
+            resource("aws_sqs_queue.orders", name="orders", visibility_timeout_seconds=45, delay_seconds=0,
+                     message_retention_seconds=86400, receive_wait_time_seconds=20, max_message_size=262144,
+                     fifo_queue=False, tags=None),
+            resource("aws_sqs_queue.failed", name="failed", visibility_timeout_seconds=30, delay_seconds=5,
+                     message_retention_seconds=1209600),
+            resource("data.aws_sqs_queue.other", mode="data", name="other"),
+            resource("aws_sns_topic.news", of="aws_sns_topic", name="news")],
+        "child_modules": [
+            {"address": "module.pay", "resources": [
+                resource("module.pay.aws_sqs_queue.this[0]", name="pay.fifo", fifo_queue=True,
+                         content_based_deduplication=True, deduplication_scope="messageGroup"),
+                resource("module.pay.aws_sqs_queue_redrive_policy.this[0]", of="aws_sqs_queue_redrive_policy")]},
+            {"address": "module.dead", "child_modules": [{"address": "module.dead.module.inner", "resources": [
+                resource("module.dead.module.inner.aws_sqs_queue.dead", fifo_queue=True)]}]}]}},
+    "configuration": {"root_module": {
+        "resources": [configured("aws_sqs_queue.orders", redrive_policy=["aws_sqs_queue.failed.arn",
+                                                                         "aws_sqs_queue.failed"])],
+        "module_calls": {
+            "pay": {"expressions": {"dead_arn": {"references": ["module.dead.arn", "module.dead"]}},
+                    "module": {"resources": [configured("aws_sqs_queue_redrive_policy.this",
+                                                        queue_url=["aws_sqs_queue.this[0].id", "aws_sqs_queue.this[0]"],
+                                                        redrive_policy=["var.dead_arn"])]}},
+            "dead": {"module": {"outputs": {"arn": {"expression": {"references": ["module.inner.arn"]}}},
+                                "module_calls": {"inner": {"module": {"outputs": {"arn": {"expression": {
+                                    "references": ["aws_sqs_queue.dead.arn"]}}}}}}}}}}},
+}
+TABLES = """
+[[queue]]
+name = "orders"
+visibility_s = 45
+delay_s = 0
+retention_s = 86400
+dead_letter = "failed"
+max_receives = 10
+latency_ms = 100
+# DEFAULT: latency_ms of 100, how long a redrive takes, as nothing tells it.
+# receive_wait_time_seconds is left out: give its consumers wait_s = 20.
+# DEFAULT: max_receives of 10, as the plan does not tell it before it is applied.
+
+[[queue]]
+name = "failed"
+visibility_s = 30
+delay_s = 5
+retention_s = 1209600
+
+[[queue]]
+name = "pay.fifo"
+content_dedup = true
+dedup_scope = "group"
+dead_letter = "dead-inner-dead.fifo"
+max_receives = 10
+latency_ms = 100
+# DEFAULT: visibility_s of 30, as visibility_timeout_seconds is not given.
+# DEFAULT: delay_s of 0, as delay_seconds is not given.
+# DEFAULT: retention_s of 345600, as message_retention_seconds is not given.
+# DEFAULT: latency_ms of 100, how long a redrive takes, as nothing tells it.
+# DEFAULT: max_receives of 10, as the plan does not tell it before it is applied.
+
+[[queue]]
+name = "dead-inner-dead.fifo"
+content_dedup = false
+dedup_scope = "queue"
+# DEFAULT: visibility_s of 30, as visibility_timeout_seconds is not given.
+# DEFAULT: delay_s of 0, as delay_seconds is not given.
+# DEFAULT: retention_s of 345600, as message_retention_seconds is not given.
+# DEFAULT: its name, as the plan does not tell it of module.dead.module.inner.aws_sqs_queue.dead.
+
+# SKELETON: who sends to orders.
+[[actor]]
+name = "orders-sender"
+"""
+TEMPLATE = """AWSTemplateFormatVersion: 2010-09-09
+Parameters:
+  Stage: {Type: String, Default: test}
+  Unset: {Type: Number}
+Resources:
+  Orders:
+    Type: AWS::SQS::Queue
+    Properties:
+      QueueName: !Sub "${Stage}-orders"
+      VisibilityTimeout: "45"
+      DelaySeconds: 0
+      MessageRetentionPeriod: !Ref Unset
+      RedrivePolicy:
+        deadLetterTargetArn: !GetAtt Failed.Arn
+        maxReceiveCount: 3
+  Failed:
+    Type: AWS::SQS::Queue
+    Condition: WithFailed
+  Pay:
+    Type: AWS::SQS::Queue
+    Properties:
+      QueueName: !Join ["-", [pay, !Ref Stage, "queue.fifo"]]
+      FifoQueue: true
+      RedrivePolicy:
+        deadLetterTargetArn: !Sub "arn:aws:sqs:${AWS::Region}:${AWS::AccountId}:old.fifo"
+        maxReceiveCount: 2
+  Topic:
+    Type: AWS::SNS::Topic
+"""
+TEMPLATE_TABLES = """
+[[queue]]
+name = "test-orders"
+visibility_s = 45
+delay_s = 0
+dead_letter = "Failed"
+max_receives = 3
+latency_ms = 7
+# DEFAULT: retention_s of 345600, as MessageRetentionPeriod is not given.
+# DEFAULT: latency_ms of 7, how long a redrive takes, as nothing tells it.
+# DEFAULT: MessageRetentionPeriod is not known, as Unset has no default in the template.
+
+[[queue]]
+name = "Failed"
+# DEFAULT: visibility_s of 30, as VisibilityTimeout is not given.
+# DEFAULT: delay_s of 0, as DelaySeconds is not given.
+# DEFAULT: retention_s of 345600, as MessageRetentionPeriod is not given.
+# DEFAULT: its name, as the template names none.
+# it is there under the condition WithFailed.
+
+[[queue]]
+name = "pay-test-queue.fifo"
+content_dedup = false
+dedup_scope = "queue"
+dead_letter = "old.fifo"
+max_receives = 2
+latency_ms = 7
+"""
+
+
+class FromPlan(ToolCase):
+    def made(self, text, *words):
+        """What is made of a text, without its head and its skeletons."""
+        status, out, err = self.run_tool("from-plan", self.write("given", text), *words)
+        self.assertEqual(status, 0, err)
+        comments = [line for line in out[out.index("[[queue]]"):].splitlines()
+                    if line.startswith("# ") and "SKELETON" not in line]
+        self.assertEqual(len(err.splitlines()), len(comments))
+        return out[out.index("horizon"):].partition("\n")[2]
+
+    def test_plan(self):
+        self.assertTrue(self.made(json.dumps(PLAN)).startswith(TABLES))
+
+    def test_state(self):
+        """A state tells all values, as that of a policy and of a queue's URL."""
+        policy = json.dumps({"deadLetterTargetArn": ARN + "gone", "maxReceiveCount": 4})
+        url = "https://sqs.eu-central-1.amazonaws.com/123456789012/b"
+        state = {"values": {"root_module": {"resources": [
+            resource("aws_sqs_queue.a", name="a", redrive_policy=policy), resource("aws_sqs_queue.b", name="b"),
+            resource("aws_sqs_queue_redrive_policy.b", of="aws_sqs_queue_redrive_policy", queue_url=url,
+                     redrive_policy=policy.replace("4", "5"))]}}}
+        made = self.made(json.dumps(state))
+        for name, most in (("a", 4), ("b", 5)):
+            self.assertIn(f'name = "{name}"\ndead_letter = "gone"\nmax_receives = {most}\n', made)
+        self.assertIn("# DEFAULT: all its settings, as no resource is of this dead-letter queue of a.\n", made)
+
+    def test_queues_with_an_index_have_the_dead_letter_queue_of_the_same_index(self):
+        values = [resource(f'aws_sqs_queue.{name}["{key}"]', name=f"{name}-{key}") for name in "qd" for key in "xy"]
+        policy = configured("aws_sqs_queue.q", redrive_policy=["aws_sqs_queue.d", "each.key"])
+        plan = {"planned_values": {"root_module": {"resources": values}},
+                "configuration": {"root_module": {"resources": [policy]}}}
+        made = self.made(json.dumps(plan))
+        for key in "xy":
+            self.assertIn(f'name = "q-{key}"\ndead_letter = "d-{key}"\n', made)
+
+    def test_dead_letter_queue_that_the_plan_does_not_tell(self):
+        plan = {"planned_values": {"root_module": {"resources": [resource("aws_sqs_queue.q", name="q")]}},
+                "configuration": {"root_module": {"resources": [
+                    configured("aws_sqs_queue.q", redrive_policy=["local.policy"])]}}}
+        self.assertIn("# DEFAULT: no dead-letter queue, as the plan does not tell which one its policy names.\n",
+                      self.made(json.dumps(plan)))
+
+    def test_template(self):
+        self.assertTrue(self.made(TEMPLATE, "--latency", "7").startswith(TEMPLATE_TABLES))
+
+    def test_template_in_json(self):
+        long = {"Parameters": {"Stage": {"Default": "test"}}, "Resources": {
+            "Orders": {"Type": "AWS::SQS::Queue", "Properties": {
+                "QueueName": {"Fn::Sub": ["${Stage}-${What}", {"What": "orders"}]},
+                "RedrivePolicy": {"deadLetterTargetArn": {"Fn::GetAtt": ["Failed", "Arn"]}, "maxReceiveCount": "3"}}},
+            "Failed": {"Type": "AWS::SQS::Queue", "Properties": {"QueueName": {"Ref": "Nothing"}}}}}
+        made = self.made("\ufeff" + json.dumps(long))
+        self.assertIn('name = "test-orders"\ndead_letter = "Failed"\nmax_receives = 3\n', made)
+        self.assertIn("# DEFAULT: its name, as Nothing has no default in the template.\n", made)
+
+    def test_faults(self):
+        queue = {"Type": "AWS::SQS::Queue"}
+        laughs = "a: &a [x]\n" + "".join(f"{b}: &{b} [*{a}, *{a}, *{a}, *{a}, *{a}, *{a}, *{a}, *{a}, *{a}, *{a}]\n"
+                                         for a, b in zip("abcdefgh", "bcdefghi"))
+        for text, line in (
+                (json.dumps({"Resources": {"A": {**queue, "Properties": {"QueueName": "a b"}}}}),
+                 "A has a name that no scenario has: a b"),
+                (json.dumps({"Resources": {"A": {**queue, "Properties": {"DelaySeconds": 901}}}}),
+                 "A: DelaySeconds of 901 is beyond a scenario, which has 0 to 900"),
+                (json.dumps({"Resources": {"A": {"Type": "AWS::SNS::Topic"}}}), "given has no queues"),
+                ("Resources: {A: {Type: 'AWS::SQS::Queue', Properties: {Policy: *i}}}", None),
+                (laughs + "Resources: {A: {Type: 'AWS::SQS::Queue', Properties: {Policy: *i}}}",
+                 "the template has over 1,000,000 values in its queues"),
+                *((text, "given is neither what `terraform show -json` prints nor a template of CloudFormation")
+                  for text in ("", "{}", "[]", "null", "at,queue\n", '{"values": {}}', "Resources: []", "5"))):
+            with self.subTest(text=text[:80]):
+                self.write("given", text)
+                status, out, err = self.run_tool("from-plan", "given")
+                self.assertEqual((status, out, len(err.splitlines())), (2, "", 1), err)
+                if line:
+                    self.assertEqual(err, f"from-plan: {line}\n")
+
+    def test_files_of_other_kinds(self):
+        for data in (b"\x00\xff", bytes(range(256)), b"{" * 100_000, b"[" * 100_000, b"- " * 100_000, b"a: !x {b: [",
+                     b"\xff\xfea", b'{"Resources": {"A"', b"{\"values\": " + b"9" * 9_000 + b"}", b"? [a]\n: b\n",
+                     b'{"values": {"root_module": {"resources": [5, {"type": "aws_sqs_queue", "values": 3}]}}}',
+                     b"Resources: {A: {Type: 'AWS::SQS::Queue', Properties: {DelaySeconds: [1]}}}"):
+            with open(self.path("given"), "wb") as file:
+                file.write(data)
+            with self.subTest(data=data[:40]):
+                status, out, err = self.run_tool("from-plan", "given")
+                self.assertEqual((status, out, len(err.splitlines())), (2, "", 1), err)
+
+    def test_without_its_library(self):
+        """The package is told where the library is missing, and JSON needs none."""
+        code = "import sys; sys.modules['yaml'] = None; sys.argv[0] = sys.argv.pop(1); import runpy; " \
+               "runpy.run_path(sys.argv[0], run_name='__main__')"
+        for text, wanted in ((TEMPLATE, 2), (json.dumps(PLAN), 0)):
+            command = [sys.executable, "-c", code, os.path.join(TOOLS, "from-plan"), self.write("given", text)]
+            ran = subprocess.run(command, capture_output=True, text=True, env={**os.environ, "PYTHONPATH": TOOLS})
+            self.assertEqual(ran.returncode, wanted, ran.stderr)
+            if wanted:
+                self.assertEqual(ran.stderr, "from-plan: the library yaml is missing: Debian's package python3-yaml "
+                                 "has it for Debian's python3, and tools/setup installs it\n")
+
+    def test_example_of_the_documents(self):
+        with open(os.path.join(TOOLS, "README.md"), encoding="utf-8") as file:
+            text = file.read()
+        start = text.index("Resources:\n")
+        made = self.made(text[start:text.index("```", start)])
+        self.assertIn("```\n" + made[1:made.index("\n[[queue]]", 2)] + "```\n", text)
+
+    @needs_program
+    def test_what_is_made_runs(self):
+        for text in (json.dumps(PLAN), TEMPLATE):
+            self.assertEqual(self.run_tool("from-plan", self.write("given", text), "--output", "s.toml")[0], 0)
+            run = subprocess.run([PROGRAM, "run", "--log", os.devnull, self.path("s.toml")], capture_output=True,
+                                 text=True)
+            self.assertEqual((run.returncode, run.stderr), (0, ""))
+            sends = [line.split(",")[1:3] for line in run.stdout.splitlines() if line.startswith("report,")][1:]
+            # Each queue that takes no dead letters is sent 100 messages.
+            self.assertEqual([count for _, count in sends], ["100", "0", "100", "0"])
+
+    @needs_program
+    def test_long_names_and_many_queues(self):
+        """Names of actors are cut, and are told apart."""
+        values = [resource(f"aws_sqs_queue.q{i}", name=("n" * 75) + f"{i:05}") for i in range(12)]
+        plan = {"planned_values": {"root_module": {"resources": values}}}
+        path = self.write("given", json.dumps(plan))
+        self.assertEqual(self.run_tool("from-plan", path, "--output", "s.toml")[0], 0)
+        check = subprocess.run([PROGRAM, "check", self.path("s.toml")], capture_output=True, text=True)
+        self.assertEqual(check.stdout, "ok queues=12 actors=24 tasks=0 least=3600001\n")
+
+
+if __name__ == "__main__":
+    unittest.main()

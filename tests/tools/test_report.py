@@ -1,0 +1,171 @@
+"""Tests tools/report with a stand-in for the program that prints a known run, and with the program itself."""
+import json
+import os
+import re
+import sys
+import unittest
+from html.parser import HTMLParser
+
+from tool import PROGRAM, ROOT, ToolCase, needs_program
+from console import Fault, library
+
+try:
+    library("plotly.offline", "python3-plotly")
+    has_plotly = True
+except Fault:
+    has_plotly = False
+
+SCENARIO = """version = 1
+horizon = 10000
+seed = 11
+[[queue]]
+name = "q"
+visibility_s = 5 # <b>&amp;
+"""
+# Two messages: the first is deleted when it is 2,000 ms old, and the second expires.
+RUN = """at,queue,agent,call,answer,message,receipt,detail
+0,q,shop,send,new,m-0-0,,x
+1000,q,shop,send,new,m-0-1,,x
+1500,q,c,receive,ok,m-0-0,r-0-0-1,o-0-0
+2000,q,c,delete,deleted,m-0-0,r-0-0-1,2000
+9000,q,q,expire,expired,m-0-1,,8000
+final,queue,message,origin,place,due,enqueued,receives,group,md5
+transfer,from,to,kind,due,number,message,origin,md5
+task,name,status,moved
+report,queue,sends,repeats,receives,empties,deletes,expiries,redrives,moves,arrivals,OverLimit,MessageNotInflight,\
+ReceiptHandleIsInvalid,BadTimeout,MissingGroup,MissingDeduplication,BadDelay,TaskRunning,NoTask,depth_max,visible,\
+in_flight,delayed,age_sum,age_max,age_p50,age_p95,age_p99
+report,q,2,0,1,0,1,1,0,0,0,0,0,0,0,0,0,0,0,0,2,0,0,0,2000,2000,2000,2000,2000
+"""
+STAND_IN = f"""#!{sys.executable}
+import sys
+if sys.argv[1:] == ["--help"]:
+    sys.exit(0)
+assert sys.argv[1:] == ["run", "--quiet", "--scripts", "."], sys.argv
+text = sys.stdin.read()
+if "horizon = 10000" not in text:
+    sys.exit("refused 14 OutOfRange at horizon")
+print({RUN!r}, end="")
+"""
+
+
+class Page(HTMLParser):
+    """The texts of a page, without its scripts, and what its tags name."""
+
+    def __init__(self, text):
+        super().__init__()
+        self.inside, self.texts, self.links, self.scripts = [], [], [], 0
+        self.feed(text)
+
+    def handle_starttag(self, tag, attributes):
+        if tag not in ("meta", "link", "br"):
+            self.inside.append(tag)
+        self.scripts += tag == "script"
+        self.links += [value for key, value in attributes if key in ("src", "href")]
+
+    def handle_endtag(self, tag):
+        assert self.inside.pop() == tag, tag
+
+    def handle_data(self, data):
+        if self.inside and self.inside[-1] not in ("script", "style") and data.strip():
+            self.texts.append(data.strip())
+
+
+@unittest.skipUnless(has_plotly, "plotly is missing, which tools/setup installs")
+class Report(ToolCase):
+    def setUp(self):
+        super().setUp()
+        self.program = self.write("program", STAND_IN)
+        os.chmod(self.program, 0o755)
+        self.scenario = self.write("s.toml", SCENARIO)
+
+    def report(self, *words):
+        return self.run_tool("report", *words, SQS_REHEARSE=self.program)
+
+    def page(self, *words, status=0):
+        found = self.report(self.scenario, "--output", "r.html", *words)
+        self.assertEqual((found[0], found[2]), (status, ""))
+        with open(self.path("r.html"), encoding="utf-8") as file:
+            return file.read(), found[1]
+
+    def test_what_the_page_tells(self):
+        text, out = self.page("--require", "q.age_p95<60s", "--require", "q.expiries=0", "--title", "A <run>", status=1)
+        self.assertEqual(out, "q.expiries=0 of q does not hold: it is 1\n")
+        page = Page(text)
+        self.assertEqual((page.inside, page.links, page.scripts), ([], [], 2))
+        told = "|".join(page.texts)
+        for part in ("A <run>|A <run>|s.toml, seed 11: 5 rows, the last at 9.00 s.", "holds|q.age_p95<60s|q",
+                     "fails|q.expiries=0|q|it is 1", "sent|2", "lost by expiry|1|of 2", "deleted|1|of 2",
+                     "age when deleted, 95 %|2.00 s", "seed|11|sample|not given|queue q|visibility_s = 5",
+                     "visibility_s = 5 # <b>&amp;"):
+            self.assertIn(part, told)
+        self.assertTrue(told.endswith("--require 'q.age_p95<60s' --require q.expiries=0 --title 'A <run>'"))
+        self.assertIn(f"tools/report {self.scenario} --output r.html", told)
+
+    def test_pictures(self):
+        """The numbers that are drawn: two messages at 1 s, one deleted of an age of 2 s, the second expired."""
+        text, _ = self.page()
+        traces, layout = json.loads("[" + re.search(r'Plotly\.newPlot\("queue-1", (.*), \{"responsive"', text)[1] + "]")
+        by_name = {trace["name"]: trace for trace in traces}
+        self.assertEqual(set(by_name), {"visible", "in flight", "delayed", "middle", "95 %", "greatest", "oldest",
+                                        "redriven", "expired"})
+        self.assertEqual((by_name["visible"]["x"], by_name["visible"]["y"]), ([0, 1, 1.5, 9, 9], [1, 2, 1, 0, 0]))
+        self.assertEqual((by_name["in flight"]["x"], by_name["in flight"]["y"]), ([0, 1.5, 2, 9], [0, 1, 0, 0]))
+        for name in ("middle", "95 %", "greatest"):
+            self.assertEqual([age for age in by_name[name]["y"] if age is not None], [2, 2])
+        self.assertEqual((sum(by_name["expired"]["y"]), sum(by_name["redriven"]["y"])), (1, 0))
+        self.assertEqual(max(age for age in by_name["oldest"]["y"] if age is not None), 8)
+        self.assertEqual(layout["xaxis"]["range"], [0, 9])
+        self.assertIn("Plotly", text[:text.index("</head>")])
+
+    def test_the_same_run_gives_the_same_page(self):
+        self.assertEqual(self.page(), self.page())
+
+    def test_a_scenario_that_is_refused(self):
+        path = self.write("bad.toml", SCENARIO.replace("10000", "0"))
+        self.assertEqual(self.report(path, "--output", "r.html"),
+                         (1, "", "report: refused 14 OutOfRange at horizon; tools/explain tells more\n"))
+        self.assertFalse(os.path.exists(self.path("r.html")))
+
+    def test_faults(self):
+        for words, line in (
+                ((self.scenario,), "the following arguments are required: --output (--help tells the usage)"),
+                (("none", "--output", "r.html"), "cannot read none: No such file or directory"),
+                ((self.scenario, "--output", "s.toml/r.html"), "cannot write s.toml/r.html: File exists"),
+                ((self.scenario, "--output", "r.html", "--queue", "x"), "the scenario has no queue x"),
+                ((self.scenario, "--output", "r.html", "--require", "x.sends=1"), "x.sends=1: there is no queue x"),
+                ((self.scenario, "--output", "r.html", "--require", "sends"),
+                 "sends is no requirement, as orders.age_p95<60s"),
+                ((self.scenario, "--output", "r.html", "--program", "/nowhere"), "there is no program /nowhere")):
+            with self.subTest(words=words):
+                self.assert_fault(self.report(*words), f"report: {line}")
+        for data in (b"\x00\xff", bytes(range(256)), b"version = ", b"a = " + b"[" * 9_000):
+            with open(self.path("bad.toml"), "wb") as file:
+                file.write(data)
+            status, out, err = self.report("bad.toml", "--output", "r.html", "--queue", "q")
+            self.assertEqual((status, out, len(err.splitlines())), (2, "", 1), err)
+
+    def test_without_its_library(self):
+        """A Python that finds no plotly tells which package has it."""
+        folder = self.path("without")
+        os.mkdir(folder)
+        self.write("without/plotly.py", "raise ImportError\n")
+        ran = self.run_tool("report", self.scenario, "--output", "r.html", PYTHONPATH=folder)
+        self.assert_fault(ran, "report: the library plotly.offline is missing: Debian's package python3-plotly has it "
+                               "for "
+                          "Debian's python3, and tools/setup installs it")
+
+    @needs_program
+    def test_with_the_program(self):
+        example = os.path.join(ROOT, "examples", "dead_letters.toml")
+        words = "--require", "orders.age_p95<10s", "--require", "failed.expiries=0"
+        status, out, err = self.run_tool("report", example, "--output", "r.html", *words, SQS_REHEARSE=PROGRAM)
+        self.assertEqual((status, out, err),
+                         (1, "orders.age_p95<10s of orders does not hold: it is 10227 ms, 10.2 s\n", ""))
+        with open(self.path("r.html"), encoding="utf-8") as file:
+            page = Page(file.read())
+        self.assertEqual((page.inside, page.links, page.scripts), ([], [], 3))
+
+
+if __name__ == "__main__":
+    unittest.main()
