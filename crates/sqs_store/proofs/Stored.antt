@@ -9,9 +9,9 @@ use Rattle.sqs_model.specs.Answers.{most_count}
 use Rattle.sqs_model.specs.Queue.{Queue, has_number, numbered, taken_out, with_change, with_records}
 use Rattle.sqs_model.specs.Calls.{in_flight_until, with_message}
 use Rattle.sqs_model.proofs.Counts.{all_changed, all_without, ascends_changed, ascends_push, ascends_without}
-use Rattle.sqs_shelf.specs.Slots.{restated}
-use Rattle.sqs_shelf.specs.Stored.{IsCounted, IsStored}
-use Rattle.sqs_shelf.specs.declared.slot.State.{State}
+use Rattle.sqs_messages.specs.Slots.{restated}
+use Rattle.sqs_messages.specs.Stored.{IsCounted, IsStored}
+use Rattle.sqs_messages.specs.declared.slot.State.{State}
 use Rattle.sqs_store.specs.Stored.{IsState}
 
 -- the limits of each, after one changed

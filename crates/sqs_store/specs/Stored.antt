@@ -4,7 +4,7 @@ use Rattle.sqs_message.specs.declared.message.Message.{Message}
 use Rattle.sqs_redrive.specs.declared.settings.QueueSettings.{QueueSettings}
 use Rattle.sqs_model.specs.Answers.{most_count}
 use Rattle.sqs_model.specs.Valid.{IsQueueSettings}
-use Rattle.sqs_shelf.specs.Stored.{IsStored}
+use Rattle.sqs_messages.specs.Stored.{IsStored}
 
 -- the state of a queue
 pub record IsState (settings : QueueSettings) (records : List Message) (arrivals : ℕ) : Type 0 where

@@ -1,7 +1,7 @@
 //! What a receive tells of the messages that it gives.
 ghost use Rattle.std.specs.Prelude.{◌≡◌, ◌⊎◌, ◌+◌, ◌<◌, ◌≤◌, All, Any, Err, IfErr, IfOk, OnOk, map};
 ghost use Rattle.sqs_model.specs.Answers.{most_count};
-ghost use Rattle.sqs_shelf.specs.Stored.{IsCounted};
+ghost use Rattle.sqs_messages.specs.Stored.{IsCounted};
 ghost use Rattle.sqs_store.specs.Giving.{told_of};
 ghost use Rattle.sqs_store.specs.Shelves.{messages_of, queue_of};
 

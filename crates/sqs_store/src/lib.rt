@@ -10,5 +10,5 @@ mod store;
 
 pub use batch::Received;
 pub use places::{is_out, may_be_received};
-pub use sqs_shelf::{Counts, Messages};
+pub use sqs_messages::{Counts, Messages};
 pub use store::Store;

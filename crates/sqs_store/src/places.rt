@@ -5,10 +5,10 @@ ghost use Rattle.sqs_model.specs.Calls.{in_flight_until};
 ghost use Rattle.sqs_model.specs.Queue.{is_in_flight, is_visible};
 ghost use Rattle.sqs_model.specs.Receive.{received};
 ghost use Rattle.sqs_model.specs.Return.{visible_again};
-ghost use Rattle.sqs_shelf.specs.Slots.{restated};
+ghost use Rattle.sqs_messages.specs.Slots.{restated};
 
 use sqs_message::{Message, Place};
-use sqs_shelf::State;
+use sqs_messages::State;
 
 /// Whether a message may be received.
 pub fn may_be_received(message: &Message) -> bool

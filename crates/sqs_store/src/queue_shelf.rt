@@ -11,18 +11,16 @@ ghost use Rattle.sqs_model.specs.Longest.{deduplication_interval};
 ghost use Rattle.sqs_model.specs.Queue.{is_delayed, is_in_flight, is_visible, numbered, taken_out, with_change};
 ghost use Rattle.sqs_model.specs.Valid.{IsFifo, IsQueueSettings};
 ghost use Rattle.sqs_dedup.specs.Window.{living_among};
-ghost use Rattle.sqs_shelf.specs.Slots.{restated};
-ghost use Rattle.sqs_shelf.specs.Stored.{IsCounted};
+ghost use Rattle.sqs_messages.specs.Slots.{restated};
+ghost use Rattle.sqs_messages.specs.Stored.{IsCounted};
 ghost use Rattle.sqs_store.specs.Shelves.{queue_of};
 
 use crate::places::out_until;
 use sim_clock::Key;
 use sqs_dedup::Dedup;
-use sqs_group_shelf::{Choice, GroupShelf};
-use sqs_host_shelf::HostShelf;
 use sqs_message::{Message, Text};
 use sqs_redrive::{Kind, QueueSettings};
-use sqs_shelf::{Counts, Messages, State};
+use sqs_messages::{Choice, Counts, GroupShelf, HostShelf, Messages, State};
 use std::alloc::{AllocError, Global};
 
 // A standard queue's messages by their hosts, or a FIFO queue's by their groups.

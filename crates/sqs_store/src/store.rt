@@ -11,7 +11,7 @@ ghost use Rattle.sqs_model.specs.Queue.{IsFramed, in_flight, is_delayed, is_in_f
 ghost use Rattle.sqs_model.specs.Return.{leaves, released};
 ghost use Rattle.sqs_model.specs.Valid.{IsFifo, IsQueueSettings};
 ghost use Rattle.sqs_dedup.specs.Window.{living_among};
-ghost use Rattle.sqs_shelf.specs.Stored.{IsCounted, IsStored};
+ghost use Rattle.sqs_messages.specs.Stored.{IsCounted, IsStored};
 ghost use Rattle.sqs_message.specs.declared.message.Message.{Message};
 
 use crate::places::{is_out, visible_again};
@@ -21,7 +21,7 @@ use sqs_dedup::Dedup;
 use sqs_message::{Message, MessageId, Origin, Place, Receipt, Text};
 use sqs_model::{LONGEST_FLIGHT, LONGEST_TIMEOUT};
 use sqs_redrive::{Load, QueueSettings, Returned, on_return};
-use sqs_shelf::{Counts, Messages};
+use sqs_messages::{Counts, Messages};
 use std::alloc::{AllocError, Global};
 use std::marker::Model;
 

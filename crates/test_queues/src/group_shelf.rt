@@ -1,7 +1,7 @@
 //! The one call of a shelf that no call of a queue makes: what comes to a FIFO queue is enqueued as
 //! it comes, so that it stays.
 use crate::fifo::plain;
-use sqs_group_shelf::GroupShelf;
+use sqs_messages::GroupShelf;
 
 #[test]
 fn a_number_goes_to_no_message(rt: HostRuntime) {

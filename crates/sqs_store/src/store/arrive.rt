@@ -3,7 +3,7 @@ ghost use Rattle.std.specs.Prelude.{◌≡◌, ◌-◌, false, true, ◌+◌, �
 ghost use Rattle.sqs_model.specs.Answers.{most_count};
 ghost use Rattle.sqs_model.specs.Arrive.{brought, settle};
 ghost use Rattle.sqs_model.specs.Queue.{IsFramed};
-ghost use Rattle.sqs_shelf.specs.Stored.{IsCounted};
+ghost use Rattle.sqs_messages.specs.Stored.{IsCounted};
 ghost use Rattle.sqs_message.specs.declared.message.Message.{Message};
 
 use super::Store;

@@ -2,7 +2,7 @@ use Rattle.std.proofs.Common.{◌<◌, arith, sym}
 use Rattle.sqs_message.specs.declared.message.Message.{Message}
 use Rattle.sqs_model.specs.Answers.{most_count}
 use Rattle.sqs_model.specs.Queue.{Queue}
-use Rattle.sqs_shelf.specs.Stored.{IsCounted}
+use Rattle.sqs_messages.specs.Stored.{IsCounted}
 use Rattle.sqs_store.specs.Shelves.{queue_of}
 use Rattle.sqs_store.proofs.Batches.{told_limit, told_more, told_none}
 use Rattle.sqs_store.proofs.Stored.{counted_found}

@@ -2,8 +2,8 @@ use Rattle.std.proofs.Common.{◌≡◌, None, Some, arith, ap, sym, ◌∙◌}
 use Rattle.sqs_message.specs.declared.message.Message.{Message}
 use Rattle.sqs_model.specs.Calls.{in_flight_until}
 use Rattle.sqs_model.specs.Queue.{Queue, has_number, numbered}
-use Rattle.sqs_shelf.specs.Slots.{restated}
-use Rattle.sqs_shelf.specs.Stored.{IsCounted}
+use Rattle.sqs_messages.specs.Slots.{restated}
+use Rattle.sqs_messages.specs.Stored.{IsCounted}
 use Rattle.sqs_store.specs.Shelves.{queue_of}
 use Rattle.sqs_store.proofs.Coming.{change_none}
 use Rattle.sqs_store.proofs.Stored.{change_as, counted_found}

@@ -1,6 +1,6 @@
 use Rattle.std.proofs.Common.{◌+◌, ◌*◌, arith, sym}
 use Rattle.sqs_model.specs.Answers.{most_count}
-use Rattle.sqs_shelf.specs.Stored.{IsCounted}
+use Rattle.sqs_messages.specs.Stored.{IsCounted}
 use Rattle.sqs_store.specs.Shelves.{queue_of}
 use Rattle.sqs_store.proofs.Stored.{found_counted, state_kept_out}
 use Rattle.sqs_store.proofs.store.Store.change.Goals as goal

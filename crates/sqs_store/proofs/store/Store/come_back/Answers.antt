@@ -2,8 +2,8 @@ use Rattle.std.proofs.Common.{◌≡◌, ◌≤◌, None, Some, ap, arith, sym, 
 use Rattle.sqs_model.specs.Answers.{most_count}
 use Rattle.sqs_model.specs.Queue.{Queue, numbered}
 use Rattle.sqs_model.specs.Return.{leaves, released, visible_again}
-use Rattle.sqs_shelf.specs.Slots.{restated}
-use Rattle.sqs_shelf.specs.Stored.{IsCounted}
+use Rattle.sqs_messages.specs.Slots.{restated}
+use Rattle.sqs_messages.specs.Stored.{IsCounted}
 use Rattle.sqs_store.specs.Shelves.{queue_of}
 use Rattle.sqs_store.proofs.Coming.{released_visible}
 use Rattle.sqs_store.proofs.Stored.{change_as, found_counted, state_put, state_taken}

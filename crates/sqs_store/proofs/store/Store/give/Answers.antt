@@ -6,7 +6,7 @@ use Rattle.sqs_model.specs.Answers.{most_count}
 use Rattle.sqs_model.specs.Queue.{Queue, numbered, with_change}
 use Rattle.sqs_model.specs.Receive.{received}
 use Rattle.sqs_model.specs.Return.{released}
-use Rattle.sqs_shelf.specs.Slots.{restated}
+use Rattle.sqs_messages.specs.Slots.{restated}
 use Rattle.sqs_store.specs.Giving.{gives}
 use Rattle.sqs_store.specs.Shelves.{queue_of}
 use Rattle.sqs_store.proofs.Coming.{gives_back, gives_out}

@@ -1,0 +1,12 @@
+pub mod Slots
+pub mod Heads
+pub mod Counted
+pub mod Shelves
+pub mod Room
+pub mod Stored
+pub mod Standard
+pub mod Marked
+pub mod Hosted
+pub mod Keys
+pub mod Groups
+pub mod GroupShelves
