@@ -1,6 +1,6 @@
 -- The messages and the table after a message left or changed.
-use Rattle.std.proofs.Common.{◌≡◌, ℕ, ◌+◌, ◌<◌, ◌≤◌, ◌^◌, Bool, true, false, List, [], ◌∷◌, Option, Some, None, cond, if◌then◌else◌, filter, length, map, ◌&&◌, nat_lt, arith, refl, ap, sym, subst, ◌∙◌}
-use Rattle.std.specs.Prelude.{All, find, ◌≢◌}
+use Rattle.std.proofs.Common.{◌≡◌, Bor, ℕ, ◌+◌, ◌<◌, ◌≤◌, Bool, true, false, List, [], ◌∷◌, Option, Some, None, cond, if◌then◌else◌, filter, length, map, ◌&&◌, nat_lt, arith, refl, ap, sym, subst, ◌∙◌}
+use Rattle.std.specs.Prelude.{All, find, is_some, ◌≢◌}
 use Rattle.std.specs.Option.{option_map}
 use Rattle.std.proofs.lemmas.Bool.Decides.{nat_tests}
 use Rattle.std.proofs.lemmas.List.{length-map}
@@ -16,20 +16,19 @@ use Rattle.sqs_model.specs.Dues.{message_dues}
 use Rattle.sqs_model.specs.Progress.{Ascends}
 use Rattle.sqs_model.specs.Queue.{has_number, is_in_flight, same_text}
 use Rattle.sqs_model.specs.Texts.{same_text_decides}
-use Rattle.sqs_redrive.specs.declared.settings.QueueSettings.{QueueSettings}
 use Rattle.sqs_messages.specs.declared.slot.State.{State}
 use Rattle.sqs_messages.specs.Heads.{AreLed, IsLedBut, in_group, of_group, told}
 use Rattle.sqs_messages.specs.Slots.{Shelved, held, is_numbered, number_of, restated}
 use Rattle.sqs_messages.specs.Stored.{IsCounted}
 use Rattle.sqs_messages.proofs.Leads.{find_has}
-use Rattle.sqs_messages.proofs.Led.{all_changed, all_without, led_changed, led_without, told_changed, told_find, told_without}
+use Rattle.sqs_messages.proofs.Led.{all_changed, led_changed, led_without, told_find}
 use Rattle.sqs_messages.specs.declared.groups.members.Members.{Members}
-use Rattle.sqs_messages.specs.Groups.{IsGrouped, Kept, bit, group_at, group_by, in_flight_at, is_out, nobody, out_of, place_by, unhosted}
-use Rattle.sqs_messages.specs.GroupShelves.{IsDue, IsFifoSettings}
+use Rattle.sqs_messages.specs.Groups.{IsGrouped, Kept, bit, group_at, group_by, in_flight_at, is_out, nobody, out_of, place_by}
+use Rattle.sqs_messages.specs.Marked.{IsDue, restamped, unhosted}
 use Rattle.sqs_messages.proofs.Fronts.{none_in}
-use Rattle.sqs_messages.proofs.Grouped.{count_changed, count_without, few, find_told, grouped_changed, grouped_without}
+use Rattle.sqs_messages.proofs.Grouped.{count_changed, count_without, few, grouped_changed, grouped_without}
 use Rattle.sqs_messages.proofs.Places.{apart, group_past}
-use Rattle.sqs_messages.proofs.Settled.{IsSettled, settled, settled_led, told_kept}
+use Rattle.sqs_messages.proofs.Settled.{IsSettled, settled, settled_led}
 
 -- what a change at the place of a group leaves
 pub settle_at : (names : List (Option (List ℕ))) (groups groups2 : List Members) (items after : List Shelved) (g : Option (List ℕ)) (i : ℕ) (was is : Bool) → i ≡ place_by names g → i < length names
@@ -122,17 +121,15 @@ pub shelved_of : (o : Option Shelved) (m : Message) → Some m ≡ option_map (�
 shelved_of None m e = cc
 shelved_of (Some s) m e = (s, refl, cc)
 
+pub some_read : (r : Option (Bor Message)) (o : Option Shelved) → option_map (λ (m : Bor Message). m.now) r ≡ option_map (λ (s : Shelved). s.message) o → is_some r ≡ is_some o
+some_read None None e = refl
+some_read None (Some s) e = cc
+some_read (Some m) None e = cc
+some_read (Some m) (Some s) e = refl
+
 pub none_of : (o : Option Shelved) → None ≡ option_map (λ (s : Shelved). s.message) o → o ≡ None
 none_of None e = refl
 none_of (Some s) e = cc
-
-pub absent_changed : {A : Type 0} (p : A → Bool) (f : A → A) (xs : List A) → find p xs ≡ None → changed p f xs ≡ xs
-absent_changed p f [] e = refl
-absent_changed p f (y ∷ ys) e = by (absent_changed p f ys) (p y) refl
-  where
-    by : (find p ys ≡ None → changed p f ys ≡ ys) → (b : Bool) → p y ≡ b → (if p y then f y ∷ ys else y ∷ changed p f ys) ≡ y ∷ ys
-    by ih true t = let no : Some y ≡ None = sym (ap (λ b. cond b (Some y) (find p ys)) t) ∙ e in cc
-    by ih false t = ap (λ b. if b then f y ∷ ys else y ∷ changed p f ys) t ∙ ap (λ zs. y ∷ zs) (ih (sym (ap (λ b. cond b (Some y) (find p ys)) t) ∙ e))
 
 pub absent_without : {A : Type 0} (p : A → Bool) (xs : List A) → find p xs ≡ None → without p xs ≡ xs
 absent_without p [] e = refl
@@ -176,15 +173,18 @@ out_room n next items s state mark k h e f t a below =
     length_changed p f (x ∷ ms) = let l : length (changed p f ms) ≡ length ms = length_changed p f ms in elim (p x) as (λ b. length (if b then f x ∷ ms else x ∷ changed p f ms) ≡ length (x ∷ ms)) [ true ↦ refl | false ↦ omega (arith, l) ]
 
 -- what is due of messages of which one took another state
-pub put_dues : (site retention n : ℕ) (items : List Shelved) (s : Shelved) (m : Message) (state : State) (mark : Mark) → find (is_numbered n) items ≡ Some s → s.message ≡ m → mark.due ≡ least (message_dues site retention (restated state m)) → state.receives ≤ most_count → state.received ≤ most_count
-    → All (IsDue site retention) items → All (IsDue site retention) (changed (is_numbered n) (λ (x : Shelved). let t : Shelved = record { message = restated state x.message; mark = mark } in t) items)
-put_dues site retention n items s m state mark e same due receives received h =
-    all_changed (IsDue site retention) (is_numbered n) (λ (x : Shelved). let t : Shelved = record { message = restated state x.message; mark = mark } in t) items s e
+pub put_dues : (site retention n : ℕ) (items : List Shelved) (m : Message) (state : State) (due : Option Key) → Some m ≡ option_map (λ (s : Shelved). s.message) (find (is_numbered n) items) → due ≡ least (message_dues site retention (restated state m)) → state.receives ≤ most_count → state.received ≤ most_count
+    → All (IsDue site retention) items → All (IsDue site retention) (changed (is_numbered n) (restamped state due) items)
+put_dues site retention n items m state due found is receives received h =
+    let s = shelved_of (find (is_numbered n) items) m found in
+    all_changed (IsDue site retention) (is_numbered n) (restamped state due) items s.0 s.1
     (record {
-      due = due ∙ ap (λ (x : Message). least (message_dues site retention (restated state x))) (sym same);
-      counted = record { enqueued = (find_has (IsDue site retention) (is_numbered n) items s h e).counted.enqueued; receives = receives; received = received };
+      due = is ∙ ap (λ (x : Message). least (message_dues site retention (restated state x))) (sym s.2);
+      counted = record { enqueued = (find_has (IsDue site retention) (is_numbered n) items s.0 h s.1).counted.enqueued; receives = receives; received = received };
     }) h
 
--- what is due of a message within the limits is in range
-pub in_range : (m : Message) (s : QueueSettings) → IsCounted m → IsFifoSettings s → m.enqueued + s.retention < 2 ^ 64
-in_range m s h f = omega (arith, h.enqueued, f.ranges.retention.1)
+-- a message that is found is within the limits
+pub found_counted : (site retention n : ℕ) (items : List Shelved) (m : Message) → Some m ≡ option_map (λ (s : Shelved). s.message) (find (is_numbered n) items) → All (IsDue site retention) items → IsCounted m
+found_counted site retention n items m found h =
+    let s = shelved_of (find (is_numbered n) items) m found in
+    subst IsCounted s.2 (find_has (IsDue site retention) (is_numbered n) items s.0 h s.1).counted

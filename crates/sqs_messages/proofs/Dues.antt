@@ -9,7 +9,7 @@ use Rattle.sim_index.proofs.Spans.{lesser_assoc}
 use Rattle.sqs_model.specs.Dues.{message_dues}
 use Rattle.sqs_messages.specs.Heads.{told}
 use Rattle.sqs_messages.specs.Slots.{Shelved}
-use Rattle.sqs_messages.specs.GroupShelves.{IsDue}
+use Rattle.sqs_messages.specs.Marked.{IsDue}
 
 least_append : (xs ys : List Key) → least (xs ++ ys) ≡ lesser (least xs) (least ys)
 least_append [] ys = refl

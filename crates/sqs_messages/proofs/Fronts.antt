@@ -1,11 +1,10 @@
 -- The first of a group, marked where it leads.
-use Rattle.std.proofs.Common.{◌≡◌, ℕ, suc, ◌+◌, ◌<◌, ◌≤◌, Bool, true, false, List, [], ◌∷◌, Option, Some, None, cond, filter, if◌then◌else◌, length, map, not, ◌&&◌, arith, refl, ap, sym, subst, ◌∙◌}
+use Rattle.std.proofs.Common.{◌≡◌, ℕ, ◌+◌, ◌≤◌, Bool, true, false, List, [], ◌∷◌, Option, Some, None, cond, filter, if◌then◌else◌, map, not, ◌&&◌, arith, refl, ap, sym, subst, ◌∙◌}
 use Rattle.std.specs.Prelude.{All, find, ◌==◌}
 use Rattle.std.specs.List.{list_any}
 use Rattle.std.proofs.lemmas.Bool.Decides.{nat_tests}
-use Rattle.std.proofs.lemmas.List.Elements.{All-cons, All-head, All-nil, All-tail}
+use Rattle.std.proofs.lemmas.List.Elements.{All-cons, All-nil}
 use Rattle.sim_clock.specs.Firsts.{changed}
-use Rattle.sim_clock.specs.declared.key.Key.{Key}
 use Rattle.sim_index.specs.Marks.{meets}
 use Rattle.sqs_message.specs.declared.message.Message.{Message}
 use Rattle.sqs_model.specs.Progress.{Ascends}
@@ -13,9 +12,9 @@ use Rattle.sqs_model.specs.Queue.{is_visible}
 use Rattle.sqs_model.specs.Texts.{same_text_decides}
 use Rattle.sqs_messages.specs.Heads.{AreLed, IsLedBut, in_group, is_first, leads, of_group, told}
 use Rattle.sqs_messages.specs.Slots.{Shelved, is_numbered, number_of, with_hosts}
-use Rattle.sqs_messages.proofs.Leads.{find_has}
 use Rattle.sqs_messages.proofs.Led.{led_empty, led_front}
-use Rattle.sqs_messages.specs.Groups.{bit, front_of, is_out, out_of, unhosted}
+use Rattle.sqs_messages.specs.Groups.{bit, front_of, is_out, out_of}
+use Rattle.sqs_messages.specs.Marked.{unhosted}
 use Rattle.sqs_messages.proofs.Grouped.{count_none}
 
 front_is : (q : Message → Bool) (ms : List Message) (n : ℕ) (v : Bool) → front_of (filter q ms) ≡ Some (n, v) → (m : Message) × (find q ms ≡ Some m) × (m.number ≡ n) × (is_visible m ≡ v) × (q m ≡ true)

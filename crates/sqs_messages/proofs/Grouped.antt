@@ -1,6 +1,6 @@
 -- Groups' lists and counts, as a message leaves, changes or comes.
-use Rattle.std.proofs.Common.{◌≡◌, ℕ, zero, suc, ◌+◌, ◌<◌, ◌≤◌, Bool, true, false, List, [], ◌∷◌, ◌++◌, Option, Some, None, cond, filter, if◌then◌else◌, length, map, not, ◌||◌, ◌&&◌, get_or, arith, refl, ap, sym, subst, ◌∙◌, append-nil}
-use Rattle.std.specs.Prelude.{All, find, ◌==◌, ◌≢◌}
+use Rattle.std.proofs.Common.{◌≡◌, ℕ, ◌+◌, ◌<◌, ◌≤◌, Bool, true, false, List, [], ◌∷◌, ◌++◌, Option, Some, None, cond, filter, if◌then◌else◌, length, map, not, ◌||◌, get_or, arith, refl, ap, sym, subst, ◌∙◌, append-nil}
+use Rattle.std.specs.Prelude.{All, find, ◌==◌}
 use Rattle.std.specs.List.{cons_option, filter_map, list_any}
 use Rattle.std.specs.Option.{option_map, option_or}
 use Rattle.std.proofs.lemmas.Bool.Decides.{nat_tests}
@@ -10,7 +10,7 @@ use Rattle.std.proofs.lemmas.List.Folds.{find-append}
 use Rattle.sim_clock.specs.Firsts.{changed, without}
 use Rattle.sqs_message.specs.declared.message.Message.{Message}
 use Rattle.sqs_model.specs.Progress.{Ascends}
-use Rattle.sqs_model.specs.Queue.{has_number, is_in_flight, same_text}
+use Rattle.sqs_model.specs.Queue.{has_number, same_text}
 use Rattle.sqs_messages.specs.Heads.{in_group, of_group, told}
 use Rattle.sqs_messages.specs.Slots.{Shelved, held, is_numbered, message_of, number_of}
 use Rattle.sqs_messages.proofs.Firsts.{none_find}

@@ -1,10 +1,8 @@
 -- The messages and the table after one came.
 use Rattle.std.proofs.Common.{◌≡◌, ℕ, ◌+◌, ◌<◌, ◌≤◌, Bool, true, false, List, [], ◌∷◌, ◌++◌, Option, cond, filter, length, map, ◌&&◌, get_or, set, arith, refl, ap, sym, subst, ◌∙◌}
 use Rattle.std.specs.Prelude.{All, ◌≢◌}
-use Rattle.std.proofs.lemmas.List.{length-map, map-append}
-use Rattle.std.proofs.lemmas.List.Elements.{All-push}
+use Rattle.std.proofs.lemmas.List.{length-map}
 use Rattle.sim_index.specs.Marks.{meets}
-use Rattle.sqs_message.specs.declared.message.Message.{Message}
 use Rattle.sqs_model.specs.Progress.{Ascends}
 use Rattle.sqs_model.specs.Queue.{is_in_flight, same_text}
 use Rattle.sqs_model.specs.Texts.{decided_symm, same_text_decides}
@@ -12,12 +10,12 @@ use Rattle.sqs_messages.specs.Heads.{AreLed, IsLedBut, in_group, of_group, told}
 use Rattle.sqs_messages.specs.Slots.{Shelved, held, number_of}
 use Rattle.sqs_messages.proofs.Led.{led_pushed}
 use Rattle.sqs_messages.specs.declared.groups.members.Members.{Members}
-use Rattle.sqs_messages.specs.Groups.{AreGrouped, IsGrouped, Kept, bit, group_at, group_by, is_out, out_of, place_by, unhosted}
-use Rattle.sqs_messages.specs.GroupShelves.{IsDue}
-use Rattle.sqs_messages.proofs.Calls.{dues_kept, filter_few, no_and}
+use Rattle.sqs_messages.specs.Groups.{AreGrouped, IsGrouped, Kept, bit, group_at, group_by, is_out, out_of, place_by}
+use Rattle.sqs_messages.specs.Marked.{unhosted}
+use Rattle.sqs_messages.proofs.Calls.{filter_few, no_and}
 use Rattle.sqs_messages.proofs.Grouped.{few, grouped_pushed}
 use Rattle.sqs_messages.proofs.Places.{apart, group_at_is, group_same}
-use Rattle.sqs_messages.proofs.Settled.{IsSettled, settled, settled_led, told_kept}
+use Rattle.sqs_messages.proofs.Settled.{IsSettled, settled, settled_led}
 
 -- a group with one more number, where a message is of it
 abbrev pub with_number : Bool → ℕ → Kept → Kept
@@ -75,14 +73,6 @@ module _ (names : List (Option (List ℕ))) (groups groups2 : List Members) (ite
   -- and so are the marks of leaders
   pub joined_led : AreLed after
   joined_led = settled_led before after (next + 1) s.message.group false (is_in_flight s.message) old (group_by names groups2) settled_one mid (subst (λ xs. All (IsLedBut xs s.message.group) xs) (sym pushed) (led_pushed items s led off))
-
--- what is due of messages of which one came
-pub joined_dues : (site retention : ℕ) (items before after : List Shelved) (s : Shelved) → before ≡ items ++ s ∷ [] → map unhosted after ≡ map unhosted before → IsDue site retention s → All (IsDue site retention) items → All (IsDue site retention) after
-joined_dues site retention items before after s pushed kept due h = dues_kept site retention before after kept (subst (All (IsDue site retention)) (sym pushed) (All-push (IsDue site retention) items s h due))
-
--- the messages of which one came
-pub joined_told : (items before after : List Shelved) (s : Shelved) → before ≡ items ++ s ∷ [] → map unhosted after ≡ map unhosted before → told after ≡ told items ++ s.message ∷ []
-joined_told items before after s pushed kept = told_kept before after kept ∙ ap told pushed ∙ map-append (λ (x : Shelved). x.message) items (s ∷ [])
 
 -- a group counts no more messages than there are numbers
 pub out_few : (g : Option (List ℕ)) (next : ℕ) (items : List Shelved) (k : Kept) → IsGrouped items next g k → Ascends number_of 0 items → All (λ x. number_of x < next) items → k.out ≤ next

@@ -1,9 +1,7 @@
 -- What the groups of leaders give.
-use Rattle.std.proofs.Common.{◌≡◌, ℕ, zero, suc, ◌+◌, ◌<◌, ◌≤◌, Bool, true, false, List, [], ◌∷◌, ◌++◌, Option, Some, None, cond, filter, flat_map, length, map, not, take, ◌&&◌, arith, refl, ap, sym, subst, ◌∙◌}
-use Rattle.std.specs.Prelude.{All, find, is_some, nat_le, ◌==◌}
-use Rattle.std.specs.Option.{option_copied, option_map}
+use Rattle.std.proofs.Common.{◌≡◌, ℕ, zero, suc, ◌+◌, ◌<◌, ◌≤◌, Bool, true, false, List, [], ◌∷◌, ◌++◌, Option, Some, None, cond, filter, flat_map, length, not, take, ◌&&◌, arith, refl, ap, sym, subst, ◌∙◌}
+use Rattle.std.specs.Prelude.{find, is_some, nat_le, ◌==◌}
 use Rattle.std.proofs.lemmas.Bool.Decides.{nat_tests}
-use Rattle.std.proofs.lemmas.List.{length-append}
 use Rattle.sim_clock.specs.Firsts.{is_empty}
 use Rattle.sim_index.specs.Marks.{meets}
 use Rattle.sqs_message.specs.declared.message.Message.{Message}
@@ -14,7 +12,7 @@ use Rattle.sqs_model.specs.Progress.{Ascends}
 use Rattle.sqs_model.specs.Queue.{is_delayed, is_visible}
 use Rattle.sqs_redrive.specs.declared.settings.Kind.{Kind}
 use Rattle.sqs_redrive.specs.declared.settings.Kind.TheVariants.{Fifo, Standard}
-use Rattle.sqs_messages.specs.Heads.{AreLed, any_out, given_by, in_group, is_first, kept_until, leads, of_group, told, until_delayed}
+use Rattle.sqs_messages.specs.Heads.{AreLed, any_out, given_by, in_group, is_first, kept_until, leads, told, until_delayed}
 use Rattle.sqs_messages.specs.Slots.{Shelved, is_numbered, number_of}
 use Rattle.sqs_messages.proofs.Leads.{by_leads, find_has}
 use Rattle.sqs_messages.proofs.Marked.{wanted}

@@ -23,3 +23,5 @@ pub mod Joined
 pub mod Leaders
 pub mod Leading
 pub mod Skipped
+pub mod Kept
+pub mod Orders

@@ -1,13 +1,12 @@
 -- The places of groups in a table.
-use Rattle.std.proofs.Common.{◌≡◌, ℕ, zero, suc, ◌+◌, ◌<◌, ◌≤◌, Bool, true, false, List, [], ◌∷◌, Option, Some, None, cond, filter, length, map, not, ◌&&◌, set, get_or, inl, inr, arith, refl, ap, sym, subst, ◌∙◌}
-use Rattle.std.specs.Prelude.{All, find, ◌≢◌}
+use Rattle.std.proofs.Common.{◌≡◌, ℕ, suc, ◌+◌, ◌<◌, ◌≤◌, Bool, true, false, List, [], ◌∷◌, Option, cond, length, map, not, set, get_or, arith, refl, ap, sym, ◌∙◌}
+use Rattle.std.specs.Prelude.{◌≢◌}
 use Rattle.std.specs.List.{position_or_len}
-use Rattle.std.proofs.lemmas.Bool.{cases_eq, cases_lt}
-use Rattle.std.proofs.lemmas.List.{get_or-map, get_or-set_other, get_or-set_same, get_or_default, get_or_past, length-map, map-set}
+use Rattle.std.proofs.lemmas.List.{get_or-map, get_or-set_other, get_or-set_same, get_or_past, length-map, map-set}
 use Rattle.sqs_model.specs.Queue.{same_text}
 use Rattle.sqs_model.specs.Texts.{same_text_decides}
 use Rattle.sqs_messages.specs.declared.groups.members.Members.{Members}
-use Rattle.sqs_messages.specs.Groups.{Kept, group_at, group_by, kept, nobody, place_by}
+use Rattle.sqs_messages.specs.Groups.{Kept, group_at, kept, nobody, place_by}
 
 pub group_at_is : (groups : List Members) (i : ℕ) (d : Members) → i < length groups → group_at groups i ≡ kept (get_or groups i d)
 group_at_is groups i d l = get_or-map kept groups i d nobody l

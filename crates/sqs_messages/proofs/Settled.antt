@@ -1,13 +1,14 @@
 -- Groups after a change of one of their messages.
-use Rattle.std.proofs.Common.{◌≡◌, ℕ, ◌+◌, ◌<◌, ◌≤◌, Bool, true, false, List, [], ◌∷◌, Option, Some, None, cond, filter, length, map, ◌&&◌, arith, refl, ap, sym, subst, ◌∙◌}
-use Rattle.std.specs.Prelude.{All, find, ◌≢◌}
+use Rattle.std.proofs.Common.{◌≡◌, ℕ, ◌+◌, ◌<◌, Bool, true, false, List, [], ◌∷◌, Option, map, ◌&&◌, refl, ap, sym, subst, ◌∙◌}
+use Rattle.std.specs.Prelude.{All}
 use Rattle.sim_clock.specs.declared.key.Key.{Key}
 use Rattle.sqs_message.specs.declared.message.Message.{Message}
-use Rattle.sqs_model.specs.Queue.{is_in_flight, same_text}
+use Rattle.sqs_model.specs.Queue.{same_text}
 use Rattle.sqs_model.specs.Texts.{decided_symm, same_text_decides}
-use Rattle.sqs_messages.specs.Heads.{AreLed, IsLedBut, in_group, of_group, told}
-use Rattle.sqs_messages.specs.Slots.{Shelved, held, is_numbered}
-use Rattle.sqs_messages.specs.Groups.{IsGrouped, Kept, bit, out_of, unhosted}
+use Rattle.sqs_messages.specs.Heads.{AreLed, IsLedBut, of_group, told}
+use Rattle.sqs_messages.specs.Slots.{Shelved, held}
+use Rattle.sqs_messages.specs.Groups.{IsGrouped, Kept, bit, out_of}
+use Rattle.sqs_messages.specs.Marked.{unhosted}
 use Rattle.sqs_messages.proofs.Grouped.{grouped_same}
 
 -- what a change of a message of group g leaves of the groups

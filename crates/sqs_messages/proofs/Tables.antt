@@ -6,9 +6,8 @@ use Rattle.sim_clock.proofs.Places.{place_within}
 use Rattle.sqs_model.specs.Queue.{same_text}
 use Rattle.sqs_model.specs.Texts.{same_text_decides}
 use Rattle.sqs_messages.specs.Slots.{Shelved}
-use Rattle.sqs_messages.specs.GroupShelves.{AreShelved}
 use Rattle.sqs_messages.specs.declared.groups.members.Members.{Members}
-use Rattle.sqs_messages.specs.Groups.{IsGrouped, Kept, group_at, group_by, kept, nobody, place_by}
+use Rattle.sqs_messages.specs.Groups.{AreInGroups, IsGrouped, Kept, group_by, kept, nobody, place_by}
 
 get_later : (k : Kept) (ks : List Kept) (i : ℕ) → get_or (k ∷ ks) (1 + i) nobody ≡ get_or ks i nobody
 get_later k ks i = let e : 1 + i ≡ suc i = omega arith in ap (λ j. get_or (k ∷ ks) j nobody) e
@@ -84,11 +83,10 @@ none_any p (x ∷ xs) l = by (none_any p xs) (p x) refl
         ap (λ b. b || list_any p xs) k ∙ ih (omega (arith, l, later))
 
 -- what is kept of messages is so with another table that tells the same of each group
-pub roomed : (site retention : ℕ) (items : List Shelved) (next : ℕ) (names names2 : List (Option (List ℕ))) (groups groups2 : List Members) → AreShelved site retention items next names groups → length names2 ≡ length groups2
-    → ((g : Option (List ℕ)) → group_by names2 groups2 g ≡ group_by names groups g) → AreShelved site retention items next names2 groups2
-roomed site retention items next names names2 groups groups2 h same alike =
+pub roomed : (items : List Shelved) (next : ℕ) (names names2 : List (Option (List ℕ))) (groups groups2 : List Members) → AreInGroups items next names groups → length names2 ≡ length groups2
+    → ((g : Option (List ℕ)) → group_by names2 groups2 g ≡ group_by names groups g) → AreInGroups items next names2 groups2
+roomed items next names names2 groups groups2 h same alike =
     record {
-      dues = h.dues;
       led = h.led;
       same = same;
       grouped = λ g. subst (IsGrouped items next g) (sym (alike g)) (h.grouped g);

@@ -2,12 +2,11 @@
 use Rattle.std.specs.List.{position_or_len}
 use Rattle.std.specs.VecDeque.{deque_capacity, deque_len}
 use Rattle.std.specs.Prelude.{◌≡◌, All, Bool, List, None, Option, Some, [], ◌∷◌, cond, false, true, filter, get_or, length, map, ℕ, ◌&&◌, ◌<◌}
-use Rattle.sim_clock.specs.declared.key.Key.{Key}
 use Rattle.sqs_message.specs.declared.message.Message.{Message}
 use Rattle.sqs_message.specs.declared.message.Place.{Place}
 use Rattle.sqs_message.specs.declared.message.Place.TheVariants as places
 use Rattle.sqs_model.specs.Queue.{is_in_flight, is_visible, same_text}
-use Rattle.sqs_messages.specs.Heads.{in_group, of_group, told}
+use Rattle.sqs_messages.specs.Heads.{AreLed, in_group, of_group, told}
 use Rattle.sqs_messages.specs.Slots.{Shelved, held}
 use Rattle.sqs_messages.specs.declared.groups.members.Members.{Members}
 
@@ -57,9 +56,11 @@ pub record IsGrouped (items : List Shelved) (next : ℕ) (g : Option (List ℕ))
 abbrev pub AreGrouped : List Shelved → ℕ → List (Option (List ℕ)) → List Members → Type 0
 AreGrouped items next names groups = (g : Option (List ℕ)) → IsGrouped items next g (group_by names groups g)
 
--- what a message has but for its hosts
-abbrev pub unhosted : Shelved → Message × Option Key
-unhosted s = (s.message, s.mark.due)
+-- each first message that leads is marked, and the table tells of each group
+pub record AreInGroups (items : List Shelved) (next : ℕ) (names : List (Option (List ℕ))) (groups : List Members) : Type 0 where
+  pub led : AreLed items
+  pub same : length names ≡ length groups
+  pub grouped : AreGrouped items next names groups
 
 -- the number of the first of some messages, and whether it may be received
 abbrev pub front_of : List Message → Option (ℕ × Bool)

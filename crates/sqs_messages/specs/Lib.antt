@@ -4,9 +4,8 @@ pub mod Counted
 pub mod Shelves
 pub mod Room
 pub mod Stored
-pub mod Standard
 pub mod Marked
-pub mod Hosted
 pub mod Keys
 pub mod Groups
-pub mod GroupShelves
+pub mod Orders
+pub mod Tables

@@ -4,18 +4,18 @@
 
 mod choose;
 mod counts;
-mod group_shelf;
+mod due;
 mod groups;
-mod host_shelf;
-mod marking;
+mod hosts;
 mod messages;
+mod order;
 mod room;
 mod shelf;
 mod slot;
+mod table;
 
 pub use counts::Counts;
-pub use group_shelf::GroupShelf;
 pub use groups::choose::Choice;
-pub use host_shelf::HostShelf;
 pub use messages::Messages;
 pub use slot::State;
+pub use table::MessageTable;

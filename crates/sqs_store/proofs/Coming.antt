@@ -1,11 +1,11 @@
 -- What a queue does as a message comes back or is given.
-use Rattle.std.proofs.Common.{◌≡◌, ℕ, ◌==◌, Bool, true, false, List, [], ◌∷◌, None, Some, cond, if◌then◌else◌, ap, refl, sym, ◌∙◌}
+use Rattle.std.proofs.Common.{◌≡◌, ℕ, ◌==◌, Bool, true, false, List, [], ◌∷◌, None, Some, cond, if◌then◌else◌, ap, refl, ◌∙◌}
 use Rattle.std.specs.Prelude.{find}
 use Rattle.sim_clock.specs.Firsts.{without}
 use Rattle.sqs_message.specs.declared.message.Message.{Message}
 use Rattle.sqs_model.specs.Queue.{Queue, has_number, numbered, taken_out, with_change, with_records}
 use Rattle.sqs_model.specs.Receive.{received}
-use Rattle.sqs_model.specs.Return.{leaves, redrive_of, released, released_found, released_when, visible_again}
+use Rattle.sqs_model.specs.Return.{leaves, released, released_found, released_when, visible_again}
 use Rattle.sqs_model.proofs.Counts.{changed_none}
 use Rattle.sqs_store.specs.Giving.{gives}
 

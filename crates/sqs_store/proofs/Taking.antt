@@ -11,7 +11,7 @@ use Rattle.sqs_model.specs.Progress.{Differ}
 use Rattle.sqs_model.specs.Queue.{Entry, IsFramed, Queue, numbered, taken_out}
 use Rattle.sqs_model.specs.Task.{Taken, destination, take_each, taken_one}
 use Rattle.sqs_model.proofs.Numbered.{other_without}
-use Rattle.sqs_store.specs.Shelves.{messages_of}
+use Rattle.sqs_store.specs.Picked.{messages_of}
 use Rattle.sqs_store.proofs.Numbers.{found_number}
 use Rattle.sqs_store.proofs.Stored.{OfQueue, state_taken}
 

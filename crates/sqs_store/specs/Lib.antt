@@ -1,4 +1,5 @@
 pub mod Calls
 pub mod Giving
-pub mod Shelves
+pub mod Kinds
+pub mod Picked
 pub mod Stored

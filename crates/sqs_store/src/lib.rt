@@ -5,7 +5,6 @@
 mod batch;
 mod loads;
 mod places;
-mod queue_shelf;
 mod store;
 
 pub use batch::Received;

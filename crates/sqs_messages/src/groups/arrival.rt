@@ -1,17 +1,16 @@
 //! The arrival of a message for which there is room.
 ghost use Rattle.std.specs.Prelude.{◌≡◌, ◌≢◌, ◌+◌, ◌++◌, ◌∷◌, ◌<◌, ◌≤◌, ◌^◌, ℕ, All, List, Option, [], length, map, true};
-ghost use Rattle.sqs_model.specs.Answers.{most_count};
 ghost use Rattle.sqs_messages.specs.Heads.{AreLed, IsLedBut, of_group, told};
 ghost use Rattle.sqs_messages.specs.Slots.{held};
-ghost use Rattle.sqs_messages.specs.Stored.{IsCounted};
-ghost use Rattle.sqs_messages.specs.GroupShelves.{AreShelved};
-ghost use Rattle.sqs_messages.specs.Groups.{HasRoomAt, bit, group_at, out_of, place_by, unhosted};
+ghost use Rattle.sqs_messages.specs.Marked.{unhosted};
+ghost use Rattle.sqs_messages.specs.Groups.{AreInGroups, HasRoomAt, bit, group_at, out_of, place_by};
 
 use crate::groups::key::HeldGroup;
-use crate::groups::mark::{in_flight, mark_as};
-use crate::groups::members::{Members, moved};
+use crate::groups::members::{Members, in_flight, moved};
 use crate::shelf::Shelf;
 use indexmap::IndexSet;
+use sim_clock::Key;
+use sim_index::Mark;
 use sqs_message::Message;
 
 // The number of a message that came joins its group's, and the first of the group is marked anew.
@@ -32,35 +31,31 @@ fn join(shelf: &mut Shelf, groups: &mut [Members], place: usize, number: u64, is
     moved(shelf, groups, place, false, is_out);
 }
 
-// One more message, of the group at a place of the table.
+/// One more message, of the group at a place of the table, with what is due of it.
 pub fn add(
-    site: u32,
-    retention: u64,
     shelf: &mut Shelf,
     names: &IndexSet<HeldGroup>,
     groups: &mut [Members],
     place: usize,
     message: Message,
+    due: Option<Key>,
 )
-    requires shelved { AreShelved site retention shelf.old.items shelf.old.next names.now.keys groups.old }
+    requires grouped { AreInGroups shelf.old.items shelf.old.next names.now.keys groups.old }
     requires ready { shelf.old.ready ≡ true }
     requires number { message.number ≡ shelf.old.next }
-    requires below { shelf.old.next < most_count }
-    requires counted { IsCounted message }
-    requires retention { retention ≤ 1209600000 }
+    requires range { shelf.old.next + 1 < 2 ^ 64 }
     requires place { place ≡ place_by names.now.keys message.group }
     requires within { place < length groups.old }
     requires room { HasRoomAt groups.old place }
-    ensures shelved { AreShelved site retention shelf.new.items shelf.new.next names.now.keys groups.new }
-    ensures records { told shelf.new.items ≡ told shelf.old.items ++ message ∷ [] }
+    ensures grouped { AreInGroups shelf.new.items shelf.new.next names.now.keys groups.new }
+    ensures added { map unhosted shelf.new.items ≡ map unhosted shelf.old.items ++ (message, due) ∷ [] }
     ensures next { shelf.new.next ≡ shelf.old.next + 1 }
     ensures len { length groups.new ≡ length groups.old }
 {
     let _next = shelf.number();
-    let mark = mark_as(site, retention, &message, message.release);
     let number = message.number;
     let is_out = in_flight(message.place);
-    let Ok(()) = shelf.push(message, mark) else {
+    let Ok(()) = shelf.push(message, Mark { due, hosts: 0 }) else {
         unreachable!();
     };
     join(shelf, groups, place, number, is_out);

@@ -7,8 +7,7 @@ ghost use Rattle.sqs_messages.specs.Slots.{held};
 ghost use Rattle.sqs_messages.specs.Groups.{AreGrouped};
 
 use crate::groups::key::{AskedGroup, HeldGroup};
-use crate::groups::mark::LEADS;
-use crate::groups::members::{Members, numbers_at, place_of};
+use crate::groups::members::{LEADS, Members, numbers_at, place_of};
 use crate::shelf::Shelf;
 use indexmap::IndexSet;
 use sqs_message::{Message, Place};

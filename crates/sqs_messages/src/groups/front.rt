@@ -3,10 +3,10 @@ ghost use Rattle.std.specs.Prelude.{◌≡◌, ◌<◌, ◌==◌, ◌&&◌, ℕ,
 ghost use Rattle.sqs_model.specs.Queue.{is_visible};
 ghost use Rattle.sqs_messages.specs.Heads.{AreLed, IsLedBut, of_group, told};
 ghost use Rattle.sqs_messages.specs.Slots.{held};
-ghost use Rattle.sqs_messages.specs.Groups.{bit, front_of, out_of, unhosted};
+ghost use Rattle.sqs_messages.specs.Marked.{unhosted};
+ghost use Rattle.sqs_messages.specs.Groups.{bit, front_of, out_of};
 
-use crate::groups::mark::LEADS;
-use crate::groups::members::Members;
+use crate::groups::members::{LEADS, Members};
 use crate::shelf::Shelf;
 use sqs_message::{Message, Place};
 use std::collections::VecDeque;

@@ -2,13 +2,26 @@
 ghost use Rattle.std.specs.Prelude.{◌≡◌, ◌≢◌, ◌+◌, ◌<◌, ◌≤◌, ◌^◌, ℕ, All, List, Option, length, map, false, true};
 ghost use Rattle.sqs_messages.specs.Heads.{AreLed, IsLedBut, of_group, told};
 ghost use Rattle.sqs_messages.specs.Slots.{held};
-ghost use Rattle.sqs_messages.specs.Groups.{bit, group_at, out_of, place_by, unhosted};
+ghost use Rattle.sqs_messages.specs.Marked.{unhosted};
+ghost use Rattle.sqs_messages.specs.Groups.{bit, group_at, in_flight_at, out_of, place_by};
 
 use crate::groups::front::refresh;
 use crate::groups::key::{AskedGroup, HeldGroup};
 use crate::shelf::Shelf;
 use indexmap::IndexSet;
+use sqs_message::Place;
 use std::collections::VecDeque;
+
+/// The hosts in the mark of a message that leads its group: that is the first of its group and
+/// visible, while none of the group is in flight. A FIFO queue has one host.
+pub const LEADS: u32 = 1;
+
+/// Whether a place is that of a message in flight.
+pub fn in_flight(place: Place) -> bool
+    ensures { result ≡ in_flight_at place }
+{
+    matches!(place, Place::InFlight)
+}
 
 /// The numbers of a group's messages, in order, some of which may have left, and how many are in
 /// flight.

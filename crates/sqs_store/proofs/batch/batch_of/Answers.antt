@@ -3,7 +3,6 @@ use Rattle.sqs_message.specs.declared.message.Message.{Message}
 use Rattle.sqs_model.specs.Answers.{most_count}
 use Rattle.sqs_model.specs.Queue.{Queue}
 use Rattle.sqs_messages.specs.Stored.{IsCounted}
-use Rattle.sqs_store.specs.Shelves.{queue_of}
 use Rattle.sqs_store.proofs.Batches.{told_limit, told_more, told_none}
 use Rattle.sqs_store.proofs.Stored.{counted_found}
 use Rattle.sqs_store.proofs.batch.batch_of.Goals.{in-Some+else-message-eq-MOST_COUNT+in_ok-told_of+in_ok-push, in_default}
@@ -12,17 +11,17 @@ use Rattle.sqs_store.proofs.batch.batch_of.Goals as goal
 pub returns-then-message-eq-MOST_COUNT-clause-at_limit :
     goal.returns-then-message-eq-MOST_COUNT-clause-at_limit
 returns-then-message-eq-MOST_COUNT-clause-at_limit c =
-    let q : Queue = queue_of c.args.shelf.now in
+    let q : Queue = c.args.messages.now in
     λ same. told_limit q.records c.args.numbers.now c.loop-number.number-index c.in-Some.message.now c.loop-number-test.true (sym c.in-Some.ensures) c.if-message-eq-MOST_COUNT.true
 
 pub told_of-requires : goal.told_of-requires
 told_of-requires c =
-    let counted : IsCounted c.in-Some.message.now = counted_found (queue_of c.args.shelf.now) _ c.in-Some.message.now c.requires.counted (sym c.in-Some.ensures) in
+    let counted : IsCounted c.in-Some.message.now = counted_found c.args.messages.now _ c.in-Some.message.now c.requires.counted (sym c.in-Some.ensures) in
     omega (arith, counted.receives, c.if-message-eq-MOST_COUNT.false)
 
 pub loop-number-preserved : goal.loop-number-preserved
 loop-number-preserved c =
-    let q : Queue = queue_of c.args.shelf.now in
+    let q : Queue = c.args.messages.now in
     let i = c.loop-number.number-index in
     elim c.match-find.branch [
       | in-Some+else-message-eq-MOST_COUNT+in_ok-told_of+in_ok-push w ↦

@@ -1,7 +1,8 @@
-use Rattle.std.proofs.Common.{◌≡◌, ap, map, subst, sym, ◌∙◌}
+use Rattle.std.proofs.Common.{ap, map, subst, sym, ◌∙◌}
 use Rattle.sqs_messages.specs.Heads.{AreLed}
 use Rattle.sqs_messages.specs.Slots.{is_numbered}
-use Rattle.sqs_messages.specs.Groups.{front_of, unhosted}
+use Rattle.sqs_messages.specs.Groups.{front_of}
+use Rattle.sqs_messages.specs.Marked.{unhosted}
 use Rattle.sqs_messages.proofs.Fronts.{front_led, none_led, unhosted_changed}
 use Rattle.sqs_messages.proofs.groups.front.refresh.Goals as goal
 

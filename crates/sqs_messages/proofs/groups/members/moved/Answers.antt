@@ -1,8 +1,7 @@
-use Rattle.std.proofs.Common.{◌≡◌, ◌+◌, ◌<◌, ◌≤◌, ◌^◌, ℕ, ap, get_or, subst, sym, ◌∙◌}
+use Rattle.std.proofs.Common.{◌≡◌, ◌+◌, ◌<◌, ◌≤◌, ◌^◌, ap, get_or, subst, sym, ◌∙◌}
 use Rattle.std.specs.Prelude.{All}
 use Rattle.sqs_messages.specs.Slots.{held}
-use Rattle.sqs_messages.specs.Groups.{Kept, bit, group_at, kept, out_of}
-use Rattle.sqs_messages.specs.Heads.{told}
+use Rattle.sqs_messages.specs.Groups.{Kept, bit, group_at, kept}
 use Rattle.sqs_messages.proofs.Places.{group_at_is, group_other, group_same}
 use Rattle.sqs_messages.proofs.groups.members.moved.Goals as goal
 

@@ -1,4 +1,4 @@
-use Rattle.std.proofs.Common.{ap, length, unwrap_or, ◌∙◌}
+use Rattle.std.proofs.Common.{unwrap_or, ◌∙◌}
 use Rattle.sim_clock.proofs.Places.{position_unwrapped}
 use Rattle.sqs_model.specs.Queue.{same_text}
 use Rattle.sqs_messages.proofs.groups.members.place_of.Goals as goal
