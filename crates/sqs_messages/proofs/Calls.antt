@@ -1,10 +1,10 @@
 -- The messages and the table after a message left or changed.
 use Rattle.std.proofs.Common.{◌≡◌, Bor, ℕ, ◌+◌, ◌<◌, ◌≤◌, Bool, true, false, List, [], ◌∷◌, Option, Some, None, cond, if◌then◌else◌, filter, length, map, ◌&&◌, nat_lt, arith, refl, ap, sym, subst, ◌∙◌}
-use Rattle.std.specs.Prelude.{All, find, is_some, ◌≢◌}
+use Rattle.std.specs.Prelude.{All, IfSome, find, is_some, ◌≢◌}
 use Rattle.std.specs.Option.{option_map}
 use Rattle.std.proofs.lemmas.Bool.Decides.{nat_tests}
 use Rattle.std.proofs.lemmas.List.{length-map}
-use Rattle.std.proofs.lemmas.List.Elements.{All-cons, All-head, All-nil, All-tail}
+use Rattle.std.proofs.lemmas.List.Elements.{All-cons, All-head, All-nil, All-tail, All-weaker}
 use Rattle.sim_clock.specs.Firsts.{changed, without}
 use Rattle.sim_clock.specs.Order.{least}
 use Rattle.sim_clock.specs.declared.key.Key.{Key}
@@ -19,14 +19,14 @@ use Rattle.sqs_model.specs.Texts.{same_text_decides}
 use Rattle.sqs_messages.specs.declared.slot.State.{State}
 use Rattle.sqs_messages.specs.Heads.{AreLed, IsLedBut, in_group, of_group, told}
 use Rattle.sqs_messages.specs.Slots.{Shelved, held, is_numbered, number_of, restated}
-use Rattle.sqs_messages.specs.Stored.{IsCounted}
+use Rattle.sqs_messages.specs.Stored.{IsCounted, IsStored}
 use Rattle.sqs_messages.proofs.Leads.{find_has}
 use Rattle.sqs_messages.proofs.Led.{all_changed, led_changed, led_without, told_find}
 use Rattle.sqs_messages.specs.declared.groups.members.Members.{Members}
 use Rattle.sqs_messages.specs.Groups.{IsGrouped, Kept, bit, group_at, group_by, in_flight_at, is_out, nobody, out_of, place_by}
 use Rattle.sqs_messages.specs.Marked.{IsDue, restamped, unhosted}
 use Rattle.sqs_messages.proofs.Fronts.{none_in}
-use Rattle.sqs_messages.proofs.Grouped.{count_changed, count_without, few, grouped_changed, grouped_without}
+use Rattle.sqs_messages.proofs.Grouped.{count_changed, count_without, few, grouped_changed, grouped_without, told_all, told_ascends}
 use Rattle.sqs_messages.proofs.Places.{apart, group_past}
 use Rattle.sqs_messages.proofs.Settled.{IsSettled, settled, settled_led}
 
@@ -188,3 +188,17 @@ pub found_counted : (site retention n : ℕ) (items : List Shelved) (m : Message
 found_counted site retention n items m found h =
     let s = shelved_of (find (is_numbered n) items) m found in
     subst IsCounted s.2 (find_has (IsDue site retention) (is_numbered n) items s.0 h s.1).counted
+
+-- so is what is read of it
+pub read_counted : (site retention n : ℕ) (items : List Shelved) (r : Option (Bor Message)) → option_map (λ (m : Bor Message). m.now) r ≡ option_map (λ (s : Shelved). s.message) (find (is_numbered n) items) → All (IsDue site retention) items → IfSome r (λ m. IsCounted m.now)
+read_counted site retention n items None e h = tt
+read_counted site retention n items (Some m) e h = found_counted site retention n items m.now e h
+
+-- messages within the limits, in the order of their numbers, all below the next one
+pub stored_of : (site retention next : ℕ) (items : List Shelved) → All (IsDue site retention) items → Ascends number_of 0 items → All (λ s. number_of s < next) items → IsStored (told items) next
+stored_of site retention next items dues ordered below =
+    record {
+      counted = told_all IsCounted items (All-weaker (IsDue site retention) (λ (s : Shelved). IsCounted s.message) (λ s h. h.counted) items dues);
+      ordered = told_ascends 0 items ordered;
+      given_out = told_all (λ (m : Message). m.number < next) items below;
+    }

@@ -1,5 +1,5 @@
 //! The table of a queue's messages.
-ghost use Rattle.std.specs.Prelude.{◌≡◌, ◌+◌, ◌++◌, ◌∷◌, ◌*◌, ◌<◌, ◌≤◌, [], All, IfOk, None, OnErr, OnOk, count_by, length, map, not, take, true};
+ghost use Rattle.std.specs.Prelude.{◌≡◌, ◌+◌, ◌++◌, ◌∷◌, ◌*◌, ◌<◌, ◌≤◌, [], All, IfOk, IfSome, None, OnErr, OnOk, count_by, length, map, not, take, true};
 ghost use Rattle.std.specs.Option.{option_copied};
 ghost use Rattle.sim_clock.specs.Firsts.{is_empty};
 ghost use Rattle.sim_clock.specs.Order.{least};
@@ -9,6 +9,7 @@ ghost use Rattle.sqs_model.specs.Available.{available};
 ghost use Rattle.sqs_model.specs.Calls.{living_entries, with_message};
 ghost use Rattle.sqs_model.specs.Dues.{queue_dues};
 ghost use Rattle.sqs_model.specs.Longest.{deduplication_interval};
+ghost use Rattle.sqs_model.specs.Progress.{Ascends};
 ghost use Rattle.sqs_model.specs.Queue.{is_delayed, is_in_flight, is_visible, numbered, taken_out, with_change};
 ghost use Rattle.sqs_model.specs.Valid.{IsQueueSettings};
 ghost use Rattle.sqs_messages.specs.Heads.{told};
@@ -127,15 +128,18 @@ impl MessageTable {
 
     /// The message of a number, if it is there.
     pub fn find(&self, number: u64) -> Option<&Message>
-        ensures { option_copied result ≡ numbered number self.now.records }
+        ensures found { option_copied result ≡ numbered number self.now.records }
+        ensures counted { IfSome result (λ m. IsCounted m.now) }
     {
         self.shelf.get(number)
     }
 
     /// The messages, in the order of their arrival.
     pub fn iter(&self) -> Messages<'_>
-        ensures { result ≡ self.now.records }
+        ensures messages { result ≡ self.now.records }
+        ensures stored { IsStored self.now.records self.now.arrivals }
     {
+        let _next = self.shelf.number();
         self.shelf.iter()
     }
 
@@ -248,7 +252,9 @@ impl MessageTable {
         ensures numbers { IfOk result (λ choice. choice.numbers.items ≡ map (λ m. m.number) (take most (available self.now hosts))) }
         ensures looked { IfOk result (λ choice. choice.looked ≤ 2 * most) }
         ensures read { IfOk result (λ choice. length choice.numbers.items ≤ choice.looked) }
+        ensures ordered { Ascends (λ m. m.number) 0 self.now.records }
     {
+        let _next = self.shelf.number();
         match &self.order {
             Order::Hosts(_) => hosts::choose(self.alloc, &self.shelf, hosts, most),
             Order::Groups(groups) => groups::choose::choose(

@@ -2,4 +2,3 @@ pub mod Calls
 pub mod Giving
 pub mod Kinds
 pub mod Picked
-pub mod Stored

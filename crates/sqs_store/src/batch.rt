@@ -1,7 +1,6 @@
 //! What a receive tells of the messages that it gives.
 ghost use Rattle.std.specs.Prelude.{◌≡◌, ◌⊎◌, ◌+◌, ◌<◌, ◌≤◌, All, Any, Err, IfErr, IfOk, OnOk, map};
 ghost use Rattle.sqs_model.specs.Answers.{most_count};
-ghost use Rattle.sqs_messages.specs.Stored.{IsCounted};
 ghost use Rattle.sqs_store.specs.Giving.{told_of};
 ghost use Rattle.sqs_store.specs.Picked.{messages_of};
 
@@ -63,7 +62,6 @@ pub fn batch_of(
     messages: &MessageTable,
     numbers: &[u64],
 ) -> Result<Vec<Got>, Refusal>
-    requires counted { All IsCounted messages.now.records }
     ensures told { IfOk result (λ batch. batch.items ≡ map (told_of messages.now.site) (messages_of messages.now.records numbers.now)) }
     ensures below { OnOk result (All (λ m. m.receives < most_count) (messages_of messages.now.records numbers.now)) }
     ensures at_limit { result ≡ Err Refusal.CountLimit → Any (λ m. m.receives ≡ most_count) (messages_of messages.now.records numbers.now) }

@@ -1,12 +1,11 @@
 //! The states of messages: whether they are visible or in flight, and what they become.
-ghost use Rattle.std.specs.Prelude.{◌≡◌, ◌+◌, ◌<◌, ◌^◌, All};
+ghost use Rattle.std.specs.Prelude.{◌≡◌, ◌+◌, ◌<◌, ◌^◌};
 ghost use Rattle.sqs_model.specs.Answers.{most_count};
 ghost use Rattle.sqs_model.specs.Calls.{in_flight_until};
 ghost use Rattle.sqs_model.specs.Queue.{is_in_flight, is_visible, with_change};
 ghost use Rattle.sqs_model.specs.Receive.{received};
 ghost use Rattle.sqs_model.specs.Return.{visible_again};
 ghost use Rattle.sqs_messages.specs.Slots.{restated};
-ghost use Rattle.sqs_messages.specs.Stored.{IsCounted};
 
 use sqs_message::{Message, Place};
 use sqs_messages::{MessageTable, State};
@@ -71,7 +70,6 @@ pub fn received(message: &Message, now: u64, timeout: u64) -> State
 
 /// The message of a number is in flight until a moment, if it is there.
 pub fn keep_out(messages: &mut MessageTable, number: u64, until: u64)
-    requires { All IsCounted messages.old.records }
     ensures { messages.new ≡ with_change messages.old number (in_flight_until until) }
 {
     if let Some(message) = messages.find(number) {

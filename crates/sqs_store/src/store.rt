@@ -66,13 +66,10 @@ pub struct Store {
 
 impl Model for Store {
     ghost use Rattle.sqs_model.specs.Queue.{Queue};
-    ghost use Rattle.sqs_store.specs.Stored.{IsState};
 
     ghost Value = { Queue };
 
     ghost view = { λ q. record q.messages { entries = q.entries } };
-
-    ghost invariant = { λ q. IsState q.messages.settings q.messages.records q.messages.arrivals };
 }
 
 impl Store {

@@ -17,10 +17,10 @@ loop-number-preserved c =
     elim c.match-find.branch [
       | in-Some+in-Some-destination+in-Some-remove w ↦
           let m : Message = w.in-Some.message.now in
-          let gone : w.in-Some-remove.message ≡ m = same_some w.in-Some-remove.message m (w.in-Some-remove.ensures.found ∙ sym w.in-Some.ensures) in
+          let gone : w.in-Some-remove.message ≡ m = same_some w.in-Some-remove.message m (w.in-Some-remove.ensures.found ∙ sym w.in-Some.ensures.found) in
           rw (w.messages-is, w.loads-is, w.push_reserved.ensures.items, w.move_of.ensures, c.site-site.ensures, gone, w.remove.ensures.rest)
-          (taking_more whole first.site c.args.to c.args.numbers.now i q taken m c.loop-number-test.true (sym w.in-Some.ensures) c.loop-number.invariant
+          (taking_more whole first.site c.args.to c.args.numbers.now i q taken m c.loop-number-test.true (sym w.in-Some.ensures.found) c.loop-number.invariant
           w.in-Some-destination.queue (sym w.in-Some-destination.ensures) c.requires.apart)
-      | in-Some+in-Some-destination+in_default-remove w ↦ none_some w.in-Some.message.now (sym w.in_default-remove.is ∙ w.remove.ensures.found ∙ sym w.in-Some.ensures)
-      | in_default w ↦ rw (w.messages-is, w.loads-is) (taking_none whole first.site c.args.to c.args.numbers.now i q taken c.loop-number-test.true (sym w.in_default.ensures) c.loop-number.invariant)
+      | in-Some+in-Some-destination+in_default-remove w ↦ none_some w.in-Some.message.now (sym w.in_default-remove.is ∙ w.remove.ensures.found ∙ sym w.in-Some.ensures.found)
+      | in_default w ↦ rw (w.messages-is, w.loads-is) (taking_none whole first.site c.args.to c.args.numbers.now i q taken c.loop-number-test.true (sym w.in_default.ensures.found) c.loop-number.invariant)
     ]

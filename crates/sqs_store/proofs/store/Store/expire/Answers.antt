@@ -2,14 +2,7 @@ use Rattle.std.proofs.Common.{◌≡◌, None, ap, sym, ◌∙◌}
 use Rattle.sqs_model.specs.Arrive.{expired, expired_found}
 use Rattle.sqs_model.specs.Queue.{Queue, numbered}
 use Rattle.sqs_store.proofs.Coming.{taken_none}
-use Rattle.sqs_store.proofs.Stored.{state_taken}
 use Rattle.sqs_store.proofs.store.Store.expire.Goals as goal
-
-pub invariant_of-self : goal.invariant_of-self
-invariant_of-self c = state_taken c.self.inside.messages c.remove.new.self c.args.number c.remove.ensures.rest c.self.invariant
-
-pub invariant_of-self-2 : goal.invariant_of-self-2
-invariant_of-self-2 c = state_taken c.self.inside.messages c.remove.new.self c.args.number c.remove.ensures.rest c.self.invariant
 
 pub returns-in_default-clause-answer : goal.returns-in_default-clause-answer
 returns-in_default-clause-answer c =
