@@ -22,20 +22,6 @@ pub struct State {
     pub received: u64,
 }
 
-impl State {
-    /// That of a message.
-    pub fn of(message: &Message) -> State
-        ensures { restated result message.now ≡ message.now }
-    {
-        State {
-            place: message.place,
-            release: message.release,
-            receives: message.receives,
-            received: message.received,
-        }
-    }
-}
-
 // A place: the number of the message that came there, its mark, and the message while it is there.
 #[derive(Drop)]
 pub struct Slot {
