@@ -3,11 +3,9 @@
 //! A group gives its messages in the order of their arrival, and none while one of them is in flight
 //! (Developer Guide: FIFO delivery logic). The first message of a group is marked where the group may
 //! give it. Messages without a group are of one group.
-ghost use Rattle.std.specs.Prelude.{◌≡◌, ◌+◌, ◌++◌, ◌∷◌, ◌<◌, ◌≤◌, [], IfOk, List, OnErr, OnOk, Option, length, map, true, ℕ};
-ghost use Rattle.std.specs.Option.{option_copied};
+ghost use Rattle.std.specs.Prelude.{◌≡◌, [], map};
 ghost use Rattle.sim_clock.specs.Firsts.{changed, without};
-ghost use Rattle.sqs_model.specs.Answers.{most_count};
-ghost use Rattle.sqs_messages.specs.Groups.{AreInGroups, group_by};
+ghost use Rattle.sqs_messages.specs.Groups.{AreInGroups};
 ghost use Rattle.sqs_messages.specs.Marked.{restamped, unhosted};
 ghost use Rattle.sqs_messages.specs.Slots.{is_numbered, message_of};
 

@@ -1,5 +1,5 @@
 //! In which order a queue gives its messages.
-ghost use Rattle.std.specs.Prelude.{◌≡◌, ◌+◌, ◌++◌, ◌∷◌, ◌<◌, ◌≤◌, ◌^◌, [], All, IfOk, List, length, map, true, ℕ};
+ghost use Rattle.std.specs.Prelude.{◌≡◌, ◌+◌, ◌++◌, ◌∷◌, ◌<◌, ◌^◌, [], IfOk, List, map, true, ℕ};
 ghost use Rattle.std.specs.Option.{option_copied};
 ghost use Rattle.sim_clock.specs.Firsts.{changed, without};
 ghost use Rattle.sqs_model.specs.Valid.{IsQueueSettings};
