@@ -25,3 +25,4 @@ pub mod Leading
 pub mod Skipped
 pub mod Kept
 pub mod Orders
+pub mod Gone

@@ -14,7 +14,7 @@ use Rattle.sqs_messages.proofs.Marked.{wanted}
 use Rattle.sqs_messages.specs.declared.order.Order.{Order}
 use Rattle.sqs_messages.specs.declared.order.Order.TheVariants as orders
 use Rattle.sqs_messages.specs.Heads.{told}
-use Rattle.sqs_messages.specs.Orders.{AreInOrder, AreOnHosts, IsOrderOf, IsPaired, hosts_by}
+use Rattle.sqs_messages.specs.Orders.{AreInOrder, AreOnHosts, IsOrderOf, hosts_by}
 use Rattle.sqs_messages.specs.Slots.{Shelved, number_of}
 
 -- whether a queue may give any
@@ -31,8 +31,3 @@ pub first_by : (kind : Kind) (hosts set most : ℕ) (items : List Shelved) → I
 first_by (kinds.Standard count sampled) hosts set most items e h =
     first_seen hosts set most items h.hosted ∙ ap (λ k. map (λ (m : Message). m.number) (take most (filter (seen k set) (told items)))) e
 first_by (kinds.Fifo content_dedup scope) hosts set most items e h = absurd e
-
--- each group of an order has a name
-pub paired : (items : List Shelved) (next : ℕ) (order : Order) → AreInOrder items next order → IsPaired order
-paired items next (orders.Hosts hosts) h = tt
-paired items next (orders.Groups groups) h = h.same

@@ -1,5 +1,5 @@
 -- A table with one more group.
-use Rattle.std.proofs.Common.{◌≡◌, ℕ, zero, suc, set, ◌+◌, ◌<◌, ◌≤◌, Bool, true, false, List, [], ◌∷◌, ◌++◌, Option, cond, length, map, not, ◌||◌, get_or, arith, refl, ap, sym, subst, ◌∙◌}
+use Rattle.std.proofs.Common.{◌≡◌, ℕ, suc, ◌+◌, ◌≤◌, Bool, true, false, List, [], ◌∷◌, ◌++◌, Option, cond, length, map, not, ◌||◌, get_or, arith, refl, ap, sym, subst, ◌∙◌}
 use Rattle.std.specs.List.{list_any, position_or_len}
 use Rattle.std.proofs.lemmas.List.{length-append, length-map}
 use Rattle.sim_clock.proofs.Places.{place_within}
@@ -62,12 +62,6 @@ kept_same groups after e = let both : length (map kept after) ≡ length (map ke
 
 pub place_short : (names : List (Option (List ℕ))) (g : Option (List ℕ)) → place_by names g ≤ length names
 place_short names g = place_within (same_text g) names (place_by names g) refl
-
--- no group changes as one makes room
-pub kept_set : (groups : List Members) (place : ℕ) (d y : Members) → place < length groups → y.numbers.items ≡ (get_or groups place d).numbers.items → y.out ≡ (get_or groups place d).out → map kept (set groups place y) ≡ map kept groups
-kept_set (m ∷ groups) zero d y l e o = (λ j. let k : Kept = record { numbers = e j; out = o j } in k ∷ map kept groups)
-kept_set (m ∷ groups) (suc place) d y l e o = ap (λ ks. kept m ∷ ks) (kept_set groups place d y (omega (arith, l)) e o)
-kept_set [] place d y l e o = absurd (omega (arith, l))
 
 -- none passes a test that the first of the list to pass is past its end for
 pub none_any : {A : Type 0} (p : A → Bool) (xs : List A) → length xs ≤ position_or_len p xs → list_any p xs ≡ false

@@ -28,11 +28,6 @@ abbrev pub AreInOrder : List Shelved → ℕ → Order → Type 0
 AreInOrder items next (orders.Hosts hosts) = AreOnHosts hosts items
 AreInOrder items next (orders.Groups groups) = AreInGroups items next groups.names.keys groups.members.items
 
--- whether each group has a name
-abbrev pub IsPaired : Order → Type 0
-IsPaired (orders.Hosts hosts) = Unit {0}
-IsPaired (orders.Groups groups) = length groups.names.keys ≡ length groups.members.items
-
 -- the place of a group whose list has room for one more number
 pub record IsPlaced (groups : Groups) (group : Option (List ℕ)) (place : ℕ) : Type 0 where
   pub at : place ≡ place_by groups.names.keys group

@@ -5,7 +5,7 @@ ghost use Rattle.sim_clock.specs.Firsts.{changed, without};
 ghost use Rattle.sqs_model.specs.Valid.{IsQueueSettings};
 ghost use Rattle.sqs_redrive.specs.declared.settings.Kind.{Kind};
 ghost use Rattle.sqs_messages.specs.Marked.{restamped, unhosted};
-ghost use Rattle.sqs_messages.specs.Orders.{AreInOrder, IsOrderOf, IsPaired, IsRoomed, hosts_by};
+ghost use Rattle.sqs_messages.specs.Orders.{AreInOrder, IsOrderOf, IsRoomed, hosts_by};
 ghost use Rattle.sqs_messages.specs.Slots.{Shelved, is_numbered, message_of};
 
 use crate::groups::Groups;
@@ -43,18 +43,27 @@ impl Order {
     }
 
     /// Makes room for one more message of a group, and tells the place of the group, if it goes by
-    /// groups. Where there is no memory nothing changes.
-    pub fn room_for(&mut self, alloc: Global, group: Option<&Text>) -> Result<usize, AllocError>
-        requires { IsPaired self.old }
-        ensures kept { (items : List Shelved) (next : ℕ) → AreInOrder items next self.old → AreInOrder items next self.new }
+    /// groups. No message changes.
+    pub fn room_for(
+        &mut self,
+        alloc: Global,
+        shelf: &Shelf,
+        group: Option<&Text>,
+    ) -> Result<usize, AllocError>
+        requires { AreInOrder shelf.now.items shelf.now.next self.old }
+        ensures ordered { AreInOrder shelf.now.items shelf.now.next self.new }
         ensures kind { (kind : Kind) → IsOrderOf kind self.old → IsOrderOf kind self.new }
         ensures room { IfOk result (IsRoomed self.new (option_copied group.entry)) }
     {
         match self {
             Order::Hosts(_) => Ok(0),
-            Order::Groups(groups) => {
-                room_for(alloc, &mut groups.names, &mut groups.members, group)
-            }
+            Order::Groups(groups) => room_for(
+                alloc,
+                shelf,
+                &mut groups.names,
+                &mut groups.members,
+                group,
+            ),
         }
     }
 

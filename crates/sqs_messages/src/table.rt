@@ -151,7 +151,8 @@ impl MessageTable {
         ensures added { OnOk result (self.new ≡ with_message self.old message) }
         ensures unchanged { OnErr result (self.new ≡ self.old) }
     {
-        let place = self.order.room_for(self.alloc, message.group.as_ref())?;
+        let group = message.group.as_ref();
+        let place = self.order.room_for(self.alloc, &self.shelf, group)?;
         self.shelf.reserve()?;
         add(
             self.site,
@@ -185,7 +186,8 @@ impl MessageTable {
         ensures unchanged { OnErr result (self.new ≡ self.old) }
         ensures same_entries { OnErr result (entries.new ≡ entries.old) }
     {
-        let place = self.order.room_for(self.alloc, message.group.as_ref())?;
+        let group = message.group.as_ref();
+        let place = self.order.room_for(self.alloc, &self.shelf, group)?;
         self.shelf.reserve()?;
         entries.enter(now, scope, id, message.number)?;
         add(

@@ -9,7 +9,7 @@ invariant_of-self c =
       arrivals_in_range = c.self.invariant.arrivals_in_range;
       dues = c.self.invariant.dues;
       order_of = c.room_for.ensures.kind inside.settings.kind c.self.invariant.order_of;
-      ordered = c.room_for.ensures.kept inside.shelf.items inside.shelf.next c.self.invariant.ordered;
+      ordered = c.room_for.ensures.ordered;
     }
 
 pub invariant_of-self-in_err-reserve : goal.invariant_of-self-in_err-reserve
@@ -21,7 +21,7 @@ invariant_of-self-in_err-reserve c =
       arrivals_in_range = c.self.invariant.arrivals_in_range;
       dues = c.self.invariant.dues;
       order_of = c.room_for.ensures.kind inside.settings.kind c.self.invariant.order_of;
-      ordered = c.room_for.ensures.kept inside.shelf.items inside.shelf.next c.self.invariant.ordered;
+      ordered = c.room_for.ensures.ordered;
     })
 
 pub add-requires-clause-kept : goal.add-requires-clause-kept
@@ -33,5 +33,5 @@ add-requires-clause-kept c =
       arrivals_in_range = c.self.invariant.arrivals_in_range;
       dues = c.self.invariant.dues;
       order_of = c.room_for.ensures.kind inside.settings.kind c.self.invariant.order_of;
-      ordered = c.room_for.ensures.kept inside.shelf.items inside.shelf.next c.self.invariant.ordered;
+      ordered = c.room_for.ensures.ordered;
     })
