@@ -82,8 +82,8 @@ fn drop_gone(shelf: &Shelf, numbers: &mut VecDeque<u64>)
 }
 
 // Makes room for one more number in a list. Where it is full, the numbers of messages that have left
-// go first, and then there is room for as many more as are left, so that a list is no longer than
-// some two times as many messages as it once had.
+// go first, and then there is to be room for as many more as stay: so a list is no longer than some
+// four times as many messages as there once were, and numbers go only now and then.
 fn room_in(shelf: &Shelf, numbers: &mut VecDeque<u64>) -> Result<(), AllocError>
     ensures held { held shelf.now.items numbers.new.items ≡ held shelf.now.items numbers.old.items }
     ensures below { (n : ℕ) → All (λ k. k < n) numbers.old.items → All (λ k. k < n) numbers.new.items }
