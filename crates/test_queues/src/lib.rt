@@ -9,7 +9,6 @@ mod fifo;
 #[cfg(test)]
 mod forms;
 #[cfg(test)]
-#[cfg(test)]
 mod in_order;
 #[cfg(test)]
 mod play;
