@@ -11,7 +11,7 @@ ghost use Rattle.sqs_model.specs.Progress.{IsRecent};
 ghost use Rattle.sqs_model.specs.Queue.{IsFramed, is_delayed, is_in_flight, is_visible};
 ghost use Rattle.sqs_model.specs.Return.{released};
 ghost use Rattle.sqs_redrive.specs.declared.settings.Kind.TheVariants.{Fifo};
-ghost use Rattle.sqs_group_shelf.specs.GroupShelves.{IsFifoSettings};
+ghost use Rattle.sqs_store.specs.Kinds.{IsFifoSettings};
 ghost use Rattle.sqs_fifo.specs.Fifo.{scope_in};
 
 use sim_clock::{Key, Refusal};
@@ -36,7 +36,7 @@ pub struct FifoQueue {
 
 impl Model for FifoQueue {
     ghost use Rattle.sqs_model.specs.Queue.{Queue};
-    ghost use Rattle.sqs_group_shelf.specs.GroupShelves.{IsFifoSettings};
+    ghost use Rattle.sqs_store.specs.Kinds.{IsFifoSettings};
 
     ghost Value = { Queue };
 

@@ -1,9 +1,9 @@
 -- A queue of either kind as the definitions see it.
-use Rattle.sqs_group_shelf.specs.GroupShelves.{IsFifoSettings}
+use Rattle.sqs_store.specs.Kinds.{IsFifoSettings}
 use Rattle.sqs_model.specs.Queue.{Queue}
 use Rattle.sqs_queue.specs.declared.queue.Either.{Either}
 use Rattle.sqs_queue.specs.declared.queue.Either.TheVariants.{Fifo, Standard}
-use Rattle.sqs_host_shelf.specs.Standard.{IsStandardSettings}
+use Rattle.sqs_store.specs.Kinds.{IsStandardSettings}
 
 -- the queue, whatever its kind
 abbrev pub either_queue : Either → Queue

@@ -9,7 +9,7 @@ ghost use Rattle.sqs_model.specs.Calls.{change, delete_standard, returned, send_
 ghost use Rattle.sqs_model.specs.Dues.{queue_dues};
 ghost use Rattle.sqs_model.specs.Queue.{IsFramed, is_delayed, is_in_flight, is_visible};
 ghost use Rattle.sqs_model.specs.Return.{released};
-ghost use Rattle.sqs_host_shelf.specs.Standard.{IsStandardSettings};
+ghost use Rattle.sqs_store.specs.Kinds.{IsStandardSettings};
 
 use sim_clock::{Key, Refusal};
 use sqs_message::{MessageId, Receipt, Text};
@@ -32,7 +32,7 @@ pub struct StandardQueue {
 
 impl Model for StandardQueue {
     ghost use Rattle.sqs_model.specs.Queue.{Queue};
-    ghost use Rattle.sqs_host_shelf.specs.Standard.{IsStandardSettings};
+    ghost use Rattle.sqs_store.specs.Kinds.{IsStandardSettings};
 
     ghost Value = { Queue };
 

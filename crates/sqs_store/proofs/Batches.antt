@@ -9,7 +9,7 @@ use Rattle.sqs_redrive.specs.declared.answers.Got.{Got}
 use Rattle.sqs_model.specs.Answers.{most_count}
 use Rattle.sqs_model.specs.Queue.{numbered}
 use Rattle.sqs_store.specs.Giving.{told_of}
-use Rattle.sqs_store.specs.Shelves.{messages_of}
+use Rattle.sqs_store.specs.Picked.{messages_of}
 use Rattle.sqs_store.proofs.Numbers.{numbers_from, numbers_more, numbers_split}
 
 -- a batch so far: what it tells, and that each may be received once more

@@ -1,7 +1,7 @@
 -- Messages by their numbers.
-use Rattle.std.proofs.Common.{◌≡◌, ℕ, ◌+◌, ◌<◌, Bool, true, false, List, [], ◌∷◌, ◌++◌, Option, Some, None, cond, length, take, drop, map, get_or, refl, subst, sym, ap, ◌∙◌}
+use Rattle.std.proofs.Common.{◌≡◌, ℕ, ◌+◌, ◌<◌, Bool, true, false, List, [], ◌∷◌, ◌++◌, Option, Some, cond, length, take, drop, map, get_or, refl, subst, sym, ap, ◌∙◌}
 use Rattle.std.specs.List.{cons_option, filter_map}
-use Rattle.std.specs.Prelude.{All, find, ◌==◌, ◌≢◌}
+use Rattle.std.specs.Prelude.{All, ◌≢◌}
 use Rattle.std.proofs.lemmas.Bool.{eqb-true}
 use Rattle.std.proofs.lemmas.List.{drop_more, take-append-drop, take_more}
 use Rattle.std.proofs.lemmas.List.Elements.{All-head, All-map, All-tail, filter_map-append}
@@ -10,7 +10,7 @@ use Rattle.sqs_model.specs.Available.{available}
 use Rattle.sqs_model.specs.Progress.{Ascends, Differ}
 use Rattle.sqs_model.specs.Queue.{Queue, has_number, numbered}
 use Rattle.sqs_model.proofs.Chosen.{first_apart, first_stand}
-use Rattle.sqs_store.specs.Shelves.{messages_of}
+use Rattle.sqs_store.specs.Picked.{messages_of}
 
 -- what is found under a number has it
 found_when : (n : ℕ) (x m : Message) (rest : Option Message) (b : Bool) → has_number n x ≡ b → (rest ≡ Some m → m.number ≡ n) → cond b (Some x) rest ≡ Some m → m.number ≡ n

@@ -11,9 +11,8 @@ use Rattle.sqs_model.specs.Progress.{Differ}
 use Rattle.sqs_model.specs.Queue.{Entry, IsFramed, Queue, numbered, taken_out}
 use Rattle.sqs_model.specs.Task.{Taken, destination, take_each, taken_one}
 use Rattle.sqs_model.proofs.Numbered.{other_without}
-use Rattle.sqs_store.specs.Shelves.{messages_of}
+use Rattle.sqs_store.specs.Picked.{messages_of}
 use Rattle.sqs_store.proofs.Numbers.{found_number}
-use Rattle.sqs_store.proofs.Stored.{OfQueue, state_taken}
 
 -- what was taken, before what is taken
 abbrev pub taken_before : List (ℕ × Load) → Taken → Taken
@@ -130,15 +129,7 @@ take_entries es to (m ∷ ms) q = by (destination to m) (take_entries es to ms (
     by None ih = refl
     by (Some d) ih = ap (taken_one q m d) ih
 
--- a queue keeps what it is as messages are taken
-pub take_state : (to : Option ℕ) (ms : List Message) (q : Queue) → OfQueue q → OfQueue (take_each q to ms).queue
-take_state to [] q h = h
-take_state to (m ∷ ms) q h = by (destination to m) (take_state to ms (taken_out q m.number) (state_taken q (taken_out q m.number) m.number refl h))
-  where
-    by : (o : Option ℕ) → OfQueue (take_each (taken_out q m.number) to ms).queue → OfQueue (takes_when q to m ms o).queue
-    by None ih = h
-    by (Some d) ih = ih
-
+-- number and settings stay
 pub take_framed : (to : Option ℕ) (ms : List Message) (q : Queue) → IsFramed q (take_each q to ms).queue
 take_framed to [] q = record { site = refl; settings = refl }
 take_framed to (m ∷ ms) q = by (destination to m) (take_framed to ms (taken_out q m.number))

@@ -1,4 +1,4 @@
 pub mod Calls
 pub mod Giving
-pub mod Shelves
-pub mod Stored
+pub mod Kinds
+pub mod Picked

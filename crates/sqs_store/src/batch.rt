@@ -1,13 +1,12 @@
 //! What a receive tells of the messages that it gives.
 ghost use Rattle.std.specs.Prelude.{◌≡◌, ◌⊎◌, ◌+◌, ◌<◌, ◌≤◌, All, Any, Err, IfErr, IfOk, OnOk, map};
 ghost use Rattle.sqs_model.specs.Answers.{most_count};
-ghost use Rattle.sqs_shelf.specs.Stored.{IsCounted};
 ghost use Rattle.sqs_store.specs.Giving.{told_of};
-ghost use Rattle.sqs_store.specs.Shelves.{messages_of, queue_of};
+ghost use Rattle.sqs_store.specs.Picked.{messages_of};
 
-use crate::queue_shelf::QueueShelf;
 use sim_clock::Refusal;
 use sqs_message::{Message, MessageId, Receipt, Text};
+use sqs_messages::MessageTable;
 use sqs_model::MOST_COUNT;
 use sqs_redrive::Got;
 use std::alloc::{AllocError, Global};
@@ -58,17 +57,20 @@ fn told_of(alloc: Global, site: u32, message: &Message) -> Result<Got, AllocErro
 
 // What a receive tells of the messages of these numbers. `CountLimit` where one of them can be
 // received no more.
-pub fn batch_of(alloc: Global, shelf: &QueueShelf, numbers: &[u64]) -> Result<Vec<Got>, Refusal>
-    requires counted { All IsCounted (queue_of shelf.now).records }
-    ensures told { IfOk result (λ batch. batch.items ≡ map (told_of (queue_of shelf.now).site) (messages_of (queue_of shelf.now).records numbers.now)) }
-    ensures below { OnOk result (All (λ m. m.receives < most_count) (messages_of (queue_of shelf.now).records numbers.now)) }
-    ensures at_limit { result ≡ Err Refusal.CountLimit → Any (λ m. m.receives ≡ most_count) (messages_of (queue_of shelf.now).records numbers.now) }
+pub fn batch_of(
+    alloc: Global,
+    messages: &MessageTable,
+    numbers: &[u64],
+) -> Result<Vec<Got>, Refusal>
+    ensures told { IfOk result (λ batch. batch.items ≡ map (told_of messages.now.site) (messages_of messages.now.records numbers.now)) }
+    ensures below { OnOk result (All (λ m. m.receives < most_count) (messages_of messages.now.records numbers.now)) }
+    ensures at_limit { result ≡ Err Refusal.CountLimit → Any (λ m. m.receives ≡ most_count) (messages_of messages.now.records numbers.now) }
     ensures refused { IfErr result (λ refusal. (refusal ≡ Refusal.CountLimit) ⊎ (refusal ≡ Refusal.Memory)) }
 {
-    let site = shelf.site();
+    let site = messages.site();
     let mut batch = Vec::with_capacity(alloc, numbers.len())?;
     for number in numbers {
-        if let Some(message) = shelf.find(*number) {
+        if let Some(message) = messages.find(*number) {
             if message.receives == MOST_COUNT {
                 return Err(Refusal::CountLimit);
             }

@@ -5,10 +5,9 @@
 mod batch;
 mod loads;
 mod places;
-mod queue_shelf;
 mod store;
 
 pub use batch::Received;
 pub use places::{is_out, may_be_received};
-pub use sqs_shelf::{Counts, Messages};
+pub use sqs_messages::{Counts, Messages};
 pub use store::Store;

@@ -3,10 +3,10 @@ ghost use Rattle.std.specs.Prelude.{◌≡◌, ◌+◌, ◌≤◌, [], length, v
 ghost use Rattle.sqs_message.specs.declared.message.Message.{Message};
 ghost use Rattle.sqs_model.specs.Progress.{Differ};
 ghost use Rattle.sqs_model.specs.Task.{destination, take_each};
-ghost use Rattle.sqs_store.specs.Shelves.{messages_of, queue_of};
+ghost use Rattle.sqs_store.specs.Picked.{messages_of};
 
-use crate::queue_shelf::QueueShelf;
 use sqs_message::{Message, MessageId};
+use sqs_messages::MessageTable;
 use sqs_redrive::Load;
 
 // Where a message goes: to the task's queue, or else back to the one that it came from.
@@ -37,7 +37,7 @@ fn move_of(site: u32, message: Message) -> Load
 // Takes out the messages of these numbers, up to the first that has nowhere to go. Adds where each
 // goes and its load to a list that has room, and tells whether it met one that has nowhere to go.
 pub fn take_each(
-    shelf: &mut QueueShelf,
+    messages: &mut MessageTable,
     numbers: &[u64],
     to: Option<u32>,
     loads: &mut Vec<(u32, Load)>,
@@ -45,15 +45,15 @@ pub fn take_each(
     requires apart { Differ (λ n. n) numbers.now }
     requires none { loads.old.items ≡ [] }
     requires room { length numbers.now ≤ vec_capacity loads.old }
-    ensures { take_each (queue_of shelf.old) to (messages_of (queue_of shelf.old).records numbers.now) ≡ record { queue = queue_of shelf.new; loads = loads.new.items; stuck = result } }
+    ensures { take_each messages.old to (messages_of messages.old.records numbers.now) ≡ record { queue = messages.new; loads = loads.new.items; stuck = result } }
 {
-    let site = shelf.site();
+    let site = messages.site();
     for number in numbers {
-        if let Some(message) = shelf.find(*number) {
+        if let Some(message) = messages.find(*number) {
             let Some(queue) = destination(to, message) else {
                 return true;
             };
-            if let Some(message) = shelf.remove(*number) {
+            if let Some(message) = messages.remove(*number) {
                 loads.push_reserved((queue, move_of(site, message)));
             }
         }

@@ -11,17 +11,16 @@ ghost use Rattle.sqs_model.specs.Queue.{IsFramed, in_flight, is_delayed, is_in_f
 ghost use Rattle.sqs_model.specs.Return.{leaves, released};
 ghost use Rattle.sqs_model.specs.Valid.{IsFifo, IsQueueSettings};
 ghost use Rattle.sqs_dedup.specs.Window.{living_among};
-ghost use Rattle.sqs_shelf.specs.Stored.{IsCounted, IsStored};
+ghost use Rattle.sqs_messages.specs.Stored.{IsCounted, IsStored};
 ghost use Rattle.sqs_message.specs.declared.message.Message.{Message};
 
-use crate::places::{is_out, visible_again};
-use crate::queue_shelf::QueueShelf;
+use crate::places::{is_out, keep_out, visible_again};
 use sim_clock::{Key, Refusal};
 use sqs_dedup::Dedup;
 use sqs_message::{Message, MessageId, Origin, Place, Receipt, Text};
+use sqs_messages::{Counts, MessageTable, Messages};
 use sqs_model::{LONGEST_FLIGHT, LONGEST_TIMEOUT};
 use sqs_redrive::{Load, QueueSettings, Returned, on_return};
-use sqs_shelf::{Counts, Messages};
 use std::alloc::{AllocError, Global};
 use std::marker::Model;
 
@@ -60,21 +59,17 @@ fn redrive(site: u32, message: Message) -> Load
 /// definitions' `Queue`, of either kind. Times are milliseconds.
 #[derive(Drop)]
 pub struct Store {
-    shelf: QueueShelf,
+    messages: MessageTable,
     entries: Dedup,
     alloc: Global,
 }
 
 impl Model for Store {
     ghost use Rattle.sqs_model.specs.Queue.{Queue};
-    ghost use Rattle.sqs_store.specs.Shelves.{queue_of};
-    ghost use Rattle.sqs_store.specs.Stored.{IsState};
 
     ghost Value = { Queue };
 
-    ghost view = { λ q. record (queue_of q.shelf) { entries = q.entries } };
-
-    ghost invariant = { λ q. IsState (queue_of q.shelf).settings (queue_of q.shelf).records (queue_of q.shelf).arrivals };
+    ghost view = { λ q. record q.messages { entries = q.entries } };
 }
 
 impl Store {
@@ -85,7 +80,7 @@ impl Store {
         ensures { result ≡ record { site = site; settings = settings; records = []; entries = []; arrivals = arrivals } }
     {
         Store {
-            shelf: QueueShelf::opened_at(alloc, site, settings, arrivals),
+            messages: MessageTable::opened_at(alloc, site, settings, arrivals),
             entries: Dedup::new(alloc),
             alloc,
         }
@@ -95,14 +90,14 @@ impl Store {
     pub fn site(&self) -> u32
         ensures { result ≡ self.now.site }
     {
-        self.shelf.site()
+        self.messages.site()
     }
 
     /// Its settings.
     pub fn settings(&self) -> &QueueSettings
         ensures { result.now ≡ self.now.settings }
     {
-        self.shelf.settings()
+        self.messages.settings()
     }
 
     /// Its messages, in the order of their arrival.
@@ -110,7 +105,7 @@ impl Store {
         ensures view { result ≡ self.now.records }
         ensures stored { IsStored self.now.records self.now.arrivals }
     {
-        self.shelf.iter()
+        self.messages.iter()
     }
 
     /// How many messages ever came, which is the number of the next one.
@@ -118,22 +113,22 @@ impl Store {
         ensures arrivals { result ≡ self.now.arrivals }
         ensures bound { result ≤ most_count }
     {
-        self.shelf.arrivals()
+        self.messages.arrivals()
     }
 
     /// The message of a number.
     pub fn find(&self, number: u64) -> Option<&Message>
         ensures { option_copied result ≡ numbered number self.now.records }
     {
-        self.shelf.find(number)
+        self.messages.find(number)
     }
 
     /// How many more messages may be in flight.
     pub fn room(&self) -> u64
         ensures { result ≡ room self.now }
     {
-        let limit = self.shelf.settings().in_flight_limit;
-        limit.saturating_sub(self.shelf.counts().in_flight)
+        let limit = self.messages.settings().in_flight_limit;
+        limit.saturating_sub(self.messages.counts().in_flight)
     }
 
     /// The number of the message whose deduplication entry has this scope and id and lives at
@@ -149,11 +144,11 @@ impl Store {
         requires { now + delay < 2 ^ 64 }
         ensures { result ≡ new_message self.now now body group delay }
     {
-        let number = self.shelf.arrivals();
+        let number = self.messages.arrivals();
         Message {
             number,
             origin: Origin {
-                site: self.shelf.site(),
+                site: self.messages.site(),
                 number,
             },
             body,
@@ -179,7 +174,7 @@ impl Store {
         ensures added { OnOk result (self.new ≡ with_message self.old message) }
         ensures unchanged { OnErr result (self.new ≡ self.old) }
     {
-        self.shelf.push(message)?;
+        self.messages.push(message)?;
         Ok(())
     }
 
@@ -202,7 +197,7 @@ impl Store {
         ensures added { OnOk result (self.new ≡ with_message (with_entry self.old now scope id) message) }
         ensures unchanged { OnErr result (self.new ≡ self.old) }
     {
-        self.shelf
+        self.messages
             .push_once(message, &mut self.entries, now, scope, id)?;
         Ok(())
     }
@@ -212,7 +207,7 @@ impl Store {
         ensures found { result ≡ numbered number self.old.records }
         ensures rest { self.new ≡ taken_out self.old number }
     {
-        self.shelf.remove(number)
+        self.messages.remove(number)
     }
 
     /// The end of the delay or visibility timeout of a message: it is visible again, or leaves for
@@ -231,14 +226,14 @@ impl Store {
         ensures kept { self.new.entries ≡ self.old.entries }
         ensures framed { IsFramed self.old self.new }
     {
-        let message = self.shelf.find(number)?;
-        if !is_spent(self.shelf.settings(), message) {
+        let message = self.messages.find(number)?;
+        if !is_spent(self.messages.settings(), message) {
             let state = visible_again(message);
-            self.shelf.put(number, state);
+            self.messages.put(number, state);
             return None;
         }
-        let site = self.shelf.site();
-        let message = self.shelf.remove(number)?;
+        let site = self.messages.site();
+        let message = self.messages.remove(number)?;
         Some(redrive(site, message))
     }
 
@@ -249,7 +244,7 @@ impl Store {
         ensures kept { self.new.entries ≡ self.old.entries }
         ensures framed { IsFramed self.old self.new }
     {
-        let Some(message) = self.shelf.remove(number) else {
+        let Some(message) = self.messages.remove(number) else {
             return 0;
         };
         now.saturating_sub(message.enqueued)
@@ -274,11 +269,11 @@ impl Store {
         if timeout > LONGEST_TIMEOUT {
             return Err(Refusal::BadTimeout);
         }
-        if receipt.site != self.shelf.site() || receipt.count == 0 {
+        if receipt.site != self.messages.site() || receipt.count == 0 {
             return Err(Refusal::ReceiptHandleIsInvalid);
         }
-        let Some(message) = self.shelf.find(receipt.number) else {
-            return if receipt.number < self.shelf.arrivals() {
+        let Some(message) = self.messages.find(receipt.number) else {
+            return if receipt.number < self.messages.arrivals() {
                 Err(Refusal::MessageNotInflight)
             } else {
                 Err(Refusal::ReceiptHandleIsInvalid)
@@ -297,7 +292,7 @@ impl Store {
         if timeout == 0 {
             return self.release(receipt.number);
         }
-        self.shelf.keep_out(receipt.number, until);
+        keep_out(&mut self.messages, receipt.number, until);
         Ok(None)
     }
 
@@ -305,7 +300,7 @@ impl Store {
     pub fn least_due(&self) -> Option<Key>
         ensures { result ≡ least (queue_dues self.now) }
     {
-        self.shelf.least_due()
+        self.messages.least_due()
     }
 
     /// How many messages are where.
@@ -314,6 +309,6 @@ impl Store {
         ensures in_flight { result.in_flight ≡ count_by is_in_flight self.now.records }
         ensures delayed { result.delayed ≡ count_by is_delayed self.now.records }
     {
-        self.shelf.counts()
+        self.messages.counts()
     }
 }

@@ -9,8 +9,6 @@ mod fifo;
 #[cfg(test)]
 mod forms;
 #[cfg(test)]
-mod group_shelf;
-#[cfg(test)]
 mod in_order;
 #[cfg(test)]
 mod play;

@@ -3,7 +3,7 @@ ghost use Rattle.std.specs.Prelude.{◌≡◌, ◌-◌, false, true, ◌+◌, �
 ghost use Rattle.sqs_model.specs.Answers.{most_count};
 ghost use Rattle.sqs_model.specs.Arrive.{brought, settle};
 ghost use Rattle.sqs_model.specs.Queue.{IsFramed};
-ghost use Rattle.sqs_shelf.specs.Stored.{IsCounted};
+ghost use Rattle.sqs_messages.specs.Stored.{IsCounted};
 ghost use Rattle.sqs_message.specs.declared.message.Message.{Message};
 
 use super::Store;
@@ -25,7 +25,7 @@ impl Store {
         ensures { result ≡ brought self.now 0 origin body group enqueued source }
     {
         Message {
-            number: self.shelf.arrivals(),
+            number: self.messages.arrivals(),
             origin,
             body,
             group,
@@ -50,11 +50,11 @@ impl Store {
         ensures framed { IsFramed self.old self.new }
     {
         let sent = Sent::New(MessageId {
-            site: self.shelf.site(),
-            number: self.shelf.arrivals(),
+            site: self.messages.site(),
+            number: self.messages.arrivals(),
         });
-        if self.shelf.settings().retention <= now.saturating_sub(message.enqueued) {
-            self.shelf.skip();
+        if self.messages.settings().retention <= now.saturating_sub(message.enqueued) {
+            self.messages.skip();
             return Ok((sent, true));
         }
         self.add(message)?;

@@ -23,7 +23,7 @@ impl Store {
         ensures bad { IfErr result (λ refusal. (is_bad_timeout timeout ≡ true) × (refusal ≡ Refusal.BadTimeout)) }
     {
         match timeout {
-            None => Ok(self.shelf.settings().visibility),
+            None => Ok(self.messages.settings().visibility),
             Some(seconds) => {
                 if seconds > LONGEST_TIMEOUT {
                     Err(Refusal::BadTimeout)
@@ -70,8 +70,8 @@ impl Store {
         ensures at_limit { result ≡ Err Refusal.CountLimit → Any (λ m. m.receives ≡ most_count) (take most (available self.now hosts)) }
         ensures refused { IfErr result (λ refusal. (refusal ≡ Refusal.CountLimit) ⊎ (refusal ≡ Refusal.Memory)) }
     {
-        let choice = self.shelf.first_numbers(hosts, most)?;
-        let messages = batch_of(self.alloc, &self.shelf, &choice.numbers)?;
+        let choice = self.messages.first_numbers(hosts, most)?;
+        let messages = batch_of(self.alloc, &self.messages, &choice.numbers)?;
         Ok(Received {
             messages,
             looked: choice.looked,
@@ -103,9 +103,9 @@ impl Store {
         ensures kept { self.new.entries ≡ self.old.entries }
         ensures framed { IsFramed self.old self.new }
     {
-        let message = self.shelf.find(number)?;
+        let message = self.messages.find(number)?;
         let state = received(message, now, timeout);
-        self.shelf.put(number, state);
+        self.messages.put(number, state);
         if timeout == 0 {
             self.come_back(number)
         } else {

@@ -15,7 +15,7 @@ impl Store {
     fn all_hosts(&self) -> u32
         ensures { result ≡ all_hosts self.now.settings.kind }
     {
-        match self.shelf.settings().kind {
+        match self.messages.settings().kind {
             Kind::Standard { hosts, .. } => (1u32 << hosts) - 1,
             Kind::Fifo { .. } => 1,
         }
@@ -25,7 +25,7 @@ impl Store {
     pub fn has_available(&self) -> bool
         ensures { result ≡ not (is_empty (all_available self.now)) }
     {
-        self.shelf.has_available(self.all_hosts())
+        self.messages.has_available(self.all_hosts())
     }
 
     // Takes out the first messages of those that a receive may give, at most so many, up to the first
@@ -40,9 +40,9 @@ impl Store {
         ensures kept { self.new.entries ≡ self.old.entries }
         ensures framed { IsFramed self.old self.new }
     {
-        let choice = self.shelf.first_numbers(self.all_hosts(), most)?;
+        let choice = self.messages.first_numbers(self.all_hosts(), most)?;
         let mut loads = Vec::with_capacity(self.alloc, choice.numbers.len())?;
-        let stuck = take_each(&mut self.shelf, &choice.numbers, to, &mut loads);
+        let stuck = take_each(&mut self.messages, &choice.numbers, to, &mut loads);
         Ok((loads, stuck))
     }
 

@@ -1,14 +1,5 @@
-use Rattle.std.proofs.Common.{◌+◌, ◌*◌, arith, sym}
-use Rattle.sqs_model.specs.Answers.{most_count}
-use Rattle.sqs_shelf.specs.Stored.{IsCounted}
-use Rattle.sqs_store.specs.Shelves.{queue_of}
-use Rattle.sqs_store.proofs.Stored.{found_counted, state_kept_out}
+use Rattle.std.proofs.Common.{arith}
 use Rattle.sqs_store.proofs.store.Store.change.Goals as goal
 
 pub overflow_add-message : goal.overflow_add-message
-overflow_add-message c =
-    let counted : IsCounted c.in-Some.message.now = found_counted (queue_of c.self.inside.shelf) c.args.receipt.now.number c.in-Some.message.now c.self.invariant (sym c.in-Some.ensures) in
-    omega (arith, counted.received)
-
-pub invariant_of-self : goal.invariant_of-self
-invariant_of-self c = state_kept_out (queue_of c.self.inside.shelf) (queue_of c.keep_out.new.self) c.args.receipt.now.number (c.args.now + 1000 * c.args.timeout) c.keep_out.ensures c.self.invariant
+overflow_add-message c = omega (arith, c.in-Some.ensures.counted.received)

@@ -1,22 +1,14 @@
-use Rattle.std.proofs.Common.{◌≡◌, None, Some, ap, sym, ◌∙◌}
+use Rattle.std.proofs.Common.{◌≡◌, None, ap, sym, ◌∙◌}
 use Rattle.sqs_model.specs.Arrive.{expired, expired_found}
 use Rattle.sqs_model.specs.Queue.{Queue, numbered}
-use Rattle.sqs_store.specs.Shelves.{queue_of}
 use Rattle.sqs_store.proofs.Coming.{taken_none}
-use Rattle.sqs_store.proofs.Stored.{state_taken}
 use Rattle.sqs_store.proofs.store.Store.expire.Goals as goal
-
-pub invariant_of-self : goal.invariant_of-self
-invariant_of-self c = state_taken (queue_of c.self.inside.shelf) (queue_of c.remove.new.self) c.args.number c.remove.ensures.rest c.self.invariant
-
-pub invariant_of-self-2 : goal.invariant_of-self-2
-invariant_of-self-2 c = state_taken (queue_of c.self.inside.shelf) (queue_of c.remove.new.self) c.args.number c.remove.ensures.rest c.self.invariant
 
 pub returns-in_default-clause-answer : goal.returns-in_default-clause-answer
 returns-in_default-clause-answer c =
-    let q : Queue = queue_of c.self.inside.shelf in
+    let q : Queue = c.self.inside.messages in
     let none : numbered c.args.number q.records ≡ None = sym c.remove.ensures.found ∙ c.in_default.is in
-    let same : queue_of c.remove.new.self ≡ q = c.remove.ensures.rest ∙ taken_none q c.args.number none in
+    let same : c.remove.new.self ≡ q = c.remove.ensures.rest ∙ taken_none q c.args.number none in
     ap (λ (r : Queue). expired r c.args.now c.args.number) (sym c.self.view_is)
     ∙ ap (λ o. expired_found (record q { entries = c.self.inside.entries }) c.args.now c.args.number o) none
     ∙ ap (λ (r : Queue). (0, record r { entries = c.self.inside.entries })) (sym same)

@@ -2,27 +2,21 @@ use Rattle.std.proofs.Common.{◌≡◌, ap, subst, sym, take, ◌∙◌}
 use Rattle.sqs_model.specs.Available.{all_available, all_hosts, available}
 use Rattle.sqs_model.specs.Queue.{IsFramed, Queue}
 use Rattle.sqs_model.specs.Task.{Taken, take_each}
-use Rattle.sqs_store.specs.Shelves.{messages_of, queue_of}
+use Rattle.sqs_store.specs.Picked.{messages_of}
 use Rattle.sqs_store.proofs.Numbers.{chosen_differ, chosen_messages}
-use Rattle.sqs_store.proofs.Stored.{OfQueue}
-use Rattle.sqs_store.proofs.Taking.{take_entries, take_framed, take_state}
+use Rattle.sqs_store.proofs.Taking.{take_entries, take_framed}
 use Rattle.sqs_store.proofs.store.Store.take_first.Goals as goal
 
 pub take_each-stuck-requires-clause-apart : goal.take_each-stuck-requires-clause-apart
 take_each-stuck-requires-clause-apart c =
-    chosen_differ (queue_of c.self.inside.shelf) c.all_hosts.result c.args.most c.deref.result.now c.self.invariant.stored.ordered (c.deref.ensures.value ∙ c.in_ok-choice.ensures.numbers)
-
-pub invariant_of-self : goal.invariant_of-self
-invariant_of-self c =
-    let q : Queue = queue_of c.self.inside.shelf in
-    subst OfQueue (ap (λ (t : Taken). t.queue) c.take_each-stuck.ensures) (take_state c.args.to (messages_of q.records c.deref.result.now) q c.self.invariant)
+    chosen_differ c.self.inside.messages c.all_hosts.result c.args.most c.deref.result.now c.in_ok-choice.ensures.ordered (c.deref.ensures.value ∙ c.in_ok-choice.ensures.numbers)
 
 pub returns-clause-taken : goal.returns-clause-taken
 returns-clause-taken c =
-    let q : Queue = queue_of c.self.inside.shelf in
+    let q : Queue = c.self.inside.messages in
     let before : Queue = record q { entries = c.self.inside.entries } in
     let hosts : all_hosts q.settings.kind ≡ c.all_hosts.result = ap (λ (r : Queue). all_hosts r.settings.kind) c.self.view_is ∙ sym c.all_hosts.ensures in
-    let same = chosen_messages q c.all_hosts.result c.args.most c.deref.result.now c.self.invariant.stored.ordered (c.deref.ensures.value ∙ c.in_ok-choice.ensures.numbers) in
+    let same = chosen_messages q c.all_hosts.result c.args.most c.deref.result.now c.in_ok-choice.ensures.ordered (c.deref.ensures.value ∙ c.in_ok-choice.ensures.numbers) in
     ap (λ (r : Queue). take_each r c.args.to (take c.args.most (all_available r))) (sym c.self.view_is)
     ∙ ap (λ h. take_each before c.args.to (take c.args.most (available q h))) hosts
     ∙ ap (take_each before c.args.to) (sym same)
@@ -31,8 +25,8 @@ returns-clause-taken c =
 
 pub returns-clause-framed : goal.returns-clause-framed
 returns-clause-framed c =
-    let q : Queue = queue_of c.self.inside.shelf in
-    let framed : IsFramed q (queue_of c.take_each-stuck.new.shelf) = subst (IsFramed q) (ap (λ (t : Taken). t.queue) c.take_each-stuck.ensures) (take_framed c.args.to (messages_of q.records c.deref.result.now) q) in
+    let q : Queue = c.self.inside.messages in
+    let framed : IsFramed q c.take_each-stuck.new.messages = subst (IsFramed q) (ap (λ (t : Taken). t.queue) c.take_each-stuck.ensures) (take_framed c.args.to (messages_of q.records c.deref.result.now) q) in
     record {
       site = framed.site ∙ ap (λ (r : Queue). r.site) c.self.view_is;
       settings = framed.settings ∙ ap (λ (r : Queue). r.settings) c.self.view_is;

@@ -1,3 +1,0 @@
-pub mod Keys
-pub mod Groups
-pub mod GroupShelves

@@ -1,3 +1,0 @@
-pub mod Standard
-pub mod Marked
-pub mod Hosted

@@ -1,0 +1,76 @@
+-- A table of groups, and what it tells of the messages on a shelf.
+use Rattle.std.specs.List.{position_or_len}
+use Rattle.std.specs.VecDeque.{deque_capacity, deque_len}
+use Rattle.std.specs.Prelude.{◌≡◌, All, Bool, List, None, Option, Some, [], ◌∷◌, cond, false, true, filter, get_or, length, map, ℕ, ◌&&◌, ◌<◌}
+use Rattle.sqs_message.specs.declared.message.Message.{Message}
+use Rattle.sqs_message.specs.declared.message.Place.{Place}
+use Rattle.sqs_message.specs.declared.message.Place.TheVariants as places
+use Rattle.sqs_model.specs.Queue.{is_in_flight, is_visible, same_text}
+use Rattle.sqs_messages.specs.Heads.{AreLed, in_group, of_group, told}
+use Rattle.sqs_messages.specs.Slots.{Shelved, held}
+use Rattle.sqs_messages.specs.declared.groups.members.Members.{Members}
+
+-- the numbers of a group's messages, some of which may have left, and how many are in flight
+pub record Kept : Type 0 where
+  pub numbers : List ℕ
+  pub out : ℕ
+
+abbrev pub kept : Members → Kept
+kept m = record { numbers = m.numbers.items; out = m.out }
+
+-- a group that has no message
+abbrev pub nobody : Kept
+nobody = record { numbers = []; out = 0 }
+
+-- the group at a place
+abbrev pub group_at : List Members → ℕ → Kept
+group_at groups i = get_or (map kept groups) i nobody
+
+-- the place of a group by its name
+abbrev pub place_by : List (Option (List ℕ)) → Option (List ℕ) → ℕ
+place_by names g = position_or_len (same_text g) names
+
+-- the group of a name
+abbrev pub group_by : List (Option (List ℕ)) → List Members → Option (List ℕ) → Kept
+group_by names groups g = group_at groups (place_by names g)
+
+-- whether a message is of a group and in flight
+abbrev pub is_out : Option (List ℕ) → Message → Bool
+is_out g m = in_group g m && is_in_flight m
+
+-- 1 where a fact holds
+abbrev pub bit : Bool → ℕ
+bit b = cond b 1 0
+
+-- how many of a group's messages are in flight
+abbrev pub out_of : Option (List ℕ) → List Message → ℕ
+out_of g ms = length (filter (is_out g) ms)
+
+-- a group's list has its messages, in order, and its count those that are in flight
+pub record IsGrouped (items : List Shelved) (next : ℕ) (g : Option (List ℕ)) (k : Kept) : Type 0 where
+  pub listed : held items k.numbers ≡ of_group g (told items)
+  pub counted : k.out ≡ out_of g (told items)
+  pub below : All (λ n. n < next) k.numbers
+
+-- the same of every group, in the table or not
+abbrev pub AreGrouped : List Shelved → ℕ → List (Option (List ℕ)) → List Members → Type 0
+AreGrouped items next names groups = (g : Option (List ℕ)) → IsGrouped items next g (group_by names groups g)
+
+-- each first message that leads is marked, and the table tells of each group
+pub record AreInGroups (items : List Shelved) (next : ℕ) (names : List (Option (List ℕ))) (groups : List Members) : Type 0 where
+  pub led : AreLed items
+  pub same : length names ≡ length groups
+  pub grouped : AreGrouped items next names groups
+
+-- the number of the first of some messages, and whether it may be received
+abbrev pub front_of : List Message → Option (ℕ × Bool)
+front_of [] = None
+front_of (m ∷ ms) = Some (m.number, is_visible m)
+
+-- whether a place is that of a message in flight
+abbrev pub in_flight_at : Place → Bool
+in_flight_at p = elim p as (λ _. Bool) [ places.Delayed ↦ false | places.Visible ↦ false | places.InFlight ↦ true ]
+
+-- whether the list of the group at a place has room for one more number
+abbrev pub HasRoomAt : List Members → ℕ → Type 0
+HasRoomAt groups i = (d : Members) → deque_len (get_or groups i d).numbers < deque_capacity (get_or groups i d).numbers

@@ -1,0 +1,11 @@
+pub mod Slots
+pub mod Heads
+pub mod Counted
+pub mod Shelves
+pub mod Room
+pub mod Stored
+pub mod Marked
+pub mod Keys
+pub mod Groups
+pub mod Orders
+pub mod Tables

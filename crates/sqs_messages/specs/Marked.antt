@@ -1,0 +1,34 @@
+-- What the marks of messages tell: what is due of them, and the host on which they lie.
+use Rattle.std.specs.Prelude.{◌≡◌, Option, ℕ, ◌%◌, ◌^◌}
+use Rattle.sim_clock.specs.Order.{least}
+use Rattle.sim_clock.specs.declared.key.Key.{Key}
+use Rattle.sqs_message.specs.declared.message.Message.{Message}
+use Rattle.sqs_message.specs.declared.message.Place.{Place}
+use Rattle.sqs_message.specs.declared.message.Place.TheVariants as places
+use Rattle.sqs_model.specs.Dues.{message_dues}
+use Rattle.sqs_messages.specs.Slots.{Shelved, restated}
+use Rattle.sqs_messages.specs.Stored.{IsCounted}
+use Rattle.sqs_messages.specs.declared.slot.State.{State}
+
+-- the host of a message that may be received, as a bit
+abbrev pub host_mark : ℕ → ℕ → Place → ℕ
+host_mark hosts number places.Delayed = 0
+host_mark hosts number places.Visible = 2 ^ (number % hosts)
+host_mark hosts number places.InFlight = 0
+
+-- whether a message is marked with its host, of so many, where it may be received
+abbrev pub IsHosted : ℕ → Shelved → Type 0
+IsHosted hosts s = s.mark.hosts ≡ host_mark hosts s.message.number s.message.place
+
+-- a message within the limits, whose mark tells what is due of it
+pub record IsDue (site retention : ℕ) (s : Shelved) : Type 0 where
+  pub due : s.mark.due ≡ least (message_dues site retention s.message)
+  pub counted : IsCounted s.message
+
+-- what a message has but for its hosts
+abbrev pub unhosted : Shelved → Message × Option Key
+unhosted s = (s.message, s.mark.due)
+
+-- a message with another state, and what is due of it then, on no host
+abbrev pub restamped : State → Option Key → Shelved → Shelved
+restamped state due s = record { message = restated state s.message; mark = record { due = due; hosts = 0 } }

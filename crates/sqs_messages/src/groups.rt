@@ -1,0 +1,87 @@
+//! A FIFO queue's messages by their groups.
+//!
+//! A group gives its messages in the order of their arrival, and none while one of them is in flight
+//! (Developer Guide: FIFO delivery logic). The first message of a group is marked where the group may
+//! give it. Messages without a group are of one group.
+ghost use Rattle.std.specs.Prelude.{◌≡◌, [], map};
+ghost use Rattle.sim_clock.specs.Firsts.{changed, without};
+ghost use Rattle.sqs_messages.specs.Groups.{AreInGroups};
+ghost use Rattle.sqs_messages.specs.Marked.{restamped, unhosted};
+ghost use Rattle.sqs_messages.specs.Slots.{is_numbered, message_of};
+
+use crate::shelf::Shelf;
+use crate::slot::State;
+use indexmap::IndexSet;
+use key::{AskedGroup, HeldGroup};
+use members::{Members, in_flight, moved, place_of};
+use sim_clock::Key;
+use sim_index::Mark;
+use sqs_message::Message;
+use std::alloc::Global;
+
+pub mod arrival;
+pub mod choose;
+pub mod front;
+pub mod key;
+pub mod members;
+pub mod room;
+
+/// The groups of a queue's messages. The name of a group stays once a message of it came.
+#[derive(Drop)]
+pub struct Groups {
+    // The groups' names, each at the place of its members.
+    pub names: IndexSet<HeldGroup>,
+    pub members: Vec<Members>,
+}
+
+impl Groups {
+    /// No groups. Takes no memory.
+    pub fn new(alloc: Global) -> Groups
+        ensures names { result.names.keys ≡ [] }
+        ensures members { result.members.items ≡ [] }
+    {
+        Groups {
+            names: IndexSet::new(alloc),
+            members: Vec::new(alloc),
+        }
+    }
+
+    /// Takes out the message of a number, if it is there. Takes no memory.
+    pub fn remove(&mut self, shelf: &mut Shelf, number: u64) -> Option<Message>
+        requires { AreInGroups shelf.old.items shelf.old.next self.old.names.keys self.old.members.items }
+        ensures grouped { AreInGroups shelf.new.items shelf.new.next self.new.names.keys self.new.members.items }
+        ensures found { result ≡ message_of shelf.old.items number }
+        ensures rest { map unhosted shelf.new.items ≡ map unhosted (without (is_numbered number) shelf.old.items) }
+        ensures next { shelf.new.next ≡ shelf.old.next }
+    {
+        let _next = shelf.number();
+        let Some(message) = shelf.remove(number) else {
+            return None;
+        };
+        let index = place_of(&self.names, &AskedGroup::new(message.group.as_ref()));
+        let groups = self.members.as_mut_slice();
+        moved(shelf, groups, index, in_flight(message.place), false);
+        Some(message)
+    }
+
+    /// The message of a number, if it is there, takes another state, with what is due of it then.
+    /// Takes no memory.
+    pub fn put(&mut self, shelf: &mut Shelf, number: u64, state: State, due: Option<Key>)
+        requires { AreInGroups shelf.old.items shelf.old.next self.old.names.keys self.old.members.items }
+        ensures grouped { AreInGroups shelf.new.items shelf.new.next self.new.names.keys self.new.members.items }
+        ensures changed { map unhosted shelf.new.items ≡ map unhosted (changed (is_numbered number) (restamped state due) shelf.old.items) }
+        ensures next { shelf.new.next ≡ shelf.old.next }
+    {
+        let _next = shelf.number();
+        let Some(message) = shelf.get(number) else {
+            return;
+        };
+        let index = place_of(&self.names, &AskedGroup::new(message.group.as_ref()));
+        let was = in_flight(message.place);
+        let is = in_flight(state.place);
+        shelf.put(number, state, Mark { due, hosts: 0 });
+        let _after = shelf.number();
+        let groups = self.members.as_mut_slice();
+        moved(shelf, groups, index, was, is);
+    }
+}

@@ -1,0 +1,62 @@
+//! The arrival of a message for which there is room.
+ghost use Rattle.std.specs.Prelude.{◌≡◌, ◌≢◌, ◌+◌, ◌++◌, ◌∷◌, ◌<◌, ◌≤◌, ◌^◌, ℕ, All, List, Option, [], length, map, true};
+ghost use Rattle.sqs_messages.specs.Heads.{AreLed, IsLedBut, of_group, told};
+ghost use Rattle.sqs_messages.specs.Slots.{held};
+ghost use Rattle.sqs_messages.specs.Marked.{unhosted};
+ghost use Rattle.sqs_messages.specs.Groups.{AreInGroups, HasRoomAt, bit, group_at, out_of, place_by};
+
+use crate::groups::key::HeldGroup;
+use crate::groups::members::{Members, in_flight, moved};
+use crate::shelf::Shelf;
+use indexmap::IndexSet;
+use sim_clock::Key;
+use sim_index::Mark;
+use sqs_message::Message;
+
+// The number of a message that came joins its group's, and the first of the group is marked anew.
+fn join(shelf: &mut Shelf, groups: &mut [Members], place: usize, number: u64, is_out: bool)
+    requires place { place < length groups.old }
+    requires room { HasRoomAt groups.old place }
+    requires count { is_out ≡ true → (group_at groups.old place).out + 1 < 2 ^ 64 }
+    ensures kept { map unhosted shelf.new.items ≡ map unhosted shelf.old.items }
+    ensures next { shelf.new.next ≡ shelf.old.next }
+    ensures len { length groups.new ≡ length groups.old }
+    ensures others { (j : ℕ) → j ≢ place → group_at groups.new j ≡ group_at groups.old j }
+    ensures out { (group_at groups.new place).out ≡ (group_at groups.old place).out + bit is_out }
+    ensures held { held shelf.old.items (group_at groups.new place).numbers ≡ held shelf.old.items ((group_at groups.old place).numbers ++ number ∷ []) }
+    ensures below { (n : ℕ) → All (λ k. k < n) ((group_at groups.old place).numbers ++ number ∷ []) → All (λ k. k < n) (group_at groups.new place).numbers }
+    ensures led { (g : Option (List ℕ)) → All (IsLedBut shelf.old.items g) shelf.old.items → held shelf.old.items ((group_at groups.old place).numbers ++ number ∷ []) ≡ of_group g (told shelf.old.items) → (group_at groups.new place).out ≡ out_of g (told shelf.old.items) → AreLed shelf.new.items }
+{
+    groups[place].numbers.push_back_reserved(number);
+    moved(shelf, groups, place, false, is_out);
+}
+
+/// One more message, of the group at a place of the table, with what is due of it.
+pub fn add(
+    shelf: &mut Shelf,
+    names: &IndexSet<HeldGroup>,
+    groups: &mut [Members],
+    place: usize,
+    message: Message,
+    due: Option<Key>,
+)
+    requires grouped { AreInGroups shelf.old.items shelf.old.next names.now.keys groups.old }
+    requires ready { shelf.old.ready ≡ true }
+    requires number { message.number ≡ shelf.old.next }
+    requires range { shelf.old.next + 1 < 2 ^ 64 }
+    requires place { place ≡ place_by names.now.keys message.group }
+    requires within { place < length groups.old }
+    requires room { HasRoomAt groups.old place }
+    ensures grouped { AreInGroups shelf.new.items shelf.new.next names.now.keys groups.new }
+    ensures added { map unhosted shelf.new.items ≡ map unhosted shelf.old.items ++ (message, due) ∷ [] }
+    ensures next { shelf.new.next ≡ shelf.old.next + 1 }
+    ensures len { length groups.new ≡ length groups.old }
+{
+    let _next = shelf.number();
+    let number = message.number;
+    let is_out = in_flight(message.place);
+    let Ok(()) = shelf.push(message, Mark { due, hosts: 0 }) else {
+        unreachable!();
+    };
+    join(shelf, groups, place, number, is_out);
+}

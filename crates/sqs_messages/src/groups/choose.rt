@@ -1,0 +1,94 @@
+//! Which messages the queue may give.
+ghost use Rattle.std.specs.Prelude.{◌≡◌, ◌+◌, ◌*◌, ◌++◌, ◌≤◌, [], IfOk, OnOk, length, map, take};
+ghost use Rattle.sqs_model.specs.Available.{by_group, open_from};
+ghost use Rattle.sqs_model.specs.Queue.{is_delayed};
+ghost use Rattle.sqs_messages.specs.Heads.{AreLed, told, until_delayed};
+ghost use Rattle.sqs_messages.specs.Slots.{held};
+ghost use Rattle.sqs_messages.specs.Groups.{AreGrouped};
+
+use crate::groups::key::{AskedGroup, HeldGroup};
+use crate::groups::members::{LEADS, Members, numbers_at, place_of};
+use crate::shelf::Shelf;
+use indexmap::IndexSet;
+use sqs_message::{Message, Place};
+use std::alloc::{AllocError, Global};
+use std::collections::VecDeque;
+
+/// The numbers of the first messages that a queue may give, in order.
+#[derive(Debug, Drop)]
+pub struct Choice {
+    /// The numbers.
+    pub numbers: Vec<u64>,
+    /// How many messages were read: of each group those that are chosen, and at most one delayed
+    /// one after them. Where the numbers of messages that have left are passed over, none is read.
+    pub looked: u64,
+}
+
+// Whether a message's first delay goes on.
+fn waits(message: &Message) -> bool
+    ensures { result ≡ is_delayed message.now }
+{
+    matches!(message.place, Place::Delayed)
+}
+
+// Adds the numbers of a group's messages that stand before its first delayed one, up to so many in
+// all.
+fn give(
+    shelf: &Shelf,
+    numbers: &VecDeque<u64>,
+    most: u64,
+    choice: &mut Choice,
+) -> Result<(), AllocError>
+    requires most { length choice.old.numbers.items ≤ most }
+    requires few { choice.old.looked ≤ 2 * length choice.old.numbers.items }
+    ensures walked { OnOk result (choice.new.numbers.items ≡ take most (choice.old.numbers.items ++ map (λ m. m.number) (until_delayed (held shelf.now.items numbers.now.items)))) }
+    ensures looked { OnOk result (choice.new.looked + length choice.old.numbers.items ≤ choice.old.looked + length choice.new.numbers.items + 1) }
+    ensures read { OnOk result (choice.old.looked + length choice.new.numbers.items ≤ choice.new.looked + length choice.old.numbers.items) }
+{
+    for number in numbers.iter() {
+        if choice.numbers.len() as u64 == most {
+            return Ok(());
+        }
+        if let Some(message) = shelf.get(*number) {
+            choice.looked += 1;
+            if waits(message) {
+                return Ok(());
+            }
+            choice.numbers.push(message.number)?;
+        }
+    }
+    Ok(())
+}
+
+// The numbers of the first messages, at most so many, that the queue may give: the groups' leaders
+// one after another, each with its group.
+pub fn choose(
+    alloc: Global,
+    shelf: &Shelf,
+    names: &IndexSet<HeldGroup>,
+    groups: &[Members],
+    most: u64,
+) -> Result<Choice, AllocError>
+    requires led { AreLed shelf.now.items }
+    requires grouped { AreGrouped shelf.now.items shelf.now.next names.now.keys groups.now }
+    ensures numbers { IfOk result (λ choice. choice.numbers.items ≡ map (λ m. m.number) (take most (by_group (open_from (told shelf.now.items) [] (told shelf.now.items))))) }
+    ensures looked { IfOk result (λ choice. choice.looked ≤ 2 * most) }
+    ensures read { IfOk result (λ choice. length choice.numbers.items ≤ choice.looked) }
+{
+    let _next = shelf.number();
+    let mut choice = Choice {
+        numbers: Vec::new(alloc),
+        looked: 0,
+    };
+    let mut from = 0;
+    while (choice.numbers.len() as u64) < most {
+        let Some(leader) = shelf.next(from, LEADS) else {
+            return Ok(choice);
+        };
+        let number = leader.number;
+        let place = place_of(names, &AskedGroup::new(leader.group.as_ref()));
+        give(shelf, numbers_at(groups, place), most, &mut choice)?;
+        from = number + 1;
+    }
+    Ok(choice)
+}

@@ -1,0 +1,60 @@
+//! The first message of a group.
+ghost use Rattle.std.specs.Prelude.{◌≡◌, ◌<◌, ◌==◌, ◌&&◌, ℕ, All, List, Option, map};
+ghost use Rattle.sqs_model.specs.Queue.{is_visible};
+ghost use Rattle.sqs_messages.specs.Heads.{AreLed, IsLedBut, of_group, told};
+ghost use Rattle.sqs_messages.specs.Slots.{held};
+ghost use Rattle.sqs_messages.specs.Marked.{unhosted};
+ghost use Rattle.sqs_messages.specs.Groups.{bit, front_of, out_of};
+
+use crate::groups::members::{LEADS, Members};
+use crate::shelf::Shelf;
+use sqs_message::{Message, Place};
+use std::collections::VecDeque;
+
+// Whether a message may be received.
+fn is_open(message: &Message) -> bool
+    ensures { result ≡ is_visible message.now }
+{
+    matches!(message.place, Place::Visible)
+}
+
+// Drops numbers of messages that have left from the front of a list, and tells the number of the
+// first message and whether it may be received.
+pub fn trim(shelf: &Shelf, numbers: &mut VecDeque<u64>) -> Option<(u64, bool)>
+    ensures front { result ≡ front_of (held shelf.now.items numbers.new.items) }
+    ensures held { held shelf.now.items numbers.new.items ≡ held shelf.now.items numbers.old.items }
+    ensures below { (n : ℕ) → All (λ k. k < n) numbers.old.items → All (λ k. k < n) numbers.new.items }
+{
+    while let Some(first) = numbers.front() {
+        let number = *first;
+        if let Some(message) = shelf.get(number) {
+            return Some((message.number, is_open(message)));
+        }
+        let _gone = numbers.pop_front();
+    }
+    None
+}
+
+// The hosts of a group's first message.
+fn leader_hosts(visible: bool, out: u64) -> u32
+    ensures { result ≡ bit (visible && out == 0) }
+{
+    if visible && out == 0 { LEADS } else { 0 }
+}
+
+// Marks the first message of a group where it leads, and drops numbers of those that left before it.
+pub fn refresh(shelf: &mut Shelf, members: &mut Members)
+    ensures kept { map unhosted shelf.new.items ≡ map unhosted shelf.old.items }
+    ensures next { shelf.new.next ≡ shelf.old.next }
+    ensures out { members.new.out ≡ members.old.out }
+    ensures held { held shelf.old.items members.new.numbers.items ≡ held shelf.old.items members.old.numbers.items }
+    ensures below { (n : ℕ) → All (λ k. k < n) members.old.numbers.items → All (λ k. k < n) members.new.numbers.items }
+    ensures led { (g : Option (List ℕ)) → All (IsLedBut shelf.old.items g) shelf.old.items → held shelf.old.items members.old.numbers.items ≡ of_group g (told shelf.old.items) → members.old.out ≡ out_of g (told shelf.old.items) → AreLed shelf.new.items }
+{
+    let _next = shelf.number();
+    let Some((number, visible)) = trim(shelf, &mut members.numbers) else {
+        return;
+    };
+    let hosts = leader_hosts(visible, members.out);
+    shelf.mark(number, hosts);
+}

@@ -1,0 +1,81 @@
+//! The members of groups.
+ghost use Rattle.std.specs.Prelude.{◌≡◌, ◌≢◌, ◌+◌, ◌<◌, ◌≤◌, ◌^◌, ℕ, All, List, Option, length, map, false, true};
+ghost use Rattle.sqs_messages.specs.Heads.{AreLed, IsLedBut, of_group, told};
+ghost use Rattle.sqs_messages.specs.Slots.{held};
+ghost use Rattle.sqs_messages.specs.Marked.{unhosted};
+ghost use Rattle.sqs_messages.specs.Groups.{bit, group_at, in_flight_at, out_of, place_by};
+
+use crate::groups::front::refresh;
+use crate::groups::key::{AskedGroup, HeldGroup};
+use crate::shelf::Shelf;
+use indexmap::IndexSet;
+use sqs_message::Place;
+use std::collections::VecDeque;
+
+/// The hosts in the mark of a message that leads its group: that is the first of its group and
+/// visible, while none of the group is in flight. A FIFO queue has one host.
+pub const LEADS: u32 = 1;
+
+/// Whether a place is that of a message in flight.
+pub fn in_flight(place: Place) -> bool
+    ensures { result ≡ in_flight_at place }
+{
+    matches!(place, Place::InFlight)
+}
+
+/// The numbers of a group's messages, in order, some of which may have left, and how many are in
+/// flight.
+#[derive(Drop)]
+pub struct Members {
+    pub numbers: VecDeque<u64>,
+    pub out: u64,
+}
+
+// The place of a group, or how many groups there are.
+pub fn place_of(names: &IndexSet<HeldGroup>, group: &AskedGroup) -> usize
+    ensures { result ≡ place_by names.now.keys group.now }
+{
+    names.get_index_of(group).unwrap_or(names.len())
+}
+
+// The numbers of the group at a place.
+pub fn numbers_at(groups: &[Members], place: usize) -> &VecDeque<u64>
+    requires { place < length groups.now }
+    ensures { result.now.items ≡ (group_at groups.now place).numbers }
+{
+    &groups[place].numbers
+}
+
+// How many are in flight after one was or was not, and now is or is not.
+fn counted(out: u64, was: bool, is: bool) -> u64
+    requires less { was ≡ true → 1 ≤ out }
+    requires room { was ≡ false → is ≡ true → out + 1 < 2 ^ 64 }
+    ensures { result + bit was ≡ out + bit is }
+{
+    if was {
+        if is { out } else { out - 1 }
+    } else if is {
+        out + 1
+    } else {
+        out
+    }
+}
+
+// Counts a change of a group's message, and marks the first of the group anew.
+pub fn moved(shelf: &mut Shelf, groups: &mut [Members], index: usize, was: bool, is: bool)
+    requires index { index < length groups.old }
+    requires less { was ≡ true → 1 ≤ (group_at groups.old index).out }
+    requires room { was ≡ false → is ≡ true → (group_at groups.old index).out + 1 < 2 ^ 64 }
+    ensures kept { map unhosted shelf.new.items ≡ map unhosted shelf.old.items }
+    ensures next { shelf.new.next ≡ shelf.old.next }
+    ensures others { (j : ℕ) → j ≢ index → group_at groups.new j ≡ group_at groups.old j }
+    ensures len { length groups.new ≡ length groups.old }
+    ensures out { (group_at groups.new index).out + bit was ≡ (group_at groups.old index).out + bit is }
+    ensures held { held shelf.old.items (group_at groups.new index).numbers ≡ held shelf.old.items (group_at groups.old index).numbers }
+    ensures below { (n : ℕ) → All (λ k. k < n) (group_at groups.old index).numbers → All (λ k. k < n) (group_at groups.new index).numbers }
+    ensures led { (g : Option (List ℕ)) → All (IsLedBut shelf.old.items g) shelf.old.items → held shelf.old.items (group_at groups.old index).numbers ≡ of_group g (told shelf.old.items) → (group_at groups.new index).out ≡ out_of g (told shelf.old.items) → AreLed shelf.new.items }
+{
+    let members = &mut groups[index];
+    members.out = counted(members.out, was, is);
+    refresh(shelf, members);
+}

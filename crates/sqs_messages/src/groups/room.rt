@@ -1,0 +1,133 @@
+//! Room for one more message of a group.
+ghost use Rattle.std.specs.Prelude.{◌≡◌, ◌≢◌, ◌+◌, ◌++◌, ◌∷◌, ◌<◌, ◌≤◌, [], All, IfOk, List, OnErr, OnOk, Option, filter, is_some, length, map, ℕ};
+ghost use Rattle.std.specs.Option.{option_copied};
+ghost use Rattle.std.specs.VecDeque.{deque_capacity, deque_len};
+ghost use Rattle.sqs_messages.specs.Groups.{AreInGroups, HasRoomAt, group_at, group_by, kept, nobody, place_by};
+ghost use Rattle.sqs_messages.specs.Slots.{held, message_of};
+
+use crate::groups::key::{AskedGroup, HeldGroup};
+use crate::groups::members::{Members, place_of};
+use crate::shelf::Shelf;
+use indexmap::IndexSet;
+use sqs_message::Text;
+use std::alloc::{AllocError, Global};
+use std::collections::VecDeque;
+
+// Another name of the same group.
+fn copied(alloc: Global, group: Option<&Text>) -> Result<Option<Text>, AllocError>
+    ensures { IfOk result (λ name. name ≡ option_copied group.entry) }
+{
+    match group {
+        None => Ok(None),
+        Some(name) => Ok(Some(name.copy(alloc)?)),
+    }
+}
+
+// Enters a group that is not in the table, without messages. Where there is no memory nothing
+// changes.
+fn enter(
+    alloc: Global,
+    names: &mut IndexSet<HeldGroup>,
+    groups: &mut Vec<Members>,
+    group: Option<&Text>,
+) -> Result<(), AllocError>
+    requires new { length names.old.keys ≤ place_by names.old.keys (option_copied group) }
+    ensures names { OnOk result (names.new.keys ≡ names.old.keys ++ option_copied group.entry ∷ []) }
+    ensures groups { OnOk result (map kept groups.new.items ≡ map kept groups.old.items ++ nobody ∷ []) }
+    ensures same_names { OnErr result (names.new.keys ≡ names.old.keys) }
+    ensures same_groups { OnErr result (map kept groups.new.items ≡ map kept groups.old.items) }
+{
+    let name = copied(alloc, group)?;
+    groups.reserve(1)?;
+    names.insert(HeldGroup::new(name))?;
+    groups.push_reserved(Members {
+        numbers: VecDeque::new(alloc),
+        out: 0,
+    });
+    Ok(())
+}
+
+// The place of a group, which is entered where it is new. No group's messages change.
+fn place_for(
+    alloc: Global,
+    names: &mut IndexSet<HeldGroup>,
+    groups: &mut Vec<Members>,
+    group: Option<&Text>,
+) -> Result<usize, AllocError>
+    requires { length names.old.keys ≡ length groups.old.items }
+    ensures same { length names.new.keys ≡ length groups.new.items }
+    ensures groups { (g : Option (List ℕ)) → group_by names.new.keys groups.new.items g ≡ group_by names.old.keys groups.old.items g }
+    ensures place { IfOk result (λ place. place ≡ place_by names.new.keys (option_copied group.entry)) }
+    ensures within { IfOk result (λ place. place < length groups.new.items) }
+{
+    let place = place_of(names, &AskedGroup::new(group));
+    if groups.len() <= place {
+        enter(alloc, names, groups, group)?;
+    }
+    Ok(place)
+}
+
+// Whether a message is there.
+fn is_there(shelf: &Shelf, number: u64) -> bool
+    ensures { result ≡ is_some (message_of shelf.now.items number) }
+{
+    shelf.get(number).is_some()
+}
+
+// Drops the numbers of messages that have left.
+fn drop_gone(shelf: &Shelf, numbers: &mut VecDeque<u64>)
+    ensures { numbers.new.items ≡ filter (λ n. is_some (message_of shelf.now.items n)) numbers.old.items }
+{
+    numbers.retain(|number| is_there(shelf, *number));
+}
+
+// Makes room for one more number in a list. Where it is full, the numbers of messages that have left
+// go first, and then there is to be room for as many more as stay: so a list is no longer than some
+// four times as many messages as there once were, and numbers go only now and then.
+fn room_in(shelf: &Shelf, numbers: &mut VecDeque<u64>) -> Result<(), AllocError>
+    ensures held { held shelf.now.items numbers.new.items ≡ held shelf.now.items numbers.old.items }
+    ensures below { (n : ℕ) → All (λ k. k < n) numbers.old.items → All (λ k. k < n) numbers.new.items }
+    ensures room { OnOk result (deque_len numbers.new < deque_capacity numbers.new) }
+{
+    if numbers.len() < numbers.capacity() {
+        return Ok(());
+    }
+    drop_gone(shelf, numbers);
+    let more = numbers.len() + 1;
+    numbers.reserve(more)
+}
+
+// Makes room for one more number in the list of the group at a place.
+fn room_at(shelf: &Shelf, groups: &mut [Members], place: usize) -> Result<(), AllocError>
+    requires { place < length groups.old }
+    ensures len { length groups.new ≡ length groups.old }
+    ensures others { (j : ℕ) → j ≢ place → group_at groups.new j ≡ group_at groups.old j }
+    ensures out { (group_at groups.new place).out ≡ (group_at groups.old place).out }
+    ensures held { held shelf.now.items (group_at groups.new place).numbers ≡ held shelf.now.items (group_at groups.old place).numbers }
+    ensures below { (n : ℕ) → All (λ k. k < n) (group_at groups.old place).numbers → All (λ k. k < n) (group_at groups.new place).numbers }
+    ensures room { OnOk result (HasRoomAt groups.new place) }
+{
+    let members = &mut groups[place];
+    room_in(shelf, &mut members.numbers)
+}
+
+/// Makes room for one more message of a group, which may be new, and tells the group's place. No
+/// group's messages change.
+pub fn room_for(
+    alloc: Global,
+    shelf: &Shelf,
+    names: &mut IndexSet<HeldGroup>,
+    groups: &mut Vec<Members>,
+    group: Option<&Text>,
+) -> Result<usize, AllocError>
+    requires { AreInGroups shelf.now.items shelf.now.next names.old.keys groups.old.items }
+    ensures grouped { AreInGroups shelf.now.items shelf.now.next names.new.keys groups.new.items }
+    ensures place { IfOk result (λ place. place ≡ place_by names.new.keys (option_copied group.entry)) }
+    ensures within { IfOk result (λ place. place < length groups.new.items) }
+    ensures room { IfOk result (HasRoomAt groups.new.items) }
+{
+    let place = place_for(alloc, names, groups, group)?;
+    let groups = groups.as_mut_slice();
+    room_at(shelf, groups, place)?;
+    Ok(place)
+}

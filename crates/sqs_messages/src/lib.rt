@@ -1,0 +1,21 @@
+//! The messages of a queue of either kind: found by number, by what is due and by what a receive may give
+//! without going over them, and counted by where they are.
+#![tactic(auto)]
+
+mod choose;
+mod counts;
+mod due;
+mod groups;
+mod hosts;
+mod messages;
+mod order;
+mod room;
+mod shelf;
+mod slot;
+mod table;
+
+pub use counts::Counts;
+pub use groups::choose::Choice;
+pub use messages::Messages;
+pub use slot::State;
+pub use table::MessageTable;

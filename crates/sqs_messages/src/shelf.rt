@@ -1,0 +1,205 @@
+//! The shelf.
+ghost use Rattle.std.specs.Prelude.{◌≡◌, ◌+◌, ◌<◌, ◌≤◌, ◌^◌, ◌++◌, ◌∷◌, [], ◌&&◌, All, IsOk, OnOk, OnErr, IfSome, count_by, false, find, length, map, nat_le, true};
+ghost use Rattle.std.specs.Option.{option_copied, option_map};
+ghost use Rattle.sim_clock.specs.Firsts.{changed, without};
+ghost use Rattle.sim_index.specs.Marks.{least_of, meets};
+ghost use Rattle.sqs_model.specs.Progress.{Ascends};
+ghost use Rattle.sqs_model.specs.Queue.{is_delayed, is_in_flight, is_visible};
+ghost use Rattle.sqs_messages.specs.Heads.{told};
+ghost use Rattle.sqs_messages.specs.Slots.{is_numbered, number_of, restated, with_hosts};
+
+use crate::counts::{Counts, count_in, count_out, nothing};
+use crate::messages::{Messages, messages_in};
+use crate::room::make_room;
+use crate::slot::{Slot, State, clear, first_from, place_of, write};
+use sim_clock::Key;
+use sim_index::{Mark, Marks, NO_MARK};
+use sqs_message::Message;
+use std::alloc::{AllocError, Global};
+use std::marker::Model;
+
+/// Messages in the order of their numbers, each with a mark, and the number that comes next. A call
+/// on one of so many messages takes the time of their number's logarithm. Contracts see the messages
+/// with their marks, the number that comes next, and whether there is room for one message more.
+#[derive(Drop)]
+pub struct Shelf {
+    slots: Vec<Slot>,
+    marks: Marks,
+    counts: Counts,
+    next: u64,
+    alloc: Global,
+}
+
+impl Model for Shelf {
+    ghost use Rattle.sqs_messages.specs.Slots.{Holding};
+
+    ghost Value = { Holding };
+
+    ghost use Rattle.sqs_messages.specs.Shelves.{IsShelf, holding_of};
+
+    ghost view = { holding_of };
+
+    ghost invariant = { IsShelf };
+}
+
+impl Shelf {
+    /// An empty one, whose first message gets this number. Takes no memory.
+    pub fn opened_at(alloc: Global, next: u64) -> Shelf
+        ensures { result ≡ record { items = []; next = next; ready = false } }
+    {
+        Shelf {
+            slots: Vec::new(alloc),
+            marks: Marks::new(alloc),
+            counts: nothing(),
+            next,
+            alloc,
+        }
+    }
+
+    /// The number that comes next. Numbers go up, and all are below it.
+    pub fn number(&self) -> u64
+        ensures value { result ≡ self.now.next }
+        ensures ordered { Ascends number_of 0 self.now.items }
+        ensures below { All (λ s. number_of s < self.now.next) self.now.items }
+    {
+        self.next
+    }
+
+    /// How many messages are where, without going over them.
+    pub fn counts(&self) -> Counts
+        ensures visible { result.visible ≡ count_by is_visible (told self.now.items) }
+        ensures in_flight { result.in_flight ≡ count_by is_in_flight (told self.now.items) }
+        ensures delayed { result.delayed ≡ count_by is_delayed (told self.now.items) }
+    {
+        self.counts
+    }
+
+    /// Its messages in the order of their numbers.
+    pub fn iter(&self) -> Messages<'_>
+        ensures { result ≡ told self.now.items }
+    {
+        messages_in(&self.slots)
+    }
+
+    /// The message of a number.
+    pub fn get(&self, number: u64) -> Option<&Message>
+        ensures { option_copied result ≡ option_map (λ s. s.message) (find (is_numbered number) self.now.items) }
+    {
+        let slot = &self.slots[place_of(&self.slots, number)?];
+        slot.message.as_ref()
+    }
+
+    /// Changes the message of a number, and its mark; nothing where it is not there.
+    pub fn put(&mut self, number: u64, state: State, mark: Mark)
+        ensures items { self.new.items ≡ changed (is_numbered number) (λ s. record { message = restated state s.message; mark = mark }) self.old.items }
+        ensures next { self.new.next ≡ self.old.next }
+    {
+        let Some(place) = place_of(&self.slots, number) else {
+            return;
+        };
+        let Some(was) = write(&mut self.slots[place], state, mark) else {
+            unreachable!();
+        };
+        self.marks.put(place, mark);
+        count_out(&mut self.counts, was);
+        count_in(&mut self.counts, state.place);
+    }
+
+    /// Changes the hosts in the mark of a number's message; nothing where it is not there.
+    pub fn mark(&mut self, number: u64, hosts: u32)
+        ensures items { self.new.items ≡ changed (is_numbered number) (with_hosts hosts) self.old.items }
+        ensures next { self.new.next ≡ self.old.next }
+    {
+        let Some(place) = place_of(&self.slots, number) else {
+            return;
+        };
+        let slot = &mut self.slots[place];
+        slot.mark.hosts = hosts;
+        let mark = slot.mark;
+        self.marks.put(place, mark);
+    }
+
+    /// Takes out the message of a number, if it is there.
+    pub fn remove(&mut self, number: u64) -> Option<Message>
+        ensures found { result ≡ option_map (λ s. s.message) (find (is_numbered number) self.old.items) }
+        ensures items { self.new.items ≡ without (is_numbered number) self.old.items }
+        ensures next { self.new.next ≡ self.old.next }
+    {
+        let place = place_of(&self.slots, number)?;
+        let Some(message) = clear(&mut self.slots[place], NO_MARK) else {
+            unreachable!();
+        };
+        self.marks.put(place, NO_MARK);
+        count_out(&mut self.counts, message.place);
+        Some(message)
+    }
+
+    /// The least of what is due.
+    pub fn least(&self) -> Option<Key>
+        ensures { result ≡ least_of (map (λ s. s.mark) self.now.items) }
+    {
+        self.marks.least()
+    }
+
+    /// The first message of a number from one on whose mark tells of one of these hosts.
+    pub fn next(&self, from: u64, hosts: u32) -> Option<&Message>
+        ensures found { option_copied result ≡ option_map (λ s. s.message) (find (λ s. nat_le from s.message.number && meets hosts s.mark) self.now.items) }
+        ensures bound { IfSome result (λ m. m.now.number < self.now.next) }
+        ensures range { self.now.next < 2 ^ 64 }
+        ensures ordered { Ascends number_of 0 self.now.items }
+    {
+        let place = first_from(&self.slots, from);
+        let Some(place) = self.marks.next(place, hosts) else {
+            return None;
+        };
+        if self.slots.len() <= place {
+            return None;
+        }
+        self.slots[place].message.as_ref()
+    }
+
+    /// Makes room for one message more, so that its push succeeds.
+    pub fn reserve(&mut self) -> Result<(), AllocError>
+        ensures ready { OnOk result (self.new.ready ≡ true) }
+        ensures items { self.new.items ≡ self.old.items }
+        ensures next { self.new.next ≡ self.old.next }
+        ensures unchanged { OnErr result (self.new ≡ self.old) }
+        ensures succeeds { self.old.ready ≡ true → IsOk result }
+    {
+        make_room(self.alloc, &mut self.slots, &mut self.marks)?;
+        Ok(())
+    }
+
+    /// One more message, with the next number. Succeeds where there is room.
+    pub fn push(&mut self, message: Message, mark: Mark) -> Result<(), AllocError>
+        requires number { message.number ≡ self.old.next }
+        requires range { self.old.next + 1 < 2 ^ 64 }
+        ensures pushed { OnOk result (self.new.items ≡ self.old.items ++ record { message = message; mark = mark } ∷ []) }
+        ensures next { OnOk result (self.new.next ≡ self.old.next + 1) }
+        ensures unchanged { OnErr result (self.new ≡ self.old) }
+        ensures succeeds { self.old.ready ≡ true → IsOk result }
+    {
+        make_room(self.alloc, &mut self.slots, &mut self.marks)?;
+        let place = self.slots.len();
+        let number = self.next;
+        count_in(&mut self.counts, message.place);
+        self.slots.push_reserved(Slot {
+            number,
+            mark,
+            message: Some(message),
+        });
+        self.marks.put(place, mark);
+        self.next += 1;
+        Ok(())
+    }
+
+    /// The next number goes to no message.
+    pub fn skip(&mut self)
+        requires { self.old.next + 1 < 2 ^ 64 }
+        ensures items { self.new.items ≡ self.old.items }
+        ensures next { self.new.next ≡ self.old.next + 1 }
+    {
+        let next = &mut self.next;
+        *next += 1;
+    }
+}

@@ -1,0 +1,279 @@
+//! The table of a queue's messages.
+ghost use Rattle.std.specs.Prelude.{◌≡◌, ◌+◌, ◌++◌, ◌∷◌, ◌*◌, ◌<◌, ◌≤◌, [], All, IfOk, IfSome, None, OnErr, OnOk, count_by, length, map, not, take, true};
+ghost use Rattle.std.specs.Option.{option_copied};
+ghost use Rattle.sim_clock.specs.Firsts.{is_empty};
+ghost use Rattle.sim_clock.specs.Order.{least};
+ghost use Rattle.sqs_dedup.specs.Window.{living_among};
+ghost use Rattle.sqs_model.specs.Answers.{most_count};
+ghost use Rattle.sqs_model.specs.Available.{available};
+ghost use Rattle.sqs_model.specs.Calls.{living_entries, with_message};
+ghost use Rattle.sqs_model.specs.Dues.{queue_dues};
+ghost use Rattle.sqs_model.specs.Longest.{deduplication_interval};
+ghost use Rattle.sqs_model.specs.Progress.{Ascends};
+ghost use Rattle.sqs_model.specs.Queue.{is_delayed, is_in_flight, is_visible, numbered, taken_out, with_change};
+ghost use Rattle.sqs_model.specs.Valid.{IsQueueSettings};
+ghost use Rattle.sqs_messages.specs.Heads.{told};
+ghost use Rattle.sqs_messages.specs.Orders.{IsRoomed};
+ghost use Rattle.sqs_messages.specs.Slots.{restated};
+ghost use Rattle.sqs_messages.specs.Stored.{IsCounted, IsStored};
+ghost use Rattle.sqs_messages.specs.Tables.{AreKept};
+
+use crate::counts::Counts;
+use crate::due::due_of;
+use crate::groups::choose::Choice;
+use crate::messages::Messages;
+use crate::order::Order;
+use crate::shelf::Shelf;
+use crate::slot::State;
+use crate::{groups, hosts};
+use sim_clock::Key;
+use sqs_dedup::Dedup;
+use sqs_message::{Message, Text};
+use sqs_redrive::QueueSettings;
+use std::alloc::{AllocError, Global};
+use std::marker::Model;
+
+/// A queue's number and settings, its messages in the order of their arrival, and how many ever came.
+/// Contracts see it as the definitions' `Queue` without deduplication entries. Times are milliseconds.
+///
+/// A call on one message takes the time of the logarithm of how many there are.
+#[derive(Drop)]
+pub struct MessageTable {
+    site: u32,
+    settings: QueueSettings,
+    shelf: Shelf,
+    order: Order,
+    alloc: Global,
+}
+
+impl Model for MessageTable {
+    ghost use Rattle.sqs_model.specs.Queue.{Queue};
+
+    ghost Value = { Queue };
+
+    ghost use Rattle.sqs_messages.specs.Tables.{IsTable, queue_of};
+
+    ghost view = { queue_of };
+
+    ghost invariant = { IsTable };
+}
+
+// One more message, for which there is room. Its group has this place.
+fn add(
+    site: u32,
+    settings: &QueueSettings,
+    shelf: &mut Shelf,
+    order: &mut Order,
+    place: usize,
+    message: Message,
+)
+    requires kept { AreKept site settings.now shelf.old.items shelf.old.next order.old }
+    requires ready { shelf.old.ready ≡ true }
+    requires room { IsRoomed order.old message.group place }
+    requires number { message.number ≡ shelf.old.next }
+    requires counted { IsCounted message }
+    requires below { shelf.old.next < most_count }
+    ensures kept { AreKept site settings.now shelf.new.items shelf.new.next order.new }
+    ensures records { told shelf.new.items ≡ told shelf.old.items ++ message ∷ [] }
+    ensures next { shelf.new.next ≡ shelf.old.next + 1 }
+{
+    let due = due_of(site, settings.retention, &message, message.release);
+    order.add(shelf, place, message, due);
+}
+
+impl MessageTable {
+    /// No messages of a queue of this number, to which so many came before. Takes no memory.
+    pub fn opened_at(
+        alloc: Global,
+        site: u32,
+        settings: QueueSettings,
+        arrivals: u64,
+    ) -> MessageTable
+        requires settings { IsQueueSettings settings }
+        requires arrivals { arrivals ≤ most_count }
+        ensures { result ≡ record { site = site; settings = settings; records = []; entries = []; arrivals = arrivals } }
+    {
+        MessageTable {
+            site,
+            settings,
+            shelf: Shelf::opened_at(alloc, arrivals),
+            order: Order::opened(alloc, &settings),
+            alloc,
+        }
+    }
+
+    /// The queue's number.
+    pub fn site(&self) -> u32
+        ensures { result ≡ self.now.site }
+    {
+        self.site
+    }
+
+    /// The queue's settings.
+    pub fn settings(&self) -> &QueueSettings
+        ensures value { result.now ≡ self.now.settings }
+        ensures in_range { IsQueueSettings self.now.settings }
+    {
+        &self.settings
+    }
+
+    /// How many messages ever came, which is the number of the next one.
+    pub fn arrivals(&self) -> u64
+        ensures arrivals { result ≡ self.now.arrivals }
+        ensures bound { result ≤ most_count }
+        ensures stored { IsStored self.now.records self.now.arrivals }
+    {
+        self.shelf.number()
+    }
+
+    /// The message of a number, if it is there.
+    pub fn find(&self, number: u64) -> Option<&Message>
+        ensures found { option_copied result ≡ numbered number self.now.records }
+        ensures counted { IfSome result (λ m. IsCounted m.now) }
+    {
+        self.shelf.get(number)
+    }
+
+    /// The messages, in the order of their arrival.
+    pub fn iter(&self) -> Messages<'_>
+        ensures messages { result ≡ self.now.records }
+        ensures stored { IsStored self.now.records self.now.arrivals }
+    {
+        let _next = self.shelf.number();
+        self.shelf.iter()
+    }
+
+    /// One more message, with the next number. Where there is no memory nothing changes.
+    pub fn push(&mut self, message: Message) -> Result<(), AllocError>
+        requires numbered { message.number ≡ self.old.arrivals }
+        requires counted { IsCounted message }
+        requires below { self.old.arrivals < most_count }
+        ensures added { OnOk result (self.new ≡ with_message self.old message) }
+        ensures unchanged { OnErr result (self.new ≡ self.old) }
+    {
+        let group = message.group.as_ref();
+        let place = self.order.room_for(self.alloc, &self.shelf, group)?;
+        self.shelf.reserve()?;
+        add(
+            self.site,
+            &self.settings,
+            &mut self.shelf,
+            &mut self.order,
+            place,
+            message,
+        );
+        Ok(())
+    }
+
+    /// One more message, with the next number, and its deduplication entry, which lives for 5 minutes
+    /// (Developer Guide: exactly-once processing). Where there is no memory nothing changes.
+    pub fn push_once(
+        &mut self,
+        message: Message,
+        entries: &mut Dedup,
+        now: u64,
+        scope: Option<Text>,
+        id: Text,
+    ) -> Result<(), AllocError>
+        requires numbered { message.number ≡ self.old.arrivals }
+        requires counted { IsCounted message }
+        requires below { self.old.arrivals < most_count }
+        requires moment { now ≤ most_count }
+        requires no_earlier { All (λ e. e.end ≤ now + deduplication_interval) entries.old }
+        requires none_living { living_among now scope id entries.old ≡ None }
+        ensures added { OnOk result (self.new ≡ with_message self.old message) }
+        ensures entered { OnOk result (entries.new ≡ living_entries now entries.old ++ record { scope = scope; id = id; end = now + deduplication_interval; number = self.old.arrivals } ∷ []) }
+        ensures unchanged { OnErr result (self.new ≡ self.old) }
+        ensures same_entries { OnErr result (entries.new ≡ entries.old) }
+    {
+        let group = message.group.as_ref();
+        let place = self.order.room_for(self.alloc, &self.shelf, group)?;
+        self.shelf.reserve()?;
+        entries.enter(now, scope, id, message.number)?;
+        add(
+            self.site,
+            &self.settings,
+            &mut self.shelf,
+            &mut self.order,
+            place,
+            message,
+        );
+        Ok(())
+    }
+
+    /// The next number goes to a message that does not stay.
+    pub fn skip(&mut self)
+        requires { self.old.arrivals < most_count }
+        ensures { self.new ≡ record self.old { arrivals = self.old.arrivals + 1 } }
+    {
+        self.shelf.skip();
+    }
+
+    /// The message of a number takes another state, if it is there. Takes no memory.
+    pub fn put(&mut self, number: u64, state: State)
+        requires receives { state.receives ≤ most_count }
+        requires received { state.received ≤ most_count }
+        ensures { self.new ≡ with_change self.old number (restated state) }
+    {
+        let Some(message) = self.shelf.get(number) else {
+            return;
+        };
+        let due = due_of(self.site, self.settings.retention, message, state.release);
+        self.order.put(&mut self.shelf, number, state, due);
+    }
+
+    /// Takes out the message of a number, if it is there. Takes no memory.
+    pub fn remove(&mut self, number: u64) -> Option<Message>
+        ensures found { result ≡ numbered number self.old.records }
+        ensures rest { self.new ≡ taken_out self.old number }
+    {
+        self.order.remove(&mut self.shelf, number)
+    }
+
+    /// The key of what is due next: the least expiry or end of a delay or visibility timeout. Goes
+    /// over no messages.
+    pub fn least_due(&self) -> Option<Key>
+        ensures { result ≡ least (queue_dues self.now) }
+    {
+        self.shelf.least()
+    }
+
+    /// How many messages are where. Goes over no messages.
+    pub fn counts(&self) -> Counts
+        ensures visible { result.visible ≡ count_by is_visible self.now.records }
+        ensures in_flight { result.in_flight ≡ count_by is_in_flight self.now.records }
+        ensures delayed { result.delayed ≡ count_by is_delayed self.now.records }
+    {
+        self.shelf.counts()
+    }
+
+    /// The numbers of the first messages, at most so many, that a receive may give which sees these
+    /// hosts, in the order in which the queue gives them, and how many messages were read to choose
+    /// them.
+    pub fn first_numbers(&self, hosts: u32, most: u64) -> Result<Choice, AllocError>
+        ensures numbers { IfOk result (λ choice. choice.numbers.items ≡ map (λ m. m.number) (take most (available self.now hosts))) }
+        ensures looked { IfOk result (λ choice. choice.looked ≤ 2 * most) }
+        ensures read { IfOk result (λ choice. length choice.numbers.items ≤ choice.looked) }
+        ensures ordered { Ascends (λ m. m.number) 0 self.now.records }
+    {
+        let _next = self.shelf.number();
+        match &self.order {
+            Order::Hosts(_) => hosts::choose(self.alloc, &self.shelf, hosts, most),
+            Order::Groups(groups) => groups::choose::choose(
+                self.alloc,
+                &self.shelf,
+                &groups.names,
+                &groups.members,
+                most,
+            ),
+        }
+    }
+
+    /// Whether a receive that sees these hosts may give a message. Takes no memory, and reads at most
+    /// one message.
+    pub fn has_available(&self, hosts: u32) -> bool
+        ensures { result ≡ not (is_empty (available self.now hosts)) }
+    {
+        self.shelf.next(0, self.order.hosts(hosts)).is_some()
+    }
+}
