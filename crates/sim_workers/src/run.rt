@@ -139,10 +139,9 @@ fn run_threads<
 ///
 /// # Errors
 ///
-/// `NoWorker` where the start of a thread is refused: the sink took nothing. One worker needs no thread,
-/// and is refused only as follows. `Memory` where a growth is refused, and `CountLimit`, only where the
-/// run takes a count past 2^62 - 1: the sink took rows that the run's begin with, none of the round in
-/// which this came. Else the sink's refusal, at such rows.
+/// `NoWorker` where the start of a thread is refused: the sink took nothing; one worker needs no thread.
+/// `Memory` where a growth is refused, and `CountLimit`, only where the run takes a count past 2^62 - 1:
+/// the sink took rows that the run's begin with. Else the sink's refusal, at such rows.
 pub fn run_workers<
     S: Site + Send + Sync,
     G: Gate<Running<S>> + Sync,

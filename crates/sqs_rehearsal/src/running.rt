@@ -74,9 +74,9 @@ fn check_window(scenario: &Scenario, window: u64) -> Result<(), Refusal>
 /// # Errors
 ///
 /// `WindowTooLong` where the window is longer than the least latency of the scenario's transfers, and
-/// `NoWorker` where the start of a thread is refused: the sink took nothing. `Memory` where a growth is
-/// refused, and `CountLimit`, only where the run takes a count past 2^62 - 1: the sink took rows that
-/// the run's begin with, none of the round in which this came. Else the sink's refusal, at such rows.
+/// `NoWorker` where the start of a thread is refused: the sink took nothing; one worker needs no thread.
+/// `Memory` where a growth is refused, and `CountLimit`, only where the run takes a count past 2^62 - 1:
+/// the sink took rows that the run's begin with. Else the sink's refusal, at such rows.
 pub fn run_workers<G: Gate<Running> + Sync, K: RowSink<Row>, W: Threads + Wait + Sync>(
     rt: &W,
     alloc: Global,
@@ -92,6 +92,7 @@ pub fn run_workers<G: Gate<Running> + Sync, K: RowSink<Row>, W: Threads + Wait +
     ensures whole { IfOk result (λ sites. HasTaken sqs K.took (setting_of scenario) sink.old sink.new sites.items) }
     ensures window { the_least_latency scenario < window → result ≡ Err (Refusal.WindowTooLong window (the_least_latency scenario)) }
     ensures stops { window ≤ the_least_latency scenario → IfErr result (λ refusal. StopsAnyhow sqs K.ready K.took K.broke (setting_of scenario) sink.old refusal sink.new) }
+    ensures alone { window ≤ the_least_latency scenario → workers ≤ 1 → IfErr result (λ refusal. HasStopped sqs K.took K.broke (setting_of scenario) sink.old refusal sink.new) }
     ensures untaken { the_least_latency scenario < window → sink.new ≡ sink.old }
 {
     check_window(&scenario, window)?;
