@@ -113,14 +113,8 @@ def print_text(text):
     """Writes standard output, and makes sure that it is written."""
     if sys.stdout is None:
         raise Fault("standard output is closed")
-    try:
-        sys.stdout.write(text)
-        sys.stdout.flush()
-    except BrokenPipeError:
-        raise
-    except OSError as error:
-        abandon_output()
-        raise Fault(f"cannot write standard output: {error.strerror}") from None
+    sys.stdout.write(text)
+    sys.stdout.flush()
 
 
 def abandon_output():
@@ -136,13 +130,21 @@ def ended(main):
         sys.stderr.reconfigure(encoding="utf-8", errors="backslashreplace")
     name = os.path.basename(sys.argv[0])
     try:
-        return main(sys.argv[1:])
+        status = main(sys.argv[1:])
+        if sys.stdout is not None:
+            sys.stdout.flush()
+        return status
     except Fault as fault:
         print(f"{name}: {fault}", file=sys.stderr)
         return 2
     except BrokenPipeError:
         abandon_output()
         return 1
+    except OSError as error:
+        # all reading and writing of files tells its own faults, so that only standard output is left
+        abandon_output()
+        print(f"{name}: cannot write standard output: {error.strerror}", file=sys.stderr)
+        return 2
     except KeyboardInterrupt:
         return 130
     except (MemoryError, RecursionError) as error:

@@ -3,6 +3,7 @@ import glob
 import os
 import subprocess
 import sys
+import tomllib
 import unittest
 
 from tool import PROGRAM, ROOT, TOOLS, ToolCase, needs_program
@@ -195,7 +196,35 @@ class Explain(ToolCase):
         self.assertIn(f"```\n{run.stdout.decode()}```\n", text)
 
 
+def paths_in(value, path=()):
+    """The paths of all keys and items of what a reader of TOML gave, each with its value."""
+    items = value.items() if isinstance(value, dict) else enumerate(value) if isinstance(value, list) else ()
+    for key, item in items:
+        yield (*path, key), item
+        yield from paths_in(item, (*path, key))
+
+
 class Places(unittest.TestCase):
+    def test_each_key_of_the_stored_scenarios_is_found(self):
+        compared = 0
+        for path in glob.glob(os.path.join(ROOT, "tests", "cases", "*", "*.toml")):
+            with open(path, encoding="utf-8", errors="replace", newline="") as file:
+                text = file.read()
+            try:
+                read = tomllib.loads(text.removeprefix("\ufeff"))
+            except tomllib.TOMLDecodeError:
+                continue
+            found = Positions(text)
+            for key, value in paths_in(read):
+                if isinstance(value, list) and value and all(isinstance(item, dict) for item in value):
+                    continue
+                self.assertIn(key, found.keys, path)
+                start, end = found.values.get(key, (0, 0))
+                if isinstance(value, int) and not isinstance(value, bool):
+                    self.assertEqual(int(text[start:end].replace("_", ""), 0), value, path)
+                compared += 1
+        self.assertGreater(compared, 3_000)
+
     def test_positions_of_keys_and_values(self):
         text = '\ufeff# [[queue]]\n"a\\u0062" = """x\n"""" # y\nt = {b = [1, {c = 2}], "d.e".f=3}\n' \
                "[[q]]\nn = 'x]'\n" \

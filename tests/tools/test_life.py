@@ -1,5 +1,7 @@
 """Tests tools/life on logs written by hand from the formats of the log."""
 import os
+import subprocess
+import sys
 import unittest
 
 from tool import TOOLS, ToolCase, needs_program
@@ -68,6 +70,16 @@ class Life(ToolCase):
         log = self.write("log", LOG)
         for name in ("m-0-0", "m-1-0", "m-0-2"):
             self.assertEqual(self.run_tool("life", log, name), (0, STORY, ""))
+
+    def test_standard_input_is_read_for_each_kind_of_id(self):
+        for name in ("o-0-0", "m-0-2"):
+            run = subprocess.run([sys.executable, os.path.join(TOOLS, "life"), "-", name], input=LOG, text=True,
+                                 capture_output=True)
+            self.assertEqual((run.returncode, run.stdout, run.stderr), (0, STORY, ""))
+
+    def test_hostile_logs(self):
+        for name in ("o-0-0", "m-9-9"):
+            self.assert_hostile_logs("life", name)
 
     def test_repeats_and_expiry(self):
         _, out, _ = self.run_tool("life", self.write("log", FIFO), "o-0-0")

@@ -1,0 +1,76 @@
+"""Tests how all tools end: help, an unknown word, an output that is full or closed, a log that is no file."""
+import os
+import stat
+import subprocess
+import sys
+import unittest
+
+from tool import LOG_HEADER, SENT, TOOLS, ToolCase
+from console import Fault, check_output, write_text
+
+USERS_TOOLS = ("sweep", "metrics", "from-queue", "from-plan", "explain", "arrivals", "picture", "report", "summary",
+               "life")
+
+
+class Ends(ToolCase):
+    def ended(self, command):
+        """Status, standard output and standard error of a command of the shell in the test's folder."""
+        run = subprocess.run(["bash", "-c", command], cwd=self.folder, capture_output=True, text=True,
+                             env={**os.environ, "PATH": f"{TOOLS}:{os.environ['PATH']}"})
+        return run.returncode, run.stdout, run.stderr
+
+    def test_help_and_unknown_words(self):
+        for name in USERS_TOOLS:
+            with self.subTest(tool=name):
+                status, out, err = self.run_tool(name, "--help")
+                self.assertEqual((status, err), (0, ""))
+                self.assertIn(f"tools/{name} ", out)
+                for words in ((), (b"--nothing",), (b"\xff",), (b"--nothing", b"\xff\n")):
+                    run = subprocess.run([sys.executable, os.path.join(TOOLS, name), *words], cwd=self.folder,
+                                         capture_output=True, stdin=subprocess.DEVNULL)
+                    told = run.returncode, run.stdout, len(run.stderr.splitlines())
+                    self.assertEqual(told, (2, b"", 1), run.stderr)
+
+    def test_an_output_that_is_full_or_closed(self):
+        with open(self.path("log"), "wb") as file:
+            file.write(LOG_HEADER + SENT)
+        for command in ("metrics log", "summary log", "life log o-0-0", "picture log", "arrivals times times"):
+            self.write("times", "1\n2\n")
+            name = command.split()[0]
+            with self.subTest(command=command):
+                self.assertEqual(self.ended(f"{command} > /dev/full"),
+                                 (2, "", f"{name}: cannot write standard output: No space left on device\n"))
+                status, _, err = self.ended(f"{command} >&-")
+                self.assertIn((status, err), ((2, f"{name}: standard output is closed\n"), (0, "")))
+                self.assertEqual(self.ended(f"{command} | true")[2], "")
+
+    def test_standard_input_that_is_closed(self):
+        for command in ("metrics -", "summary -", "life - o-0-0", "picture -", "from-queue -", "from-plan -"):
+            with self.subTest(command=command):
+                status, out, err = self.ended(f"{command} <&-")
+                self.assertEqual((status, out, len(err.splitlines())), (2, "", 1), err)
+
+    def test_a_folder_in_the_place_of_a_file(self):
+        for command in ("metrics .", "summary .", "life . o-0-0", "picture .", "from-queue .", "from-plan .",
+                        "arrivals times .", "sweep . --vary seed=1", "explain . --program /bin/true",
+                        "report . --output r.html"):
+            with self.subTest(command=command):
+                self.assertEqual(self.ended(command), (2, "", f"{command.split()[0]}: cannot read .: Is a directory\n"))
+
+
+class Writing(ToolCase):
+    def test_special_files_are_written_and_stay(self):
+        write_text("/dev/null", "x")
+        self.assertTrue(stat.S_ISCHR(os.stat("/dev/null").st_mode))
+
+    def test_what_cannot_be_written_is_told_before_the_work(self):
+        path = self.write("file", "")
+        for wrong in (self.folder, os.path.join(path, "x"), os.path.join(path, "x", "y")):
+            with self.assertRaises(Fault):
+                check_output(wrong)
+        check_output(os.path.join(self.folder, "new", "x"))
+        self.assertEqual(os.listdir(os.path.join(self.folder, "new")), [])
+
+
+if __name__ == "__main__":
+    unittest.main()
