@@ -1,25 +1,11 @@
-//! The first messages whose marks tell of some hosts.
-ghost use Rattle.std.specs.Prelude.{◌≡◌, IfOk, filter, map, take};
-ghost use Rattle.sim_index.specs.Marks.{meets};
-ghost use Rattle.sqs_messages.specs.Slots.{number_of};
+//! What is chosen of a queue's messages.
 
-use crate::shelf::Shelf;
-use std::alloc::{AllocError, Global};
-
-/// The numbers of the first messages, at most so many, whose marks tell of one of these hosts. Reads
-/// no other message.
-pub fn chosen(alloc: Global, shelf: &Shelf, hosts: u32, most: u64) -> Result<Vec<u64>, AllocError>
-    ensures numbers { IfOk result (λ numbers. numbers.items ≡ map number_of (take most (filter (λ s. meets hosts s.mark) shelf.now.items))) }
-{
-    let mut numbers = Vec::new(alloc);
-    let mut from = 0;
-    for _count in 0..most {
-        let Some(message) = shelf.next(from, hosts) else {
-            return Ok(numbers);
-        };
-        let number = message.number;
-        numbers.push(number)?;
-        from = number + 1;
-    }
-    Ok(numbers)
+/// The numbers of the first messages that a queue may give, in order.
+#[derive(Debug, Drop)]
+pub struct Choice {
+    /// The numbers.
+    pub numbers: Vec<u64>,
+    /// How many messages were read: those that are chosen, and of each group at most one delayed one
+    /// after them. Where the numbers of messages that have left are passed over, none is read.
+    pub looked: u64,
 }

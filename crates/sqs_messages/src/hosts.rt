@@ -10,8 +10,7 @@ ghost use Rattle.sqs_messages.specs.Marked.{host_mark, restamped, unhosted};
 ghost use Rattle.sqs_messages.specs.Orders.{AreOnHosts};
 ghost use Rattle.sqs_messages.specs.Slots.{is_numbered, number_of};
 
-use crate::choose::chosen;
-use crate::groups::choose::Choice;
+use crate::choose::Choice;
 use crate::shelf::Shelf;
 use crate::slot::State;
 use sim_clock::Key;
@@ -57,6 +56,24 @@ pub fn put(hosts: u64, shelf: &mut Shelf, number: u64, state: State, due: Option
 {
     let host = host_bit(hosts, number, state.place);
     shelf.put(number, state, Mark { due, hosts: host });
+}
+
+// The numbers of the first messages, at most so many, whose marks tell of one of these hosts. Reads
+// no other message.
+fn chosen(alloc: Global, shelf: &Shelf, hosts: u32, most: u64) -> Result<Vec<u64>, AllocError>
+    ensures numbers { IfOk result (λ numbers. numbers.items ≡ map number_of (take most (filter (λ s. meets hosts s.mark) shelf.now.items))) }
+{
+    let mut numbers = Vec::new(alloc);
+    let mut from = 0;
+    for _count in 0..most {
+        let Some(message) = shelf.next(from, hosts) else {
+            return Ok(numbers);
+        };
+        let number = message.number;
+        numbers.push(number)?;
+        from = number + 1;
+    }
+    Ok(numbers)
 }
 
 /// The numbers of the first messages, at most so many, that may be received and lie on one of some

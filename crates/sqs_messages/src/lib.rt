@@ -14,8 +14,8 @@ mod shelf;
 mod slot;
 mod table;
 
+pub use choose::Choice;
 pub use counts::Counts;
-pub use groups::choose::Choice;
 pub use messages::Messages;
 pub use slot::State;
 pub use table::MessageTable;

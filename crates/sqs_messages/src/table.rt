@@ -18,9 +18,9 @@ ghost use Rattle.sqs_messages.specs.Slots.{restated};
 ghost use Rattle.sqs_messages.specs.Stored.{IsCounted, IsStored};
 ghost use Rattle.sqs_messages.specs.Tables.{AreKept};
 
+use crate::choose::Choice;
 use crate::counts::Counts;
 use crate::due::due_of;
-use crate::groups::choose::Choice;
 use crate::messages::Messages;
 use crate::order::Order;
 use crate::shelf::Shelf;

@@ -1,9 +1,8 @@
 -- A queue of either kind as the definitions see it.
-use Rattle.sqs_store.specs.Kinds.{IsFifoSettings}
 use Rattle.sqs_model.specs.Queue.{Queue}
 use Rattle.sqs_queue.specs.declared.queue.Either.{Either}
 use Rattle.sqs_queue.specs.declared.queue.Either.TheVariants.{Fifo, Standard}
-use Rattle.sqs_store.specs.Kinds.{IsStandardSettings}
+use Rattle.sqs_store.specs.Kinds.{IsFifoSettings, IsStandardSettings}
 
 -- the queue, whatever its kind
 abbrev pub either_queue : Either → Queue

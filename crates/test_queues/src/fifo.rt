@@ -36,7 +36,7 @@ fn settings() -> QueueSettings
 }
 
 // Ids count in the whole queue, and bodies stand for none; room for all, and no dead-letter queue.
-pub fn plain() -> QueueSettings
+fn plain() -> QueueSettings
     ensures { IsFifoSettings result }
 {
     QueueSettings {
@@ -158,6 +158,37 @@ send at=0 body=c group=x -> new m-7-2
 look at=5 max=2 -> m-7-0 r-7-0-1 a, m-7-1 r-7-1-1 b, read=2
 ";
     play_new(&rt, rt.alloc(), table)
+}
+
+// The first message of a group stays, while those behind it leave and others come.
+
+#[test]
+fn keeps_its_first_message(rt: HostRuntime) -> Result<(), Fail> {
+    let table = "
+move at=1 body=a group=x -> new m-7-0
+move at=1 body=b group=x -> new m-7-1
+move at=1 body=c group=x -> new m-7-2
+move at=1 body=d group=x -> new m-7-3
+move at=1 body=e group=x -> new m-7-4
+move at=1 body=f group=x -> new m-7-5
+move at=1 body=g group=x -> new m-7-6
+move at=1 body=h group=x -> new m-7-7
+receive at=2 max=10 -> m-7-0 r-7-0-1 a, m-7-1 r-7-1-1 b, m-7-2 r-7-2-1 c, m-7-3 r-7-3-1 d, \
+m-7-4 r-7-4-1 e, m-7-5 r-7-5-1 f, m-7-6 r-7-6-1 g, m-7-7 r-7-7-1 h
+delete at=3 by=r-7-1-1 -> removed at 2
+delete at=3 by=r-7-2-1 -> removed at 2
+delete at=3 by=r-7-3-1 -> removed at 2
+delete at=3 by=r-7-4-1 -> removed at 2
+delete at=3 by=r-7-5-1 -> removed at 2
+delete at=3 by=r-7-6-1 -> removed at 2
+delete at=3 by=r-7-7-1 -> removed at 2
+change at=4 by=r-7-0-1 seconds=0 -> stays
+move at=5 body=i group=x -> new m-7-8
+move at=5 body=j group=x -> new m-7-9
+look at=6 max=10 timeout=0 -> m-7-0 r-7-0-2 a, m-7-8 r-7-8-1 i, m-7-9 r-7-9-1 j, read=3
+counts -> visible=3 in_flight=0 delayed=0
+";
+    play_plain(&rt, rt.alloc(), table)
 }
 
 // Group `x` has 0, 2, 3, which is delayed, and 4, group `y` has 1 and 6, and 5 has no group. With a

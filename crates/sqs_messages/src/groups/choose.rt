@@ -6,6 +6,7 @@ ghost use Rattle.sqs_messages.specs.Heads.{AreLed, told, until_delayed};
 ghost use Rattle.sqs_messages.specs.Slots.{held};
 ghost use Rattle.sqs_messages.specs.Groups.{AreGrouped};
 
+use crate::choose::Choice;
 use crate::groups::key::{AskedGroup, HeldGroup};
 use crate::groups::members::{LEADS, Members, numbers_at, place_of};
 use crate::shelf::Shelf;
@@ -13,16 +14,6 @@ use indexmap::IndexSet;
 use sqs_message::{Message, Place};
 use std::alloc::{AllocError, Global};
 use std::collections::VecDeque;
-
-/// The numbers of the first messages that a queue may give, in order.
-#[derive(Debug, Drop)]
-pub struct Choice {
-    /// The numbers.
-    pub numbers: Vec<u64>,
-    /// How many messages were read: of each group those that are chosen, and at most one delayed
-    /// one after them. Where the numbers of messages that have left are passed over, none is read.
-    pub looked: u64,
-}
 
 // Whether a message's first delay goes on.
 fn waits(message: &Message) -> bool

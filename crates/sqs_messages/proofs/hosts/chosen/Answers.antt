@@ -1,6 +1,6 @@
 use Rattle.std.proofs.Common.{◌+◌, ℕ, List, arith, subst, sym}
 use Rattle.sqs_messages.proofs.Wanted.{IsChosen, chosen_end, chosen_more}
-use Rattle.sqs_messages.proofs.choose.chosen.Goals as goal
+use Rattle.sqs_messages.proofs.hosts.chosen.Goals as goal
 
 pub returns-in_default : goal.returns-in_default
 returns-in_default c =
