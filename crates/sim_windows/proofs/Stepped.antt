@@ -210,3 +210,15 @@ module _ {Site Row Transfer : Type 0} {engine : Engine Site Row Transfer} {condi
           },
           ap (λ (x : Standing Site Row Transfer). x.settled) is ∙ ap (λ (x : Standing Site Row Transfer). x.settled) e,
         )
+
+  -- the same, where the one is seen as another
+  pub meets_so :
+      (g k d h : Standing Site Row Transfer) → k ≡ g → ((ws : List (List Site)) → k.parts ≡ map (λ w. Ok w) ws → d ≡ delivered_by engine k ws) → h ≡ bounded_by d (bounds_by engine d.distances d.horizon d.parts)
+      → next_in engine g ≡ None → is_finished_in engine g ≡ false → IsStanding engine conditions k
+      → IsStanding engine conditions h × Follows engine conditions g h (Barrier ∷ []) × (h.settled ≡ g.settled)
+  meets_so g k d h e reached is rests left st =
+      let m = met k d reached h is (ap (next_in engine) e ∙ rests) (ap (is_finished_in engine) e ∙ left) st in (
+        on k h (Barrier ∷ []) m.0 st,
+        subst (λ (x : Standing Site Row Transfer). Follows engine conditions x h (Barrier ∷ [])) e m.0,
+        m.1 ∙ ap (λ (x : Standing Site Row Transfer). x.settled) e,
+      )

@@ -1,12 +1,13 @@
 //! What a stage keeps beside its partitions, and what is done to both at once.
-ghost use Rattle.std.specs.Prelude.{◌≡◌, ◌+◌, ◌<◌, ◌^◌, IfErr, IfOk, List, Ok, OnOk, Result, filter, length, map};
+ghost use Rattle.std.specs.Prelude.{◌≡◌, ◌+◌, ◌<◌, ◌^◌, [], IfErr, IfOk, List, Ok, OnOk, Result, filter, length, map};
+ghost use Rattle.std.specs.List.{range_with_len};
 ghost use Rattle.sim_clock.specs.declared.refusal.Refusal.{Refusal as TheRefusal};
 ghost use Rattle.sim_engine.specs.Exchange.{exchanged};
 ghost use Rattle.sim_engine.specs.Merge.{merged_all, row_cmp};
 ghost use Rattle.sim_engine.specs.Prefixes.{is_before as is_row_before};
 ghost use Rattle.sim_exchange.specs.Layout.{owner_of};
 ghost use Rattle.sim_windows.specs.Meeting.{AreReached};
-ghost use Rattle.sim_windows.specs.Stages.{bounded_by, bounds_by, delivered_by, settled_by, standing_of};
+ghost use Rattle.sim_windows.specs.Stages.{bounded_by, bounds_by, delivered_by, opened, settled_by, standing_of};
 
 use crate::meeting::{bounds_of, deliver_each, dues_of};
 use crate::settling::settle;
@@ -32,7 +33,48 @@ pub struct Kept<S: Site> {
     pub settled: u64,
 }
 
+// So many lists of rows, none of which has any.
+fn no_rows<S: Site>(alloc: Global, parts: usize) -> Result<Vec<Vec<S::Row>>, AllocError>
+    ensures { IfOk result (λ lists. map (λ l. l.items) lists.items ≡ map (λ p. []) (range_with_len 0 parts)) }
+{
+    let mut lists = Vec::new(alloc);
+    for _ in 0..parts {
+        lists.push(Vec::new(alloc))?;
+    }
+    Ok(lists)
+}
+
 impl<S: Site> Kept<S> {
+    /// What is kept beside partitions at which nothing was done: their bounds are set by what is due in
+    /// them, no rows were made, and nothing waits. The error is want of memory.
+    pub fn opened(
+        alloc: Global,
+        layout: PartMap,
+        distances: Distances,
+        horizon: u64,
+        parts: &[Partition<S>],
+    ) -> Result<Kept<S>, AllocError>
+        requires parts { length parts.now ≡ distances.parts }
+        requires range { distances.parts < 2 ^ 32 }
+        requires horizon { horizon + 1 < 2 ^ 64 }
+        ensures { IfOk result (λ kept.
+            standing_of kept parts.now ≡ opened S.engine layout distances horizon parts.now) }
+    {
+        let dues = dues_of(alloc, parts)?;
+        let bounds = bounds_of(alloc, &distances, &dues, horizon)?;
+        let rows = no_rows::<S>(alloc, parts.len())?;
+        Ok(Kept {
+            alloc,
+            layout,
+            distances,
+            horizon,
+            bounds,
+            rows,
+            waiting: Vec::new(alloc),
+            settled: 0,
+        })
+    }
+
     /// Each partition gets what waits for it.
     pub fn deliver(&mut self, parts: &mut Vec<Partition<S>>) -> Result<(), Refusal>
         requires reached { AreReached S.engine S.conditions parts.old.items

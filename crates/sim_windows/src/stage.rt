@@ -15,7 +15,6 @@ ghost use Rattle.sim_windows.specs.Stages.{EndsAs, Follows, IsLent, IsStanding, 
 use crate::joining::join_sites;
 use crate::kept::Kept;
 use crate::lent::Lent;
-use crate::meeting::{bounds_of, dues_of};
 use crate::parting::{open_parts, split_sites};
 use crate::world::World;
 use sim_clock::{Key, Refusal, lesser};
@@ -101,17 +100,6 @@ fn are_past<S: Site>(waiting: &[S::Transfer], horizon: u64) -> bool
         .all(|transfer| S::transfer_key(transfer).at > horizon)
 }
 
-// So many lists of rows, none of which has any.
-fn no_rows<S: Site>(alloc: Global, parts: usize) -> Result<Vec<Vec<S::Row>>, AllocError>
-    ensures { IfOk result (λ lists. map (λ l. l.items) lists.items ≡ map (λ p. []) (range_with_len 0 parts)) }
-{
-    let mut lists = Vec::new(alloc);
-    for _ in 0..parts {
-        lists.push(Vec::new(alloc))?;
-    }
-    Ok(lists)
-}
-
 impl<S: Site> Stage<S> {
     /// The stage of a world, its sites in partitions by a map, at which nothing was done. Each way takes 1
     /// to 900,000 milliseconds. The error is want of memory, as which as many sites as there are numbers
@@ -135,19 +123,7 @@ impl<S: Site> Stage<S> {
         let distances = Distances::new(alloc, &edges, &layout)?;
         let lists = split_sites(alloc, sites, &layout)?;
         let parts = open_parts(alloc, lists)?;
-        let dues = dues_of(alloc, &parts)?;
-        let bounds = bounds_of(alloc, &distances, &dues, horizon)?;
-        let rows = no_rows::<S>(alloc, parts.len())?;
-        let kept = Kept {
-            alloc,
-            layout,
-            distances,
-            horizon,
-            bounds,
-            rows,
-            waiting: Vec::new(alloc),
-            settled: 0,
-        };
+        let kept = Kept::opened(alloc, layout, distances, horizon, &parts)?;
         Ok(Stage { kept, parts })
     }
 

@@ -1,11 +1,20 @@
-use Rattle.std.specs.Prelude.{None, [], false, length, ◌≡◌, ◌∷◌}
+use Rattle.std.specs.Prelude.{List, Result, length, ◌≡◌}
 use Rattle.std.proofs.Common.{ap, arith, subst, ◌∙◌, refl}
 use Rattle.std.proofs.lemmas.Result.{err_from_is_err_and}
-use Rattle.sim_engine.specs.declared.picks.Pick.TheVariants.{Barrier}
-use Rattle.sim_windows.specs.Stages.{Follows, Standing, bounded_by, bounds_by, is_finished_in, next_in, standing_of}
+use Rattle.sim_clock.specs.declared.refusal.Refusal.{Refusal}
+use Rattle.sim_engine.specs.Engine.{Engine}
+use Rattle.sim_windows.specs.Stages.{Standing, bounded_by, bounds_by, standing_of}
+use Rattle.sim_windows.specs.declared.kept.Kept.{Kept}
 use Rattle.sim_windows.proofs.Meetings.{are_reached, live, parts_in}
-use Rattle.sim_windows.proofs.Stepped.{few_parts, has_parts, met, on, short}
+use Rattle.sim_windows.proofs.Stepped.{few_parts, has_parts, meets_so, short}
 use Rattle.sim_windows.proofs.stage.Stage.meet.Goals as goal
+
+module _ {Site Row Transfer : Type 0} (engine : Engine Site Row Transfer) where
+  -- the bounds that were set, of the partitions themselves
+  bounds_set_so :
+      (after set : Kept Site Row Transfer) (now parts : List (Result (List Site) Refusal)) → now ≡ parts → standing_of set now ≡ bounded_by (standing_of after now) (bounds_by engine after.distances after.horizon now)
+      → standing_of set parts ≡ bounded_by (standing_of after parts) (bounds_by engine after.distances after.horizon parts)
+  bounds_set_so after set now parts e h = subst (λ ps. standing_of set ps ≡ bounded_by (standing_of after ps) (bounds_by engine after.distances after.horizon ps)) e h
 
 pub deliver-requires : goal.deliver-requires
 deliver-requires g c =
@@ -43,35 +52,17 @@ set_bounds-requires-clause-horizon g c =
 pub invariant_of-result : goal.invariant_of-result
 invariant_of-result g c =
     let i = c.self.inside in
-    let k : Standing _ _ _ = standing_of i.kept i.parts.items in
-    let d : Standing _ _ _ = standing_of c.deliver.new.self c.deliver.new.parts.items in
-    let h : Standing _ _ _ = standing_of c.set_bounds.new.self c.deliver.new.parts.items in
-    let is : h ≡ bounded_by d (bounds_by g.S.Site.engine d.distances d.horizon d.parts) =
-    subst (λ ps. standing_of c.set_bounds.new.self ps ≡ bounded_by (standing_of c.deliver.new.self ps) (bounds_by g.S.Site.engine c.deliver.new.self.distances c.deliver.new.self.horizon ps)) c.deref.ensures.value c.in_ok-set_bounds.ensures in
-    let rests : next_in g.S.Site.engine k ≡ None = ap (λ (x : Standing _ _ _). next_in g.S.Site.engine x) c.self.view_is ∙ c.requires.rests in
-    let left : is_finished_in g.S.Site.engine k ≡ false = ap (λ (x : Standing _ _ _). is_finished_in g.S.Site.engine x) c.self.view_is ∙ c.requires.left in
-    on g.met.S.Site.laws k h (Barrier ∷ []) (met g.met.S.Site.laws k d c.in_ok-deliver.ensures.delivered h is rests left c.self.invariant).0 c.self.invariant
+    (meets_so g.met.S.Site.laws c.args.self (standing_of i.kept i.parts.items) (standing_of c.deliver.new.self c.deliver.new.parts.items) (standing_of c.set_bounds.new.self c.deliver.new.parts.items) c.self.view_is c.in_ok-deliver.ensures.delivered
+    (bounds_set_so g.S.Site.engine c.deliver.new.self c.set_bounds.new.self c.deref.result.now c.deliver.new.parts.items c.deref.ensures.value c.in_ok-set_bounds.ensures) c.requires.rests c.requires.left c.self.invariant).0
 
 pub returns-clause-met : goal.returns-clause-met
 returns-clause-met g c =
     let i = c.self.inside in
-    let k : Standing _ _ _ = standing_of i.kept i.parts.items in
-    let d : Standing _ _ _ = standing_of c.deliver.new.self c.deliver.new.parts.items in
-    let h : Standing _ _ _ = standing_of c.set_bounds.new.self c.deliver.new.parts.items in
-    let is : h ≡ bounded_by d (bounds_by g.S.Site.engine d.distances d.horizon d.parts) =
-    subst (λ ps. standing_of c.set_bounds.new.self ps ≡ bounded_by (standing_of c.deliver.new.self ps) (bounds_by g.S.Site.engine c.deliver.new.self.distances c.deliver.new.self.horizon ps)) c.deref.ensures.value c.in_ok-set_bounds.ensures in
-    let rests : next_in g.S.Site.engine k ≡ None = ap (λ (x : Standing _ _ _). next_in g.S.Site.engine x) c.self.view_is ∙ c.requires.rests in
-    let left : is_finished_in g.S.Site.engine k ≡ false = ap (λ (x : Standing _ _ _). is_finished_in g.S.Site.engine x) c.self.view_is ∙ c.requires.left in
-    subst (λ (x : Standing _ _ _). Follows g.S.Site.engine g.S.Site.conditions x h (Barrier ∷ [])) c.self.view_is (met g.met.S.Site.laws k d c.in_ok-deliver.ensures.delivered h is rests left c.self.invariant).0
+    (meets_so g.met.S.Site.laws c.args.self (standing_of i.kept i.parts.items) (standing_of c.deliver.new.self c.deliver.new.parts.items) (standing_of c.set_bounds.new.self c.deliver.new.parts.items) c.self.view_is c.in_ok-deliver.ensures.delivered
+    (bounds_set_so g.S.Site.engine c.deliver.new.self c.set_bounds.new.self c.deref.result.now c.deliver.new.parts.items c.deref.ensures.value c.in_ok-set_bounds.ensures) c.requires.rests c.requires.left c.self.invariant).1
 
 pub returns-clause-settled : goal.returns-clause-settled
 returns-clause-settled g c =
     let i = c.self.inside in
-    let k : Standing _ _ _ = standing_of i.kept i.parts.items in
-    let d : Standing _ _ _ = standing_of c.deliver.new.self c.deliver.new.parts.items in
-    let h : Standing _ _ _ = standing_of c.set_bounds.new.self c.deliver.new.parts.items in
-    let is : h ≡ bounded_by d (bounds_by g.S.Site.engine d.distances d.horizon d.parts) =
-    subst (λ ps. standing_of c.set_bounds.new.self ps ≡ bounded_by (standing_of c.deliver.new.self ps) (bounds_by g.S.Site.engine c.deliver.new.self.distances c.deliver.new.self.horizon ps)) c.deref.ensures.value c.in_ok-set_bounds.ensures in
-    let rests : next_in g.S.Site.engine k ≡ None = ap (λ (x : Standing _ _ _). next_in g.S.Site.engine x) c.self.view_is ∙ c.requires.rests in
-    let left : is_finished_in g.S.Site.engine k ≡ false = ap (λ (x : Standing _ _ _). is_finished_in g.S.Site.engine x) c.self.view_is ∙ c.requires.left in
-    (met g.met.S.Site.laws k d c.in_ok-deliver.ensures.delivered h is rests left c.self.invariant).1 ∙ ap (λ (x : Standing _ _ _). x.settled) c.self.view_is
+    (meets_so g.met.S.Site.laws c.args.self (standing_of i.kept i.parts.items) (standing_of c.deliver.new.self c.deliver.new.parts.items) (standing_of c.set_bounds.new.self c.deliver.new.parts.items) c.self.view_is c.in_ok-deliver.ensures.delivered
+    (bounds_set_so g.S.Site.engine c.deliver.new.self c.set_bounds.new.self c.deref.result.now c.deliver.new.parts.items c.deref.ensures.value c.in_ok-set_bounds.ensures) c.requires.rests c.requires.left c.self.invariant).2

@@ -15,7 +15,7 @@ use Rattle.sim_exchange.specs.Layout.{IsLayout, Layout, owner_of}
 use Rattle.sim_exchange.specs.Table.{Table, distance_in}
 use Rattle.sim_partition.specs.Sites.{IsPart, due_in}
 use Rattle.sim_windows.specs.Meeting.{due_moments}
-use Rattle.sim_windows.specs.Stages.{Standing, Stands, bounds_by, opened}
+use Rattle.sim_windows.specs.Stages.{Standing, Stands, opened, standing_of}
 use Rattle.sim_windows.proofs.Beginning.{opens}
 use Rattle.sim_windows.proofs.Divided.{made_of, of_lists, opens_part}
 use Rattle.sim_windows.proofs.stage.Stage.open.Goals as goal
@@ -29,16 +29,15 @@ open_parts-requires g c =
     let owner = owner_of c.args.layout in
     of_lists (IsPart engine g.S.Site.conditions) c.in_ok-lists.lists.items (λ p. part_of engine owner p inside.sites.items) c.args.layout.parts (c.in_ok-lists.ensures sound.numbered) (λ p. opens_part g.met.S.Site.laws s sound owner p)
 
-pub bounds_of-requires-clause-dues : goal.bounds_of-requires-clause-dues
-bounds_of-requires-clause-dues g c =
+pub opened-requires-clause-parts : goal.opened-requires-clause-parts
+opened-requires-clause-parts g c =
     let engine = g.S.Site.engine in
     let inside = c.world.inside in
     let s : Setting _ = record { horizon = inside.horizon; opening = inside.sites.items; edges = inside.edges.items } in
     let sound : IsSimulated engine g.S.Site.conditions s = subst (IsSimulated engine g.S.Site.conditions) (sym c.world.view_is) c.requires.simulated in
     let part : ℕ → List _ = λ p. part_of engine (owner_of c.args.layout) p inside.sites.items in
     let parts = made_of part c.args.layout.parts c.in_ok-lists.lists.items c.in_ok-parts.parts.items (c.in_ok-lists.ensures sound.numbered) c.in_ok-parts.ensures in
-    ap (λ xs. length xs) c.deref-3.ensures.value ∙ ap (λ xs. length xs) c.in_ok-dues.ensures ∙ length-map c.deref-2.result.now (λ (p : Result (List _) Refusal). moment_of (due_in engine p))
-    ∙ ap (λ xs. length xs) c.deref-2.ensures.value ∙ ap (λ xs. length xs) parts
+    ap (λ xs. length xs) c.deref-2.ensures.value ∙ ap (λ xs. length xs) parts
     ∙ length-map-range_with_len (λ p. let x : Result (List _) Refusal = Ok (part p) in x) 0 c.args.layout.parts ∙ sym c.in_ok-distances.ensures.parts
 
 module _ {Site Row Transfer : Type 0} {engine : Engine Site Row Transfer} {conditions : Conditions Site Transfer} (basics : SiteLaws engine conditions) where
@@ -55,44 +54,28 @@ module _ {Site Row Transfer : Type 0} {engine : Engine Site Row Transfer} {condi
 
 pub invariant_of-result : goal.invariant_of-result
 invariant_of-result g c =
-    let engine = g.S.Site.engine in
     let inside = c.world.inside in
     let s : Setting _ = record { horizon = inside.horizon; opening = inside.sites.items; edges = inside.edges.items } in
     let table = c.in_ok-distances.distances in
     let parts = c.in_ok-parts.parts.items in
     let layout = c.args.layout in
-    let none : ℕ → List _ = λ p. [] in
-    let rows : map (λ l. l.items) c.in_ok-rows.rows.items ≡ map none (range_with_len 0 (length parts)) =
-    c.in_ok-rows.ensures ∙ ap (λ n. map none (range_with_len 0 n)) (let many : c.len-2.result ≡ length parts = omega (arith, c.len-2.ensures, c.in_ok-parts.parts.ok.0) in many) in
-    let bounds : c.in_ok-bounds.bounds.items ≡ bounds_by engine table s.horizon parts =
-    c.in_ok-bounds.ensures
-    ∙ ap (λ dues. map (λ p. bound_by (distance_in table) s.horizon (λ q. get_or dues q None) p table.parts) (range_with_len 0 table.parts)) (c.deref-3.ensures.value ∙ c.in_ok-dues.ensures ∙ ap (due_moments engine) c.deref-2.ensures.value) in
-    let h : Standing _ _ _ = record { layout = layout; distances = table; horizon = s.horizon; parts = parts; bounds = c.in_ok-bounds.bounds.items; rows = map (λ l. l.items) c.in_ok-rows.rows.items; waiting = c.new-2.result.items; settled = 0 } in
-    let is : h ≡ opened engine layout table s.horizon parts = λ i. record { layout = layout; distances = table; horizon = s.horizon; parts = parts; bounds = bounds i; rows = rows i; waiting = c.new-2.ensures.items i; settled = 0 } in
+    let h : Standing _ _ _ = standing_of c.in_ok-kept.kept parts in
+    let is : h ≡ opened g.S.Site.engine layout table s.horizon parts =
+    subst (λ ps. standing_of c.in_ok-kept.kept ps ≡ opened g.S.Site.engine layout table s.horizon ps) c.deref-2.ensures.value c.in_ok-kept.ensures in
     let ok : IsLayout layout = subst IsLayout c.layout.view_is c.layout.invariant in
     let distances : AreDistances (owner_of layout) inside.edges.items (distance_in table) = subst (λ ways. AreDistances (owner_of layout) ways (distance_in table)) c.deref.ensures.value c.in_ok-distances.ensures.distances in
-    record {
-      setting = c.args.world;
-      picks = [];
-      stands = opens_so g.met.S.Site.laws s c.args.world c.world.view_is c.requires.simulated c.requires.horizon layout ok table c.in_ok-distances.ensures.parts distances c.in_ok-lists.lists.items parts c.in_ok-lists.ensures c.in_ok-parts.ensures h is;
-    }
+    record { setting = c.args.world; picks = []; stands = opens_so g.met.S.Site.laws s c.args.world c.world.view_is c.requires.simulated c.requires.horizon layout ok table c.in_ok-distances.ensures.parts distances c.in_ok-lists.lists.items parts c.in_ok-lists.ensures c.in_ok-parts.ensures h is }
 
 pub returns-clause-stands : goal.returns-clause-stands
 returns-clause-stands g c =
-    let engine = g.S.Site.engine in
     let inside = c.world.inside in
     let s : Setting _ = record { horizon = inside.horizon; opening = inside.sites.items; edges = inside.edges.items } in
     let table = c.in_ok-distances.distances in
     let parts = c.in_ok-parts.parts.items in
     let layout = c.args.layout in
-    let none : ℕ → List _ = λ p. [] in
-    let rows : map (λ l. l.items) c.in_ok-rows.rows.items ≡ map none (range_with_len 0 (length parts)) =
-    c.in_ok-rows.ensures ∙ ap (λ n. map none (range_with_len 0 n)) (let many : c.len-2.result ≡ length parts = omega (arith, c.len-2.ensures, c.in_ok-parts.parts.ok.0) in many) in
-    let bounds : c.in_ok-bounds.bounds.items ≡ bounds_by engine table s.horizon parts =
-    c.in_ok-bounds.ensures
-    ∙ ap (λ dues. map (λ p. bound_by (distance_in table) s.horizon (λ q. get_or dues q None) p table.parts) (range_with_len 0 table.parts)) (c.deref-3.ensures.value ∙ c.in_ok-dues.ensures ∙ ap (due_moments engine) c.deref-2.ensures.value) in
-    let h : Standing _ _ _ = record { layout = layout; distances = table; horizon = s.horizon; parts = parts; bounds = c.in_ok-bounds.bounds.items; rows = map (λ l. l.items) c.in_ok-rows.rows.items; waiting = c.new-2.result.items; settled = 0 } in
-    let is : h ≡ opened engine layout table s.horizon parts = λ i. record { layout = layout; distances = table; horizon = s.horizon; parts = parts; bounds = bounds i; rows = rows i; waiting = c.new-2.ensures.items i; settled = 0 } in
+    let h : Standing _ _ _ = standing_of c.in_ok-kept.kept parts in
+    let is : h ≡ opened g.S.Site.engine layout table s.horizon parts =
+    subst (λ ps. standing_of c.in_ok-kept.kept ps ≡ opened g.S.Site.engine layout table s.horizon ps) c.deref-2.ensures.value c.in_ok-kept.ensures in
     let ok : IsLayout layout = subst IsLayout c.layout.view_is c.layout.invariant in
     let distances : AreDistances (owner_of layout) inside.edges.items (distance_in table) = subst (λ ways. AreDistances (owner_of layout) ways (distance_in table)) c.deref.ensures.value c.in_ok-distances.ensures.distances in
     opens_so g.met.S.Site.laws s c.args.world c.world.view_is c.requires.simulated c.requires.horizon layout ok table c.in_ok-distances.ensures.parts distances c.in_ok-lists.lists.items parts c.in_ok-lists.ensures c.in_ok-parts.ensures h is

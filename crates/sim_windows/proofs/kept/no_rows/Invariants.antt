@@ -1,6 +1,6 @@
 use Rattle.std.proofs.Common.{[], map, ◌≡◌}
 use Rattle.std.specs.List.{range_with_len}
-use Rattle.sim_windows.proofs.stage.no_rows.Given as goal
+use Rattle.sim_windows.proofs.kept.no_rows.Given as goal
 
 -- those so far
 abbrev pub invariant-loop : goal.invariant-loop

@@ -3,7 +3,7 @@ use Rattle.std.specs.Prelude.{List, Vec, [], map, ℕ, ◌++◌, ◌∷◌}
 use Rattle.std.proofs.Common.{Global, ap, arith, sym, ◌∙◌}
 use Rattle.std.proofs.lemmas.List.FromFn.{map-range_with_len_more}
 use Rattle.sim_windows.proofs.Places.{map_push}
-use Rattle.sim_windows.proofs.stage.no_rows.Goals as goal
+use Rattle.sim_windows.proofs.kept.no_rows.Goals as goal
 
 pub loop-preserved : goal.loop-preserved
 loop-preserved given c =
