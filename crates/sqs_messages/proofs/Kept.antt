@@ -14,6 +14,7 @@ use Rattle.sqs_messages.specs.declared.order.Order.{Order}
 use Rattle.sqs_messages.specs.declared.slot.State.{State}
 use Rattle.sqs_messages.specs.Heads.{told}
 use Rattle.sqs_messages.specs.Marked.{IsDue, restamped, unhosted}
+use Rattle.sqs_messages.specs.Orders.{AreInOrder, IsOrderOf}
 use Rattle.sqs_messages.specs.Slots.{Shelved, is_numbered, restated}
 use Rattle.sqs_messages.specs.Tables.{AreKept}
 use Rattle.sqs_redrive.specs.declared.settings.QueueSettings.{QueueSettings}
@@ -44,5 +45,9 @@ added_dues site retention items after m due e is h =
     dues_kept site retention (items ++ s ∷ []) after (e ∙ sym (map-append unhosted items (s ∷ []))) (All-push (IsDue site retention) items s h (is s refl refl))
 
 -- a table for which room was made
-pub made_ready : (site : ℕ) (settings : QueueSettings) (items after : List Shelved) (next end : ℕ) (order : Order) → after ≡ items → end ≡ next → AreKept site settings items next order → AreKept site settings after end order
-made_ready site settings items after next end order e f h = subst (λ (xs : List Shelved). AreKept site settings xs end order) (sym e) (subst (λ n. AreKept site settings items n order) (sym f) h)
+pub roomed :
+    (site : ℕ) (settings : QueueSettings) (items after : List Shelved) (next end : ℕ) (before order : Order) → after ≡ items → end ≡ next → AreKept site settings items next before → IsOrderOf settings.kind order
+    → AreInOrder items next order → AreKept site settings after end order
+roomed site settings items after next end before order e f h kind ordered =
+    let made : AreKept site settings items next order = record { settings_in_range = h.settings_in_range; arrivals_in_range = h.arrivals_in_range; dues = h.dues; order_of = kind; ordered = ordered } in
+    subst (λ (xs : List Shelved). AreKept site settings xs end order) (sym e) (subst (λ n. AreKept site settings items n order) (sym f) made)
