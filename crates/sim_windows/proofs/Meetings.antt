@@ -11,7 +11,7 @@ use Rattle.sim_clock.specs.declared.refusal.Refusal.{Refusal}
 use Rattle.sim_clock.specs.Order.{inserted_by, key_cmp}
 use Rattle.sim_exchange.specs.Layout.{owner_of}
 use Rattle.sim_exchange.specs.Table.{Table, distance_in}
-use Rattle.sim_engine.specs.Bounds.{bound_by, moment_of, own_bound}
+use Rattle.sim_engine.specs.Bounds.{bound_by, least_bound, moment_of, own_bound}
 use Rattle.sim_engine.specs.Exchange.{exchanged, sorted, sorted_into, to_part}
 use Rattle.sim_engine.specs.Machine.{Machine, flushed, has_ready, is_finished, with_barrier}
 use Rattle.sim_engine.specs.Parts.{part_due, part_of}
@@ -190,4 +190,5 @@ module _ {Site Row Transfer : Type 0} {engine : Engine Site Row Transfer} {condi
         stands = stands_on basics s done g st (Barrier ∷ []) (sym (more_picks basics s done g st (Barrier ∷ []) ∙ ap (λ b. if b then m else with_barrier engine rule m) h));
         same = record { layout = refl; distances = refl };
         effect = sym (ap (λ b. not b) h);
+        settled = sym (ap (λ b. if not b then least_bound s.horizon m.bounds g.layout.parts else g.settled) h);
       }

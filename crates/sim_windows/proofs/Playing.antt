@@ -7,7 +7,7 @@ use Rattle.sim_exchange.specs.Table.{Table, distance_in}
 use Rattle.sim_engine.specs.Bounds.{own_bound}
 use Rattle.sim_engine.specs.Machine.{Machine, effects, played, played_all, takes_effect}
 use Rattle.sim_engine.specs.declared.picks.Pick.{Pick}
-use Rattle.sim_windows.specs.Stages.{Played, Plays, Standing, Stands, StopsAt, Takes, Tells, Took, machine_in}
+use Rattle.sim_windows.specs.Stages.{Played, Plays, Standing, Stands, StopsAt, Takes, Tells, Took, ended_after, ended_by, machine_in}
 use Rattle.sim_windows.proofs.Standing.{more_picks}
 use Rattle.sim_engine.specs.Setting.{Setting}
 use Rattle.sim_engine.specs.Engine.{Engine}
@@ -34,9 +34,18 @@ module _ {Site Row Transfer : Type 0} {engine : Engine Site Row Transfer} {condi
       let t : Bool = takes_effect engine owner horizon m y in
       ap (one_more t) (effects_push owner horizon rule ys x n) ∙ swapped_counts t (takes_effect engine owner horizon (played_all engine owner horizon rule ys n) x) (effects engine owner horizon rule ys n)
 
+  -- some picks, and then others, end what the others end where the first came to
+  pub ended_append :
+      (layout : Layout) (horizon : ℕ) (rule : List Site → ℕ → ℕ) (xs ys : List Pick) (m : Machine engine) (before : ℕ)
+      → ended_after engine layout horizon rule (xs ++ ys) m before
+      ≡ ended_after engine layout horizon rule ys (played_all engine (owner_of layout) horizon rule xs m) (ended_after engine layout horizon rule xs m before)
+  ended_append layout horizon rule [] ys m before = refl
+  ended_append layout horizon rule (x ∷ xs) ys m before =
+      ended_append layout horizon rule xs ys (played engine (owner_of layout) horizon rule m x) (ended_by engine layout horizon m x before)
+
   -- nothing yet
   pub played_none : (s : Setting Site) (done : List Pick) (g : Standing Site Row Transfer) → Stands engine conditions s done g → Stands engine conditions s (done ++ []) g → Played engine conditions g g s done [] 0
-  played_none s done g st on = record { stands = on; same = record { layout = refl; distances = refl }; effects = refl }
+  played_none s done g st on = record { stands = on; same = record { layout = refl; distances = refl }; effects = refl; settled = refl }
 
   -- a pick more
   pub played_on :
@@ -50,10 +59,17 @@ module _ {Site Row Transfer : Type 0} {engine : Engine Site Row Transfer} {condi
       ∙ ap (λ (d : Table). takes_effect engine (owner_of g.layout) s.horizon (machine_in engine g.layout d s (done ++ more)) x) p.same.distances in
       let here : took ≡ takes_effect engine (owner_of g.layout) s.horizon (played_all engine (owner_of g.layout) s.horizon rule more m) x =
       there ∙ ap (λ (y : Machine engine). takes_effect engine (owner_of g.layout) s.horizon y x) (more_picks basics s done g st more) in
+      let ended : k.settled ≡ ended_by engine g.layout s.horizon (played_all engine (owner_of g.layout) s.horizon rule more m) x h.settled =
+      t.settled ∙ ap (λ (l : Layout). ended_by engine l s.horizon (machine_in engine l h.distances s (done ++ more)) x h.settled) p.same.layout
+      ∙ ap (λ (d : Table). ended_by engine g.layout s.horizon (machine_in engine g.layout d s (done ++ more)) x h.settled) p.same.distances
+      ∙ ap (λ (y : Machine engine). ended_by engine g.layout s.horizon y x h.settled) (more_picks basics s done g st more) in
       record {
         stands = subst (λ ps. Stands engine conditions s ps k) (append_assoc done more (x ∷ [])) t.stands;
         same = record { layout = t.same.layout ∙ p.same.layout; distances = t.same.distances ∙ p.same.distances };
         effects = ap (λ b. one_more b count) here ∙ ap (one_more (takes_effect engine (owner_of g.layout) s.horizon (played_all engine (owner_of g.layout) s.horizon rule more m) x)) p.effects ∙ sym (effects_push (owner_of g.layout) s.horizon rule more x m);
+        settled =
+            ended ∙ ap (ended_by engine g.layout s.horizon (played_all engine (owner_of g.layout) s.horizon rule more m) x) p.settled
+            ∙ sym (ended_append g.layout s.horizon rule more (x ∷ []) m g.settled);
       }
 
   -- wherever it stands

@@ -1,11 +1,12 @@
 -- What a stage does, by what its fields come to.
 use Rattle.std.specs.Option.{is_some}
-use Rattle.std.specs.Prelude.{All, IfOk, List, None, Ok, Result, Some, Vec, [], false, filter, get_or, length, map, not, set, true, ℕ, ◌++◌, ◌<◌, ◌∷◌, ◌≡◌, ◌≤◌, ◌||◌}
+use Rattle.std.specs.Prelude.{All, IfOk, List, None, Ok, Result, Some, Vec, [], false, filter, get_or, if◌then◌else◌, length, map, not, set, true, ℕ, ◌++◌, ◌<◌, ◌∷◌, ◌≡◌, ◌≤◌, ◌||◌}
 use Rattle.std.proofs.Common.{Global, ap, arith, inl, inr, refl, subst, sym, true≢false, ◌∙◌}
 use Rattle.std.proofs.lemmas.Bool.{cases_lt}
 use Rattle.std.proofs.lemmas.List.{append-nil, get_or-map, length-map, map-set}
 use Rattle.sim_clock.specs.declared.key.Key.{Key}
 use Rattle.sim_clock.specs.declared.refusal.Refusal.{Refusal}
+use Rattle.sim_engine.specs.Bounds.{least_bound}
 use Rattle.sim_engine.specs.Engine.{Engine}
 use Rattle.sim_engine.specs.Laws.{Conditions, SiteLaws}
 use Rattle.sim_engine.specs.Limits.{IsOver, StopsWhere, most_count}
@@ -20,11 +21,11 @@ use Rattle.sim_engine.specs.declared.picks.Pick.TheVariants.{Barrier, Part}
 use Rattle.sim_exchange.specs.Layout.{owner_of}
 use Rattle.sim_partition.specs.Sites.{AreOfPast, HasDue}
 use Rattle.sim_partition.specs.Steps.{StopsStep}
-use Rattle.sim_windows.specs.Stages.{Follows, IsStanding, Settles, Standing, Stands, Takes, Tells, Took, bounded_by, bounds_by, delivered_by, front_in, is_finished_in, machine_at, next_in, ready_in, settled_by, standing_of, takes_effect_in}
+use Rattle.sim_windows.specs.Stages.{Follows, IsStanding, Settles, Standing, Stands, Takes, Tells, Took, bounded_by, bounds_by, delivered_by, end_in, front_in, is_finished_in, machine_at, next_in, ready_in, settled_by, standing_of, takes_effect_in, up_to}
 use Rattle.sim_windows.specs.declared.kept.Kept.{Kept}
 use Rattle.sim_windows.proofs.Fronts.{next_in as next_rows, settles}
 use Rattle.sim_windows.proofs.Meetings.{barrier_none, bounds_in, live, many_delivered, meets, parts_in}
-use Rattle.sim_windows.proofs.Reading.{finished_is, front_is, has_next, past_parts, ready_is}
+use Rattle.sim_windows.proofs.Reading.{end_is, finished_is, front_is, has_next, past_parts, ready_is}
 use Rattle.sim_windows.proofs.Standing.{many_parts, many_rows, part_at}
 use Rattle.sim_windows.proofs.Stepping.{due_is, has_due, some_key, stepped_by, steps, stops_over, took_none}
 
@@ -105,6 +106,7 @@ module _ {Site Row Transfer : Type 0} {engine : Engine Site Row Transfer} {condi
             stands = subst (Stands engine conditions s (done ++ Part p ∷ [])) (sym same) (steps basics s done g st p h.within h.key h.ready_is early);
             same = record { layout = refl; distances = refl };
             effect = sym (ap is_some (sym (ready_is basics s done g st p)) ∙ some);
+            settled = refl;
           }
 
   -- a partition that has nothing to handle
@@ -120,7 +122,7 @@ module _ {Site Row Transfer : Type 0} {engine : Engine Site Row Transfer} {condi
           same = record { layout = ap (λ (x : Standing Site Row Transfer). x.layout) is; distances = ap (λ (x : Standing Site Row Transfer). x.distances) is };
           count = ap (λ (x : Standing Site Row Transfer). length x.parts) is;
         };
-        front = ap (λ (x : Standing Site Row Transfer). x.settled) is ∙ at;
+        is = is ∙ ap (settled_by engine g) at;
         next = λ s on r whole.
             ap (λ z. filter (is_before engine g.settled) r.rows ++ z) told
             ∙ next_rows basics s on.picks g on.stands moment (at ∙ front_is basics s on.picks g on.stands) r whole
@@ -146,24 +148,41 @@ module _ {Site Row Transfer : Type 0} {engine : Engine Site Row Transfer} {condi
       ∙ ap not (sym (finished_is basics s done g st) ∙ left)
 
   -- one after another
-  pub both : (g h k : Standing Site Row Transfer) (more : List Pick) → Follows engine conditions g h more → Follows engine conditions h k [] → Follows engine conditions g k more
+  pub both : (g h k : Standing Site Row Transfer) (more : List Pick) → Follows engine conditions g h [] → Follows engine conditions h k more → Follows engine conditions g k more
   both g h k more first second = record {
-    stands = λ s done st. subst (λ ps. Stands engine conditions s ps k) (append-nil (done ++ more)) (second.stands s (done ++ more) (first.stands s done st));
+    stands = λ s done st. second.stands s done (subst (λ ps. Stands engine conditions s ps h) (append-nil done) (first.stands s done st));
     same = record { layout = second.same.layout ∙ first.same.layout; distances = second.same.distances ∙ first.same.distances };
     count = second.count ∙ first.count;
   }
 
-  -- a barrier that takes effect, with its rows
-  pub barrier : (g h k : Standing Site Row Transfer) → next_in engine g ≡ None → is_finished_in engine g ≡ false → Follows engine conditions g h (Barrier ∷ []) → Follows engine conditions h k [] → Takes engine conditions g k Barrier true
-  barrier g h k rests left first second s done st =
-      let all : Follows engine conditions g k (Barrier ∷ []) = both g h k (Barrier ∷ []) first second in
-      record { stands = all.stands s done st; same = all.same; effect = sym (takes g s done st rests left) }
+  -- a barrier that takes effect once the rows of the round that it ends are settled
+  pub barrier :
+      (g h k : Standing Site Row Transfer) (rows : List Row) → next_in engine g ≡ None → is_finished_in engine g ≡ false → Settles engine conditions g h rows → Follows engine conditions h k (Barrier ∷ []) → k.settled ≡ h.settled
+      → Takes engine conditions g k Barrier true
+  barrier g h k rows rests left settles second kept s done st =
+      let all : Follows engine conditions g k (Barrier ∷ []) = both g h k (Barrier ∷ []) settles.follows second in
+      let m : Machine engine = machine_at engine g s done in
+      let effect : takes_effect_in engine g s done Barrier ≡ true = takes g s done st rests left in
+      record {
+        stands = all.stands s done st;
+        same = all.same;
+        effect = sym effect;
+        settled =
+            kept ∙ ap (λ (x : Standing Site Row Transfer). x.settled) settles.is ∙ ap (up_to (end_in g)) rests ∙ end_is basics s done g st
+            ∙ sym (ap (λ b. if b then least_bound s.horizon m.bounds g.layout.parts else g.settled) effect);
+      }
+
+  -- what is settled changes nothing that may be handled or is left
+  pub rests_so : (g h : Standing Site Row Transfer) (rows : List Row) → Settles engine conditions g h rows → next_in engine g ≡ None → next_in engine h ≡ None
+  rests_so g h rows settles rests = ap (next_in engine) settles.is ∙ rests
+
+  pub left_so : (g h : Standing Site Row Transfer) (rows : List Row) → Settles engine conditions g h rows → is_finished_in engine g ≡ false → is_finished_in engine h ≡ false
+  left_so g h rows settles left = ap (is_finished_in engine) settles.is ∙ left
 
   -- rows that are settled follow those before
-  pub tells : (g h k : Standing Site Row Transfer) (more : List Pick) (told rows all : List Row) → Follows engine conditions g h more → h.settled ≡ g.settled → Settles engine conditions h k rows → all ≡ told ++ rows → Tells engine conditions g told k all
-  tells g h k more told rows all first same settles is s on before r w =
-      is ∙ ap (λ z. z ++ rows) (before r w ∙ ap (λ n. filter (is_before engine n) r.rows) (sym same))
-      ∙ settles.next s (record { picks = on.picks ++ more; stands = first.stands s on.picks on.stands }) r w
+  pub tells : (g h k : Standing Site Row Transfer) (told rows all : List Row) → Settles engine conditions g h rows → k.settled ≡ h.settled → all ≡ told ++ rows → Tells engine conditions g told k all
+  tells g h k told rows all settles same is s on before r w =
+      is ∙ ap (λ z. z ++ rows) (before r w) ∙ settles.next s on r w ∙ ap (λ n. filter (is_before engine n) r.rows) (sym same)
 
   -- where no more is settled, the rows are the same
   pub tells_same : (g h : Standing Site Row Transfer) (told : List Row) → h.settled ≡ g.settled → Tells engine conditions g told h told

@@ -144,6 +144,7 @@ module _ {Site Row Transfer : Type 0} {engine : Engine Site Row Transfer} {condi
         stands = stands_on basics s done g st (Part p ∷ []) (sym (more_picks basics s done g st (Part p ∷ []) ∙ ap (part_played engine (owner_of g.layout) p m) none));
         same = record { layout = refl; distances = refl };
         effect = sym (ap is_some none);
+        settled = refl;
       }
 
   module _ (s : Setting Site) (done : List Pick) (g : Standing Site Row Transfer) (st : Stands engine conditions s done g) (p : ℕ) (l : p < g.layout.parts) (key : Key) (ready_is : ready engine (owner_of g.layout) p (machine_in engine g.layout g.distances s done) ≡ Some key) where

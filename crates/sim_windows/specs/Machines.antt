@@ -1,5 +1,5 @@
 -- What is seen of a machine of partitions, and of which setting and picks it is.
-use Rattle.std.specs.Prelude.{Err, List, Ok, Result, ℕ, ◌≡◌}
+use Rattle.std.specs.Prelude.{Err, List, Ok, Result, [], ℕ, ◌≡◌}
 use Rattle.sim_clock.specs.declared.refusal.Refusal.{Refusal}
 use Rattle.sim_engine.specs.Bounds.{least_bound}
 use Rattle.sim_engine.specs.Engine.{Engine}
@@ -8,7 +8,7 @@ use Rattle.sim_engine.specs.Setting.{IsRunOf, Setting}
 use Rattle.sim_engine.specs.World.{Run}
 use Rattle.sim_engine.specs.declared.picks.Pick.{Pick}
 use Rattle.sim_exchange.specs.Layout.{Layout}
-use Rattle.sim_windows.specs.Stages.{AreSettled, Standing, Stands, machine_at}
+use Rattle.sim_windows.specs.Stages.{AreSettled, Standing, Stands, ended_in, machine_at}
 
 -- how a machine stands, or the refusal that spent it; the rows that were settled, and the least of its bounds
 pub record Seen (Site Row Transfer : Type 0) : Type 0 where
@@ -25,12 +25,13 @@ module _ {Site Row Transfer : Type 0} (engine : Engine Site Row Transfer) where
     pub sites_are : sites ≡ run.sites
 
 module _ {Site Row Transfer : Type 0} (engine : Engine Site Row Transfer) (conditions : Conditions Site Transfer) where
-  -- it lives, split so, and stands as the definitions' machine of a setting does after some picks
+  -- it lives, split so, and stands as the definitions' machine of a setting does after some picks; its rows are those of the one-list run from before the least bound of the round that the last barrier ended
   pub record IsMachineOf (layout : Layout) (s : Setting Site) (picks : List Pick) (x : Seen Site Row Transfer) : Type 0 where
     pub standing : Standing Site Row Transfer
     pub lives : x.state ≡ Ok standing
     pub split : standing.layout ≡ layout
     pub stands : Stands engine conditions s picks standing
+    pub ended : standing.settled ≡ ended_in engine standing s [] picks 0
     pub settled : AreSettled engine s standing.settled x.rows
     pub end : x.end ≡ least_bound s.horizon (machine_at engine standing s picks).bounds layout.parts
 

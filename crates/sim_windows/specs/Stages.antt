@@ -1,7 +1,7 @@
 -- What is kept of a machine of partitions, and which state of the definitions' machine it shows.
 use Rattle.std.specs.List.{list_all, range_with_len}
 use Rattle.std.specs.Option.{is_some}
-use Rattle.std.specs.Prelude.{All, Bool, List, None, Ok, Option, Result, Some, [], filter, get_or, length, map, min, nat_le, not, suc, zero, ℕ, ◌&&◌, ◌++◌, ◌+◌, ◌<◌, ◌∷◌, ◌≡◌, ◌≤◌}
+use Rattle.std.specs.Prelude.{All, Bool, List, None, Ok, Option, Result, Some, [], filter, get_or, if◌then◌else◌, length, map, min, nat_le, not, suc, zero, ℕ, ◌&&◌, ◌++◌, ◌+◌, ◌<◌, ◌∷◌, ◌≡◌, ◌≤◌}
 use Rattle.sim_clock.specs.declared.key.Key.{Key}
 use Rattle.sim_clock.specs.declared.refusal.Refusal.{Refusal}
 use Rattle.sim_clock.specs.Order.{due_before, lesser}
@@ -11,7 +11,7 @@ use Rattle.sim_engine.specs.Exchange.{exchanged}
 use Rattle.sim_engine.specs.Kept.{IsAllFrom}
 use Rattle.sim_engine.specs.Laws.{Conditions}
 use Rattle.sim_engine.specs.Limits.{IsOver, StopsWhere, most_count}
-use Rattle.sim_engine.specs.Machine.{Machine, effects, flushed, takes_effect}
+use Rattle.sim_engine.specs.Machine.{Machine, effects, flushed, played, takes_effect}
 use Rattle.sim_engine.specs.Parts.{part_of}
 use Rattle.sim_engine.specs.Prefixes.{is_before}
 use Rattle.sim_engine.specs.Setting.{IsRunOf, Setting}
@@ -19,6 +19,7 @@ use Rattle.sim_engine.specs.Simulated.{IsSimulated}
 use Rattle.sim_engine.specs.Theorems.{machine_of, rows_by}
 use Rattle.sim_engine.specs.World.{Run, arrival, due_by}
 use Rattle.sim_engine.specs.declared.picks.Pick.{Pick}
+use Rattle.sim_engine.specs.declared.picks.Pick.TheVariants.{Barrier, Part}
 use Rattle.sim_exchange.specs.Layout.{IsLayout, Layout, owner_of}
 use Rattle.sim_exchange.specs.Table.{Table, distance_in}
 use Rattle.sim_partition.specs.Sites.{due_in}
@@ -142,6 +143,24 @@ module _ {Site Row Transfer : Type 0} (engine : Engine Site Row Transfer) where
   abbrev pub effects_in : Standing Site Row Transfer → Setting Site → List Pick → List Pick → ℕ
   effects_in g s picks more = effects engine (owner_of g.layout) s.horizon (own_bound engine (owner_of g.layout) (distance_in g.distances) g.layout.parts s.horizon) more (machine_in g.layout g.distances s picks)
 
+  -- the least bound of the round that a pick ends; that of the one before, where it ends none
+  abbrev pub ended_by : Layout → ℕ → Machine engine → Pick → ℕ → ℕ
+  ended_by layout horizon m (Part p) before = before
+  ended_by layout horizon m Barrier before =
+      if takes_effect engine (owner_of layout) horizon m Barrier then least_bound horizon m.bounds layout.parts else before
+
+  -- the least bound of the last round that some picks end
+  abbrev pub ended_after : Layout → ℕ → (List Site → ℕ → ℕ) → List Pick → Machine engine → ℕ → ℕ
+  ended_after layout horizon rule [] m before = before
+  ended_after layout horizon rule (x ∷ xs) m before =
+      ended_after layout horizon rule xs (played engine (owner_of layout) horizon rule m x) (ended_by layout horizon m x before)
+
+  -- the same from where a machine stands after some picks
+  abbrev pub ended_in : Standing Site Row Transfer → Setting Site → List Pick → List Pick → ℕ → ℕ
+  ended_in g s picks more before =
+      ended_after g.layout s.horizon (own_bound engine (owner_of g.layout) (distance_in g.distances) g.layout.parts s.horizon) more
+      (machine_in g.layout g.distances s picks) before
+
   -- the bounds that are set by what is due in some partitions
   abbrev pub bounds_by : Table → ℕ → List (Result (List Site) Refusal) → List ℕ
   bounds_by table horizon parts =
@@ -201,17 +220,19 @@ module _ {Site Row Transfer : Type 0} (engine : Engine Site Row Transfer) (condi
     pub picks : List Pick
     pub stands : Stands setting picks g
 
-  -- what comes of one pick more
+  -- what comes of one pick more: whether it took effect, and how much is settled
   pub record Took (g h : Standing Site Row Transfer) (s : Setting Site) (picks : List Pick) (x : Pick) (took : Bool) : Type 0 where
     pub stands : Stands s (picks ++ x ∷ []) h
     pub same : IsSame g h
     pub effect : took ≡ takes_effect_in engine g s picks x
+    pub settled : h.settled ≡ ended_by engine g.layout s.horizon (machine_at engine g s picks) x g.settled
 
-  -- what comes of some picks more, and how many took effect
+  -- what comes of some picks more: how many took effect, and how much is settled
   pub record Played (g h : Standing Site Row Transfer) (s : Setting Site) (picks more : List Pick) (count : ℕ) : Type 0 where
     pub stands : Stands s (picks ++ more) h
     pub same : IsSame g h
     pub effects : count ≡ effects_in engine g s picks more
+    pub settled : h.settled ≡ ended_in engine g s picks more g.settled
 
   -- wherever the one stands, the other does, those picks on
   pub record Follows (g h : Standing Site Row Transfer) (more : List Pick) : Type 0 where
@@ -248,7 +269,7 @@ module _ {Site Row Transfer : Type 0} (engine : Engine Site Row Transfer) (condi
   -- the rows that nothing may come before any more are settled, and it stands as it did
   pub record Settles (g h : Standing Site Row Transfer) (rows : List Row) : Type 0 where
     pub follows : Follows g h []
-    pub front : h.settled ≡ front_in engine g
+    pub is : h ≡ settled_by engine g (front_in engine g)
     pub next : (s : Setting Site) → StandsOn s g → AreNext engine s g.settled h.settled rows
 
   -- these rows are left, and these are the sites of the last world

@@ -244,8 +244,8 @@ impl<S: Site> Stage<S> {
         Ok(Stage { kept, parts })
     }
 
-    // A barrier, if no partition may go on and something is left; the rows that are settled are added
-    // to those before. Answers whether it was one.
+    // A barrier, if no partition may go on and something is left; the rows from before the least bound of
+    // the round that it ends are settled, and added to those before. Answers whether it was one.
     fn barrier(self, told: &mut Vec<S::Row>) -> Result<(Stage<S>, bool), Refusal>
         ensures took { IfOk result (λ r. Takes S.engine S.conditions self r.0 Barrier r.1) }
         ensures tells { IfOk result (λ r. Tells S.engine S.conditions self told.old.items r.0 told.new.items) }
@@ -254,7 +254,8 @@ impl<S: Site> Stage<S> {
         if self.next_ready().is_some() || self.is_finished() {
             return Ok((self, false));
         }
-        let (stage, mut rows) = self.meet()?.settle()?;
+        let (settled, mut rows) = self.settle()?;
+        let stage = settled.meet()?;
         told.append(&mut rows)?;
         Ok((stage, true))
     }

@@ -22,6 +22,7 @@ module _ {Site Row Transfer : Type 0} {engine : Engine Site Row Transfer} {condi
     lives = refl;
     split = split;
     stands = st;
+    ended = fresh;
     settled = λ r w. none ∙ sym (none_before_zero basics r.rows) ∙ ap (λ k. filter (is_before engine k) r.rows) (sym fresh);
     end = ends ∙ end_is basics s [] g st ∙ ap (λ (l : Layout). least_bound s.horizon (machine_at engine g s []).bounds l.parts) split;
   }

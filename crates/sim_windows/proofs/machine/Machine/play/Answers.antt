@@ -1,14 +1,16 @@
-use Rattle.std.specs.Prelude.{Err, List, Ok, Result, ℕ, ◌++◌, ◌≡◌}
+use Rattle.std.specs.Prelude.{Err, List, Ok, Result, [], ℕ, ◌++◌, ◌≡◌}
 use Rattle.std.proofs.Common.{ap, refl, subst, sym, ◌∙◌}
 use Rattle.sim_clock.specs.declared.refusal.Refusal.{Refusal}
-use Rattle.sim_engine.specs.Bounds.{least_bound}
+use Rattle.sim_engine.specs.Bounds.{least_bound, own_bound}
 use Rattle.sim_engine.specs.Engine.{Engine}
 use Rattle.sim_engine.specs.Laws.{Conditions, SiteLaws}
 use Rattle.sim_engine.specs.Setting.{Setting}
 use Rattle.sim_engine.specs.declared.picks.Pick.{Pick}
-use Rattle.sim_exchange.specs.Layout.{Layout}
+use Rattle.sim_exchange.specs.Layout.{Layout, owner_of}
+use Rattle.sim_exchange.specs.Table.{Table, distance_in}
 use Rattle.sim_windows.specs.Machines.{IsMachine, IsMachineOf, IsMachineUnless, Seen}
-use Rattle.sim_windows.specs.Stages.{Played, Plays, Standing, Stands, Tells, effects_in, end_in, machine_at}
+use Rattle.sim_windows.specs.Stages.{IsSame, Played, Plays, Standing, Stands, Tells, effects_in, end_in, ended_after, ended_in, machine_at, machine_in}
+use Rattle.sim_windows.proofs.Playing.{ended_append}
 use Rattle.sim_windows.proofs.Reading.{end_is, same_state}
 use Rattle.sim_windows.proofs.machine.Machine.play.Goals as goal
 
@@ -17,6 +19,16 @@ never : {A : Type 0} {e : Refusal} {a : A} → (let x : Result A Refusal = Err e
 never h = cc
 
 module _ {Site Row Transfer : Type 0} {engine : Engine Site Row Transfer} {conditions : Conditions Site Transfer} (basics : SiteLaws engine conditions) where
+  -- what ended by some picks and by some more
+  ended_so :
+      (s : Setting Site) (done more : List Pick) (g h : Standing Site Row Transfer) → IsSame g h → g.settled ≡ ended_in engine g s [] done 0 → h.settled ≡ ended_in engine g s done more g.settled
+      → h.settled ≡ ended_in engine h s [] (done ++ more) 0
+  ended_so s done more g h same before after =
+      let rule : Layout → Table → List Site → ℕ → ℕ = λ l d. own_bound engine (owner_of l) (distance_in d) l.parts s.horizon in
+      let there : Layout → Table → ℕ = λ l d. ended_after engine l s.horizon (rule l d) (done ++ more) (machine_in engine l d s []) 0 in
+      after ∙ ap (ended_in engine g s done more) before ∙ sym (ended_append basics g.layout s.horizon (rule g.layout g.distances) done more (machine_in engine g.layout g.distances s []) 0)
+      ∙ ap (λ l. there l g.distances) (sym same.layout) ∙ ap (there h.layout) (sym same.distances)
+
   -- a machine after some picks more
   after :
       (layout : Layout) (s : Setting Site) (done more : List Pick) (x : Seen Site Row Transfer) (was : IsMachineOf engine conditions layout s done x) (g h : Standing Site Row Transfer) (count end : ℕ) (rows : List Row)
@@ -31,6 +43,7 @@ module _ {Site Row Transfer : Type 0} {engine : Engine Site Row Transfer} {condi
           lives = refl;
           split = split;
           stands = p.stands;
+          ended = ended_so s done more was.standing h p.same was.ended p.settled;
           settled = subst (λ (y : Standing Site Row Transfer). Tells engine conditions y x.rows h rows) same tells s (record { picks = done; stands = was.stands }) was.settled;
           end = ends ∙ end_is basics s (done ++ more) h p.stands ∙ ap (λ (l : Layout). least_bound s.horizon (machine_at engine h s (done ++ more)).bounds l.parts) split;
         },

@@ -1,10 +1,9 @@
 use Rattle.std.specs.Option.{is_some}
-use Rattle.std.specs.Prelude.{[], ◌||◌, ◌∷◌, ◌≡◌}
+use Rattle.std.specs.Prelude.{◌||◌, ◌≡◌}
 use Rattle.std.proofs.Common.{ap, sym, ◌∙◌}
-use Rattle.sim_engine.specs.declared.picks.Pick.TheVariants.{Barrier}
 use Rattle.sim_engine.proofs.Machines.{not_some}
 use Rattle.sim_windows.specs.Stages.{is_finished_in, next_in}
-use Rattle.sim_windows.proofs.Stepped.{barrier, no_barrier, tells}
+use Rattle.sim_windows.proofs.Stepped.{barrier, left_so, no_barrier, rests_so, tells}
 use Rattle.sim_windows.proofs.stage.Stage.barrier.Goals.{then-is_some-via-else-is_some+then-is_finished, then-is_some-via-then-is_some}
 use Rattle.sim_windows.proofs.stage.Stage.barrier.Goals as goal
 
@@ -20,15 +19,21 @@ returns-then-is_some-clause-took g c =
     ])
 
 pub meet-requires-clause-rests : goal.meet-requires-clause-rests
-meet-requires-clause-rests g c = sym c.next_ready.ensures ∙ not_some c.next_ready.result (sym c.is_some.ensures ∙ c.if-is_some.false)
+meet-requires-clause-rests g c =
+    rests_so g.met.S.Site.laws c.args.self c.in_ok-settled.settled c.in_ok-settled.rows.items c.in_ok-settled.ensures
+    (sym c.next_ready.ensures ∙ not_some c.next_ready.result (sym c.is_some.ensures ∙ c.if-is_some.false))
+
+pub meet-requires-clause-left : goal.meet-requires-clause-left
+meet-requires-clause-left g c =
+    left_so g.met.S.Site.laws c.args.self c.in_ok-settled.settled c.in_ok-settled.rows.items c.in_ok-settled.ensures (sym c.is_finished.ensures ∙ c.if-is_finished.false)
 
 pub returns-clause-took : goal.returns-clause-took
 returns-clause-took g c =
-    barrier g.met.S.Site.laws c.args.self c.in_ok-meet.field-0 c.in_ok-stage.stage
+    barrier g.met.S.Site.laws c.args.self c.in_ok-settled.settled c.in_ok-stage.stage c.in_ok-settled.rows.items
     (sym c.next_ready.ensures ∙ not_some c.next_ready.result (sym c.is_some.ensures ∙ c.if-is_some.false)) (sym c.is_finished.ensures ∙ c.if-is_finished.false)
-    c.in_ok-meet.ensures.met c.in_ok-stage.ensures.follows
+    c.in_ok-settled.ensures c.in_ok-stage.ensures.met c.in_ok-stage.ensures.settled
 
 pub returns-clause-tells : goal.returns-clause-tells
 returns-clause-tells g c =
-    tells g.met.S.Site.laws c.args.self c.in_ok-meet.field-0 c.in_ok-stage.stage (Barrier ∷ []) c.args.told.now.items c.in_ok-stage.rows.items c.append.new.self.items
-    c.in_ok-meet.ensures.met c.in_ok-meet.ensures.settled c.in_ok-stage.ensures c.in_ok-append.ensures.items
+    tells g.met.S.Site.laws c.args.self c.in_ok-settled.settled c.in_ok-stage.stage c.args.told.now.items c.in_ok-settled.rows.items c.append.new.self.items
+    c.in_ok-settled.ensures c.in_ok-stage.ensures.settled c.in_ok-append.ensures.items
