@@ -41,6 +41,8 @@ fn try_play(rt: &impl Abort, machine: &mut Machine<Site>) {
     same(rt, machine.window_end(), 10);
     let played = machine.play(&FIRST).expect(rt, "a play");
     same(rt, (played, machine.window_end()), (5, 35));
+    // The send at 0 and the receive at 1; the delete at 15 and the receive at 16 come after the least bound, 10.
+    same(rt, machine.rows().len(), 2);
     same(rt, (machine.finished(), machine.spent()), (false, None));
     for _ in 0..100 {
         let picks = [Pick::Part(1), Pick::Part(0), Pick::Barrier];
