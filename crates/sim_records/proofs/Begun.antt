@@ -1,8 +1,8 @@
 -- Lines that are made field by field are lines.
-use Rattle.std.proofs.Common.{rules, ◌≡◌, ◌==◌, ◌||◌, ◌&&◌, not, if◌then◌else◌, ℕ, ◌+◌, ◌-◌, ◌^◌, ◌≤◌, List, [], ◌∷◌, ◌++◌, Bool, true, false, length, min, arith, refl, sym, ap, ◌∙◌, subst, append-nil, append_assoc}
+use Rattle.std.proofs.Common.{◌≡◌, ◌==◌, if◌then◌else◌, ℕ, ◌≤◌, List, [], ◌∷◌, ◌++◌, Bool, false, length, arith, refl, sym, ap, ◌∙◌, append-nil, append_assoc}
 use Rattle.std.proofs.lemmas.Grind.{common_steps}
 use Rattle.csv.specs.Machine.{line_feed}
-use Rattle.csv.specs.Writing.{by_style, comma, default_writer, escaped, field_text, fields_text, is_blank, needs_quotes, next_sep, quote_mark, quoted, row_body, row_text}
+use Rattle.csv.specs.Writing.{comma, default_writer, escaped, field_text, fields_text, is_blank, needs_quotes, next_sep, quote_mark, row_body, row_text}
 use Rattle.sqs_formats.specs.Rows.{line}
 use Rattle.sim_records.specs.Lines.{Begun, any_length, with_field, with_fields}
 
@@ -45,7 +45,8 @@ unfolding fields_text
 fields_after b [] h = sym (append-nil b.text)
 fields_after b (f ∷ fs) h =
     let one : (b.fields == 0) ≡ false = grind (arith, common_steps) in
-    let text : (with_field b f).text ≡ b.text ++ (comma ∷ field_text default_writer f) = ap (λ (z : Bool). b.text ++ ((if z then [] else comma ∷ []) ++ field_text default_writer f)) one in
+    let text : (with_field b f).text ≡ b.text ++ (comma ∷ field_text default_writer f) =
+    append_assoc b.text (next_sep default_writer b.fields) (field_text default_writer f) ∙ ap (λ (z : Bool). b.text ++ ((if z then [] else comma ∷ []) ++ field_text default_writer f)) one in
     fields_after (with_field b f) fs (grind (arith, common_steps))
     ∙ ap (λ (t : List ℕ). t ++ fields_text default_writer fs) text
     ∙ append_assoc b.text (comma ∷ field_text default_writer f) (fields_text default_writer fs)

@@ -1,6 +1,6 @@
 -- What a clause reads of lines that are being made.
 use Rattle.std.specs.Prelude.{◌≡◌, ℕ, ◌+◌, ◌-◌, ◌^◌, ◌++◌, List, [], ◌∷◌, false, true, Option, Some, None, min}
-use Rattle.csv.specs.Writing.{default_writer, field_text, fields_written, has_written, next_sep, writer_pending, writer_setup, writer_under}
+use Rattle.csv.specs.Writing.{default_writer, field_text, fields_written, has_written, needs_quotes, next_sep, writer_pending, writer_setup, writer_under}
 use Rattle.csv.specs.declared.writer.Writer.{Writer}
 use Rattle.csv.specs.declared.writer.WriterBuilder.{WriterBuilder}
 
@@ -9,9 +9,21 @@ pub record Begun : Type 0 where
   pub text : List ℕ
   pub fields : ℕ
 
+-- a field that needs no quotes
+abbrev pub IsPlain : List ℕ → Type 0
+IsPlain f = needs_quotes default_writer f ≡ false
+
+-- once one more field begins, behind a comma where another is before it
+abbrev pub field_begun : Begun → Begun
+field_begun b = record { text = b.text ++ next_sep default_writer b.fields; fields = min (b.fields + 1) (2 ^ 64 - 1) }
+
+-- the same with more text
+abbrev pub with_text : Begun → List ℕ → Begun
+with_text b t = record b { text = b.text ++ t }
+
 -- the same with one more field, quoted where it has to be
 abbrev pub with_field : Begun → List ℕ → Begun
-with_field b f = record { text = b.text ++ (next_sep default_writer b.fields ++ field_text default_writer f); fields = min (b.fields + 1) (2 ^ 64 - 1) }
+with_field b f = with_text (field_begun b) (field_text default_writer f)
 
 -- the same with more fields
 abbrev pub with_fields : Begun → List (List ℕ) → Begun
@@ -26,16 +38,6 @@ any_length = record default_writer { flexible = true }
 abbrev pub made : {W : Type 0} → (W → List ℕ) → Option (Writer W) → List ℕ
 made handed_on None = []
 made handed_on (Some w) = handed_on (writer_under w) ++ writer_pending w
-
--- the same, with how many fields the line has that has not ended
-abbrev pub begun : {W : Type 0} → (W → List ℕ) → Option (Writer W) → Begun
-begun handed_on None = record { text = []; fields = 0 }
-begun handed_on (Some w) = record { text = handed_on (writer_under w) ++ writer_pending w; fields = fields_written w }
-
--- a CSV writer of lines
-abbrev pub IsOfLines : {W : Type 0} → Option (Writer W) → Type 0
-IsOfLines None = Unit {0}
-IsOfLines (Some w) = writer_setup w ≡ any_length
 
 -- a CSV writer that has ended each record that it began
 abbrev pub IsBetweenRecords : {W : Type 0} → Option (Writer W) → Type 0

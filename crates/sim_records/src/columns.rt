@@ -70,7 +70,7 @@ pub(crate) fn add_receipt(fields: &mut Fields, receipt: &RowReceipt) -> Result<(
 {
     match receipt {
         RowReceipt::Absent => fields.bytes(b""),
-        RowReceipt::Made(receipt) => fields.receipt(receipt),
+        RowReceipt::Made(receipt) => fields.receipt(*receipt),
         RowReceipt::Given(text) => fields.bytes(text.as_bytes()),
     }
 }

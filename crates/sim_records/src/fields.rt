@@ -2,12 +2,12 @@
 ghost use Rattle.std.specs.Prelude.{◌≡◌, ◌≤◌, ◌++◌, ◌∷◌, [], IfOk, OnOk, codes};
 ghost use Rattle.std.specs.Fmt.{decimal};
 ghost use Rattle.csv.specs.Machine.{line_feed};
+ghost use Rattle.csv.specs.Writing.{default_writer, field_text, needs_byte, needs_quotes};
 ghost use Rattle.hex.specs.Hex.{encode_lower};
-ghost use Rattle.sim_records.specs.Lines.{IsOfLines, begun, with_field};
+ghost use Rattle.sim_records.specs.Lines.{IsPlain, field_begun, with_field, with_text};
 ghost use Rattle.sqs_message.specs.Ids.{id_text, origin_text, receipt_text};
 
 use crate::line::{lines_writer, text_of};
-use csv::Writer;
 use itoa::Buffer;
 use sqs_message::{MessageId, Origin, Receipt};
 use std::alloc::{AllocError, Global};
@@ -16,75 +16,50 @@ use std::marker::Model;
 // How long the text of a digest is: two digits a byte.
 const DIGEST_TEXT: usize = 32;
 
-/// Lines of CSV that are made field by field, in one writer. Contracts see their text so far, and
-/// how many fields the line has that has not ended.
+/// Lines of CSV that are made field by field. Contracts see their text so far, and how many fields the
+/// line has that has not ended. A field that needs no quotes goes into the text as it is; `csv` writes the
+/// others.
 ///
-/// After a growth that was refused it holds nothing and takes nothing.
+/// After a growth that was refused a part of a field may be left, and nothing is promised.
 #[derive(Drop)]
 pub(crate) struct Fields {
-    writer: Option<Writer<Vec<u8>>>,
-    // Where a field is put together.
+    alloc: Global,
     text: Vec<u8>,
+    fields: u64,
 }
 
 impl Model for Fields {
-    ghost use Rattle.sim_records.specs.Lines.{Begun, IsOfLines, begun};
+    ghost use Rattle.sim_records.specs.Lines.{Begun};
 
     ghost Value = { Begun };
 
-    ghost view = { λ f. begun (λ v. v.items) f.writer };
-
-    ghost invariant = { λ f. IsOfLines f.writer };
+    ghost view = { λ f. record { text = f.text.items; fields = f.fields } };
 }
 
-// Adds a number in decimal to a text.
-fn put_number(text: &mut Vec<u8>, number: u64) -> Result<(), AllocError>
-    ensures { OnOk result (text.new.items ≡ text.old.items ++ decimal number) }
+// Whether a byte of a field calls for quotes.
+fn calls_for_quotes(byte: u8) -> bool
+    ensures { result ≡ needs_byte default_writer byte }
 {
-    let mut buffer = Buffer::new();
-    text.extend_from_slice(buffer.format(number).as_bytes())
+    byte == b',' || byte == b'"' || byte == b'\r' || byte == b'\n'
 }
 
-// A text anew: a mark, and a number in decimal.
-fn begin(text: &mut Vec<u8>, mark: &[u8], number: u64) -> Result<(), AllocError>
-    ensures { OnOk result (text.new.items ≡ mark.now ++ decimal number) }
+// Whether a field needs quotes.
+fn needs_quotes(field: &[u8]) -> bool
+    ensures { result ≡ needs_quotes default_writer field.now }
 {
-    text.clear();
-    text.extend_from_slice(mark)?;
-    put_number(text, number)
+    field.iter().any(|byte| calls_for_quotes(*byte))
 }
 
-// A mark and a number in decimal behind a text.
-fn go_on(text: &mut Vec<u8>, mark: &[u8], number: u64) -> Result<(), AllocError>
-    ensures { OnOk result (text.new.items ≡ text.old.items ++ (mark.now ++ decimal number)) }
-{
-    text.extend_from_slice(mark)?;
-    put_number(text, number)
-}
-
-// Gives a writer up, out of the way of the calls that succeed: a writer is some kilobytes on the stack.
-#[cold]
-#[inline(never)]
-fn give_up(writer: &mut Option<Writer<Vec<u8>>>)
-    ensures { IsOfLines writer.new }
-{
-    *writer = None;
-}
-
-// One more field; none, and none later, where a growth is refused.
+// The text of a field as `csv` writes it, with quotes where it needs them.
 #[tactic(auto, using(crate::proofs::Begun::field_same))]
-fn push(writer: &mut Option<Writer<Vec<u8>>>, field: &[u8]) -> Result<(), AllocError>
-    requires { IsOfLines writer.old }
-    ensures field { OnOk result (begun (λ v. v.items) writer.new ≡ with_field (begun (λ v. v.items) writer.old) field.now) }
-    ensures lines { IsOfLines writer.new }
+fn text_by_csv(alloc: Global, field: &[u8]) -> Result<Vec<u8>, AllocError>
+    ensures { IfOk result (λ v. v.items ≡ field_text default_writer field.now) }
 {
-    if let Some(lines) = writer
-        && lines.write_field(field).is_ok()
-    {
-        return Ok(());
+    let mut writer = lines_writer(alloc);
+    match writer.write_field(field) {
+        Ok(()) => text_of(Some(writer)),
+        Err(_) => Err(AllocError),
     }
-    give_up(writer);
-    Err(AllocError)
 }
 
 impl Fields {
@@ -93,8 +68,9 @@ impl Fields {
         ensures { result ≡ record { text = []; fields = 0 } }
     {
         Fields {
-            writer: Some(lines_writer(alloc)),
+            alloc,
             text: Vec::new(alloc),
+            fields: 0,
         }
     }
 
@@ -103,27 +79,74 @@ impl Fields {
         requires { 2 ≤ self.old.fields }
         ensures { OnOk result (self.new ≡ record { text = self.old.text ++ line_feed ∷ []; fields = 0 }) }
     {
-        if let Some(writer) = &mut self.writer
-            && writer.end_record().is_ok()
-        {
-            return Ok(());
-        }
-        give_up(&mut self.writer);
-        Err(AllocError)
+        self.fields = 0;
+        self.text.push(b'\n')?;
+        Ok(())
     }
 
     /// The bytes of the lines.
-    pub(crate) fn into_bytes(self) -> Result<Vec<u8>, AllocError>
-        ensures { IfOk result (λ v. v.items ≡ self.text) }
+    pub(crate) fn into_bytes(self) -> Vec<u8>
+        ensures { result.items ≡ self.text }
     {
-        text_of(self.writer)
+        self.text
+    }
+
+    // A field begins, behind a comma where another is before it.
+    fn begin(&mut self) -> Result<(), AllocError>
+        ensures { OnOk result (self.new ≡ field_begun self.old) }
+    {
+        if self.fields > 0 {
+            self.text.push(b',')?;
+        }
+        self.fields = self.fields.saturating_add(1);
+        Ok(())
+    }
+
+    // More of the field that has begun.
+    fn put(&mut self, bytes: &[u8]) -> Result<(), AllocError>
+        ensures { OnOk result (self.new ≡ with_text self.old bytes.now) }
+    {
+        self.text.extend_from_slice(bytes)
+    }
+
+    // More of it: a mark, and a number in decimal.
+    fn put_number(&mut self, mark: &[u8], number: u64) -> Result<(), AllocError>
+        ensures { OnOk result (self.new ≡ with_text self.old (mark.now ++ decimal number)) }
+    {
+        let mut buffer = Buffer::new();
+        self.put(mark)?;
+        self.put(buffer.format(number).as_bytes())
+    }
+
+    // A field that needs no quotes.
+    fn plain(&mut self, field: &[u8]) -> Result<(), AllocError>
+        requires { IsPlain field.now }
+        ensures { OnOk result (self.new ≡ with_field self.old field.now) }
+    {
+        self.begin()?;
+        self.put(field)
+    }
+
+    // A field of any bytes, as `csv` writes it. Apart from the others, which come a hundred times as often.
+    #[cold]
+    #[inline(never)]
+    fn quoted(&mut self, field: &[u8]) -> Result<(), AllocError>
+        ensures { OnOk result (self.new ≡ with_field self.old field.now) }
+    {
+        let text = text_by_csv(self.alloc, field)?;
+        self.begin()?;
+        self.put(&text)
     }
 
     /// A field of these bytes.
     pub(crate) fn bytes(&mut self, bytes: &[u8]) -> Result<(), AllocError>
         ensures { OnOk result (self.new ≡ with_field self.old bytes.now) }
     {
-        push(&mut self.writer, bytes)
+        if needs_quotes(bytes) {
+            self.quoted(bytes)
+        } else {
+            self.plain(bytes)
+        }
     }
 
     /// A number in decimal.
@@ -131,35 +154,35 @@ impl Fields {
         ensures { OnOk result (self.new ≡ with_field self.old (decimal number)) }
     {
         let mut buffer = Buffer::new();
-        push(&mut self.writer, buffer.format(number).as_bytes())
+        self.plain(buffer.format(number).as_bytes())
     }
 
     /// The id of a message, as `m-0-12`.
     pub(crate) fn id(&mut self, id: MessageId) -> Result<(), AllocError>
         ensures { OnOk result (self.new ≡ with_field self.old (id_text id)) }
     {
-        begin(&mut self.text, b"m-", u64::from(id.site))?;
-        go_on(&mut self.text, b"-", id.number)?;
-        push(&mut self.writer, &self.text)
+        self.begin()?;
+        self.put_number(b"m-", u64::from(id.site))?;
+        self.put_number(b"-", id.number)
     }
 
     /// The origin of a message, as `o-0-12`.
     pub(crate) fn origin(&mut self, origin: Origin) -> Result<(), AllocError>
         ensures { OnOk result (self.new ≡ with_field self.old (origin_text origin)) }
     {
-        begin(&mut self.text, b"o-", u64::from(origin.site))?;
-        go_on(&mut self.text, b"-", origin.number)?;
-        push(&mut self.writer, &self.text)
+        self.begin()?;
+        self.put_number(b"o-", u64::from(origin.site))?;
+        self.put_number(b"-", origin.number)
     }
 
     /// A receipt handle, as `r-0-12-1`.
-    pub(crate) fn receipt(&mut self, receipt: &Receipt) -> Result<(), AllocError>
-        ensures { OnOk result (self.new ≡ with_field self.old (receipt_text receipt.now)) }
+    pub(crate) fn receipt(&mut self, receipt: Receipt) -> Result<(), AllocError>
+        ensures { OnOk result (self.new ≡ with_field self.old (receipt_text receipt)) }
     {
-        begin(&mut self.text, b"r-", u64::from(receipt.site))?;
-        go_on(&mut self.text, b"-", receipt.number)?;
-        go_on(&mut self.text, b"-", receipt.count)?;
-        push(&mut self.writer, &self.text)
+        self.begin()?;
+        self.put_number(b"r-", u64::from(receipt.site))?;
+        self.put_number(b"-", receipt.number)?;
+        self.put_number(b"-", receipt.count)
     }
 
     /// An MD5 digest, in lower-case hex.
@@ -168,7 +191,7 @@ impl Fields {
     {
         let mut text = [0; DIGEST_TEXT];
         match hex::encode_to_slice(md5, &mut text) {
-            Ok(()) => push(&mut self.writer, &text),
+            Ok(()) => self.plain(&text),
             Err(_) => unreachable!(),
         }
     }
@@ -177,9 +200,9 @@ impl Fields {
     pub(crate) fn counts(&mut self, first: u64, second: u64, third: u64) -> Result<(), AllocError>
         ensures { OnOk result (self.new ≡ with_field self.old ((decimal first ++ (codes "/" ++ (decimal second ++ (codes "/" ++ decimal third)))))) }
     {
-        begin(&mut self.text, b"", first)?;
-        go_on(&mut self.text, b"/", second)?;
-        go_on(&mut self.text, b"/", third)?;
-        push(&mut self.writer, &self.text)
+        self.begin()?;
+        self.put_number(b"", first)?;
+        self.put_number(b"/", second)?;
+        self.put_number(b"/", third)
     }
 }

@@ -33,7 +33,7 @@ fn lines_of<T: Record>(alloc: Global, records: &[T], names: &Names) -> Result<Ve
         record.add_to(&mut fields, names)?;
         fields.end_line()?;
     }
-    fields.into_bytes()
+    Ok(fields.into_bytes())
 }
 
 // Writes the lines of several at once.

@@ -53,7 +53,7 @@ fn row_line(alloc: Global, row: &Row, names: &Names) -> Result<Vec<u8>, AllocErr
     let mut fields = Fields::new(alloc);
     row.add_to(&mut fields, names)?;
     fields.end_line()?;
-    fields.into_bytes()
+    Ok(fields.into_bytes())
 }
 
 /// Writes the line of a row.

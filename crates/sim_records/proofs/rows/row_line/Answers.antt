@@ -1,5 +1,4 @@
-use Rattle.std.proofs.Common.{◌≡◌, ℕ, List, [], ◌∷◌, ◌++◌, ap, ◌∙◌, subst}
-use Rattle.std.specs.Prelude.{IfOk}
+use Rattle.std.proofs.Common.{◌≡◌, [], ◌∷◌, ◌++◌, ap, ◌∙◌}
 use Rattle.csv.specs.Machine.{line_feed}
 use Rattle.sqs_formats.specs.Rows.{line, row_fields}
 use Rattle.sim_records.specs.Lines.{Begun, with_fields}
@@ -13,4 +12,4 @@ returns c =
     c.in_ok-add_to.ensures.fields ∙ ap (λ (b : Begun). with_fields b columns) c.new-fields.ensures in
     let text : c.end_line.new.self.text ≡ line columns =
     ap (λ (b : Begun). b.text) c.in_ok-end_line.ensures ∙ ap (λ (b : Begun). b.text ++ line_feed ∷ []) is ∙ line_ended [] columns c.in_ok-add_to.ensures.several in
-    subst (λ (t : List ℕ). IfOk c.into_bytes.result (λ v. v.items ≡ t)) text c.into_bytes.ensures
+    c.into_bytes.ensures ∙ text
