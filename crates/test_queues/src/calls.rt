@@ -3,7 +3,7 @@ use sim_clock::{Key, Refusal};
 use sqs_message::{Receipt, Text};
 use sqs_redrive::{Deleted, Got, Load, Rest, Sent};
 use sqs_standard::StandardQueue;
-use sqs_store::{Counts, Messages, Received};
+use sqs_queue::{Counts, Messages, Received};
 
 // What is given with a send.
 #[derive(Drop)]

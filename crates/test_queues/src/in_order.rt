@@ -6,7 +6,7 @@ use sim_clock::{Key, Refusal};
 use sqs_fifo::FifoQueue;
 use sqs_message::Receipt;
 use sqs_redrive::{Deleted, Got, Load, Rest, Sent};
-use sqs_store::{Counts, Messages, Received};
+use sqs_queue::{Counts, Messages, Received};
 use std::marker::Model;
 
 // A FIFO queue whose sends and arrivals come in the order of their times.

@@ -6,7 +6,7 @@ use sim_clock::{Key, Refusal};
 use sqs_message::Receipt;
 use sqs_queue::Queue;
 use sqs_redrive::{Deleted, Got, Load, Rest, Sent};
-use sqs_store::{Counts, Messages, Received};
+use sqs_queue::{Counts, Messages, Received};
 use std::marker::Model;
 
 // A queue of either kind whose sends and arrivals come first, in the order of their times: of the
