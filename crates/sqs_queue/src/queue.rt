@@ -7,7 +7,7 @@ ghost use Rattle.sqs_message.specs.declared.message.Message.{Message};
 ghost use Rattle.sqs_model.specs.Answers.{most_count};
 ghost use Rattle.sqs_model.specs.Arrive.{expired};
 ghost use Rattle.sqs_model.specs.Available.{all_available, all_hosts};
-ghost use Rattle.sqs_model.specs.Calls.{new_message, returned};
+ghost use Rattle.sqs_model.specs.Calls.{may_be_given, new_message, returned};
 ghost use Rattle.sqs_model.specs.Dues.{queue_dues};
 ghost use Rattle.sqs_model.specs.Polls.{can_give};
 ghost use Rattle.sqs_model.specs.Queue.{IsFramed, is_delayed, is_in_flight, is_visible, numbered, room, taken_out};
@@ -17,7 +17,7 @@ ghost use Rattle.sqs_model.specs.Valid.{IsQueueSettings};
 use crate::places::visible_again;
 use sim_clock::{Key, Refusal};
 use sqs_dedup::Dedup;
-use sqs_message::{Message, MessageId, Origin, Place, Text};
+use sqs_message::{Message, MessageId, Origin, Place, Receipt, Text};
 use sqs_messages::{Counts, MessageTable, Messages};
 use sqs_redrive::{Kind, Load, QueueSettings, Returned, on_return};
 use std::alloc::Global;
@@ -168,6 +168,13 @@ impl Queue {
     {
         let limit = self.messages.settings().in_flight_limit;
         limit.saturating_sub(self.messages.counts().in_flight)
+    }
+
+    // Whether a receipt may be one that this queue gave.
+    fn may_be_given(&self, receipt: &Receipt) -> bool
+        ensures { result ≡ may_be_given self.now receipt.now }
+    {
+        receipt.site == self.messages.site() && receipt.count > 0
     }
 
     // The message that would come next, delayed for so many milliseconds.

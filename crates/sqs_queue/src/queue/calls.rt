@@ -3,7 +3,7 @@
 ghost use Rattle.std.specs.Prelude.{◌≡◌, ◌⊎◌, false, ◌+◌, ◌<◌, ◌≤◌, Err, OnErr, OnOk};
 ghost use Rattle.sqs_model.specs.Acts.{sends};
 ghost use Rattle.sqs_model.specs.Answers.{Meets, most_count};
-ghost use Rattle.sqs_model.specs.Calls.{change, delete};
+ghost use Rattle.sqs_model.specs.Calls.{change, delete, delete_gone};
 ghost use Rattle.sqs_model.specs.Progress.{IsRecent};
 ghost use Rattle.sqs_model.specs.Queue.{IsFramed};
 
@@ -61,6 +61,17 @@ impl Queue {
         }
     }
 
+    // The answer of a delete of a message that is not there: it is gone, or was never there.
+    pub(super) fn delete_gone(&self, receipt: &Receipt) -> Result<Deleted, Refusal>
+        ensures { delete_gone self.now receipt.now ≡ (result, self.now) }
+    {
+        if receipt.number < self.messages.arrivals() {
+            Ok(Deleted::Gone)
+        } else {
+            Err(Refusal::ReceiptHandleIsInvalid)
+        }
+    }
+
     /// `ChangeMessageVisibility`: a message in flight is so until `now` and so many seconds; by 0
     /// seconds it is visible again, or leaves for the dead-letter queue, which gives its load.
     /// `BadTimeout` over 43,200 seconds, or past 12 hours from the receive;
@@ -80,7 +91,7 @@ impl Queue {
         if timeout > LONGEST_TIMEOUT {
             return Err(Refusal::BadTimeout);
         }
-        if receipt.site != self.messages.site() || receipt.count == 0 {
+        if !self.may_be_given(receipt) {
             return Err(Refusal::ReceiptHandleIsInvalid);
         }
         let Some(message) = self.messages.find(receipt.number) else {

@@ -153,15 +153,11 @@ impl Queue {
         ensures kept { self.new.entries ≡ self.old.entries }
         ensures framed { IsFramed self.old self.new }
     {
-        if receipt.site != self.messages.site() || receipt.count == 0 {
+        if !self.may_be_given(receipt) {
             return Err(Refusal::ReceiptHandleIsInvalid);
         }
         let Some(message) = self.messages.find(receipt.number) else {
-            return if receipt.number < self.messages.arrivals() {
-                Ok(Deleted::Gone)
-            } else {
-                Err(Refusal::ReceiptHandleIsInvalid)
-            };
+            return self.delete_gone(receipt);
         };
         if receipt.count != message.receives || !is_out(message) {
             return Err(Refusal::ReceiptHandleIsInvalid);
