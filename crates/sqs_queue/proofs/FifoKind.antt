@@ -1,5 +1,5 @@
 -- What the definitions say of a queue whose kind is FIFO.
-use Rattle.std.proofs.Common.{◌≡◌, ℕ, List, [], Option, None, Some, Bool, false, true, if◌then◌else◌, ap, refl, sym, ◌∙◌}
+use Rattle.std.proofs.Common.{◌≡◌, ℕ, List, Option, None, Some, Bool, false, true, if◌then◌else◌, ap, refl, sym, ◌∙◌}
 use Rattle.std.specs.Prelude.{Err, Result}
 use Rattle.sqs_redrive.specs.declared.settings.Kind.{Kind}
 use Rattle.sqs_redrive.specs.declared.settings.Kind.TheVariants.{Fifo, Standard}
