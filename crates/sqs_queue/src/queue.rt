@@ -1,6 +1,5 @@
 //! The queue, what it tells of itself, and what becomes of its messages with time.
-ghost use Rattle.std.specs.Prelude.{◌≡◌, ◌-◌, false, ◌+◌, ◌<◌, ◌≤◌, ◌^◌, [], None, count_by, not};
-ghost use Rattle.std.specs.Option.{option_copied};
+ghost use Rattle.std.specs.Prelude.{◌≡◌, ◌+◌, ◌<◌, ◌≤◌, ◌^◌, [], count_by, not};
 ghost use Rattle.sim_clock.specs.Firsts.{is_empty};
 ghost use Rattle.sim_clock.specs.Order.{least};
 ghost use Rattle.sqs_message.specs.declared.message.Message.{Message};
@@ -10,7 +9,7 @@ ghost use Rattle.sqs_model.specs.Available.{all_available, all_hosts};
 ghost use Rattle.sqs_model.specs.Calls.{may_be_given, new_message, returned};
 ghost use Rattle.sqs_model.specs.Dues.{queue_dues};
 ghost use Rattle.sqs_model.specs.Polls.{can_give};
-ghost use Rattle.sqs_model.specs.Queue.{IsFramed, is_delayed, is_in_flight, is_visible, numbered, room, taken_out};
+ghost use Rattle.sqs_model.specs.Queue.{IsFramed, is_delayed, is_in_flight, is_visible, room};
 ghost use Rattle.sqs_model.specs.Return.{leaves, released};
 ghost use Rattle.sqs_model.specs.Valid.{IsQueueSettings};
 

@@ -1,5 +1,5 @@
 //! The arrival of transfers.
-ghost use Rattle.std.specs.Prelude.{◌≡◌, ◌⊎◌, ◌-◌, false, true, ◌+◌, ◌<◌, ◌≤◌, Err, IfOk, OnErr, OnOk};
+ghost use Rattle.std.specs.Prelude.{◌≡◌, ◌⊎◌, ◌<◌, ◌≤◌, Err, IfOk, OnErr, OnOk};
 ghost use Rattle.sqs_message.specs.declared.message.Message.{Message};
 ghost use Rattle.sqs_messages.specs.Stored.{IsCounted};
 ghost use Rattle.sqs_model.specs.Answers.{Meets, most_count};

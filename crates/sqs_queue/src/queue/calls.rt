@@ -1,6 +1,6 @@
 //! The calls of callers by the kind of the queue, and the change of visibility, which is the same
 //! at both.
-ghost use Rattle.std.specs.Prelude.{◌≡◌, ◌⊎◌, false, ◌+◌, ◌<◌, ◌≤◌, Err, OnErr, OnOk};
+ghost use Rattle.std.specs.Prelude.{◌≡◌, ◌⊎◌, ◌<◌, ◌≤◌, Err, OnErr, OnOk};
 ghost use Rattle.sqs_model.specs.Acts.{sends};
 ghost use Rattle.sqs_model.specs.Answers.{Meets, most_count};
 ghost use Rattle.sqs_model.specs.Calls.{change, delete, delete_gone};

@@ -1,5 +1,5 @@
 //! The receiving of messages.
-ghost use Rattle.std.specs.Prelude.{◌≡◌, ◌-◌, ◌*◌, false, true, ◌<◌, ◌≤◌, ◌⊎◌, All, Any, Err, IfErr, IfOk, IfSome, OnErr, OnOk, length, map, take};
+ghost use Rattle.std.specs.Prelude.{◌≡◌, ◌*◌, false, true, ◌<◌, ◌≤◌, ◌⊎◌, All, Any, Err, IfErr, IfOk, IfSome, OnErr, OnOk, length, map, take};
 ghost use Rattle.std.specs.Result.{result_map_both};
 ghost use Rattle.sqs_model.specs.Answers.{Meets, most_count};
 ghost use Rattle.sqs_model.specs.Available.{available};
