@@ -20,8 +20,9 @@ impl Queue {
     /// than the in-flight limit leaves room for. A standard queue gives those visible on the hosts
     /// seen, which are given by their bits; a FIFO queue gives group by group, whatever the hosts.
     /// Each is in flight for so many seconds or else as the queue says; with 0 seconds it comes
-    /// back at once. `BadTimeout` over 43,200 seconds; `OverLimit` where a short poll finds the
-    /// limit reached; `CountLimit` where one of them can be received no more; `Memory`.
+    /// back at once. `BadTimeout` over 43,200 seconds; `OverLimit` where a short poll, which is of
+    /// standard queues, finds the limit reached; `CountLimit` where one of them can be received no
+    /// more; `Memory`.
     pub fn receive(
         &mut self,
         now: u64,
