@@ -2,7 +2,4 @@
 //! on it.
 #![tactic(auto)]
 
-mod queue;
-
-pub use queue::FifoQueue;
-pub use sqs_store::Received;
+pub use sqs_queue::{Counts, FifoQueue, Received};

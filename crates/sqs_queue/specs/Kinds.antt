@@ -1,15 +1,13 @@
--- A queue of either kind as the definitions see it.
-use Rattle.sqs_model.specs.Queue.{Queue}
-use Rattle.sqs_queue.specs.declared.queue.Either.{Either}
-use Rattle.sqs_queue.specs.declared.queue.Either.TheVariants.{Fifo, Standard}
-use Rattle.sqs_store.specs.Kinds.{IsFifoSettings, IsStandardSettings}
+-- The settings of a queue of each kind.
+use Rattle.sqs_model.specs.Valid.{IsFifo, IsQueueSettings, IsStandard}
+use Rattle.sqs_redrive.specs.declared.settings.QueueSettings.{QueueSettings}
 
--- the queue, whatever its kind
-abbrev pub either_queue : Either → Queue
-either_queue (Standard q) = q
-either_queue (Fifo q) = q
+-- the settings of a standard queue, in range
+pub record IsStandardSettings (s : QueueSettings) : Type 0 where
+  pub ranges : IsQueueSettings s
+  pub kind : IsStandard s.kind
 
--- a queue is of the kind that its settings say
-abbrev pub IsAsSet : Either → Type 0
-IsAsSet (Standard q) = IsStandardSettings q.settings
-IsAsSet (Fifo q) = IsFifoSettings q.settings
+-- the settings of a FIFO queue, in range
+pub record IsFifoSettings (s : QueueSettings) : Type 0 where
+  pub ranges : IsQueueSettings s
+  pub kind : IsFifo s.kind

@@ -1,1 +1,5 @@
+pub mod Calls
+pub mod Fifo
+pub mod Giving
 pub mod Kinds
+pub mod Picked

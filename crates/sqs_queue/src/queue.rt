@@ -1,46 +1,76 @@
-//! The queue, and what it tells of itself.
-ghost use Rattle.std.specs.Prelude.{◌≡◌, [], count_by, not};
+//! The queue, what it tells of itself, and what becomes of its messages with time.
+ghost use Rattle.std.specs.Prelude.{◌≡◌, ◌+◌, ◌<◌, ◌≤◌, ◌^◌, [], count_by, not};
 ghost use Rattle.sim_clock.specs.Firsts.{is_empty};
 ghost use Rattle.sim_clock.specs.Order.{least};
-ghost use Rattle.sqs_model.specs.Available.{all_available};
+ghost use Rattle.sqs_message.specs.declared.message.Message.{Message};
+ghost use Rattle.sqs_model.specs.Answers.{most_count};
+ghost use Rattle.sqs_model.specs.Arrive.{expired};
+ghost use Rattle.sqs_model.specs.Available.{all_available, all_hosts};
+ghost use Rattle.sqs_model.specs.Calls.{may_be_given, new_message, returned};
 ghost use Rattle.sqs_model.specs.Dues.{queue_dues};
 ghost use Rattle.sqs_model.specs.Polls.{can_give};
-ghost use Rattle.sqs_model.specs.Queue.{is_delayed, is_in_flight, is_visible};
+ghost use Rattle.sqs_model.specs.Queue.{IsFramed, is_delayed, is_in_flight, is_visible, room};
+ghost use Rattle.sqs_model.specs.Return.{leaves, released};
 ghost use Rattle.sqs_model.specs.Valid.{IsQueueSettings};
 
-use sim_clock::Key;
-use sqs_fifo::FifoQueue;
-use sqs_redrive::{Kind, QueueSettings};
-use sqs_standard::StandardQueue;
-use sqs_store::{Counts, Messages};
+use crate::places::visible_again;
+use sim_clock::{Key, Refusal};
+use sqs_dedup::Dedup;
+use sqs_message::{Message, MessageId, Origin, Place, Receipt, Text};
+use sqs_messages::{Counts, MessageTable, Messages};
+use sqs_redrive::{Kind, Load, QueueSettings, Returned, on_return};
 use std::alloc::Global;
 use std::marker::Model;
 
+mod arrive;
 mod calls;
-mod moves;
+mod fifo;
+mod give;
+mod standard;
+mod take;
 
-// A queue of one kind or of the other.
-#[derive(Drop)]
-enum Either {
-    Standard(StandardQueue),
-    Fifo(FifoQueue),
+// Whether a message has been received as often as the policy allows.
+fn is_spent(settings: &QueueSettings, message: &Message) -> bool
+    ensures { result ≡ leaves settings.now.policy message.now }
+{
+    match settings.policy {
+        None => false,
+        Some(policy) => on_return(&policy, message) == Returned::Leaves,
+    }
 }
 
-/// A queue of either kind. Contracts see it as the definitions' `Queue`. Times are milliseconds.
+// What goes to the dead-letter queue of a message of this queue.
+fn redrive(site: u32, message: Message) -> Load
+    ensures { result ≡ Load.Redrive (record { site = site; number = message.number }) message.origin message.body message.group message.enqueued }
+{
+    Load::Redrive {
+        id: MessageId {
+            site,
+            number: message.number,
+        },
+        origin: message.origin,
+        body: message.body,
+        group: message.group,
+        enqueued: message.enqueued,
+    }
+}
+
+/// A queue of either kind: its number and settings, its messages in the order of their arrival, its
+/// deduplication entries (none at a standard queue), and how many messages ever came. Contracts see
+/// it as the definitions' `Queue`. Times are milliseconds.
 #[derive(Drop)]
 pub struct Queue {
-    either: Either,
+    messages: MessageTable,
+    entries: Dedup,
+    alloc: Global,
 }
 
 impl Model for Queue {
     ghost use Rattle.sqs_model.specs.Queue.{Queue};
-    ghost use Rattle.sqs_queue.specs.Kinds.{IsAsSet, either_queue};
 
     ghost Value = { Queue };
 
-    ghost view = { λ q. either_queue q.either };
-
-    ghost invariant = { λ q. IsAsSet q.either };
+    ghost view = { λ q. record q.messages { entries = q.entries } };
 }
 
 impl Queue {
@@ -49,51 +79,53 @@ impl Queue {
         requires { IsQueueSettings settings }
         ensures { result ≡ record { site = site; settings = settings; records = []; entries = []; arrivals = 0 } }
     {
-        let either = match settings.kind {
-            Kind::Standard { .. } => Either::Standard(StandardQueue::new(alloc, site, settings)),
-            Kind::Fifo { .. } => Either::Fifo(FifoQueue::new(alloc, site, settings)),
-        };
-        Queue { either }
+        Queue::opened_at(alloc, site, settings, 0)
+    }
+
+    // An empty queue with this number, to which so many messages came before.
+    pub(crate) fn opened_at(
+        alloc: Global,
+        site: u32,
+        settings: QueueSettings,
+        arrivals: u64,
+    ) -> Queue
+        requires settings { IsQueueSettings settings }
+        requires arrivals { arrivals ≤ most_count }
+        ensures { result ≡ record { site = site; settings = settings; records = []; entries = []; arrivals = arrivals } }
+    {
+        Queue {
+            messages: MessageTable::opened_at(alloc, site, settings, arrivals),
+            entries: Dedup::new(alloc),
+            alloc,
+        }
     }
 
     /// Its number.
     pub fn site(&self) -> u32
         ensures { result ≡ self.now.site }
     {
-        match &self.either {
-            Either::Standard(queue) => queue.site(),
-            Either::Fifo(queue) => queue.site(),
-        }
+        self.messages.site()
     }
 
     /// Its settings.
     pub fn settings(&self) -> &QueueSettings
         ensures { result.now ≡ self.now.settings }
     {
-        match &self.either {
-            Either::Standard(queue) => queue.settings(),
-            Either::Fifo(queue) => queue.settings(),
-        }
+        self.messages.settings()
     }
 
     /// Its messages, in the order of their arrival.
     pub fn view(&self) -> Messages<'_>
         ensures { result ≡ self.now.records }
     {
-        match &self.either {
-            Either::Standard(queue) => queue.view(),
-            Either::Fifo(queue) => queue.view(),
-        }
+        self.messages.iter()
     }
 
     /// The key of what is due next: the least expiry or end of a delay or visibility timeout.
     pub fn least_due(&self) -> Option<Key>
         ensures { result ≡ least (queue_dues self.now) }
     {
-        match &self.either {
-            Either::Standard(queue) => queue.least_due(),
-            Either::Fifo(queue) => queue.least_due(),
-        }
+        self.messages.least_due()
     }
 
     /// How many messages are where.
@@ -102,28 +134,112 @@ impl Queue {
         ensures in_flight { result.in_flight ≡ count_by is_in_flight self.now.records }
         ensures delayed { result.delayed ≡ count_by is_delayed self.now.records }
     {
-        match &self.either {
-            Either::Standard(queue) => queue.counts(),
-            Either::Fifo(queue) => queue.counts(),
-        }
-    }
-
-    // Whether there is a message that it may give.
-    fn has_available(&self) -> bool
-        ensures { result ≡ not (is_empty (all_available self.now)) }
-    {
-        match &self.either {
-            Either::Standard(queue) => queue.has_available(),
-            Either::Fifo(queue) => queue.has_available(),
-        }
+        self.messages.counts()
     }
 
     /// Whether it has a message to give and room in flight for it. Goes over no messages.
     pub fn can_give(&self) -> bool
         ensures { result ≡ can_give self.now }
     {
-        let limit = self.settings().in_flight_limit;
-        let room = limit.saturating_sub(self.counts().in_flight);
-        self.has_available() && room > 0
+        self.has_available() && self.room() > 0
+    }
+
+    // Whether a receive that sees all hosts would find a message to give. Goes over no messages.
+    pub(crate) fn has_available(&self) -> bool
+        ensures { result ≡ not (is_empty (all_available self.now)) }
+    {
+        self.messages.has_available(self.all_hosts())
+    }
+
+    // The set of all hosts, by their bits; that of a FIFO queue has one.
+    fn all_hosts(&self) -> u32
+        ensures { result ≡ all_hosts self.now.settings.kind }
+    {
+        match self.messages.settings().kind {
+            Kind::Standard { hosts, .. } => (1u32 << hosts) - 1,
+            Kind::Fifo { .. } => 1,
+        }
+    }
+
+    // How many more messages may be in flight.
+    fn room(&self) -> u64
+        ensures { result ≡ room self.now }
+    {
+        let limit = self.messages.settings().in_flight_limit;
+        limit.saturating_sub(self.messages.counts().in_flight)
+    }
+
+    // Whether a receipt may be one that this queue gave.
+    fn may_be_given(&self, receipt: &Receipt) -> bool
+        ensures { result ≡ may_be_given self.now receipt.now }
+    {
+        receipt.site == self.messages.site() && receipt.count > 0
+    }
+
+    // The message that would come next, delayed for so many milliseconds.
+    fn next_message(&self, now: u64, body: Text, group: Option<Text>, delay: u64) -> Message
+        requires { now + delay < 2 ^ 64 }
+        ensures { result ≡ new_message self.now now body group delay }
+    {
+        let number = self.messages.arrivals();
+        Message {
+            number,
+            origin: Origin {
+                site: self.messages.site(),
+                number,
+            },
+            body,
+            group,
+            enqueued: now,
+            place: if delay == 0 {
+                Place::Visible
+            } else {
+                Place::Delayed
+            },
+            release: if delay == 0 { None } else { Some(now + delay) },
+            receives: 0,
+            received: 0,
+            source: None,
+        }
+    }
+
+    /// The end of the delay or visibility timeout of a message: it is visible again, or leaves for
+    /// the dead-letter queue, which gives its load. No error comes.
+    pub fn release(&mut self, number: u64) -> Result<Option<Load>, Refusal>
+        ensures answer { returned (released self.old number) ≡ (result, self.new) }
+        ensures kept { self.new.entries ≡ self.old.entries }
+        ensures framed { IsFramed self.old self.new }
+    {
+        Ok(self.come_back(number))
+    }
+
+    // A message is visible again, or leaves.
+    fn come_back(&mut self, number: u64) -> Option<Load>
+        ensures answer { released self.old number ≡ (self.new, result) }
+        ensures kept { self.new.entries ≡ self.old.entries }
+        ensures framed { IsFramed self.old self.new }
+    {
+        let message = self.messages.find(number)?;
+        if !is_spent(self.messages.settings(), message) {
+            let state = visible_again(message);
+            self.messages.put(number, state);
+            return None;
+        }
+        let site = self.messages.site();
+        let message = self.messages.remove(number)?;
+        Some(redrive(site, message))
+    }
+
+    /// The end of the retention period of a message, which leaves. Answers its age, 0 where it is
+    /// not there.
+    pub fn expire(&mut self, now: u64, number: u64) -> u64
+        ensures answer { expired self.old now number ≡ (result, self.new) }
+        ensures kept { self.new.entries ≡ self.old.entries }
+        ensures framed { IsFramed self.old self.new }
+    {
+        let Some(message) = self.messages.remove(number) else {
+            return 0;
+        };
+        now.saturating_sub(message.enqueued)
     }
 }

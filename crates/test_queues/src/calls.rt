@@ -1,9 +1,9 @@
 //! The calls of a queue, without what they promise, which the tests do not rest on.
 use sim_clock::{Key, Refusal};
 use sqs_message::{Receipt, Text};
+use sqs_queue::{Counts, Messages, Received};
 use sqs_redrive::{Deleted, Got, Load, Rest, Sent};
 use sqs_standard::StandardQueue;
-use sqs_store::{Counts, Messages, Received};
 
 // What is given with a send.
 #[derive(Drop)]

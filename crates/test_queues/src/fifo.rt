@@ -1,6 +1,6 @@
 //! Tables of a FIFO queue, with answers worked out by hand. It has the number 7 and 30 seconds of
 //! visibility.
-ghost use Rattle.sqs_store.specs.Kinds.{IsFifoSettings};
+ghost use Rattle.sqs_queue.specs.Kinds.{IsFifoSettings};
 
 use crate::in_order::InOrder;
 use crate::play::play;

@@ -5,8 +5,8 @@ use crate::calls::{Asked, Calls, Given};
 use sim_clock::{Key, Refusal};
 use sqs_fifo::FifoQueue;
 use sqs_message::Receipt;
+use sqs_queue::{Counts, Messages, Received};
 use sqs_redrive::{Deleted, Got, Load, Rest, Sent};
-use sqs_store::{Counts, Messages, Received};
 use std::marker::Model;
 
 // A FIFO queue whose sends and arrivals come in the order of their times.

@@ -4,9 +4,8 @@ ghost use Rattle.std.specs.Prelude.{◌≡◌};
 use crate::calls::{Asked, Calls, Given};
 use sim_clock::{Key, Refusal};
 use sqs_message::Receipt;
-use sqs_queue::Queue;
+use sqs_queue::{Counts, Messages, Queue, Received};
 use sqs_redrive::{Deleted, Got, Load, Rest, Sent};
-use sqs_store::{Counts, Messages, Received};
 use std::marker::Model;
 
 // A queue of either kind whose sends and arrivals come first, in the order of their times: of the

@@ -1,8 +1,8 @@
 //! How answers are written.
 use sim_clock::{Class, Key, Refusal};
 use sqs_message::{Message, MessageId, Origin, Receipt, Text};
+use sqs_queue::{Counts, is_out, may_be_received};
 use sqs_redrive::{Deleted, Got, Load, Rest, Sent};
-use sqs_store::{Counts, is_out, may_be_received};
 use std::alloc::AllocError;
 use std::fmt::Write;
 

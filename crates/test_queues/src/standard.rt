@@ -1,7 +1,7 @@
 //! Tables of a standard queue, with answers worked out by hand. It has the number 7, two hosts, 30
 //! seconds of visibility and a minute of retention. Message n lies on host n modulo 2. The hosts
 //! that a receive sees are given by their bits, so that 1 is the first, 2 the second, and 3 both.
-ghost use Rattle.sqs_store.specs.Kinds.{IsStandardSettings};
+ghost use Rattle.sqs_queue.specs.Kinds.{IsStandardSettings};
 
 use crate::play::play;
 use sqs_redrive::{Kind, Latency, Policy, QueueSettings};

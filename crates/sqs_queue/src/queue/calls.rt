@@ -1,19 +1,18 @@
-//! The calls of callers: send, receive, delete and change of visibility.
-ghost use Rattle.std.specs.Prelude.{◌≡◌, ◌⊎◌, ◌<◌, ◌≤◌, All, Any, Err, OnErr, OnOk, true};
-ghost use Rattle.std.specs.Result.{result_map_both};
+//! The calls of callers by the kind of the queue, and the change of visibility, which is the same
+//! at both.
+ghost use Rattle.std.specs.Prelude.{◌≡◌, ◌⊎◌, ◌<◌, ◌≤◌, Err, OnErr, OnOk};
 ghost use Rattle.sqs_model.specs.Acts.{sends};
 ghost use Rattle.sqs_model.specs.Answers.{Meets, most_count};
-ghost use Rattle.sqs_model.specs.Calls.{change, delete};
+ghost use Rattle.sqs_model.specs.Calls.{change, delete, delete_gone};
 ghost use Rattle.sqs_model.specs.Progress.{IsRecent};
 ghost use Rattle.sqs_model.specs.Queue.{IsFramed};
-ghost use Rattle.sqs_model.specs.Receive.{receive};
-ghost use Rattle.sqs_model.specs.Valid.{IsStandard};
-ghost use Rattle.sqs_model.specs.Receive.{to_give};
 
-use super::{Either, Queue};
+use super::Queue;
+use crate::places::{is_out, keep_out};
 use sim_clock::Refusal;
 use sqs_message::{Receipt, Text};
-use sqs_redrive::{Deleted, Got, Load, Sent};
+use sqs_model::{LONGEST_FLIGHT, LONGEST_TIMEOUT};
+use sqs_redrive::{Deleted, Kind, Load, Sent};
 
 impl Queue {
     /// `SendMessage`: a message of this body, delayed by so many seconds or else as the queue says;
@@ -38,40 +37,12 @@ impl Queue {
         ensures framed { IsFramed self.old self.new }
         ensures recent { IsRecent now self.new }
     {
-        match &mut self.either {
-            Either::Standard(queue) => {
+        match self.messages.settings().kind {
+            Kind::Standard { .. } => {
                 drop((group, id));
-                queue.send(now, body, delay)
+                self.send_standard(now, body, delay)
             }
-            Either::Fifo(queue) => queue.send(now, body, group, id, delay),
-        }
-    }
-
-    /// `ReceiveMessage`: at most so many messages of those that the queue may give, and no more
-    /// than the in-flight limit leaves room for. A standard queue gives those visible on the hosts
-    /// seen, which are given by their bits; a FIFO queue gives group by group, whatever the hosts.
-    /// Each is in flight for so many seconds or else as the queue says; with 0 seconds it comes
-    /// back at once. `BadTimeout` over 43,200 seconds; `OverLimit` where a short poll, which is of
-    /// standard queues alone, finds the limit reached; `CountLimit` where one of them can be
-    /// received no more; `Memory`.
-    pub fn receive(
-        &mut self,
-        now: u64,
-        max: u64,
-        timeout: Option<u64>,
-        hosts: u16,
-        short: bool,
-    ) -> Result<Vec<Got>, Refusal>
-        requires moment { now ≤ most_count }
-        requires short { short ≡ true → IsStandard self.old.settings.kind }
-        ensures answer { Meets (Any (λ m. m.receives ≡ most_count) (to_give self.old max hosts)) (result_map_both (λ batch. batch.items) (λ refusal. refusal) result) self.new (receive self.old now max timeout hosts short) }
-        ensures counted { OnOk result (All (λ m. m.receives < most_count) (to_give self.old max hosts)) }
-        ensures unchanged { OnErr result (self.new ≡ self.old) }
-        ensures framed { IsFramed self.old self.new }
-    {
-        match &mut self.either {
-            Either::Standard(queue) => queue.receive(now, max, timeout, hosts, short),
-            Either::Fifo(queue) => queue.receive(now, max, timeout),
+            Kind::Fifo { .. } => self.send_fifo(now, body, group, id, delay),
         }
     }
 
@@ -81,11 +52,23 @@ impl Queue {
     /// queue's.
     pub fn delete(&mut self, now: u64, receipt: &Receipt) -> Result<Deleted, Refusal>
         ensures answer { delete self.old now receipt.now ≡ (result, self.new) }
+        ensures kept { self.new.entries ≡ self.old.entries }
         ensures framed { IsFramed self.old self.new }
     {
-        match &mut self.either {
-            Either::Standard(queue) => queue.delete(now, receipt),
-            Either::Fifo(queue) => queue.delete(now, receipt),
+        match self.messages.settings().kind {
+            Kind::Standard { .. } => self.delete_standard(now, receipt),
+            Kind::Fifo { .. } => self.delete_fifo(now, receipt),
+        }
+    }
+
+    // The answer of a delete of a message that is not there: it is gone, or was never there.
+    pub(super) fn delete_gone(&self, receipt: &Receipt) -> Result<Deleted, Refusal>
+        ensures { delete_gone self.now receipt.now ≡ (result, self.now) }
+    {
+        if receipt.number < self.messages.arrivals() {
+            Ok(Deleted::Gone)
+        } else {
+            Err(Refusal::ReceiptHandleIsInvalid)
         }
     }
 
@@ -102,11 +85,36 @@ impl Queue {
     ) -> Result<Option<Load>, Refusal>
         requires { now ≤ most_count }
         ensures answer { change self.old now receipt.now timeout ≡ (result, self.new) }
+        ensures kept { self.new.entries ≡ self.old.entries }
         ensures framed { IsFramed self.old self.new }
     {
-        match &mut self.either {
-            Either::Standard(queue) => queue.change(now, receipt, timeout),
-            Either::Fifo(queue) => queue.change(now, receipt, timeout),
+        if timeout > LONGEST_TIMEOUT {
+            return Err(Refusal::BadTimeout);
         }
+        if !self.may_be_given(receipt) {
+            return Err(Refusal::ReceiptHandleIsInvalid);
+        }
+        let Some(message) = self.messages.find(receipt.number) else {
+            return if receipt.number < self.messages.arrivals() {
+                Err(Refusal::MessageNotInflight)
+            } else {
+                Err(Refusal::ReceiptHandleIsInvalid)
+            };
+        };
+        if message.receives < receipt.count {
+            return Err(Refusal::ReceiptHandleIsInvalid);
+        }
+        if !is_out(message) || receipt.count < message.receives {
+            return Err(Refusal::MessageNotInflight);
+        }
+        let until = now + 1000 * timeout;
+        if message.received + LONGEST_FLIGHT < until {
+            return Err(Refusal::BadTimeout);
+        }
+        if timeout == 0 {
+            return self.release(receipt.number);
+        }
+        keep_out(&mut self.messages, receipt.number, until);
+        Ok(None)
     }
 }

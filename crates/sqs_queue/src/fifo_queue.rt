@@ -1,0 +1,261 @@
+//! A FIFO queue by itself: its messages in order, their groups and deduplication, and the calls of
+//! Amazon SQS on it.
+ghost use Rattle.std.specs.Prelude.{◌≡◌, ◌⊎◌, ◌*◌, ◌<◌, ◌≤◌, [], All, Any, Err, IfOk, IsOkUnless, OnErr, OnOk, count_by, false, length, not};
+ghost use Rattle.std.specs.Result.{result_map_both};
+ghost use Rattle.sim_clock.specs.Firsts.{is_empty};
+ghost use Rattle.sim_clock.specs.Order.{least};
+ghost use Rattle.sqs_model.specs.Acts.{sends};
+ghost use Rattle.sqs_model.specs.Answers.{Meets, most_count};
+ghost use Rattle.sqs_model.specs.Arrive.{arrived, expired};
+ghost use Rattle.sqs_model.specs.Available.{all_available};
+ghost use Rattle.sqs_model.specs.Calls.{change, delete_fifo, returned};
+ghost use Rattle.sqs_model.specs.Dues.{queue_dues};
+ghost use Rattle.sqs_model.specs.Progress.{IsRecent};
+ghost use Rattle.sqs_model.specs.Queue.{IsFramed, is_delayed, is_in_flight, is_visible};
+ghost use Rattle.sqs_model.specs.Receive.{receive, to_give};
+ghost use Rattle.sqs_model.specs.Return.{released};
+ghost use Rattle.sqs_model.specs.Task.{take_movable};
+ghost use Rattle.sqs_queue.specs.Calls.{never_refused};
+ghost use Rattle.sqs_queue.specs.Kinds.{IsFifoSettings};
+
+use crate::batch::Received;
+use crate::queue::Queue;
+use sim_clock::{Key, Refusal};
+use sqs_message::{Receipt, Text};
+use sqs_messages::{Counts, Messages};
+use sqs_redrive::{Deleted, Got, Load, QueueSettings, Rest, Sent};
+use std::alloc::Global;
+use std::marker::Model;
+
+/// A FIFO queue. Contracts see it as the definitions' `Queue`. Times are milliseconds.
+#[derive(Drop)]
+pub struct FifoQueue {
+    queue: Queue,
+}
+
+impl Model for FifoQueue {
+    ghost use Rattle.sqs_model.specs.Queue.{Queue};
+    ghost use Rattle.sqs_queue.specs.Kinds.{IsFifoSettings};
+
+    ghost Value = { Queue };
+
+    ghost view = { λ q. q.queue };
+
+    ghost invariant = { λ q. IsFifoSettings q.queue.settings };
+}
+
+impl FifoQueue {
+    /// An empty queue with this number.
+    pub fn new(alloc: Global, site: u32, settings: QueueSettings) -> FifoQueue
+        requires { IsFifoSettings settings }
+        ensures { result ≡ record { site = site; settings = settings; records = []; entries = []; arrivals = 0 } }
+    {
+        FifoQueue::opened_at(alloc, site, settings, 0)
+    }
+
+    /// An empty queue with this number, to which so many messages came before: the next gets that
+    /// count as its number.
+    pub fn opened_at(alloc: Global, site: u32, settings: QueueSettings, arrivals: u64) -> FifoQueue
+        requires settings { IsFifoSettings settings }
+        requires arrivals { arrivals ≤ most_count }
+        ensures { result ≡ record { site = site; settings = settings; records = []; entries = []; arrivals = arrivals } }
+    {
+        FifoQueue {
+            queue: Queue::opened_at(alloc, site, settings, arrivals),
+        }
+    }
+
+    /// Its number.
+    pub fn site(&self) -> u32
+        ensures { result ≡ self.now.site }
+    {
+        self.queue.site()
+    }
+
+    /// Its settings.
+    pub fn settings(&self) -> &QueueSettings
+        ensures { result.now ≡ self.now.settings }
+    {
+        self.queue.settings()
+    }
+
+    /// Its messages, in the order of their arrival.
+    pub fn view(&self) -> Messages<'_>
+        ensures { result ≡ self.now.records }
+    {
+        self.queue.view()
+    }
+
+    /// `DeleteMessage`: a message in flight leaves by its newest receipt, at its age.
+    /// `ReceiptHandleIsInvalid` by any other receipt, and where the message is not in flight.
+    pub fn delete(&mut self, now: u64, receipt: &Receipt) -> Result<Deleted, Refusal>
+        ensures answer { delete_fifo self.old now receipt.now ≡ (result, self.new) }
+        ensures kept { self.new.entries ≡ self.old.entries }
+        ensures framed { IsFramed self.old self.new }
+    {
+        self.queue.delete_fifo(now, receipt)
+    }
+
+    /// The end of the delay or visibility timeout of a message: it is visible again, or leaves for
+    /// the dead-letter queue, which gives its load. No error comes.
+    pub fn release(&mut self, number: u64) -> Result<Option<Load>, Refusal>
+        ensures answer { returned (released self.old number) ≡ (result, self.new) }
+        ensures kept { self.new.entries ≡ self.old.entries }
+        ensures framed { IsFramed self.old self.new }
+    {
+        self.queue.release(number)
+    }
+
+    /// The end of the retention period of a message, which leaves. Answers its age, 0 where it is
+    /// not there.
+    pub fn expire(&mut self, now: u64, number: u64) -> u64
+        ensures answer { expired self.old now number ≡ (result, self.new) }
+        ensures kept { self.new.entries ≡ self.old.entries }
+        ensures framed { IsFramed self.old self.new }
+    {
+        self.queue.expire(now, number)
+    }
+
+    /// `ChangeMessageVisibility`: a message in flight is so until `now` and so many seconds; by 0
+    /// seconds it is visible again, or leaves for the dead-letter queue, which gives its load.
+    /// `BadTimeout` over 43,200 seconds, or past 12 hours from the receive;
+    /// `ReceiptHandleIsInvalid` where the receipt is none of this queue's; `MessageNotInflight`
+    /// where the message is not in flight by this receipt.
+    pub fn change(
+        &mut self,
+        now: u64,
+        receipt: &Receipt,
+        timeout: u64,
+    ) -> Result<Option<Load>, Refusal>
+        requires { now ≤ most_count }
+        ensures answer { change self.old now receipt.now timeout ≡ (result, self.new) }
+        ensures kept { self.new.entries ≡ self.old.entries }
+        ensures framed { IsFramed self.old self.new }
+    {
+        self.queue.change(now, receipt, timeout)
+    }
+
+    /// The key of what is due next: the least expiry or end of a delay or visibility timeout.
+    pub fn least_due(&self) -> Option<Key>
+        ensures { result ≡ least (queue_dues self.now) }
+    {
+        self.queue.least_due()
+    }
+
+    /// How many messages are where.
+    pub fn counts(&self) -> Counts
+        ensures visible { result.visible ≡ count_by is_visible self.now.records }
+        ensures in_flight { result.in_flight ≡ count_by is_in_flight self.now.records }
+        ensures delayed { result.delayed ≡ count_by is_delayed self.now.records }
+    {
+        self.queue.counts()
+    }
+
+    /// Whether there is a message that it may give. Goes over no messages.
+    pub fn has_available(&self) -> bool
+        ensures { result ≡ not (is_empty (all_available self.now)) }
+    {
+        self.queue.has_available()
+    }
+
+    /// `SendMessage`: a message of this body in a message group (`MessageGroupId`), delayed as the
+    /// queue says, and its deduplication entry. A send with the deduplication id of one in the last
+    /// 5 minutes, in the queue or in the group, is a repeat of that one and makes nothing; where
+    /// none is given and the queue compares bodies, the body's SHA-256 is the id
+    /// (`MessageDeduplicationId`, `ContentBasedDeduplication`, `DeduplicationScope`). `BadDelay`
+    /// with a delay of its own over 0 seconds; `MissingGroup`; `MissingDeduplication`; `CountLimit`
+    /// where a new message is to come and the queue's numbers are used up; `Memory`.
+    pub fn send(
+        &mut self,
+        now: u64,
+        body: Text,
+        group: Option<Text>,
+        id: Option<Text>,
+        delay: Option<u64>,
+    ) -> Result<Sent, Refusal>
+        requires moment { now ≤ most_count }
+        requires recent { IsRecent now self.old }
+        ensures answer { Meets (self.old.arrivals ≡ most_count) result self.new (sends self.old.settings.kind self.old now body delay group id) }
+        ensures at_limit { result ≡ Err Refusal.CountLimit → most_count < (sends self.old.settings.kind self.old now body delay group id).1.arrivals }
+        ensures counted { OnOk result ((self.old.arrivals < most_count) ⊎ (self.new ≡ self.old)) }
+        ensures unchanged { OnErr result (self.new ≡ self.old) }
+        ensures recent { IsRecent now self.new }
+        ensures framed { IsFramed self.old self.new }
+    {
+        self.queue.send_fifo(now, body, group, id, delay)
+    }
+
+    /// A transfer arrives: a message of a move task or of another queue's redrive is visible at
+    /// once, enqueued now (`StartMessageMoveTask`, a redrive policy); the second part of the answer
+    /// tells whether it expires within its arrival. A forward is a `SendMessage` in the group of
+    /// the message that was served, with its id text as deduplication id, and may be a repeat.
+    /// `CountLimit` where a new message is to come and the queue's numbers are used up; `Memory`.
+    pub fn arrive(&mut self, now: u64, load: Load) -> Result<(Sent, bool), Refusal>
+        requires moment { now ≤ most_count }
+        requires recent { IsRecent now self.old }
+        ensures answer { Meets (self.old.arrivals ≡ most_count) result self.new (never_refused (arrived self.old now load)) }
+        ensures at_limit { result ≡ Err Refusal.CountLimit → most_count < (arrived self.old now load).1.arrivals }
+        ensures counted { OnOk result ((self.old.arrivals < most_count) ⊎ (self.new ≡ self.old)) }
+        ensures unchanged { OnErr result (self.new ≡ self.old) }
+        ensures recent { IsRecent now self.new }
+        ensures framed { IsFramed self.old self.new }
+    {
+        self.queue.arrive_fifo(now, load)
+    }
+
+    /// `ReceiveMessage`: at most so many messages of those that the queue may give, group by group
+    /// and in order within each, and no more than the in-flight limit leaves room for. A group with
+    /// a message in flight gives none. Each is in flight for so many seconds or else as the queue
+    /// says; with 0 seconds it comes back at once. `BadTimeout` over 43,200 seconds; `CountLimit`
+    /// where one of them can be received no more; `Memory`.
+    pub fn receive(&mut self, now: u64, max: u64, timeout: Option<u64>) -> Result<Vec<Got>, Refusal>
+        requires { now ≤ most_count }
+        ensures answer { Meets (Any (λ m. m.receives ≡ most_count) (to_give self.old max 1)) (result_map_both (λ batch. batch.items) (λ refusal. refusal) result) self.new (receive self.old now max timeout 1 false) }
+        ensures counted { OnOk result (All (λ m. m.receives < most_count) (to_give self.old max 1)) }
+        ensures unchanged { OnErr result (self.new ≡ self.old) }
+        ensures kept { self.new.entries ≡ self.old.entries }
+        ensures framed { IsFramed self.old self.new }
+    {
+        self.queue.receive(now, max, timeout, 1, false)
+    }
+
+    /// `ReceiveMessage` as `receive` does it, with the same errors. Tells also how many messages it
+    /// read in order to choose those that it gives: at least these, and at most twice as many as were
+    /// asked for, whatever the length of the queue.
+    pub fn receive_looking(
+        &mut self,
+        now: u64,
+        max: u64,
+        timeout: Option<u64>,
+    ) -> Result<Received, Refusal>
+        requires { now ≤ most_count }
+        ensures answer { Meets (Any (λ m. m.receives ≡ most_count) (to_give self.old max 1)) (result_map_both (λ received. received.messages.items) (λ refusal. refusal) result) self.new (receive self.old now max timeout 1 false) }
+        ensures looked { IfOk result (λ received. received.looked ≤ 2 * max) }
+        ensures read { IfOk result (λ received. length received.messages.items ≤ received.looked) }
+        ensures counted { OnOk result (All (λ m. m.receives < most_count) (to_give self.old max 1)) }
+        ensures unchanged { OnErr result (self.new ≡ self.old) }
+        ensures kept { self.new.entries ≡ self.old.entries }
+        ensures framed { IsFramed self.old self.new }
+    {
+        self.queue.receive_looking(now, max, timeout, 1, false)
+    }
+
+    /// A step of a move task (`StartMessageMoveTask`) takes at most so many of the messages that
+    /// the queue may give out, in the order in which it gives them, each for the task's queue or
+    /// else for the one that it came from as a dead letter, up to the first that has nowhere to go.
+    /// Answers where each goes and its load, and what is left. The one error is `Memory`, which
+    /// leaves the queue as it was.
+    pub fn take_movable(
+        &mut self,
+        max: u64,
+        to: Option<u32>,
+    ) -> Result<(Vec<(u32, Load)>, Rest), Refusal>
+        ensures taken { IfOk result (λ answer. take_movable self.old max to ≡ ((answer.0.items, answer.1), self.new)) }
+        ensures unchanged { OnErr result (self.new ≡ self.old) }
+        ensures memory_only { IsOkUnless result Refusal.Memory }
+        ensures kept { self.new.entries ≡ self.old.entries }
+        ensures framed { IsFramed self.old self.new }
+    {
+        self.queue.take_movable(max, to)
+    }
+}

@@ -1,0 +1,62 @@
+//! What a step of a move task takes out.
+ghost use Rattle.std.specs.Prelude.{◌≡◌, ◌≤◌, [], length, vec_capacity};
+ghost use Rattle.sqs_message.specs.declared.message.Message.{Message};
+ghost use Rattle.sqs_model.specs.Progress.{Differ};
+ghost use Rattle.sqs_model.specs.Task.{destination, take_each};
+ghost use Rattle.sqs_queue.specs.Picked.{messages_of};
+
+use sqs_message::{Message, MessageId};
+use sqs_messages::MessageTable;
+use sqs_redrive::Load;
+
+// Where a message goes: to the task's queue, or else back to the one that it came from.
+fn destination(to: Option<u32>, message: &Message) -> Option<u32>
+    ensures { result ≡ destination to message.now }
+{
+    match to {
+        None => message.source,
+        Some(queue) => Some(queue),
+    }
+}
+
+// What a move carries of a message of this queue.
+fn move_of(site: u32, message: Message) -> Load
+    ensures { result ≡ Load.Move (record { site = site; number = message.number }) message.origin message.body message.group }
+{
+    Load::Move {
+        id: MessageId {
+            site,
+            number: message.number,
+        },
+        origin: message.origin,
+        body: message.body,
+        group: message.group,
+    }
+}
+
+// Takes out the messages of these numbers, up to the first that has nowhere to go. Adds where each
+// goes and its load to a list that has room, and tells whether it met one that has nowhere to go.
+pub fn take_each(
+    messages: &mut MessageTable,
+    numbers: &[u64],
+    to: Option<u32>,
+    loads: &mut Vec<(u32, Load)>,
+) -> bool
+    requires apart { Differ (λ n. n) numbers.now }
+    requires none { loads.old.items ≡ [] }
+    requires room { length numbers.now ≤ vec_capacity loads.old }
+    ensures { take_each messages.old to (messages_of messages.old.records numbers.now) ≡ record { queue = messages.new; loads = loads.new.items; stuck = result } }
+{
+    let site = messages.site();
+    for number in numbers {
+        if let Some(message) = messages.find(*number) {
+            let Some(queue) = destination(to, message) else {
+                return true;
+            };
+            if let Some(message) = messages.remove(*number) {
+                loads.push_reserved((queue, move_of(site, message)));
+            }
+        }
+    }
+    false
+}

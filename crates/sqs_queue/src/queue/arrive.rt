@@ -1,0 +1,97 @@
+//! The arrival of transfers.
+ghost use Rattle.std.specs.Prelude.{◌≡◌, ◌⊎◌, ◌<◌, ◌≤◌, Err, IfOk, OnErr, OnOk};
+ghost use Rattle.sqs_message.specs.declared.message.Message.{Message};
+ghost use Rattle.sqs_messages.specs.Stored.{IsCounted};
+ghost use Rattle.sqs_model.specs.Answers.{Meets, most_count};
+ghost use Rattle.sqs_model.specs.Arrive.{arrived, brought, settle};
+ghost use Rattle.sqs_model.specs.Progress.{IsRecent, WasEnqueuedBy};
+ghost use Rattle.sqs_model.specs.Queue.{IsFramed};
+ghost use Rattle.sqs_model.specs.Valid.{IsStandard};
+ghost use Rattle.sqs_queue.specs.Calls.{never_refused};
+
+use super::Queue;
+use sim_clock::Refusal;
+use sqs_message::{Message, MessageId, Origin, Text};
+use sqs_model::MOST_COUNT;
+use sqs_redrive::{Kind, Load, Sent};
+use std::alloc::AllocError;
+
+impl Queue {
+    /// A transfer arrives: a message of a move task or of another queue's redrive is visible at
+    /// once, the latter at a standard queue with the enqueue time that it had, which is no later
+    /// than now, and at a FIFO queue with a new one; one older than the retention period expires
+    /// within its arrival, which the second part of the answer tells. A forward is a `SendMessage`
+    /// with the queue's delay, at a FIFO queue in the group of the message that was served and with
+    /// its id text as deduplication id, so that it may be a repeat. `CountLimit` where a new
+    /// message is to come and the queue's numbers are used up; `Memory`.
+    pub fn arrive(&mut self, now: u64, load: Load) -> Result<(Sent, bool), Refusal>
+        requires moment { now ≤ most_count }
+        requires enqueued { IsStandard self.old.settings.kind → WasEnqueuedBy now load }
+        requires recent { IsRecent now self.old }
+        ensures answer { Meets (self.old.arrivals ≡ most_count) result self.new (never_refused (arrived self.old now load)) }
+        ensures counted { OnOk result ((self.old.arrivals < most_count) ⊎ (self.new ≡ self.old)) }
+        ensures at_limit { result ≡ Err Refusal.CountLimit → most_count < (arrived self.old now load).1.arrivals }
+        ensures unchanged { OnErr result (self.new ≡ self.old) }
+        ensures framed { IsFramed self.old self.new }
+        ensures recent { IsRecent now self.new }
+    {
+        match self.messages.settings().kind {
+            Kind::Standard { .. } => self.arrive_standard(now, load),
+            Kind::Fifo { .. } => self.arrive_fifo(now, load),
+        }
+    }
+
+    // A message comes in with the origin that it had and is visible at once, enqueued at a moment
+    // that is no later than now.
+    pub(super) fn bring(
+        &mut self,
+        now: u64,
+        origin: Origin,
+        body: Text,
+        group: Option<Text>,
+        enqueued: u64,
+        source: Option<u32>,
+    ) -> Result<(Sent, bool), Refusal>
+        requires moment { now ≤ most_count }
+        requires enqueued { enqueued ≤ now }
+        ensures answer { Meets (self.old.arrivals ≡ most_count) result self.new (never_refused (settle self.old now (brought self.old now origin body group enqueued source))) }
+        ensures counted { OnOk result (self.old.arrivals < most_count) }
+        ensures unchanged { OnErr result (self.new ≡ self.old) }
+        ensures kept { self.new.entries ≡ self.old.entries }
+        ensures framed { IsFramed self.old self.new }
+    {
+        if self.messages.arrivals() == MOST_COUNT {
+            return Err(Refusal::CountLimit);
+        }
+        let message = Message {
+            origin,
+            enqueued,
+            source,
+            ..self.next_message(now, body, group, 0)
+        };
+        Ok(self.settle(now, message)?)
+    }
+
+    // A message that comes in with the next number stays, or expires at once where it is older than
+    // the retention period, which the second part of the answer tells.
+    fn settle(&mut self, now: u64, message: Message) -> Result<(Sent, bool), AllocError>
+        requires numbered { message.number ≡ self.old.arrivals }
+        requires counted { IsCounted message }
+        requires below { self.old.arrivals < most_count }
+        ensures answer { IfOk result (λ sent. settle self.old now message ≡ (sent, self.new)) }
+        ensures unchanged { OnErr result (self.new ≡ self.old) }
+        ensures kept { self.new.entries ≡ self.old.entries }
+        ensures framed { IsFramed self.old self.new }
+    {
+        let sent = Sent::New(MessageId {
+            site: self.messages.site(),
+            number: self.messages.arrivals(),
+        });
+        if self.messages.settings().retention <= now.saturating_sub(message.enqueued) {
+            self.messages.skip();
+            return Ok((sent, true));
+        }
+        self.messages.push(message)?;
+        Ok((sent, false))
+    }
+}

@@ -1,0 +1,168 @@
+//! The receiving of messages.
+ghost use Rattle.std.specs.Prelude.{◌≡◌, ◌*◌, false, true, ◌<◌, ◌≤◌, ◌⊎◌, All, Any, Err, IfErr, IfOk, IfSome, OnErr, OnOk, length, map, take};
+ghost use Rattle.std.specs.Result.{result_map_both};
+ghost use Rattle.sqs_model.specs.Answers.{Meets, most_count};
+ghost use Rattle.sqs_model.specs.Available.{available};
+ghost use Rattle.sqs_model.specs.Longest.{longest_flight};
+ghost use Rattle.sqs_model.specs.Queue.{IsFramed, numbered};
+ghost use Rattle.sqs_model.specs.Receive.{answered, give, is_bad_timeout, receive, timeout_of, to_give};
+ghost use Rattle.sqs_queue.specs.Giving.{CanBeGiven, gives, gives_all, told_of};
+
+use super::Queue;
+use crate::batch::{Received, batch_of};
+use crate::places::received;
+use sim_clock::Refusal;
+use sqs_model::LONGEST_TIMEOUT;
+use sqs_redrive::{Got, Load};
+
+impl Queue {
+    /// `ReceiveMessage`: at most so many messages of those that the queue may give, and no more
+    /// than the in-flight limit leaves room for. A standard queue gives those visible on the hosts
+    /// seen, which are given by their bits; a FIFO queue gives group by group, whatever the hosts.
+    /// Each is in flight for so many seconds or else as the queue says; with 0 seconds it comes
+    /// back at once. `BadTimeout` over 43,200 seconds; `OverLimit` where a short poll, which is of
+    /// standard queues, finds the limit reached; `CountLimit` where one of them can be received no
+    /// more; `Memory`.
+    pub fn receive(
+        &mut self,
+        now: u64,
+        max: u64,
+        timeout: Option<u64>,
+        hosts: u16,
+        short: bool,
+    ) -> Result<Vec<Got>, Refusal>
+        requires moment { now ≤ most_count }
+        ensures answer { Meets (Any (λ m. m.receives ≡ most_count) (to_give self.old max hosts)) (result_map_both (λ batch. batch.items) (λ refusal. refusal) result) self.new (receive self.old now max timeout hosts short) }
+        ensures counted { OnOk result (All (λ m. m.receives < most_count) (to_give self.old max hosts)) }
+        ensures unchanged { OnErr result (self.new ≡ self.old) }
+        ensures kept { self.new.entries ≡ self.old.entries }
+        ensures framed { IsFramed self.old self.new }
+    {
+        let received = self.receive_looking(now, max, timeout, hosts, short)?;
+        Ok(received.messages)
+    }
+
+    // A receive that tells also how many messages it read in order to choose those that it gives.
+    pub(crate) fn receive_looking(
+        &mut self,
+        now: u64,
+        max: u64,
+        timeout: Option<u64>,
+        hosts: u16,
+        short: bool,
+    ) -> Result<Received, Refusal>
+        requires { now ≤ most_count }
+        ensures answer { Meets (Any (λ m. m.receives ≡ most_count) (to_give self.old max hosts)) (result_map_both (λ received. received.messages.items) (λ refusal. refusal) result) self.new (receive self.old now max timeout hosts short) }
+        ensures looked { IfOk result (λ received. received.looked ≤ 2 * max) }
+        ensures read { IfOk result (λ received. length received.messages.items ≤ received.looked) }
+        ensures counted { OnOk result (All (λ m. m.receives < most_count) (to_give self.old max hosts)) }
+        ensures unchanged { OnErr result (self.new ≡ self.old) }
+        ensures kept { self.new.entries ≡ self.old.entries }
+        ensures framed { IsFramed self.old self.new }
+    {
+        let wait = self.wait_of(timeout)?;
+        let room = self.room();
+        if short && room == 0 {
+            return Err(Refusal::OverLimit);
+        }
+        let most = max.min(room);
+        self.give_first(now, wait, u32::from(hosts), most)
+    }
+
+    // A receive's visibility timeout in milliseconds: its own, given in seconds, or else the
+    // queue's. `BadTimeout` over 43,200 seconds.
+    fn wait_of(&self, timeout: Option<u64>) -> Result<u64, Refusal>
+        ensures wait { IfOk result (λ wait. (is_bad_timeout timeout ≡ false) × (timeout_of self.now timeout ≡ wait) × (wait ≤ longest_flight)) }
+        ensures bad { IfErr result (λ refusal. (is_bad_timeout timeout ≡ true) × (refusal ≡ Refusal.BadTimeout)) }
+    {
+        match timeout {
+            None => Ok(self.messages.settings().visibility),
+            Some(seconds) => {
+                if seconds > LONGEST_TIMEOUT {
+                    Err(Refusal::BadTimeout)
+                } else {
+                    Ok(1000 * seconds)
+                }
+            }
+        }
+    }
+
+    // Gives the first messages, at most so many, of those that a receive may give which sees these
+    // hosts, one after another, each for so many milliseconds; with 0 it comes back at once
+    // (`ReceiveMessage`). Tells how many messages it read in order to choose them. `CountLimit`
+    // where one of them can be received no more; `Memory`.
+    fn give_first(
+        &mut self,
+        now: u64,
+        timeout: u64,
+        hosts: u32,
+        most: u64,
+    ) -> Result<Received, Refusal>
+        requires moment { now ≤ most_count }
+        requires timeout { timeout ≤ longest_flight }
+        ensures answer { Meets (Any (λ m. m.receives ≡ most_count) (take most (available self.old hosts))) (result_map_both (λ received. received.messages.items) (λ refusal. refusal) result) self.new (answered (give now timeout (take most (available self.old hosts)) self.old)) }
+        ensures looked { IfOk result (λ received. received.looked ≤ 2 * most) }
+        ensures read { IfOk result (λ received. length received.messages.items ≤ received.looked) }
+        ensures counted { OnOk result (All (λ m. m.receives < most_count) (take most (available self.old hosts))) }
+        ensures unchanged { OnErr result (self.new ≡ self.old) }
+        ensures kept { self.new.entries ≡ self.old.entries }
+        ensures framed { IsFramed self.old self.new }
+    {
+        let mut batch = self.batch(hosts, most)?;
+        self.give_all(now, timeout, &mut batch.messages);
+        Ok(batch)
+    }
+
+    // What a receive tells of the first messages, before it gives them.
+    fn batch(&self, hosts: u32, most: u64) -> Result<Received, Refusal>
+        ensures told { IfOk result (λ batch. batch.messages.items ≡ map (told_of self.now.site) (take most (available self.now hosts))) }
+        ensures given { IfOk result (λ batch. CanBeGiven self.now batch.messages.items) }
+        ensures looked { IfOk result (λ batch. batch.looked ≤ 2 * most) }
+        ensures read { IfOk result (λ batch. length batch.messages.items ≤ batch.looked) }
+        ensures below { OnOk result (All (λ m. m.receives < most_count) (take most (available self.now hosts))) }
+        ensures at_limit { result ≡ Err Refusal.CountLimit → Any (λ m. m.receives ≡ most_count) (take most (available self.now hosts)) }
+        ensures refused { IfErr result (λ refusal. (refusal ≡ Refusal.CountLimit) ⊎ (refusal ≡ Refusal.Memory)) }
+    {
+        let choice = self.messages.first_numbers(hosts, most)?;
+        let messages = batch_of(self.alloc, &self.messages, &choice.numbers)?;
+        Ok(Received {
+            messages,
+            looked: choice.looked,
+        })
+    }
+
+    // Gives the messages of a batch, one after another.
+    fn give_all(&mut self, now: u64, timeout: u64, batch: &mut Vec<Got>)
+        requires moment { now ≤ most_count }
+        requires timeout { timeout ≤ longest_flight }
+        requires given { CanBeGiven self.old batch.old.items }
+        ensures given { gives_all now timeout batch.old.items self.old ≡ (self.new, batch.new.items) }
+        ensures same_length { length batch.new.items ≡ length batch.old.items }
+        ensures kept { self.new.entries ≡ self.old.entries }
+        ensures framed { IsFramed self.old self.new }
+    {
+        for i in 0..batch.len() {
+            let left = self.give(now, timeout, batch[i].id.number);
+            batch[i].left = left;
+        }
+    }
+
+    // Gives one message.
+    fn give(&mut self, now: u64, timeout: u64, number: u64) -> Option<Load>
+        requires moment { now ≤ most_count }
+        requires timeout { timeout ≤ longest_flight }
+        requires counted { IfSome (numbered number self.old.records) (λ m. m.receives < most_count) }
+        ensures given { gives self.old now timeout number ≡ (self.new, result) }
+        ensures kept { self.new.entries ≡ self.old.entries }
+        ensures framed { IsFramed self.old self.new }
+    {
+        let message = self.messages.find(number)?;
+        let state = received(message, now, timeout);
+        self.messages.put(number, state);
+        if timeout == 0 {
+            self.come_back(number)
+        } else {
+            None
+        }
+    }
+}

@@ -1,0 +1,116 @@
+//! What a standard queue does by its kind: its sends and deletes, and the transfers that it gets.
+ghost use Rattle.std.specs.Prelude.{◌≡◌, ◌<◌, ◌≤◌, OnErr, OnOk};
+ghost use Rattle.sqs_model.specs.Answers.{Meets, most_count};
+ghost use Rattle.sqs_model.specs.Arrive.{arrived};
+ghost use Rattle.sqs_model.specs.Calls.{delete_standard, send_standard};
+ghost use Rattle.sqs_model.specs.Progress.{WasEnqueuedBy};
+ghost use Rattle.sqs_model.specs.Queue.{IsFramed};
+ghost use Rattle.sqs_model.specs.Valid.{IsStandard};
+ghost use Rattle.sqs_queue.specs.Calls.{never_refused};
+
+use super::Queue;
+use sim_clock::Refusal;
+use sqs_message::{MessageId, Receipt, Text};
+use sqs_model::{LONGEST_DELAY, MOST_COUNT};
+use sqs_redrive::{Deleted, Load, Sent};
+
+impl Queue {
+    // A send: a message of this body, delayed by so many seconds or else as the queue says.
+    pub(crate) fn send_standard(
+        &mut self,
+        now: u64,
+        body: Text,
+        delay: Option<u64>,
+    ) -> Result<Sent, Refusal>
+        requires { now ≤ most_count }
+        ensures answer { Meets (self.old.arrivals ≡ most_count) result self.new (send_standard self.old now body delay) }
+        ensures counted { OnOk result (self.old.arrivals < most_count) }
+        ensures unchanged { OnErr result (self.new ≡ self.old) }
+        ensures kept { self.new.entries ≡ self.old.entries }
+        ensures framed { IsFramed self.old self.new }
+    {
+        let wait = match delay {
+            None => self.messages.settings().delay,
+            Some(seconds) => {
+                if seconds > LONGEST_DELAY {
+                    return Err(Refusal::BadDelay);
+                }
+                1000 * seconds
+            }
+        };
+        let number = self.messages.arrivals();
+        if number == MOST_COUNT {
+            return Err(Refusal::CountLimit);
+        }
+        let message = self.next_message(now, body, None, wait);
+        self.messages.push(message)?;
+        Ok(Sent::New(MessageId {
+            site: self.messages.site(),
+            number,
+        }))
+    }
+
+    // A delete: the message leaves by its newest receipt; by an older one it is kept.
+    pub(crate) fn delete_standard(
+        &mut self,
+        now: u64,
+        receipt: &Receipt,
+    ) -> Result<Deleted, Refusal>
+        ensures answer { delete_standard self.old now receipt.now ≡ (result, self.new) }
+        ensures kept { self.new.entries ≡ self.old.entries }
+        ensures framed { IsFramed self.old self.new }
+    {
+        if !self.may_be_given(receipt) {
+            return Err(Refusal::ReceiptHandleIsInvalid);
+        }
+        let Some(message) = self.messages.find(receipt.number) else {
+            return self.delete_gone(receipt);
+        };
+        if message.receives < receipt.count {
+            return Err(Refusal::ReceiptHandleIsInvalid);
+        }
+        if receipt.count < message.receives {
+            return Ok(Deleted::Kept);
+        }
+        let age = now.saturating_sub(message.enqueued);
+        let _ = self.messages.remove(receipt.number);
+        Ok(Deleted::Removed(age))
+    }
+
+    // A transfer arrives: a dead letter with the enqueue time that it had, what a move task brings
+    // as of now, a forward as a send with the queue's delay.
+    pub(crate) fn arrive_standard(&mut self, now: u64, load: Load) -> Result<(Sent, bool), Refusal>
+        requires kind { IsStandard self.old.settings.kind }
+        requires moment { now ≤ most_count }
+        requires enqueued { WasEnqueuedBy now load }
+        ensures answer { Meets (self.old.arrivals ≡ most_count) result self.new (never_refused (arrived self.old now load)) }
+        ensures counted { OnOk result (self.old.arrivals < most_count) }
+        ensures unchanged { OnErr result (self.new ≡ self.old) }
+        ensures kept { self.new.entries ≡ self.old.entries }
+        ensures framed { IsFramed self.old self.new }
+    {
+        match load {
+            Load::Redrive {
+                id,
+                origin,
+                body,
+                group,
+                enqueued,
+            } => self.bring(now, origin, body, group, enqueued, Some(id.site)),
+            Load::Move {
+                id: _,
+                origin,
+                body,
+                group,
+            } => self.bring(now, origin, body, group, now, None),
+            Load::Forward {
+                id: _,
+                body,
+                group: _,
+            } => {
+                let sent = self.send_standard(now, body, None)?;
+                Ok((sent, false))
+            }
+        }
+    }
+}

@@ -1,0 +1,58 @@
+//! What a move task takes out.
+ghost use Rattle.std.specs.Prelude.{◌≡◌, IfOk, IsOkUnless, OnErr, take};
+ghost use Rattle.sqs_model.specs.Available.{all_available};
+ghost use Rattle.sqs_model.specs.Queue.{IsFramed};
+ghost use Rattle.sqs_model.specs.Task.{take_each, take_movable};
+
+use super::Queue;
+use crate::loads::take_each;
+use sim_clock::Refusal;
+use sqs_redrive::{Load, Rest};
+use std::alloc::AllocError;
+
+impl Queue {
+    // Takes out the first messages of those that a receive may give, at most so many, up to the first
+    // that has nowhere to go. Answers where each goes and its load, and whether it met that one.
+    fn take_first(
+        &mut self,
+        most: u64,
+        to: Option<u32>,
+    ) -> Result<(Vec<(u32, Load)>, bool), AllocError>
+        ensures taken { IfOk result (λ answer. take_each self.old to (take most (all_available self.old)) ≡ record { queue = self.new; loads = answer.0.items; stuck = answer.1 }) }
+        ensures unchanged { OnErr result (self.new ≡ self.old) }
+        ensures kept { self.new.entries ≡ self.old.entries }
+        ensures framed { IsFramed self.old self.new }
+    {
+        let choice = self.messages.first_numbers(self.all_hosts(), most)?;
+        let mut loads = Vec::with_capacity(self.alloc, choice.numbers.len())?;
+        let stuck = take_each(&mut self.messages, &choice.numbers, to, &mut loads);
+        Ok((loads, stuck))
+    }
+
+    /// A step of a move task (`StartMessageMoveTask`) takes at most so many of the messages that the
+    /// queue may give, in the order in which it gives them, each for the task's queue or else for
+    /// the one that it came from as a dead letter, up to the first that has nowhere to go. Answers
+    /// where each goes and its load, and what is left. The one error is `Memory`, which leaves the
+    /// queue as it was.
+    pub fn take_movable(
+        &mut self,
+        max: u64,
+        to: Option<u32>,
+    ) -> Result<(Vec<(u32, Load)>, Rest), Refusal>
+        ensures taken { IfOk result (λ answer. take_movable self.old max to ≡ ((answer.0.items, answer.1), self.new)) }
+        ensures unchanged { OnErr result (self.new ≡ self.old) }
+        ensures memory_only { IsOkUnless result Refusal.Memory }
+        ensures kept { self.new.entries ≡ self.old.entries }
+        ensures framed { IsFramed self.old self.new }
+    {
+        let (loads, stuck) = self.take_first(max, to)?;
+        let rest = if stuck {
+            Rest::NoSource
+        } else if self.has_available() {
+            Rest::More
+        } else {
+            Rest::Empty
+        };
+        Ok((loads, rest))
+    }
+}

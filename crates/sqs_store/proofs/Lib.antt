@@ -1,5 +1,0 @@
-pub mod Numbers
-pub mod Batches
-pub mod Giving
-pub mod Taking
-pub mod Coming

@@ -1,4 +1,0 @@
-pub mod Calls
-pub mod Giving
-pub mod Kinds
-pub mod Picked
