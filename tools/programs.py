@@ -20,7 +20,7 @@ def program_of(given):
     except OSError:
         runs = False
     if not runs and program == beside:
-        raise Fault("the program is not built yet: ./sqs_rehearse --help builds it, or SQS_REHEARSE names another")
+        raise Fault("the program is not built yet: ./sqs_rehearse --build builds it, or SQS_REHEARSE names another")
     if not runs:
         raise Fault(f"{program} does not run")
     return os.path.abspath(found)
