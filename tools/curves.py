@@ -9,10 +9,8 @@ import statistics
 
 from console import Fault, read_text, shown
 from drawing import CAPTION, FOOT, GREY, LEFT, LINE, RIGHT, Sheet, head_of, ticks_of
-from requirements import COLUMNS
+from requirements import COLUMNS, FOLDED
 
-# Of a column that was folded by --spread, what a sweep writes of it.
-FOLDED = ("mean", "deviation", "least", "greatest")
 NUMBER = re.compile(r"[0-9]{1,19}(?:\.[0-9]{1,9})?")
 HUES = ("#0072b2", "#d55e00", "#009e73", "#8e63b5", "#e69f00", "#c51b7d", "#111111", "#8c564b")
 PANEL_HEIGHT, PANEL_LEAST, WORDS_MOST = 240, 60, 40

@@ -85,12 +85,12 @@ class Sweep(ToolCase):
                                     "--spread", "seed")
         header, rows = self.records(out)
         self.assertEqual(status, 1)
-        self.assertEqual(header[:8], ["queue.q.visibility_s", "failed", "queue", "runs", "sends_mean",
-                                      "sends_deviation", "sends_least", "sends_greatest"])
+        self.assertEqual(header[:9], ["queue.q.visibility_s", "failed", "queue", "runs", "sends_mean",
+                                      "sends_deviation", "sends_least", "sends_median", "sends_greatest"])
         # The numbers 201, 202 and 206 have the mean 203 and a sum of squared deviations of 4 + 1 + 9 = 14.
-        self.assertEqual(rows[0][:8], ["2", "", "q", "3", "203", "2.646", "201", "206"])
+        self.assertEqual(rows[0][:9], ["2", "", "q", "3", "203", "2.646", "201", "202", "206"])
         ages = header.index("age_p50_mean")
-        self.assertEqual(rows[0][ages:ages + 4], ["", "", "", ""])
+        self.assertEqual(rows[0][ages:ages + 5], ["", "", "", "", ""])
         self.assertEqual(rows[2][:5], ["51", "refused 14 OutOfRange at queue[0].visibility_s", "", "3", ""])
 
     def test_jobs_and_their_collection(self):
