@@ -7,6 +7,7 @@ import signal
 import subprocess
 import sys
 import time
+import tomllib
 import unittest
 
 from tool import PROGRAM, ROOT, TOOLS, ToolCase, needs_program
@@ -109,6 +110,16 @@ class Sweep(ToolCase):
         self.assertEqual((status, err), (1, "sweep: 1 of 4 jobs have no file yet\n"))
         self.assertEqual([row[:2] for row in self.records(out)[1]], [["2", "7"], ["2", "7"], ["2", "8"], ["2", "8"],
                                                                      ["51", "8"]])
+
+    def test_the_scenario_of_one_variant(self):
+        words = "--vary", "queue.q.visibility_s=7", "--vary", "seed=3", "--print-scenario"
+        ran = self.run_tool("sweep", self.scenario, *words, SQS_REHEARSE="/none")
+        wanted = SCENARIO.replace("visibility_s = 1", "visibility_s = 7").replace("seed = 0", "seed = 3")
+        self.assertEqual((ran[0], tomllib.loads(ran[1]), ran[2]), (0, tomllib.loads(wanted), ""))
+        self.assert_fault(self.sweep(self.scenario, "--vary", "seed=1..20", "--print-scenario"),
+                          "sweep: --print-scenario prints one variant, and these are 20")
+        self.assert_fault(self.sweep(self.scenario, "--vary", "seed=1", "--print-scenario", "--spread", "seed"),
+                          "sweep: --require and --spread go with runs, and nothing is run")
 
     def test_faults(self):
         for words, line in (
