@@ -5,7 +5,7 @@ The tools import it; it is not run by itself.
 """
 import argparse
 import errno
-import importlib
+import importlib.util
 import os
 import stat
 import sys
@@ -42,8 +42,21 @@ def library(name, package):
     try:
         return importlib.import_module(name)
     except ImportError:
-        raise Fault(f"the library {name} is missing: Debian's package {package} has it for Debian's python3, "
-                    "and tools/setup installs it") from None
+        raise missing_library(name, package) from None
+
+
+def missing_library(name, package):
+    return Fault(f"the library {name} is missing: Debian's package {package} has it for Debian's python3, and tools/setup "
+                 "installs it")
+
+
+def check_library(name, package):
+    """Makes sure, before the work begins, that a library is there; to look is quicker than to read it."""
+    if importlib.util.find_spec(name) is None:
+        if DEBIAN_LIBRARIES not in sys.path:
+            sys.path.append(DEBIAN_LIBRARIES)
+        if importlib.util.find_spec(name) is None:
+            raise missing_library(name, package)
 
 
 def read_bytes(path):

@@ -197,9 +197,10 @@ class Geometry(Readable):
                 self.texts_of(LOG, *words)
 
     def test_spans_of_time(self):
-        for span in (1, 7, 999, 2_999, 60_000, 178_000, 3_599_999, 10_800_000, 86_399_999, 259_200_000, 2_592_000_000):
+        spans = 1, 7, 999, 2_999, 60_000, 178_000, 3_599_999, 10_800_000, 86_399_999, 259_200_000, 2_592_000_000
+        for place, span in enumerate(spans):
             log = f"{HEADER}0,q,a,send,new,m-0-0,,x\n{span},q,a,delete,deleted,m-0-0,r,{span}\n"
-            for width in ("640", "1000", "1730"):
+            for width in ("640", "1730") if place % 3 == 0 else ("640",):
                 with self.subTest(span=span, width=width):
                     self.texts_of(log, "--width", width)
 

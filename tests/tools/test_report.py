@@ -150,10 +150,9 @@ class Report(ToolCase):
         folder = self.path("without")
         os.mkdir(folder)
         self.write("without/plotly.py", "raise ImportError\n")
-        ran = self.run_tool("report", self.scenario, "--output", "r.html", PYTHONPATH=folder)
+        ran = self.run_tool("report", self.scenario, "--output", "r.html", PYTHONPATH=folder, SQS_REHEARSE=self.program)
         self.assert_fault(ran, "report: the library plotly.offline is missing: Debian's package python3-plotly has it "
-                               "for "
-                          "Debian's python3, and tools/setup installs it")
+                               "for Debian's python3, and tools/setup installs it")
 
     @needs_program
     def test_with_the_program(self):
