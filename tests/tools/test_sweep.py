@@ -200,6 +200,12 @@ class Sweep(ToolCase):
                          "10,,q,10,110,\n10,,r,0,0,\n")
         self.assertEqual(self.sweep(*words, "--table")[1], "seed  queue  age_sum  sends\n   1  q            1    101\n"
                          "   1  r            0      0\n  10  q           10    110\n  10  r            0      0\n")
+        self.assertEqual(self.sweep(*words, "--table", "--spread", "seed")[1], """\
+             age_sum                                   sends
+queue  runs  mean  deviation  least  median  greatest   mean  deviation  least  median  greatest
+q         2   5.5      6.364      1     5.5        10  105.5      6.364    101   105.5       110
+r         2     0          0      0       0         0      0          0      0       0         0
+""")
         self.assertEqual(self.sweep(*words, "--spread", "seed", "--output", "new/rows.csv")[0], 0)
         with open(self.path("new/rows.csv"), encoding="utf-8") as file:
             header, rows = self.records(file.read())
