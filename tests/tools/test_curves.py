@@ -107,11 +107,10 @@ class Curves(Readable):
                                "combinations can be drawn"),
                 (LONG_WORDS, column, "a has 41 words, too many to stand side by side")):
             with self.subTest(text=text, words=words):
-                self.write("rows.csv", text)
+                path = self.write("rows.csv", text)
                 with self.assertRaises(Fault) as fault:
-                    os.chdir(self.folder)
-                    sweep_picture(picture.options_of(["--sweep", "rows.csv", *words]))
-                self.assertEqual(str(fault.exception), line)
+                    sweep_picture(picture.options_of(["--sweep", path, *words]))
+                self.assertEqual(str(fault.exception).replace(path, "rows.csv"), line)
         self.assert_fault(self.run_tool("picture", "rows.csv", *column),
                           "picture: --column and --setting go with --sweep")
         self.assert_fault(self.run_tool("picture", "--sweep", "none", *column),
@@ -125,7 +124,7 @@ class Curves(Readable):
     @needs_program
     def test_curve_of_a_sweep(self):
         scenario = os.path.join(ROOT, "examples", "short_timeout.toml")
-        words = "--vary", "count.packer=1..3", "--vary", "seed=1..4", "--columns", "receives,age_p95"
+        words = "--vary", "count.left=1..3", "--vary", "seed=1..4", "--columns", "receives,age_p95"
         status, rows, _ = self.run_tool("sweep", scenario, *words, SQS_REHEARSE=PROGRAM)
         command = [sys.executable, os.path.join(TOOLS, "picture"), "--sweep", "-", "--column", "jobs.age_p95"]
         run = subprocess.run(command, input=rows, text=True, capture_output=True)

@@ -6,9 +6,8 @@ import shutil
 import subprocess
 import tarfile
 import unittest
-from importlib.machinery import SourceFileLoader
 
-from tool import PROGRAM, ROOT, ToolCase, needs_program
+from tool import PROGRAM, ROOT, ToolCase, module_at, needs_program
 
 # A program in the place of ours, which tells the words that it is given.
 ECHO = shutil.which("echo")
@@ -81,7 +80,7 @@ class Package(ToolCase):
     def test_first_scenario(self):
         package, packed = self.package(PROGRAM)
         root = self.installed(package)
-        questions = SourceFileLoader("questions", os.path.join(ROOT, "tests", "questions")).load_module()
+        questions = module_at(os.path.join(ROOT, "tests", "questions"), "questions")
         quoted = dict(questions.quoted_commands(pathlib.Path(ROOT, "README.md").read_text()))
         wanted = quoted["./sqs_rehearse run examples/first.toml"]
         status, out, err = self.run_in(f"{root}/usr/share/doc/sqs-rehearse", f"{root}/usr/bin/sqs_rehearse", "run",
