@@ -46,8 +46,8 @@ def library(name, package):
 
 
 def missing_library(name, package):
-    return Fault(f"the library {name} is missing: Debian's package {package} has it for Debian's python3, and tools/setup "
-                 "installs it")
+    return Fault(f"the library {name} is missing: Debian's package {package} has it for Debian's python3, and "
+                 "tools/setup installs it")
 
 
 def check_library(name, package):
@@ -127,6 +127,7 @@ def print_text(text):
     """Writes standard output, and makes sure that it is written."""
     if sys.stdout is None:
         raise Fault("standard output is closed")
+    Progress.clear()
     sys.stdout.write(text)
     sys.stdout.flush()
 
@@ -141,9 +142,15 @@ class Progress:
 
     is_shown = False
 
+    @classmethod
+    def show(cls, line):
+        """Puts a line in the place of the last one."""
+        cls.is_shown = True
+        print(f"\r{tool()}: {line}\033[K", end="", file=sys.stderr, flush=True)
+
     def __init__(self, path, file):
         self.read, self.told = 0, time.monotonic()
-        self.is_told = sys.stderr is not None and sys.stderr.isatty()
+        self.is_told = is_terminal(sys.stderr)
         status = os.fstat(file.fileno())
         self.size = status.st_size if stat.S_ISREG(status.st_mode) else 0
         self.name = "standard input" if path == "-" else path
@@ -152,15 +159,19 @@ class Progress:
         """Takes in that so many more bytes have been read."""
         self.read += length
         if self.is_told and time.monotonic() >= self.told + 1:
-            self.told, Progress.is_shown = time.monotonic(), True
+            self.told = time.monotonic()
             share = f"{min(100, 100 * self.read // self.size)} %" if self.size else f"{self.read / 1e6:,.0f} MB"
-            print(f"\r{tool()}: {share} of {self.name} read\033[K", end="", file=sys.stderr, flush=True)
+            self.show(f"{share} of {self.name} read")
 
     @classmethod
     def clear(cls):
         if cls.is_shown:
             cls.is_shown = False
             print("\r\033[K", end="", file=sys.stderr, flush=True)
+
+
+def is_terminal(stream):
+    return stream is not None and stream.isatty()
 
 
 def tool():

@@ -2,6 +2,7 @@
 import csv
 import io
 import os
+import pty
 import shlex
 import signal
 import subprocess
@@ -200,6 +201,8 @@ class Sweep(ToolCase):
                          "10,,q,10,110,\n10,,r,0,0,\n")
         self.assertEqual(self.sweep(*words, "--table")[1], "seed  queue  age_sum  sends\n   1  q            1    101\n"
                          "   1  r            0      0\n  10  q           10    110\n  10  r            0      0\n")
+        ages = self.sweep(*words[:3], "--columns", "age_p95", "--table")[1]
+        self.assertEqual(ages, "", "no message was deleted, so that no row has an age")
         self.assertEqual(self.sweep(*words, "--table", "--spread", "seed")[1], """\
              age_sum                                   sends
 queue  runs  mean  deviation  least  median  greatest   mean  deviation  least  median  greatest
@@ -228,6 +231,18 @@ r         2     0          0      0       0         0      0          0      0  
             self.assertEqual((process.returncode, out), (130, "seed,failed,queue,sends\n1,,q,101\n1,,r,0\n2,,q,102\n"
                                                          "2,,r,0\n"))
             self.assertIn("sweep: interrupted after 2 of 4 variants\n", err)
+
+    def test_progress_on_a_terminal_is_one_line(self):
+        reader, writer = pty.openpty()
+        run = subprocess.Popen([sys.executable, os.path.join(TOOLS, "sweep"), self.scenario, "--vary", "seed=1..3",
+                                "--jobs", "1", "--program", self.program], stdout=subprocess.PIPE, stderr=writer)
+        os.close(writer)
+        out = run.communicate(timeout=60)[0]
+        told = os.read(reader, 4096)
+        os.close(reader)
+        self.assertEqual((run.returncode, len(out.splitlines())), (0, 7))
+        self.assertRegex(told, rb"^(\r(sweep: [12] of 3 variants run, 0 failed)?\x1b\[K)+sweep: 3 of 3 variants run, "
+                               rb"0 failed\r\n$")
 
     def test_faults_of_the_scenario_come_before_those_of_the_program(self):
         ran = self.sweep("none", "--vary", "seed=1", "--program", "/nowhere")
