@@ -22,6 +22,8 @@ import os
 import sys
 import tomllib
 
+from console import Fault, Parser, check_output, ended, print_text, read_bytes, write_text
+
 OPEN = ("reading_on_literals running_on_literals columns_of")
 
 HEAD = """-- Scenarios with their right output, computed over the definitions. Made by tools/compute_cases.py.
@@ -95,44 +97,55 @@ def ran(name, text, out):
     return rows, "%s : shown %d [] %s\n    ≡ ran (%s ∷ [])\n" % (name, rows, quoted(text), lines)
 
 
+def stored(path, may_lack=True):
+    """What a file of a case has; nothing where it is missing and may be."""
+    return b"" if may_lack and not os.path.exists(path) else read_bytes(path)
+
+
 def lemma(path, number, most):
-    base = path[:-5]
+    base = path[:-len(".toml")]
     name = "case_%s_%s" % (number, os.path.basename(base).replace("-", "_"))
-
-    def stored(kind):
-        return open(base + kind, "rb").read() if os.path.exists(base + kind) else b""
-
-    text = open(path, "rb").read()
-    if stored(".status").strip() == b"0":
-        rows, claim = ran(name, text, stored(".out"))
+    text = stored(path, may_lack=False)
+    if stored(base + ".status").strip() == b"0":
+        try:
+            rows, claim = ran(name, text, stored(base + ".out", may_lack=False))
+        except (ValueError, KeyError, TypeError, AttributeError, StopIteration):
+            raise Fault("%s.out is not the output of %s" % (base, path)) from None
         if rows > most:
             return None
     else:
-        claim = "%s : shown 0 [] %s\n    ≡ refused %s\n" % (name, quoted(text), quoted(stored(".err")))
+        claim = "%s : shown 0 [] %s\n    ≡ refused %s\n" % (name, quoted(text), quoted(stored(base + ".err")))
     return claim + "unfolding %s\n%s = refl\n" % (OPEN, name)
 
 
+def cases_in(folder, only):
+    """The paths of the scenarios of a folder."""
+    try:
+        names = sorted(os.listdir(folder))
+    except OSError as error:
+        raise Fault("cannot read %s: %s" % (folder, error.strerror)) from None
+    return [os.path.join(folder, name) for name in names if name.endswith(".toml") and only in name]
+
+
 def main(words):
-    out, only, most, folders = words[0], "", 10**9, []
-    words = words[1:]
-    while words:
-        word = words.pop(0)
-        if word == "--only":
-            only = words.pop(0)
-        elif word == "--most":
-            most = int(words.pop(0))
-        else:
-            folders.append(word)
+    parser = Parser(__doc__)
+    parser.add_argument("out", metavar="OUT.antt")
+    parser.add_argument("folders", nargs="+", metavar="FOLDER")
+    parser.add_argument("--only", default="", metavar="WORD")
+    parser.add_argument("--most", type=int, default=10**9, metavar="ROWS")
+    options = parser.parse_args(words)
+    check_output(options.out)
     lemmas = []
-    for number, folder in enumerate(folders):
-        for file in sorted(os.listdir(folder)):
-            if file.endswith(".toml") and only in file:
-                made = lemma(os.path.join(folder, file), number, most)
-                if made is not None:
-                    lemmas.append("-- %s/%s\n%s" % (os.path.basename(folder.rstrip("/")), file, made))
-    with open(out, "w") as f:
-        f.write(HEAD + "\n" + "\n".join(lemmas))
-    print("%d lemmas in %s" % (len(lemmas), out))
+    for number, folder in enumerate(options.folders):
+        for path in cases_in(folder, options.only):
+            made = lemma(path, number, options.most)
+            if made is not None:
+                place = os.path.basename(folder.rstrip("/")), os.path.basename(path)
+                lemmas.append("-- %s/%s\n%s" % (*place, made))
+    write_text(options.out, HEAD + "\n" + "\n".join(lemmas))
+    print_text("%d lemmas in %s\n" % (len(lemmas), options.out))
+    return 0
 
 
-main(sys.argv[1:])
+if __name__ == "__main__":
+    sys.exit(ended(main))

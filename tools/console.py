@@ -5,11 +5,12 @@ The tools import it; it is not run by itself.
 """
 import argparse
 import errno
-import importlib
+import importlib.util
 import os
 import stat
 import sys
 import tempfile
+import time
 
 # Where Debian's packages put libraries, which another Python than Debian's does not look into.
 DEBIAN_LIBRARIES = "/usr/lib/python3/dist-packages"
@@ -41,8 +42,21 @@ def library(name, package):
     try:
         return importlib.import_module(name)
     except ImportError:
-        raise Fault(f"the library {name} is missing: Debian's package {package} has it for Debian's python3, "
-                    "and tools/setup installs it") from None
+        raise missing_library(name, package) from None
+
+
+def missing_library(name, package):
+    return Fault(f"the library {name} is missing: Debian's package {package} has it for Debian's python3, and "
+                 "tools/setup installs it")
+
+
+def check_library(name, package):
+    """Makes sure, before the work begins, that a library is there; to look is quicker than to read it."""
+    if importlib.util.find_spec(name) is None:
+        if DEBIAN_LIBRARIES not in sys.path:
+            sys.path.append(DEBIAN_LIBRARIES)
+        if importlib.util.find_spec(name) is None:
+            raise missing_library(name, package)
 
 
 def read_bytes(path):
@@ -113,6 +127,7 @@ def print_text(text):
     """Writes standard output, and makes sure that it is written."""
     if sys.stdout is None:
         raise Fault("standard output is closed")
+    Progress.clear()
     sys.stdout.write(text)
     sys.stdout.flush()
 
@@ -122,31 +137,84 @@ def abandon_output():
     os.dup2(os.open(os.devnull, os.O_WRONLY), sys.stdout.fileno())
 
 
+class Progress:
+    """Tells on a terminal, once a second, how much of a file has been read, in one line that is taken away again."""
+
+    is_shown = False
+
+    @classmethod
+    def show(cls, line):
+        """Puts a line in the place of the last one."""
+        cls.is_shown = True
+        print(f"\r{tool()}: {line}\033[K", end="", file=sys.stderr, flush=True)
+
+    def __init__(self, path, file):
+        self.read, self.told = 0, time.monotonic()
+        self.is_told = is_terminal(sys.stderr)
+        status = os.fstat(file.fileno())
+        self.size = status.st_size if stat.S_ISREG(status.st_mode) else 0
+        self.name = "standard input" if path == "-" else path
+
+    def look(self, length):
+        """Takes in that so many more bytes have been read."""
+        self.read += length
+        if self.is_told and time.monotonic() >= self.told + 1:
+            self.told = time.monotonic()
+            share = f"{min(100, 100 * self.read // self.size)} %" if self.size else f"{self.read / 1e6:,.0f} MB"
+            self.show(f"{share} of {self.name} read")
+
+    @classmethod
+    def clear(cls):
+        if cls.is_shown:
+            cls.is_shown = False
+            print("\r\033[K", end="", file=sys.stderr, flush=True)
+
+
+def is_terminal(stream):
+    return stream is not None and stream.isatty()
+
+
+def tool():
+    """The name by which the tool was called."""
+    return os.path.basename(sys.argv[0])
+
+
+def told(fault):
+    """Tells a fault on standard error in one line, whatever is in it; gives the status."""
+    Progress.clear()
+    line = "".join(letter if letter.isprintable() else f"{letter!a}"[1:-1] for letter in fault)
+    print(f"{tool()}: {line}", file=sys.stderr)
+    return 2
+
+
 def ended(main):
     """Runs `main` on the words of the command line and gives the status of the tool."""
+    try:
+        return ended_as_told(main)
+    finally:
+        Progress.clear()
+
+
+def ended_as_told(main):
     if sys.stdout is not None:
         sys.stdout.reconfigure(encoding="utf-8", errors="backslashreplace")
     if sys.stderr is not None:
         sys.stderr.reconfigure(encoding="utf-8", errors="backslashreplace")
-    name = os.path.basename(sys.argv[0])
     try:
         status = main(sys.argv[1:])
         if sys.stdout is not None:
             sys.stdout.flush()
         return status
     except Fault as fault:
-        print(f"{name}: {fault}", file=sys.stderr)
-        return 2
+        return told(str(fault))
     except BrokenPipeError:
         abandon_output()
         return 1
     except OSError as error:
         # all reading and writing of files tells its own faults, so that only standard output is left
         abandon_output()
-        print(f"{name}: cannot write standard output: {error.strerror}", file=sys.stderr)
-        return 2
+        return told(f"cannot write standard output: {error.strerror}")
     except KeyboardInterrupt:
         return 130
     except (MemoryError, RecursionError) as error:
-        print(f"{name}: the input is too {'deep' if isinstance(error, RecursionError) else 'large'}", file=sys.stderr)
-        return 2
+        return told(f"the input is too {'deep' if isinstance(error, RecursionError) else 'large'}")

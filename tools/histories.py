@@ -5,8 +5,6 @@ A history has few bytes for each row, so that logs of some million rows can be d
 import gc
 import math
 import re
-import sys
-import time
 from array import array
 from collections import deque
 
@@ -19,7 +17,6 @@ PLACES = {"visible": VISIBLE, "in flight": IN_FLIGHT, "delayed": DELAYED}
 ENTERED = 4 * NOWHERE + VISIBLE
 ENTERED_DELAYED = 4 * NOWHERE + DELAYED
 ID = re.compile("m-[0-9]{1,19}-[0-9]{1,19}")
-ROWS_BETWEEN_LOOKS = 50_000
 # Moments and ages have 32 bits, which the longest horizon does not pass; the last number stands for none.
 MOMENT, NONE = "I", 2 ** 32 - 1
 POINTS_MOST = 4_000
@@ -138,48 +135,29 @@ TAKES = {("send", "new"): History.enter, ("arrive", "new"): History.enter, ("rec
          ("redrive", "out"): History.redrive, ("expire", "expired"): History.expire, ("move", "out"): History.move}
 
 
-class Progress:
-    """Tells on a terminal, once a second, how many rows have been read."""
-
-    def __init__(self, tool):
-        self.tool, self.told = tool, time.monotonic()
-        self.is_told = sys.stderr is not None and sys.stderr.isatty()
-
-    def look(self, rows):
-        if self.is_told and time.monotonic() >= self.told + 1:
-            self.told = time.monotonic()
-            print(f"\r{self.tool}: {rows:,} rows read", end="", file=sys.stderr, flush=True)
-
-    def end(self):
-        if self.is_told:
-            print("\r\033[K", end="", file=sys.stderr, flush=True)
-
-
 class Histories:
     """The queues of a log by name, and the times of its first and last row.
 
     `known` has the names of all queues where the report follows the log, or is None.
     """
 
-    def __init__(self, log, tool):
-        self.queues, self.first, self.last, self.rows = {}, None, 0, 0
-        progress = Progress(tool)
+    def __init__(self, log):
+        self.queues, self.first, self.last = {}, None, 0
         # no row makes a ring of objects, and the search for rings takes time
         gc.disable()
         try:
-            self.read(log, progress)
+            self.read(log)
         except (BadRow, OverflowError) as reason:
             text = shown(str(reason))
             raise Fault(f"{log.path} line {log.line}: {text} cannot be: is this the whole log?") from None
         finally:
             gc.enable()
-            progress.end()
         if self.first is None:
             raise Fault(f"{log.path} has no rows to draw")
         self.take_finals(log)
 
-    def read(self, log, progress):
-        queues, takes, ignore, rows = self.queues, TAKES, History.ignore, 0
+    def read(self, log):
+        queues, takes, ignore = self.queues, TAKES, History.ignore
         for at, name, _, call, answer, message, _, detail in log.records():
             queue = queues.get(name)
             if queue is None:
@@ -187,12 +165,8 @@ class Histories:
                 self.first = at if self.first is None else self.first
             queue.rows += 1
             takes.get((call, answer), ignore)(queue, at, message, detail)
-            rows += 1
-            if not rows % ROWS_BETWEEN_LOOKS:
-                progress.look(rows)
-        if rows:
+        if self.first is not None:
             self.last = max(at, self.first + 1)
-        self.rows = rows
 
     def take_finals(self, log):
         for final in (log.finals or {}).values():

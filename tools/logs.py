@@ -3,7 +3,7 @@ import csv
 import re
 from collections import namedtuple
 
-from console import Fault
+from console import Fault, Progress
 
 LOG_HEADER = "at,queue,agent,call,answer,message,receipt,detail".split(",")
 FINAL_HEADER = "final,queue,message,origin,place,due,enqueued,receives,group,md5".split(",")
@@ -51,9 +51,10 @@ def is_row(record):
 
 def lines_in(file, path):
     """The lines of an open file without their ends, many read at once, as that is faster."""
-    rest = ""
+    rest, progress = "", Progress(path, file)
     while True:
         letters = file.read(LETTERS)
+        progress.look(len(letters))
         if not letters:
             break
         lines = (rest + letters).split("\n")
@@ -61,6 +62,7 @@ def lines_in(file, path):
         if len(rest) > LETTERS:
             raise Fault(f"{path} has a line of over {LETTERS:,} letters")
         yield from lines
+    Progress.clear()
     if rest:
         yield rest
         raise Fault(f"{path} ends within a line")

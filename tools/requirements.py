@@ -9,6 +9,9 @@ from units import duration, quantity
 
 COLUMNS = REPORT_HEADER[2:]
 
+# What a sweep tells of a column over several runs.
+FOLDED = ("mean", "deviation", "least", "median", "greatest")
+
 
 class Requirement:
     """What has to hold in each variant, as orders.age_p95<60s."""

@@ -373,6 +373,12 @@ def values_of(runs, names):
             for name in dict.fromkeys(names or there)}
 
 
+def lost_in(run):
+    """How many messages were lost by expiry, by the names of the queues that lost any."""
+    return {queue.name: queue.counts["lost_by_expiry"] for queue in run.queues.values()
+            if queue.counts["lost_by_expiry"]}
+
+
 def grouped(number):
     return f"{number:,}"
 

@@ -1,15 +1,18 @@
 """Tests how all tools end: help, an unknown word, an output that is full or closed, a log that is no file."""
 import os
+import pty
 import stat
 import subprocess
 import sys
+import time
 import unittest
 
 from tool import LOG_HEADER, SENT, TOOLS, ToolCase
 from console import Fault, check_output, write_text
 
 USERS_TOOLS = ("sweep", "metrics", "from-queue", "from-plan", "explain", "arrivals", "picture", "report", "summary",
-               "life")
+               "life", "bench", "compute_cases.py")
+OTHER_TOOLS = ("layers", "package", "proof-times")
 
 
 class Ends(ToolCase):
@@ -20,12 +23,15 @@ class Ends(ToolCase):
         return run.returncode, run.stdout, run.stderr
 
     def test_help_and_unknown_words(self):
-        for name in USERS_TOOLS:
+        for name in (*USERS_TOOLS, *OTHER_TOOLS):
             with self.subTest(tool=name):
                 status, out, err = self.run_tool(name, "--help")
                 self.assertEqual((status, err), (0, ""))
-                self.assertIn(f"tools/{name} ", out)
-                for words in ((), (b"--nothing",), (b"\xff",), (b"--nothing", b"\xff\n")):
+                hostile = [(b"--nothing",), (b"\xff",), (b"--nothing", b"\xff\n")]
+                if name in USERS_TOOLS:
+                    self.assertIn(f"tools/{name} ", out)
+                    hostile.append(())
+                for words in hostile:
                     run = subprocess.run([sys.executable, os.path.join(TOOLS, name), *words], cwd=self.folder,
                                          capture_output=True, stdin=subprocess.DEVNULL)
                     told = run.returncode, run.stdout, len(run.stderr.splitlines())
@@ -56,6 +62,29 @@ class Ends(ToolCase):
                         "report . --output r.html"):
             with self.subTest(command=command):
                 self.assertEqual(self.ended(command), (2, "", f"{command.split()[0]}: cannot read .: Is a directory\n"))
+
+
+class Reading(ToolCase):
+    def test_progress_on_a_terminal_alone(self):
+        """A second after its beginning a tool tells how far it is, and takes the line away again."""
+        rows = b"".join(b"%d,q,s,receive,wait,,,\n" % at for at in range(100_000, 160_000))
+        for is_terminal in (True, False):
+            reader, writer = pty.openpty() if is_terminal else os.pipe()
+            run = subprocess.Popen([sys.executable, os.path.join(TOOLS, "summary"), "-"], stdin=subprocess.PIPE,
+                                   stdout=subprocess.DEVNULL, stderr=writer)
+            os.close(writer)
+            time.sleep(1.5)
+            run.communicate(LOG_HEADER + rows, timeout=60)
+            told = b""
+            try:
+                while data := os.read(reader, 4096):
+                    told += data
+            except OSError:
+                pass    # the terminal has no writer any more
+            os.close(reader)
+            self.assertEqual(run.returncode, 0)
+            self.assertRegex(told, rb"^(\rsummary: [12] MB of standard input read\x1b\[K)+\r\x1b\[K$" if is_terminal
+                             else rb"^$")
 
 
 class Writing(ToolCase):

@@ -5,7 +5,7 @@ import subprocess
 import sys
 import unittest
 
-from tool import PROGRAM, TOOLS, ToolCase, needs_program
+from tool import PROGRAM, ROOT, TOOLS, ToolCase, needs_program
 
 ARN = "arn:aws:sqs:eu-central-1:123456789012:"
 
@@ -258,7 +258,10 @@ class FromPlan(ToolCase):
         with open(os.path.join(TOOLS, "README.md"), encoding="utf-8") as file:
             text = file.read()
         start = text.index("Resources:\n")
-        made = self.made(text[start:text.index("```", start)])
+        template = text[start:text.index("```", start)]
+        with open(os.path.join(ROOT, "examples", "template.yaml"), encoding="utf-8") as file:
+            self.assertEqual(file.read(), template)
+        made = self.made(template)
         self.assertIn("```\n" + made[1:made.index("\n[[queue]]", 2)] + "```\n", text)
 
     @needs_program

@@ -41,9 +41,13 @@ STORY = """The message o-0-0
  6000 ms  0:00:06.000  a  received by right with r-0-2-1; in flight for 0:01:01.000, until 67000 ms
  6100 ms  0:00:06.100  a  the service of right failed; it did not delete the message
  6200 ms  0:00:06.200  a  left asked for its deletion with r-0-0-2: nothing was deleted, as it was gone already
- 7000 ms  0:00:07.000  a  right forwarded it to d, where it will be another message
+ 7000 ms  0:00:07.000  a  right forwarded it to d, where it is o-1-1 from 67020 ms on
 67000 ms  0:01:07.000  a  deleted by right with r-0-2-1, 0:01:01.980 old
 In the end: deleted from a at 67000 ms
+
+The message o-1-1
+67020 ms  0:01:07.020  d  came as a forward of right, of m-0-2 in a, as m-1-1
+In the end: visible or delayed, which the log alone does not tell, in d since 67020 ms; the log ends at 67020 ms
 """
 FIFO = HEADER + """0,f.fifo,shop,send,new,m-0-0,,900150983cd24fb0d6963f7d28e17f72
 7,f.fifo,shop,send,repeat,m-0-0,,900150983cd24fb0d6963f7d28e17f72
@@ -80,6 +84,7 @@ class Life(ToolCase):
     def test_hostile_logs(self):
         for name in ("o-0-0", "m-9-9"):
             self.assert_hostile_logs("life", name)
+        self.assert_hostile_logs("life", "--worst")
 
     def test_repeats_and_expiry(self):
         _, out, _ = self.run_tool("life", self.write("log", FIFO), "o-0-0")
@@ -90,6 +95,46 @@ class Life(ToolCase):
 60000 ms  0:01:00.000  f.fifo  expired, 0:01:00.000 old
 In the end: expired from f.fifo at 60000 ms
 """)
+
+    def test_forwards_of_one_consumer_are_taken_in_their_order(self):
+        """Of two forwards of hand under way the first arrives first; a repeat uses up the forward that it is of."""
+        log = self.write("log", HEADER + """0,a,shop,send,new,m-0-0,,x
+1,a,shop,send,new,m-0-1,,x
+2,a,hand,forward,out,m-0-0,r-0-0-1,b.fifo
+3,a,hand,forward,out,m-0-1,r-0-1-1,b.fifo
+4,a,hand,forward,out,m-0-1,r-0-1-2,b.fifo
+22,b.fifo,hand,arrive,new,m-1-0,,o-1-0
+23,b.fifo,hand,arrive,new,m-1-1,,o-1-1
+24,b.fifo,hand,arrive,repeat,m-1-1,,o-1-1
+""")
+        _, out, _ = self.run_tool("life", log, "o-0-0")
+        self.assertEqual([line for line in out.splitlines() if line.startswith("The")],
+                         ["The message o-0-0", "The message o-1-0"])
+        _, out, _ = self.run_tool("life", log, "m-0-1")
+        self.assertIn("hand forwarded it to b.fifo, where it is o-1-1 from 23 ms on\n", out)
+        self.assertIn("hand forwarded it to b.fifo, where it will be another message\n", out)
+        self.assertIn("came as a forward of hand, of m-0-1 in a, as m-1-1\n", out)
+
+    def test_worst(self):
+        """The message o-0-1 is there for 67015 ms, o-0-0 for 67000, over a redrive and a move, and o-1-1 not at all."""
+        log, worst = self.write("log", LOG), """\
+   o-0-1  for 1 min 7 s  from 5 ms to 67020 ms      received 0 times  left in a
+   o-0-0  for 1 min 7 s  from 0 ms to 67000 ms      received 3 times  deleted from a
+   o-1-1  for 0 ms       from 67020 ms to 67020 ms  received 0 times  left in d
+"""
+        self.assertEqual(self.run_tool("life", log, "--worst"), (0, worst, ""))
+        self.assertEqual(len(self.run_tool("life", "--worst", log, "--most", "2")[1].splitlines()), 2)
+        late = self.write("late", LOG + """67030,a,a,expire,expired,m-0-1,,67025
+70000,d,shop,receive,ok,m-1-1,r-1-1-1,o-1-1
+99999,d,d,redrive,out,m-1-1,,a
+""")
+        self.assertEqual(self.run_tool("life", late, "--worst")[1], """\
+!! o-0-1  for 1 min 7 s  from 5 ms to 67030 ms      received 0 times  expired from a
+   o-0-0  for 1 min 7 s  from 0 ms to 67000 ms      received 3 times  deleted from a
+   o-1-1  for 33.0 s     from 67020 ms to 99999 ms  received 1 time   on its way from d to a
+""")
+        empty = self.write("empty", HEADER)
+        self.assertEqual(self.run_tool("life", empty, "--worst"), (0, "", ""))
 
     def test_where_a_message_stands(self):
         lines = LOG.splitlines(keepends=True)
@@ -116,6 +161,13 @@ In the end: expired from f.fifo at 60000 ms
         self.assert_fault(self.run_tool("life", log, "m-0-17"), f"life: {log} has no message m-0-17")
         self.assert_fault(self.run_tool("life", log, "17"), "life: 17 is no id of a message, as o-0-17 or m-0-17")
         self.assert_fault(self.run_tool("life", "none", "o-0-0"), "life: cannot read none: No such file or directory")
+        for words in ((log,), (log, "o-0-0", "--worst")):
+            self.assert_fault(self.run_tool("life", *words),
+                              "life: an ID or --worst is needed, and not both (--help tells the usage)")
+        self.assert_fault(self.run_tool("life", log, "--worst", "--most", "0"), "life: --most is 1 to 10,000")
+        front = self.write("front", HEADER + "".join(LOG.splitlines(True)[4:]))
+        self.assert_fault(self.run_tool("life", front, "--worst"), f"life: {front} line 2: m-0-0 never came into a: is "
+                          "this the whole log?")
         cut = self.write("cut", LOG[:-9])
         self.assert_fault(self.run_tool("life", cut, "o-0-0"), f"life: {cut} line 19 is no row of a log")
         backward = self.write("backward", LOG + LOG.splitlines()[1] + "\n")

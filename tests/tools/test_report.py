@@ -94,7 +94,7 @@ class Report(ToolCase):
         page = Page(text)
         self.assertEqual((page.inside, page.links, page.scripts), ([], [], 2))
         told = "|".join(page.texts)
-        for part in ("A <run>|A <run>|s.toml, seed 11: 5 rows, the last at 9.00 s.", "holds|q.age_p95<60s|q",
+        for part in ("A <run>|A <run>|s.toml, seed 11: 5 rows, the last at 9.00 s.|Lost by expiry: 1 in q|", "holds|q.age_p95<60s|q",
                      "fails|q.expiries=0|q|it is 1", "sent|2", "lost by expiry|1|of 2", "deleted|1|of 2",
                      "age when deleted, 95 %|2.00 s", "seed|11|sample|not given|queue q|visibility_s = 5",
                      "visibility_s = 5 # <b>&amp;"):
@@ -150,10 +150,9 @@ class Report(ToolCase):
         folder = self.path("without")
         os.mkdir(folder)
         self.write("without/plotly.py", "raise ImportError\n")
-        ran = self.run_tool("report", self.scenario, "--output", "r.html", PYTHONPATH=folder)
+        ran = self.run_tool("report", self.scenario, "--output", "r.html", PYTHONPATH=folder, SQS_REHEARSE=self.program)
         self.assert_fault(ran, "report: the library plotly.offline is missing: Debian's package python3-plotly has it "
-                               "for "
-                          "Debian's python3, and tools/setup installs it")
+                               "for Debian's python3, and tools/setup installs it")
 
     @needs_program
     def test_with_the_program(self):

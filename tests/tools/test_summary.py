@@ -163,6 +163,12 @@ class Definitions(SummaryCase):
         self.write("run.out", PARTS)
         self.assertEqual(self.run_tool("summary", "run.txt", "run.out"), (0, TEXT, ""))
 
+    def test_a_queue_that_nothing_happened_in(self):
+        line = "report,e," + ",".join(["0"] * 22) + ",0,,,,\n"
+        path = self.write("run.txt", LOG + PARTS + line)
+        status, out, _ = self.run_tool("summary", path, "--queue", "e")
+        self.assertEqual((status, out[out.index("\n\n"):]), (0, "\n\ne\n   no message came in, and nobody called it\n"))
+
     def test_handled_by_receipts(self):
         """A second call with a receipt, and one that was never given, count for nothing."""
         self.assert_values(self.queues(LOG)["a"], handled_once=2, handled_more_than_once=1, times_handled_greatest=2)

@@ -2,11 +2,13 @@
 import csv
 import io
 import os
+import pty
 import shlex
 import signal
 import subprocess
 import sys
 import time
+import tomllib
 import unittest
 
 from tool import PROGRAM, ROOT, TOOLS, ToolCase, needs_program
@@ -85,12 +87,12 @@ class Sweep(ToolCase):
                                     "--spread", "seed")
         header, rows = self.records(out)
         self.assertEqual(status, 1)
-        self.assertEqual(header[:8], ["queue.q.visibility_s", "failed", "queue", "runs", "sends_mean",
-                                      "sends_deviation", "sends_least", "sends_greatest"])
+        self.assertEqual(header[:9], ["queue.q.visibility_s", "failed", "queue", "runs", "sends_mean",
+                                      "sends_deviation", "sends_least", "sends_median", "sends_greatest"])
         # The numbers 201, 202 and 206 have the mean 203 and a sum of squared deviations of 4 + 1 + 9 = 14.
-        self.assertEqual(rows[0][:8], ["2", "", "q", "3", "203", "2.646", "201", "206"])
+        self.assertEqual(rows[0][:9], ["2", "", "q", "3", "203", "2.646", "201", "202", "206"])
         ages = header.index("age_p50_mean")
-        self.assertEqual(rows[0][ages:ages + 4], ["", "", "", ""])
+        self.assertEqual(rows[0][ages:ages + 5], ["", "", "", "", ""])
         self.assertEqual(rows[2][:5], ["51", "refused 14 OutOfRange at queue[0].visibility_s", "", "3", ""])
 
     def test_jobs_and_their_collection(self):
@@ -109,6 +111,16 @@ class Sweep(ToolCase):
         self.assertEqual((status, err), (1, "sweep: 1 of 4 jobs have no file yet\n"))
         self.assertEqual([row[:2] for row in self.records(out)[1]], [["2", "7"], ["2", "7"], ["2", "8"], ["2", "8"],
                                                                      ["51", "8"]])
+
+    def test_the_scenario_of_one_variant(self):
+        words = "--vary", "queue.q.visibility_s=7", "--vary", "seed=3", "--print-scenario"
+        ran = self.run_tool("sweep", self.scenario, *words, SQS_REHEARSE="/none")
+        wanted = SCENARIO.replace("visibility_s = 1", "visibility_s = 7").replace("seed = 0", "seed = 3")
+        self.assertEqual((ran[0], tomllib.loads(ran[1]), ran[2]), (0, tomllib.loads(wanted), ""))
+        self.assert_fault(self.sweep(self.scenario, "--vary", "seed=1..20", "--print-scenario"),
+                          "sweep: --print-scenario prints one variant, and these are 20")
+        self.assert_fault(self.sweep(self.scenario, "--vary", "seed=1", "--print-scenario", "--spread", "seed"),
+                          "sweep: --require and --spread go with runs, and nothing is run")
 
     def test_faults(self):
         for words, line in (
@@ -189,6 +201,14 @@ class Sweep(ToolCase):
                          "10,,q,10,110,\n10,,r,0,0,\n")
         self.assertEqual(self.sweep(*words, "--table")[1], "seed  queue  age_sum  sends\n   1  q            1    101\n"
                          "   1  r            0      0\n  10  q           10    110\n  10  r            0      0\n")
+        ages = self.sweep(*words[:3], "--columns", "age_p95", "--table")[1]
+        self.assertEqual(ages, "", "no message was deleted, so that no row has an age")
+        self.assertEqual(self.sweep(*words, "--table", "--spread", "seed")[1], """\
+             age_sum                                   sends
+queue  runs  mean  deviation  least  median  greatest   mean  deviation  least  median  greatest
+q         2   5.5      6.364      1     5.5        10  105.5      6.364    101   105.5       110
+r         2     0          0      0       0         0      0          0      0       0         0
+""")
         self.assertEqual(self.sweep(*words, "--spread", "seed", "--output", "new/rows.csv")[0], 0)
         with open(self.path("new/rows.csv"), encoding="utf-8") as file:
             header, rows = self.records(file.read())
@@ -211,6 +231,18 @@ class Sweep(ToolCase):
             self.assertEqual((process.returncode, out), (130, "seed,failed,queue,sends\n1,,q,101\n1,,r,0\n2,,q,102\n"
                                                          "2,,r,0\n"))
             self.assertIn("sweep: interrupted after 2 of 4 variants\n", err)
+
+    def test_progress_on_a_terminal_is_one_line(self):
+        reader, writer = pty.openpty()
+        run = subprocess.Popen([sys.executable, os.path.join(TOOLS, "sweep"), self.scenario, "--vary", "seed=1..3",
+                                "--jobs", "1", "--program", self.program], stdout=subprocess.PIPE, stderr=writer)
+        os.close(writer)
+        out = run.communicate(timeout=60)[0]
+        told = os.read(reader, 4096)
+        os.close(reader)
+        self.assertEqual((run.returncode, len(out.splitlines())), (0, 7))
+        self.assertRegex(told, rb"^(\r(sweep: [12] of 3 variants run, 0 failed)?\x1b\[K)+sweep: 3 of 3 variants run, "
+                               rb"0 failed\r\n$")
 
     def test_faults_of_the_scenario_come_before_those_of_the_program(self):
         ran = self.sweep("none", "--vary", "seed=1", "--program", "/nowhere")

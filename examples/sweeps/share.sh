@@ -1,0 +1,7 @@
+#!/usr/bin/env bash
+# Runs a share of a sweep's jobs: of the commands in the file JOBS every OF-th one from line NUMBER on, as many at once as
+# there are processors, or as PROCESSORS says:
+#   examples/sweeps/share.sh JOBS NUMBER OF
+set -eu -o pipefail
+awk -v number="$2" -v of="$3" '(NR - number) % of == 0' "$1" \
+  | tr '\n' '\0' | xargs -0 -r -n 1 -P "${PROCESSORS:-$(nproc)}" sh -c

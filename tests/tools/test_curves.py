@@ -1,0 +1,139 @@
+"""Tests the curves of tools/picture --sweep on rows whose means are worked out by hand, and their texts."""
+import subprocess
+import sys
+import os
+import unittest
+
+from test_picture import Readable, needs_numpy
+from tool import PROGRAM, ROOT, TOOLS, module_of, needs_program
+from console import Fault
+from curves import Axis, Rows, curves_of, setting_of, sweep_picture
+
+picture = module_of("picture")
+ROWS = """queue.q.visibility_s,seed,failed,queue,sends,age_p95
+5,1,,q,1,100
+5,2,,q,3,400
+5,3,,q,2,
+20,1,,q,7,1000
+20,2,,q,7,3000
+5,1,,r,0,
+60,1,refused 14 OutOfRange at queue[0].visibility_s,,,
+"""
+FOLDED = """queue.q.visibility_s,failed,queue,runs,age_p95_mean,age_p95_deviation,age_p95_least,age_p95_greatest
+5,,q,2,250,212.132,100,400
+20,,q,4,2000.5,1414.2,1000,3000
+"""
+TIED = """count.c,actor.c.batch,failed,queue,sends
+2,1,,q,10
+1,1,,q,20
+1,10,,q,30
+2,10,,q,40
+"""
+WORDS = "queue.q.dedup_scope,failed,queue,sends\ngroup,,q,4\nqueue,,q,6\n"
+
+
+@needs_numpy
+class Curves(Readable):
+    def curves(self, text, column, setting=None):
+        rows = Rows(self.write("rows.csv", text))
+        axis = Axis(rows, setting_of(rows, setting))
+        return axis.places, {curve.name: {word: curve.at(word) for word in axis.places}
+                             for curve in curves_of(rows, axis.setting, column)}
+
+    def texts(self, text, *words):
+        options = picture.options_of(["--sweep", self.write("rows.csv", text), *words])
+        return self.assert_readable(sweep_picture(options))
+
+    def test_spread_over_seeds(self):
+        places, curves = self.curves(ROWS, "q.age_p95")
+        self.assertEqual(places, {"5": 5, "20": 20})
+        self.assertEqual(curves, {"": {"5": (250, 100, 400, 2), "20": (2000, 1000, 3000, 2)}})
+        self.assertEqual(self.curves(ROWS, "q.sends")[1], {"": {"5": (2, 1, 3, 3), "20": (7, 7, 7, 2)}})
+        self.assertEqual(self.curves(ROWS, "r.age_p95")[1], {"": {"5": None, "20": None}})
+
+    def test_rows_that_were_folded(self):
+        self.assertEqual(self.curves(FOLDED, "q.age_p95")[1],
+                         {"": {"5": (250, 100, 400, 2), "20": (2000.5, 1000, 3000, 4)}})
+
+    def test_other_settings_are_curves_of_their_own(self):
+        places, curves = self.curves(TIED, "q.sends")
+        self.assertEqual(list(places), ["1", "2"])
+        self.assertEqual(curves, {"actor.c.batch = 1": {"1": (20, 20, 20, 1), "2": (10, 10, 10, 1)},
+                                  "actor.c.batch = 10": {"1": (30, 30, 30, 1), "2": (40, 40, 40, 1)}})
+        self.assertEqual(set(self.curves(TIED, "q.sends", "actor.c.batch")[1]), {"count.c = 1", "count.c = 2"})
+        self.assertEqual(self.curves(ROWS, "q.sends", "seed")[0], {"1": 1, "2": 2, "3": 3})
+
+    def test_words_stand_side_by_side(self):
+        self.assertEqual(self.curves(WORDS, "q.sends"),
+                         ({"group": 0, "queue": 1}, {"": {"group": (4, 4, 4, 1), "queue": (6, 6, 6, 1)}}))
+
+    def test_texts(self):
+        texts = self.texts(ROWS, "--column", "q.age_p95", "--column", "q.sends", "--column", "r.age_p95")
+        for text in ("What queue.q.visibility_s does", "rows of variants that failed, and are left out: 1",
+                     "q.age_p95 (s): mean, and least to greatest, of 2 runs",
+                     "q.sends: mean, and least to greatest, of 2 to 3 runs", "r.age_p95 (ms): no run has any",
+                     "queue.q.visibility_s", "3", "16"):
+            self.assertIn(text, texts)
+        for words in (("--width", "640"), ("--width", "1600"), ("--height", "700", "--title", "My title"),
+                      ("--width", "640", "--column", "q.sends")):
+            with self.subTest(words=words):
+                self.texts(TIED.replace("actor.c.batch", "actor." + "name-" * 20 + "*.batch"), "--column", "q.sends",
+                           *words)
+                self.texts(WORDS, "--column", "q.sends", *words)
+                self.texts(FOLDED, "--column", "q.age_p95", *words[:2])
+
+    def test_faults(self):
+        many = "a,b,failed,queue,sends\n" + "".join(f"1,{b},,q,1\n" for b in range(9))
+        column = "--column", "q.sends"
+        for text, words, line in (
+                (ROWS, (), "--column is needed, as --column orders.age_p95"),
+                (ROWS, ("--column", "x.sends"), "x.sends: the sweep has no queue x; it has q, r"),
+                (ROWS, ("--column", "q.moves"), "q.moves: the sweep has no column moves"),
+                (ROWS, ("--column", "sends"), "sends: the sweep has no queue ''; it has q, r"),
+                (ROWS, (*column, "--setting", "x"), "rows.csv does not vary x; it varies queue.q.visibility_s, seed"),
+                (ROWS, (*column, "--queue", "q"),
+                 "--queue, --from, --to and --scenario go with a LOG, not with --sweep"),
+                (ROWS, (*column, "--height", "90"), "a height of 90 is too small for 1 columns: 192 is enough"),
+                ("seed,failed,queue,sends\n1,,q,1\n", column,
+                 "rows.csv varies no setting other than a seed; --setting seed draws that"),
+                ("seed,failed,queue,sends\n1,no,,\n", column, "rows.csv has no variant that ran"),
+                ("", column, "rows.csv has no rows of a sweep"), ("a,b\n", column, "rows.csv has no rows of a sweep"),
+                ("a,failed,queue,x\n", column, "rows.csv has no rows of a sweep"),
+                ("a,failed,queue,sends\n1,,q\n", column, "rows.csv: record 2 has 3 fields, and the header 4"),
+                ("a,failed,queue,sends\n1,,q,-1\n", column, "rows.csv: record 2 has -1, which is no number"),
+                ("a,failed,queue,sends\n1,,q,1e9\n", column, "rows.csv: record 2 has 1e9, which is no number"),
+                (FOLDED.replace(",q,2", ",q,x"), column, "rows.csv: record 2 has x runs"),
+                (many, column, "9 curves are too many to tell apart: other settings than a are varied, of which 8 "
+                               "combinations can be drawn"),
+                (LONG_WORDS, column, "a has 41 words, too many to stand side by side")):
+            with self.subTest(text=text, words=words):
+                path = self.write("rows.csv", text)
+                with self.assertRaises(Fault) as fault:
+                    sweep_picture(picture.options_of(["--sweep", path, *words]))
+                self.assertEqual(str(fault.exception).replace(path, "rows.csv"), line)
+        self.assert_fault(self.run_tool("picture", "rows.csv", *column),
+                          "picture: --column and --setting go with --sweep")
+        self.assert_fault(self.run_tool("picture", "--sweep", "none", *column),
+                          "picture: cannot read none: No such file or directory")
+        for data in (b"\xff", b"\x00" * 9, b'"' * 10, b"a,failed,queue,sends\r1,,q,1\n"):
+            with open(self.path("rows.csv"), "wb") as file:
+                file.write(data)
+            status, out, err = self.run_tool("picture", "--sweep", "rows.csv", *column)
+            self.assertEqual((status, out, len(err.splitlines())), (2, "", 1), err)
+
+    @needs_program
+    def test_curve_of_a_sweep(self):
+        scenario = os.path.join(ROOT, "examples", "short_timeout.toml")
+        words = "--vary", "count.left=1..3", "--vary", "seed=1..4", "--columns", "receives,age_p95"
+        status, rows, _ = self.run_tool("sweep", scenario, *words, SQS_REHEARSE=PROGRAM)
+        command = [sys.executable, os.path.join(TOOLS, "picture"), "--sweep", "-", "--column", "jobs.age_p95"]
+        run = subprocess.run(command, input=rows, text=True, capture_output=True)
+        self.assertEqual((status, run.returncode, run.stderr), (0, 0, ""))
+        self.assertIn("mean, and least to greatest, of 4 runs", run.stdout)
+
+
+LONG_WORDS = "a,failed,queue,sends\n" + "".join(f"w{number},,q,1\n" for number in range(41))
+
+
+if __name__ == "__main__":
+    unittest.main()
