@@ -11,7 +11,7 @@ exactly one place. For a case that is refused, it says that the line of the firs
 
 Write OUT.antt into a crate that stands on the definitions (crates/sqs_examples/proofs, with a line
 in its Lib.antt) and run `rt check` there: a case that the definitions do not meet is an error.
---most leaves out cases with more rows of log than that.
+--only takes the cases whose name has that word; --most leaves out those with more rows of log.
 
 Each MD5 in the output is told by the body that has it, so that the checker need not compute it.
 """

@@ -21,11 +21,14 @@ class Fault(Exception):
 
 
 class Parser(argparse.ArgumentParser):
-    """A parser of the command line that tells a fault in one line."""
+    """A parser of the command line that tells a fault in one line. Its help is the tool's description, with the usage.
+    """
 
     def __init__(self, description=None, **more):
-        more.setdefault("formatter_class", argparse.RawDescriptionHelpFormatter)
         super().__init__(description=description, **more)
+
+    def format_help(self):
+        return f"{self.description.strip()}\n"
 
     def error(self, message):
         raise Fault(f"{message} (--help tells the usage)")

@@ -10,7 +10,7 @@ TIME_UNITS = (("ms", 1), ("s", 1_000), ("min", 60_000), ("h", 3_600_000), ("days
 STEPS_OF_UNIT = {"s": (10, 15, 20, 30), "min": (10, 15, 20, 30), "h": (3, 6, 12, 24, 48)}
 COLOURS = {"visible": "#0072b2", "in flight": "#e69f00", "delayed": "#009e73", "redriven": "#d55e00",
            "expired": "#111111", "middle": "#3f1f69", "95 %": "#8e63b5", "greatest": "#c51b7d", "oldest": "#8c564b"}
-GREY = "#666666"
+GREY, ALARM = "#666666", "#b00020"
 LEFT, RIGHT, HEAD, LINE, CAPTION, FOOT = 76, 30, 34, 16, 30, 52
 # Dots an inch, by which a pixel of a PNG is as long as one of an SVG.
 DOTS = 96
@@ -65,12 +65,13 @@ class Sheet:
             text = text[:max(1, min(len(text) - 2, int(len(text) * self.room / width) - 1))] + "…"
         return text
 
-    def titles(self, title, told):
-        """The title, and below it what else is to be told; gives where they end."""
+    def titles(self, title, told, alarm=""):
+        """The title, and below it what else is to be told, and what nobody may miss; gives where they end."""
         self.text(LEFT, 24, self.shortened(title, 12, "bold"), 12, weight="bold")
-        if told:
-            self.text(LEFT, 42, self.shortened(told, 8.5, "normal"), 8.5, color=GREY)
-        return head_of(told)
+        lines = [line for line in ((told, "normal", GREY), (alarm, "bold", ALARM)) if line[0]]
+        for place, (text, weight, colour) in enumerate(lines):
+            self.text(LEFT, 42 + LINE * place, self.shortened(text, 8.5, weight), 8.5, weight=weight, color=colour)
+        return head_of(told, alarm)
 
     def axes(self, top, height):
         """A frame with a grid, over the whole width."""
@@ -103,9 +104,9 @@ class Sheet:
             borderpad=0.2, frameon=False, bbox_to_anchor=(0, 1), bbox_transform=axes.transAxes))
 
 
-def head_of(told):
-    """The height of the titles."""
-    return HEAD + (LINE if told else 0)
+def head_of(*lines):
+    """The height of the title, and of the lines below it that have a text."""
+    return HEAD + LINE * sum(map(bool, lines))
 
 
 def bytes_of(figure, kind):

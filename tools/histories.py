@@ -6,7 +6,6 @@ import gc
 import math
 import re
 from array import array
-from collections import deque
 
 from console import Fault, library, shown
 from logs import NUMBER
@@ -19,6 +18,8 @@ ENTERED_DELAYED = 4 * NOWHERE + DELAYED
 ID = re.compile("m-[0-9]{1,19}-[0-9]{1,19}")
 # Moments and ages have 32 bits, which the longest horizon does not pass; the last number stands for none.
 MOMENT, NONE = "I", 2 ** 32 - 1
+# Where a message stands has 32 bits with a sign.
+PLACE, GONE = "i", -1 - NOWHERE
 POINTS_MOST = 4_000
 
 
@@ -29,77 +30,89 @@ class BadRow(Exception):
 class History:
     """What the rows of one queue told.
 
-    `times` and `changes` have when a message went from place to place. `stands` has for each message in the queue its
-    place, as a negative number, or where it has not moved since it came in the place of that change in `changes`: only
-    a release tells that it had been delayed. `sinces` has from when on the oldest message came in when.
+    `times` and `changes` have when a message went from place to place. Messages have numbers, in the order in which
+    they came: `came` has when, and `stands` the place of each as a negative number, or where it has not moved since it
+    came in the place of that change in `changes`: only a release tells that it had been delayed. `oldest` is the number
+    of the oldest one that is there, and `sinces` has from when on the oldest message came in when.
     """
 
     def __init__(self, name):
-        self.name, self.rows, self.number = name, 0, math.inf
+        self.name, self.rows, self.number, self.head = name, 0, math.inf, ""
         self.times, self.changes = array(MOMENT), bytearray()
         self.deleted_at, self.ages = array(MOMENT), array(MOMENT)
         self.redrives, self.expiries = array(MOMENT), array(MOMENT)
         self.oldest_at, self.sinces = array(MOMENT), array(MOMENT)
-        self.stands, self.order = {}, deque()
-        self.entered = self.moved = self.peak = 0
+        self.stands, self.came = array(PLACE), array(MOMENT)
+        self.oldest = self.left = self.moved = self.peak = 0
         self.peak_at = None
         self.note_time, self.note_change, self.note_age = self.times.append, self.changes.append, self.ages.append
 
+    @property
+    def entered(self):
+        return len(self.came)
+
+    def number_of(self, message):
+        """The number of a message that is in the queue, or None."""
+        try:
+            number = int(message[len(self.head):])
+        except ValueError:
+            return None
+        is_there = 0 <= number < len(self.stands) and self.stands[number] != GONE
+        return number if is_there and message == f"{self.head}{number}" else None
+
     def enter(self, at, message, _):
         stands = self.stands
-        if message in stands or not ID.fullmatch(message):
-            raise BadRow(message)
-        if not self.entered:
+        if not stands and ID.fullmatch(message):
+            self.head = message[:message.rindex("-") + 1]
             self.number = int(message.split("-")[1])
-        self.entered += 1
-        stands[message] = len(self.times)
-        self.note_time(at)
-        self.note_change(ENTERED)
-        order = self.order
-        if not order:
+        if message != f"{self.head}{len(stands)}":
+            raise BadRow(message)
+        if self.oldest == len(stands):
             self.oldest_at.append(at)
             self.sinces.append(at)
-        order.append((message, at))
-        if len(stands) > self.peak:
-            self.peak, self.peak_at = len(stands), at
-        if len(order) > 2 * len(stands) + 1_000:
-            self.order = deque(entry for entry in self.order if entry[0] in stands)
+        stands.append(len(self.times))
+        self.came.append(at)
+        self.note_time(at)
+        self.note_change(ENTERED)
+        self.left += 1
+        if self.left > self.peak:
+            self.peak, self.peak_at = self.left, at
 
     def put(self, at, message, place):
-        stands = self.stands.get(message)
-        if stands is None:
+        """Moves a message from where it stands to a place; gives its number."""
+        number = self.number_of(message)
+        if number is None:
             raise BadRow(message)
+        stands = self.stands[number]
         self.note_time(at)
         self.note_change(place if stands >= 0 else 4 * (-1 - stands) + place)
-        self.stands[message] = -1 - place
+        self.stands[number] = -1 - place
+        return number
 
     def receive(self, at, message, _):
         self.put(at, message, IN_FLIGHT)
 
     def release(self, at, message, _):
         """The end of a delay where the message was not received since it came in, else of a visibility timeout."""
-        stands = self.stands.get(message)
-        if stands is not None and stands >= 0:
-            self.delay(message)
+        self.delay(message)
         self.put(at, message, VISIBLE)
 
     def delay(self, message):
-        """Tells of a message that it has been delayed since it came in."""
-        self.changes[self.stands[message]] = ENTERED_DELAYED
-        self.stands[message] = -1 - DELAYED
+        """Tells of a message, if it has not moved since it came in, that it has been delayed since."""
+        number = self.number_of(message)
+        if number is not None and self.stands[number] >= 0:
+            self.changes[self.stands[number]] = ENTERED_DELAYED
+            self.stands[number] = -1 - DELAYED
 
     def leave(self, at, message):
-        stands = self.stands.pop(message, None)
-        if stands is None:
-            raise BadRow(message)
-        self.note_time(at)
-        self.note_change(NOWHERE if stands >= 0 else 4 * (-1 - stands) + NOWHERE)
-        order = self.order
-        if order[0][0] == message:
-            while order and order[0][0] not in self.stands:
-                order.popleft()
+        number, stands = self.put(at, message, NOWHERE), self.stands
+        self.left -= 1
+        if number == self.oldest:
+            while number < len(stands) and stands[number] == GONE:
+                number += 1
+            self.oldest = number
             self.oldest_at.append(at)
-            self.sinces.append(order[0][1] if order else NONE)
+            self.sinces.append(self.came[number] if number < len(stands) else NONE)
 
     def delete(self, at, message, detail):
         if not NUMBER.fullmatch(detail):
@@ -126,7 +139,7 @@ class History:
     def counts(self):
         """What is told of the whole run, in words."""
         counts = [(self.entered, "came in"), (len(self.ages), "deleted"), (len(self.redrives), "redriven"),
-                  (self.moved, "moved away"), (len(self.expiries), "expired"), (len(self.stands), "left")]
+                  (self.moved, "moved away"), (len(self.expiries), "expired"), (self.left, "left")]
         return ", ".join(f"{count:,} {what}" for count, what in counts if count or what in ("came in", "left"))
 
 
@@ -171,7 +184,7 @@ class Histories:
     def take_finals(self, log):
         for final in (log.finals or {}).values():
             queue = self.queues.get(final.queue)
-            if queue and final.place == "delayed" and queue.stands.get(final.message, -1) >= 0:
+            if queue and final.place == "delayed":
                 queue.delay(final.message)
         report = (log.parts or {}).get("report")
         self.known = None if report is None else [record[1] for record in report]

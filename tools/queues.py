@@ -38,6 +38,8 @@ version = 1
 horizon = {horizon} # DEFAULT: how long to rehearse, in milliseconds.
 """
 NO_ACTORS = "# To rehearse them, add actors that send and receive."
+# How far the messages of a skeleton's producer are apart on average, in milliseconds, and how many it may send.
+GAP, SENDS_MOST = 1_000, 1_000_000
 SKELETONS = "# Each SKELETON marks actors that were made up: give them the rates and times of your own."
 PRODUCER = """
 # SKELETON: who sends to {queue}.
@@ -45,7 +47,7 @@ PRODUCER = """
 name = "{name}"
 kind = "producer"
 queue = "{queue}"
-count = 100
+count = {count}
 gap_min_ms = 100
 gap_max_ms = 1900
 body = "message {{n}}"
@@ -175,8 +177,6 @@ def add_notes(queue, attributes):
             queue.note(f"{queue.title(key)} is left out: {reason}")
     title = queue.title("ReceiveMessageWaitTimeSeconds")
     queue.wait = queue.number(title, attributes.get("ReceiveMessageWaitTimeSeconds", "0"), 0, 20)
-    if queue.wait:
-        queue.note(f"{title} is left out: give its consumers wait_s = {queue.wait}")
     if any(attributes.get(key, "0") != "0" for key in COUNTS):
         queue.note("its present messages are left out: a rehearsal begins with empty queues")
     for key in sorted(set(attributes) - USED - SILENT - set(NOT_MODELLED) - set(COUNTS)):
@@ -221,13 +221,25 @@ def name_apart(name, end, taken):
         number += 1
 
 
-def skeletons(queues):
-    """Actors for each queue that is no other's dead-letter queue, so that something happens in a rehearsal."""
-    dead_letters, taken, text = {queue.dead_letter for queue in queues}, {queue.name for queue in queues}, ""
+def without_dead_letters(queues):
+    """The queues that are no other's dead-letter queue."""
+    dead_letters = {queue.dead_letter for queue in queues}
+    return [queue for queue in queues if queue.name not in dead_letters]
+
+
+def note_waits(queues):
+    """Tells how long receives wait at queues to which no consumers are added."""
     for queue in queues:
-        if queue.name in dead_letters:
-            continue
-        text += PRODUCER.format(name=name_apart(queue.name, "-sender", taken), queue=queue.name)
+        if queue.wait:
+            queue.note(f"{queue.title('ReceiveMessageWaitTimeSeconds')} is left out: give its consumers wait_s = "
+                       f"{queue.wait}")
+
+
+def skeletons(queues, taken, horizon):
+    """A producer and a consumer for each queue, so that something happens all through a rehearsal."""
+    count, text = min(max(1, horizon // GAP), SENDS_MOST), ""
+    for queue in queues:
+        text += PRODUCER.format(name=name_apart(queue.name, "-sender", taken), queue=queue.name, count=count)
         text += "groups = 10\n" if queue.fifo else ""
         text += CONSUMER.format(name=name_apart(queue.name, "-worker", taken), queue=queue.name, wait=queue.wait)
     return text
@@ -237,7 +249,8 @@ def scenario_text(queues, source, horizon, has_actors):
     text = HEAD.format(source=source, actors=SKELETONS if has_actors else NO_ACTORS, horizon=horizon)
     for queue in queues:
         text += "\n".join(["", "[[queue]]", *queue.lines, *(f"# {note}." for note in queue.notes)]) + "\n"
-    return text + (skeletons(queues) if has_actors else "")
+    taken = {queue.name for queue in queues}
+    return text + (skeletons(without_dead_letters(queues), taken, horizon) if has_actors else "")
 
 
 def add_options(parser):
@@ -257,6 +270,8 @@ def tell_and_write(tool, queues, options, source, has_actors):
     """Tells what is to be told of each queue and writes the scenario, or tells the faults; gives the status."""
     if len(queues) > QUEUES_MOST:
         raise Fault(f"{len(queues)} queues are too many: a scenario has at most {QUEUES_MOST}")
+    with_actors = without_dead_letters(queues) if has_actors else []
+    note_waits(queue for queue in queues if queue not in with_actors)
     faults = [f"{queue.name}: {fault}" for queue in queues for fault in queue.faults]
     for line in faults or [f"{queue.name}: {note}" for queue in queues for note in queue.notes]:
         print(f"{tool}: {line}", file=sys.stderr)

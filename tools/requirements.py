@@ -40,6 +40,10 @@ class Requirement:
     def is_of(self, name):
         return fnmatch.fnmatchcase(name, self.queue)
 
+    def told_of(self, name):
+        """The requirement, with the queue that it was looked at for where its own words leave that open."""
+        return self.text if name == self.queue else f"{self.text} of {name}"
+
     def fault(self, name, numbers):
         """Why it fails for a queue with these numbers of the report, or None."""
         text = numbers[COLUMNS.index(self.column)]

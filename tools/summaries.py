@@ -379,6 +379,10 @@ def lost_in(run):
             if queue.counts["lost_by_expiry"]}
 
 
+def lost_told(lost):
+    return f"{sum(lost.values()):,} in {named(lost)}" if lost else ""
+
+
 def grouped(number):
     return f"{number:,}"
 

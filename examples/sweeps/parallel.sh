@@ -3,4 +3,8 @@
 # with how many jobs it runs at once before it, as 16/rehearse1. What JOBS.log tells to be done is not done again:
 #   examples/sweeps/parallel.sh JOBS [HOSTS]
 set -eu
+if [ $# = 0 ]; then
+  echo "usage: examples/sweeps/parallel.sh JOBS [HOSTS]" >&2
+  exit 2
+fi
 parallel ${2:+--sshloginfile "$2"} --joblog "$1.log" --resume < "$1"

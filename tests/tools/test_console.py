@@ -1,6 +1,7 @@
 """Tests how all tools end: help, an unknown word, an output that is full or closed, a log that is no file."""
 import os
 import pty
+import re
 import stat
 import subprocess
 import sys
@@ -36,6 +37,21 @@ class Ends(ToolCase):
                                          capture_output=True, stdin=subprocess.DEVNULL)
                     told = run.returncode, run.stdout, len(run.stderr.splitlines())
                     self.assertEqual(told, (2, b"", 1), run.stderr)
+
+    def test_help_has_each_option(self):
+        for name in (*USERS_TOOLS, *OTHER_TOOLS):
+            with self.subTest(tool=name):
+                with open(os.path.join(TOOLS, name), encoding="utf-8") as file:
+                    options = re.findall(r'add_argument\("(--[a-z-]+)"', file.read())
+                told = self.run_tool(name, "--help")[1]
+                options += ["--horizon", "--latency", "--output"] if name in ("from-queue", "from-plan") else []
+                self.assertEqual([option for option in options if option not in told], [])
+                self.assertLessEqual(max(map(len, told.splitlines())), 120)
+
+    def test_setup(self):
+        self.assertIn("tools/setup\n", self.ended("setup --help")[1])
+        self.assertEqual(self.ended("setup now"), (2, "", "setup: now is no word of it: it takes none, or --missing "
+                                                          "(--help tells the usage)\n"))
 
     def test_an_output_that_is_full_or_closed(self):
         with open(self.path("log"), "wb") as file:

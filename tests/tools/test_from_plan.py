@@ -60,7 +60,6 @@ dead_letter = "failed"
 max_receives = 10
 latency_ms = 100
 # DEFAULT: latency_ms of 100, how long a redrive takes, as nothing tells it.
-# receive_wait_time_seconds is left out: give its consumers wait_s = 20.
 # DEFAULT: max_receives of 10, as the plan does not tell it before it is applied.
 
 [[queue]]
@@ -272,8 +271,8 @@ class FromPlan(ToolCase):
                                  text=True)
             self.assertEqual((run.returncode, run.stderr), (0, ""))
             sends = [line.split(",")[1:3] for line in run.stdout.splitlines() if line.startswith("report,")][1:]
-            # Each queue that takes no dead letters is sent 100 messages.
-            self.assertEqual([count for _, count in sends], ["100", "0", "100", "0"])
+            # Each queue that takes no dead letters is sent a message a second, all through the hour.
+            self.assertEqual([3_500 <= int(count) <= 3_600 or count for _, count in sends], [True, "0", True, "0"])
 
     @needs_program
     def test_long_names_and_many_queues(self):

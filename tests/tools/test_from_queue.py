@@ -37,8 +37,8 @@ dead_letter = "failed"
 max_receives = 3
 latency_ms = 100
 # DEFAULT: latency_ms of 100, how long a redrive takes, as nothing tells it.
-# ReceiveMessageWaitTimeSeconds is left out: give its consumers wait_s = 20.
 # its present messages are left out: a rehearsal begins with empty queues.
+# ReceiveMessageWaitTimeSeconds is left out: give its consumers wait_s = 20.
 """
 FAILED_TABLE = """
 [[queue]]

@@ -36,7 +36,7 @@ class Bench(ToolCase):
         self.write("script", "#!/bin/sh\n")
         os.chmod(self.path("script"), 0o755)
         for words, line in (
-                ((), usage), (("--scenario",), usage), ((echo, "one", "1", "1", "1"), usage),
+                ((), usage), (("",), usage), (("--scenario",), usage), ((echo, "one", "1", "1", "1"), usage),
                 (("none",), "there is no program none"),
                 ((shutil.which("false"),), f"{shutil.which('false')} does not run"),
                 ((echo,), f"{echo} makes no log: it is another program"),

@@ -43,7 +43,7 @@ class Package(ToolCase):
         version = self.run_in("/", f"{root}/usr/bin/sqs_rehearse", "--version")[1]
         self.assertTrue(version.startswith(f"sqs_rehearse {VERSION}"))
         self.assertEqual(os.path.basename(package).split("_")[1], version.split()[1])
-        for command in ("summary", "sweep", "from-plan", "picture"):
+        for command in ("summary", "sweep", "from-plan", "picture", "setup"):
             self.assertEqual(self.run_in("/", f"{root}/usr/bin/sqs_rehearse-{command}", "--help")[0::2], (0, ""))
         self.assertEqual(self.run_in("/", f"{root}/usr/bin/sqs_rehearse-summary", "none"),
                          (2, "", "sqs_rehearse-summary: cannot read none: No such file or directory\n"))

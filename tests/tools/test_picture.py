@@ -11,7 +11,7 @@ import unittest
 from tool import ROOT, TOOLS, ToolCase, module_of, needs_program
 from console import Fault, library
 from logs import Log
-from histories import PLACES, Histories, History, ages_in, counts_in, levels, oldest, thinned
+from histories import PLACES, BadRow, Histories, History, ages_in, counts_in, levels, oldest, thinned
 
 try:
     numpy, matplotlib = library("numpy", "python3-numpy"), library("matplotlib", "python3-matplotlib")
@@ -68,6 +68,26 @@ class Counts(ToolCase):
                          [(0, 0), (2500, 2500), (2500, 2495), (6000, 5995), (6000, None), (6020, None)])
         times, ages = oldest(a, 1000, 2000, 100)
         self.assertEqual(pairs((times, ages)), [(1000, 1000), (2000, 2000)])
+
+    def test_messages_that_leave_out_of_order(self):
+        """Of three messages the second and the first are deleted; the third, received since, is then the oldest."""
+        queue = History("q")
+        for at in range(3):
+            queue.enter(at, f"m-7-{at}", "")
+        queue.receive(5, "m-7-2", "")
+        queue.delete(10, "m-7-1", "9")
+        queue.delete(20, "m-7-0", "20")
+        self.assertEqual((queue.entered, queue.left, queue.peak, queue.peak_at, queue.number), (3, 1, 3, 2, 7))
+        self.assertEqual((list(queue.oldest_at), list(queue.sinces)), ([0, 20], [0, 2]))
+        queue.expire(30, "m-7-2", "")
+        queue.enter(40, "m-7-3", "")
+        self.assertEqual((list(queue.oldest_at)[2:], list(queue.sinces)[2:]), ([30, 40], [2 ** 32 - 1, 40]))
+        for message in ("m-7-2", "m-7-4", "m-7-03", "m-7-+3", "m-7-3_", "m-7-\u0663", "m-8-3", "m-7--1", "",
+                        "x" * 9_000):
+            for change in (queue.receive, queue.release, queue.expire):
+                self.assertRaises(BadRow, change, 50, message, "")
+        for message in ("m-7-3", "m-7-5", "m-8-4", "m-7-04", ""):
+            self.assertRaises(BadRow, queue.enter, 50, message, "")
 
     def test_ages_and_counts_of_bins(self):
         """Of the ages 1 to 20 in the first bin the ranks are 10, 19 and 20; nothing is in the second one."""
@@ -228,8 +248,16 @@ class Tool(ToolCase):
         self.assertIn("My &lt;queues&gt;", text)
         self.assertIn("s.toml, version 1, seed 5", text)
 
+    def test_what_was_lost_is_told_at_the_top(self):
+        lost = LOG + "7000,d,d,expire,expired,m-1-0,,980\n"
+        for log, told in ((LOG, []), (lost, ["Lost by expiry in the whole run: 1 in d"])):
+            out = self.run_tool("picture", self.write("log", log), "--queue", "a", "--to", "2000")[1]
+            self.assertEqual(re.findall(r">(Lost [^<]*)<", out), told)
+
     def test_width_of_a_png(self):
-        self.run_tool("picture", self.write("log", LOG), "--output", "p.png", "--width", "1600", "--height", "1200")
+        self.write("s.toml", "seed = 5\n")
+        self.run_tool("picture", self.write("log", LOG), "--output", "p.png", "--width", "1600", "--height", "1200",
+                      "--scenario", "s.toml")
         with open(self.path("p.png"), "rb") as file:
             data = file.read(24)
         self.assertEqual([int.from_bytes(data[at:at + 4], "big") for at in (16, 20)], [1600, 1200])

@@ -119,7 +119,8 @@ class Wrapper(ToolCase):
     def test_an_interrupted_build_leaves_nothing_behind(self):
         for number, status in ((signal.SIGINT, 130), (signal.SIGTERM, 143)):
             run = subprocess.Popen([self.path("sqs_rehearse"), "run"], env={**self.environment, "RT_DOES": "slow"},
-                                   stdin=subprocess.DEVNULL, stderr=subprocess.PIPE, text=True)
+                                   stdin=subprocess.DEVNULL, stderr=subprocess.PIPE, text=True,
+                                   preexec_fn=lambda: signal.signal(signal.SIGINT, signal.SIG_DFL))
             while not self.calls():
                 time.sleep(0.02)
             run.send_signal(number)

@@ -1,4 +1,6 @@
 """Tests tools/report with a stand-in for the program that prints a known run, and with the program itself."""
+import base64
+import gzip
 import json
 import os
 import re
@@ -6,14 +8,18 @@ import sys
 import unittest
 from html.parser import HTMLParser
 
-from tool import PROGRAM, ROOT, ToolCase, needs_program
+from tool import PROGRAM, ROOT, ToolCase, module_of, needs_program
 from console import Fault, library
+from histories import History
 
 try:
     library("plotly.offline", "python3-plotly")
     has_plotly = True
 except Fault:
     has_plotly = False
+
+report = module_of("report")
+drawn, figure_html, layout_of, panels_of = report.drawn, report.figure_html, report.layout_of, report.panels_of
 
 SCENARIO = """version = 1
 horizon = 10000
@@ -90,14 +96,14 @@ class Report(ToolCase):
 
     def test_what_the_page_tells(self):
         text, out = self.page("--require", "q.age_p95<60s", "--require", "q.expiries=0", "--title", "A <run>", status=1)
-        self.assertEqual(out, "q.expiries=0 of q does not hold: it is 1\n")
+        self.assertEqual(out, "q.expiries=0 does not hold: it is 1\n")
         page = Page(text)
         self.assertEqual((page.inside, page.links, page.scripts), ([], [], 2))
         told = "|".join(page.texts)
-        for part in ("A <run>|A <run>|s.toml, seed 11: 5 rows, the last at 9.00 s.|Lost by expiry: 1 in q|", "holds|q.age_p95<60s|q",
-                     "fails|q.expiries=0|q|it is 1", "sent|2", "lost by expiry|1|of 2", "deleted|1|of 2",
-                     "age when deleted, 95 %|2.00 s", "seed|11|sample|not given|queue q|visibility_s = 5",
-                     "visibility_s = 5 # <b>&amp;"):
+        for part in ("A <run>|A <run>|s.toml, seed 11: 5 rows, the last at 9.00 s.|Lost by expiry: 1 in q|",
+                     "holds|q.age_p95<60s|q", "fails|q.expiries=0|q|it is 1", "sent|2",
+                     "lost by expiry|1|of 2", "deleted|1|of 2", "age when deleted, 95 %|2.00 s",
+                     "seed|11|sample|not given|queue q|visibility_s = 5", "visibility_s = 5 # <b>&amp;"):
             self.assertIn(part, told)
         self.assertTrue(told.endswith("--require 'q.age_p95<60s' --require q.expiries=0 --title 'A <run>'"))
         self.assertIn(f"tools/report {self.scenario} --output r.html", told)
@@ -105,18 +111,38 @@ class Report(ToolCase):
     def test_pictures(self):
         """The numbers that are drawn: two messages at 1 s, one deleted of an age of 2 s, the second expired."""
         text, _ = self.page()
-        traces, layout = json.loads("[" + re.search(r'Plotly\.newPlot\("queue-1", (.*), \{"responsive"', text)[1] + "]")
+        traces, layout = json.loads("[" + re.search(r'draw\("queue-1", (.*), \{"responsive"', text)[1] + "]")
         by_name = {trace["name"]: trace for trace in traces}
-        self.assertEqual(set(by_name), {"visible", "in flight", "delayed", "middle", "95 %", "greatest", "oldest",
-                                        "redriven", "expired"})
+        self.assertEqual(set(by_name), {"visible", "in flight", "middle", "95 %", "greatest", "oldest", "expired"})
         self.assertEqual((by_name["visible"]["x"], by_name["visible"]["y"]), ([0, 1, 1.5, 9, 9], [1, 2, 1, 0, 0]))
         self.assertEqual((by_name["in flight"]["x"], by_name["in flight"]["y"]), ([0, 1.5, 2, 9], [0, 1, 0, 0]))
         for name in ("middle", "95 %", "greatest"):
-            self.assertEqual([age for age in by_name[name]["y"] if age is not None], [2, 2])
-        self.assertEqual((sum(by_name["expired"]["y"]), sum(by_name["redriven"]["y"])), (1, 0))
+            self.assertEqual([age for age in by_name[name]["y"] if age is not None], [2_000, 2_000])
+        self.assertEqual(layout["yaxis2"]["title"]["text"], "age when<br>deleted (ms)")
+        self.assertEqual(sum(by_name["expired"]["y"]), 1)
         self.assertEqual(max(age for age in by_name["oldest"]["y"] if age is not None), 8)
         self.assertEqual(layout["xaxis"]["range"], [0, 9])
-        self.assertIn("Plotly", text[:text.index("</head>")])
+        packed = re.search('const packed = "([A-Za-z0-9+/=]+)";', text[:text.index("</head>")])[1]
+        self.assertIn(b"plotly.js", gzip.decompress(base64.b64decode(packed))[:100])
+        self.assertLess(len(text), 4_000_000)
+        self.assertEqual([by_name[name]["yaxis"] for name in ("visible", "95 %", "oldest", "expired")],
+                         ["y1", "y2", "y3", "y4"])
+        domains = [layout[f"yaxis{axis}"]["domain"] for axis in range(1, 5)]
+        self.assertEqual((domains[0][1], domains[3][0], domains), (1, 0, sorted(domains, reverse=True)))
+
+    def test_panels_without_anything_are_left_out(self):
+        """Where nothing expires and nothing is redriven, three panels are left, the last with the time below it."""
+        queue = History("q")
+        queue.enter(0, "m-0-0", "")
+        queue.delete(2_000, "m-0-0", "2000")
+        panels = drawn(panels_of(queue, 0, 9_000, 1_000))
+        self.assertEqual([(title, [trace["name"] for trace in traces]) for title, _, traces in panels],
+                         [("messages", ["visible"]), ("age when<br>deleted (ms)", ["greatest", "95 %", "middle"]),
+                          ("oldest (ms)", ["oldest"])])
+        layout = layout_of(panels, "s", 0, 9)
+        self.assertEqual((layout["xaxis"]["anchor"], layout["yaxis3"]["domain"][0], "yaxis4" in layout),
+                         ("y3", 0, False))
+        self.assertEqual(figure_html(1, History("empty"), 0, 9_000), "")
 
     def test_the_same_run_gives_the_same_page(self):
         self.assertEqual(self.page(), self.page())
@@ -160,7 +186,7 @@ class Report(ToolCase):
         words = "--require", "orders.age_p95<10s", "--require", "failed.expiries=0"
         status, out, err = self.run_tool("report", example, "--output", "r.html", *words, SQS_REHEARSE=PROGRAM)
         self.assertEqual((status, out, err),
-                         (1, "orders.age_p95<10s of orders does not hold: it is 10227 ms, 10.2 s\n", ""))
+                         (1, "orders.age_p95<10s does not hold: it is 10227 ms, 10.2 s\n", ""))
         with open(self.path("r.html"), encoding="utf-8") as file:
             page = Page(file.read())
         self.assertEqual((page.inside, page.links, page.scripts), ([], [], 3))

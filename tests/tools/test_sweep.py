@@ -172,7 +172,21 @@ class Sweep(ToolCase):
             "sweep: q.sends<203 fails with queue.q.visibility_s=2 seed=3: it is 203",
             "sweep: nothing is known of queue.q.visibility_s=51 seed=1: refused 14 OutOfRange at queue[0].visibility_s",
             "sweep: nothing is known of queue.q.visibility_s=51 seed=3: refused 14 OutOfRange at queue[0].visibility_s",
-            "sweep: requirements that hold: 5 of 6"]))
+            "sweep: requirements that hold: 5 of 6",
+            "sweep: variants that meet all of them: 1 of 4: queue.q.visibility_s=2 seed=1"]))
+
+    def test_variants_that_meet_all_requirements(self):
+        """With a timeout of 2 the sends are 201 and 203, with 3 they are 301 and 303; nothing is known of 51."""
+        words = self.scenario, "--vary", "queue.q.visibility_s=2,3,51", "--vary", "seed=1,3", "--spread", "seed"
+        for text, line in (("q.sends<204", "1 of 3: queue.q.visibility_s=2"), ("q.sends<203", "0 of 3"),
+                           ("q.sends<400", "2 of 3: queue.q.visibility_s=2; queue.q.visibility_s=3")):
+            err = self.sweep(*words, "--require", text)[2]
+            self.assertEqual(err.splitlines()[-1:], [f"sweep: variants that meet all of them: {line}"])
+        err = self.sweep(self.scenario, "--vary", "seed=1..12", "--require", "q.sends!=105")[2]
+        met = "; ".join(f"seed={seed}" for seed in (1, 2, 3, 4, 6, 7, 8, 9))
+        self.assertEqual(err.splitlines()[-1], f"sweep: variants that meet all of them: 11 of 12: {met}; ..")
+        err = self.sweep(self.scenario, "--vary", "seed=1..2", "--require", "q.sends<200")[2]
+        self.assertEqual(err.splitlines()[-1], "sweep: requirements that hold: 2 of 2")
 
     def test_requirements_of_ages(self):
         """The greatest age is 5 s with a worker; without one no message is deleted, and nothing holds of ages."""
@@ -194,6 +208,8 @@ class Sweep(ToolCase):
         status, _, err = self.sweep("--collect", "jobs", "--require", "q.sends=101", "--spread", "seed")
         self.assertEqual((status, err), (1, "sweep: q.sends=101 fails with seed=2: it is 102\n"
                                          "sweep: requirements that hold: 1 of 2\n"))
+        status, _, err = self.sweep("--collect", "jobs", "--require", "q.sends=101")
+        self.assertEqual((status, err.splitlines()[-1]), (1, "sweep: variants that meet all of them: 1 of 2: seed=1"))
 
     def test_columns_and_a_table(self):
         words = self.scenario, "--vary", "seed=1,10", "--columns", "age_sum,sends,age_p50"
@@ -287,8 +303,8 @@ body = "b"
         words = shlex.split(quoted.replace("\\\n", "").replace("$ tools/sweep examples/", ROOT + "/examples/"))
         status, out, err = self.sweep(*words, "--table", "--program", PROGRAM)
         lines = [line for line in err.splitlines() if "variants run" not in line or " 4 of " in line]
-        self.assertEqual((status, sorted(lines) + out.splitlines()), (1, sorted(told.splitlines()[:4])
-                         + told.splitlines()[4:]))
+        self.assertEqual((status, sorted(lines) + out.splitlines()), (1, sorted(told.splitlines()[:5])
+                         + told.splitlines()[5:]))
 
     @needs_program
     def test_with_the_program(self):

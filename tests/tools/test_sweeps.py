@@ -42,6 +42,13 @@ class Sweeps(ToolCase):
         self.run_it(f"{FILES}/share.sh", "jobs", "2", "2")
         self.assert_collected()
 
+    def test_words_that_are_missing(self):
+        for command in (["share.sh"], ["share.sh", "jobs", "x", "2"], ["share.sh", "jobs", "1", "0"], ["parallel.sh"]):
+            ran = subprocess.run([f"{FILES}/{command[0]}", *command[1:]], cwd=self.folder, capture_output=True,
+                                 text=True)
+            self.assertEqual((ran.returncode, ran.stdout, ran.stderr.split(" JOBS")[0]),
+                             (2, "", f"usage: examples/sweeps/{command[0]}"))
+
     def test_parallel(self):
         self.write("hosts", "2/:\n")
         folder = os.environ["PATH"]

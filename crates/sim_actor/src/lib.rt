@@ -6,3 +6,4 @@ mod actor;
 mod bodies;
 
 pub use actor::Actor;
+pub use sqs_model::{Act, Answer};

@@ -7,7 +7,7 @@ use std::alloc::{AllocError, AllocFailed};
 use std::error::Error;
 use std::fmt;
 
-/// Why a call is refused. 1 to 9 are answers of queues and tasks, which stand in the log; 10 to 21
+/// Why a call is refused. 1 to 9 are answers of queues and tasks, which stand in the log; 10 to 20
 /// are faults of a scenario; 30 to 36 end a run. Displayed as its name and its values.
 #[derive(Clone, Copy, Debug, PartialEq, Eq)]
 pub enum Refusal {

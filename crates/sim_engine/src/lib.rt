@@ -6,10 +6,12 @@
 
 mod edge;
 mod effects;
+mod laws;
 mod picks;
 mod site;
 
 pub use edge::Edge;
 pub use effects::Effects;
+pub use laws::merging_keeps_order;
 pub use picks::Pick;
 pub use site::Site;

@@ -1,6 +1,6 @@
 //! The columns of a row of the log.
 ghost use Rattle.std.specs.Prelude.{◌≡◌, ◌++◌, ◌∷◌, [], OnOk};
-ghost use Rattle.sim_records.specs.Lines.{with_field};
+ghost use Rattle.sim_records.specs.Lines.{IsPlain, with_field};
 ghost use Rattle.sqs_formats.specs.Rows.{answer_text, detail_text, kind_text, row_receipt, text_if};
 ghost use Rattle.sqs_message.specs.Ids.{id_text};
 
@@ -11,7 +11,8 @@ use std::alloc::AllocError;
 
 // The name of what a row tells of.
 pub(crate) fn kind_name(kind: RowKind) -> &'static str
-    ensures { result.now ≡ kind_text kind }
+    ensures name { result.now ≡ kind_text kind }
+    ensures plain { IsPlain result.now }
 {
     match kind {
         RowKind::Send => "send",
@@ -34,7 +35,8 @@ pub(crate) fn kind_name(kind: RowKind) -> &'static str
 
 // The name of how it went.
 pub(crate) fn answer_name(answer: RowAnswer) -> &'static str
-    ensures { result.now ≡ answer_text answer }
+    ensures name { result.now ≡ answer_text answer }
+    ensures plain { IsPlain result.now }
 {
     match answer {
         RowAnswer::New => "new",

@@ -63,6 +63,17 @@ fn text_by_csv(alloc: Global, field: &[u8]) -> Result<Vec<u8>, AllocError>
 }
 
 impl Fields {
+    /// No line, and room for so many bytes.
+    pub(crate) fn with_room(alloc: Global, bytes: usize) -> Result<Fields, AllocError>
+        ensures { IfOk result (λ fields. fields ≡ record { text = []; fields = 0 }) }
+    {
+        Ok(Fields {
+            alloc,
+            text: Vec::with_capacity(alloc, bytes)?,
+            fields: 0,
+        })
+    }
+
     /// No line.
     pub(crate) fn new(alloc: Global) -> Fields
         ensures { result ≡ record { text = []; fields = 0 } }
@@ -118,8 +129,8 @@ impl Fields {
         self.put(buffer.format(number).as_bytes())
     }
 
-    // A field that needs no quotes.
-    fn plain(&mut self, field: &[u8]) -> Result<(), AllocError>
+    /// A field that needs no quotes.
+    pub(crate) fn plain(&mut self, field: &[u8]) -> Result<(), AllocError>
         requires { IsPlain field.now }
         ensures { OnOk result (self.new ≡ with_field self.old field.now) }
     {

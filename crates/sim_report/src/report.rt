@@ -96,8 +96,8 @@ impl Report {
     }
 }
 
-/// Writes the comparison of two reports, each with what was left at the end of its run: for each
-/// queue of the first a line for each column, and a line for each queue that stands in one only.
+/// Writes the comparison of two runs, each by its report and what was left at its end: for each queue
+/// of the first a line for each column, and a line for each queue that stands in one only.
 ///
 /// # Errors
 ///
@@ -106,20 +106,18 @@ impl Report {
 pub fn compare<W: Out>(
     alloc: Global,
     out: &mut W,
-    first: &Report,
-    first_finals: &Finals,
-    second: &Report,
-    second_finals: &Finals,
+    first: (&Report, &Finals),
+    second: (&Report, &Finals),
 ) -> Result<(), Refusal>
     requires { W.failed out.old ≡ false }
     ensures works { OnOk result (W.failed out.new ≡ false) }
     ensures written { (names : List (List ℕ)) (rows : List Row) (others : List (List ℕ)) (other_rows : List Row)
-        → first.now ≡ running names rows → second.now ≡ running others other_rows
+        → first.entry.0.now ≡ running names rows → second.entry.0.now ≡ running others other_rows
         → Wrote (W.held out.old) (W.held out.new) (W.failed out.new)
-        (comparison (report names rows first_finals.now) (report others other_rows second_finals.now)) result }
+        (comparison (report names rows first.entry.1.now) (report others other_rows second.entry.1.now)) result }
 {
-    let before = first.columns(alloc, first_finals)?;
-    let after = second.columns(alloc, second_finals)?;
+    let before = first.0.columns(alloc, first.1)?;
+    let after = second.0.columns(alloc, second.1)?;
     let text = comparison_lines(alloc, before.as_slice(), after.as_slice())?;
     write_all(out, text.as_slice())?;
     Ok(())

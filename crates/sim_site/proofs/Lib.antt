@@ -31,3 +31,4 @@ pub mod Picked
 pub mod Ordered
 pub mod Grown
 pub mod Ending
+pub mod Greatest

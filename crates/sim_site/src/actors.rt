@@ -5,6 +5,7 @@ ghost use Rattle.sim_actor.specs.Lives.{greatest_count};
 ghost use Rattle.sim_clock.specs.Order.{least};
 ghost use Rattle.sqs_model.specs.Actor.{Actor as TheActor, next};
 ghost use Rattle.sqs_model.specs.Answers.{most_count};
+ghost use Rattle.sqs_model.specs.Counts.{actor_count, greatest};
 ghost use Rattle.sqs_model.specs.Dues.{actor_dues};
 ghost use Rattle.sim_clock.specs.Places.{IsAbsent, Stands};
 ghost use Rattle.sqs_model.specs.Site.{is_actor};
@@ -151,6 +152,18 @@ fn counted_at(actors: &mut Vec<Actor>, place: usize, number: u32) -> Result<u64,
     Ok(polls)
 }
 
+// The greatest count of some actors.
+fn greatest_of(actors: &[Actor]) -> u64
+    ensures count { result ≡ greatest (map actor_count actors.now) }
+    ensures limit { result ≤ most_count }
+{
+    let mut most = 0;
+    for actor in actors {
+        most = actor.greatest_count().max(most);
+    }
+    most
+}
+
 /// The actors at home at a site. A few are gone over; what wakes next among many is told at once, a
 /// change of one costs the logarithm of their number, and so does the search for one by its number
 /// where the numbers do not fall. Contracts see them as a list.
@@ -186,6 +199,14 @@ impl Actors {
             is_in_order,
             wakes,
         })
+    }
+
+    /// The greatest count of them.
+    pub fn greatest_count(&self) -> u64
+        ensures count { result ≡ greatest (map actor_count self.now) }
+        ensures limit { result ≤ most_count }
+    {
+        greatest_of(&self.list)
     }
 
     /// Where the first actor with a number stands, with what it says of the list.

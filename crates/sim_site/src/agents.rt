@@ -4,6 +4,7 @@ ghost use Rattle.sim_clock.specs.Order.{least};
 ghost use Rattle.sqs_model.specs.Dues.{poll_key, task_dues, actor_dues};
 ghost use Rattle.sqs_model.specs.Acts.{runs};
 ghost use Rattle.sqs_model.specs.Answers.{most_count};
+ghost use Rattle.sqs_model.specs.Counts.{task_count};
 ghost use Rattle.sim_site.specs.Reading.{settings_of, status_of, moved_of, cancelled_task, started_task};
 
 use sim_actor::Actor;
@@ -66,7 +67,7 @@ impl Model for Task {
 
     ghost view = { λ t. record { number = t.number; move = t.movement; sent = t.sent; draws = t.draws } };
 
-    ghost invariant = { λ t. (t.movement.moved ≤ t.sent) × (t.sent ≤ most_count) };
+    ghost invariant = { λ t. (t.movement.moved ≤ t.sent) × (t.sent ≤ most_count) × (t.movement.steps ≤ most_count) × (t.draws.taken ≤ most_count) };
 }
 
 impl Task {
@@ -117,6 +118,15 @@ impl Task {
         ensures { result ≡ runs self.now }
     {
         self.movement.is_running()
+    }
+
+    /// The greatest of its counts: of its steps, transfers and words.
+    pub(crate) fn greatest_count(&self) -> u64
+        ensures count { result ≡ task_count self.now }
+        ensures limit { result ≤ most_count }
+    {
+        let words = self.draws.taken();
+        self.movement.steps().max(self.sent.max(words))
     }
 
     /// Starts it, or starts it again; it does not run.

@@ -5,16 +5,6 @@ use sqs_message::Text;
 use sqs_redrive::Load;
 use std::alloc::{AllocError, Global};
 
-// Another group of the same bytes, if there is one.
-fn copied_group(alloc: Global, group: &Option<Text>) -> Result<Option<Text>, AllocError>
-    ensures { IfOk result (λ copy. copy ≡ group.now) }
-{
-    match group {
-        None => Ok(None),
-        Some(group) => Ok(Some(group.copy(alloc)?)),
-    }
-}
-
 // Another load with the same values.
 fn copied_load(alloc: Global, load: &Load) -> Result<Load, AllocError>
     ensures { IfOk result (λ copy. copy ≡ load.now) }
@@ -30,7 +20,7 @@ fn copied_load(alloc: Global, load: &Load) -> Result<Load, AllocError>
             id: *id,
             origin: *origin,
             body: body.copy(alloc)?,
-            group: copied_group(alloc, group)?,
+            group: Text::copy_of(alloc, group.as_ref())?,
             enqueued: *enqueued,
         },
         Load::Move {
@@ -42,12 +32,12 @@ fn copied_load(alloc: Global, load: &Load) -> Result<Load, AllocError>
             id: *id,
             origin: *origin,
             body: body.copy(alloc)?,
-            group: copied_group(alloc, group)?,
+            group: Text::copy_of(alloc, group.as_ref())?,
         },
         Load::Forward { id, body, group } => Load::Forward {
             id: *id,
             body: body.copy(alloc)?,
-            group: copied_group(alloc, group)?,
+            group: Text::copy_of(alloc, group.as_ref())?,
         },
     })
 }

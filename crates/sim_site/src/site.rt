@@ -3,6 +3,7 @@ ghost use Rattle.std.specs.Prelude.{All, IfErr, IfOk, OnOk, Some, [], length, ma
 ghost use Rattle.std.specs.Map.Iter.{ShowsInOrder, deref};
 ghost use Rattle.sim_actor.specs.Lives.{IsRole};
 ghost use Rattle.sqs_model.specs.Answers.{most_count};
+ghost use Rattle.sqs_model.specs.Counts.{site_count};
 ghost use Rattle.sqs_model.specs.Dues.{least_due};
 ghost use Rattle.sqs_model.specs.Limits.{effect_of};
 ghost use Rattle.sqs_model.specs.Progress.{AreTimely, IsRecent};
@@ -114,6 +115,15 @@ impl Site {
         ensures { result.now ≡ self.now.core.queue }
     {
         self.core.queue()
+    }
+
+    /// The greatest count that it has come to: of its queue's arrivals, of its samples, transfers and
+    /// words, and of those of its actors and tasks.
+    pub fn greatest_count(&self) -> u64
+        ensures count { result ≡ site_count self.now.core }
+        ensures limit { result ≤ most_count }
+    {
+        self.core.greatest_count()
     }
 
     /// The tasks at home there.

@@ -3,6 +3,7 @@ ghost use Rattle.std.specs.Prelude.{◌≡◌, ◌≤◌, [], map};
 ghost use Rattle.sim_site.specs.Kept.{IsSetUp, numbered_settings};
 ghost use Rattle.sqs_model.specs.Answers.{most_count};
 ghost use Rattle.sim_clock.specs.Order.{least};
+ghost use Rattle.sqs_model.specs.Counts.{greatest, site_count, task_count};
 ghost use Rattle.sqs_model.specs.Dues.{core_dues, sample_dues};
 
 mod arrivals;
@@ -45,7 +46,8 @@ pub struct Core {
 }
 
 impl Model for Core {
-    ghost use Rattle.std.specs.Prelude.{map};
+    ghost use Rattle.std.specs.Prelude.{map, ◌≤◌};
+    ghost use Rattle.sqs_model.specs.Answers.{most_count};
     ghost use Rattle.sqs_model.specs.Site.{Core};
     ghost use Rattle.sim_site.specs.Kept.{AreAllowed, IsSampled, IsSetUp, numbered_settings};
 
@@ -53,7 +55,19 @@ impl Model for Core {
 
     ghost view = { λ c. record { queue = c.queue; actors = c.actors; tasks = c.tasks.items; polls = c.polls; sent = c.sent; draws = c.draws; sample = c.sample; samples = c.samples } };
 
-    ghost invariant = { λ c. IsSetUp c.queue.settings (map (λ a. a.settings) c.actors) (map numbered_settings c.tasks.items) × IsSampled c.sample c.samples × AreAllowed c.polls };
+    ghost invariant = { λ c. IsSetUp c.queue.settings (map (λ a. a.settings) c.actors) (map numbered_settings c.tasks.items) × IsSampled c.sample c.samples × AreAllowed c.polls × (c.sent ≤ most_count) × (c.draws.taken ≤ most_count) };
+}
+
+// The greatest count of some tasks.
+fn greatest_of_tasks(tasks: &[Task]) -> u64
+    ensures count { result ≡ greatest (map task_count tasks.now) }
+    ensures limit { result ≤ most_count }
+{
+    let mut most = 0;
+    for task in tasks {
+        most = task.greatest_count().max(most);
+    }
+    most
 }
 
 impl Core {
@@ -68,6 +82,7 @@ impl Core {
     ) -> Core
         requires set_up { IsSetUp queue.settings (map (λ a. a.settings) actors) (map numbered_settings tasks.items) }
         requires sample { sample ≤ most_count }
+        requires words { draws.taken ≤ most_count }
         ensures { result ≡ record { queue = queue; actors = actors; tasks = tasks.items; polls = []; sent = 0; draws = draws; sample = sample; samples = 0 } }
     {
         Core {
@@ -95,6 +110,21 @@ impl Core {
         ensures { result.now ≡ self.now.tasks }
     {
         self.tasks.as_slice()
+    }
+
+    /// The greatest of its counts: of its queue's arrivals, its transfers, words and samples, and of
+    /// those of its actors and tasks.
+    pub fn greatest_count(&self) -> u64
+        ensures count { result ≡ site_count self.now }
+        ensures limit { result ≤ most_count }
+    {
+        let agents = self
+            .actors
+            .greatest_count()
+            .max(greatest_of_tasks(&self.tasks));
+        let words = self.draws.taken();
+        let own = self.sent.max(words.max(self.samples.max(agents)));
+        self.queue.arrivals().max(own)
     }
 
     /// The next sample, if samples are taken.

@@ -16,6 +16,7 @@ use sim_engine::Site;
 use sim_handoff::{Hand, Handoff, Owner};
 use sim_windows::{Came, Loan, RowSink, Stage};
 use std::sync::Wait;
+use std::thread::Threads;
 
 /// How many rows some partitions made.
 pub fn rows_made<S: Site>(came: &[Came<S>]) -> u64
@@ -93,8 +94,10 @@ fn advance<S: Site, W: PartWork<S>, G: Gate<W>, R: Wait>(
     }
 }
 
-// Hands the rows that nothing can come before any more to the sink, where enough wait.
-fn hand_on<S: Site, K: RowSink<S::Row>>(
+// Hands the rows that nothing can come before any more to the sink, where enough wait; the hands of
+// other threads have nothing to do meanwhile.
+fn hand_on<S: Site, K: RowSink<S::Row>, R: Threads + Sync>(
+    rt: &R,
     stage: Stage<S>,
     pace: &mut Pace,
     sink: &mut K,
@@ -111,12 +114,18 @@ fn hand_on<S: Site, K: RowSink<S::Row>>(
     }
     let (stage, rows) = stage.settle()?;
     pace.settle(rows.len() as u64);
-    sink.take(rows.as_slice())?;
+    sink.take_beside(rt, rows.as_slice())?;
     Ok(stage)
 }
 
 // Goes on until nothing is left by the horizon. Rows go to the sink as they are settled.
-fn run_rounds<S: Site, W: PartWork<S>, G: Gate<W>, K: RowSink<S::Row>, R: Wait>(
+fn run_rounds<
+    S: Site,
+    W: PartWork<S>,
+    G: Gate<W>,
+    K: RowSink<S::Row>,
+    R: Threads + Wait + Sync,
+>(
     rt: &R,
     handoff: &Handoff<W>,
     owner: &mut Owner<W>,
@@ -148,14 +157,20 @@ fn run_rounds<S: Site, W: PartWork<S>, G: Gate<W>, K: RowSink<S::Row>, R: Wait>(
         if over {
             return Ok(next);
         }
-        stage = hand_on(next, &mut pace, sink)?;
+        stage = hand_on(rt, next, &mut pace, sink)?;
     }
     unreachable!()
 }
 
 /// Runs a stage to its end, and hands all rows to the sink as it comes to them. Answers the sites of the
 /// last world, by number.
-pub fn run_stage<S: Site, W: PartWork<S>, G: Gate<W>, K: RowSink<S::Row>, R: Wait>(
+pub fn run_stage<
+    S: Site,
+    W: PartWork<S>,
+    G: Gate<W>,
+    K: RowSink<S::Row>,
+    R: Threads + Wait + Sync,
+>(
     rt: &R,
     handoff: &Handoff<W>,
     owner: &mut Owner<W>,
@@ -180,6 +195,6 @@ pub fn run_stage<S: Site, W: PartWork<S>, G: Gate<W>, K: RowSink<S::Row>, R: Wai
 {
     let stage = run_rounds(rt, handoff, owner, hand, gate, stage, sink)?;
     let ended = stage.into_run()?;
-    sink.take(ended.rows.as_slice())?;
+    sink.take_beside(rt, ended.rows.as_slice())?;
     Ok(ended.sites)
 }

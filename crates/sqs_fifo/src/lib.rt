@@ -2,4 +2,7 @@
 //! on it.
 #![tactic(auto)]
 
-pub use sqs_queue::{Counts, FifoQueue, Received};
+mod fifo_queue;
+
+pub use fifo_queue::FifoQueue;
+pub use sqs_queue::Counts;

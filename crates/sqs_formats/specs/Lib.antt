@@ -12,3 +12,4 @@ pub mod Finals
 pub mod Report
 pub mod Comparison
 pub mod Output
+pub mod Parts

@@ -75,7 +75,7 @@ greatest ns = fold max 0 ns
 abbrev pub depth_max : List Row → ℕ
 depth_max rows = greatest (map depth (prefixes rows))
 
--- the ages of the messages deleted, and their nearest ranks
+-- the age that a row tells, where it is one that counts
 abbrev pub age_when : Bool → Detail → Option ℕ
 age_when true (details.Age ms) = Some ms
 age_when _ _ = None
@@ -98,7 +98,7 @@ ascending (n ∷ ns) = put n (ascending ns)
 abbrev pub rank : ℕ → List ℕ → Option ℕ
 rank p ns = slice_get (ascending ns) ((p * length ns + 99) / 100 - 1)
 
--- messages at the end, by place
+-- whether a message at the end is delayed
 abbrev pub is_delayed : Place → Bool
 is_delayed Delayed = true
 is_delayed Visible = false
@@ -120,12 +120,12 @@ is_in_flight InFlight = true
 abbrev pub left : (Place → Bool) → List FinalMessage → ℕ
 left is_there messages = length (filter (λ m. is_there m.place) messages)
 
--- the 27 columns of one queue, over its rows and its messages at the end
+-- as many numbers as a list has members, from this one on
 abbrev pub numbers : ℕ → List (List ℕ) → List ℕ
 numbers n [] = []
 numbers n (c ∷ cs) = n ∷ numbers (n + 1) cs
 
--- the 27 columns of a queue
+-- the 27 columns of a queue, over its rows and its messages at the end
 unfoldable pub columns_of : List Row → List FinalMessage → List (Option ℕ)
 columns_of rows messages =
     map (λ n. Some (count n rows)) (numbers 0 counted_columns)

@@ -2,7 +2,7 @@
 use sim_clock::Refusal;
 use sqs_message::Text;
 
-/// A refusal from 10 to 21, and the place in the scenario that it is about, as in
+/// A refusal from 10 to 20, and the place in the scenario that it is about, as in
 /// `queue[2].delay_s`; the place is empty where it is about the whole text.
 #[derive(Drop)]
 pub struct ScenarioFault {

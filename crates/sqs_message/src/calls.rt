@@ -1,7 +1,6 @@
 //! The calls that an actor makes.
+use crate::listed::Listed;
 use crate::text::Text;
-use std::alloc::Global;
-use std::marker::Model;
 
 /// A call of an actor at its queue. Times are seconds.
 #[derive(Drop)]
@@ -45,42 +44,5 @@ pub struct ScriptCall {
     pub call: Call,
 }
 
-/// The calls of a script, in their order. Contracts see it as the list of them.
-#[derive(Drop)]
-pub struct Script {
-    calls: Vec<ScriptCall>,
-}
-
-impl Model for Script {
-    ghost use Rattle.std.specs.Prelude.{List};
-    ghost use Rattle.sqs_message.specs.declared.calls.ScriptCall.{ScriptCall};
-
-    ghost Value = { List ScriptCall };
-
-    ghost view = { λ s. s.calls.items };
-}
-
-impl Script {
-    ghost use Rattle.std.specs.Prelude.{◌≡◌};
-
-    /// The script of these calls.
-    pub fn new(calls: Vec<ScriptCall>) -> Script
-        ensures { result ≡ calls.items }
-    {
-        Script { calls }
-    }
-
-    /// Its calls.
-    pub fn as_slice(&self) -> &[ScriptCall]
-        ensures { result.now ≡ self.now }
-    {
-        self.calls.as_slice()
-    }
-
-    /// Its calls, given back.
-    pub fn into_calls(self) -> Vec<ScriptCall>
-        ensures { result.items ≡ self }
-    {
-        self.calls
-    }
-}
+/// The calls of a script, in their order.
+pub type Script = Listed<ScriptCall>;

@@ -4,6 +4,7 @@
 mod calls;
 mod digest;
 mod ids;
+mod listed;
 mod message;
 mod row;
 mod text;
@@ -11,6 +12,7 @@ mod text;
 pub use calls::{Call, Script, ScriptCall};
 pub use digest::{body_md5, body_sha256};
 pub use ids::{MessageId, Origin, Receipt};
+pub use listed::Listed;
 pub use message::{Message, Place};
 pub use row::{Detail, Row, RowAnswer, RowKind, RowReceipt};
 pub use text::Text;

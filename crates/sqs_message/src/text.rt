@@ -1,5 +1,6 @@
 //! Texts: names, bodies, groups, ids and receipts as they were given.
 ghost use Rattle.std.specs.Prelude.{◌≡◌, ◌↔◌, IsTrue, IfOk};
+ghost use Rattle.std.specs.Option.{option_copied};
 
 use std::alloc::{AllocError, Global};
 use std::marker::Model;
@@ -48,6 +49,16 @@ impl Text {
         Ok(Text {
             bytes: self.bytes.as_slice().to_vec(alloc)?,
         })
+    }
+
+    /// Another text of the same bytes as this one, if there is one. The one error is want of memory.
+    pub fn copy_of(alloc: Global, text: Option<&Text>) -> Result<Option<Text>, AllocError>
+        ensures { IfOk result (λ copy. copy ≡ option_copied text.entry) }
+    {
+        match text {
+            None => Ok(None),
+            Some(text) => Ok(Some(text.copy(alloc)?)),
+        }
     }
 
     /// Whether two texts have the same bytes.

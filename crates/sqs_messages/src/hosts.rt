@@ -58,24 +58,6 @@ pub fn put(hosts: u64, shelf: &mut Shelf, number: u64, state: State, due: Option
     shelf.put(number, state, Mark { due, hosts: host });
 }
 
-// The numbers of the first messages, at most so many, whose marks tell of one of these hosts. Reads
-// no other message.
-fn chosen(alloc: Global, shelf: &Shelf, hosts: u32, most: u64) -> Result<Vec<u64>, AllocError>
-    ensures numbers { IfOk result (λ numbers. numbers.items ≡ map number_of (take most (filter (λ s. meets hosts s.mark) shelf.now.items))) }
-{
-    let mut numbers = Vec::new(alloc);
-    let mut from = 0;
-    for _count in 0..most {
-        let Some(message) = shelf.next(from, hosts) else {
-            return Ok(numbers);
-        };
-        let number = message.number;
-        numbers.push(number)?;
-        from = number + 1;
-    }
-    Ok(numbers)
-}
-
 /// The numbers of the first messages, at most so many, that may be received and lie on one of some
 /// hosts. Reads no other messages.
 pub fn choose(alloc: Global, shelf: &Shelf, set: u32, most: u64) -> Result<Choice, AllocError>
@@ -83,7 +65,19 @@ pub fn choose(alloc: Global, shelf: &Shelf, set: u32, most: u64) -> Result<Choic
     ensures looked { IfOk result (λ choice. choice.looked ≤ 2 * most) }
     ensures read { IfOk result (λ choice. length choice.numbers.items ≤ choice.looked) }
 {
-    let numbers = chosen(alloc, shelf, set, most)?;
-    let looked = numbers.len() as u64;
-    Ok(Choice { numbers, looked })
+    let mut choice = Choice {
+        numbers: Vec::new(alloc),
+        looked: 0,
+    };
+    let mut from = 0;
+    for _count in 0..most {
+        let Some(message) = shelf.next(from, set) else {
+            return Ok(choice);
+        };
+        choice.looked += 1;
+        let number = message.number;
+        choice.numbers.push(number)?;
+        from = number + 1;
+    }
+    Ok(choice)
 }

@@ -24,7 +24,7 @@ use Rattle.sqs_model.proofs.Effects.{latency_least, uniform_least}
 use Rattle.sqs_model.proofs.Branches.{either}
 
 -- the rest of a list in order is in order
-drop_ascends : (n k : ℕ) (xs : List ScriptCall) → Ascends (λ c. c.at) n xs → Ascends (λ c. c.at) 0 (drop k xs)
+pub drop_ascends : (n k : ℕ) (xs : List ScriptCall) → Ascends (λ c. c.at) n xs → Ascends (λ c. c.at) 0 (drop k xs)
 drop_ascends n zero xs a = ascends_lower (λ c. c.at) 0 n xs (omega arith) a
 drop_ascends n (suc k) [] a = tt
 drop_ascends n (suc k) (c ∷ cs) a = drop_ascends (c.at + 1) k cs a.1

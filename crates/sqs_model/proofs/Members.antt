@@ -15,6 +15,11 @@ in_at (x ∷ xs) (suc k) y l e = inr (in_at xs k y (omega arith) e)
 pub in_contains : {A : Type 0} (xs : List A) (y : A) → Contains xs y → In xs y
 in_contains xs y c = in_at xs c.0 y c.1 c.2
 
+pub contains_in : {A : Type 0} (xs : List A) (y : A) → In xs y → Contains xs y
+contains_in [] y h = absurd h
+contains_in (x ∷ xs) y (inl e) = (0, omega arith, e)
+contains_in (x ∷ xs) y (inr h) = let c : Contains xs y = contains_in xs y h in (suc c.0, omega (arith, c.1), c.2)
+
 pub in_append : {A : Type 0} (xs ys : List A) (z : A) → In (xs ++ ys) z → In xs z ⊎ In ys z
 in_append [] ys z h = inr h
 in_append (x ∷ xs) ys z (inl e) = inl (inl e)

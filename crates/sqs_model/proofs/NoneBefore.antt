@@ -1,4 +1,5 @@
--- A handling of a key leaves nothing due that comes before the key, where nothing that was due came before it.
+-- A handling of a key leaves nothing due that comes before the key, where nothing that was due came before it, and makes
+-- nothing due that is not later.
 use Rattle.std.specs.Prelude.{All, Bool, Err, List, None, Ok, Option, Result, Some, [], cond, false, find, flat_map, if◌then◌else◌, length, map, min, suc, take, drop, true, zero, ℕ, ◌*◌, ◌+◌, ◌-◌, ◌++◌, ◌<◌, ◌==◌, ◌∷◌, ◌≡◌, ◌≤◌}
 use Rattle.std.proofs.Common.{Equal, Greater, Less, arith, inl, inr, refl, subst, sym, true≢false}
 use Rattle.std.proofs.Math.Nat.{mul-add}
@@ -11,7 +12,7 @@ use Rattle.sim_clock.specs.declared.key.Class.{Class}
 use Rattle.sim_clock.specs.declared.key.Class.TheVariants as classes
 use Rattle.sim_clock.specs.declared.key.Key.{Key}
 use Rattle.sim_clock.specs.Firsts.{without}
-use Rattle.sim_clock.specs.Order.{class_rank, key_cmp}
+use Rattle.sim_clock.specs.Order.{key_cmp}
 use Rattle.sim_clock.specs.declared.refusal.Refusal.{Refusal}
 use Rattle.sim_clock.specs.declared.refusal.Refusal.TheVariants as refusals
 use Rattle.sqs_message.specs.declared.ids.MessageId.{MessageId}
@@ -60,10 +61,10 @@ use Rattle.sqs_model.proofs.ActorMoves.{Acts, IsWakeWhere, next_acts}
 use Rattle.sqs_model.proofs.Answered.{change_by, delete_by, receive_by}
 use Rattle.sqs_model.proofs.Branches.{either, either_by}
 use Rattle.sqs_model.proofs.Counts.{all_changed, all_without, changed_none, changed_twice, find_all, find_changed, find_picked, tick, tick_if, tick_now, tick_past, without_changed}
-use Rattle.sqs_model.proofs.Growth.{Turns, next_up}
 use Rattle.sqs_model.proofs.Kept.{handled_number}
-use Rattle.sqs_model.proofs.Members.{From, In, all_in, in_append, in_flat, in_left, in_map, in_right, into_flat, into_map, of_all}
-use Rattle.sqs_model.specs.NoneBefore.{HandlingLeavesNoneBefore}
+use Rattle.sqs_model.proofs.Wakes.{IsLaterWake, KeepsWake, next_keeps}
+use Rattle.sqs_model.proofs.Members.{From, In, all_in, contains_in, in_append, in_flat, in_left, in_map, in_right, into_flat, into_map, of_all}
+use Rattle.sqs_model.specs.NoneBefore.{HandlingLeavesNoneBefore, HandlingMakesNothingDueNow, IsLaterOrIn}
 
 more_at : (o p : Ordering) → is_lt (ordering_then o p) ≡ false → is_lt o ≡ false
 more_at Less p h = h
@@ -79,29 +80,9 @@ key_more a b h = nat_more a.at b.at (more_at _ _ h)
 lt_before : (a b : Key) → a.at < b.at → is_lt (key_cmp b a) ≡ false
 lt_before a b l = grind (arith)
 
-nats : (n m k : ℕ) → n ≤ m → is_lt (nat_cmp n k) ≡ false → is_lt (nat_cmp m k) ≡ false
-nats n m k l h = grind (arith)
-
-number_more : (o p q : Ordering) (n m k : ℕ) → n ≤ m → is_lt (ordering_then o (ordering_then p (ordering_then q (nat_cmp n k)))) ≡ false → is_lt (ordering_then o (ordering_then p (ordering_then q (nat_cmp m k)))) ≡ false
-number_more Less p q n m k l h = h
-number_more Greater p q n m k l h = h
-number_more Equal Less q n m k l h = h
-number_more Equal Greater q n m k l h = h
-number_more Equal Equal Less n m k l h = h
-number_more Equal Equal Greater n m k l h = h
-number_more Equal Equal Equal n m k l h = nats n m k l h
-
-module _ (key : Key) (site : ℕ) where
-  -- whether a key does not come before the handled one
-  abbrev pub Comes : Key → Type 0
-  Comes j = is_lt (key_cmp j key) ≡ false
-
-  later_comes : (j : Key) → key.at < j.at → Comes j
-  later_comes j l = lt_before key j l
-
-  comes_from : (j : Key) → Comes j → key.at ≤ j.at
-  comes_from j h = key_more j key h
-
+-- what all keys have that are later than the handled one, and none that is earlier: where all that is due at a site has it,
+-- all that is due after a handling does
+module _ (key : Key) (site : ℕ) (Comes : Key → Type 0) (later_comes : (j : Key) → key.at < j.at → Comes j) (comes_from : (j : Key) → Comes j → key.at ≤ j.at) where
   -- 1. queues
   abbrev ReleaseComes : ℕ → Option ℕ → Type 0
   ReleaseComes n None = Unit {0}
@@ -412,33 +393,43 @@ module _ (key : Key) (site : ℕ) where
   nothing_gone e a told_by.Waiting = refl
   nothing_gone e a told_by.Other = refl
 
-  same_moment : (agent n m at : ℕ) (o : Option ℕ) → n ≤ m → at ≤ key.at → 1 ≤ tick_if at o → WakeComes agent n o → Comes (record { at = at; agent = agent; class = classes.Wake; number = m })
-  same_moment agent n m at None l h t w = absurd (omega arith)
-  same_moment agent n m at (Some b) l h t w =
+  same_moment : (agent n at : ℕ) (o : Option ℕ) → at ≤ key.at → 1 ≤ tick_if at o → WakeComes agent n o → Comes (record { at = at; agent = agent; class = classes.Wake; number = n })
+  same_moment agent n at None h t w = absurd (omega arith)
+  same_moment agent n at (Some b) h t w =
       let f : key.at ≤ b = comes_from (record { at = b; agent = agent; class = classes.Wake; number = n }) w in
       let g : b ≤ at = elim (cases_lt at b) as (λ _. b ≤ at) [ inl k ↦ absurd (let z : tick at b ≡ 0 = tick_past at b k in omega arith) | inr k ↦ k ] in
       let e : b ≡ at = omega arith in
-      let v : Comes (record { at = at; agent = agent; class = classes.Wake; number = n }) = subst (λ x. Comes (record { at = x; agent = agent; class = classes.Wake; number = n })) e w in
-      number_more (nat_cmp at key.at) (nat_cmp agent key.agent) (nat_cmp 4 (class_rank key.class)) n m key.number l v
+      subst (λ x. Comes (record { at = x; agent = agent; class = classes.Wake; number = n })) e w
 
-  wake_by : (agent n m : ℕ) (o x : Option ℕ) → n ≤ m → ((e : ℕ) → e ≤ key.at → tick_if e x + 0 ≤ tick_if e o) → WakeComes agent n o → WakeComes agent m x
-  wake_by agent n m o None l f w = tt
-  wake_by agent n m o (Some at) l f w =
-      elim (cases_lt key.at at) as (λ _. Comes (record { at = at; agent = agent; class = classes.Wake; number = m })) [
-        | inl k ↦ later_comes (record { at = at; agent = agent; class = classes.Wake; number = m }) k
-        | inr k ↦ same_moment agent n m at o l k (omega (arith, f at k, tick_now at at (omega arith))) w
+  same_wake : (agent n : ℕ) (o x : Option ℕ) → ((e : ℕ) → e ≤ key.at → tick_if e x + 0 ≤ tick_if e o) → WakeComes agent n o → WakeComes agent n x
+  same_wake agent n o None f w = tt
+  same_wake agent n o (Some at) f w =
+      elim (cases_lt key.at at) as (λ _. Comes (record { at = at; agent = agent; class = classes.Wake; number = n })) [
+        | inl k ↦ later_comes (record { at = at; agent = agent; class = classes.Wake; number = n }) k
+        | inr k ↦ same_moment agent n at o k (omega (arith, f at k, tick_now at at (omega arith))) w
       ]
+
+  later_wake : (agent n m : ℕ) (o x : Option ℕ) → IsLaterWake o x → WakeComes agent n o → WakeComes agent m x
+  later_wake agent n m o None l w = tt
+  later_wake agent n m None (Some at) l w = absurd l
+  later_wake agent n m (Some b) (Some at) l w =
+      later_comes (record { at = at; agent = agent; class = classes.Wake; number = m }) (omega (arith, l, comes_from (record { at = b; agent = agent; class = classes.Wake; number = n }) w))
+
+  wake_by : (agent : ℕ) (a b : Actor) (w : Answer) → KeepsWake a w b → ((e : ℕ) → e ≤ key.at → tick_if e b.wake + 0 ≤ tick_if e a.wake) → WakeComes agent a.wakes a.wake → WakeComes agent b.wakes b.wake
+  wake_by agent a b told_by.Wake l f h = later_wake agent a.wakes b.wakes a.wake b.wake l h
+  wake_by agent a b (told_by.Got gots) l f h = subst (λ n. WakeComes agent n b.wake) (sym l) (same_wake agent a.wakes a.wake b.wake f h)
+  wake_by agent a b told_by.Waiting l f h = subst (λ n. WakeComes agent n b.wake) (sym l) (same_wake agent a.wakes a.wake b.wake f h)
+  wake_by agent a b told_by.Other l f h = subst (λ n. WakeComes agent n b.wake) (sym l) (same_wake agent a.wakes a.wake b.wake f h)
 
   next_still : (a : Actor) (w : Answer) → StillActor a → StillActor (next a key.at w).1
   next_still a w k =
       let x : Act × Actor = next a key.at w in
       let g : Acts key.at 0 0 a x = next_acts key.at 0 (omega arith) 0 a w k.sound (nothing_gone 0 a w) in
-      let t : Turns a x.1 = next_up a key.at w in
       record {
         sound = g.sound;
         wake =
             subst (λ n. WakeComes n x.1.wakes x.1.wake) (sym g.number)
-            (wake_by a.number a.wakes x.1.wakes a.wake x.1.wake t.wakes (λ e l. let y : Acts key.at e 0 a x = next_acts key.at e l 0 a w k.sound (nothing_gone e a w) in y.wake) k.wake);
+            (wake_by a.number a x.1 w (next_keeps a key.at w k.sound) (λ e l. let y : Acts key.at e 0 a x = next_acts key.at e l 0 a w k.sound (nothing_gone e a w) in y.wake) k.wake);
       }
 
   -- turns
@@ -669,23 +660,33 @@ module _ (key : Key) (site : ℕ) where
               ]
         ]
 
--- a handling of a key at a sound site where nothing due comes before it leaves nothing due there that does
-pub none_before : (key : Key) (s : Site) → IsSound s.core → ((j : Key) → In (dues s) j → Comes key (number_of s.core) j) → (j : Key) → In (dues (handled key s).site) j → Comes key (number_of s.core) j
+-- what is due after a handling at a sound site has what all that was due there has, and all keys that are later
+still_comes : (key : Key) (Comes : Key → Type 0) → ((j : Key) → key.at < j.at → Comes j) → ((j : Key) → Comes j → key.at ≤ j.at)
+    → (s : Site) → IsSound s.core → ((j : Key) → In (dues s) j → Comes j) → (j : Key) → In (dues (handled key s).site) j → Comes j
 unfolding dues
-none_before key s h f =
+still_comes key Comes later from s h f =
     let n : ℕ = number_of s.core in
     let x : Site = (handled key s).site in
-    let arriving : All (λ (o : Outbound). Comes key n (transfer_key o)) s.arriving =
-    all_in (λ (o : Outbound). Comes key n (transfer_key o)) s.arriving (λ o i. f (transfer_key o) (in_left (map transfer_key s.arriving) (core_dues s.core) (transfer_key o) (into_map transfer_key s.arriving o i))) in
-    let core : StillCore key n s.core = core_in key n s.core refl h (λ j i. f j (in_right (map transfer_key s.arriving) (core_dues s.core) j i)) in
-    let t : StillSite key n x = handled_still key n s (record { core = core; arriving = arriving }) in
+    let arriving : All (λ (o : Outbound). Comes (transfer_key o)) s.arriving =
+    all_in (λ (o : Outbound). Comes (transfer_key o)) s.arriving (λ o i. f (transfer_key o) (in_left (map transfer_key s.arriving) (core_dues s.core) (transfer_key o) (into_map transfer_key s.arriving o i))) in
+    let core : StillCore key n Comes later from s.core = core_in key n Comes later from s.core refl h (λ j i. f j (in_right (map transfer_key s.arriving) (core_dues s.core) j i)) in
+    let t : StillSite key n Comes later from x = handled_still key n Comes later from s (record { core = core; arriving = arriving }) in
     λ j i.
-    elim (in_append (map transfer_key x.arriving) (core_dues x.core) j i) as (λ _. Comes key n j) [
-      | inl k ↦ let g : From x.arriving (λ o. transfer_key o ≡ j) = in_map transfer_key x.arriving j k in subst (Comes key n) g.gives (of_all (λ (o : Outbound). Comes key n (transfer_key o)) x.arriving g.one t.arriving g.within)
-      | inr k ↦ core_out key n x.core (handled_number key s) t.core j k
+    elim (in_append (map transfer_key x.arriving) (core_dues x.core) j i) as (λ _. Comes j) [
+      | inl k ↦ let g : From x.arriving (λ o. transfer_key o ≡ j) = in_map transfer_key x.arriving j k in subst Comes g.gives (of_all (λ (o : Outbound). Comes (transfer_key o)) x.arriving g.one t.arriving g.within)
+      | inr k ↦ core_out key n Comes later from x.core (handled_number key s) t.core j k
     ]
 
+-- nothing that comes before the handled key, where nothing due does
 pub leaves_none_before : HandlingLeavesNoneBefore
 leaves_none_before key s h f =
-    all_in (Comes key (number_of s.core)) (dues (handled key s).site)
-    (none_before key s h (λ j i. of_all (Comes key (number_of s.core)) (dues s) j f i))
+    let Comes : Key → Type 0 = λ j. is_lt (key_cmp j key) ≡ false in
+    all_in Comes (dues (handled key s).site)
+    (still_comes key Comes (lt_before key) (λ j k. key_more j key k) s h (λ j i. of_all Comes (dues s) j f i))
+
+-- nothing new that is not later
+pub makes_nothing_due_now : HandlingMakesNothingDueNow
+makes_nothing_due_now key s h f =
+    let Comes : Key → Type 0 = λ j. (key.at ≤ j.at) × IsLaterOrIn key (dues s) j in
+    all_in (IsLaterOrIn key (dues s)) (dues (handled key s).site)
+    (λ j i. (still_comes key Comes (λ k l. (omega arith, inl l)) (λ k c. c.0) s h (λ k m. (of_all (λ (due : Key). key.at ≤ due.at) (dues s) k f m, inr (contains_in (dues s) k m))) j i).1)

@@ -1,6 +1,6 @@
--- The order of keys goes on: the handling of the least due leaves nothing due that comes before it.
+-- The order of keys goes on: the handling of the least due leaves nothing due that comes before it, and makes later dues only.
 use Rattle.std.specs.Ordering.{is_lt}
-use Rattle.std.specs.Prelude.{All, false, ◌≡◌}
+use Rattle.std.specs.Prelude.{All, Contains, List, false, ◌<◌, ◌≡◌, ◌≤◌, ◌⊎◌}
 use Rattle.sim_clock.specs.declared.key.Key.{Key}
 use Rattle.sim_clock.specs.Order.{key_cmp}
 use Rattle.sqs_model.specs.Dues.{dues}
@@ -15,3 +15,13 @@ HasNoneBefore key s = All (λ due. is_lt (key_cmp due key) ≡ false) (dues s)
 -- where nothing due at a sound site comes before a key, nothing does after its handling
 abbrev pub HandlingLeavesNoneBefore : Type 0
 HandlingLeavesNoneBefore = (key : Key) (s : Site) → IsSound s.core → HasNoneBefore key s → HasNoneBefore key (handled key s).site
+
+-- later than a key, or one of some keys
+abbrev pub IsLaterOrIn : Key → List Key → Key → Type 0
+IsLaterOrIn key keys due = (key.at < due.at) ⊎ Contains keys due
+
+-- where nothing is due at a sound site before a moment, a handling at that moment makes nothing due there but what is later:
+-- all else that is due afterwards was due before
+abbrev pub HandlingMakesNothingDueNow : Type 0
+HandlingMakesNothingDueNow =
+    (key : Key) (s : Site) → IsSound s.core → All (λ due. key.at ≤ due.at) (dues s) → All (IsLaterOrIn key (dues s)) (dues (handled key s).site)

@@ -1,7 +1,6 @@
 //! What is left at the end of a run. Times are milliseconds from its start.
-use sqs_message::{MessageId, Origin, Place, Text};
+use sqs_message::{Listed, MessageId, Origin, Place, Text};
 use sqs_redrive::TaskStatus;
-use std::marker::Model;
 
 /// A message in a queue; its id names the queue.
 #[derive(Drop)]
@@ -52,104 +51,14 @@ pub struct FinalTask {
     pub moved: u64,
 }
 
-/// All messages, queue by queue in order of arrival. Contracts see it as the list of them.
-#[derive(Drop)]
-pub struct FinalMessages {
-    items: Vec<FinalMessage>,
-}
+/// All messages, queue by queue in order of arrival.
+pub type FinalMessages = Listed<FinalMessage>;
 
-impl Model for FinalMessages {
-    ghost use Rattle.std.specs.Prelude.{List};
-    ghost use Rattle.sqs_model.specs.declared.finals.FinalMessage.{FinalMessage};
+/// All transfers under way, in the order of their keys.
+pub type FinalTransfers = Listed<FinalTransfer>;
 
-    ghost Value = { List FinalMessage };
-
-    ghost view = { λ l. l.items.items };
-}
-
-impl FinalMessages {
-    ghost use Rattle.std.specs.Prelude.{◌≡◌};
-
-    /// The list of these.
-    pub fn new(items: Vec<FinalMessage>) -> FinalMessages
-        ensures { result ≡ items.items }
-    {
-        FinalMessages { items }
-    }
-
-    /// All of them, in order.
-    pub fn as_slice(&self) -> &[FinalMessage]
-        ensures { result.now ≡ self.now }
-    {
-        self.items.as_slice()
-    }
-}
-
-/// All transfers under way, in the order of their keys. Contracts see it as the list of them.
-#[derive(Drop)]
-pub struct FinalTransfers {
-    items: Vec<FinalTransfer>,
-}
-
-impl Model for FinalTransfers {
-    ghost use Rattle.std.specs.Prelude.{List};
-    ghost use Rattle.sqs_model.specs.declared.finals.FinalTransfer.{FinalTransfer};
-
-    ghost Value = { List FinalTransfer };
-
-    ghost view = { λ l. l.items.items };
-}
-
-impl FinalTransfers {
-    ghost use Rattle.std.specs.Prelude.{◌≡◌};
-
-    /// The list of these.
-    pub fn new(items: Vec<FinalTransfer>) -> FinalTransfers
-        ensures { result ≡ items.items }
-    {
-        FinalTransfers { items }
-    }
-
-    /// All of them, in order.
-    pub fn as_slice(&self) -> &[FinalTransfer]
-        ensures { result.now ≡ self.now }
-    {
-        self.items.as_slice()
-    }
-}
-
-/// All move tasks, by number. Contracts see it as the list of them.
-#[derive(Drop)]
-pub struct FinalTasks {
-    items: Vec<FinalTask>,
-}
-
-impl Model for FinalTasks {
-    ghost use Rattle.std.specs.Prelude.{List};
-    ghost use Rattle.sqs_model.specs.declared.finals.FinalTask.{FinalTask};
-
-    ghost Value = { List FinalTask };
-
-    ghost view = { λ l. l.items.items };
-}
-
-impl FinalTasks {
-    ghost use Rattle.std.specs.Prelude.{◌≡◌};
-
-    /// The list of these.
-    pub fn new(items: Vec<FinalTask>) -> FinalTasks
-        ensures { result ≡ items.items }
-    {
-        FinalTasks { items }
-    }
-
-    /// All of them, in order.
-    pub fn as_slice(&self) -> &[FinalTask]
-        ensures { result.now ≡ self.now }
-    {
-        self.items.as_slice()
-    }
-}
+/// All move tasks, by number.
+pub type FinalTasks = Listed<FinalTask>;
 
 /// Messages, transfers and tasks at the end of a run.
 #[derive(Drop)]

@@ -4,7 +4,7 @@ ghost use Rattle.sqs_model.specs.Accounts.{EachKeepsOnePlace, NoOtherComesIn};
 ghost use Rattle.sqs_model.specs.Limits.{CountsOnlyGrow};
 ghost use Rattle.sqs_model.specs.Delivery.{HandlingApartFromDelivery, SortedSitesStaySorted};
 ghost use Rattle.sqs_model.specs.World.{DeliveryInAnyOrder};
-ghost use Rattle.sqs_model.specs.NoneBefore.{HandlingLeavesNoneBefore};
+ghost use Rattle.sqs_model.specs.NoneBefore.{HandlingLeavesNoneBefore, HandlingMakesNothingDueNow};
 ghost use Rattle.sqs_model.specs.Turns.{TurnsEnd};
 ghost use Rattle.sqs_model.specs.Ways.{AcceptingKeepsWays, HandlingGoesAlongWays, OpeningHasWays};
 ghost use Rattle.sqs_model.specs.Progress.{HandlingKeepsTime, HandlingMovesOn, HandlingStaysRecent, OpeningIsSound};
@@ -98,6 +98,12 @@ pub fn opening_has_ways()
 /// order of keys.
 pub fn handling_leaves_none_before()
     ensures { HandlingLeavesNoneBefore }
+{}
+
+/// A handling at a moment makes nothing due at its site at that moment or before: where nothing was
+/// due before it, all that is due afterwards and was not before is later.
+pub fn handling_makes_nothing_due_now()
+    ensures { HandlingMakesNothingDueNow }
 {}
 
 /// An actor's turn ends: told something, it decides at most three times, the last time to do

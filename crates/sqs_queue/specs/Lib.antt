@@ -2,4 +2,5 @@ pub mod Calls
 pub mod Fifo
 pub mod Giving
 pub mod Kinds
+pub mod Looking
 pub mod Picked

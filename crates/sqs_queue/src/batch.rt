@@ -21,22 +21,12 @@ pub struct Received {
     pub looked: u64,
 }
 
-// Another group of the same name.
-pub fn copied_group(alloc: Global, group: &Option<Text>) -> Result<Option<Text>, AllocError>
-    ensures { IfOk result (λ copy. copy ≡ group.now) }
-{
-    match group {
-        None => Ok(None),
-        Some(group) => Ok(Some(group.copy(alloc)?)),
-    }
-}
-
 // What a receive tells of a message, before it gives it.
 fn told_of(alloc: Global, site: u32, message: &Message) -> Result<Got, AllocError>
     requires { message.now.receives < most_count }
     ensures { IfOk result (λ got. got ≡ told_of site message.now) }
 {
-    let group = copied_group(alloc, &message.group)?;
+    let group = Text::copy_of(alloc, message.group.as_ref())?;
     let body = message.body.copy(alloc)?;
     Ok(Got {
         id: MessageId {

@@ -82,13 +82,9 @@ impl Queue {
         Queue::opened_at(alloc, site, settings, 0)
     }
 
-    // An empty queue with this number, to which so many messages came before.
-    pub(crate) fn opened_at(
-        alloc: Global,
-        site: u32,
-        settings: QueueSettings,
-        arrivals: u64,
-    ) -> Queue
+    /// An empty queue with this number, to which so many messages came before: the next gets that count
+    /// as its number.
+    pub fn opened_at(alloc: Global, site: u32, settings: QueueSettings, arrivals: u64) -> Queue
         requires settings { IsQueueSettings settings }
         requires arrivals { arrivals ≤ most_count }
         ensures { result ≡ record { site = site; settings = settings; records = []; entries = []; arrivals = arrivals } }
@@ -105,6 +101,14 @@ impl Queue {
         ensures { result ≡ self.now.site }
     {
         self.messages.site()
+    }
+
+    /// How many messages ever came, which is the number of the next one.
+    pub fn arrivals(&self) -> u64
+        ensures count { result ≡ self.now.arrivals }
+        ensures limit { result ≤ most_count }
+    {
+        self.messages.arrivals()
     }
 
     /// Its settings.
@@ -144,8 +148,8 @@ impl Queue {
         self.has_available() && self.room() > 0
     }
 
-    // Whether a receive that sees all hosts would find a message to give. Goes over no messages.
-    pub(crate) fn has_available(&self) -> bool
+    /// Whether a receive that sees all hosts would find a message to give. Goes over no messages.
+    pub fn has_available(&self) -> bool
         ensures { result ≡ not (is_empty (all_available self.now)) }
     {
         self.messages.has_available(self.all_hosts())

@@ -1,7 +1,6 @@
 //! What a queue answers.
 use crate::transfers::Load;
-use sqs_message::{MessageId, Origin, Receipt, Text};
-use std::marker::Model;
+use sqs_message::{Listed, MessageId, Origin, Receipt, Text};
 
 /// What a send made.
 #[derive(Clone, Copy, Debug, PartialEq, Eq)]
@@ -56,42 +55,5 @@ pub struct Got {
     pub left: Option<Load>,
 }
 
-/// The messages of one receive, in order. Contracts see it as the list of them.
-#[derive(Drop)]
-pub struct Batch {
-    messages: Vec<Got>,
-}
-
-impl Model for Batch {
-    ghost use Rattle.std.specs.Prelude.{List};
-    ghost use Rattle.sqs_redrive.specs.declared.answers.Got.{Got};
-
-    ghost Value = { List Got };
-
-    ghost view = { λ b. b.messages.items };
-}
-
-impl Batch {
-    ghost use Rattle.std.specs.Prelude.{◌≡◌};
-
-    /// The batch of these messages.
-    pub fn new(messages: Vec<Got>) -> Batch
-        ensures { result ≡ messages.items }
-    {
-        Batch { messages }
-    }
-
-    /// Its messages.
-    pub fn as_slice(&self) -> &[Got]
-        ensures { result.now ≡ self.now }
-    {
-        self.messages.as_slice()
-    }
-
-    /// Its messages, given back.
-    pub fn into_messages(self) -> Vec<Got>
-        ensures { result.items ≡ self }
-    {
-        self.messages
-    }
-}
+/// The messages of one receive, in order.
+pub type Batch = Listed<Got>;

@@ -7,3 +7,4 @@ pub mod LogTexts
 pub mod Rehearsing
 pub mod Sorting
 pub mod Left
+pub mod Counting

@@ -89,11 +89,11 @@ module _ {L P : Type 0} (held : L → Option (List ℕ)) (failed : L → Bool) w
 
   -- a recorder took all rows of a run
   pub logs_whole : (s : Scenario) (before after : Recorder L P) (sites : List Site) → HasTaken sqs (Recorded held failed) (setting_of s) before after sites
-      → before.names.now ≡ s.names → failed before.out.now ≡ false → before.report.now ≡ running (queue_names s) []
+      → before.names.now ≡ s.names → failed before.out.now ≡ false → before.report.now ≡ running (queue_names s) [] → ¬ IsOver s
       → HasLogged s (rows_text s) (writer_of before after) after.report.now sites
-  logs_whole s before after sites p names works fresh =
+  logs_whole s before after sites p names works fresh not_over =
       record {
-        ended = record { run = p.run; is_run = p.is; counted = p.taken.added (queue_names s) [] fresh; sites_are = p.sites_are };
+        ended = record { run = p.run; is_run = p.is; not_over = not_over; counted = p.taken.added (queue_names s) [] fresh; sites_are = p.sites_are };
         got = record {
           bytes = subst (λ (n : List (List ℕ)). Appends (held before.out.now) (held after.out.now) (lines (map (row_fields n) p.run.rows))) names p.taken.written;
           whole = p.taken.works works;

@@ -51,7 +51,7 @@ module _ (q : Request) (x : Scenario) (stated : scenario_of q.scripts q.text ≡
       pub written_after : (report : Writer) (result : Result (Unit {0}) Refusal) → WroteSeveral report.before report.after report.failed (ending_of x logged.ended.run) result
           → OnOk result (IsWritten q log report)
       written_after report (Ok u) p =
-          record { of = with_run logged.ended.run logged.ended.is_run; whole_log = logged.got; whole_report = record { bytes = p.0; whole = p.1 } }
+          record { of = with_run logged.ended.run logged.ended.is_run; not_over = logged.ended.not_over; whole_log = logged.got; whole_report = record { bytes = p.0; whole = p.1 } }
       written_after report (Err e) p = tt
 
       pub refused_writing : (report : Writer) (result : Result (Unit {0}) Refusal) → WroteSeveral report.before report.after report.failed (ending_of x logged.ended.run) result

@@ -5,3 +5,5 @@ pub mod Writers
 pub mod Logs
 pub mod Rehearsals
 pub mod Left
+pub mod Limited
+pub mod LimitLaws

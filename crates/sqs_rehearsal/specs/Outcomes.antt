@@ -12,10 +12,11 @@ use Rattle.sqs_model.specs.Scenario.{Scenario}
 use Rattle.sqs_model.specs.Site.{Site}
 use Rattle.sqs_rehearsal.specs.declared.outcome.Outcome.{Outcome}
 
--- a scenario's one-list run has come to its end: its rows are counted, and these are the sites of its last world
+-- a scenario's one-list run has come to its end, and taken no count past the limit: its rows are counted, and these are the sites of its last world
 pub record HasCounted (s : Scenario) (counts : List QueueCounts) (sites : List Site) : Type 0 where
   pub run : Run
   pub is_run : IsRunOf s run
+  pub not_over : ¬ IsOver s
   pub counted : counts ≡ running (queue_names s) run.rows
   pub sites_are : sites ≡ run.sites
 
@@ -24,10 +25,11 @@ pub record IsLeftBy (s : Scenario) (r : Run) (o : Outcome) : Type 0 where
   pub counted : o.report ≡ running (queue_names s) r.rows
   pub finals : o.finals ≡ finals_of r.sites
 
--- what a scenario's one-list run leaves
+-- what a scenario's one-list run leaves, which takes no count past the limit
 pub record IsOutcomeOf (s : Scenario) (o : Outcome) : Type 0 where
   pub run : Run
   pub is_run : IsRunOf s run
+  pub not_over : ¬ IsOver s
   pub left : IsLeftBy s run o
 
 -- why a scenario is not run to its end: want of memory, or a count that its one-list run takes past the limit

@@ -32,9 +32,10 @@ pub record Rehearsed (q : Request) : Type 0 where
   pub one_place : EachHasOnePlace run.sites run.rows
   pub no_other : NoOtherHasPlace run.sites run.rows
 
--- the whole of a rehearsal: the log writer got the log, the other finals and report
+-- the whole of a rehearsal: the one-list run takes no count past the limit; the log writer got the log, the other finals and report
 pub record IsWritten (q : Request) (log report : Writer) : Type 0 where
   pub of : Rehearsed q
+  pub not_over : ¬ IsOver of.scenario
   pub whole_log : Got log (log_of of.scenario of.run)
   pub whole_report : Got report (ending_of of.scenario of.run)
 

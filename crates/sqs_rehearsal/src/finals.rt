@@ -8,7 +8,7 @@ ghost use Rattle.sqs_rehearsal.specs.Left.{keyed, keyed_at, tasks_at};
 
 use sim_clock::Key;
 use sim_site::{Arriving, Site, Task};
-use sqs_message::{Message, MessageId, body_md5};
+use sqs_message::{Message, MessageId, Text, body_md5};
 use sqs_model::{
     FinalMessage, FinalMessages, FinalTask, FinalTasks, FinalTransfer, FinalTransfers, Finals,
     TransferKind,
@@ -22,10 +22,7 @@ use std::cmp::Ordering;
 fn final_message(alloc: Global, site: u32, message: &Message) -> Result<FinalMessage, AllocError>
     ensures { (q : TheQueue) → q.site ≡ site → IfOk result (λ m. m ≡ final_message q message.now) }
 {
-    let group = match &message.group {
-        None => None,
-        Some(group) => Some(group.copy(alloc)?),
-    };
+    let group = Text::copy_of(alloc, message.group.as_ref())?;
     Ok(FinalMessage {
         id: MessageId {
             site,

@@ -3,6 +3,7 @@
 #![tactic(auto)]
 
 mod finals;
+mod limited;
 mod logging;
 mod opening;
 mod options;

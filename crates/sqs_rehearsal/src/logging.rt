@@ -1,11 +1,12 @@
 //! The run of a scenario, whose log is written as it goes on.
-ghost use Rattle.std.specs.Prelude.{◌≡◌, ◌≤◌, [], false, IfErr, IfOk, OnOk};
+ghost use Rattle.std.specs.Prelude.{◌≡◌, ◌≤◌, [], false, true, IfErr, IfOk, OnOk};
 ghost use Rattle.sim_report.specs.Running.{running};
 ghost use Rattle.sqs_formats.specs.Output.{log_of, queue_names};
 ghost use Rattle.sqs_formats.specs.Rows.{line, log_header};
 ghost use Rattle.sqs_model.specs.Run.{IsRunOf, Run};
 ghost use Rattle.sqs_model.specs.Scenario.{least_latency};
 ghost use Rattle.sqs_rehearsal.specs.Logs.{HasLogged, StopsLogging, rows_text};
+ghost use Rattle.sqs_rehearsal.specs.Options.{is_within};
 ghost use Rattle.sqs_rehearsal.specs.Writers.{Writer};
 
 use crate::options::Split;
@@ -38,6 +39,7 @@ fn run_rows<'a, G: Gate<Running> + Sync, L: Out, P: Watch, W: Threads + Wait + S
     requires names { names.now ≡ scenario.names }
     requires fresh { report.old ≡ running (queue_names scenario) [] }
     requires window { split.window ≤ least_latency scenario }
+    requires workers { is_within 1 64 split.workers ≡ true }
     ensures whole { IfOk result (λ sites. HasLogged scenario (rows_text scenario) (record { before = L.held log.old; after = L.held log.new; failed = L.failed log.new }) report.new sites.items) }
     ensures stops { (r : Run) → IsRunOf scenario r → IfErr result (StopsLogging scenario [] (rows_text scenario r) (record { before = L.held log.old; after = L.held log.new; failed = L.failed log.new })) }
 {
@@ -49,6 +51,7 @@ fn run_rows<'a, G: Gate<Running> + Sync, L: Out, P: Watch, W: Threads + Wait + S
         report,
         watch,
         horizon,
+        threads: split.workers,
     };
     run_workers(
         rt,
@@ -85,6 +88,7 @@ pub fn run_logged<G: Gate<Running> + Sync, L: Out, P: Watch, W: Threads + Wait +
     requires names { names.now ≡ scenario.names }
     requires fresh { report.old ≡ running (queue_names scenario) [] }
     requires window { split.window ≤ least_latency scenario }
+    requires workers { is_within 1 64 split.workers ≡ true }
     ensures whole { IfOk result (λ sites. HasLogged scenario (log_of scenario) (record { before = L.held log.old; after = L.held log.new; failed = L.failed log.new }) report.new sites.items) }
     ensures stops { (r : Run) → IsRunOf scenario r → IfErr result (StopsLogging scenario (line log_header) (log_of scenario r) (record { before = L.held log.old; after = L.held log.new; failed = L.failed log.new })) }
 {

@@ -1,9 +1,9 @@
 //! How a rehearsal is split into partitions, windows and workers.
-ghost use Rattle.std.specs.Prelude.{◌≡◌, ◌≤◌, ◌⊎◌, IfErr, IfOk, None, false, true};
+ghost use Rattle.std.specs.Prelude.{◌≡◌, ◌≤◌, ◌⊎◌, IfErr, IfOk, None, OnOk, false, true};
 ghost use Rattle.sim_clock.specs.declared.refusal.Refusal.TheVariants.{BadMap, Memory};
 ghost use Rattle.sim_exchange.specs.Layout.{is_layout};
 ghost use Rattle.sqs_model.specs.Scenario.{least_latency as the_least_latency};
-ghost use Rattle.sqs_rehearsal.specs.Options.{IsUnsplit, in_turn, layout_of, partitions_in, parts_of, split_fault, split_of, unless, window_fault, workers_fault};
+ghost use Rattle.sqs_rehearsal.specs.Options.{IsUnsplit, in_turn, is_within, layout_of, partitions_in, parts_of, split_fault, split_of, unless, window_fault, workers_fault};
 
 use sim_clock::Refusal;
 use sim_exchange::PartMap;
@@ -69,6 +69,17 @@ fn in_turn(alloc: Global, parts: u64, queues: usize) -> Result<Vec<u32>, AllocEr
     Ok(owners)
 }
 
+/// Whether there are 1 to 64 workers. The one error is `BadWorkers`.
+pub fn check_workers(workers: usize) -> Result<(), Refusal>
+    ensures fault { result ≡ unless (workers_fault workers) }
+    ensures within { OnOk result (is_within 1 64 workers ≡ true) }
+{
+    if workers < 1 || workers > 64 {
+        return Err(Refusal::BadWorkers);
+    }
+    Ok(())
+}
+
 impl Options {
     // How many partitions there are.
     fn parts(&self) -> u64
@@ -109,16 +120,6 @@ impl Options {
         }
     }
 
-    // Whether there are 1 to 64 workers.
-    fn check_workers(&self) -> Result<(), Refusal>
-        ensures { result ≡ unless (workers_fault self.now.workers) }
-    {
-        if self.workers < 1 || self.workers > 64 {
-            return Err(Refusal::BadWorkers);
-        }
-        Ok(())
-    }
-
     /// How a scenario is split.
     ///
     /// # Errors
@@ -130,16 +131,18 @@ impl Options {
         ensures allowed { IfOk result (λ _. split_fault scenario.now self.now ≡ None) }
         ensures split { IfOk result (λ split. split ≡ split_of scenario.now self.now) }
         ensures window { IfOk result (λ split. split.window ≤ the_least_latency scenario.now) }
+        ensures workers { IfOk result (λ split. is_within 1 64 split.workers ≡ true) }
         ensures refused { IfErr result (IsUnsplit scenario.now self.now) }
     {
         let layout = self.layout(alloc, scenario.queues().len())?;
         let least = least_latency(scenario);
         self.check_window(least)?;
-        self.check_workers()?;
+        let workers = self.workers as usize;
+        check_workers(workers)?;
         Ok(Split {
             layout,
             window: self.window.unwrap_or(least),
-            workers: self.workers as usize,
+            workers,
         })
     }
 }

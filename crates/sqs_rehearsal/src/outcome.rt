@@ -152,10 +152,8 @@ pub fn compare<W: Out>(
     sim_report::compare(
         alloc,
         out,
-        &first.report,
-        &first.finals,
-        &second.report,
-        &second.finals,
+        (&first.report, &first.finals),
+        (&second.report, &second.finals),
     )?;
     flush(out)
 }

@@ -1,4 +1,7 @@
 //! A standard queue: messages that lie on hosts, and the calls of Amazon SQS on them.
 #![tactic(auto)]
 
-pub use sqs_queue::{Counts, Received, StandardQueue};
+mod standard_queue;
+
+pub use sqs_queue::Counts;
+pub use standard_queue::StandardQueue;

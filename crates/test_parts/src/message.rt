@@ -106,7 +106,7 @@ fn scripts_are_plain_data(rt: HostRuntime) {
     let calls = vec![in rt.alloc(); ScriptCall { at: 7, call }];
     let script = Script::new(calls.expect(&rt, "memory"));
     same(&rt, moment(script.as_slice()), Some(7));
-    same(&rt, moment(&script.into_calls()), Some(7));
+    same(&rt, moment(&script.into_vec()), Some(7));
 }
 
 #[test]

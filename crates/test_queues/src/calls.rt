@@ -1,7 +1,7 @@
 //! The calls of a queue, without what they promise, which the tests do not rest on.
 use sim_clock::{Key, Refusal};
 use sqs_message::{Receipt, Text};
-use sqs_queue::{Counts, Messages, Received};
+use sqs_queue::{Counts, Messages};
 use sqs_redrive::{Deleted, Got, Load, Rest, Sent};
 use sqs_standard::StandardQueue;
 
@@ -30,7 +30,7 @@ pub trait Calls {
 
     fn receive(&mut self, now: u32, asked: Asked) -> Result<Vec<Got>, Refusal>;
 
-    fn receive_looking(&mut self, now: u32, asked: Asked) -> Result<Received, Refusal>;
+    fn looked(&self) -> Result<u64, Refusal>;
 
     fn delete(&mut self, now: u32, by: &Receipt) -> Result<Deleted, Refusal>;
 
@@ -80,15 +80,8 @@ impl Calls for StandardQueue {
         )
     }
 
-    fn receive_looking(&mut self, now: u32, asked: Asked) -> Result<Received, Refusal> {
-        StandardQueue::receive_looking(
-            self,
-            u64::from(now),
-            asked.max,
-            asked.timeout,
-            asked.hosts.unwrap_or(3),
-            asked.short,
-        )
+    fn looked(&self) -> Result<u64, Refusal> {
+        Ok(StandardQueue::looked(self))
     }
 
     fn delete(&mut self, now: u32, by: &Receipt) -> Result<Deleted, Refusal> {
@@ -100,7 +93,7 @@ impl Calls for StandardQueue {
     }
 
     fn release(&mut self, number: u64) -> Result<Option<Load>, Refusal> {
-        StandardQueue::release(self, number)
+        StandardQueue::release(self, 0, number)
     }
 
     fn expire(&mut self, now: u32, number: u64) -> u64 {

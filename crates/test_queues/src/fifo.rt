@@ -36,7 +36,7 @@ fn settings() -> QueueSettings
 }
 
 // Ids count in the whole queue, and bodies stand for none; room for all, and no dead-letter queue.
-fn plain() -> QueueSettings
+pub fn plain() -> QueueSettings
     ensures { IsFifoSettings result }
 {
     QueueSettings {
@@ -156,6 +156,10 @@ send at=0 body=b group=x -> new m-7-1
 send at=0 body=c group=x -> new m-7-2
 # No message is delayed, so it reads the two that it gives, and not the third.
 look at=5 max=2 -> m-7-0 r-7-0-1 a, m-7-1 r-7-1-1 b, read=2
+# One that is refused reads none, and leaves the count as it was.
+look at=5 max=2 timeout=43201 -> BadTimeout, read=2
+# The group has two in flight.
+look at=5 max=2 -> none, read=0
 ";
     play_new(&rt, rt.alloc(), table)
 }

@@ -5,7 +5,7 @@ use crate::calls::{Asked, Calls, Given};
 use sim_clock::{Key, Refusal};
 use sqs_fifo::FifoQueue;
 use sqs_message::Receipt;
-use sqs_queue::{Counts, Messages, Received};
+use sqs_queue::{Counts, Messages};
 use sqs_redrive::{Deleted, Got, Load, Rest, Sent};
 use std::marker::Model;
 
@@ -22,16 +22,16 @@ impl Model for InOrder {
 
     ghost Value = { Queue };
 
-    ghost view = { λ q. q.queue };
+    ghost view = { λ q. q.queue.queue };
 
-    ghost invariant = { λ q. IsRecent q.latest q.queue };
+    ghost invariant = { λ q. IsRecent q.latest q.queue.queue };
 }
 
 impl InOrder {
     ghost use Rattle.std.specs.Prelude.{[]};
 
     pub fn new(queue: FifoQueue) -> InOrder
-        requires { queue.entries ≡ [] }
+        requires { queue.queue.entries ≡ [] }
     {
         InOrder { queue, latest: 0 }
     }
@@ -59,12 +59,8 @@ impl Calls for InOrder {
         self.queue.receive(u64::from(now), asked.max, asked.timeout)
     }
 
-    fn receive_looking(&mut self, now: u32, asked: Asked) -> Result<Received, Refusal> {
-        if asked.hosts.is_some() || asked.short {
-            return Err(Refusal::BadScript);
-        }
-        self.queue
-            .receive_looking(u64::from(now), asked.max, asked.timeout)
+    fn looked(&self) -> Result<u64, Refusal> {
+        Ok(self.queue.looked())
     }
 
     fn delete(&mut self, now: u32, by: &Receipt) -> Result<Deleted, Refusal> {
@@ -76,7 +72,7 @@ impl Calls for InOrder {
     }
 
     fn release(&mut self, number: u64) -> Result<Option<Load>, Refusal> {
-        self.queue.release(number)
+        self.queue.release(0, number)
     }
 
     fn expire(&mut self, now: u32, number: u64) -> u64 {

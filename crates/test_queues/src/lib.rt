@@ -11,6 +11,8 @@ mod forms;
 #[cfg(test)]
 mod in_order;
 #[cfg(test)]
+mod many;
+#[cfg(test)]
 mod play;
 #[cfg(test)]
 mod queue;

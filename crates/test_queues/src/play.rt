@@ -125,13 +125,11 @@ fn receive<Q: Calls>(out: &mut String, queue: &mut Q, call: &str) -> Shown {
     }
 }
 
-// A receive that tells also how many messages it read in order to choose those that it gives.
+// A receive, and how many messages the newest that was not refused read to choose what it gave.
 fn look<Q: Calls>(out: &mut String, queue: &mut Q, call: &str) -> Shown {
-    match queue.receive_looking(words::small(call, "at"), asked(call)) {
-        Ok(received) => {
-            show::batch(out, &received.messages)?;
-            show::named(out, ", read=", received.looked)
-        }
+    receive(out, queue, call)?;
+    match queue.looked() {
+        Ok(looked) => show::named(out, ", read=", looked),
         Err(refusal) => show::refused(out, refusal),
     }
 }

@@ -4,7 +4,7 @@ ghost use Rattle.std.specs.Prelude.{◌≡◌};
 use crate::calls::{Asked, Calls, Given};
 use sim_clock::{Key, Refusal};
 use sqs_message::Receipt;
-use sqs_queue::{Counts, Messages, Queue, Received};
+use sqs_queue::{Counts, Messages, Queue};
 use sqs_redrive::{Deleted, Got, Load, Rest, Sent};
 use std::marker::Model;
 
@@ -72,7 +72,7 @@ impl Calls for SendsFirst {
         )
     }
 
-    fn receive_looking(&mut self, _now: u32, _asked: Asked) -> Result<Received, Refusal> {
+    fn looked(&self) -> Result<u64, Refusal> {
         Err(Refusal::BadScript)
     }
 

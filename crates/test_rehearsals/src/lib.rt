@@ -3,6 +3,8 @@
 #![tactic(auto)]
 
 #[cfg(test)]
+mod handlings;
+#[cfg(test)]
 mod machines;
 #[cfg(test)]
 mod rehearsals;

@@ -3,7 +3,8 @@ ghost use Rattle.std.specs.Prelude.{◌≡◌, ◌≤◌, IfOk, IfSome, false};
 ghost use Rattle.sim_records.specs.Writers.{has_failed};
 
 use crate::worked::{
-    IDLE_TIME, LATENCY_BETWEEN_BOUNDS, MOVED_BACK, ONE_FORWARD, ONE_REDRIVE, THREE_QUEUES, Worked,
+    IDLE_TIME, LATENCY_BETWEEN_BOUNDS, MOVED_BACK, ONE_FORWARD, ONE_REDRIVE, THERE_AND_BACK,
+    THREE_QUEUES, Worked,
 };
 use sim_clock::Refusal;
 use sim_draw::Draws;
@@ -85,7 +86,7 @@ pub fn scenario(alloc: Global, text: &[u8]) -> Option<Scenario> {
 }
 
 /// Copies of names.
-fn copies(alloc: Global, names: &[Text]) -> Result<Vec<Text>, AllocError> {
+pub fn copies(alloc: Global, names: &[Text]) -> Result<Vec<Text>, AllocError> {
     let mut copies = Vec::new(alloc);
     for name in names {
         copies.push(name.copy(alloc)?)?;
@@ -280,14 +281,17 @@ fn the_lower_latency_bounds_a_partition(rt: HostRuntime) {
     assert_eq!(rt; refusal(rt.alloc(), text, 2, 2), Some(refused));
 }
 
+/// Worked scenarios, each with how many queues it has and the least latency of its transfers.
+const NETWORKS: [(Worked, (u32, u64)); 4] = [
+    (ONE_FORWARD, (2, 500)),
+    (MOVED_BACK, (3, 5)),
+    (THREE_QUEUES, (3, 10)),
+    (THERE_AND_BACK, (2, 10)),
+];
+
 #[test]
 fn worked_scenarios_in_partitions(rt: HostRuntime) {
-    let table = [
-        (ONE_FORWARD, (2, 500)),
-        (MOVED_BACK, (3, 5)),
-        (THREE_QUEUES, (3, 10)),
-    ];
-    for (wanted, split) in table {
+    for (wanted, split) in NETWORKS {
         assert!(rt;
             comes_to(rt.alloc(), split, split.1, &[], wanted),
             "{:?}",
@@ -315,8 +319,13 @@ fn play_drawn(
 
 /// Whether a scenario's machine, each of its queues in a partition of its own, comes to what the
 /// scenario writes after picks drawn under a seed.
-fn comes_to_as_drawn(alloc: Global, parts: u32, seed: u64, wanted: Worked) -> bool {
-    match opened(alloc, wanted.text, parts, 1) {
+fn comes_to_as_drawn(
+    alloc: Global,
+    (parts, window): (u32, u64),
+    seed: u64,
+    wanted: Worked,
+) -> bool {
+    match opened(alloc, wanted.text, parts, window) {
         Some((mut machine, logged)) => {
             let is_played = play_drawn(&mut machine, seed, parts, 10_000).is_ok()
                 && play_on(&mut machine, parts).is_some();
@@ -329,11 +338,11 @@ fn comes_to_as_drawn(alloc: Global, parts: u32, seed: u64, wanted: Worked) -> bo
 
 #[test]
 fn whatever_is_picked_the_same_is_told(rt: HostRuntime) {
-    for (wanted, parts) in [(ONE_FORWARD, 2), (MOVED_BACK, 3), (THREE_QUEUES, 3)] {
+    for (wanted, split) in NETWORKS {
         assert!(rt; is_wanted(&one_list(rt.alloc(), wanted.text), wanted));
         for seed in 1..=50 {
             assert!(rt;
-                comes_to_as_drawn(rt.alloc(), parts, seed, wanted),
+                comes_to_as_drawn(rt.alloc(), split, seed, wanted),
                 "{seed}"
             );
         }

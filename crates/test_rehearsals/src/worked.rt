@@ -504,3 +504,62 @@ report,q6,1,0,0,0,0,0,0,0,0,0,0,0,0,0,0,0,0,0,1,1,0,0,0,,,,
 report,q7,1,0,0,0,0,0,0,0,0,0,0,0,0,0,0,0,0,0,1,1,0,0,0,,,,
 ",
 };
+
+/// Two queues whose consumers forward to each other, 10 milliseconds each way. A message goes there
+/// and back.
+pub const THERE_AND_BACK: Worked = Worked {
+    text: b"version = 1
+horizon = 100
+[[queue]]
+name = '''a'''
+[[queue]]
+name = '''b'''
+[[actor]]
+name = '''p'''
+kind = '''script'''
+queue = '''a'''
+calls = '''at,call,body,group,id,delay,receipt,max,wait,timeout,task
+0,send,abc,,,,,,,,
+'''
+[[actor]]
+name = '''x'''
+kind = '''consumer'''
+queue = '''a'''
+start_ms = 1
+service_min_ms = 14
+service_max_ms = 14
+idle_ms = 86400000
+forward = '''b'''
+latency_ms = 10
+[[actor]]
+name = '''y'''
+kind = '''consumer'''
+queue = '''b'''
+start_ms = 50
+service_min_ms = 14
+service_max_ms = 14
+forward = '''a'''
+latency_ms = 10
+",
+    log: b"at,queue,agent,call,answer,message,receipt,detail
+0,a,p,send,new,m-0-0,,900150983cd24fb0d6963f7d28e17f72
+1,a,x,receive,ok,m-0-0,r-0-0-1,o-0-0
+15,a,x,forward,out,m-0-0,,b
+15,a,x,delete,deleted,m-0-0,r-0-0-1,15
+16,a,x,receive,empty,,,
+25,b,x,arrive,new,m-1-0,,o-1-0
+50,b,y,receive,ok,m-1-0,r-1-0-1,o-1-0
+64,b,y,forward,out,m-1-0,,a
+64,b,y,delete,deleted,m-1-0,r-1-0-1,39
+65,b,y,receive,empty,,,
+74,a,y,arrive,new,m-0-1,,o-0-1
+",
+    ending: b"final,queue,message,origin,place,due,enqueued,receives,group,md5
+final,a,m-0-1,o-0-1,visible,,74,0,,900150983cd24fb0d6963f7d28e17f72
+transfer,from,to,kind,due,number,message,origin,md5
+task,name,status,moved
+report,queue,sends,repeats,receives,empties,deletes,expiries,redrives,moves,arrivals,OverLimit,MessageNotInflight,ReceiptHandleIsInvalid,BadTimeout,MissingGroup,MissingDeduplication,BadDelay,TaskRunning,NoTask,depth_max,visible,in_flight,delayed,age_sum,age_max,age_p50,age_p95,age_p99
+report,a,1,0,1,1,1,0,0,0,1,0,0,0,0,0,0,0,0,0,1,1,0,0,15,15,15,15,15
+report,b,0,0,1,1,1,0,0,0,1,0,0,0,0,0,0,0,0,0,1,0,0,0,39,39,39,39,39
+",
+};

@@ -108,24 +108,30 @@ fn a_log_that_fails_ends_a_run_of_workers(rt: HostRuntime) {
     );
 }
 
-/// What four workers answer, for three queues in three partitions: how many sites, and how many more
-/// rows their sink would have taken.
+/// What so many workers answer, for three queues in three partitions: how many sites, and how many
+/// more rows their sink would have taken.
 fn limited<W: Threads + Wait + Sync>(
     rt: &W,
     alloc: Global,
     window: u64,
+    workers: usize,
     left: u64,
 ) -> Option<(Result<usize, Refusal>, u64)> {
     let scenario = scenario(alloc, THREE_QUEUES.text)?;
     let layout = in_turn(alloc, 3, 3).ok()?;
     let mut sink = Limit { left };
-    let ran = run_workers(rt, alloc, scenario, layout, window, 4, &Open, &mut sink);
+    let ran = run_workers(
+        rt, alloc, scenario, layout, window, workers, &Open, &mut sink,
+    );
     Some((ran.map(|sites| sites.len()), sink.left))
 }
 
 /// Whether four workers are refused by a sink that takes so many rows.
 fn is_full<W: Threads + Wait + Sync>(rt: &W, alloc: Global, left: u64) -> bool {
-    matches!(limited(rt, alloc, 10, left), Some((Err(Refusal::Write), _)))
+    matches!(
+        limited(rt, alloc, 10, 4, left),
+        Some((Err(Refusal::Write), _))
+    )
 }
 
 #[test]
@@ -134,8 +140,15 @@ fn rows_go_to_a_sink(rt: HostRuntime) {
         window: 11,
         least: 10,
     };
-    for (window, wanted) in [(10, (Ok(3), 0)), (11, (Err(refused), 13))] {
-        assert_eq!(rt; limited(&rt, rt.alloc(), window, 13), Some(wanted));
+    let table = [
+        (10, 4, (Ok(3), 0)),
+        (10, 64, (Ok(3), 0)),
+        (10, 0, (Err(Refusal::BadWorkers), 13)),
+        (10, 65, (Err(Refusal::BadWorkers), 13)),
+        (11, 0, (Err(refused), 13)),
+    ];
+    for (window, workers, wanted) in table {
+        assert_eq!(rt; limited(&rt, rt.alloc(), window, workers, 13), Some(wanted));
     }
     for left in 0..13 {
         assert!(rt; is_full(&rt, rt.alloc(), left), "{left}");

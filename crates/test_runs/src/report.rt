@@ -205,7 +205,7 @@ fn a_report_against_another(rt: HostRuntime) {
     let filled = filled(&rt, alloc);
     let other = Report::new(alloc, names(&rt, alloc, b"e", b"q")).expect(&rt, "memory");
     let mut out = ToWriter::new(Vec::new(alloc));
-    let answer = compare(alloc, &mut out, &filled, &finals, &other, &finals);
+    let answer = compare(alloc, &mut out, (&filled, &finals), (&other, &finals));
     let text =
         b"compare,q,sends,3,0,-3\ncompare,q,repeats,1,0,-1\ncompare,q,receives,1,0,-1\ncompare,q,empties,1,0,-1\ncompare,q,deletes,4,0,-4\ncompare,q,expiries,0,0,0\ncompare,q,redrives,0,0,0\ncompare,q,moves,0,0,0\ncompare,q,arrivals,1,0,-1\ncompare,q,OverLimit,1,0,-1\ncompare,q,MessageNotInflight,1,0,-1\ncompare,q,ReceiptHandleIsInvalid,1,0,-1\ncompare,q,BadTimeout,1,0,-1\ncompare,q,MissingGroup,0,0,0\ncompare,q,MissingDeduplication,0,0,0\ncompare,q,BadDelay,0,0,0\ncompare,q,TaskRunning,0,0,0\ncompare,q,NoTask,0,0,0\ncompare,q,depth_max,3,0,-3\ncompare,q,visible,1,0,-1\ncompare,q,in_flight,2,0,-2\ncompare,q,delayed,0,1,1\ncompare,q,age_sum,36893488147419103485,0,-36893488147419103485\ncompare,q,age_max,18446744073709551615,,\ncompare,q,age_p50,250,,\ncompare,q,age_p95,18446744073709551615,,\ncompare,q,age_p99,18446744073709551615,,\ncompare,d,only,1,0,-1\ncompare,e,only,0,1,1\n";
     same(

@@ -158,7 +158,7 @@ impl Actor {
         ensures decision { Decides result self.new (the_consumer_got self.old settings now batch) }
         ensures framed { IsFramed self.old self.new }
     {
-        let messages = batch.into_messages();
+        let messages = batch.into_vec();
         if messages.is_empty() {
             return Ok(self.idle(settings, now));
         }

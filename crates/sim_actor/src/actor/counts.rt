@@ -1,5 +1,7 @@
-//! How often an actor woke and waited.
-ghost use Rattle.std.specs.Prelude.{◌≡◌};
+//! How often an actor woke and waited, and what it has counted most of.
+ghost use Rattle.std.specs.Prelude.{◌≡◌, ◌≤◌};
+ghost use Rattle.sqs_model.specs.Answers.{most_count};
+ghost use Rattle.sqs_model.specs.Counts.{actor_count};
 
 use super::Actor;
 
@@ -16,5 +18,14 @@ impl Actor {
         ensures { result ≡ self.now.polls }
     {
         self.polls
+    }
+
+    /// The greatest of its counts: of its wakes, polls, transfers and words.
+    pub fn greatest_count(&self) -> u64
+        ensures count { result ≡ actor_count self.now }
+        ensures limit { result ≤ most_count }
+    {
+        let words = self.draws.taken();
+        self.wakes.max(self.polls.max(self.sent.max(words)))
     }
 }

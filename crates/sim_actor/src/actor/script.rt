@@ -7,16 +7,6 @@ use sqs_message::{Call, ScriptCall, Text};
 use sqs_model::Act;
 use std::alloc::{AllocError, Global};
 
-// Another text of the same bytes, if there is one.
-fn copied_text(alloc: Global, text: &Option<Text>) -> Result<Option<Text>, AllocError>
-    ensures { IfOk result (λ copy. copy ≡ text.now) }
-{
-    match text {
-        None => Ok(None),
-        Some(text) => Ok(Some(text.copy(alloc)?)),
-    }
-}
-
 // Another call with the same values.
 fn copied(alloc: Global, call: &Call) -> Result<Call, AllocError>
     ensures { IfOk result (λ copy. copy ≡ call.now) }
@@ -30,8 +20,8 @@ fn copied(alloc: Global, call: &Call) -> Result<Call, AllocError>
         } => Call::Send {
             body: body.copy(alloc)?,
             delay: *delay,
-            group: copied_text(alloc, group)?,
-            id: copied_text(alloc, id)?,
+            group: Text::copy_of(alloc, group.as_ref())?,
+            id: Text::copy_of(alloc, id.as_ref())?,
         },
         Call::Receive { max, wait, timeout } => Call::Receive {
             max: *max,

@@ -52,7 +52,8 @@ fn arrive_by(queue: &mut Queue, now: u64, load: Load) -> Result<(Sent, bool), Re
     match queue.arrive(now, load) {
         Ok(answer) => Ok(answer),
         Err(Refusal::CountLimit) => Err(Refusal::CountLimit),
-        Err(_) => Err(Refusal::Memory),
+        Err(Refusal::Memory) => Err(Refusal::Memory),
+        Err(_) => unreachable!(),
     }
 }
 

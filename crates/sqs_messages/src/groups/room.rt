@@ -13,16 +13,6 @@ use sqs_message::Text;
 use std::alloc::{AllocError, Global};
 use std::collections::VecDeque;
 
-// Another name of the same group.
-fn copied(alloc: Global, group: Option<&Text>) -> Result<Option<Text>, AllocError>
-    ensures { IfOk result (λ name. name ≡ option_copied group.entry) }
-{
-    match group {
-        None => Ok(None),
-        Some(name) => Ok(Some(name.copy(alloc)?)),
-    }
-}
-
 // Enters a group that is not in the table, without messages. Where there is no memory nothing
 // changes.
 fn enter(
@@ -37,7 +27,7 @@ fn enter(
     ensures same_names { OnErr result (names.new.keys ≡ names.old.keys) }
     ensures same_groups { OnErr result (map kept groups.new.items ≡ map kept groups.old.items) }
 {
-    let name = copied(alloc, group)?;
+    let name = Text::copy_of(alloc, group)?;
     groups.reserve(1)?;
     names.insert(HeldGroup::new(name))?;
     groups.push_reserved(Members {

@@ -82,9 +82,9 @@ impl Queue {
         }
     }
 
-    // A send: a message of this body in a message group, delayed as the queue says, and its
-    // deduplication entry; or a repeat, which makes nothing.
-    pub(crate) fn send_fifo(
+    /// A send to a FIFO queue: a message of this body in a message group, delayed as the queue says, and
+    /// its deduplication entry; or a repeat, which makes nothing. The errors are those of `send`.
+    pub fn send_fifo(
         &mut self,
         now: u64,
         body: Text,
@@ -147,8 +147,9 @@ impl Queue {
         }))
     }
 
-    // A delete: a message in flight leaves by its newest receipt, and by no other.
-    pub(crate) fn delete_fifo(&mut self, now: u64, receipt: &Receipt) -> Result<Deleted, Refusal>
+    /// A delete at a FIFO queue: a message in flight leaves by its newest receipt, and by no other. The
+    /// errors are those of `delete`.
+    pub fn delete_fifo(&mut self, now: u64, receipt: &Receipt) -> Result<Deleted, Refusal>
         ensures answer { delete_fifo self.old now receipt.now ≡ (result, self.new) }
         ensures kept { self.new.entries ≡ self.old.entries }
         ensures framed { IsFramed self.old self.new }
@@ -167,9 +168,10 @@ impl Queue {
         Ok(Deleted::Removed(age))
     }
 
-    // A transfer arrives: a dead letter or what a move task brings as of now, a forward as a send in
-    // the served message's group, with its id text as deduplication id.
-    pub(crate) fn arrive_fifo(&mut self, now: u64, load: Load) -> Result<(Sent, bool), Refusal>
+    /// A transfer arrives at a FIFO queue: a dead letter or what a move task brings as of now, a forward as
+    /// a send in the served message's group, with its id text as deduplication id. The errors are those of
+    /// `arrive`.
+    pub fn arrive_fifo(&mut self, now: u64, load: Load) -> Result<(Sent, bool), Refusal>
         requires kind { IsFifo self.old.settings.kind }
         requires moment { now ≤ most_count }
         requires recent { IsRecent now self.old }

@@ -42,8 +42,9 @@ impl Queue {
         Ok(received.messages)
     }
 
-    // A receive that tells also how many messages it read in order to choose those that it gives.
-    pub(crate) fn receive_looking(
+    /// A receive, with the errors of `receive`, that tells also how many messages it read in order to
+    /// choose those that it gives.
+    pub fn receive_looking(
         &mut self,
         now: u64,
         max: u64,

@@ -15,8 +15,9 @@ use sqs_model::{LONGEST_DELAY, MOST_COUNT};
 use sqs_redrive::{Deleted, Load, Sent};
 
 impl Queue {
-    // A send: a message of this body, delayed by so many seconds or else as the queue says.
-    pub(crate) fn send_standard(
+    /// A send to a standard queue: a message of this body, delayed by so many seconds or else as the queue
+    /// says. The errors are those of `send`.
+    pub fn send_standard(
         &mut self,
         now: u64,
         body: Text,
@@ -50,12 +51,9 @@ impl Queue {
         }))
     }
 
-    // A delete: the message leaves by its newest receipt; by an older one it is kept.
-    pub(crate) fn delete_standard(
-        &mut self,
-        now: u64,
-        receipt: &Receipt,
-    ) -> Result<Deleted, Refusal>
+    /// A delete at a standard queue: the message leaves by its newest receipt; by an older one it is kept.
+    /// The errors are those of `delete`.
+    pub fn delete_standard(&mut self, now: u64, receipt: &Receipt) -> Result<Deleted, Refusal>
         ensures answer { delete_standard self.old now receipt.now ≡ (result, self.new) }
         ensures kept { self.new.entries ≡ self.old.entries }
         ensures framed { IsFramed self.old self.new }
@@ -77,9 +75,9 @@ impl Queue {
         Ok(Deleted::Removed(age))
     }
 
-    // A transfer arrives: a dead letter with the enqueue time that it had, what a move task brings
-    // as of now, a forward as a send with the queue's delay.
-    pub(crate) fn arrive_standard(&mut self, now: u64, load: Load) -> Result<(Sent, bool), Refusal>
+    /// A transfer arrives at a standard queue: a dead letter with the enqueue time that it had, what a move
+    /// task brings as of now, a forward as a send with the queue's delay. The errors are those of `arrive`.
+    pub fn arrive_standard(&mut self, now: u64, load: Load) -> Result<(Sent, bool), Refusal>
         requires kind { IsStandard self.old.settings.kind }
         requires moment { now ≤ most_count }
         requires enqueued { WasEnqueuedBy now load }

@@ -1,16 +1,17 @@
 use Rattle.std.proofs.Common.{sym, ◌≡◌}
-use Rattle.std.proofs.lemmas.Result.{IfErr-weaker, IfOk-weaker}
+use Rattle.std.proofs.lemmas.Result.{IfErr-weaker}
+use Rattle.sqs_rehearsal.proofs.Counting.{if_both}
 use Rattle.sqs_rehearsal.proofs.LogTexts.{logs_front, logs_whole, stops_same}
 use Rattle.sqs_rehearsal.proofs.logging.run_rows.Goals as goal
 
 pub returns-clause-whole : goal.returns-clause-whole
 returns-clause-whole g c =
-    IfOk-weaker c.run_workers.result _ _
-    (λ sites told.
+    if_both c.run_workers.result _ _ _
+    (λ sites told not_over.
     let log_is : c.log-1.given.0 ≡ c.run_workers.new.sink.out.now = c.log-1.given.1 (sym told.taken.same.writer) in
     let report_is : c.report-1.given.0 ≡ c.run_workers.new.sink.report.now = c.report-1.given.1 (sym told.taken.same.report) in
-    rw (log_is, report_is) (logs_whole g.L.Out.held g.L.Out.failed c.args.scenario _ c.run_workers.new.sink sites.items told c.requires.names c.requires.works c.requires.fresh))
-    c.run_workers.ensures.whole
+    rw (log_is, report_is) (logs_whole g.L.Out.held g.L.Out.failed c.args.scenario _ c.run_workers.new.sink sites.items told c.requires.names c.requires.works c.requires.fresh not_over))
+    c.run_workers.ensures.whole c.run_workers.ensures.counted
 
 pub returns-clause-stops : goal.returns-clause-stops
 returns-clause-stops g c r is =
@@ -19,4 +20,4 @@ returns-clause-stops g c r is =
     let same = stops_same g.L.Out.held g.L.Out.failed c.args.scenario _ c.run_workers.new.sink e told in
     let log_is : c.log-1.given.0 ≡ c.run_workers.new.sink.out.now = c.log-1.given.1 (sym same.writer) in
     rw log_is (logs_front g.L.Out.held g.L.Out.failed c.args.scenario _ c.run_workers.new.sink e told c.requires.names c.requires.works r is))
-    (c.run_workers.ensures.stops c.requires.window)
+    (c.run_workers.ensures.stops c.requires.window c.requires.workers)

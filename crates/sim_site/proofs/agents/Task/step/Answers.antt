@@ -44,4 +44,7 @@ invariant_of-self c =
     let old : c.self.inside.sent ≡ c.args.self.now.sent = ap (λ (t : Task). t.sent) c.self.view_is in
     let counted : c.len-taken.result ≡ length c.args.loads.items = omega (arith, c.len-taken.ensures, c.args.loads.ok.0) in
     let most : c.self.inside.movement.moved ≤ c.self.inside.sent = c.self.invariant.0 in
-    (omega (arith, before, moved, sent, old, counted, most), c.self-2.invariant.1)
+    let steps : c.step.new.self.steps ≡ c.self-2.inside.movement.steps + 1 = ap (λ (m : MoveTask). m.steps) c.step.ensures in
+    let below : c.step.new.self.steps ≤ most_count =
+    omega (arith, steps, ap (λ (m : MoveTask). m.steps) same, c.steps.ensures, c.if-steps-ge-MOST_COUNT.false) in
+    (omega (arith, before, moved, sent, old, counted, most), c.self-2.invariant.1, below, c.self-2.invariant.3)

@@ -27,9 +27,9 @@ returns-clause-stops c =
 pub invariant_of-self : goal.invariant_of-self
 invariant_of-self c =
     let kept : AreAllowed c.end.new.self = subst AreAllowed (sym c.end.ensures) (all_without (ends_at c.args.key) (λ (p : Poll). MayBeTimeout p.timeout) c.self.inside.polls c.self.invariant.2) in
-    (c.self.invariant.0, c.self.invariant.1, kept)
+    (c.self.invariant.0, c.self.invariant.1, kept, c.self.invariant.3, c.self.invariant.4)
 
 pub invariant_of-self-2 : goal.invariant_of-self-2
 invariant_of-self-2 c =
     let kept : AreAllowed c.end.new.self = subst AreAllowed (sym c.end.ensures) (all_without (ends_at c.args.key) (λ (p : Poll). MayBeTimeout p.timeout) c.self.inside.polls c.self.invariant.2) in
-    (c.self.invariant.0, c.self.invariant.1, kept)
+    (c.self.invariant.0, c.self.invariant.1, kept, c.self.invariant.3, c.self.invariant.4)

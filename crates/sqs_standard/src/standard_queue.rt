@@ -16,29 +16,28 @@ ghost use Rattle.sqs_model.specs.Task.{take_movable};
 ghost use Rattle.sqs_queue.specs.Calls.{never_refused};
 ghost use Rattle.sqs_queue.specs.Kinds.{IsStandardSettings};
 
-use crate::batch::Received;
-use crate::queue::Queue;
 use sim_clock::{Key, Refusal};
 use sqs_message::{Receipt, Text};
-use sqs_messages::{Counts, Messages};
+use sqs_queue::{Counts, Messages, Queue};
 use sqs_redrive::{Deleted, Got, Load, QueueSettings, Rest, Sent};
 use std::alloc::Global;
 use std::marker::Model;
 
 /// A standard queue. Contracts see it as the definitions' `Queue`, which has no deduplication
-/// entries. Times are milliseconds.
+/// entries, with how many messages its newest receive read. Times are milliseconds.
 #[derive(Drop)]
 pub struct StandardQueue {
     queue: Queue,
+    looked: u64,
 }
 
 impl Model for StandardQueue {
-    ghost use Rattle.sqs_model.specs.Queue.{Queue};
     ghost use Rattle.sqs_queue.specs.Kinds.{IsStandardSettings};
+    ghost use Rattle.sqs_queue.specs.Looking.{Looking};
 
-    ghost Value = { Queue };
+    ghost Value = { Looking };
 
-    ghost view = { λ q. q.queue };
+    ghost view = { λ q. record { queue = q.queue; looked = q.looked } };
 
     ghost invariant = { λ q. IsStandardSettings q.queue.settings };
 }
@@ -47,7 +46,7 @@ impl StandardQueue {
     /// An empty queue with this number.
     pub fn new(alloc: Global, site: u32, settings: QueueSettings) -> StandardQueue
         requires { IsStandardSettings settings }
-        ensures { result ≡ record { site = site; settings = settings; records = []; entries = []; arrivals = 0 } }
+        ensures { result ≡ record { queue = record { site = site; settings = settings; records = []; entries = []; arrivals = 0 }; looked = 0 } }
     {
         StandardQueue::opened_at(alloc, site, settings, 0)
     }
@@ -62,30 +61,31 @@ impl StandardQueue {
     ) -> StandardQueue
         requires settings { IsStandardSettings settings }
         requires arrivals { arrivals ≤ most_count }
-        ensures { result ≡ record { site = site; settings = settings; records = []; entries = []; arrivals = arrivals } }
+        ensures { result ≡ record { queue = record { site = site; settings = settings; records = []; entries = []; arrivals = arrivals }; looked = 0 } }
     {
         StandardQueue {
             queue: Queue::opened_at(alloc, site, settings, arrivals),
+            looked: 0,
         }
     }
 
     /// Its number.
     pub fn site(&self) -> u32
-        ensures { result ≡ self.now.site }
+        ensures { result ≡ self.now.queue.site }
     {
         self.queue.site()
     }
 
     /// Its settings.
     pub fn settings(&self) -> &QueueSettings
-        ensures { result.now ≡ self.now.settings }
+        ensures { result.now ≡ self.now.queue.settings }
     {
         self.queue.settings()
     }
 
     /// Its messages, in the order of their arrival.
     pub fn view(&self) -> Messages<'_>
-        ensures { result ≡ self.now.records }
+        ensures { result ≡ self.now.queue.records }
     {
         self.queue.view()
     }
@@ -94,10 +94,11 @@ impl StandardQueue {
     /// `BadDelay` over 900 seconds; `CountLimit` where the queue's numbers are used up; `Memory`.
     pub fn send(&mut self, now: u64, body: Text, delay: Option<u64>) -> Result<Sent, Refusal>
         requires { now ≤ most_count }
-        ensures answer { Meets (self.old.arrivals ≡ most_count) result self.new (send_standard self.old now body delay) }
-        ensures counted { OnOk result (self.old.arrivals < most_count) }
+        ensures answer { Meets (self.old.queue.arrivals ≡ most_count) result self.new.queue (send_standard self.old.queue now body delay) }
+        ensures counted { OnOk result (self.old.queue.arrivals < most_count) }
         ensures unchanged { OnErr result (self.new ≡ self.old) }
-        ensures framed { IsFramed self.old self.new }
+        ensures looked { self.new.looked ≡ self.old.looked }
+        ensures framed { IsFramed self.old.queue self.new.queue }
     {
         self.queue.send_standard(now, body, delay)
     }
@@ -105,17 +106,20 @@ impl StandardQueue {
     /// `DeleteMessage`: a message leaves by its newest receipt, at its age; by an older one it is
     /// kept. `ReceiptHandleIsInvalid` where the receipt is none of this queue's.
     pub fn delete(&mut self, now: u64, receipt: &Receipt) -> Result<Deleted, Refusal>
-        ensures answer { delete_standard self.old now receipt.now ≡ (result, self.new) }
-        ensures framed { IsFramed self.old self.new }
+        ensures answer { delete_standard self.old.queue now receipt.now ≡ (result, self.new.queue) }
+        ensures looked { self.new.looked ≡ self.old.looked }
+        ensures framed { IsFramed self.old.queue self.new.queue }
     {
         self.queue.delete_standard(now, receipt)
     }
 
     /// The end of the delay or visibility timeout of a message: it is visible again, or leaves for
-    /// the dead-letter queue, which gives its load. No error comes.
-    pub fn release(&mut self, number: u64) -> Result<Option<Load>, Refusal>
-        ensures answer { returned (released self.old number) ≡ (result, self.new) }
-        ensures framed { IsFramed self.old self.new }
+    /// the dead-letter queue, which gives its load. The moment, in milliseconds, decides nothing. No error
+    /// comes.
+    pub fn release(&mut self, _now: u64, number: u64) -> Result<Option<Load>, Refusal>
+        ensures answer { returned (released self.old.queue number) ≡ (result, self.new.queue) }
+        ensures looked { self.new.looked ≡ self.old.looked }
+        ensures framed { IsFramed self.old.queue self.new.queue }
     {
         self.queue.release(number)
     }
@@ -123,8 +127,9 @@ impl StandardQueue {
     /// The end of the retention period of a message, which leaves. Answers its age, 0 where it is
     /// not there.
     pub fn expire(&mut self, now: u64, number: u64) -> u64
-        ensures answer { expired self.old now number ≡ (result, self.new) }
-        ensures framed { IsFramed self.old self.new }
+        ensures answer { expired self.old.queue now number ≡ (result, self.new.queue) }
+        ensures looked { self.new.looked ≡ self.old.looked }
+        ensures framed { IsFramed self.old.queue self.new.queue }
     {
         self.queue.expire(now, number)
     }
@@ -141,31 +146,32 @@ impl StandardQueue {
         timeout: u64,
     ) -> Result<Option<Load>, Refusal>
         requires { now ≤ most_count }
-        ensures answer { change self.old now receipt.now timeout ≡ (result, self.new) }
-        ensures framed { IsFramed self.old self.new }
+        ensures answer { change self.old.queue now receipt.now timeout ≡ (result, self.new.queue) }
+        ensures looked { self.new.looked ≡ self.old.looked }
+        ensures framed { IsFramed self.old.queue self.new.queue }
     {
         self.queue.change(now, receipt, timeout)
     }
 
     /// The key of what is due next: the least expiry or end of a delay or visibility timeout.
     pub fn least_due(&self) -> Option<Key>
-        ensures { result ≡ least (queue_dues self.now) }
+        ensures { result ≡ least (queue_dues self.now.queue) }
     {
         self.queue.least_due()
     }
 
     /// How many messages are where.
     pub fn counts(&self) -> Counts
-        ensures visible { result.visible ≡ count_by is_visible self.now.records }
-        ensures in_flight { result.in_flight ≡ count_by is_in_flight self.now.records }
-        ensures delayed { result.delayed ≡ count_by is_delayed self.now.records }
+        ensures visible { result.visible ≡ count_by is_visible self.now.queue.records }
+        ensures in_flight { result.in_flight ≡ count_by is_in_flight self.now.queue.records }
+        ensures delayed { result.delayed ≡ count_by is_delayed self.now.queue.records }
     {
         self.queue.counts()
     }
 
     /// Whether a receive that sees all hosts would find a message to give. Goes over no messages.
     pub fn has_available(&self) -> bool
-        ensures { result ≡ not (is_empty (all_available self.now)) }
+        ensures { result ≡ not (is_empty (all_available self.now.queue)) }
     {
         self.queue.has_available()
     }
@@ -178,10 +184,11 @@ impl StandardQueue {
     pub fn arrive(&mut self, now: u64, load: Load) -> Result<(Sent, bool), Refusal>
         requires moment { now ≤ most_count }
         requires enqueued { WasEnqueuedBy now load }
-        ensures answer { Meets (self.old.arrivals ≡ most_count) result self.new (never_refused (arrived self.old now load)) }
-        ensures counted { OnOk result (self.old.arrivals < most_count) }
+        ensures answer { Meets (self.old.queue.arrivals ≡ most_count) result self.new.queue (never_refused (arrived self.old.queue now load)) }
+        ensures counted { OnOk result (self.old.queue.arrivals < most_count) }
         ensures unchanged { OnErr result (self.new ≡ self.old) }
-        ensures framed { IsFramed self.old self.new }
+        ensures looked { self.new.looked ≡ self.old.looked }
+        ensures framed { IsFramed self.old.queue self.new.queue }
     {
         self.queue.arrive_standard(now, load)
     }
@@ -190,7 +197,10 @@ impl StandardQueue {
     /// given by their bits, and no more than the in-flight limit leaves room for. Each is in flight
     /// for so many seconds or else as the queue says; with 0 seconds it comes back at once.
     /// `BadTimeout` over 43,200 seconds; `OverLimit` where a short poll finds the limit reached;
-    /// `CountLimit` where one of them can be received no more; `Memory`.
+    /// `CountLimit` where one of them can be received no more; `Memory`. `looked` tells then how
+    /// many messages it read to choose these: at least as many as it gives, and at most twice as
+    /// many as were asked for, whatever the length of the queue; after an error, what it told
+    /// before.
     pub fn receive(
         &mut self,
         now: u64,
@@ -200,34 +210,24 @@ impl StandardQueue {
         short: bool,
     ) -> Result<Vec<Got>, Refusal>
         requires { now ≤ most_count }
-        ensures answer { Meets (Any (λ m. m.receives ≡ most_count) (to_give self.old max hosts)) (result_map_both (λ batch. batch.items) (λ refusal. refusal) result) self.new (receive self.old now max timeout hosts short) }
-        ensures counted { OnOk result (All (λ m. m.receives < most_count) (to_give self.old max hosts)) }
+        ensures answer { Meets (Any (λ m. m.receives ≡ most_count) (to_give self.old.queue max hosts)) (result_map_both (λ batch. batch.items) (λ refusal. refusal) result) self.new.queue (receive self.old.queue now max timeout hosts short) }
+        ensures looked { OnOk result (self.new.looked ≤ 2 * max) }
+        ensures read { IfOk result (λ batch. length batch.items ≤ self.new.looked) }
+        ensures counted { OnOk result (All (λ m. m.receives < most_count) (to_give self.old.queue max hosts)) }
         ensures unchanged { OnErr result (self.new ≡ self.old) }
-        ensures framed { IsFramed self.old self.new }
+        ensures framed { IsFramed self.old.queue self.new.queue }
     {
-        self.queue.receive(now, max, timeout, hosts, short)
+        let received = self.queue.receive_looking(now, max, timeout, hosts, short)?;
+        self.looked = received.looked;
+        Ok(received.messages)
     }
 
-    /// `ReceiveMessage` as `receive` does it, with the same errors. Tells also how many messages it
-    /// read in order to choose those that it gives: at least these, and at most twice as many as were
-    /// asked for, whatever the length of the queue.
-    pub fn receive_looking(
-        &mut self,
-        now: u64,
-        max: u64,
-        timeout: Option<u64>,
-        hosts: u16,
-        short: bool,
-    ) -> Result<Received, Refusal>
-        requires { now ≤ most_count }
-        ensures answer { Meets (Any (λ m. m.receives ≡ most_count) (to_give self.old max hosts)) (result_map_both (λ received. received.messages.items) (λ refusal. refusal) result) self.new (receive self.old now max timeout hosts short) }
-        ensures looked { IfOk result (λ received. received.looked ≤ 2 * max) }
-        ensures read { IfOk result (λ received. length received.messages.items ≤ received.looked) }
-        ensures counted { OnOk result (All (λ m. m.receives < most_count) (to_give self.old max hosts)) }
-        ensures unchanged { OnErr result (self.new ≡ self.old) }
-        ensures framed { IsFramed self.old self.new }
+    /// How many messages the newest receive that answered `Ok` read to choose what it gave: counted as
+    /// each is read; 0 before one. Takes no memory.
+    pub fn looked(&self) -> u64
+        ensures { result ≡ self.now.looked }
     {
-        self.queue.receive_looking(now, max, timeout, hosts, short)
+        self.looked
     }
 
     /// A step of a move task (`StartMessageMoveTask`) takes at most so many of the visible messages
@@ -239,10 +239,11 @@ impl StandardQueue {
         max: u64,
         to: Option<u32>,
     ) -> Result<(Vec<(u32, Load)>, Rest), Refusal>
-        ensures taken { IfOk result (λ answer. take_movable self.old max to ≡ ((answer.0.items, answer.1), self.new)) }
+        ensures taken { IfOk result (λ answer. take_movable self.old.queue max to ≡ ((answer.0.items, answer.1), self.new.queue)) }
         ensures unchanged { OnErr result (self.new ≡ self.old) }
         ensures memory_only { IsOkUnless result Refusal.Memory }
-        ensures framed { IsFramed self.old self.new }
+        ensures looked { self.new.looked ≡ self.old.looked }
+        ensures framed { IsFramed self.old.queue self.new.queue }
     {
         self.queue.take_movable(max, to)
     }

@@ -18,28 +18,28 @@ ghost use Rattle.sqs_model.specs.Task.{take_movable};
 ghost use Rattle.sqs_queue.specs.Calls.{never_refused};
 ghost use Rattle.sqs_queue.specs.Kinds.{IsFifoSettings};
 
-use crate::batch::Received;
-use crate::queue::Queue;
 use sim_clock::{Key, Refusal};
 use sqs_message::{Receipt, Text};
-use sqs_messages::{Counts, Messages};
+use sqs_queue::{Counts, Messages, Queue};
 use sqs_redrive::{Deleted, Got, Load, QueueSettings, Rest, Sent};
 use std::alloc::Global;
 use std::marker::Model;
 
-/// A FIFO queue. Contracts see it as the definitions' `Queue`. Times are milliseconds.
+/// A FIFO queue. Contracts see it as the definitions' `Queue`, with how many messages its newest
+/// receive read. Times are milliseconds.
 #[derive(Drop)]
 pub struct FifoQueue {
     queue: Queue,
+    looked: u64,
 }
 
 impl Model for FifoQueue {
-    ghost use Rattle.sqs_model.specs.Queue.{Queue};
     ghost use Rattle.sqs_queue.specs.Kinds.{IsFifoSettings};
+    ghost use Rattle.sqs_queue.specs.Looking.{Looking};
 
-    ghost Value = { Queue };
+    ghost Value = { Looking };
 
-    ghost view = { λ q. q.queue };
+    ghost view = { λ q. record { queue = q.queue; looked = q.looked } };
 
     ghost invariant = { λ q. IsFifoSettings q.queue.settings };
 }
@@ -48,7 +48,7 @@ impl FifoQueue {
     /// An empty queue with this number.
     pub fn new(alloc: Global, site: u32, settings: QueueSettings) -> FifoQueue
         requires { IsFifoSettings settings }
-        ensures { result ≡ record { site = site; settings = settings; records = []; entries = []; arrivals = 0 } }
+        ensures { result ≡ record { queue = record { site = site; settings = settings; records = []; entries = []; arrivals = 0 }; looked = 0 } }
     {
         FifoQueue::opened_at(alloc, site, settings, 0)
     }
@@ -58,30 +58,31 @@ impl FifoQueue {
     pub fn opened_at(alloc: Global, site: u32, settings: QueueSettings, arrivals: u64) -> FifoQueue
         requires settings { IsFifoSettings settings }
         requires arrivals { arrivals ≤ most_count }
-        ensures { result ≡ record { site = site; settings = settings; records = []; entries = []; arrivals = arrivals } }
+        ensures { result ≡ record { queue = record { site = site; settings = settings; records = []; entries = []; arrivals = arrivals }; looked = 0 } }
     {
         FifoQueue {
             queue: Queue::opened_at(alloc, site, settings, arrivals),
+            looked: 0,
         }
     }
 
     /// Its number.
     pub fn site(&self) -> u32
-        ensures { result ≡ self.now.site }
+        ensures { result ≡ self.now.queue.site }
     {
         self.queue.site()
     }
 
     /// Its settings.
     pub fn settings(&self) -> &QueueSettings
-        ensures { result.now ≡ self.now.settings }
+        ensures { result.now ≡ self.now.queue.settings }
     {
         self.queue.settings()
     }
 
     /// Its messages, in the order of their arrival.
     pub fn view(&self) -> Messages<'_>
-        ensures { result ≡ self.now.records }
+        ensures { result ≡ self.now.queue.records }
     {
         self.queue.view()
     }
@@ -89,19 +90,22 @@ impl FifoQueue {
     /// `DeleteMessage`: a message in flight leaves by its newest receipt, at its age.
     /// `ReceiptHandleIsInvalid` by any other receipt, and where the message is not in flight.
     pub fn delete(&mut self, now: u64, receipt: &Receipt) -> Result<Deleted, Refusal>
-        ensures answer { delete_fifo self.old now receipt.now ≡ (result, self.new) }
-        ensures kept { self.new.entries ≡ self.old.entries }
-        ensures framed { IsFramed self.old self.new }
+        ensures answer { delete_fifo self.old.queue now receipt.now ≡ (result, self.new.queue) }
+        ensures kept { self.new.queue.entries ≡ self.old.queue.entries }
+        ensures looked { self.new.looked ≡ self.old.looked }
+        ensures framed { IsFramed self.old.queue self.new.queue }
     {
         self.queue.delete_fifo(now, receipt)
     }
 
     /// The end of the delay or visibility timeout of a message: it is visible again, or leaves for
-    /// the dead-letter queue, which gives its load. No error comes.
-    pub fn release(&mut self, number: u64) -> Result<Option<Load>, Refusal>
-        ensures answer { returned (released self.old number) ≡ (result, self.new) }
-        ensures kept { self.new.entries ≡ self.old.entries }
-        ensures framed { IsFramed self.old self.new }
+    /// the dead-letter queue, which gives its load. The moment, in milliseconds, decides nothing. No error
+    /// comes.
+    pub fn release(&mut self, _now: u64, number: u64) -> Result<Option<Load>, Refusal>
+        ensures answer { returned (released self.old.queue number) ≡ (result, self.new.queue) }
+        ensures kept { self.new.queue.entries ≡ self.old.queue.entries }
+        ensures looked { self.new.looked ≡ self.old.looked }
+        ensures framed { IsFramed self.old.queue self.new.queue }
     {
         self.queue.release(number)
     }
@@ -109,9 +113,10 @@ impl FifoQueue {
     /// The end of the retention period of a message, which leaves. Answers its age, 0 where it is
     /// not there.
     pub fn expire(&mut self, now: u64, number: u64) -> u64
-        ensures answer { expired self.old now number ≡ (result, self.new) }
-        ensures kept { self.new.entries ≡ self.old.entries }
-        ensures framed { IsFramed self.old self.new }
+        ensures answer { expired self.old.queue now number ≡ (result, self.new.queue) }
+        ensures kept { self.new.queue.entries ≡ self.old.queue.entries }
+        ensures looked { self.new.looked ≡ self.old.looked }
+        ensures framed { IsFramed self.old.queue self.new.queue }
     {
         self.queue.expire(now, number)
     }
@@ -128,32 +133,33 @@ impl FifoQueue {
         timeout: u64,
     ) -> Result<Option<Load>, Refusal>
         requires { now ≤ most_count }
-        ensures answer { change self.old now receipt.now timeout ≡ (result, self.new) }
-        ensures kept { self.new.entries ≡ self.old.entries }
-        ensures framed { IsFramed self.old self.new }
+        ensures answer { change self.old.queue now receipt.now timeout ≡ (result, self.new.queue) }
+        ensures kept { self.new.queue.entries ≡ self.old.queue.entries }
+        ensures looked { self.new.looked ≡ self.old.looked }
+        ensures framed { IsFramed self.old.queue self.new.queue }
     {
         self.queue.change(now, receipt, timeout)
     }
 
     /// The key of what is due next: the least expiry or end of a delay or visibility timeout.
     pub fn least_due(&self) -> Option<Key>
-        ensures { result ≡ least (queue_dues self.now) }
+        ensures { result ≡ least (queue_dues self.now.queue) }
     {
         self.queue.least_due()
     }
 
     /// How many messages are where.
     pub fn counts(&self) -> Counts
-        ensures visible { result.visible ≡ count_by is_visible self.now.records }
-        ensures in_flight { result.in_flight ≡ count_by is_in_flight self.now.records }
-        ensures delayed { result.delayed ≡ count_by is_delayed self.now.records }
+        ensures visible { result.visible ≡ count_by is_visible self.now.queue.records }
+        ensures in_flight { result.in_flight ≡ count_by is_in_flight self.now.queue.records }
+        ensures delayed { result.delayed ≡ count_by is_delayed self.now.queue.records }
     {
         self.queue.counts()
     }
 
     /// Whether there is a message that it may give. Goes over no messages.
     pub fn has_available(&self) -> bool
-        ensures { result ≡ not (is_empty (all_available self.now)) }
+        ensures { result ≡ not (is_empty (all_available self.now.queue)) }
     {
         self.queue.has_available()
     }
@@ -174,13 +180,14 @@ impl FifoQueue {
         delay: Option<u64>,
     ) -> Result<Sent, Refusal>
         requires moment { now ≤ most_count }
-        requires recent { IsRecent now self.old }
-        ensures answer { Meets (self.old.arrivals ≡ most_count) result self.new (sends self.old.settings.kind self.old now body delay group id) }
-        ensures at_limit { result ≡ Err Refusal.CountLimit → most_count < (sends self.old.settings.kind self.old now body delay group id).1.arrivals }
-        ensures counted { OnOk result ((self.old.arrivals < most_count) ⊎ (self.new ≡ self.old)) }
+        requires recent { IsRecent now self.old.queue }
+        ensures answer { Meets (self.old.queue.arrivals ≡ most_count) result self.new.queue (sends self.old.queue.settings.kind self.old.queue now body delay group id) }
+        ensures at_limit { result ≡ Err Refusal.CountLimit → most_count < (sends self.old.queue.settings.kind self.old.queue now body delay group id).1.arrivals }
+        ensures counted { OnOk result ((self.old.queue.arrivals < most_count) ⊎ (self.new.queue ≡ self.old.queue)) }
         ensures unchanged { OnErr result (self.new ≡ self.old) }
-        ensures recent { IsRecent now self.new }
-        ensures framed { IsFramed self.old self.new }
+        ensures recent { IsRecent now self.new.queue }
+        ensures looked { self.new.looked ≡ self.old.looked }
+        ensures framed { IsFramed self.old.queue self.new.queue }
     {
         self.queue.send_fifo(now, body, group, id, delay)
     }
@@ -192,13 +199,14 @@ impl FifoQueue {
     /// `CountLimit` where a new message is to come and the queue's numbers are used up; `Memory`.
     pub fn arrive(&mut self, now: u64, load: Load) -> Result<(Sent, bool), Refusal>
         requires moment { now ≤ most_count }
-        requires recent { IsRecent now self.old }
-        ensures answer { Meets (self.old.arrivals ≡ most_count) result self.new (never_refused (arrived self.old now load)) }
-        ensures at_limit { result ≡ Err Refusal.CountLimit → most_count < (arrived self.old now load).1.arrivals }
-        ensures counted { OnOk result ((self.old.arrivals < most_count) ⊎ (self.new ≡ self.old)) }
+        requires recent { IsRecent now self.old.queue }
+        ensures answer { Meets (self.old.queue.arrivals ≡ most_count) result self.new.queue (never_refused (arrived self.old.queue now load)) }
+        ensures at_limit { result ≡ Err Refusal.CountLimit → most_count < (arrived self.old.queue now load).1.arrivals }
+        ensures counted { OnOk result ((self.old.queue.arrivals < most_count) ⊎ (self.new.queue ≡ self.old.queue)) }
         ensures unchanged { OnErr result (self.new ≡ self.old) }
-        ensures recent { IsRecent now self.new }
-        ensures framed { IsFramed self.old self.new }
+        ensures recent { IsRecent now self.new.queue }
+        ensures looked { self.new.looked ≡ self.old.looked }
+        ensures framed { IsFramed self.old.queue self.new.queue }
     {
         self.queue.arrive_fifo(now, load)
     }
@@ -207,37 +215,30 @@ impl FifoQueue {
     /// and in order within each, and no more than the in-flight limit leaves room for. A group with
     /// a message in flight gives none. Each is in flight for so many seconds or else as the queue
     /// says; with 0 seconds it comes back at once. `BadTimeout` over 43,200 seconds; `CountLimit`
-    /// where one of them can be received no more; `Memory`.
+    /// where one of them can be received no more; `Memory`. `looked` tells then how many messages
+    /// it read to choose these: at least as many as it gives, and at most twice as many as were
+    /// asked for, whatever the length of the queue; after an error, what it told before.
     pub fn receive(&mut self, now: u64, max: u64, timeout: Option<u64>) -> Result<Vec<Got>, Refusal>
         requires { now ≤ most_count }
-        ensures answer { Meets (Any (λ m. m.receives ≡ most_count) (to_give self.old max 1)) (result_map_both (λ batch. batch.items) (λ refusal. refusal) result) self.new (receive self.old now max timeout 1 false) }
-        ensures counted { OnOk result (All (λ m. m.receives < most_count) (to_give self.old max 1)) }
+        ensures answer { Meets (Any (λ m. m.receives ≡ most_count) (to_give self.old.queue max 1)) (result_map_both (λ batch. batch.items) (λ refusal. refusal) result) self.new.queue (receive self.old.queue now max timeout 1 false) }
+        ensures looked { OnOk result (self.new.looked ≤ 2 * max) }
+        ensures read { IfOk result (λ batch. length batch.items ≤ self.new.looked) }
+        ensures counted { OnOk result (All (λ m. m.receives < most_count) (to_give self.old.queue max 1)) }
         ensures unchanged { OnErr result (self.new ≡ self.old) }
-        ensures kept { self.new.entries ≡ self.old.entries }
-        ensures framed { IsFramed self.old self.new }
+        ensures kept { self.new.queue.entries ≡ self.old.queue.entries }
+        ensures framed { IsFramed self.old.queue self.new.queue }
     {
-        self.queue.receive(now, max, timeout, 1, false)
+        let received = self.queue.receive_looking(now, max, timeout, 1, false)?;
+        self.looked = received.looked;
+        Ok(received.messages)
     }
 
-    /// `ReceiveMessage` as `receive` does it, with the same errors. Tells also how many messages it
-    /// read in order to choose those that it gives: at least these, and at most twice as many as were
-    /// asked for, whatever the length of the queue.
-    pub fn receive_looking(
-        &mut self,
-        now: u64,
-        max: u64,
-        timeout: Option<u64>,
-    ) -> Result<Received, Refusal>
-        requires { now ≤ most_count }
-        ensures answer { Meets (Any (λ m. m.receives ≡ most_count) (to_give self.old max 1)) (result_map_both (λ received. received.messages.items) (λ refusal. refusal) result) self.new (receive self.old now max timeout 1 false) }
-        ensures looked { IfOk result (λ received. received.looked ≤ 2 * max) }
-        ensures read { IfOk result (λ received. length received.messages.items ≤ received.looked) }
-        ensures counted { OnOk result (All (λ m. m.receives < most_count) (to_give self.old max 1)) }
-        ensures unchanged { OnErr result (self.new ≡ self.old) }
-        ensures kept { self.new.entries ≡ self.old.entries }
-        ensures framed { IsFramed self.old self.new }
+    /// How many messages the newest receive that answered `Ok` read to choose what it gave: counted as
+    /// each is read; 0 before one. Takes no memory.
+    pub fn looked(&self) -> u64
+        ensures { result ≡ self.now.looked }
     {
-        self.queue.receive_looking(now, max, timeout, 1, false)
+        self.looked
     }
 
     /// A step of a move task (`StartMessageMoveTask`) takes at most so many of the messages that
@@ -250,11 +251,12 @@ impl FifoQueue {
         max: u64,
         to: Option<u32>,
     ) -> Result<(Vec<(u32, Load)>, Rest), Refusal>
-        ensures taken { IfOk result (λ answer. take_movable self.old max to ≡ ((answer.0.items, answer.1), self.new)) }
+        ensures taken { IfOk result (λ answer. take_movable self.old.queue max to ≡ ((answer.0.items, answer.1), self.new.queue)) }
         ensures unchanged { OnErr result (self.new ≡ self.old) }
         ensures memory_only { IsOkUnless result Refusal.Memory }
-        ensures kept { self.new.entries ≡ self.old.entries }
-        ensures framed { IsFramed self.old self.new }
+        ensures kept { self.new.queue.entries ≡ self.old.queue.entries }
+        ensures looked { self.new.looked ≡ self.old.looked }
+        ensures framed { IsFramed self.old.queue self.new.queue }
     {
         self.queue.take_movable(max, to)
     }

@@ -1,0 +1,8 @@
+-- What is seen of a queue of one kind.
+use Rattle.std.specs.Prelude.{ℕ}
+use Rattle.sqs_model.specs.Queue.{Queue}
+
+-- a queue by itself, and how many messages its newest receive that answered Ok read to choose what it gave; 0 before one
+pub record Looking : Type 0 where
+  pub queue : Queue
+  pub looked : ℕ
