@@ -119,13 +119,7 @@ fn hand_on<S: Site, K: RowSink<S::Row>, R: Threads + Sync>(
 }
 
 // Goes on until nothing is left by the horizon. Rows go to the sink as they are settled.
-fn run_rounds<
-    S: Site,
-    W: PartWork<S>,
-    G: Gate<W>,
-    K: RowSink<S::Row>,
-    R: Threads + Wait + Sync,
->(
+fn run_rounds<S: Site, W: PartWork<S>, G: Gate<W>, K: RowSink<S::Row>, R: Threads + Wait + Sync>(
     rt: &R,
     handoff: &Handoff<W>,
     owner: &mut Owner<W>,
@@ -164,13 +158,7 @@ fn run_rounds<
 
 /// Runs a stage to its end, and hands all rows to the sink as it comes to them. Answers the sites of the
 /// last world, by number.
-pub fn run_stage<
-    S: Site,
-    W: PartWork<S>,
-    G: Gate<W>,
-    K: RowSink<S::Row>,
-    R: Threads + Wait + Sync,
->(
+pub fn run_stage<S: Site, W: PartWork<S>, G: Gate<W>, K: RowSink<S::Row>, R: Threads + Wait + Sync>(
     rt: &R,
     handoff: &Handoff<W>,
     owner: &mut Owner<W>,
