@@ -1,15 +1,13 @@
 //! A log and a report as a run goes on.
-ghost use Rattle.std.specs.Prelude.{◌≡◌, OnOk, false};
-ghost use Rattle.sim_recorder.specs.Sinks.{Added};
+ghost use Rattle.std.specs.Prelude.{◌≡◌, false};
 
 use crate::watch::Watch;
 use sim_clock::Refusal;
-use sim_records::{Names, Out, write_rows, write_rows_beside};
+use sim_records::{Names, Out, write_rows};
 use sim_report::Report;
 use sim_windows::RowSink;
 use sqs_message::Row;
-use std::alloc::{AllocError, Global};
-use std::thread::Threads;
+use std::alloc::Global;
 
 /// Writes rows to a writer as lines of the log, adds them to a report, and tells a watch of them. The
 /// header of the log is not its own to write.
@@ -31,24 +29,6 @@ pub struct Recorder<'a, W: Out, P: Watch> {
     pub watch: &'a mut P,
     /// How far the run goes, in milliseconds.
     pub horizon: u64,
-    /// How many threads make the lines, where threads may be started.
-    pub threads: usize,
-}
-
-// Adds rows to a report, and tells a watch of them.
-fn count<P: Watch>(
-    report: &mut Report,
-    watch: &mut P,
-    rows: &[Row],
-    horizon: u64,
-) -> Result<(), AllocError>
-    ensures { OnOk result (Added report.old rows.now report.new) }
-{
-    report.add(rows)?;
-    if let Some(last) = rows.last() {
-        watch.came_to(last.key.at, horizon, rows.len());
-    }
-    Ok(())
 }
 
 impl<W: Out, P: Watch> RowSink<Row> for Recorder<'_, W, P> {
@@ -64,14 +44,10 @@ impl<W: Out, P: Watch> RowSink<Row> for Recorder<'_, W, P> {
     #[tactic(auto, using(crate::proofs::Fronts::all_are_front))]
     fn take(&mut self, rows: &[Row]) -> Result<(), Refusal> {
         write_rows(self.alloc, self.out, rows, self.names)?;
-        count(self.report, self.watch, rows, self.horizon)?;
-        Ok(())
-    }
-
-    #[tactic(auto, using(crate::proofs::Fronts::all_are_front))]
-    fn take_beside<T: Threads + Sync>(&mut self, rt: &T, rows: &[Row]) -> Result<(), Refusal> {
-        write_rows_beside(rt, self.threads, self.alloc, self.out, rows, self.names)?;
-        count(self.report, self.watch, rows, self.horizon)?;
+        self.report.add(rows)?;
+        if let Some(last) = rows.last() {
+            self.watch.came_to(last.key.at, self.horizon, rows.len());
+        }
         Ok(())
     }
 

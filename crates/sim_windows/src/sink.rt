@@ -1,10 +1,8 @@
 //! Sinks of rows.
-ghost use denote.Param.Send.{IsSync};
 ghost use Rattle.std.specs.Prelude.{◌≡◌, ◌++◌, [], IfErr, List, OnOk};
 ghost use Rattle.sim_clock.specs.declared.refusal.Refusal.{Refusal as TheRefusal};
 
 use sim_clock::Refusal;
-use std::thread::Threads;
 
 /// Takes the rows of a run, some at a time and in order, until it answers an error.
 pub trait RowSink<R> {
@@ -28,17 +26,6 @@ pub trait RowSink<R> {
         ensures ready { OnOk result (ready self.new) }
         ensures took { OnOk result (took self.old rows.now self.new) }
         ensures broke { IfErr result (λ refusal. broke self.old rows.now refusal self.new) };
-
-    /// Takes rows as `take` does, with the same errors, and may start threads that share the work.
-    fn take_beside<T: Threads + Sync>(&mut self, _rt: &T, rows: &[R]) -> Result<(), Refusal>
-        requires threads { IsSync T.row }
-        requires ready { ready self.old }
-        ensures ready { OnOk result (ready self.new) }
-        ensures took { OnOk result (took self.old rows.now self.new) }
-        ensures broke { IfErr result (λ refusal. broke self.old rows.now refusal self.new) }
-    {
-        self.take(rows)
-    }
 
     // A sink as it was took nothing.
     ghost unchanged: { (sink : Self) → took sink [] sink };

@@ -10,7 +10,7 @@ use Rattle.sim_engine.specs.Prefixes.{is_before}
 use Rattle.sim_engine.specs.Setting.{IsRunOf, Setting}
 use Rattle.sim_engine.specs.World.{Run}
 use Rattle.sim_windows.specs.Sinks.{HasStopped, HasTaken}
-use Rattle.sim_windows.specs.Stages.{Standing, StandsOn}
+use Rattle.sim_windows.specs.Stages.{AreNext, Standing, StandsOn}
 use Rattle.sim_windows.specs.declared.lent.Came.{Came}
 use Rattle.sim_workers.specs.Paces.{word_of}
 
@@ -34,20 +34,13 @@ module _ {Site Row Transfer : Type 0} (engine : Engine Site Row Transfer) where
     RanOn s before (Ok sites) now = ready now × HasTaken engine took s before now sites.items
     RanOn s before (Err refusal) now = StopsAnyhow s before refusal now
 
+module _ {Row K : Type 0} (took : K → List Row → K → Type 0) (broke : K → List Row → Refusal → K → Type 0) where
+  -- why a run stops while a sink is handed rows: it breaks at them; or for another reason, and it took none of them, or all
+  abbrev pub StopsBeside : (Refusal → Type 0) → K → List Row → Refusal → K → Type 0
+  StopsBeside Stops before rows refusal now =
+      broke before rows refusal now ⊎ (Stops refusal × (took before [] now ⊎ took before rows now))
+
 module _ {Site Row Transfer : Type 0} (engine : Engine Site Row Transfer) (conditions : Conditions Site Transfer) {K : Type 0} where
-  -- where a sink had taken what is settled at the one, since it was so, it has taken what is settled at the other
-  abbrev pub HandsOn : (K → List Row → K → Type 0) → Standing Site Row Transfer → K → Standing Site Row Transfer → K → Type 0
-  HandsOn took g before h now =
-      (s : Setting Site) (first : K) → StandsOn engine conditions s g → HasTold engine took s g.settled first before
-      → HasTold engine took s h.settled first now
-
-  -- where a sink had taken what is settled there, the run stops so
-  abbrev pub StopsHanding : (K → List Row → K → Type 0)
-      → (K → List Row → Refusal → K → Type 0) → Standing Site Row Transfer → K → Refusal → K → Type 0
-  StopsHanding took broke g before refusal now =
-      (s : Setting Site) (first : K) → StandsOn engine conditions s g → HasTold engine took s g.settled first before
-      → HasStopped engine took broke s first refusal now
-
   -- a sink takes what is settled at the other, of whatever setting the one stands on; and the run stops so
   abbrev pub Told : (K → List Row → K → Type 0) → Standing Site Row Transfer → K → Standing Site Row Transfer → K → Type 0
   Told took g before h now = (s : Setting Site) → StandsOn engine conditions s g → HasTold engine took s h.settled before now
@@ -56,3 +49,9 @@ module _ {Site Row Transfer : Type 0} (engine : Engine Site Row Transfer) (condi
       → (K → List Row → Refusal → K → Type 0) → Standing Site Row Transfer → K → Refusal → K → Type 0
   Stopped took broke g before refusal now =
       (s : Setting Site) → StandsOn engine conditions s g → HasStopped engine took broke s before refusal now
+
+  -- a sink takes what is settled at the other but for these rows, the last of it
+  pub record ToldBut (took : K → List Row → K → Type 0) (g : Standing Site Row Transfer) (before : K) (h : Standing Site Row Transfer) (now : K) (rows : List Row) : Type 0 where
+    pub moment : ℕ
+    pub told : (s : Setting Site) → StandsOn engine conditions s g → HasTold engine took s moment before now
+    pub next : (s : Setting Site) → StandsOn engine conditions s g → AreNext engine s moment h.settled rows

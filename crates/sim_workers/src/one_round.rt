@@ -1,6 +1,6 @@
 //! One round: each partition that has something due before its bound runs to it.
 ghost use Rattle.std.specs.Prelude.{◌≡◌, ◌≢◌, ◌<◌, ◌≤◌, ◌+◌, ℕ, All, [], length, map, vec_capacity};
-ghost use Rattle.std.specs.Prelude.{None, Ok, Some, IfOk, IfErr, nat_lt};
+ghost use Rattle.std.specs.Prelude.{None, Ok, OnOk, Some, IfOk, IfErr, nat_lt};
 ghost use Rattle.sim_clock.specs.Order.{due_before};
 ghost use Rattle.sim_engine.specs.Limits.{most_count};
 ghost use Rattle.sim_engine.specs.World.{world_due};
@@ -10,7 +10,7 @@ ghost use Rattle.sim_partition.specs.Sites.{AreOfPast, due_in};
 ghost use Rattle.sim_workers.specs.Owners.{IsAllFree, IsResting, AreResting, IsSentOut, AreSentOut};
 ghost use Rattle.sim_workers.specs.Owners.{IsCollected, AreCollected};
 ghost use Rattle.sim_windows.specs.Rounds.{Comes, HaveCome};
-ghost use Rattle.sim_workers.specs.Runs.{rows_made};
+ghost use Rattle.sim_workers.specs.Runs.{StopsBeside, rows_made};
 ghost use Rattle.sim_workers.specs.Rounds.{IsRefusedRound, gravest, gravest_of};
 
 use crate::gate::Gate;
@@ -21,11 +21,12 @@ use sim_clock::Refusal;
 use sim_engine::{Effects, Site};
 use sim_handoff::{Hand, Handoff, Owner};
 use sim_partition::Partition;
-use sim_windows::Came;
+use sim_windows::{Came, RowSink};
 use std::alloc::Global;
 use std::sync::Wait;
 
-// A round of fewer rows is followed by one that the owner's own thread runs.
+// A round of fewer rows is followed by one that the owner's own thread runs, and for fewer that are handed
+// on no hands are called.
 const FEW: u64 = 1_024;
 
 // What comes of a partition that is run to its bound.
@@ -204,15 +205,34 @@ fn are_few<S: Site>(came: &Result<Vec<Came<S>>, Refusal>) -> bool
     }
 }
 
+// Hands rows on, while the hands of other threads do what is offered; for few rows they are not called.
+fn hand_on<S: Site, W: PartWork<S>, K: RowSink<S::Row>>(
+    handoff: &Handoff<W>,
+    rows: &[S::Row],
+    sink: &mut K,
+) -> Result<(), Refusal>
+    requires ready { K.ready sink.old }
+    ensures ready { OnOk result (K.ready sink.new) }
+    ensures took { OnOk result (K.took sink.old rows.now sink.new) }
+    ensures broke { IfErr result (λ refusal. K.broke sink.old rows.now refusal sink.new) }
+{
+    if rows.len() as u64 >= FEW {
+        handoff.offers().ring();
+    }
+    sink.take(rows)
+}
+
 /// Runs every partition that has something due before its bound to that bound, on whatever threads
-/// have hands. All that was offered is collected, also where one is refused. Where the round before made
-/// few rows, hands that wait are not called, and the owner's own thread runs all.
+/// have hands, while the owner's own hands rows on to the sink and then runs partitions too. All that was
+/// offered is collected, also where one is refused. Where the round before made few rows, and few are
+/// handed on, hands that wait are not called, and the owner's own thread runs all.
 ///
 /// # Errors
 ///
-/// `Memory` where a growth is refused here, before anything is offered. Else, where partitions are
-/// spent by refusals, `Memory` where one of these is, and else that of the first.
-pub fn round<S: Site, W: PartWork<S>, G: Gate<W>, R: Wait>(
+/// `Memory` where a growth is refused here, before anything is offered or handed on. The sink's refusal,
+/// where it breaks at these rows. Else, where partitions are spent by refusals, `Memory` where one of these
+/// is, and else that of the first.
+pub fn round<S: Site, W: PartWork<S>, G: Gate<W>, K: RowSink<S::Row>, R: Wait>(
     rt: &R,
     alloc: Global,
     handoff: &Handoff<W>,
@@ -221,6 +241,8 @@ pub fn round<S: Site, W: PartWork<S>, G: Gate<W>, R: Wait>(
     gate: &G,
     bounds: &[u64],
     parts: Vec<Partition<S>>,
+    rows: &[S::Row],
+    sink: &mut K,
 ) -> Result<Vec<Came<S>>, Refusal>
     requires here { owner_table owner.old ≡ table_of handoff.now }
     requires idle { IsIdleHand (table_of handoff.now) hand.old }
@@ -228,18 +250,24 @@ pub fn round<S: Site, W: PartWork<S>, G: Gate<W>, R: Wait>(
     requires bounds { length bounds.now ≡ length parts.items }
     requires range { All (λ b. b ≤ most_count + 1) bounds.now }
     requires free { IsAllFree (owner_record owner.old) }
+    requires ready { K.ready sink.old }
     ensures here { owner_table owner.new ≡ table_of handoff.now }
     ensures idle { IsIdleHand (table_of handoff.now) hand.new }
     ensures free { IsAllFree (owner_record owner.new) }
+    ensures ready { OnOk result (K.ready sink.new) }
+    ensures took { OnOk result (K.took sink.old rows.now sink.new) }
     ensures came { IfOk result (λ came. HaveCome S.engine S.conditions bounds.now parts.items came.items) }
-    ensures refused { IfErr result (IsRefusedRound S.engine S.conditions bounds.now parts.items) }
+    ensures stops { IfErr result (λ refusal.
+        StopsBeside K.took K.broke (IsRefusedRound S.engine S.conditions bounds.now parts.items) sink.old rows.now refusal sink.new) }
 {
     let homes = Vec::with_capacity(alloc, parts.len())?;
     let came = Vec::with_capacity(alloc, parts.len())?;
     let all = Vec::with_capacity(alloc, parts.len())?;
     let homes = offer_due(alloc, handoff, owner, bounds, parts, homes);
+    let handed = hand_on(handoff, rows, sink);
     let outcomes = collect_all(rt, handoff, owner, hand, gate, homes, came);
     let came = all_came(outcomes, all);
     owner.work_alone(are_few(&came));
+    handed?;
     came
 }

@@ -10,7 +10,6 @@ use sim_site::Site;
 use sim_windows::RowSink;
 use sqs_message::{Row, RowReceipt};
 use sqs_model::MOST_COUNT;
-use std::thread::Threads;
 
 /// A sink before which rows are looked at. It refuses them with `CountLimit` where one tells of a count
 /// past 2^62 - 1: no queue makes such a row.
@@ -52,13 +51,6 @@ impl<K: RowSink<Row>> RowSink<Row> for Limited<'_, K> {
             return Err(Refusal::CountLimit);
         }
         self.sink.take(rows)
-    }
-
-    fn take_beside<T: Threads + Sync>(&mut self, rt: &T, rows: &[Row]) -> Result<(), Refusal> {
-        if !are_within(rows) {
-            return Err(Refusal::CountLimit);
-        }
-        self.sink.take_beside(rt, rows)
     }
 
     ghost unchanged = { λ limited. took_none K.took K.unchanged limited };

@@ -51,7 +51,6 @@ fn run_rows<'a, G: Gate<Running> + Sync, L: Out, P: Watch, W: Threads + Wait + S
         report,
         watch,
         horizon,
-        threads: split.workers,
     };
     run_workers(
         rt,

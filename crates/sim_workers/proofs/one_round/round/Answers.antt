@@ -2,6 +2,7 @@ use Rattle.std.proofs.Common.{rules, ◌≡◌, ◌≤◌, length, arith, subst,
 use Rattle.std.proofs.lemmas.Result.{IfOk-weaker, IfErr-weaker}
 use Rattle.sim_windows.specs.Rounds.{AllCome, HaveCome}
 use Rattle.sim_workers.specs.Rounds.{IsRefusedRound, gravest}
+use Rattle.sim_workers.specs.Runs.{StopsBeside}
 use Rattle.sim_handoff.specs.Seats.{owner_record}
 use Rattle.sim_workers.proofs.Sendings.{as_many_homes, as_many_outcomes, resting_of, round_of}
 use Rattle.sim_workers.proofs.one_round.round.Goals as goal
@@ -63,16 +64,18 @@ returns-clause-came g c =
     (λ all is. subst (λ os. AllCome e k bounds parts os) is come)
     c.all_came-came.ensures.came
 
-pub returns-clause-refused : goal.returns-clause-refused
-returns-clause-refused g c =
+pub returns-clause-stops : goal.returns-clause-stops
+returns-clause-stops g c =
     let e = g.S.Site.engine in
     let k = g.S.Site.conditions in
     let owner = owner_record c.offer_due-homes.new.owner in
     let bounds = c.args.bounds.now in
     let parts = c.args.parts.items in
+    let rows = c.args.rows.now in
     let outcomes = c.collect_all-outcomes.result.items in
     let sent = c.offer_due-homes.ensures.sent in
     let come = round_of e k g.W.Packs.packed owner bounds _ _ _ c.requires.bounds sent c.collect_all-outcomes.ensures.collected in
-    IfErr-weaker c.all_came-came.result (λ refusal. gravest outcomes ≡ Some refusal) (IsRefusedRound e k bounds parts)
-    (λ refusal is. inr (record { outcomes = outcomes; come = come; graver = is }))
+    IfErr-weaker c.all_came-came.result (λ refusal. gravest outcomes ≡ Some refusal)
+    (λ refusal. StopsBeside g.K.RowSink.took g.K.RowSink.broke (IsRefusedRound e k bounds parts) c.args.sink.now rows refusal c.hand_on-handed.new.sink)
+    (λ refusal is. inr (inr (record { outcomes = outcomes; come = come; graver = is }), inr c.in_ok-handed.ensures.took))
     c.all_came-came.ensures.refused

@@ -13,24 +13,24 @@ returns-in_err-ended-clause-stops g c =
     stops_so laws g.K.RowSink.took g.K.RowSink.broke s c.in_ok-stage.stage (ran.on s on) c.in_ok-stage.stage.settled c.args.sink.now c.run_rounds.new.sink (ran.told s on) c.in_err-ended.field-0.0
     (memory_stops laws s c.in_err-ended.field-0.0 c.in_err-ended.ensures.memory))
 
-pub returns-in_err-take_beside-clause-stops : goal.returns-in_err-take_beside-clause-stops
-returns-in_err-take_beside-clause-stops g c =
+pub returns-in_err-take-clause-stops : goal.returns-in_err-take-clause-stops
+returns-in_err-take-clause-stops g c =
     let laws = g.met.S.Site.laws in
     let ran = c.in_ok-stage.ensures in
-    let broken = subst (λ rows. g.K.RowSink.broke c.run_rounds.new.sink rows c.in_err-take_beside.field-0.0 c.take_beside.new.self) c.as_slice.ensures.value c.in_err-take_beside.ensures.broke in
-    let told = err_from_is_err_and c.from_residual-in_err-take_beside.result c.from_residual-in_err-take_beside.ensures.1 in
+    let broken = subst (λ rows. g.K.RowSink.broke c.run_rounds.new.sink rows c.in_err-take.field-0.0 c.take.new.self) c.deref.ensures.value c.in_err-take.ensures.broke in
+    let told = err_from_is_err_and c.from_residual-in_err-take.result c.from_residual-in_err-take.ensures.1 in
     rw (told.1, told.2) (λ s on.
     let rest : HasRest g.S.Site.engine s c.in_ok-stage.stage.settled c.in_ok-ended.ended.rows.items c.in_ok-ended.ended.sites.items = c.in_ok-ended.ensures.ended ran.ended s (ran.on s on) in
-    breaks_last laws g.K.RowSink.took g.K.RowSink.broke s c.in_ok-stage.stage (ran.on s on) c.in_ok-stage.stage.settled c.args.sink.now c.run_rounds.new.sink (ran.told s on) g.met.K.RowSink.broke_later c.in_ok-ended.ended.rows.items c.in_err-take_beside.field-0.0 c.take_beside.new.self broken rest.run rest.is rest.rows_are)
+    breaks_last laws g.K.RowSink.took g.K.RowSink.broke s c.in_ok-stage.stage (ran.on s on) c.in_ok-stage.stage.settled c.args.sink.now c.run_rounds.new.sink (ran.told s on) g.met.K.RowSink.broke_later c.in_ok-ended.ended.rows.items c.in_err-take.field-0.0 c.take.new.self broken rest.run rest.is rest.rows_are)
 
 pub returns-clause-whole : goal.returns-clause-whole
 returns-clause-whole g c = λ s on.
     let ran = c.in_ok-stage.ensures in
     let rest : HasRest g.S.Site.engine s c.in_ok-stage.stage.settled c.in_ok-ended.ended.rows.items c.in_ok-ended.ended.sites.items = c.in_ok-ended.ensures.ended ran.ended s (ran.on s on) in
-    let taken = subst (λ rows. g.K.RowSink.took c.run_rounds.new.sink rows c.take_beside.new.self) c.as_slice.ensures.value c.in_ok-take_beside.ensures.took in
+    let taken = subst (λ rows. g.K.RowSink.took c.run_rounds.new.sink rows c.take.new.self) c.deref.ensures.value c.in_ok-take.ensures.took in
     record {
       run = rest.run;
       is = rest.is;
-      taken = subst (λ rows. g.K.RowSink.took c.args.sink.now rows c.take_beside.new.self) rest.rows_are (g.met.K.RowSink.took_both _ _ _ _ _ (ran.told s on rest.run rest.is) taken);
+      taken = subst (λ rows. g.K.RowSink.took c.args.sink.now rows c.take.new.self) rest.rows_are (g.met.K.RowSink.took_both _ _ _ _ _ (ran.told s on rest.run rest.is) taken);
       sites_are = rest.sites_are;
     }
