@@ -1,10 +1,12 @@
 //! Partitions.
-ghost use Rattle.std.specs.Prelude.{◌≡◌, ◌+◌, ◌≤◌, All, Err, List, Ok, Some, IfErr, IfOk, OnOk, ℕ};
+ghost use Rattle.std.specs.Prelude.{◌≡◌, ◌+◌, ◌≤◌, All, Err, List, None, Ok, Some, IfErr, IfOk, OnOk, ℕ};
+ghost use Rattle.sim_clock.specs.Order.{due_before};
 ghost use Rattle.sim_clock.specs.declared.key.Key.{Key as TheKey};
 ghost use Rattle.sim_engine.specs.Limits.{most_count};
+ghost use Rattle.sim_engine.specs.Rounds.{part_begun};
 ghost use Rattle.sim_engine.specs.World.{arrival, delivered, handled_among, world_due};
-ghost use Rattle.sim_partition.specs.Sites.{AreOfPast, HasDue, IsPart, due_in, refusal_in};
-ghost use Rattle.sim_partition.specs.Steps.{RanTo, StopsRun, StopsStep};
+ghost use Rattle.sim_partition.specs.Sites.{AreOfPast, HasDue, IsKept, IsPart, due_in, refusal_in};
+ghost use Rattle.sim_partition.specs.Steps.{Continues, RanTo, StaysOfPast, StopsFrom, StopsRun, StopsStep, part_made};
 
 use crate::delivery::deliver_all;
 use crate::handling::{handle_least, run_before};
@@ -24,6 +26,32 @@ pub struct Partition<S: Site> {
     sites: Vec<S>,
     dues: Marks,
     spent: Option<Refusal>,
+    // How many rows its last run made: the next one asks for room for as many at once.
+    made: usize,
+}
+
+// Handles all that is due before a moment. Room for so many rows is asked for at once.
+fn made_before<S: Site>(
+    alloc: Global,
+    sites: &mut Vec<S>,
+    dues: &mut Marks,
+    end: u64,
+    room: usize,
+) -> Result<Effects<S::Row, S::Transfer>, Refusal>
+    requires kept { IsKept S.engine S.conditions sites.old.items dues.old }
+    requires end { end ≤ most_count + 1 }
+    ensures goes_on { IfOk result (λ made.
+        Continues S.engine end (part_begun S.engine sites.old.items) (part_made S.engine sites.new.items made)) }
+    ensures done { OnOk result (due_before end (world_due S.engine sites.new.items) ≡ None) }
+    ensures kept { OnOk result (IsKept S.engine S.conditions sites.new.items dues.new) }
+    ensures past { OnOk result (StaysOfPast S.conditions end sites.old.items sites.new.items) }
+    ensures timely { IfOk result (λ made. All S.conditions.Timely made.sent.items) }
+    ensures stops { IfErr result (StopsFrom S.engine end (part_begun S.engine sites.old.items)) }
+{
+    let mut effects = Effects::new(alloc);
+    effects.rows.reserve(room)?;
+    run_before(sites, dues, end, &mut effects)?;
+    Ok(effects)
 }
 
 impl<S: Site> Model for Partition<S> {
@@ -50,6 +78,7 @@ impl<S: Site> Partition<S> {
             sites,
             dues,
             spent: None,
+            made: 0,
         })
     }
 
@@ -123,12 +152,16 @@ impl<S: Site> Partition<S> {
         if let Some(refusal) = self.spent {
             return Err(refusal);
         }
-        let mut effects = Effects::new(self.alloc);
-        if let Err(refusal) = run_before(&mut self.sites, &mut self.dues, end, &mut effects) {
-            self.spent = Some(refusal);
-            return Err(refusal);
+        match made_before(self.alloc, &mut self.sites, &mut self.dues, end, self.made) {
+            Ok(effects) => {
+                self.made = effects.rows.len();
+                Ok(effects)
+            }
+            Err(refusal) => {
+                self.spent = Some(refusal);
+                Err(refusal)
+            }
         }
-        Ok(effects)
     }
 
     /// Transfers are on their way to its sites from now on; those to a site that is not there

@@ -22,8 +22,15 @@ fn are_before<S: Site>(rows: &[S::Row], moment: u64) -> bool
     rows.iter().all(|row| S::row_key(row).at < moment)
 }
 
-// Parts rows at a moment. Where all are from before it, they stay in their list.
-fn part_rows<S: Site>(
+// Whether none is.
+fn none_before<S: Site>(rows: &[S::Row], moment: u64) -> bool
+    ensures { result ≡ list_all (λ r. not (is_before S.engine moment r)) rows.now }
+{
+    rows.iter().all(|row| !(S::row_key(row).at < moment))
+}
+
+// Parts rows at a moment, one by one.
+fn part_each<S: Site>(
     alloc: Global,
     rows: Vec<S::Row>,
     moment: u64,
@@ -31,13 +38,6 @@ fn part_rows<S: Site>(
     ensures before { IfOk result (λ parted. parted.before.items ≡ filter (is_before S.engine moment) rows.items) }
     ensures others { IfOk result (λ parted. parted.others.items ≡ filter (λ r. not (is_before S.engine moment r)) rows.items) }
 {
-    if are_before::<S>(&rows, moment) {
-        let others = Vec::new(alloc);
-        return Ok(Parted {
-            before: rows,
-            others,
-        });
-    }
     let mut before = Vec::new(alloc);
     let mut others = Vec::new(alloc);
     for row in rows {
@@ -48,6 +48,27 @@ fn part_rows<S: Site>(
         }
     }
     Ok(Parted { before, others })
+}
+
+// Parts rows at a moment. Where those from before it come first, they stay in their list.
+fn part_rows<S: Site>(
+    alloc: Global,
+    mut rows: Vec<S::Row>,
+    moment: u64,
+) -> Result<Parted<S::Row>, AllocError>
+    ensures before { IfOk result (λ parted. parted.before.items ≡ filter (is_before S.engine moment) rows.items) }
+    ensures others { IfOk result (λ parted. parted.others.items ≡ filter (λ r. not (is_before S.engine moment r)) rows.items) }
+{
+    let place = rows.partition_point(|row| S::row_key(row).at < moment);
+    let (first, rest) = rows.split_at(place);
+    if !are_before::<S>(first, moment) || !none_before::<S>(rest, moment) {
+        return part_each::<S>(alloc, rows, moment);
+    }
+    let others = rows.split_off(place)?;
+    Ok(Parted {
+        before: rows,
+        others,
+    })
 }
 
 /// The rows of each partition in two, those from before a moment in one list, in the order of keys,

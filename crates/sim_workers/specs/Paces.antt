@@ -27,7 +27,7 @@ added p rows = record p { made = word_of (p.made + rows); fresh = word_of (p.fre
 
 -- whether enough rows wait
 abbrev pub is_full : Pace → Bool
-is_full p = nat_le 4096 p.fresh && nat_le p.kept p.fresh
+is_full p = nat_le 1024 p.fresh && nat_le p.kept p.fresh
 
 -- with so many of those that wait settled
 abbrev pub settled_after : Pace → ℕ → Pace

@@ -9,7 +9,7 @@ const MANY: u64 = 65_536;
 // The longest stretch, in milliseconds.
 const LONGEST: u64 = 60_000;
 // Rows are settled once so many are new.
-const FULL: u64 = 4_096;
+const FULL: u64 = 1_024;
 
 /// How far rounds go. Time is cut into stretches: no round goes past the end of its stretch. A stretch of
 /// few rows is followed by one twice as long, and one of many by one half as long. It counts the rows

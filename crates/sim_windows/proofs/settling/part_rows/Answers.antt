@@ -1,27 +1,44 @@
-use Rattle.std.proofs.Common.{Bool, List, [], ap, false, filter, not, refl, sym, true, ◌&&◌, ◌∙◌, ◌∷◌, ◌≡◌}
+use Rattle.std.proofs.Common.{Bool, List, [], ap, drop, false, filter, not, refl, sym, take, true, ◌&&◌, ◌++◌, ◌∙◌, ◌∷◌, ◌≡◌}
+use Rattle.std.proofs.lemmas.List.{take-append-drop}
 use Rattle.std.specs.List.{list_all}
 use Rattle.sim_engine.specs.Prefixes.{is_before}
 use Rattle.sim_windows.proofs.settling.part_rows.Goals as goal
 
--- where all pass a test, all are kept by it, and none by the other
-record IsWhole {X : Type 0} (p : X → Bool) (xs : List X) : Type 0 where
-  kept : filter p xs ≡ xs
-  left : filter (λ x. not (p x)) xs ≡ []
+-- of two lists behind each other a test keeps the one, and its opposite the other
+record Parts {X : Type 0} (p : X → Bool) (xs ys : List X) : Type 0 where
+  kept : filter p (xs ++ ys) ≡ xs
+  left : filter (λ x. not (p x)) (xs ++ ys) ≡ ys
 
-one_more : {X : Type 0} (p : X → Bool) (x : X) (xs : List X) (b : Bool) → p x ≡ b → (b && list_all p xs) ≡ true → (list_all p xs ≡ true → IsWhole p xs) → IsWhole p (x ∷ xs)
-one_more p x xs true e h rest = let w : IsWhole p xs = rest h in record { kept = rw e (ap (λ r. x ∷ r) w.kept); left = rw e w.left }
-one_more p x xs false e h rest = let n : false ≡ true = h in cc
+one_other : {X : Type 0} (p : X → Bool) (y : X) (ys : List X) (b : Bool) → p y ≡ b → (not b && list_all (λ x. not (p x)) ys) ≡ true → (list_all (λ x. not (p x)) ys ≡ true → Parts p [] ys) → Parts p [] (y ∷ ys)
+one_other p y ys true e h rest = let n : false ≡ true = h in cc
+one_other p y ys false e h rest = let w : Parts p [] ys = rest h in record { kept = rw e w.kept; left = rw e (ap (λ r. y ∷ r) w.left) }
 
-whole : {X : Type 0} (p : X → Bool) (xs : List X) → list_all p xs ≡ true → IsWhole p xs
-whole p [] h = record { kept = refl; left = refl }
-whole p (x ∷ xs) h = one_more p x xs (p x) refl h (whole p xs)
+others_only : {X : Type 0} (p : X → Bool) (ys : List X) → list_all (λ x. not (p x)) ys ≡ true → Parts p [] ys
+others_only p [] h = record { kept = refl; left = refl }
+others_only p (y ∷ ys) h = one_other p y ys (p y) refl h (others_only p ys)
 
-pub returns-then-are_before-clause-before : goal.returns-then-are_before-clause-before
-returns-then-are_before-clause-before given c =
-    let engine = given.S.Site.engine in
-    sym (whole (is_before engine c.args.moment) c.args.rows.items (sym (c.are_before.ensures ∙ ap (list_all (is_before engine c.args.moment)) c.deref.ensures.value) ∙ c.if-are_before.true)).kept
+one_before : {X : Type 0} (p : X → Bool) (x : X) (xs ys : List X) (b : Bool) → p x ≡ b → (b && list_all p xs) ≡ true → (list_all p xs ≡ true → Parts p xs ys) → Parts p (x ∷ xs) ys
+one_before p x xs ys true e h rest = let w : Parts p xs ys = rest h in record { kept = rw e (ap (λ r. x ∷ r) w.kept); left = rw e w.left }
+one_before p x xs ys false e h rest = let n : false ≡ true = h in cc
 
-pub returns-then-are_before-clause-others : goal.returns-then-are_before-clause-others
-returns-then-are_before-clause-others given c =
-    let engine = given.S.Site.engine in
-    c.new-others.ensures.items ∙ sym (whole (is_before engine c.args.moment) c.args.rows.items (sym (c.are_before.ensures ∙ ap (list_all (is_before engine c.args.moment)) c.deref.ensures.value) ∙ c.if-are_before.true)).left
+parts : {X : Type 0} (p : X → Bool) (xs ys : List X) → list_all p xs ≡ true → list_all (λ x. not (p x)) ys ≡ true → Parts p xs ys
+parts p [] ys h k = others_only p ys k
+parts p (x ∷ xs) ys h k = one_before p x xs ys (p x) refl h (λ rest. parts p xs ys rest k)
+
+pub returns-clause-before : goal.returns-clause-before
+returns-clause-before g c =
+    let p = is_before g.S.Site.engine c.args.moment in
+    let rows = c.args.rows.items in
+    let place = c.partition_point-place.result in
+    let first : list_all p (take place rows) ≡ true = ap (list_all p) (ap (take place) (sym c.deref-2.ensures.value) ∙ sym c.split_at.ensures.front) ∙ sym c.are_before.ensures ∙ c.if-not-are_before.false in
+    let rest : list_all (λ r. not (p r)) (drop place rows) ≡ true = ap (list_all (λ r. not (p r))) (ap (drop place) (sym c.deref-2.ensures.value) ∙ sym c.split_at.ensures.back) ∙ sym c.none_before.ensures ∙ c.if-not-none_before.false in
+    c.in_ok-others.ensures.items ∙ sym (parts p (take place rows) (drop place rows) first rest).kept ∙ ap (filter p) (take-append-drop place rows)
+
+pub returns-clause-others : goal.returns-clause-others
+returns-clause-others g c =
+    let p = is_before g.S.Site.engine c.args.moment in
+    let rows = c.args.rows.items in
+    let place = c.partition_point-place.result in
+    let first : list_all p (take place rows) ≡ true = ap (list_all p) (ap (take place) (sym c.deref-2.ensures.value) ∙ sym c.split_at.ensures.front) ∙ sym c.are_before.ensures ∙ c.if-not-are_before.false in
+    let rest : list_all (λ r. not (p r)) (drop place rows) ≡ true = ap (list_all (λ r. not (p r))) (ap (drop place) (sym c.deref-2.ensures.value) ∙ sym c.split_at.ensures.back) ∙ sym c.none_before.ensures ∙ c.if-not-none_before.false in
+    c.in_ok-others.ensures.tail ∙ sym (parts p (take place rows) (drop place rows) first rest).left ∙ ap (filter (λ r. not (p r))) (take-append-drop place rows)

@@ -14,16 +14,15 @@ returns-in-Err-clause-stops g c =
     let refusal = c.in-Err.refusal in
     lives_as (λ v. StopsRun e c.args.end v refusal) c.args.self.now w (now_lives c.self.inside.spent w c.args.self.now c.in_default.is c.self.view_is)
     (stops_run g.met.S.Site.laws c.args.end w refusal
-    (subst (λ (r : PartRun e). StopsFrom e c.args.end r refusal) (begins e w c.new-effects.result c.new-effects.ensures.rows c.new-effects.ensures.sent) c.in-Err.ensures.stops))
+    c.in-Err.ensures.stops)
 
-pub returns-clause-ran : goal.returns-clause-ran
-returns-clause-ran g c =
+pub returns-in-Ok-clause-ran : goal.returns-in-Ok-clause-ran
+returns-in-Ok-clause-ran g c =
     let e = g.S.Site.engine in
     let w = c.self.inside.sites.items in
-    let v = c.run_before.new.sites.items in
-    let x : PartRun e = part_made e v c.run_before.new.effects in
-    let on : Continues e c.args.end (part_begun e w) x =
-    subst (λ (r : PartRun e). Continues e c.args.end r x) (begins e w c.new-effects.result c.new-effects.ensures.rows c.new-effects.ensures.sent) c.in_default-run_before.ensures.goes_on in
+    let v = c.made_before.new.sites.items in
+    let x : PartRun e = part_made e v c.in-Ok.effects in
+    let on : Continues e c.args.end (part_begun e w) x = c.in-Ok.ensures.goes_on in
     lives_as _ c.args.self.now w (now_lives c.self.inside.spent w c.args.self.now c.in_default.is c.self.view_is)
     (record {
       sites = v;
@@ -32,14 +31,14 @@ returns-clause-ran g c =
           record {
             steps = on.steps;
             reached = after_more g.met.S.Site.laws c.args.end on.steps w ∙ on.reached;
-            done = c.in_default-run_before.ensures.done;
+            done = c.in-Ok.ensures.done;
           };
     })
 
-pub returns-clause-past : goal.returns-clause-past
-returns-clause-past g c =
+pub returns-in-Ok-clause-past : goal.returns-in-Ok-clause-past
+returns-in-Ok-clause-past g c =
     let e = g.S.Site.engine in
     let w = c.self.inside.sites.items in
-    let v = c.run_before.new.sites.items in
+    let v = c.made_before.new.sites.items in
     lives_as _ c.args.self.now w (now_lives c.self.inside.spent w c.args.self.now c.in_default.is c.self.view_is)
-    (λ moment l p. lives_as (All (g.S.Site.conditions.Past moment)) (spent_or c.self.inside.spent v) v (ap (λ s. spent_or s v) c.in_default.is) (c.in_default-run_before.ensures.past moment l p))
+    (λ moment l p. lives_as (All (g.S.Site.conditions.Past moment)) (spent_or c.self.inside.spent v) v (ap (λ s. spent_or s v) c.in_default.is) (c.in-Ok.ensures.past moment l p))

@@ -1,6 +1,6 @@
 use Rattle.std.proofs.Common.{filter, not, ◌≡◌}
 use Rattle.sim_engine.specs.Prefixes.{is_before}
-use Rattle.sim_windows.proofs.settling.part_rows.Given as goal
+use Rattle.sim_windows.proofs.settling.part_each.Given as goal
 
 -- those so far
 abbrev pub invariant-loop-row : goal.invariant-loop-row
