@@ -57,6 +57,7 @@ pub(crate) fn answer_name(answer: RowAnswer) -> &'static str
 }
 
 // The column of a name: that of an agent, empty where none has the number.
+#[inline(always)]
 #[tactic(auto, using(crate::proofs::Plain::name_plain))]
 pub(crate) fn add_name(fields: &mut Fields, names: &Names, number: u32) -> Result<(), AllocError>
     ensures { OnOk result (fields.new ≡ with_field fields.old (name_at names.now number)) }
@@ -93,23 +94,23 @@ pub(crate) fn add_receipt(fields: &mut Fields, receipt: &RowReceipt) -> Result<(
 // The detail column.
 pub(crate) fn add_detail(
     fields: &mut Fields,
-    detail: Detail,
+    detail: &Detail,
     names: &Names,
 ) -> Result<(), AllocError>
-    ensures { OnOk result (fields.new ≡ with_field fields.old (detail_text names.now detail)) }
+    ensures { OnOk result (fields.new ≡ with_field fields.old (detail_text names.now detail.now)) }
 {
     match detail {
         Detail::Absent => fields.plain(b""),
-        Detail::Digest(md5) => fields.digest(&md5),
-        Detail::From(origin) => fields.origin(origin),
+        Detail::Digest(md5) => fields.digest(md5),
+        Detail::From(origin) => fields.origin(*origin),
         Detail::Age(number) | Detail::Timeout(number) | Detail::Moved(number) => {
-            fields.number(number)
+            fields.number(*number)
         }
-        Detail::Queue(number) | Detail::Task(number) => add_name(fields, names, number),
+        Detail::Queue(number) | Detail::Task(number) => add_name(fields, names, *number),
         Detail::Counts {
             visible,
             in_flight,
             delayed,
-        } => fields.counts(visible, in_flight, delayed),
+        } => fields.counts(*visible, *in_flight, *delayed),
     }
 }

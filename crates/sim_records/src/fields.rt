@@ -127,6 +127,7 @@ impl Fields {
     }
 
     /// A field that needs no quotes.
+    #[inline(always)]
     pub(crate) fn plain(&mut self, field: &[u8]) -> Result<(), AllocError>
         requires { IsPlain field.now }
         ensures { OnOk result (self.new ≡ with_field self.old field.now) }
@@ -158,6 +159,7 @@ impl Fields {
     }
 
     /// A number in decimal.
+    #[inline(always)]
     pub(crate) fn number(&mut self, number: u64) -> Result<(), AllocError>
         ensures { OnOk result (self.new ≡ with_field self.old (decimal number)) }
     {
@@ -167,6 +169,7 @@ impl Fields {
     }
 
     // A mark and two numbers, as `m-0-12`.
+    #[inline(always)]
     fn numbered(&mut self, mark: u8, site: u32, number: u64) -> Result<(), AllocError>
         requires { needs_byte default_writer mark ≡ false }
         ensures { OnOk result (self.new ≡ with_field self.old (mark ∷ (codes "-" ++ (decimal site ++ (codes "-" ++ decimal number))))) }

@@ -43,7 +43,7 @@ impl Record for Row {
         fields.plain(answer_name(self.answer).as_bytes())?;
         add_message(fields, self.message)?;
         add_receipt(fields, &self.receipt)?;
-        add_detail(fields, self.detail, names)
+        add_detail(fields, &self.detail, names)
     }
 }
 
