@@ -1,5 +1,5 @@
 -- Fields that need no quotes: numbers, ids, receipts, digests and counts.
-use Rattle.std.proofs.Common.{Bool, not, true≢false, ◌&&◌, List, [], arith, ap, append_assoc, false, get_or, length, drop, take, slice_set, subst, refl, slice_index, suc, sym, ◌-◌, ◌+◌, true, zero, ℕ, ◌++◌, ◌/◌, ◌%◌, ◌<◌, ◌==◌, ◌^◌, ◌∙◌, ◌∷◌, ◌≡◌, ◌≤◌, ◌||◌, if◌then◌else◌}
+use Rattle.std.proofs.Common.{Bool, not, true≢false, ◌&&◌, List, [], arith, ap, false, get_or, length, drop, take, slice_set, subst, refl, slice_index, suc, sym, ◌-◌, true, zero, ℕ, ◌++◌, ◌/◌, ◌%◌, ◌<◌, ◌==◌, ◌^◌, ◌∙◌, ◌∷◌, ◌≡◌, ◌≤◌, ◌||◌, if◌then◌else◌}
 use Rattle.std.specs.Fmt.{decimal}
 use Rattle.std.specs.List.{list_any}
 use Rattle.std.proofs.lemmas.Fmt.{decimal_is_IsNumeral, length-decimal-le}
@@ -9,7 +9,7 @@ use Rattle.std.proofs.lemmas.List.Folds.{list_any-append}
 use Rattle.std.proofs.lemmas.Str.Parse.{digit_at}
 use Rattle.csv.specs.Writing.{default_writer, field_text, needs_byte, needs_quotes, quoted}
 use Rattle.hex.specs.Hex.{encode_lower, encode_with, lower_digits}
-use Rattle.sim_records.specs.Lines.{Begun, IsPlain, none_quoted, field_begun, with_field, with_text}
+use Rattle.sim_records.specs.Lines.{IsPlain, none_quoted}
 
 -- such a field is written as it is
 pub field_plain : (f : List ℕ) → IsPlain f → field_text default_writer f ≡ f

@@ -2,6 +2,7 @@
 #![tactic(auto)]
 
 mod columns;
+mod digest;
 mod fields;
 mod finals;
 mod line;

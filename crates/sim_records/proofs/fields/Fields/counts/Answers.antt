@@ -1,4 +1,4 @@
-use Rattle.std.proofs.Common.{[], ap, arith, drop, length, refl, ◌++◌, ◌∙◌, ◌∷◌, ◌≡◌}
+use Rattle.std.proofs.Common.{[], ap, arith, refl, ◌++◌, ◌∙◌, ◌∷◌}
 use Rattle.std.specs.Fmt.{decimal}
 use Rattle.sim_records.proofs.Plain.{decimal_short, plain_append, plain_decimal, plain_end, plain_marked}
 use Rattle.sim_records.proofs.fields.Fields.counts.Goals as goal

@@ -1,4 +1,4 @@
-use Rattle.std.proofs.Common.{[], ap, arith, drop, length, refl, rules, slice_set, ◌++◌, ◌-◌, ◌∙◌, ◌∷◌, ◌≡◌}
+use Rattle.std.proofs.Common.{[], ap, arith, drop, refl, rules, slice_set, ◌++◌, ◌-◌, ◌∙◌, ◌∷◌, ◌≡◌}
 use Rattle.std.specs.Fmt.{decimal}
 use Rattle.sim_records.specs.Lines.{IsPlain}
 use Rattle.sim_records.proofs.Plain.{plain_end, plain_marked, plain_more, set_before}
