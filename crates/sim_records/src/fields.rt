@@ -23,7 +23,7 @@ const NUMBERS: usize = 3 * NUMBER + 1;
 
 /// Lines of CSV that are made field by field. Contracts see their text so far, and how many fields the
 /// line has that has not ended. A field that needs no quotes goes into the text as it is; `csv` writes the
-/// others.
+/// others. What each row is made of is `inline(always)`, since a call costs as much as what it does.
 ///
 /// After a growth that was refused a part of a field may be left, and nothing is promised.
 #[derive(Drop)]
@@ -56,9 +56,10 @@ fn text_by_csv(alloc: Global, field: &[u8]) -> Result<Vec<u8>, AllocError>
 // Puts a mark and a number in decimal before what stands in a text from `end` on, and answers where they
 // begin.
 fn put_before(text: &mut [u8], end: usize, mark: u8, number: u64) -> usize
-    requires { (21 ≤ end) × (end ≤ length text.old) }
+    requires room { NUMBER ≤ end }
+    requires within { end ≤ length text.old }
     ensures written { drop result text.new ≡ mark ∷ (decimal number ++ drop end text.old) }
-    ensures room { end ≤ result + 21 }
+    ensures most { end ≤ result + NUMBER }
     ensures before { result < end }
 {
     let start = write_digits(number, text, end) - 1;

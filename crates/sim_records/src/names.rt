@@ -7,14 +7,6 @@ use crate::quotes::needs_quotes;
 use sqs_message::Text;
 use std::marker::Model;
 
-/// The names of all agents, by number. Contracts see it as the list of them.
-#[derive(Drop)]
-pub struct Names {
-    texts: Vec<Text>,
-    // Whether none of them needs quotes where it is a field, so that no row has to look.
-    are_plain: bool,
-}
-
 // Whether none of these needs quotes where it is a field.
 fn none_needs_quotes(texts: &[Text]) -> bool
     ensures { result ≡ none_quoted texts.now }
@@ -22,12 +14,19 @@ fn none_needs_quotes(texts: &[Text]) -> bool
     texts.iter().all(|text| !needs_quotes(text.as_bytes()))
 }
 
+/// The names of all agents, by number. Contracts see it as the list of them.
+#[derive(Drop)]
+pub struct Names {
+    texts: Vec<Text>,
+    // Whether none of them needs quotes where it is a field: looked for once, and not at each row.
+    are_plain: bool,
+}
+
 impl Model for Names {
     ghost use Rattle.std.specs.Prelude.{◌≡◌, List, ℕ};
+    ghost use Rattle.sim_records.specs.Lines.{none_quoted};
 
     ghost Value = { List (List ℕ) };
-
-    ghost use Rattle.sim_records.specs.Lines.{none_quoted};
 
     ghost view = { λ n. n.texts.items };
 

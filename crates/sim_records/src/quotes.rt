@@ -2,11 +2,11 @@
 ghost use Rattle.std.specs.Prelude.{◌≡◌};
 ghost use Rattle.csv.specs.Writing.{default_writer, needs_byte, needs_quotes};
 
-// Whether a byte of a field calls for quotes. All that do are below the letters, the digits and the dash.
+// Whether a byte of a field calls for quotes.
 fn calls_for_quotes(byte: u8) -> bool
     ensures { result ≡ needs_byte default_writer byte }
 {
-    byte <= b',' && (byte == b',' || byte == b'"' || byte == b'\r' || byte == b'\n')
+    byte == b',' || byte == b'"' || byte == b'\r' || byte == b'\n'
 }
 
 /// Whether a field needs quotes.
