@@ -7,13 +7,15 @@ ghost use Rattle.hex.specs.Hex.{encode_lower};
 ghost use Rattle.sim_records.specs.Lines.{IsPlain, field_begun, with_field, with_text};
 ghost use Rattle.sqs_message.specs.Ids.{id_text, origin_text, receipt_text};
 
-use crate::digest::digest_text;
 use crate::line::{lines_writer, text_of};
 use crate::quotes::needs_quotes;
 use itoa::write_digits;
 use sqs_message::{MessageId, Origin, Receipt};
 use std::alloc::{AllocError, Global};
 use std::marker::Model;
+
+// How long the text of a digest is: two digits a byte.
+const DIGEST_TEXT: usize = 32;
 
 // How long a number is at most, with a mark before it.
 const NUMBER: usize = 21;
@@ -210,7 +212,11 @@ impl Fields {
     pub(crate) fn digest(&mut self, md5: &[u8; 16]) -> Result<(), AllocError>
         ensures { OnOk result (self.new ≡ with_field self.old (encode_lower md5.now)) }
     {
-        self.plain(&digest_text(md5))
+        let mut text = [0; DIGEST_TEXT];
+        match hex::encode_to_slice(md5, &mut text) {
+            Ok(()) => self.plain(&text),
+            Err(_) => unreachable!(),
+        }
     }
 
     /// Three numbers in decimal with slashes between them, as `2/1/0`.

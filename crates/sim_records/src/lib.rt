@@ -2,7 +2,6 @@
 #![tactic(auto)]
 
 mod columns;
-mod digest;
 mod fields;
 mod finals;
 mod line;

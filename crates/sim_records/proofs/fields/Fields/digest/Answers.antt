@@ -4,4 +4,4 @@ use Rattle.sim_records.proofs.Plain.{plain_hex}
 use Rattle.sim_records.proofs.fields.Fields.digest.Goals as goal
 
 pub plain-requires : goal.plain-requires
-plain-requires c = subst IsPlain (sym c.digest_text.ensures) (plain_hex c.args.md5.now)
+plain-requires c = subst IsPlain (sym c.in-Ok.ensures.written) (plain_hex c.args.md5.now)
