@@ -1,14 +1,15 @@
 -- Fields that need no quotes: numbers, ids, receipts, digests and counts.
-use Rattle.std.proofs.Common.{Bool, List, [], arith, ap, append_assoc, false, get_or, length, refl, slice_index, suc, sym, true, zero, ℕ, ◌++◌, ◌/◌, ◌%◌, ◌<◌, ◌==◌, ◌^◌, ◌∙◌, ◌∷◌, ◌≡◌, ◌≤◌, ◌||◌, if◌then◌else◌}
+use Rattle.std.proofs.Common.{Bool, not, true≢false, ◌&&◌, List, [], arith, ap, false, get_or, length, drop, take, slice_set, subst, refl, slice_index, suc, sym, ◌-◌, true, zero, ℕ, ◌++◌, ◌/◌, ◌%◌, ◌<◌, ◌==◌, ◌^◌, ◌∙◌, ◌∷◌, ◌≡◌, ◌≤◌, ◌||◌, if◌then◌else◌}
 use Rattle.std.specs.Fmt.{decimal}
 use Rattle.std.specs.List.{list_any}
-use Rattle.std.proofs.lemmas.Fmt.{decimal_is_IsNumeral}
+use Rattle.std.proofs.lemmas.Fmt.{decimal_is_IsNumeral, length-decimal-le}
 use Rattle.std.proofs.lemmas.Grind.{common_steps}
+use Rattle.std.proofs.lemmas.List.{drop-set, take_rest}
 use Rattle.std.proofs.lemmas.List.Folds.{list_any-append}
 use Rattle.std.proofs.lemmas.Str.Parse.{digit_at}
-use Rattle.csv.specs.Writing.{default_writer, field_text, needs_byte, quoted}
+use Rattle.csv.specs.Writing.{default_writer, field_text, needs_byte, needs_quotes, quoted}
 use Rattle.hex.specs.Hex.{encode_lower, encode_with, lower_digits}
-use Rattle.sim_records.specs.Lines.{Begun, IsPlain, field_begun, with_field, with_text}
+use Rattle.sim_records.specs.Lines.{IsPlain, none_quoted}
 
 -- such a field is written as it is
 pub field_plain : (f : List ℕ) → IsPlain f → field_text default_writer f ≡ f
@@ -34,6 +35,9 @@ pub plain_decimal : (n : ℕ) → n < 2 ^ 64 → IsPlain (decimal n)
 plain_decimal n h =
     digits_plain (decimal n) (λ i l. let d = digit_at (decimal n) i (decimal_is_IsNumeral n h).0.1 l in digit_plain (get_or (decimal n) i 0) d.0 d.1)
 
+pub decimal_short : (n : ℕ) → n < 2 ^ 64 → length (decimal n) ≤ 20
+decimal_short n h = length-decimal-le 20 n (omega arith) (omega arith) h
+
 -- digits in hex
 first_false : (a b : Bool) → (a || b) ≡ false → a ≡ false
 first_false false b h = refl
@@ -57,26 +61,30 @@ plain_hex (b ∷ bs) =
     ∙ ap (λ x. x || list_any (needs_byte default_writer) (encode_with lower_digits bs)) (one_of lower_digits refl (b % 16))
     ∙ plain_hex bs
 
--- a mark and a number
-marked : (mark : List ℕ) (n : ℕ) → IsPlain mark → n < 2 ^ 64 → IsPlain (mark ++ decimal n)
-marked mark n h k = plain_append mark (decimal n) h (plain_decimal n k)
+-- a mark, and a mark and a number, before what needs no quotes either
+pub plain_more : (mark : ℕ) (rest : List ℕ) → needs_byte default_writer mark ≡ false → IsPlain rest → IsPlain (mark ∷ rest)
+plain_more mark rest h plain = ap (λ x. x || list_any (needs_byte default_writer) rest) h ∙ plain
 
--- a field that is put together of two, or of three
-pub of_two : (b : Begun) (x y f : List ℕ) → IsPlain f → x ++ y ≡ f → with_text (with_text (field_begun b) x) y ≡ with_field b f
-of_two b x y f plain is =
-    ap (λ t. record (field_begun b) { text = t }) (append_assoc (field_begun b).text x y ∙ ap (λ t. (field_begun b).text ++ t) (is ∙ sym (field_plain f plain)))
+pub plain_marked : (mark n : ℕ) (rest : List ℕ) → needs_byte default_writer mark ≡ false → n < 2 ^ 64 → IsPlain rest → IsPlain (mark ∷ (decimal n ++ rest))
+plain_marked mark n rest h k plain = plain_more mark (decimal n ++ rest) h (plain_append (decimal n) rest (plain_decimal n k) plain)
 
-pub of_three : (b : Begun) (x y z f : List ℕ) → IsPlain f → x ++ (y ++ z) ≡ f → with_text (with_text (with_text (field_begun b) x) y) z ≡ with_field b f
-of_three b x y z f plain is =
-    ap (λ t. record (field_begun b) { text = t ++ z }) (append_assoc (field_begun b).text x y)
-    ∙ of_two b (x ++ y) z f plain (append_assoc x y z ∙ is)
+-- a mark before what stands in a text from a place on, and the whole end of a text
+pub set_before : (text : List ℕ) (k mark : ℕ) → 1 ≤ k → k ≤ length text → drop (k - 1) (slice_set text (k - 1) mark) ≡ mark ∷ drop k text
+set_before text k mark h l = drop-set text (k - 1) mark (omega arith) ∙ ap (λ i. mark ∷ drop i text) (omega arith)
 
--- ids, as `m-0-12`, and receipts, as `r-0-12-1`
-pub plain_two : (a b : List ℕ) (n m : ℕ) → IsPlain a → IsPlain b → n < 2 ^ 64 → m < 2 ^ 64 → IsPlain ((a ++ decimal n) ++ (b ++ decimal m))
-plain_two a b n m h k l o = plain_append (a ++ decimal n) (b ++ decimal m) (marked a n h l) (marked b m k o)
+pub plain_end : (text f : List ℕ) (n k : ℕ) → length text ≡ n → drop k text ≡ f → IsPlain f → IsPlain (take (n - k) (drop k text))
+plain_end text f n k whole is plain = subst IsPlain (sym (ap (λ m. take (m - k) (drop k text)) (sym whole) ∙ take_rest text k ∙ is)) plain
 
-pub plain_three :
-    (a b c : List ℕ) (n m k : ℕ) → IsPlain a → IsPlain b → IsPlain c → n < 2 ^ 64 → m < 2 ^ 64 → k < 2 ^ 64
-    → IsPlain ((a ++ decimal n) ++ ((b ++ decimal m) ++ (c ++ decimal k)))
-plain_three a b c n m k h i j l o p =
-    plain_append (a ++ decimal n) ((b ++ decimal m) ++ (c ++ decimal k)) (marked a n h l) (plain_two b c m k i j o p)
+-- of names that need no quotes none does
+first_plain : (needs others : Bool) → (not needs && others) ≡ true → needs ≡ false
+first_plain false others h = refl
+first_plain true others h = absurd (true≢false (sym h))
+
+others_plain : (needs others : Bool) → (not needs && others) ≡ true → others ≡ true
+others_plain false others h = h
+others_plain true others h = absurd (true≢false (sym h))
+
+pub name_plain : (names : List (List ℕ)) (n : ℕ) → none_quoted names ≡ true → IsPlain (get_or names n [])
+name_plain [] n h = refl
+name_plain (f ∷ fs) zero h = first_plain (needs_quotes default_writer f) (none_quoted fs) h
+name_plain (f ∷ fs) (suc n) h = name_plain fs n (others_plain (needs_quotes default_writer f) (none_quoted fs) h)

@@ -1,5 +1,6 @@
 -- What a clause reads of lines that are being made.
-use Rattle.std.specs.Prelude.{◌≡◌, ℕ, ◌+◌, ◌-◌, ◌^◌, ◌++◌, List, [], ◌∷◌, false, true, Option, Some, None, min}
+use Rattle.std.specs.Prelude.{◌≡◌, ℕ, ◌+◌, ◌-◌, ◌^◌, ◌++◌, List, [], ◌∷◌, Bool, not, false, true, Option, Some, None, min}
+use Rattle.std.specs.List.{list_all}
 use Rattle.csv.specs.Writing.{default_writer, field_text, fields_written, has_written, needs_quotes, next_sep, writer_pending, writer_setup, writer_under}
 use Rattle.csv.specs.declared.writer.Writer.{Writer}
 use Rattle.csv.specs.declared.writer.WriterBuilder.{WriterBuilder}
@@ -12,6 +13,10 @@ pub record Begun : Type 0 where
 -- a field that needs no quotes
 abbrev pub IsPlain : List ℕ → Type 0
 IsPlain f = needs_quotes default_writer f ≡ false
+
+-- whether none of these fields needs quotes
+abbrev pub none_quoted : List (List ℕ) → Bool
+none_quoted fs = list_all (λ f. not (needs_quotes default_writer f)) fs
 
 -- once one more field begins, behind a comma where another is before it
 abbrev pub field_begun : Begun → Begun

@@ -1,7 +1,7 @@
 //! The columns of a row of the log.
 ghost use Rattle.std.specs.Prelude.{◌≡◌, ◌++◌, ◌∷◌, [], OnOk};
 ghost use Rattle.sim_records.specs.Lines.{IsPlain, with_field};
-ghost use Rattle.sqs_formats.specs.Rows.{answer_text, detail_text, kind_text, row_receipt, text_if};
+ghost use Rattle.sqs_formats.specs.Rows.{answer_text, detail_text, kind_text, name_at, row_receipt, text_if};
 ghost use Rattle.sqs_message.specs.Ids.{id_text};
 
 use crate::fields::Fields;
@@ -56,13 +56,27 @@ pub(crate) fn answer_name(answer: RowAnswer) -> &'static str
     }
 }
 
+// The column of a name: that of an agent, empty where none has the number.
+#[inline(always)]
+#[tactic(auto, using(crate::proofs::Plain::name_plain))]
+pub(crate) fn add_name(fields: &mut Fields, names: &Names, number: u32) -> Result<(), AllocError>
+    ensures { OnOk result (fields.new ≡ with_field fields.old (name_at names.now number)) }
+{
+    let name = names.name(number);
+    if names.are_plain() {
+        fields.plain(name)
+    } else {
+        fields.bytes(name)
+    }
+}
+
 // The message column: its id, where there is one.
 pub(crate) fn add_message(fields: &mut Fields, message: Option<MessageId>) -> Result<(), AllocError>
     ensures { OnOk result (fields.new ≡ with_field fields.old (text_if id_text message)) }
 {
     match message {
         Some(id) => fields.id(id),
-        None => fields.bytes(b""),
+        None => fields.plain(b""),
     }
 }
 
@@ -71,7 +85,7 @@ pub(crate) fn add_receipt(fields: &mut Fields, receipt: &RowReceipt) -> Result<(
     ensures { OnOk result (fields.new ≡ with_field fields.old (row_receipt receipt.now)) }
 {
     match receipt {
-        RowReceipt::Absent => fields.bytes(b""),
+        RowReceipt::Absent => fields.plain(b""),
         RowReceipt::Made(receipt) => fields.receipt(*receipt),
         RowReceipt::Given(text) => fields.bytes(text.as_bytes()),
     }
@@ -80,23 +94,23 @@ pub(crate) fn add_receipt(fields: &mut Fields, receipt: &RowReceipt) -> Result<(
 // The detail column.
 pub(crate) fn add_detail(
     fields: &mut Fields,
-    detail: Detail,
+    detail: &Detail,
     names: &Names,
 ) -> Result<(), AllocError>
-    ensures { OnOk result (fields.new ≡ with_field fields.old (detail_text names.now detail)) }
+    ensures { OnOk result (fields.new ≡ with_field fields.old (detail_text names.now detail.now)) }
 {
     match detail {
-        Detail::Absent => fields.bytes(b""),
-        Detail::Digest(md5) => fields.digest(&md5),
-        Detail::From(origin) => fields.origin(origin),
+        Detail::Absent => fields.plain(b""),
+        Detail::Digest(md5) => fields.digest(md5),
+        Detail::From(origin) => fields.origin(*origin),
         Detail::Age(number) | Detail::Timeout(number) | Detail::Moved(number) => {
-            fields.number(number)
+            fields.number(*number)
         }
-        Detail::Queue(number) | Detail::Task(number) => fields.bytes(names.name(number)),
+        Detail::Queue(number) | Detail::Task(number) => add_name(fields, names, *number),
         Detail::Counts {
             visible,
             in_flight,
             delayed,
-        } => fields.counts(visible, in_flight, delayed),
+        } => fields.counts(*visible, *in_flight, *delayed),
     }
 }

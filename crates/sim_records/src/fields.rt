@@ -1,14 +1,15 @@
 //! Lines that are made field by field.
-ghost use Rattle.std.specs.Prelude.{◌≡◌, ◌≤◌, ◌++◌, ◌∷◌, [], IfOk, OnOk, codes};
+ghost use Rattle.std.specs.Prelude.{◌≡◌, ◌≤◌, ◌<◌, ◌+◌, ◌++◌, ◌∷◌, [], IfOk, OnOk, codes, drop, false, length};
 ghost use Rattle.std.specs.Fmt.{decimal};
 ghost use Rattle.csv.specs.Machine.{line_feed};
-ghost use Rattle.csv.specs.Writing.{default_writer, field_text, needs_byte, needs_quotes};
+ghost use Rattle.csv.specs.Writing.{default_writer, field_text, needs_byte};
 ghost use Rattle.hex.specs.Hex.{encode_lower};
 ghost use Rattle.sim_records.specs.Lines.{IsPlain, field_begun, with_field, with_text};
 ghost use Rattle.sqs_message.specs.Ids.{id_text, origin_text, receipt_text};
 
 use crate::line::{lines_writer, text_of};
-use itoa::Buffer;
+use crate::quotes::needs_quotes;
+use itoa::write_digits;
 use sqs_message::{MessageId, Origin, Receipt};
 use std::alloc::{AllocError, Global};
 use std::marker::Model;
@@ -16,9 +17,15 @@ use std::marker::Model;
 // How long the text of a digest is: two digits a byte.
 const DIGEST_TEXT: usize = 32;
 
+// How long a number is at most, with a mark before it.
+const NUMBER: usize = 21;
+
+// Room for three numbers with marks before them, and a mark more.
+const NUMBERS: usize = 3 * NUMBER + 1;
+
 /// Lines of CSV that are made field by field. Contracts see their text so far, and how many fields the
 /// line has that has not ended. A field that needs no quotes goes into the text as it is; `csv` writes the
-/// others.
+/// others. What each row is made of is `inline(always)`, since a call costs as much as what it does.
 ///
 /// After a growth that was refused a part of a field may be left, and nothing is promised.
 #[derive(Drop)]
@@ -36,20 +43,6 @@ impl Model for Fields {
     ghost view = { λ f. record { text = f.text.items; fields = f.fields } };
 }
 
-// Whether a byte of a field calls for quotes.
-fn calls_for_quotes(byte: u8) -> bool
-    ensures { result ≡ needs_byte default_writer byte }
-{
-    byte == b',' || byte == b'"' || byte == b'\r' || byte == b'\n'
-}
-
-// Whether a field needs quotes.
-fn needs_quotes(field: &[u8]) -> bool
-    ensures { result ≡ needs_quotes default_writer field.now }
-{
-    field.iter().any(|byte| calls_for_quotes(*byte))
-}
-
 // The text of a field as `csv` writes it, with quotes where it needs them.
 #[tactic(auto, using(crate::proofs::Begun::field_same))]
 fn text_by_csv(alloc: Global, field: &[u8]) -> Result<Vec<u8>, AllocError>
@@ -60,6 +53,20 @@ fn text_by_csv(alloc: Global, field: &[u8]) -> Result<Vec<u8>, AllocError>
         Ok(()) => text_of(Some(writer)),
         Err(_) => Err(AllocError),
     }
+}
+
+// Puts a mark and a number in decimal before what stands in a text from `end` on, and answers where they
+// begin.
+fn put_before(text: &mut [u8], end: usize, mark: u8, number: u64) -> usize
+    requires room { NUMBER ≤ end }
+    requires within { end ≤ length text.old }
+    ensures written { drop result text.new ≡ mark ∷ (decimal number ++ drop end text.old) }
+    ensures most { end ≤ result + NUMBER }
+    ensures before { result < end }
+{
+    let start = write_digits(number, text, end) - 1;
+    text[start] = mark;
+    start
 }
 
 impl Fields {
@@ -120,16 +127,8 @@ impl Fields {
         self.text.extend_from_slice(bytes)
     }
 
-    // More of it: a mark, and a number in decimal.
-    fn put_number(&mut self, mark: &[u8], number: u64) -> Result<(), AllocError>
-        ensures { OnOk result (self.new ≡ with_text self.old (mark.now ++ decimal number)) }
-    {
-        let mut buffer = Buffer::new();
-        self.put(mark)?;
-        self.put(buffer.format(number).as_bytes())
-    }
-
     /// A field that needs no quotes.
+    #[inline(always)]
     pub(crate) fn plain(&mut self, field: &[u8]) -> Result<(), AllocError>
         requires { IsPlain field.now }
         ensures { OnOk result (self.new ≡ with_field self.old field.now) }
@@ -161,39 +160,52 @@ impl Fields {
     }
 
     /// A number in decimal.
+    #[inline(always)]
     pub(crate) fn number(&mut self, number: u64) -> Result<(), AllocError>
         ensures { OnOk result (self.new ≡ with_field self.old (decimal number)) }
     {
-        let mut buffer = Buffer::new();
-        self.plain(buffer.format(number).as_bytes())
+        let mut text = [0; NUMBER];
+        let start = write_digits(number, &mut text, NUMBER);
+        self.plain(&text[start..])
+    }
+
+    // A mark and two numbers, as `m-0-12`.
+    #[inline(always)]
+    fn numbered(&mut self, mark: u8, site: u32, number: u64) -> Result<(), AllocError>
+        requires { needs_byte default_writer mark ≡ false }
+        ensures { OnOk result (self.new ≡ with_field self.old (mark ∷ (codes "-" ++ (decimal site ++ (codes "-" ++ decimal number))))) }
+    {
+        let mut text = [0; NUMBERS];
+        let second = put_before(&mut text, NUMBERS, b'-', number);
+        let first = put_before(&mut text, second, b'-', u64::from(site));
+        text[first - 1] = mark;
+        self.plain(&text[first - 1..])
     }
 
     /// The id of a message, as `m-0-12`.
     pub(crate) fn id(&mut self, id: MessageId) -> Result<(), AllocError>
         ensures { OnOk result (self.new ≡ with_field self.old (id_text id)) }
     {
-        self.begin()?;
-        self.put_number(b"m-", u64::from(id.site))?;
-        self.put_number(b"-", id.number)
+        self.numbered(b'm', id.site, id.number)
     }
 
     /// The origin of a message, as `o-0-12`.
     pub(crate) fn origin(&mut self, origin: Origin) -> Result<(), AllocError>
         ensures { OnOk result (self.new ≡ with_field self.old (origin_text origin)) }
     {
-        self.begin()?;
-        self.put_number(b"o-", u64::from(origin.site))?;
-        self.put_number(b"-", origin.number)
+        self.numbered(b'o', origin.site, origin.number)
     }
 
     /// A receipt handle, as `r-0-12-1`.
     pub(crate) fn receipt(&mut self, receipt: Receipt) -> Result<(), AllocError>
         ensures { OnOk result (self.new ≡ with_field self.old (receipt_text receipt)) }
     {
-        self.begin()?;
-        self.put_number(b"r-", u64::from(receipt.site))?;
-        self.put_number(b"-", receipt.number)?;
-        self.put_number(b"-", receipt.count)
+        let mut text = [0; NUMBERS];
+        let third = put_before(&mut text, NUMBERS, b'-', receipt.count);
+        let second = put_before(&mut text, third, b'-', receipt.number);
+        let first = put_before(&mut text, second, b'-', u64::from(receipt.site));
+        text[first - 1] = b'r';
+        self.plain(&text[first - 1..])
     }
 
     /// An MD5 digest, in lower-case hex.
@@ -211,9 +223,10 @@ impl Fields {
     pub(crate) fn counts(&mut self, first: u64, second: u64, third: u64) -> Result<(), AllocError>
         ensures { OnOk result (self.new ≡ with_field self.old ((decimal first ++ (codes "/" ++ (decimal second ++ (codes "/" ++ decimal third)))))) }
     {
-        self.begin()?;
-        self.put_number(b"", first)?;
-        self.put_number(b"/", second)?;
-        self.put_number(b"/", third)
+        let mut text = [0; NUMBERS];
+        let third = put_before(&mut text, NUMBERS, b'/', third);
+        let second = put_before(&mut text, third, b'/', second);
+        let first = write_digits(first, &mut text, second);
+        self.plain(&text[first..])
     }
 }

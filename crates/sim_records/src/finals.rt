@@ -2,11 +2,12 @@
 ghost use Rattle.std.specs.Prelude.{◌≡◌, ◌∷◌, ◌++◌, [], false, OnOk, map};
 ghost use Rattle.std.specs.Fmt.{decimal};
 ghost use Rattle.sqs_message.specs.Ids.{origin_text};
-ghost use Rattle.sim_records.specs.Lines.{with_field};
+ghost use Rattle.sim_records.specs.Lines.{IsPlain, with_field};
 ghost use Rattle.sqs_formats.specs.Rows.{line, lines, text_if};
 ghost use Rattle.sqs_formats.specs.Finals.{finals_text, message_fields, message_header, place_text, status_text, task_fields, task_header, transfer_fields, transfer_header, transfer_kind_text};
 ghost use Rattle.sim_records.specs.Writes.{Wrote, WroteSeveral};
 
+use crate::columns::add_name;
 use crate::fields::Fields;
 use crate::line::write_record;
 use crate::names::Names;
@@ -20,7 +21,8 @@ use std::alloc::{AllocError, Global};
 
 // The name of a place.
 fn place_name(place: Place) -> &'static str
-    ensures { result.now ≡ place_text place }
+    ensures name { result.now ≡ place_text place }
+    ensures plain { IsPlain result.now }
 {
     match place {
         Place::Delayed => "delayed",
@@ -31,7 +33,8 @@ fn place_name(place: Place) -> &'static str
 
 // The name of a kind of transfer.
 fn transfer_kind_name(kind: TransferKind) -> &'static str
-    ensures { result.now ≡ transfer_kind_text kind }
+    ensures name { result.now ≡ transfer_kind_text kind }
+    ensures plain { IsPlain result.now }
 {
     match kind {
         TransferKind::Redrive => "redrive",
@@ -42,7 +45,8 @@ fn transfer_kind_name(kind: TransferKind) -> &'static str
 
 // The name of a task's state.
 fn status_name(status: TaskStatus) -> &'static str
-    ensures { result.now ≡ status_text status }
+    ensures name { result.now ≡ status_text status }
+    ensures plain { IsPlain result.now }
 {
     match status {
         TaskStatus::Idle => "Idle",
@@ -59,7 +63,7 @@ fn add_number(fields: &mut Fields, number: Option<u64>) -> Result<(), AllocError
 {
     match number {
         Some(number) => fields.number(number),
-        None => fields.bytes(b""),
+        None => fields.plain(b""),
     }
 }
 
@@ -69,7 +73,7 @@ fn add_origin(fields: &mut Fields, origin: Option<Origin>) -> Result<(), AllocEr
 {
     match origin {
         Some(origin) => fields.origin(origin),
-        None => fields.bytes(b""),
+        None => fields.plain(b""),
     }
 }
 
@@ -79,7 +83,7 @@ fn add_group(fields: &mut Fields, group: &Option<Text>) -> Result<(), AllocError
 {
     match group {
         Some(group) => fields.bytes(group.as_bytes()),
-        None => fields.bytes(b""),
+        None => fields.plain(b""),
     }
 }
 
@@ -109,11 +113,11 @@ impl Record for FinalMessage {
     ghost columns = { λ names message. message_fields names message };
 
     fn add_to(&self, fields: &mut Fields, names: &Names) -> Result<(), AllocError> {
-        fields.bytes(b"final")?;
-        fields.bytes(names.name(self.id.site))?;
+        fields.plain(b"final")?;
+        add_name(fields, names, self.id.site)?;
         fields.id(self.id)?;
         fields.origin(self.origin)?;
-        fields.bytes(place_name(self.place).as_bytes())?;
+        fields.plain(place_name(self.place).as_bytes())?;
         add_number(fields, self.due)?;
         fields.number(self.enqueued)?;
         fields.number(self.receives)?;
@@ -147,10 +151,10 @@ impl Record for FinalTransfer {
     ghost columns = { λ names transfer. transfer_fields names transfer };
 
     fn add_to(&self, fields: &mut Fields, names: &Names) -> Result<(), AllocError> {
-        fields.bytes(b"transfer")?;
-        fields.bytes(names.name(self.from))?;
-        fields.bytes(names.name(self.to))?;
-        fields.bytes(transfer_kind_name(self.kind).as_bytes())?;
+        fields.plain(b"transfer")?;
+        add_name(fields, names, self.from)?;
+        add_name(fields, names, self.to)?;
+        fields.plain(transfer_kind_name(self.kind).as_bytes())?;
         fields.number(self.due)?;
         fields.number(self.number)?;
         fields.id(self.message)?;
@@ -174,9 +178,9 @@ impl Record for FinalTask {
     ghost columns = { λ names task. task_fields names task };
 
     fn add_to(&self, fields: &mut Fields, names: &Names) -> Result<(), AllocError> {
-        fields.bytes(b"task")?;
-        fields.bytes(names.name(self.task))?;
-        fields.bytes(status_name(self.status).as_bytes())?;
+        fields.plain(b"task")?;
+        add_name(fields, names, self.task)?;
+        fields.plain(status_name(self.status).as_bytes())?;
         fields.number(self.moved)
     }
 }

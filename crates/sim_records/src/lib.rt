@@ -6,6 +6,7 @@ mod fields;
 mod finals;
 mod line;
 mod names;
+mod quotes;
 mod record;
 mod rows;
 mod sink;

@@ -1,22 +1,36 @@
 //! The names of agents.
 ghost use Rattle.std.specs.Prelude.{◌≡◌};
 ghost use Rattle.sqs_formats.specs.Rows.{name_at};
+ghost use Rattle.sim_records.specs.Lines.{none_quoted};
 
+use crate::quotes::needs_quotes;
 use sqs_message::Text;
 use std::marker::Model;
+
+// Whether none of these needs quotes where it is a field.
+fn none_needs_quotes(texts: &[Text]) -> bool
+    ensures { result ≡ none_quoted texts.now }
+{
+    texts.iter().all(|text| !needs_quotes(text.as_bytes()))
+}
 
 /// The names of all agents, by number. Contracts see it as the list of them.
 #[derive(Drop)]
 pub struct Names {
     texts: Vec<Text>,
+    // Whether none of them needs quotes where it is a field: looked for once, and not at each row.
+    are_plain: bool,
 }
 
 impl Model for Names {
-    ghost use Rattle.std.specs.Prelude.{List, ℕ};
+    ghost use Rattle.std.specs.Prelude.{◌≡◌, List, ℕ};
+    ghost use Rattle.sim_records.specs.Lines.{none_quoted};
 
     ghost Value = { List (List ℕ) };
 
     ghost view = { λ n. n.texts.items };
+
+    ghost invariant = { λ n. n.are_plain ≡ none_quoted n.texts.items };
 }
 
 impl Names {
@@ -24,7 +38,8 @@ impl Names {
     pub fn new(texts: Vec<Text>) -> Names
         ensures { result ≡ texts.items }
     {
-        Names { texts }
+        let are_plain = none_needs_quotes(texts.as_slice());
+        Names { texts, are_plain }
     }
 
     /// All of them, by number.
@@ -32,6 +47,13 @@ impl Names {
         ensures { result.now ≡ self.now }
     {
         self.texts.as_slice()
+    }
+
+    /// Whether none of them needs quotes where it is a field.
+    pub(crate) fn are_plain(&self) -> bool
+        ensures { result ≡ none_quoted self.now }
+    {
+        self.are_plain
     }
 
     /// The name of an agent; empty where no agent has the number.

@@ -3,7 +3,7 @@ ghost use Rattle.std.specs.Prelude.{◌≡◌, ◌++◌, false, IfOk, OnOk, map}
 ghost use Rattle.sqs_formats.specs.Rows.{line, lines, log_header, row_fields};
 ghost use Rattle.sim_records.specs.Writes.{Wrote, WroteSeveral};
 
-use crate::columns::{add_detail, add_message, add_receipt, answer_name, kind_name};
+use crate::columns::{add_detail, add_message, add_name, add_receipt, answer_name, kind_name};
 use crate::fields::Fields;
 use crate::line::write_record;
 use crate::names::Names;
@@ -37,13 +37,13 @@ impl Record for Row {
 
     fn add_to(&self, fields: &mut Fields, names: &Names) -> Result<(), AllocError> {
         fields.number(self.key.at)?;
-        fields.bytes(names.name(self.queue))?;
-        fields.bytes(names.name(self.agent))?;
+        add_name(fields, names, self.queue)?;
+        add_name(fields, names, self.agent)?;
         fields.plain(kind_name(self.kind).as_bytes())?;
         fields.plain(answer_name(self.answer).as_bytes())?;
         add_message(fields, self.message)?;
         add_receipt(fields, &self.receipt)?;
-        add_detail(fields, self.detail, names)
+        add_detail(fields, &self.detail, names)
     }
 }
 

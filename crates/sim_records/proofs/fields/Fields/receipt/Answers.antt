@@ -1,22 +1,21 @@
-use Rattle.std.proofs.Common.{ap, codes, refl, rules, ◌++◌, ◌∙◌}
-use Rattle.std.proofs.lemmas.Result.{on_ok_weaker}
+use Rattle.std.proofs.Common.{[], ap, arith, drop, refl, rules, slice_set, ◌++◌, ◌-◌, ◌∙◌, ◌∷◌, ◌≡◌}
 use Rattle.std.specs.Fmt.{decimal}
-use Rattle.sim_records.specs.Lines.{Begun, field_begun, with_text}
-use Rattle.sim_records.proofs.Plain.{of_three, plain_three}
-use Rattle.sqs_message.specs.Ids.{receipt_text}
+use Rattle.sim_records.specs.Lines.{IsPlain}
+use Rattle.sim_records.proofs.Plain.{plain_end, plain_marked, plain_more, set_before}
 use Rattle.sim_records.proofs.fields.Fields.receipt.Goals as goal
 
-pub returns : goal.returns
-returns c =
+pub plain-requires : goal.plain-requires
+plain-requires c =
     let r = c.args.receipt in
-    let number = codes "-" ++ decimal r.number in
-    let count = codes "-" ++ decimal r.count in
-    on_ok_weaker c.put_number-3.result (λ e.
-    e
-    ∙ ap (λ (b : Begun). with_text b count)
-    (c.in_ok-put_number-2.ensures
-    ∙ ap (λ (b : Begun). with_text b number)
-    (c.in_ok-put_number.ensures ∙ ap (λ (b : Begun). with_text b (codes "r-" ++ decimal c.from.result)) c.in_ok-begin.ensures
-    ∙ ap (λ n. with_text (field_begun c.args.self.now) (codes "r-" ++ decimal n)) c.from.ensures))
-    ∙ of_three c.args.self.now (codes "r-" ++ decimal r.site) number count (receipt_text r)
-    (plain_three (codes "r-") (codes "-") (codes "-") r.site r.number r.count refl refl refl (search rules) (search rules) (search rules)) refl) c.put_number-3.ensures
+    let third = 45 ∷ (decimal r.count ++ []) in
+    let second = 45 ∷ (decimal r.number ++ third) in
+    let first = 45 ∷ (decimal c.from.result ++ second) in
+    let text = c.put_before-first.new.text in
+    let at = c.put_before-first.result in
+    let is : drop at text ≡ first = c.put_before-first.ensures.written
+    ∙ ap (λ t. 45 ∷ (decimal c.from.result ++ t)) (c.put_before-second.ensures.written ∙ ap (λ t. 45 ∷ (decimal r.number ++ t)) c.put_before-third.ensures.written) in
+    let plain : IsPlain first =
+    plain_marked 45 c.from.result second refl c.from.type_inv (plain_marked 45 r.number third refl (search rules) (plain_marked 45 r.count [] refl (search rules) refl)) in
+    plain_end (slice_set text (at - 1) 114) (114 ∷ first) 64 (at - 1) (search rules)
+    (set_before text at 114 (omega arith) (omega arith) ∙ ap (λ t. 114 ∷ t) is)
+    (plain_more 114 first refl plain)
