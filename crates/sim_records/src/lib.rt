@@ -15,7 +15,7 @@ mod to_writer;
 pub use finals::write_finals;
 pub use line::Lines;
 pub use names::Names;
-pub use rows::{write_header, write_row, write_rows, write_rows_beside};
+pub use rows::{write_header, write_row, write_rows};
 pub use sink::{Failed, Out, write_all};
 pub use sqs_model::Finals;
 pub use to_writer::ToWriter;

@@ -1,6 +1,5 @@
-//! What a line tells of, and the lines of several, made on one thread or on some at once.
+//! What a line tells of, and the lines of several.
 ghost use Rattle.std.specs.Prelude.{◌≡◌, ◌≤◌, ℕ, List, false, IfOk, OnOk, length, map};
-ghost use denote.Param.Send.{IsSync};
 ghost use Rattle.sqs_formats.specs.Rows.{lines};
 ghost use Rattle.sim_records.specs.Lines.{with_fields};
 ghost use Rattle.sim_records.specs.Writes.{Wrote, WroteSeveral};
@@ -10,17 +9,12 @@ use crate::names::Names;
 use crate::sink::{Out, write_all};
 use sim_clock::Refusal;
 use std::alloc::{AllocError, Global};
-use std::thread::{Threads, join};
 
-/// How many lines one thread makes before they are written.
+/// How many lines are made before they are written.
 const AT_ONCE: usize = 1024;
 
 /// How many bytes most lines have at most, so that their text seldom grows.
 const LINE: usize = 96;
-
-/// How many lines a thread is started for at least: where the processors are busy it may wait for one as
-/// long as it takes to make some thousand.
-const PART: usize = 4_096;
 
 /// What a line tells of.
 pub(crate) trait Record {
@@ -43,40 +37,6 @@ fn lines_of<T: Record>(alloc: Global, records: &[T], names: &Names) -> Result<Ve
         fields.end_line()?;
     }
     Ok(fields.into_bytes())
-}
-
-/// The lines of several, in order, made by so many threads at once, each of which makes those of a part.
-/// Where a thread can't be started, the one that would have started it does its work.
-pub(crate) fn lines_beside<R: Threads + Sync, T: Record + Sync>(
-    rt: &R,
-    alloc: Global,
-    records: &[T],
-    names: &Names,
-    threads: usize,
-) -> Result<Vec<u8>, AllocError>
-    ensures { IfOk result (λ v. v.items ≡ lines (map (T.columns names.now) records.now)) }
-{
-    if threads <= 1 || records.len() < 2 * PART {
-        return lines_of(alloc, records, names);
-    }
-    let (left, right) = records.split_at(records.len() / 2);
-    let few = threads / 2;
-    let others = threads - few;
-    let (first, second) = join(
-        rt,
-        || -> Result<Vec<u8>, AllocError>
-            requires { IsSync R.row × IsSync T.row }
-            ensures { IfOk result (λ v. v.items ≡ lines (map (T.columns names.entry.now) left.entry.now)) }
-        { lines_beside(rt, alloc, left, names, few) },
-        || -> Result<Vec<u8>, AllocError>
-            requires { IsSync R.row × IsSync T.row }
-            ensures { IfOk result (λ v. v.items ≡ lines (map (T.columns names.entry.now) right.entry.now)) }
-        { lines_beside(rt, alloc, right, names, others) },
-    );
-    let mut text = first?;
-    let mut rest = second?;
-    text.append(&mut rest)?;
-    Ok(text)
 }
 
 // Writes the lines of several at once.

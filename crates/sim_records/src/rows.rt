@@ -7,12 +7,11 @@ use crate::columns::{add_detail, add_message, add_name, add_receipt, answer_name
 use crate::fields::Fields;
 use crate::line::write_record;
 use crate::names::Names;
-use crate::record::{Record, lines_beside, write_records};
+use crate::record::{Record, write_records};
 use crate::sink::{Out, write_all};
 use sim_clock::Refusal;
 use sqs_message::Row;
 use std::alloc::{AllocError, Global};
-use std::thread::Threads;
 
 /// Writes the header of the log.
 ///
@@ -93,26 +92,4 @@ pub fn write_rows<W: Out>(
     ensures { WroteSeveral (W.held out.old) (W.held out.new) (W.failed out.new) (lines (map (row_fields names.now) rows.now)) result }
 {
     write_records(alloc, out, rows, names)
-}
-
-/// Writes the lines of several rows as `write_rows` does, with the same errors. So many threads make
-/// them, the caller's among them, each those of a part. With one thread none is started; where one can't
-/// be started, the thread that would have done so makes its lines too.
-pub fn write_rows_beside<R: Threads + Sync, W: Out>(
-    rt: &R,
-    threads: usize,
-    alloc: Global,
-    out: &mut W,
-    rows: &[Row],
-    names: &Names,
-) -> Result<(), Refusal>
-    requires { W.failed out.old ≡ false }
-    ensures { WroteSeveral (W.held out.old) (W.held out.new) (W.failed out.new) (lines (map (row_fields names.now) rows.now)) result }
-{
-    if threads <= 1 {
-        return write_rows(alloc, out, rows, names);
-    }
-    let text = lines_beside(rt, alloc, rows, names, threads)?;
-    write_all(out, text.as_slice())?;
-    Ok(())
 }
