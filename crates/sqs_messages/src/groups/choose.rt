@@ -7,11 +7,10 @@ ghost use Rattle.sqs_messages.specs.Slots.{held};
 ghost use Rattle.sqs_messages.specs.Groups.{AreGrouped};
 
 use crate::choose::Choice;
-use crate::groups::key::{AskedGroup, HeldGroup};
 use crate::groups::members::{LEADS, Members, numbers_at, place_of};
 use crate::shelf::Shelf;
 use indexmap::IndexSet;
-use sqs_message::{Message, Place};
+use sqs_message::{Message, Place, Text};
 use std::alloc::{AllocError, Global};
 use std::collections::VecDeque;
 
@@ -56,7 +55,7 @@ fn give(
 pub fn choose(
     alloc: Global,
     shelf: &Shelf,
-    names: &IndexSet<HeldGroup>,
+    names: &IndexSet<Option<Text>>,
     groups: &[Members],
     most: u64,
 ) -> Result<Choice, AllocError>
@@ -77,7 +76,7 @@ pub fn choose(
             return Ok(choice);
         };
         let number = leader.number;
-        let place = place_of(names, &AskedGroup::new(leader.group.as_ref()));
+        let place = place_of(names, &leader.group);
         give(shelf, numbers_at(groups, place), most, &mut choice)?;
         from = number + 1;
     }

@@ -6,10 +6,9 @@ ghost use Rattle.sqs_messages.specs.Marked.{unhosted};
 ghost use Rattle.sqs_messages.specs.Groups.{bit, group_at, in_flight_at, out_of, place_by};
 
 use crate::groups::front::refresh;
-use crate::groups::key::{AskedGroup, HeldGroup};
 use crate::shelf::Shelf;
 use indexmap::IndexSet;
-use sqs_message::Place;
+use sqs_message::{Place, Text};
 use std::collections::VecDeque;
 
 /// The hosts in the mark of a message that leads its group: that is the first of its group and
@@ -32,7 +31,7 @@ pub struct Members {
 }
 
 // The place of a group, or how many groups there are.
-pub fn place_of(names: &IndexSet<HeldGroup>, group: &AskedGroup) -> usize
+pub fn place_of(names: &IndexSet<Option<Text>>, group: &Option<Text>) -> usize
     ensures { result ≡ place_by names.now.keys group.now }
 {
     names.get_index_of(group).unwrap_or(names.len())

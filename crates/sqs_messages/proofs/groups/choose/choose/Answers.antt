@@ -34,8 +34,7 @@ returns-in_default-clause-looked c = omega (arith, c.loop-leader.invariant.looke
 pub numbers_at-requires : goal.numbers_at-requires
 numbers_at-requires c =
     let s = shelved_of (find (wanted c.loop-leader.from 1) c.args.shelf.now.items) c.in-Some.leader.now c.in-Some.ensures.found in
-    let group : c.new-in-loop-leader.result ≡ s.0.message.group = c.new-in-loop-leader.ensures ∙ c.as_ref.ensures.value ∙ ap (λ (x : Message). x.group) (sym s.2) in
-    let at : c.place_of-place.result ≡ place_by c.args.names.now.keys s.0.message.group = c.place_of-place.ensures ∙ ap (place_by c.args.names.now.keys) group in
+    let at : c.place_of-place.result ≡ place_by c.args.names.now.keys s.0.message.group = c.place_of-place.ensures ∙ ap (λ (x : Message). place_by c.args.names.now.keys x.group) (sym s.2) in
     placed c.args.names.now.keys c.args.groups.now c.args.shelf.now.items c.args.shelf.now.next (number_of s.0) c.place_of-place.result s.0 (c.requires.grouped s.0.message.group) (found_number (wanted c.loop-leader.from 1) 0 c.args.shelf.now.items s.0 c.number-next.ensures.ordered s.1).0 at
 
 pub loop-leader-smaller : goal.loop-leader-smaller
@@ -47,8 +46,7 @@ loop-leader-smaller c =
 pub loop-leader-preserved : goal.loop-leader-preserved
 loop-leader-preserved c =
     let s = shelved_of (find (wanted c.loop-leader.from 1) c.args.shelf.now.items) c.in-Some.leader.now c.in-Some.ensures.found in
-    let group : c.new-in-loop-leader.result ≡ s.0.message.group = c.new-in-loop-leader.ensures ∙ c.as_ref.ensures.value ∙ ap (λ (x : Message). x.group) (sym s.2) in
-    let at : c.place_of-place.result ≡ place_by c.args.names.now.keys s.0.message.group = c.place_of-place.ensures ∙ ap (place_by c.args.names.now.keys) group in
+    let at : c.place_of-place.result ≡ place_by c.args.names.now.keys s.0.message.group = c.place_of-place.ensures ∙ ap (λ (x : Message). place_by c.args.names.now.keys x.group) (sym s.2) in
     let listed : held c.args.shelf.now.items c.numbers_at.result.now.items ≡ of_group s.0.message.group (told c.args.shelf.now.items) =
     ap (held c.args.shelf.now.items) (c.numbers_at.ensures ∙ ap (λ j. (group_at c.args.groups.now j).numbers) at) ∙ (c.requires.grouped s.0.message.group).listed in
     let is : c.give.new.choice.numbers.items ≡ take c.args.most (c.loop-leader.choice.numbers.items ++ numbers_of (given_by (told c.args.shelf.now.items) s.0.message)) =
