@@ -1,5 +1,5 @@
 -- What a change of one message keeps of what is due and of what is told of the others.
-use Rattle.std.proofs.Common.{◌≡◌, ℕ, ◌+◌, ◌<◌, ◌≤◌, arith, Bool, true, false, List, [], ◌∷◌, ◌++◌, Option, if◌then◌else◌, map, refl, ap, sym, subst, ◌∙◌}
+use Rattle.std.proofs.Common.{◌≡◌, ℕ, ◌+◌, ◌<◌, arith, Bool, true, false, List, [], ◌∷◌, ◌++◌, Option, if◌then◌else◌, map, refl, ap, sym, subst, ◌∙◌}
 use Rattle.std.specs.Prelude.{All}
 use Rattle.std.proofs.lemmas.List.{map-append}
 use Rattle.std.proofs.lemmas.List.Elements.{All-push}
@@ -23,7 +23,6 @@ use Rattle.sqs_messages.specs.Slots.{Shelved, is_numbered, restated}
 use Rattle.sqs_messages.specs.Stored.{IsCounted}
 use Rattle.sqs_messages.specs.Tables.{AreKept, IsTable, queue_of}
 use Rattle.sqs_messages.specs.declared.table.MessageTable.TheInside.{Inside}
-use Rattle.sqs_redrive.specs.declared.settings.QueueSettings.{QueueSettings}
 
 -- a change in which hosts alone differ
 pub unhosted_alike : (p : Shelved → Bool) (f g : Shelved → Shelved) → ((s : Shelved) → unhosted (f s) ≡ unhosted (g s)) → (items : List Shelved) → map unhosted (changed p f items) ≡ map unhosted (changed p g items)
@@ -55,28 +54,28 @@ module _
     (inside : Inside) (q : Queue) (between after : List Shelved) (middle end : ℕ) (m : Message) (due : Option Key) (shows : queue_of inside ≡ q) (e : between ≡ inside.shelf.items) (f : middle ≡ inside.shelf.next)
     (added : map unhosted after ≡ map unhosted between ++ (m, due) ∷ []) (g : end ≡ middle + 1)
   where
-  arrivals : end ≡ inside.shelf.next + 1
-  arrivals = g ∙ ap (λ n. n + 1) f
+    arrivals : end ≡ inside.shelf.next + 1
+    arrivals = g ∙ ap (λ n. n + 1) f
 
-  pub added_kept : (order : Order) → IsTable inside → IsCounted m → q.arrivals < most_count → due ≡ least (message_dues inside.site inside.settings.retention m) → IsOrderOf inside.settings.kind order → AreInOrder after end order
-      → AreKept inside.site inside.settings after end order
-  added_kept order h counted below first kind ordered =
-      record {
-        settings_in_range = h.settings_in_range;
-        arrivals_in_range = omega (arith, arrivals, ap (λ (p : Queue). p.arrivals) shows, below);
-        dues = added_dues inside.site inside.settings.retention between after m due added
-            (λ s is d. record {
-              due = d ∙ first ∙ ap (λ (x : Message). least (message_dues inside.site inside.settings.retention x)) (sym is);
-              counted = subst IsCounted (sym is) counted;
-            })
-            (subst (All (IsDue inside.site inside.settings.retention)) (sym e) h.dues);
-        order_of = kind;
-        ordered = ordered;
-      }
+    pub added_kept : (order : Order) → IsTable inside → IsCounted m → q.arrivals < most_count → due ≡ least (message_dues inside.site inside.settings.retention m) → IsOrderOf inside.settings.kind order → AreInOrder after end order
+        → AreKept inside.site inside.settings after end order
+    added_kept order h counted below first kind ordered =
+        record {
+          settings_in_range = h.settings_in_range;
+          arrivals_in_range = omega (arith, arrivals, ap (λ (p : Queue). p.arrivals) shows, below);
+          dues = added_dues inside.site inside.settings.retention between after m due added
+              (λ s is d. record {
+                due = d ∙ first ∙ ap (λ (x : Message). least (message_dues inside.site inside.settings.retention x)) (sym is);
+                counted = subst IsCounted (sym is) counted;
+              })
+              (subst (All (IsDue inside.site inside.settings.retention)) (sym e) h.dues);
+          order_of = kind;
+          ordered = ordered;
+        }
 
-  -- and what contracts see of it
-  pub added_queue : record (queue_of inside) { records = told after; arrivals = end } ≡ with_message q m
-  added_queue =
-      let records : told after ≡ told inside.shelf.items ++ m ∷ [] = added_told between after m due added ∙ ap (λ (xs : List Shelved). told xs ++ m ∷ []) e in
-      (λ j. let p : Queue = record (queue_of inside) { records = records j; arrivals = arrivals j } in p)
-      ∙ ap (λ (p : Queue). with_message p m) shows
+    -- and what contracts see of it
+    pub added_queue : record (queue_of inside) { records = told after; arrivals = end } ≡ with_message q m
+    added_queue =
+        let records : told after ≡ told inside.shelf.items ++ m ∷ [] = added_told between after m due added ∙ ap (λ (xs : List Shelved). told xs ++ m ∷ []) e in
+        (λ j. let p : Queue = record (queue_of inside) { records = records j; arrivals = arrivals j } in p)
+        ∙ ap (λ (p : Queue). with_message p m) shows

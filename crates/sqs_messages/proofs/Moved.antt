@@ -1,21 +1,16 @@
 -- A message that is found by its number, among the messages of its group, and the table after it left or changed.
-use Rattle.std.proofs.Common.{◌≡◌, ℕ, ◌+◌, ◌<◌, Bool, false, List, Option, Some, ap, arith, length, map, subst, sym, ◌∙◌}
+use Rattle.std.proofs.Common.{◌≡◌, ℕ, ◌+◌, ◌<◌, Bool, List, Option, Some, ap, arith, length, map, subst, sym, ◌∙◌}
 use Rattle.std.specs.Option.{option_map}
 use Rattle.std.specs.Prelude.{All, find, ◌≢◌}
-use Rattle.sim_clock.specs.Firsts.{changed, without}
-use Rattle.sim_index.specs.Marks.{meets}
-use Rattle.sim_index.specs.declared.mark.Mark.{Mark}
 use Rattle.sqs_message.specs.declared.message.Message.{Message}
-use Rattle.sqs_model.specs.Progress.{Ascends}
 use Rattle.sqs_model.specs.Queue.{is_in_flight}
-use Rattle.sqs_messages.proofs.Calls.{changed_grouped, changed_led, placed, removed_grouped, removed_led, settle_at, shelved_of}
+use Rattle.sqs_messages.proofs.Calls.{placed, settle_at, shelved_of}
 use Rattle.sqs_messages.proofs.Settled.{IsSettled}
 use Rattle.sqs_messages.specs.declared.groups.members.Members.{Members}
-use Rattle.sqs_messages.specs.declared.slot.State.{State}
-use Rattle.sqs_messages.specs.Groups.{AreGrouped, AreInGroups, IsGrouped, bit, group_at, group_by, in_flight_at, out_of, place_by}
+use Rattle.sqs_messages.specs.Groups.{AreGrouped, AreInGroups, IsGrouped, bit, group_at, group_by, out_of, place_by}
 use Rattle.sqs_messages.specs.Heads.{AreLed, IsLedBut, of_group, told}
 use Rattle.sqs_messages.specs.Marked.{unhosted}
-use Rattle.sqs_messages.specs.Slots.{Shelved, held, is_numbered, number_of, restated}
+use Rattle.sqs_messages.specs.Slots.{Shelved, held, is_numbered}
 
 -- where a message of a number stands, and where its group does
 pub record IsMember (items : List Shelved) (next : ℕ) (names : List (Option (List ℕ))) (groups : List Members) (number index : ℕ) (message : Message) : Type 0 where

@@ -7,19 +7,12 @@ ghost use Rattle.sqs_messages.specs.Slots.{held};
 ghost use Rattle.sqs_messages.specs.Groups.{AreGrouped};
 
 use crate::choose::Choice;
-use crate::groups::members::{LEADS, Members, numbers_at, place_of};
+use crate::groups::members::{LEADS, Members, place_of};
 use crate::shelf::Shelf;
 use indexmap::IndexSet;
 use sqs_message::{Message, Place, Text};
 use std::alloc::{AllocError, Global};
 use std::collections::VecDeque;
-
-// Whether a message's first delay goes on.
-fn waits(message: &Message) -> bool
-    ensures { result ≡ is_delayed message.now }
-{
-    matches!(message.place, Place::Delayed)
-}
 
 // Adds the numbers of a group's messages that stand before its first delayed one, up to so many in
 // all.
@@ -41,7 +34,7 @@ fn give(
         }
         if let Some(message) = shelf.get(*number) {
             choice.looked += 1;
-            if waits(message) {
+            if message.place == Place::Delayed {
                 return Ok(());
             }
             choice.numbers.push(message.number)?;
@@ -77,7 +70,7 @@ pub fn choose(
         };
         let number = leader.number;
         let place = place_of(names, &leader.group);
-        give(shelf, numbers_at(groups, place), most, &mut choice)?;
+        give(shelf, &groups[place].numbers, most, &mut choice)?;
         from = number + 1;
     }
     Ok(choice)

@@ -37,14 +37,6 @@ pub fn place_of(names: &IndexSet<Option<Text>>, group: &Option<Text>) -> usize
     names.get_index_of(group).unwrap_or(names.len())
 }
 
-// The numbers of the group at a place.
-pub fn numbers_at(groups: &[Members], place: usize) -> &VecDeque<u64>
-    requires { place < length groups.now }
-    ensures { result.now.items ≡ (group_at groups.now place).numbers }
-{
-    &groups[place].numbers
-}
-
 // How many are in flight after one was or was not, and now is or is not.
 fn counted(out: u64, was: bool, is: bool) -> u64
     requires less { was ≡ true → 1 ≤ out }

@@ -62,13 +62,6 @@ fn is_there(shelf: &Shelf, number: u64) -> bool
     shelf.get(number).is_some()
 }
 
-// Drops the numbers of messages that have left.
-fn drop_gone(shelf: &Shelf, numbers: &mut VecDeque<u64>)
-    ensures { numbers.new.items ≡ filter (λ n. is_some (message_of shelf.now.items n)) numbers.old.items }
-{
-    numbers.retain(|number| is_there(shelf, *number));
-}
-
 // Makes room for one more number in a list. Where it is full, the numbers of messages that have left
 // go first, and then there is to be room for as many more as stay: so a list is no longer than some
 // four times as many messages as there once were, and numbers go only now and then.
@@ -80,7 +73,7 @@ fn room_in(shelf: &Shelf, numbers: &mut VecDeque<u64>) -> Result<(), AllocError>
     if numbers.len() < numbers.capacity() {
         return Ok(());
     }
-    drop_gone(shelf, numbers);
+    numbers.retain(|number| is_there(shelf, *number));
     let more = numbers.len() + 1;
     numbers.reserve(more)
 }

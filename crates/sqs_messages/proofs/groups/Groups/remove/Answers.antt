@@ -1,11 +1,10 @@
-use Rattle.std.proofs.Common.{◌≡◌, ◌≤◌, List, ap, arith, false, length, subst, sym, ◌∙◌}
+use Rattle.std.proofs.Common.{◌≡◌, List, ap, arith, false, length, subst, sym, ◌∙◌}
 use Rattle.std.specs.Prelude.{find}
-use Rattle.std.specs.Vec.{with_items}
 use Rattle.std.proofs.lemmas.List.{with_items_is}
 use Rattle.sim_clock.specs.Firsts.{without}
 use Rattle.sqs_model.specs.Queue.{is_in_flight}
 use Rattle.sqs_messages.proofs.Calls.{absent_without, none_of, out_some, removed_grouped, removed_led}
-use Rattle.sqs_messages.proofs.Moved.{IsMember, member, settle_here, written_back}
+use Rattle.sqs_messages.proofs.Moved.{member, settle_here, written_back}
 use Rattle.sqs_messages.proofs.Settled.{IsSettled}
 use Rattle.sqs_messages.specs.declared.groups.members.Members.{Members}
 use Rattle.sqs_messages.specs.Groups.{AreInGroups, group_by}
