@@ -128,15 +128,10 @@ impl MessageTable {
         ensures added { OnOk result (self.new ≡ with_message self.old message) }
         ensures unchanged { OnErr result (self.new ≡ self.old) }
     {
-        let place = self
-            .order
-            .room_for(self.alloc, &mut self.shelf, &message.group)?;
-        let due = due_of(
-            self.site,
-            self.settings.retention,
-            &message,
-            message.release,
-        );
+        let group = &message.group;
+        let place = self.order.room_for(self.alloc, &mut self.shelf, group)?;
+        let retention = self.settings.retention;
+        let due = due_of(self.site, retention, &message, message.release);
         self.order.add(&mut self.shelf, place, message, due);
         Ok(())
     }
@@ -161,16 +156,11 @@ impl MessageTable {
         ensures unchanged { OnErr result (self.new ≡ self.old) }
         ensures same_entries { OnErr result (entries.new ≡ entries.old) }
     {
-        let place = self
-            .order
-            .room_for(self.alloc, &mut self.shelf, &message.group)?;
+        let group = &message.group;
+        let place = self.order.room_for(self.alloc, &mut self.shelf, group)?;
         entries.enter(now, key, message.number)?;
-        let due = due_of(
-            self.site,
-            self.settings.retention,
-            &message,
-            message.release,
-        );
+        let retention = self.settings.retention;
+        let due = due_of(self.site, retention, &message, message.release);
         self.order.add(&mut self.shelf, place, message, due);
         Ok(())
     }

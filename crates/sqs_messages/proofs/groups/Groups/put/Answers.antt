@@ -1,4 +1,4 @@
-use Rattle.std.proofs.Common.{◌≡◌, ◌+◌, ◌≤◌, List, ap, arith, length, map, refl, subst, sym, ◌∙◌}
+use Rattle.std.proofs.Common.{◌+◌, ◌≤◌, ap, arith, map, refl, subst, sym, ◌∙◌}
 use Rattle.std.specs.Prelude.{find}
 use Rattle.std.proofs.lemmas.List.{with_items_is}
 use Rattle.sim_clock.specs.Firsts.{changed}
@@ -8,8 +8,7 @@ use Rattle.sqs_model.specs.Queue.{is_in_flight}
 use Rattle.sqs_messages.proofs.Calls.{changed_grouped, changed_led, none_of, out_room, out_some}
 use Rattle.sqs_messages.proofs.Moved.{member, settle_here, written_back}
 use Rattle.sqs_messages.proofs.Settled.{IsSettled}
-use Rattle.sqs_messages.specs.declared.groups.members.Members.{Members}
-use Rattle.sqs_messages.specs.Groups.{AreInGroups, group_at, group_by, in_flight_at}
+use Rattle.sqs_messages.specs.Groups.{group_at, group_by, in_flight_at}
 use Rattle.sqs_messages.specs.Marked.{restamped, unhosted}
 use Rattle.sqs_messages.specs.Slots.{is_numbered}
 use Rattle.sqs_messages.proofs.groups.Groups.put.Goals as goal
@@ -21,16 +20,16 @@ returns-in_default-clause-changed c =
 
 pub moved-requires-clause-index : goal.moved-requires-clause-index
 moved-requires-clause-index c =
-    (member _ _ _ _ _ _ _ _ c.as_mut_slice-groups.ensures.value c.requires.grouped c.in-Some.ensures c.place_of-index.ensures).within
+    (member _ _ _ _ _ _ _ _ c.as_mut_slice-groups.ensures.value c.requires c.in-Some.ensures c.place_of-index.ensures).within
 
 pub moved-requires-clause-less : goal.moved-requires-clause-less
 moved-requires-clause-less c e =
-    let m = member _ _ _ _ _ _ _ _ c.as_mut_slice-groups.ensures.value c.requires.grouped c.in-Some.ensures c.place_of-index.ensures in
+    let m = member _ _ _ _ _ _ _ _ c.as_mut_slice-groups.ensures.value c.requires c.in-Some.ensures c.place_of-index.ensures in
     out_some c.args.number c.args.shelf.now.next c.args.shelf.now.items m.shelved _ m.grouped m.found (ap is_in_flight m.is ∙ sym c.in_flight-was.ensures ∙ e)
 
 pub moved-requires-clause-room : goal.moved-requires-clause-room
 moved-requires-clause-room c e f =
-    let m = member _ _ _ _ _ _ _ _ c.as_mut_slice-groups.ensures.value c.requires.grouped c.in-Some.ensures c.place_of-index.ensures in
+    let m = member _ _ _ _ _ _ _ _ c.as_mut_slice-groups.ensures.value c.requires c.in-Some.ensures c.place_of-index.ensures in
     let room : (group_at c.as_mut_slice-groups.result.now c.place_of-index.result).out + 1 ≤ c.args.shelf.now.next =
     out_room c.args.number c.args.shelf.now.next c.args.shelf.now.items m.shelved c.args.state (record { due = c.args.due; hosts = 0 }) _ m.grouped m.found
     (ap is_in_flight m.is ∙ sym c.in_flight-was.ensures ∙ e) (sym c.in_flight-is.ensures ∙ f) c.number-next.ensures.ordered c.number-next.ensures.below in
@@ -43,15 +42,13 @@ returns-clause-grouped c =
     let groups = c.as_mut_slice-groups.result.now in
     let after = c.moved.new.groups in
     let mark : Mark = record { due = c.args.due; hosts = 0 } in
-    let m = member _ _ _ _ _ _ _ _ c.as_mut_slice-groups.ensures.value c.requires.grouped c.in-Some.ensures c.place_of-index.ensures in
-    let long : length names ≡ length groups = c.requires.same ∙ ap length (sym c.as_mut_slice-groups.ensures.value) in
-    let grouped = subst (λ (gs : List Members). AreInGroups items c.args.shelf.now.next names gs) (sym c.as_mut_slice-groups.ensures.value) c.requires in
+    let m = member _ _ _ _ _ _ _ _ c.as_mut_slice-groups.ensures.value c.requires c.in-Some.ensures c.place_of-index.ensures in
     let settled : IsSettled (changed (is_numbered c.args.number) (restamped c.args.state c.args.due) items) c.moved.new.shelf.items m.shelved.message.group (is_in_flight m.shelved.message) (in_flight_at c.args.state.place) (group_by names groups) (group_by names after) =
     subst (λ b. IsSettled (changed (is_numbered c.args.number) (restamped c.args.state c.args.due) items) c.moved.new.shelf.items m.shelved.message.group (is_in_flight m.shelved.message) b (group_by names groups) (group_by names after)) c.in_flight-is.ensures
-    (settle_here _ _ names groups after _ _ _ c.put.new.self.items _ _ _ _ m long c.put.ensures.items c.in_flight-was.ensures c.moved.ensures.kept c.moved.ensures.others c.moved.ensures.out c.moved.ensures.held c.moved.ensures.below c.moved.ensures.led) in
+    (settle_here _ _ names groups after _ _ _ c.put.new.self.items _ _ _ _ m c.put.ensures.items c.in_flight-was.ensures c.moved.ensures.kept c.moved.ensures.others c.moved.ensures.out c.moved.ensures.held c.moved.ensures.below c.moved.ensures.led) in
     written_back _ _ _ _ _ _ (c.moved.ensures.next ∙ c.put.ensures.next) (with_items_is c.args.self.now.members after (omega (arith, c.moved.ensures.len, c.as_mut_slice-groups.ensures.len)))
     (record {
-      led = changed_led c.args.number c.args.shelf.now.next items m.shelved (group_by names groups) c.number-next.ensures.ordered m.found c.requires.led grouped.grouped c.args.state mark c.moved.new.shelf.items (group_by names after) refl settled;
-      same = long ∙ sym c.moved.ensures.len;
-      grouped = changed_grouped c.args.number c.args.shelf.now.next items m.shelved (group_by names groups) c.number-next.ensures.ordered m.found c.requires.led grouped.grouped c.args.state mark c.moved.new.shelf.items (group_by names after) settled;
+      led = changed_led c.args.number c.args.shelf.now.next items m.shelved (group_by names groups) c.number-next.ensures.ordered m.found c.requires.led m.table.grouped c.args.state mark c.moved.new.shelf.items (group_by names after) refl settled;
+      same = m.table.same ∙ sym c.moved.ensures.len;
+      grouped = changed_grouped c.args.number c.args.shelf.now.next items m.shelved (group_by names groups) c.number-next.ensures.ordered m.found c.requires.led m.table.grouped c.args.state mark c.moved.new.shelf.items (group_by names after) settled;
     })

@@ -1,4 +1,4 @@
-use Rattle.std.proofs.Common.{◌≡◌, List, ap, arith, false, length, subst, sym, ◌∙◌}
+use Rattle.std.proofs.Common.{◌≡◌, List, ap, arith, false, subst, sym, ◌∙◌}
 use Rattle.std.specs.Prelude.{find}
 use Rattle.std.proofs.lemmas.List.{with_items_is}
 use Rattle.sim_clock.specs.Firsts.{without}
@@ -6,7 +6,6 @@ use Rattle.sqs_model.specs.Queue.{is_in_flight}
 use Rattle.sqs_messages.proofs.Calls.{absent_without, none_of, out_some, removed_grouped, removed_led}
 use Rattle.sqs_messages.proofs.Moved.{member, settle_here, written_back}
 use Rattle.sqs_messages.proofs.Settled.{IsSettled}
-use Rattle.sqs_messages.specs.declared.groups.members.Members.{Members}
 use Rattle.sqs_messages.specs.Groups.{AreInGroups, group_by}
 use Rattle.sqs_messages.specs.Slots.{Shelved, is_numbered}
 use Rattle.sqs_messages.proofs.groups.Groups.remove.Goals as goal
@@ -21,11 +20,11 @@ returns-in_default-clause-grouped c =
 
 pub moved-requires-clause-index : goal.moved-requires-clause-index
 moved-requires-clause-index c =
-    (member _ _ _ _ _ _ _ _ c.as_mut_slice-groups.ensures.value c.requires.grouped c.in-Some.ensures.found c.place_of-index.ensures).within
+    (member _ _ _ _ _ _ _ _ c.as_mut_slice-groups.ensures.value c.requires c.in-Some.ensures.found c.place_of-index.ensures).within
 
 pub moved-requires-clause-less : goal.moved-requires-clause-less
 moved-requires-clause-less c e =
-    let m = member _ _ _ _ _ _ _ _ c.as_mut_slice-groups.ensures.value c.requires.grouped c.in-Some.ensures.found c.place_of-index.ensures in
+    let m = member _ _ _ _ _ _ _ _ c.as_mut_slice-groups.ensures.value c.requires c.in-Some.ensures.found c.place_of-index.ensures in
     out_some c.args.number c.args.shelf.now.next c.args.shelf.now.items m.shelved _ m.grouped m.found (ap is_in_flight m.is ∙ sym c.in_flight.ensures ∙ e)
 
 pub returns-clause-grouped : goal.returns-clause-grouped
@@ -34,14 +33,12 @@ returns-clause-grouped c =
     let names = c.args.self.now.names.keys in
     let groups = c.as_mut_slice-groups.result.now in
     let after = c.moved.new.groups in
-    let m = member _ _ _ _ _ _ _ _ c.as_mut_slice-groups.ensures.value c.requires.grouped c.in-Some.ensures.found c.place_of-index.ensures in
-    let long : length names ≡ length groups = c.requires.same ∙ ap length (sym c.as_mut_slice-groups.ensures.value) in
-    let grouped = subst (λ (gs : List Members). AreInGroups items c.args.shelf.now.next names gs) (sym c.as_mut_slice-groups.ensures.value) c.requires in
+    let m = member _ _ _ _ _ _ _ _ c.as_mut_slice-groups.ensures.value c.requires c.in-Some.ensures.found c.place_of-index.ensures in
     let settled : IsSettled (without (is_numbered c.args.number) items) c.moved.new.shelf.items m.shelved.message.group (is_in_flight m.shelved.message) false (group_by names groups) (group_by names after) =
-    settle_here _ _ names groups after _ _ _ c.remove.new.self.items _ _ _ _ m long c.in-Some.ensures.items c.in_flight.ensures c.moved.ensures.kept c.moved.ensures.others c.moved.ensures.out c.moved.ensures.held c.moved.ensures.below c.moved.ensures.led in
+    settle_here _ _ names groups after _ _ _ c.remove.new.self.items _ _ _ _ m c.in-Some.ensures.items c.in_flight.ensures c.moved.ensures.kept c.moved.ensures.others c.moved.ensures.out c.moved.ensures.held c.moved.ensures.below c.moved.ensures.led in
     written_back _ _ _ _ _ _ (c.moved.ensures.next ∙ c.in-Some.ensures.next) (with_items_is c.args.self.now.members after (omega (arith, c.moved.ensures.len, c.as_mut_slice-groups.ensures.len)))
     (record {
-      led = removed_led c.args.number c.args.shelf.now.next items m.shelved (group_by names groups) c.number-next.ensures.ordered m.found c.requires.led grouped.grouped c.moved.new.shelf.items (group_by names after) settled;
-      same = long ∙ sym c.moved.ensures.len;
-      grouped = removed_grouped c.args.number c.args.shelf.now.next items m.shelved (group_by names groups) c.number-next.ensures.ordered m.found c.requires.led grouped.grouped c.moved.new.shelf.items (group_by names after) settled;
+      led = removed_led c.args.number c.args.shelf.now.next items m.shelved (group_by names groups) c.number-next.ensures.ordered m.found c.requires.led m.table.grouped c.moved.new.shelf.items (group_by names after) settled;
+      same = m.table.same ∙ sym c.moved.ensures.len;
+      grouped = removed_grouped c.args.number c.args.shelf.now.next items m.shelved (group_by names groups) c.number-next.ensures.ordered m.found c.requires.led m.table.grouped c.moved.new.shelf.items (group_by names after) settled;
     })
