@@ -46,34 +46,30 @@ module _ (nodes : List Mark) (hosts : ℕ) (pairs : ArePairs nodes) where
       let some : 1 ≤ first.row = omega (arith, first.from, first.within) in
       quiet nodes hosts i pairs (omega (arith, l, some)) (omega (arith, u, high)) (first.before (i / 2) (omega (arith, l)) (omega (arith, u)))
 
+  below : (at next : ℕ) → (first : IsFirstTold nodes hosts at) → 2 * at ≤ next → next ≤ 2 * at + 1 → tells nodes hosts next ≡ true → NoneIn nodes hosts (2 * first.row) next → IsFirstTold nodes hosts next
+  below at next first low high told before =
+      record {
+        row = 2 * first.row;
+        power = (suc first.power.0, ap (λ k. 2 * k) first.power.1 ∙ sym (pow-succ' 2 first.power.0));
+        from = omega (arith, first.from, low);
+        within = omega (arith, first.within, high);
+        told = told;
+        before = before;
+      }
+
   -- one step down
   pub told_below : (at next : ℕ) → 1 ≤ at → 2 * at + 1 < length nodes → IsFirstTold nodes hosts at
       → ((tells nodes hosts (2 * at) ≡ true) × (next ≡ 2 * at)) ⊎ ((tells nodes hosts (2 * at) ≡ false) × (next ≡ 2 * at + 1)) → IsFirstTold nodes hosts next
   told_below at next low high first is =
-      let lower : IsPower (2 * first.row) = (suc first.power.0, ap (λ k. 2 * k) first.power.1 ∙ sym (pow-succ' 2 first.power.0)) in
       elim is [
-        | inl h ↦
-            record {
-              row = 2 * first.row;
-              power = lower;
-              from = omega (arith, first.from, h.1);
-              within = omega (arith, first.within, h.1);
-              told = ap (tells nodes hosts) h.1 ∙ h.0;
-              before = λ i l u. none_left at first high i l (omega (arith, u, h.1));
-            }
+        | inl h ↦ below at next first (omega (arith, h.1)) (omega (arith, h.1)) (ap (tells nodes hosts) h.1 ∙ h.0) (λ i l u. none_left at first high i l (omega (arith, u, h.1)))
         | inr h ↦
-            record {
-              row = 2 * first.row;
-              power = lower;
-              from = omega (arith, first.from, h.1);
-              within = omega (arith, first.within, h.1);
-              told = ap (tells nodes hosts) h.1 ∙ told_second nodes hosts at pairs low high first.told h.0;
-              before = λ i l u.
-                  elim (cases_lt i (2 * at)) [
-                    | inl m ↦ none_left at first high i l m
-                    | inr m ↦ ap (tells nodes hosts) (let here : i ≡ 2 * at = omega (arith, u, m, h.1) in here) ∙ h.0
-                  ];
-            }
+            below at next first (omega (arith, h.1)) (omega (arith, h.1)) (ap (tells nodes hosts) h.1 ∙ told_second nodes hosts at pairs low high first.told h.0)
+            (λ i l u.
+            elim (cases_lt i (2 * at)) [
+              | inl m ↦ none_left at first high i l m
+              | inr m ↦ ap (tells nodes hosts) (let here : i ≡ 2 * at = omega (arith, u, m, h.1) in here) ∙ h.0
+            ])
       ]
 
 -- a leaf at the end of the way

@@ -1,5 +1,5 @@
 //! What is kept of one place, or of several together.
-ghost use Rattle.std.specs.Prelude.{IsTrue, if◌then◌else◌, ◌↔◌, ◌≡◌, ◌+◌, ◌<◌, ◌≤◌, length, get_or};
+ghost use Rattle.std.specs.Prelude.{None, if◌then◌else◌, true, ◌≡◌, get_or};
 ghost use Rattle.sim_clock.specs.Order.{lesser};
 ghost use Rattle.sim_index.specs.Marks.{joined, meets, no_mark};
 
@@ -7,7 +7,7 @@ use sim_clock::Key;
 
 /// What is kept of one place of a list, or of several together: the least of what is due there, and
 /// the hosts on which a message may be received, as bits.
-#[derive(Clone, Copy, Debug)]
+#[derive(Clone, Copy, Debug, PartialEq, Eq)]
 pub struct Mark {
     /// The least of what is due.
     pub due: Option<Key>,
@@ -21,14 +21,15 @@ pub const NO_MARK: Mark = Mark {
     hosts: 0,
 };
 
-// Whether the second of two that may be due comes before the first.
-fn comes_before(first: &Option<Key>, second: &Option<Key>) -> bool
-    ensures { lesser first.now second.now ≡ (if result then second.now else first.now) }
+/// Whether the lesser of two keys is the second, and not the first too.
+pub fn is_second(first: Option<Key>, second: Option<Key>) -> bool
+    ensures lesser { lesser first second ≡ (if result then second else first) }
+    ensures strict { result ≡ true → first ≡ second → second ≡ None }
 {
     match (first, second) {
-        (_, None) => false,
-        (None, Some(_)) => true,
-        (Some(first), Some(second)) => second.is_before(first),
+        (None, _) => true,
+        (Some(_), None) => false,
+        (Some(first), Some(second)) => second.is_before(&first),
     }
 }
 
@@ -36,7 +37,7 @@ fn comes_before(first: &Option<Key>, second: &Option<Key>) -> bool
 pub fn join(first: &Mark, second: &Mark) -> Mark
     ensures { result ≡ joined first.now second.now }
 {
-    let least = if comes_before(&first.due, &second.due) {
+    let least = if is_second(first.due, second.due) {
         second
     } else {
         first
@@ -45,28 +46,6 @@ pub fn join(first: &Mark, second: &Mark) -> Mark
         due: least.due,
         hosts: first.hosts | second.hosts,
     }
-}
-
-// Whether two keys are one.
-fn is_same_key(first: &Key, second: &Key) -> bool
-    ensures { IsTrue result ↔ (first.now ≡ second.now) }
-{
-    first.at == second.at
-        && first.number == second.number
-        && first.agent == second.agent
-        && first.class == second.class
-}
-
-/// Whether two marks are one.
-pub fn is_same(first: &Mark, second: &Mark) -> bool
-    ensures { IsTrue result ↔ (first.now ≡ second.now) }
-{
-    let is_due = match (&first.due, &second.due) {
-        (None, None) => true,
-        (Some(first), Some(second)) => is_same_key(first, second),
-        _ => false,
-    };
-    is_due && first.hosts == second.hosts
 }
 
 /// Whether a mark tells of a message on one of these hosts.

@@ -3,7 +3,7 @@ ghost use Rattle.std.specs.Prelude.{◌≡◌, ◌⊎◌, None, [], if◌then◌
 ghost use Rattle.sim_clock.specs.Order.{lesser};
 ghost use Rattle.sim_index.specs.Marks.{ArePairs, ArePairsBut, IsFirstBelow, IsNextIn, IsPlaceOfLeast, IsPower, NoneIn, beyond, least_of, no_mark, node, tells};
 
-use crate::mark::{Mark, NO_MARK, is_same, join, mark_at, meets};
+use crate::mark::{Mark, NO_MARK, is_second, join, mark_at, meets};
 use sim_clock::Key;
 use std::alloc::{AllocError, Global};
 use std::marker::Model;
@@ -102,7 +102,7 @@ fn mend(nodes: &mut Vec<Mark>, width: usize, node: usize)
     let mut node = node / 2;
     while 0 < node {
         let both = join(&nodes[2 * node], &nodes[2 * node + 1]);
-        if is_same(&nodes[node], &both) {
+        if nodes[node] == both {
             return;
         }
         nodes[node] = both;
@@ -132,18 +132,6 @@ fn write_above(nodes: &mut Vec<Mark>, width: usize)
     for i in (1..width).rev() {
         let both = join(&mark_at(nodes, 2 * i), &mark_at(nodes, 2 * i + 1));
         nodes[i] = both;
-    }
-}
-
-// Whether the lesser of two keys is the second, and not the first too.
-fn is_second(first: Option<Key>, second: Option<Key>) -> bool
-    ensures lesser { lesser first second ≡ (if result then second else first) }
-    ensures strict { result ≡ true → first ≡ second → second ≡ None }
-{
-    match (first, second) {
-        (None, _) => true,
-        (Some(_), None) => false,
-        (Some(first), Some(second)) => second.is_before(&first),
     }
 }
 

@@ -1,15 +1,14 @@
 //! The window and its calls.
 ghost use Rattle.std.specs.Prelude.{All, None, OnErr, OnOk, [], ◌++◌, ◌+◌, ◌∷◌, ◌≡◌, ◌≤◌};
-ghost use Rattle.std.specs.Option.{option_copied, option_map};
+ghost use Rattle.std.specs.Option.{option_map};
 ghost use Rattle.sqs_model.specs.Answers.{most_count};
 ghost use Rattle.sqs_model.specs.Calls.{living_entries};
 ghost use Rattle.sqs_model.specs.Longest.{deduplication_interval};
 ghost use Rattle.sqs_dedup.specs.Window.{living_among};
 
 use crate::held::{Held, add, number_at, only};
-use crate::key::{AskedKey, HeldKey};
+use crate::key::ScopedId;
 use indexmap::IndexMap;
-use sqs_message::Text;
 use sqs_model::DEDUPLICATION_INTERVAL;
 use std::alloc::{AllocError, Global};
 use std::marker::Model;
@@ -24,8 +23,8 @@ use std::mem;
 /// about ten minutes of entries are held.
 #[derive(Drop)]
 pub struct Dedup {
-    earlier: IndexMap<HeldKey, Held>,
-    recent: IndexMap<HeldKey, Held>,
+    earlier: IndexMap<ScopedId, Held>,
+    recent: IndexMap<ScopedId, Held>,
     // The moment from which on entries went to the recent ones.
     began: u64,
     // The moment of the last entry.
@@ -59,36 +58,28 @@ impl Dedup {
         }
     }
 
-    /// The number of the message that was accepted with this scope and id, if its entry lives: a
-    /// send with these is then a duplicate of it (`SendMessage`: `MessageDeduplicationId`). The
-    /// scope is a message group, or none for the whole queue. Takes no memory.
-    pub fn living(&self, now: u64, scope: Option<&Text>, id: &Text) -> Option<u64>
-        ensures { result ≡ option_map (λ e. e.number) (living_among now (option_copied scope.entry) id.now self.now) }
+    /// The number of the message that was accepted with this id in its scope, if its entry lives: a
+    /// send with these is then a duplicate of it (`SendMessage`: `MessageDeduplicationId`). Takes no
+    /// memory.
+    pub fn living(&self, now: u64, key: &ScopedId) -> Option<u64>
+        ensures { result ≡ option_map (λ e. e.number) (living_among now key.now.scope key.now.id self.now) }
     {
-        let key = AskedKey::new(scope, id);
         let moment = now.max(self.last);
-        match number_at(&self.earlier, moment, &key) {
+        match number_at(&self.earlier, moment, key) {
             Some(number) => Some(number),
-            None => number_at(&self.recent, moment, &key),
+            None => number_at(&self.recent, moment, key),
         }
     }
 
-    /// Enters the message with this number, accepted with this scope and id. The entry lives for 5
+    /// Enters the message with this number, accepted with this id in its scope. The entry lives for 5
     /// minutes; those that have ended go. `Memory` where a growth is refused; then nothing changes.
-    pub fn enter(
-        &mut self,
-        now: u64,
-        scope: Option<Text>,
-        id: Text,
-        number: u64,
-    ) -> Result<(), AllocError>
+    pub fn enter(&mut self, now: u64, key: ScopedId, number: u64) -> Result<(), AllocError>
         requires moment { now ≤ most_count }
         requires no_earlier { All (λ e. e.end ≤ now + deduplication_interval) self.old }
-        requires none_living { living_among now scope id self.old ≡ None }
-        ensures entered { OnOk result (self.new ≡ living_entries now self.old ++ record { scope = scope; id = id; end = now + deduplication_interval; number = number } ∷ []) }
+        requires none_living { living_among now key.scope key.id self.old ≡ None }
+        ensures entered { OnOk result (self.new ≡ living_entries now self.old ++ record { scope = key.scope; id = key.id; end = now + deduplication_interval; number = number } ∷ []) }
         ensures unchanged { OnErr result (self.new ≡ self.old) }
     {
-        let key = HeldKey::new(scope, id);
         let held = Held {
             end: now + DEDUPLICATION_INTERVAL,
             number,

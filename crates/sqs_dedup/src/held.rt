@@ -1,10 +1,9 @@
 //! What is held of keys: how it is looked up and added.
 ghost use Rattle.std.specs.Prelude.{IfOk, None, OnErr, OnOk, [], ◌++◌, ◌∷◌, ◌≡◌};
 ghost use Rattle.indexmap.specs.IndexMap.{IsUnique, get};
-ghost use Rattle.sqs_dedup.specs.Keys.{same_key};
-ghost use Rattle.sqs_dedup.specs.Window.{number_at};
+ghost use Rattle.sqs_dedup.specs.Window.{number_at, same_key};
 
-use crate::key::{AskedKey, HeldKey};
+use crate::key::ScopedId;
 use indexmap::IndexMap;
 use std::alloc::{AllocError, Global};
 
@@ -16,7 +15,7 @@ pub struct Held {
 }
 
 // The number of the entry of a key, if it lives at a moment.
-pub fn number_at(entries: &IndexMap<HeldKey, Held>, now: u64, key: &AskedKey) -> Option<u64>
+pub fn number_at(entries: &IndexMap<ScopedId, Held>, now: u64, key: &ScopedId) -> Option<u64>
     ensures { result ≡ number_at now (get same_key entries.now key.now) }
 {
     let held = entries.get(key)?;
@@ -29,8 +28,8 @@ pub fn number_at(entries: &IndexMap<HeldKey, Held>, now: u64, key: &AskedKey) ->
 
 // Adds the entry of a new key, which goes last.
 pub fn add(
-    entries: &mut IndexMap<HeldKey, Held>,
-    key: HeldKey,
+    entries: &mut IndexMap<ScopedId, Held>,
+    key: ScopedId,
     held: Held,
 ) -> Result<(), AllocError>
     requires { get same_key entries.old key ≡ None }
@@ -43,7 +42,11 @@ pub fn add(
 }
 
 // The entry of one key.
-pub fn only(alloc: Global, key: HeldKey, held: Held) -> Result<IndexMap<HeldKey, Held>, AllocError>
+pub fn only(
+    alloc: Global,
+    key: ScopedId,
+    held: Held,
+) -> Result<IndexMap<ScopedId, Held>, AllocError>
     ensures added { IfOk result (λ m. m.entries ≡ (key, held) ∷ []) }
     ensures distinct { IfOk result (IsUnique same_key) }
 {

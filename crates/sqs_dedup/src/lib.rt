@@ -7,3 +7,4 @@ mod held;
 mod key;
 
 pub use dedup::Dedup;
+pub use key::ScopedId;

@@ -228,7 +228,7 @@ impl FifoQueue {
         ensures kept { self.new.queue.entries ≡ self.old.queue.entries }
         ensures framed { IsFramed self.old.queue self.new.queue }
     {
-        let received = self.queue.receive_looking(now, max, timeout, 1, false)?;
+        let received = self.queue.receive(now, max, timeout, 1, false)?;
         self.looked = received.looked;
         Ok(received.messages)
     }

@@ -28,6 +28,14 @@ relisted items next names groups groups2 place h long others out same below =
         (record { listed = same ∙ was.listed; counted = out ∙ was.counted; below = below next was.below })
     each g k (inr n) = subst (IsGrouped items next g) (sym (others (place_by names g) n)) k
 
+-- so does the table that it is written back to
+pub relisted_back : (items : List Shelved) (next : ℕ) (names : List (Option (List ℕ))) (members groups groups2 written : List Members) (place : ℕ) → AreInGroups items next names members → groups ≡ members → written ≡ groups2 → length groups2 ≡ length groups
+    → ((j : ℕ) → j ≢ place → group_at groups2 j ≡ group_at groups j) → (group_at groups2 place).out ≡ (group_at groups place).out → held items (group_at groups2 place).numbers ≡ held items (group_at groups place).numbers
+    → ((n : ℕ) → All (λ k. k < n) (group_at groups place).numbers → All (λ k. k < n) (group_at groups2 place).numbers) → AreInGroups items next names written
+relisted_back items next names members groups groups2 written place h same back long others out held below =
+    let before : AreInGroups items next names groups = subst (λ (gs : List Members). AreInGroups items next names gs) (sym same) h in
+    subst (λ (gs : List Members). AreInGroups items next names gs) (sym back) (relisted items next names groups groups2 place before long others out held below)
+
 -- the numbers of messages that are there stand for the same messages
 pub held_there : (items : List Shelved) (numbers : List ℕ) → held items (filter (λ n. is_some (message_of items n)) numbers) ≡ held items numbers
 held_there items [] = refl

@@ -1,12 +1,16 @@
 -- What a change of one message keeps of what is due and of what is told of the others.
-use Rattle.std.proofs.Common.{◌≡◌, ℕ, Bool, true, false, List, [], ◌∷◌, ◌++◌, Option, if◌then◌else◌, map, refl, ap, sym, subst, ◌∙◌}
+use Rattle.std.proofs.Common.{◌≡◌, ◌≤◌, ℕ, ◌+◌, ◌<◌, arith, Bool, true, false, List, [], ◌∷◌, ◌++◌, Option, if◌then◌else◌, map, refl, ap, sym, subst, ◌∙◌}
 use Rattle.std.specs.Prelude.{All}
 use Rattle.std.proofs.lemmas.List.{map-append}
 use Rattle.std.proofs.lemmas.List.Elements.{All-push}
 use Rattle.sim_clock.specs.Firsts.{changed}
+use Rattle.sim_clock.specs.Order.{least}
 use Rattle.sim_clock.specs.declared.key.Key.{Key}
 use Rattle.sqs_message.specs.declared.message.Message.{Message}
-use Rattle.sqs_model.specs.Queue.{has_number}
+use Rattle.sqs_model.specs.Answers.{most_count}
+use Rattle.sqs_model.specs.Calls.{with_message}
+use Rattle.sqs_model.specs.Dues.{message_dues}
+use Rattle.sqs_model.specs.Queue.{Queue, has_number}
 use Rattle.sqs_messages.proofs.Calls.{dues_kept}
 use Rattle.sqs_messages.proofs.Led.{told_changed}
 use Rattle.sqs_messages.proofs.Settled.{told_kept}
@@ -16,8 +20,10 @@ use Rattle.sqs_messages.specs.Heads.{told}
 use Rattle.sqs_messages.specs.Marked.{IsDue, restamped, unhosted}
 use Rattle.sqs_messages.specs.Orders.{AreInOrder, IsOrderOf}
 use Rattle.sqs_messages.specs.Slots.{Shelved, is_numbered, restated}
-use Rattle.sqs_messages.specs.Tables.{AreKept}
+use Rattle.sqs_messages.specs.Stored.{IsCounted}
 use Rattle.sqs_redrive.specs.declared.settings.QueueSettings.{QueueSettings}
+use Rattle.sqs_messages.specs.Tables.{AreKept, IsTable, queue_of}
+use Rattle.sqs_messages.specs.declared.table.MessageTable.TheInside.{Inside}
 
 -- a change in which hosts alone differ
 pub unhosted_alike : (p : Shelved → Bool) (f g : Shelved → Shelved) → ((s : Shelved) → unhosted (f s) ≡ unhosted (g s)) → (items : List Shelved) → map unhosted (changed p f items) ≡ map unhosted (changed p g items)
@@ -44,10 +50,37 @@ added_dues site retention items after m due e is h =
     let s : Shelved = record { message = m; mark = record { due = due; hosts = 0 } } in
     dues_kept site retention (items ++ s ∷ []) after (e ∙ sym (map-append unhosted items (s ∷ []))) (All-push (IsDue site retention) items s h (is s refl refl))
 
--- a table for which room was made
-pub roomed :
-    (site : ℕ) (settings : QueueSettings) (items after : List Shelved) (next end : ℕ) (before order : Order) → after ≡ items → end ≡ next → AreKept site settings items next before → IsOrderOf settings.kind order
-    → AreInOrder items next order → AreKept site settings after end order
-roomed site settings items after next end before order e f h kind ordered =
-    let made : AreKept site settings items next order = record { settings_in_range = h.settings_in_range; arrivals_in_range = h.arrivals_in_range; dues = h.dues; order_of = kind; ordered = ordered } in
-    subst (λ (xs : List Shelved). AreKept site settings xs end order) (sym e) (subst (λ n. AreKept site settings items n order) (sym f) made)
+-- a table whose messages changed
+pub still_kept : (site : ℕ) (settings : QueueSettings) (items after : List Shelved) (next end : ℕ) (before order : Order) → AreKept site settings items next before → end ≡ next → All (IsDue site settings.retention) after
+    → IsOrderOf settings.kind order → AreInOrder after end order → AreKept site settings after end order
+still_kept site settings items after next end before order h same dues kind ordered =
+    record { settings_in_range = h.settings_in_range; arrivals_in_range = subst (λ n. n ≤ most_count) (sym same) h.arrivals_in_range; dues = dues; order_of = kind; ordered = ordered }
+
+-- a table for which room was made, and to which one more message came
+module _
+    (inside : Inside) (q : Queue) (between after : List Shelved) (middle end : ℕ) (m : Message) (due : Option Key) (shows : queue_of inside ≡ q) (e : between ≡ inside.shelf.items) (f : middle ≡ inside.shelf.next)
+    (added : map unhosted after ≡ map unhosted between ++ (m, due) ∷ []) (g : end ≡ middle + 1)
+  where
+    pub added_kept : (order : Order) → IsTable inside → IsCounted m → q.arrivals < most_count → due ≡ least (message_dues inside.site inside.settings.retention m) → IsOrderOf inside.settings.kind order → AreInOrder after end order
+        → AreKept inside.site inside.settings after end order
+    added_kept order h counted below first kind ordered =
+        record {
+          settings_in_range = h.settings_in_range;
+          arrivals_in_range = omega (arith, f, g, ap (λ (p : Queue). p.arrivals) shows, below);
+          dues = added_dues inside.site inside.settings.retention between after m due added
+              (λ s is d. record {
+                due = d ∙ first ∙ ap (λ (x : Message). least (message_dues inside.site inside.settings.retention x)) (sym is);
+                counted = subst IsCounted (sym is) counted;
+              })
+              (subst (All (IsDue inside.site inside.settings.retention)) (sym e) h.dues);
+          order_of = kind;
+          ordered = ordered;
+        }
+
+    -- and what contracts see of it
+    pub added_queue : record (queue_of inside) { records = told after; arrivals = end } ≡ with_message q m
+    added_queue =
+        let records : told after ≡ told inside.shelf.items ++ m ∷ [] = added_told between after m due added ∙ ap (λ (xs : List Shelved). told xs ++ m ∷ []) e in
+        let next : end ≡ inside.shelf.next + 1 = g ∙ ap (λ n. n + 1) f in
+        (λ j. let p : Queue = record (queue_of inside) { records = records j; arrivals = next j } in p)
+        ∙ ap (λ (p : Queue). with_message p m) shows

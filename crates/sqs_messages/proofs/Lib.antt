@@ -26,3 +26,4 @@ pub mod Skipped
 pub mod Kept
 pub mod Orders
 pub mod Gone
+pub mod Moved

@@ -1,12 +1,21 @@
 -- The places of groups in a table.
-use Rattle.std.proofs.Common.{◌≡◌, ℕ, suc, ◌+◌, ◌<◌, ◌≤◌, Bool, true, false, List, [], ◌∷◌, Option, cond, length, map, not, set, get_or, arith, refl, ap, sym, ◌∙◌}
+use Rattle.std.proofs.Common.{◌≡◌, ℕ, suc, ◌+◌, ◌<◌, ◌≤◌, Bool, true, false, List, [], ◌∷◌, Option, None, Some, cond, length, map, not, set, get_or, arith, refl, ap, sym, ◌∙◌}
 use Rattle.std.specs.Prelude.{◌≢◌}
 use Rattle.std.specs.List.{position_or_len}
+use Rattle.std.specs.Option.{option_eq}
+use Rattle.std.specs.Str.{bytes_eq}
 use Rattle.std.proofs.lemmas.List.{get_or-map, get_or-set_other, get_or-set_same, get_or_past, length-map, map-set}
 use Rattle.sqs_model.specs.Queue.{same_text}
 use Rattle.sqs_model.specs.Texts.{same_text_decides}
 use Rattle.sqs_messages.specs.declared.groups.members.Members.{Members}
 use Rattle.sqs_messages.specs.Groups.{Kept, group_at, kept, nobody, place_by}
+
+-- names compare as texts that may be absent
+pub same_name : (a b : Option (List ℕ)) → option_eq bytes_eq a b ≡ same_text a b
+same_name None None = refl
+same_name None (Some b) = refl
+same_name (Some a) None = refl
+same_name (Some a) (Some b) = refl
 
 pub group_at_is : (groups : List Members) (i : ℕ) (d : Members) → i < length groups → group_at groups i ≡ kept (get_or groups i d)
 group_at_is groups i d l = get_or-map kept groups i d nobody l

@@ -2,6 +2,7 @@
 use Rattle.std.proofs.Common.{◌≡◌, ℕ, zero, suc, ◌+◌, ◌*◌, ◌<◌, ◌≤◌, Bool, true, false, List, [], ◌∷◌, ◌++◌, Option, Some, None, cond, filter, length, set, map, get_or, inl, inr, arith, refl, ap, sym, ◌∙◌}
 use Rattle.std.specs.Prelude.{All, is_some}
 use Rattle.std.specs.List.{cons_option}
+use Rattle.std.specs.List.Sorted.{IsNonDecreasingBy}
 use Rattle.std.specs.Option.{option_map}
 use Rattle.std.proofs.lemmas.Bool.{cases_eq, cases_lt}
 use Rattle.std.proofs.lemmas.List.{get_or-set_other, get_or-set_same, get_or_append_left, get_or_past, get_or_push, length-append, length-map, length-set, map-append}
@@ -133,3 +134,11 @@ living_room slots marks after same room =
 pub few_living : (slots : List Slot) → length (filter is_living slots) ≤ length slots
 few_living [] = omega arith
 few_living (s ∷ ss) = elim (is_living s) as (λ b. length (cond b (s ∷ filter is_living ss) (filter is_living ss)) ≤ length (s ∷ ss)) [ true ↦ omega (arith, few_living ss) | false ↦ omega (arith, few_living ss) ]
+
+-- numbers that go up do not fall
+pub rising : (slots : List Slot) → AreOrdered slots → IsNonDecreasingBy (λ s. s.number) slots
+rising slots h i j d l m =
+    elim (cases_eq i j) [
+      | inl e ↦ let same : (get_or slots i d).number ≡ (get_or slots j d).number = ap (λ k. (get_or slots k d).number) e in omega (arith, same)
+      | inr n ↦ let less : (get_or slots i d).number < (get_or slots j d).number = h i j d d (omega arith) m in omega (arith, less)
+    ]

@@ -54,13 +54,3 @@ module _ (items after : List Shelved) (next : ℕ) (g : Option (List ℕ)) (was 
   -- and so are the marks of leaders
   pub settled_led : All (IsLedBut items g) items → AreLed after
   settled_led but = s.led but (grouped_middle g).listed (grouped_middle g).counted
-
--- the same of equal ones
-pub settle_as : (items items2 after : List Shelved) (g g2 : Option (List ℕ)) (was was2 is is2 : Bool) (old old2 new : Option (List ℕ) → Kept) → items ≡ items2 → g ≡ g2 → was ≡ was2 → is ≡ is2 → old ≡ old2
-    → IsSettled items after g was is old new → IsSettled items2 after g2 was2 is2 old2 new
-settle_as items items2 after g g2 was was2 is is2 old old2 new a b c d e s =
-    subst (λ x. IsSettled items2 after g2 was2 is2 x new) e
-    (subst (λ x. IsSettled items2 after g2 was2 x old new) d
-    (subst (λ x. IsSettled items2 after g2 x is old new) c
-    (subst (λ x. IsSettled items2 after x was is old new) b
-    (subst (λ x. IsSettled x after g was is old new) a s))))

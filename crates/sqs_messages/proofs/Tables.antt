@@ -49,16 +49,10 @@ place_last p (x ∷ names) n t l = by (place_last p names n t) (p x) refl
 pub entered_last : (names : List (Option (List ℕ))) (g : Option (List ℕ)) → length names ≤ place_by names g → place_by (names ++ g ∷ []) g ≡ place_by names g
 entered_last names g l = place_last (same_text g) names g ((same_text_decides g g).1 refl) l
 
-pub entered_long : (names : List (Option (List ℕ))) (g : Option (List ℕ)) → length (names ++ g ∷ []) ≡ length names + 1
-entered_long names g = length-append names (g ∷ [])
-
 pub kept_long : (groups after : List Members) → map kept after ≡ map kept groups ++ nobody ∷ [] → length after ≡ length groups + 1
 kept_long groups after e =
     let both : length (map kept after) ≡ length (map kept groups ++ nobody ∷ []) = ap length e in
     omega (arith, both, length-map after kept, length-map groups kept, length-append (map kept groups) (nobody ∷ []))
-
-pub kept_same : (groups after : List Members) → map kept after ≡ map kept groups → length after ≡ length groups
-kept_same groups after e = let both : length (map kept after) ≡ length (map kept groups) = ap length e in omega (arith, both, length-map after kept, length-map groups kept)
 
 pub place_short : (names : List (Option (List ℕ))) (g : Option (List ℕ)) → place_by names g ≤ length names
 place_short names g = place_within (same_text g) names (place_by names g) refl

@@ -6,10 +6,6 @@ use Rattle.sqs_message.specs.declared.message.Place.TheVariants as places
 use Rattle.sqs_model.specs.Queue.{is_delayed, is_in_flight, is_visible}
 use Rattle.sqs_messages.specs.declared.counts.Counts.{Counts}
 
--- the counts of no messages
-abbrev pub no_counts : Counts
-no_counts = record { visible = 0; in_flight = 0; delayed = 0 }
-
 -- how many messages stand at a place
 abbrev pub count_at : Place → Counts → ℕ
 count_at places.Delayed c = c.delayed

@@ -5,7 +5,6 @@ pub mod Shelves
 pub mod Room
 pub mod Stored
 pub mod Marked
-pub mod Keys
 pub mod Groups
 pub mod Orders
 pub mod Tables

@@ -1,6 +1,6 @@
 //! How many messages are where.
 ghost use Rattle.std.specs.Prelude.{◌≡◌, ◌+◌, ◌<◌, ◌≤◌, ◌^◌};
-ghost use Rattle.sqs_messages.specs.Counted.{count_at, no_counts, with_one};
+ghost use Rattle.sqs_messages.specs.Counted.{count_at, with_one};
 
 use sqs_message::Place;
 
@@ -15,16 +15,12 @@ pub struct Counts {
     pub delayed: u64,
 }
 
-// The counts of no messages.
-pub fn nothing() -> Counts
-    ensures { result ≡ no_counts }
-{
-    Counts {
-        visible: 0,
-        in_flight: 0,
-        delayed: 0,
-    }
-}
+/// The counts of no messages.
+pub const NO_COUNTS: Counts = Counts {
+    visible: 0,
+    in_flight: 0,
+    delayed: 0,
+};
 
 // One more message stands at a place.
 pub fn count_in(counts: &mut Counts, place: Place)

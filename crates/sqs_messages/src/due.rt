@@ -7,21 +7,6 @@ ghost use Rattle.sqs_model.specs.Dues.{message_dues, release_due};
 use sim_clock::{Class, Key, lesser};
 use sqs_message::Message;
 
-// The key of the end of a delay or visibility timeout, if that is to come.
-fn release_key(site: u32, number: u64, release: Option<u64>) -> Option<Key>
-    ensures { (m : Message) → m.number ≡ number → result ≡ least (release_due site m release) }
-{
-    match release {
-        None => None,
-        Some(at) => Some(Key {
-            at,
-            agent: site,
-            class: Class::Release,
-            number,
-        }),
-    }
-}
-
 // What is due first of a message with this end of its delay or visibility timeout.
 pub fn due_of(site: u32, retention: u64, message: &Message, release: Option<u64>) -> Option<Key>
     requires { message.now.enqueued + retention < 2 ^ 64 }
@@ -33,6 +18,10 @@ pub fn due_of(site: u32, retention: u64, message: &Message, release: Option<u64>
         class: Class::Expiry,
         number: message.number,
     };
-    let release = release_key(site, message.number, release);
+    let release = release.map(|at| Key {
+        at,
+        class: Class::Release,
+        ..expiry
+    });
     lesser(Some(expiry), release)
 }

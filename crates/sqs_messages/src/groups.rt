@@ -12,17 +12,15 @@ ghost use Rattle.sqs_messages.specs.Slots.{is_numbered, message_of};
 use crate::shelf::Shelf;
 use crate::slot::State;
 use indexmap::IndexSet;
-use key::{AskedGroup, HeldGroup};
 use members::{Members, in_flight, moved, place_of};
 use sim_clock::Key;
 use sim_index::Mark;
-use sqs_message::Message;
+use sqs_message::{Message, Text};
 use std::alloc::Global;
 
 pub mod arrival;
 pub mod choose;
 pub mod front;
-pub mod key;
 pub mod members;
 pub mod room;
 
@@ -30,7 +28,7 @@ pub mod room;
 #[derive(Drop)]
 pub struct Groups {
     // The groups' names, each at the place of its members.
-    pub names: IndexSet<HeldGroup>,
+    pub names: IndexSet<Option<Text>>,
     pub members: Vec<Members>,
 }
 
@@ -58,7 +56,7 @@ impl Groups {
         let Some(message) = shelf.remove(number) else {
             return None;
         };
-        let index = place_of(&self.names, &AskedGroup::new(message.group.as_ref()));
+        let index = place_of(&self.names, &message.group);
         let groups = self.members.as_mut_slice();
         moved(shelf, groups, index, in_flight(message.place), false);
         Some(message)
@@ -76,7 +74,7 @@ impl Groups {
         let Some(message) = shelf.get(number) else {
             return;
         };
-        let index = place_of(&self.names, &AskedGroup::new(message.group.as_ref()));
+        let index = place_of(&self.names, &message.group);
         let was = in_flight(message.place);
         let is = in_flight(state.place);
         shelf.put(number, state, Mark { due, hosts: 0 });

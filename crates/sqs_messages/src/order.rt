@@ -1,6 +1,5 @@
 //! In which order a queue gives its messages.
-ghost use Rattle.std.specs.Prelude.{◌≡◌, ◌+◌, ◌++◌, ◌∷◌, ◌<◌, ◌^◌, [], IfOk, List, map, true, ℕ};
-ghost use Rattle.std.specs.Option.{option_copied};
+ghost use Rattle.std.specs.Prelude.{◌≡◌, ◌+◌, ◌++◌, ◌∷◌, ◌<◌, ◌^◌, [], IfOk, List, OnOk, map, true, ℕ};
 ghost use Rattle.sim_clock.specs.Firsts.{changed, without};
 ghost use Rattle.sqs_model.specs.Valid.{IsQueueSettings};
 ghost use Rattle.sqs_redrive.specs.declared.settings.Kind.{Kind};
@@ -42,19 +41,23 @@ impl Order {
         }
     }
 
-    /// Makes room for one more message of a group, and tells the place of the group, if it goes by
-    /// groups. No message changes.
+    /// Makes room for one more message of a group, on the shelf and in the list of its group, and tells
+    /// the place of the group, if it goes by groups. No message changes.
     pub fn room_for(
         &mut self,
         alloc: Global,
-        shelf: &Shelf,
-        group: Option<&Text>,
+        shelf: &mut Shelf,
+        group: &Option<Text>,
     ) -> Result<usize, AllocError>
-        requires { AreInOrder shelf.now.items shelf.now.next self.old }
-        ensures ordered { AreInOrder shelf.now.items shelf.now.next self.new }
+        requires { AreInOrder shelf.old.items shelf.old.next self.old }
+        ensures ordered { AreInOrder shelf.new.items shelf.new.next self.new }
         ensures kind { (kind : Kind) → IsOrderOf kind self.old → IsOrderOf kind self.new }
-        ensures room { IfOk result (IsRoomed self.new (option_copied group.entry)) }
+        ensures items { shelf.new.items ≡ shelf.old.items }
+        ensures next { shelf.new.next ≡ shelf.old.next }
+        ensures ready { OnOk result (shelf.new.ready ≡ true) }
+        ensures room { IfOk result (IsRoomed self.new group.now) }
     {
+        shelf.reserve()?;
         match self {
             Order::Hosts(_) => Ok(0),
             Order::Groups(groups) => room_for(

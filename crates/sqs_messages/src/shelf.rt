@@ -8,7 +8,7 @@ ghost use Rattle.sqs_model.specs.Queue.{is_delayed, is_in_flight, is_visible};
 ghost use Rattle.sqs_messages.specs.Heads.{told};
 ghost use Rattle.sqs_messages.specs.Slots.{is_numbered, number_of, restated, with_hosts};
 
-use crate::counts::{Counts, count_in, count_out, nothing};
+use crate::counts::{Counts, NO_COUNTS, count_in, count_out};
 use crate::messages::{Messages, messages_in};
 use crate::room::make_room;
 use crate::slot::{Slot, State, clear, first_from, place_of, write};
@@ -50,7 +50,7 @@ impl Shelf {
         Shelf {
             slots: Vec::new(alloc),
             marks: Marks::new(alloc),
-            counts: nothing(),
+            counts: NO_COUNTS,
             next,
             alloc,
         }

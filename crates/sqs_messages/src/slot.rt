@@ -37,17 +37,7 @@ pub fn first_from(slots: &[Slot], number: u64) -> usize
     ensures below { (k : ℕ) (d : Slot) → k < result → (get_or slots.now k d).number < number }
     ensures from { (k : ℕ) (d : Slot) → result ≤ k → k < length slots.now → number ≤ (get_or slots.now k d).number }
 {
-    let mut low = 0;
-    let mut high = slots.len();
-    while low < high {
-        let middle = low + (high - low) / 2;
-        if slots[middle].number < number {
-            low = middle + 1;
-        } else {
-            high = middle;
-        }
-    }
-    low
+    slots.partition_point(|slot| slot.number < number)
 }
 
 // The place where the message of a number stands.

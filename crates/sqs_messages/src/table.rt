@@ -27,8 +27,8 @@ use crate::shelf::Shelf;
 use crate::slot::State;
 use crate::{groups, hosts};
 use sim_clock::Key;
-use sqs_dedup::Dedup;
-use sqs_message::{Message, Text};
+use sqs_dedup::{Dedup, ScopedId};
+use sqs_message::Message;
 use sqs_redrive::QueueSettings;
 use std::alloc::{AllocError, Global};
 use std::marker::Model;
@@ -56,29 +56,6 @@ impl Model for MessageTable {
     ghost view = { queue_of };
 
     ghost invariant = { IsTable };
-}
-
-// One more message, for which there is room. Its group has this place.
-fn add(
-    site: u32,
-    settings: &QueueSettings,
-    shelf: &mut Shelf,
-    order: &mut Order,
-    place: usize,
-    message: Message,
-)
-    requires kept { AreKept site settings.now shelf.old.items shelf.old.next order.old }
-    requires ready { shelf.old.ready ≡ true }
-    requires room { IsRoomed order.old message.group place }
-    requires number { message.number ≡ shelf.old.next }
-    requires counted { IsCounted message }
-    requires below { shelf.old.next < most_count }
-    ensures kept { AreKept site settings.now shelf.new.items shelf.new.next order.new }
-    ensures records { told shelf.new.items ≡ told shelf.old.items ++ message ∷ [] }
-    ensures next { shelf.new.next ≡ shelf.old.next + 1 }
-{
-    let due = due_of(site, settings.retention, &message, message.release);
-    order.add(shelf, place, message, due);
 }
 
 impl MessageTable {
@@ -151,17 +128,11 @@ impl MessageTable {
         ensures added { OnOk result (self.new ≡ with_message self.old message) }
         ensures unchanged { OnErr result (self.new ≡ self.old) }
     {
-        let group = message.group.as_ref();
-        let place = self.order.room_for(self.alloc, &self.shelf, group)?;
-        self.shelf.reserve()?;
-        add(
-            self.site,
-            &self.settings,
-            &mut self.shelf,
-            &mut self.order,
-            place,
-            message,
-        );
+        let group = &message.group;
+        let place = self.order.room_for(self.alloc, &mut self.shelf, group)?;
+        let retention = self.settings.retention;
+        let due = due_of(self.site, retention, &message, message.release);
+        self.order.add(&mut self.shelf, place, message, due);
         Ok(())
     }
 
@@ -172,32 +143,25 @@ impl MessageTable {
         message: Message,
         entries: &mut Dedup,
         now: u64,
-        scope: Option<Text>,
-        id: Text,
+        key: ScopedId,
     ) -> Result<(), AllocError>
         requires numbered { message.number ≡ self.old.arrivals }
         requires counted { IsCounted message }
         requires below { self.old.arrivals < most_count }
         requires moment { now ≤ most_count }
         requires no_earlier { All (λ e. e.end ≤ now + deduplication_interval) entries.old }
-        requires none_living { living_among now scope id entries.old ≡ None }
+        requires none_living { living_among now key.scope key.id entries.old ≡ None }
         ensures added { OnOk result (self.new ≡ with_message self.old message) }
-        ensures entered { OnOk result (entries.new ≡ living_entries now entries.old ++ record { scope = scope; id = id; end = now + deduplication_interval; number = self.old.arrivals } ∷ []) }
+        ensures entered { OnOk result (entries.new ≡ living_entries now entries.old ++ record { scope = key.scope; id = key.id; end = now + deduplication_interval; number = self.old.arrivals } ∷ []) }
         ensures unchanged { OnErr result (self.new ≡ self.old) }
         ensures same_entries { OnErr result (entries.new ≡ entries.old) }
     {
-        let group = message.group.as_ref();
-        let place = self.order.room_for(self.alloc, &self.shelf, group)?;
-        self.shelf.reserve()?;
-        entries.enter(now, scope, id, message.number)?;
-        add(
-            self.site,
-            &self.settings,
-            &mut self.shelf,
-            &mut self.order,
-            place,
-            message,
-        );
+        let group = &message.group;
+        let place = self.order.room_for(self.alloc, &mut self.shelf, group)?;
+        entries.enter(now, key, message.number)?;
+        let retention = self.settings.retention;
+        let due = due_of(self.site, retention, &message, message.release);
+        self.order.add(&mut self.shelf, place, message, due);
         Ok(())
     }
 

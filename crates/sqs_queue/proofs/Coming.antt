@@ -6,7 +6,6 @@ use Rattle.sqs_message.specs.declared.message.Message.{Message}
 use Rattle.sqs_model.specs.Queue.{Queue, has_number, numbered, taken_out, with_change, with_records}
 use Rattle.sqs_model.specs.Receive.{received}
 use Rattle.sqs_model.specs.Return.{leaves, released, released_found, released_when, visible_again}
-use Rattle.sqs_model.proofs.Counts.{changed_none}
 use Rattle.sqs_queue.specs.Giving.{gives}
 
 -- a message that stays is visible again
@@ -36,10 +35,6 @@ without_none p (x ∷ xs) e =
 
 pub taken_none : (q : Queue) (n : ℕ) → numbered n q.records ≡ None → taken_out q n ≡ q
 taken_none q n e = ap (with_records q) (without_none (has_number n) q.records e)
-
--- and none changes
-pub change_none : (q : Queue) (n : ℕ) (f : Message → Message) → numbered n q.records ≡ None → with_change q n f ≡ q
-change_none q n f e = ap (with_records q) (changed_none (has_number n) f q.records e)
 
 -- a change speaks of the message that is there alone
 changed_as : (p : Message → Bool) (f g : Message → Message) (m : Message) (xs : List Message) → find p xs ≡ Some m → f m ≡ g m → changed p f xs ≡ changed p g xs

@@ -1,5 +1,6 @@
 -- What the definitions say of a queue whose kind is FIFO.
-use Rattle.std.proofs.Common.{◌≡◌, ℕ, List, Option, None, Some, Bool, false, true, if◌then◌else◌, ap, refl, sym, ◌∙◌}
+use Rattle.std.proofs.lemmas.Bool.Decides.{nat_tests}
+use Rattle.std.proofs.Common.{◌≡◌, ◌<◌, ◌≤◌, arith, unwrap_or, ℕ, List, Option, None, Some, Bool, false, true, if◌then◌else◌, ap, refl, sym, ◌∙◌}
 use Rattle.std.specs.Prelude.{Err, Result}
 use Rattle.sqs_redrive.specs.declared.settings.Kind.{Kind}
 use Rattle.sqs_redrive.specs.declared.settings.Kind.TheVariants.{Fifo, Standard}
@@ -19,6 +20,15 @@ use Rattle.sim_clock.specs.declared.refusal.Refusal.TheVariants as refusals
 pub fifo_enqueued : (k : Kind) → IsFifo k → (now before : ℕ) → enqueued_at k now before ≡ now
 fifo_enqueued (Standard hosts sampled) h now before = absurd h
 fifo_enqueued (Fifo content scope) h now before = refl
+
+-- a delay of a message's own
+pub own_delay : (delay : Option ℕ) (n : ℕ) → n ≡ unwrap_or delay 0 → 0 < n → is_bad_delay 0 delay ≡ true
+own_delay None n e l = absurd (omega (arith, e, l))
+own_delay (Some seconds) n e l = grind (arith, nat_tests)
+
+pub no_delay : (delay : Option ℕ) (n : ℕ) → n ≡ unwrap_or delay 0 → n ≤ 0 → is_bad_delay 0 delay ≡ false
+no_delay None n e l = refl
+no_delay (Some seconds) n e l = grind (arith, nat_tests)
 
 -- where its ids count
 abbrev scope_at : Kind → Scope

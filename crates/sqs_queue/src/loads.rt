@@ -2,22 +2,12 @@
 ghost use Rattle.std.specs.Prelude.{◌≡◌, ◌≤◌, [], length, vec_capacity};
 ghost use Rattle.sqs_message.specs.declared.message.Message.{Message};
 ghost use Rattle.sqs_model.specs.Progress.{Differ};
-ghost use Rattle.sqs_model.specs.Task.{destination, take_each};
+ghost use Rattle.sqs_model.specs.Task.{take_each};
 ghost use Rattle.sqs_queue.specs.Picked.{messages_of};
 
 use sqs_message::{Message, MessageId};
 use sqs_messages::MessageTable;
 use sqs_redrive::Load;
-
-// Where a message goes: to the task's queue, or else back to the one that it came from.
-fn destination(to: Option<u32>, message: &Message) -> Option<u32>
-    ensures { result ≡ destination to message.now }
-{
-    match to {
-        None => message.source,
-        Some(queue) => Some(queue),
-    }
-}
 
 // What a move carries of a message of this queue.
 fn move_of(site: u32, message: Message) -> Load
@@ -34,8 +24,9 @@ fn move_of(site: u32, message: Message) -> Load
     }
 }
 
-// Takes out the messages of these numbers, up to the first that has nowhere to go. Adds where each
-// goes and its load to a list that has room, and tells whether it met one that has nowhere to go.
+// Takes out the messages of these numbers, up to the first that has nowhere to go: each goes to the
+// task's queue, or else back to the one that it came from. Adds where it goes and its load to a list
+// that has room, and tells whether it met one that has nowhere to go.
 pub fn take_each(
     messages: &mut MessageTable,
     numbers: &[u64],
@@ -50,7 +41,7 @@ pub fn take_each(
     let site = messages.site();
     for number in numbers {
         if let Some(message) = messages.find(*number) {
-            let Some(queue) = destination(to, message) else {
+            let Some(queue) = to.or(message.source) else {
                 return true;
             };
             if let Some(message) = messages.remove(*number) {

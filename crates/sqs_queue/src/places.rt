@@ -2,13 +2,13 @@
 ghost use Rattle.std.specs.Prelude.{◌≡◌, ◌+◌, ◌<◌, ◌^◌};
 ghost use Rattle.sqs_model.specs.Answers.{most_count};
 ghost use Rattle.sqs_model.specs.Calls.{in_flight_until};
-ghost use Rattle.sqs_model.specs.Queue.{is_in_flight, is_visible, with_change};
+ghost use Rattle.sqs_model.specs.Queue.{is_in_flight, is_visible};
 ghost use Rattle.sqs_model.specs.Receive.{received};
 ghost use Rattle.sqs_model.specs.Return.{visible_again};
 ghost use Rattle.sqs_messages.specs.Slots.{restated};
 
 use sqs_message::{Message, Place};
-use sqs_messages::{MessageTable, State};
+use sqs_messages::State;
 
 /// Whether a message may be received.
 pub fn may_be_received(message: &Message) -> bool
@@ -39,7 +39,7 @@ pub fn visible_again(message: &Message) -> State
 }
 
 // The state of a message that is in flight until a moment.
-fn out_until(message: &Message, until: u64) -> State
+pub fn out_until(message: &Message, until: u64) -> State
     ensures state { restated result message.now ≡ in_flight_until until message.now }
     ensures receives { result.receives ≡ message.now.receives }
     ensures received { result.received ≡ message.now.received }
@@ -65,15 +65,5 @@ pub fn received(message: &Message, now: u64, timeout: u64) -> State
         release: Some(now + timeout),
         receives: message.receives + 1,
         received: now,
-    }
-}
-
-/// The message of a number is in flight until a moment, if it is there.
-pub fn keep_out(messages: &mut MessageTable, number: u64, until: u64)
-    ensures { messages.new ≡ with_change messages.old number (in_flight_until until) }
-{
-    if let Some(message) = messages.find(number) {
-        let state = out_until(message, until);
-        messages.put(number, state);
     }
 }

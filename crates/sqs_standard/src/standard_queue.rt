@@ -217,7 +217,7 @@ impl StandardQueue {
         ensures unchanged { OnErr result (self.new ≡ self.old) }
         ensures framed { IsFramed self.old.queue self.new.queue }
     {
-        let received = self.queue.receive_looking(now, max, timeout, hosts, short)?;
+        let received = self.queue.receive(now, max, timeout, hosts, short)?;
         self.looked = received.looked;
         Ok(received.messages)
     }

@@ -79,11 +79,7 @@ fn texts_are_made_copied_and_given_back(rt: HostRuntime) {
     let first = text(&rt, rt.alloc(), b"abc");
     let other = text(&rt, rt.alloc(), b"abd");
     let copy = first.copy(rt.alloc()).expect(&rt, "memory");
-    same(
-        &rt,
-        (first.is_same(&copy), first.is_same(&other)),
-        (true, false),
-    );
+    same(&rt, (first == copy, first == other), (true, false));
     same(&rt, copy.as_bytes(), b"abc".as_slice());
     same(&rt, copy.into_bytes().as_slice(), b"abc".as_slice());
 }

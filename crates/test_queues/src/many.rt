@@ -51,7 +51,7 @@ fn is_message(alloc: Global, got: &Got, number: u64) -> Result<bool, AllocError>
     let wanted = group(alloc, number)?;
     match &got.group {
         None => Ok(false),
-        Some(given) => Ok(got.id.number == number && given.is_same(&wanted)),
+        Some(given) => Ok(got.id.number == number && *given == wanted),
     }
 }
 

@@ -63,13 +63,14 @@ impl Calls for SendsFirst {
             return Err(Refusal::BadScript);
         }
         self.is_first = false;
-        self.queue.receive(
+        let received = self.queue.receive(
             u64::from(now),
             asked.max,
             asked.timeout,
             asked.hosts.unwrap_or(3),
             false,
-        )
+        )?;
+        Ok(received.messages)
     }
 
     fn looked(&self) -> Result<u64, Refusal> {

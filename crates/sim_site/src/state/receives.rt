@@ -84,7 +84,7 @@ pub fn received_by(
     ensures stops { IfErr result (StopsWhere (Any (λ m. m.receives ≡ most_count) (to_give queue.old max hosts) × IsOk (receive queue.old now max timeout hosts short).0)) }
 {
     match queue.receive(now, max, timeout, hosts, short) {
-        Ok(gots) => Ok(Ok(gots)),
+        Ok(received) => Ok(Ok(received.messages)),
         Err(refusal) => Ok(Err(told_refusal(refusal)?)),
     }
 }

@@ -5,13 +5,12 @@ ghost use Rattle.sqs_messages.specs.Slots.{held};
 ghost use Rattle.sqs_messages.specs.Marked.{unhosted};
 ghost use Rattle.sqs_messages.specs.Groups.{AreInGroups, HasRoomAt, bit, group_at, out_of, place_by};
 
-use crate::groups::key::HeldGroup;
 use crate::groups::members::{Members, in_flight, moved};
 use crate::shelf::Shelf;
 use indexmap::IndexSet;
 use sim_clock::Key;
 use sim_index::Mark;
-use sqs_message::Message;
+use sqs_message::{Message, Text};
 
 // The number of a message that came joins its group's, and the first of the group is marked anew.
 fn join(shelf: &mut Shelf, groups: &mut [Members], place: usize, number: u64, is_out: bool)
@@ -34,7 +33,7 @@ fn join(shelf: &mut Shelf, groups: &mut [Members], place: usize, number: u64, is
 /// One more message, of the group at a place of the table, with what is due of it.
 pub fn add(
     shelf: &mut Shelf,
-    names: &IndexSet<HeldGroup>,
+    names: &IndexSet<Option<Text>>,
     groups: &mut [Members],
     place: usize,
     message: Message,

@@ -7,20 +7,12 @@ ghost use Rattle.sqs_messages.specs.Slots.{held};
 ghost use Rattle.sqs_messages.specs.Groups.{AreGrouped};
 
 use crate::choose::Choice;
-use crate::groups::key::{AskedGroup, HeldGroup};
-use crate::groups::members::{LEADS, Members, numbers_at, place_of};
+use crate::groups::members::{LEADS, Members, place_of};
 use crate::shelf::Shelf;
 use indexmap::IndexSet;
-use sqs_message::{Message, Place};
+use sqs_message::{Message, Place, Text};
 use std::alloc::{AllocError, Global};
 use std::collections::VecDeque;
-
-// Whether a message's first delay goes on.
-fn waits(message: &Message) -> bool
-    ensures { result ≡ is_delayed message.now }
-{
-    matches!(message.place, Place::Delayed)
-}
 
 // Adds the numbers of a group's messages that stand before its first delayed one, up to so many in
 // all.
@@ -42,7 +34,7 @@ fn give(
         }
         if let Some(message) = shelf.get(*number) {
             choice.looked += 1;
-            if waits(message) {
+            if message.place == Place::Delayed {
                 return Ok(());
             }
             choice.numbers.push(message.number)?;
@@ -56,7 +48,7 @@ fn give(
 pub fn choose(
     alloc: Global,
     shelf: &Shelf,
-    names: &IndexSet<HeldGroup>,
+    names: &IndexSet<Option<Text>>,
     groups: &[Members],
     most: u64,
 ) -> Result<Choice, AllocError>
@@ -77,8 +69,8 @@ pub fn choose(
             return Ok(choice);
         };
         let number = leader.number;
-        let place = place_of(names, &AskedGroup::new(leader.group.as_ref()));
-        give(shelf, numbers_at(groups, place), most, &mut choice)?;
+        let place = place_of(names, &leader.group);
+        give(shelf, &groups[place].numbers, most, &mut choice)?;
         from = number + 1;
     }
     Ok(choice)

@@ -11,13 +11,6 @@ use crate::shelf::Shelf;
 use sqs_message::{Message, Place};
 use std::collections::VecDeque;
 
-// Whether a message may be received.
-fn is_open(message: &Message) -> bool
-    ensures { result ≡ is_visible message.now }
-{
-    matches!(message.place, Place::Visible)
-}
-
 // Drops numbers of messages that have left from the front of a list, and tells the number of the
 // first message and whether it may be received.
 pub fn trim(shelf: &Shelf, numbers: &mut VecDeque<u64>) -> Option<(u64, bool)>
@@ -28,7 +21,7 @@ pub fn trim(shelf: &Shelf, numbers: &mut VecDeque<u64>) -> Option<(u64, bool)>
     while let Some(first) = numbers.front() {
         let number = *first;
         if let Some(message) = shelf.get(number) {
-            return Some((message.number, is_open(message)));
+            return Some((message.number, message.place == Place::Visible));
         }
         let _gone = numbers.pop_front();
     }

@@ -6,10 +6,9 @@ ghost use Rattle.sqs_messages.specs.Marked.{unhosted};
 ghost use Rattle.sqs_messages.specs.Groups.{bit, group_at, in_flight_at, out_of, place_by};
 
 use crate::groups::front::refresh;
-use crate::groups::key::{AskedGroup, HeldGroup};
 use crate::shelf::Shelf;
 use indexmap::IndexSet;
-use sqs_message::Place;
+use sqs_message::{Place, Text};
 use std::collections::VecDeque;
 
 /// The hosts in the mark of a message that leads its group: that is the first of its group and
@@ -32,18 +31,10 @@ pub struct Members {
 }
 
 // The place of a group, or how many groups there are.
-pub fn place_of(names: &IndexSet<HeldGroup>, group: &AskedGroup) -> usize
+pub fn place_of(names: &IndexSet<Option<Text>>, group: &Option<Text>) -> usize
     ensures { result ≡ place_by names.now.keys group.now }
 {
     names.get_index_of(group).unwrap_or(names.len())
-}
-
-// The numbers of the group at a place.
-pub fn numbers_at(groups: &[Members], place: usize) -> &VecDeque<u64>
-    requires { place < length groups.now }
-    ensures { result.now.items ≡ (group_at groups.now place).numbers }
-{
-    &groups[place].numbers
 }
 
 // How many are in flight after one was or was not, and now is or is not.

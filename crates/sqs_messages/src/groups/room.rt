@@ -1,11 +1,9 @@
 //! Room for one more message of a group.
 ghost use Rattle.std.specs.Prelude.{◌≡◌, ◌≢◌, ◌+◌, ◌++◌, ◌∷◌, ◌<◌, ◌≤◌, [], All, IfOk, List, OnErr, OnOk, Option, filter, is_some, length, map, ℕ};
-ghost use Rattle.std.specs.Option.{option_copied};
 ghost use Rattle.std.specs.VecDeque.{deque_capacity, deque_len};
 ghost use Rattle.sqs_messages.specs.Groups.{AreInGroups, HasRoomAt, group_at, group_by, kept, nobody, place_by};
 ghost use Rattle.sqs_messages.specs.Slots.{held, message_of};
 
-use crate::groups::key::{AskedGroup, HeldGroup};
 use crate::groups::members::{Members, place_of};
 use crate::shelf::Shelf;
 use indexmap::IndexSet;
@@ -17,19 +15,19 @@ use std::collections::VecDeque;
 // changes.
 fn enter(
     alloc: Global,
-    names: &mut IndexSet<HeldGroup>,
+    names: &mut IndexSet<Option<Text>>,
     groups: &mut Vec<Members>,
-    group: Option<&Text>,
+    group: &Option<Text>,
 ) -> Result<(), AllocError>
-    requires new { length names.old.keys ≤ place_by names.old.keys (option_copied group) }
-    ensures names { OnOk result (names.new.keys ≡ names.old.keys ++ option_copied group.entry ∷ []) }
+    requires new { length names.old.keys ≤ place_by names.old.keys group.now }
+    ensures names { OnOk result (names.new.keys ≡ names.old.keys ++ group.now ∷ []) }
     ensures groups { OnOk result (map kept groups.new.items ≡ map kept groups.old.items ++ nobody ∷ []) }
     ensures same_names { OnErr result (names.new.keys ≡ names.old.keys) }
     ensures same_groups { OnErr result (map kept groups.new.items ≡ map kept groups.old.items) }
 {
-    let name = Text::copy_of(alloc, group)?;
+    let name = Text::copy_of(alloc, group.as_ref())?;
     groups.reserve(1)?;
-    names.insert(HeldGroup::new(name))?;
+    names.insert(name)?;
     groups.push_reserved(Members {
         numbers: VecDeque::new(alloc),
         out: 0,
@@ -40,17 +38,17 @@ fn enter(
 // The place of a group, which is entered where it is new. No group's messages change.
 fn place_for(
     alloc: Global,
-    names: &mut IndexSet<HeldGroup>,
+    names: &mut IndexSet<Option<Text>>,
     groups: &mut Vec<Members>,
-    group: Option<&Text>,
+    group: &Option<Text>,
 ) -> Result<usize, AllocError>
     requires { length names.old.keys ≡ length groups.old.items }
     ensures same { length names.new.keys ≡ length groups.new.items }
     ensures groups { (g : Option (List ℕ)) → group_by names.new.keys groups.new.items g ≡ group_by names.old.keys groups.old.items g }
-    ensures place { IfOk result (λ place. place ≡ place_by names.new.keys (option_copied group.entry)) }
+    ensures place { IfOk result (λ place. place ≡ place_by names.new.keys group.now) }
     ensures within { IfOk result (λ place. place < length groups.new.items) }
 {
-    let place = place_of(names, &AskedGroup::new(group));
+    let place = place_of(names, group);
     if groups.len() <= place {
         enter(alloc, names, groups, group)?;
     }
@@ -64,13 +62,6 @@ fn is_there(shelf: &Shelf, number: u64) -> bool
     shelf.get(number).is_some()
 }
 
-// Drops the numbers of messages that have left.
-fn drop_gone(shelf: &Shelf, numbers: &mut VecDeque<u64>)
-    ensures { numbers.new.items ≡ filter (λ n. is_some (message_of shelf.now.items n)) numbers.old.items }
-{
-    numbers.retain(|number| is_there(shelf, *number));
-}
-
 // Makes room for one more number in a list. Where it is full, the numbers of messages that have left
 // go first, and then there is to be room for as many more as stay: so a list is no longer than some
 // four times as many messages as there once were, and numbers go only now and then.
@@ -82,7 +73,7 @@ fn room_in(shelf: &Shelf, numbers: &mut VecDeque<u64>) -> Result<(), AllocError>
     if numbers.len() < numbers.capacity() {
         return Ok(());
     }
-    drop_gone(shelf, numbers);
+    numbers.retain(|number| is_there(shelf, *number));
     let more = numbers.len() + 1;
     numbers.reserve(more)
 }
@@ -106,13 +97,13 @@ fn room_at(shelf: &Shelf, groups: &mut [Members], place: usize) -> Result<(), Al
 pub fn room_for(
     alloc: Global,
     shelf: &Shelf,
-    names: &mut IndexSet<HeldGroup>,
+    names: &mut IndexSet<Option<Text>>,
     groups: &mut Vec<Members>,
-    group: Option<&Text>,
+    group: &Option<Text>,
 ) -> Result<usize, AllocError>
     requires { AreInGroups shelf.now.items shelf.now.next names.old.keys groups.old.items }
     ensures grouped { AreInGroups shelf.now.items shelf.now.next names.new.keys groups.new.items }
-    ensures place { IfOk result (λ place. place ≡ place_by names.new.keys (option_copied group.entry)) }
+    ensures place { IfOk result (λ place. place ≡ place_by names.new.keys group.now) }
     ensures within { IfOk result (λ place. place < length groups.new.items) }
     ensures room { IfOk result (HasRoomAt groups.new.items) }
 {

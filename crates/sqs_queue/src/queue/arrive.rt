@@ -42,7 +42,8 @@ impl Queue {
     }
 
     // A message comes in with the origin that it had and is visible at once, enqueued at a moment
-    // that is no later than now.
+    // that is no later than now; or it expires at once where it is older than the retention period,
+    // which the second part of the answer tells.
     pub(super) fn bring(
         &mut self,
         now: u64,
@@ -69,25 +70,11 @@ impl Queue {
             source,
             ..self.next_message(now, body, group, 0)
         };
-        Ok(self.settle(now, message)?)
-    }
-
-    // A message that comes in with the next number stays, or expires at once where it is older than
-    // the retention period, which the second part of the answer tells.
-    fn settle(&mut self, now: u64, message: Message) -> Result<(Sent, bool), AllocError>
-        requires numbered { message.number ≡ self.old.arrivals }
-        requires counted { IsCounted message }
-        requires below { self.old.arrivals < most_count }
-        ensures answer { IfOk result (λ sent. settle self.old now message ≡ (sent, self.new)) }
-        ensures unchanged { OnErr result (self.new ≡ self.old) }
-        ensures kept { self.new.entries ≡ self.old.entries }
-        ensures framed { IsFramed self.old self.new }
-    {
         let sent = Sent::New(MessageId {
             site: self.messages.site(),
-            number: self.messages.arrivals(),
+            number: message.number,
         });
-        if self.messages.settings().retention <= now.saturating_sub(message.enqueued) {
+        if self.messages.settings().retention <= now.saturating_sub(enqueued) {
             self.messages.skip();
             return Ok((sent, true));
         }

@@ -8,7 +8,7 @@ ghost use Rattle.sqs_model.specs.Progress.{IsRecent};
 ghost use Rattle.sqs_model.specs.Queue.{IsFramed};
 
 use super::Queue;
-use crate::places::{is_out, keep_out};
+use crate::places::{is_out, out_until};
 use sim_clock::Refusal;
 use sqs_message::{Receipt, Text};
 use sqs_model::{LONGEST_FLIGHT, LONGEST_TIMEOUT};
@@ -114,7 +114,8 @@ impl Queue {
         if timeout == 0 {
             return self.release(receipt.number);
         }
-        keep_out(&mut self.messages, receipt.number, until);
+        let state = out_until(message, until);
+        self.messages.put(receipt.number, state);
         Ok(None)
     }
 }

@@ -14,6 +14,7 @@ ghost use Rattle.sqs_queue.specs.Fifo.{compares_bodies, scope_in};
 use super::Queue;
 use crate::places::is_out;
 use sim_clock::Refusal;
+use sqs_dedup::ScopedId;
 use sqs_message::{MessageId, Receipt, Text, body_sha256};
 use sqs_model::MOST_COUNT;
 use sqs_redrive::{Deleted, Kind, Load, Scope, Sent};
@@ -45,16 +46,6 @@ fn deduplication_id(
                 Ok(None)
             }
         }
-    }
-}
-
-// Whether a send has a delay of its own.
-fn is_delayed(delay: Option<u64>) -> bool
-    ensures { result ≡ is_bad_delay 0 delay }
-{
-    match delay {
-        None => false,
-        Some(seconds) => seconds > 0,
     }
 }
 
@@ -102,7 +93,7 @@ impl Queue {
         ensures recent { IsRecent now self.new }
         ensures framed { IsFramed self.old self.new }
     {
-        if is_delayed(delay) {
+        if delay.unwrap_or(0) > 0 {
             return Err(Refusal::BadDelay);
         }
         let Some(group) = group else {
@@ -126,8 +117,11 @@ impl Queue {
         ensures recent { IsRecent now self.new }
         ensures framed { IsFramed self.old self.new }
     {
-        let scope = self.scope_of(&group)?;
-        if let Some(number) = self.entries.living(now, scope.as_ref(), &id) {
+        let key = ScopedId {
+            scope: self.scope_of(&group)?,
+            id,
+        };
+        if let Some(number) = self.entries.living(now, &key) {
             return Ok(Sent::Repeat(MessageId {
                 site: self.messages.site(),
                 number,
@@ -140,7 +134,7 @@ impl Queue {
         let delay = self.messages.settings().delay;
         let message = self.next_message(now, body, Some(group), delay);
         self.messages
-            .push_once(message, &mut self.entries, now, scope, id)?;
+            .push_once(message, &mut self.entries, now, key)?;
         Ok(Sent::New(MessageId {
             site: self.messages.site(),
             number,
@@ -163,9 +157,7 @@ impl Queue {
         if receipt.count != message.receives || !is_out(message) {
             return Err(Refusal::ReceiptHandleIsInvalid);
         }
-        let age = now.saturating_sub(message.enqueued);
-        let _ = self.messages.remove(receipt.number);
-        Ok(Deleted::Removed(age))
+        Ok(Deleted::Removed(self.expire(now, receipt.number)))
     }
 
     /// A transfer arrives at a FIFO queue: a dead letter or what a move task brings as of now, a forward as

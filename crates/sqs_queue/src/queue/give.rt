@@ -22,29 +22,8 @@ impl Queue {
     /// Each is in flight for so many seconds or else as the queue says; with 0 seconds it comes
     /// back at once. `BadTimeout` over 43,200 seconds; `OverLimit` where a short poll, which is of
     /// standard queues, finds the limit reached; `CountLimit` where one of them can be received no
-    /// more; `Memory`.
+    /// more; `Memory`. Tells also how many messages it read in order to choose those that it gives.
     pub fn receive(
-        &mut self,
-        now: u64,
-        max: u64,
-        timeout: Option<u64>,
-        hosts: u16,
-        short: bool,
-    ) -> Result<Vec<Got>, Refusal>
-        requires moment { now ≤ most_count }
-        ensures answer { Meets (Any (λ m. m.receives ≡ most_count) (to_give self.old max hosts)) (result_map_both (λ batch. batch.items) (λ refusal. refusal) result) self.new (receive self.old now max timeout hosts short) }
-        ensures counted { OnOk result (All (λ m. m.receives < most_count) (to_give self.old max hosts)) }
-        ensures unchanged { OnErr result (self.new ≡ self.old) }
-        ensures kept { self.new.entries ≡ self.old.entries }
-        ensures framed { IsFramed self.old self.new }
-    {
-        let received = self.receive_looking(now, max, timeout, hosts, short)?;
-        Ok(received.messages)
-    }
-
-    /// A receive, with the errors of `receive`, that tells also how many messages it read in order to
-    /// choose those that it gives.
-    pub fn receive_looking(
         &mut self,
         now: u64,
         max: u64,
@@ -67,7 +46,9 @@ impl Queue {
             return Err(Refusal::OverLimit);
         }
         let most = max.min(room);
-        self.give_first(now, wait, u32::from(hosts), most)
+        let mut batch = self.batch(u32::from(hosts), most)?;
+        self.give_all(now, wait, &mut batch.messages);
+        Ok(batch)
     }
 
     // A receive's visibility timeout in milliseconds: its own, given in seconds, or else the
@@ -86,32 +67,6 @@ impl Queue {
                 }
             }
         }
-    }
-
-    // Gives the first messages, at most so many, of those that a receive may give which sees these
-    // hosts, one after another, each for so many milliseconds; with 0 it comes back at once
-    // (`ReceiveMessage`). Tells how many messages it read in order to choose them. `CountLimit`
-    // where one of them can be received no more; `Memory`.
-    fn give_first(
-        &mut self,
-        now: u64,
-        timeout: u64,
-        hosts: u32,
-        most: u64,
-    ) -> Result<Received, Refusal>
-        requires moment { now ≤ most_count }
-        requires timeout { timeout ≤ longest_flight }
-        ensures answer { Meets (Any (λ m. m.receives ≡ most_count) (take most (available self.old hosts))) (result_map_both (λ received. received.messages.items) (λ refusal. refusal) result) self.new (answered (give now timeout (take most (available self.old hosts)) self.old)) }
-        ensures looked { IfOk result (λ received. received.looked ≤ 2 * most) }
-        ensures read { IfOk result (λ received. length received.messages.items ≤ received.looked) }
-        ensures counted { OnOk result (All (λ m. m.receives < most_count) (take most (available self.old hosts))) }
-        ensures unchanged { OnErr result (self.new ≡ self.old) }
-        ensures kept { self.new.entries ≡ self.old.entries }
-        ensures framed { IsFramed self.old self.new }
-    {
-        let mut batch = self.batch(hosts, most)?;
-        self.give_all(now, timeout, &mut batch.messages);
-        Ok(batch)
     }
 
     // What a receive tells of the first messages, before it gives them.

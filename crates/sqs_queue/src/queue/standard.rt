@@ -70,9 +70,7 @@ impl Queue {
         if receipt.count < message.receives {
             return Ok(Deleted::Kept);
         }
-        let age = now.saturating_sub(message.enqueued);
-        let _ = self.messages.remove(receipt.number);
-        Ok(Deleted::Removed(age))
+        Ok(Deleted::Removed(self.expire(now, receipt.number)))
     }
 
     /// A transfer arrives at a standard queue: a dead letter with the enqueue time that it had, what a move

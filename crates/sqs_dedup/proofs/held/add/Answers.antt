@@ -1,6 +1,6 @@
 use Rattle.std.proofs.Common.{◌∙◌}
 use Rattle.indexmap.proofs.CallerLemmas.{insert_entry-new}
-use Rattle.sqs_dedup.specs.Keys.{same_key}
+use Rattle.sqs_dedup.specs.Window.{same_key}
 use Rattle.sqs_dedup.proofs.held.add.Goals as goal
 
 pub returns-clause-added : goal.returns-clause-added

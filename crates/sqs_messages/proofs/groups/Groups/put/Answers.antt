@@ -1,16 +1,14 @@
-use Rattle.std.proofs.Common.{◌≡◌, ◌+◌, ◌<◌, ◌≤◌, ◌^◌, ℕ, List, Option, ap, arith, length, map, refl, subst, sym, ◌∙◌}
+use Rattle.std.proofs.Common.{◌+◌, ◌≤◌, ap, arith, map, refl, subst, sym, ◌∙◌}
 use Rattle.std.specs.Prelude.{find}
-use Rattle.std.specs.Vec.{with_items}
 use Rattle.std.proofs.lemmas.List.{with_items_is}
 use Rattle.sim_clock.specs.Firsts.{changed}
 use Rattle.sim_index.specs.declared.mark.Mark.{Mark}
-use Rattle.sqs_message.specs.declared.message.Message.{Message}
 use Rattle.sqs_model.proofs.Counts.{changed_none}
 use Rattle.sqs_model.specs.Queue.{is_in_flight}
-use Rattle.sqs_messages.proofs.Calls.{changed_grouped, changed_led, none_of, out_room, out_some, placed, settle_at, shelved_of}
-use Rattle.sqs_messages.proofs.Settled.{IsSettled, settle_as}
-use Rattle.sqs_messages.specs.declared.groups.members.Members.{Members}
-use Rattle.sqs_messages.specs.Groups.{IsGrouped, Kept, group_at, group_by, in_flight_at, place_by}
+use Rattle.sqs_messages.proofs.Calls.{changed_grouped, changed_led, none_of, out_room, out_some}
+use Rattle.sqs_messages.proofs.Moved.{member, settle_here, written_back}
+use Rattle.sqs_messages.proofs.Settled.{IsSettled}
+use Rattle.sqs_messages.specs.Groups.{group_at, group_by, in_flight_at}
 use Rattle.sqs_messages.specs.Marked.{restamped, unhosted}
 use Rattle.sqs_messages.specs.Slots.{is_numbered}
 use Rattle.sqs_messages.proofs.groups.Groups.put.Goals as goal
@@ -22,58 +20,35 @@ returns-in_default-clause-changed c =
 
 pub moved-requires-clause-index : goal.moved-requires-clause-index
 moved-requires-clause-index c =
-    let items = c.args.shelf.now.items in
-    let names = c.args.self.now.names.keys in
-    let members = c.args.self.now.members.items in
-    let s = shelved_of (find (is_numbered c.args.number) items) c.in-Some.message.now c.in-Some.ensures in
-    let group : c.new.result ≡ s.0.message.group = c.new.ensures ∙ c.as_ref.ensures.value ∙ ap (λ (x : Message). x.group) (sym s.2) in
-    let at : c.place_of-index.result ≡ place_by names s.0.message.group = c.place_of-index.ensures ∙ ap (place_by names) group in
-    subst (λ (gs : List Members). c.place_of-index.result < length gs) (sym c.as_mut_slice-groups.ensures.value) (placed names members items c.args.shelf.now.next c.args.number c.place_of-index.result s.0 (c.requires.grouped s.0.message.group) s.1 at)
+    (member _ _ _ _ _ _ _ _ c.as_mut_slice-groups.ensures.value c.requires c.in-Some.ensures c.place_of-index.ensures).within
 
 pub moved-requires-clause-less : goal.moved-requires-clause-less
 moved-requires-clause-less c e =
-    let items = c.args.shelf.now.items in
-    let names = c.args.self.now.names.keys in
-    let members = c.args.self.now.members.items in
-    let s = shelved_of (find (is_numbered c.args.number) items) c.in-Some.message.now c.in-Some.ensures in
-    let group : c.new.result ≡ s.0.message.group = c.new.ensures ∙ c.as_ref.ensures.value ∙ ap (λ (x : Message). x.group) (sym s.2) in
-    let at : c.place_of-index.result ≡ place_by names s.0.message.group = c.place_of-index.ensures ∙ ap (place_by names) group in
-    let old_at : group_at c.as_mut_slice-groups.result.now c.place_of-index.result ≡ group_by names members s.0.message.group = (λ j. group_at (c.as_mut_slice-groups.ensures.value j) (at j)) in
-    subst (λ (k : Kept). 1 ≤ k.out) (sym old_at) (out_some c.args.number c.args.shelf.now.next items s.0 (group_by names members s.0.message.group) (c.requires.grouped s.0.message.group) s.1 (ap is_in_flight s.2 ∙ sym c.in_flight-was.ensures ∙ e))
+    let m = member _ _ _ _ _ _ _ _ c.as_mut_slice-groups.ensures.value c.requires c.in-Some.ensures c.place_of-index.ensures in
+    out_some c.args.number c.args.shelf.now.next c.args.shelf.now.items m.shelved _ m.grouped m.found (ap is_in_flight m.is ∙ sym c.in_flight-was.ensures ∙ e)
 
 pub moved-requires-clause-room : goal.moved-requires-clause-room
 moved-requires-clause-room c e f =
-    let items = c.args.shelf.now.items in
-    let names = c.args.self.now.names.keys in
-    let members = c.args.self.now.members.items in
-    let mark : Mark = record { due = c.args.due; hosts = 0 } in
-    let s = shelved_of (find (is_numbered c.args.number) items) c.in-Some.message.now c.in-Some.ensures in
-    let group : c.new.result ≡ s.0.message.group = c.new.ensures ∙ c.as_ref.ensures.value ∙ ap (λ (x : Message). x.group) (sym s.2) in
-    let at : c.place_of-index.result ≡ place_by names s.0.message.group = c.place_of-index.ensures ∙ ap (place_by names) group in
-    let old_at : group_at c.as_mut_slice-groups.result.now c.place_of-index.result ≡ group_by names members s.0.message.group = (λ j. group_at (c.as_mut_slice-groups.ensures.value j) (at j)) in
-    let room : (group_by names members s.0.message.group).out + 1 ≤ c.args.shelf.now.next = out_room c.args.number c.args.shelf.now.next items s.0 c.args.state mark (group_by names members s.0.message.group) (c.requires.grouped s.0.message.group) s.1
-    (ap is_in_flight s.2 ∙ sym c.in_flight-was.ensures ∙ e) (sym c.in_flight-is.ensures ∙ f) c.number-next.ensures.ordered c.number-next.ensures.below in
-    subst (λ (k : Kept). k.out + 1 < 2 ^ 64) (sym old_at) (omega (arith, room, c.number-next.ensures.value, c.number-next.type_inv))
+    let m = member _ _ _ _ _ _ _ _ c.as_mut_slice-groups.ensures.value c.requires c.in-Some.ensures c.place_of-index.ensures in
+    let room : (group_at c.as_mut_slice-groups.result.now c.place_of-index.result).out + 1 ≤ c.args.shelf.now.next =
+    out_room c.args.number c.args.shelf.now.next c.args.shelf.now.items m.shelved c.args.state (record { due = c.args.due; hosts = 0 }) _ m.grouped m.found
+    (ap is_in_flight m.is ∙ sym c.in_flight-was.ensures ∙ e) (sym c.in_flight-is.ensures ∙ f) c.number-next.ensures.ordered c.number-next.ensures.below in
+    omega (arith, room, c.number-next.ensures.value, c.number-next.type_inv)
 
 pub returns-clause-grouped : goal.returns-clause-grouped
 returns-clause-grouped c =
     let items = c.args.shelf.now.items in
-    let next = c.args.shelf.now.next in
     let names = c.args.self.now.names.keys in
-    let members = c.args.self.now.members.items in
+    let groups = c.as_mut_slice-groups.result.now in
+    let after = c.moved.new.groups in
     let mark : Mark = record { due = c.args.due; hosts = 0 } in
-    let s = shelved_of (find (is_numbered c.args.number) items) c.in-Some.message.now c.in-Some.ensures in
-    let group : c.new.result ≡ s.0.message.group = c.new.ensures ∙ c.as_ref.ensures.value ∙ ap (λ (x : Message). x.group) (sym s.2) in
-    let at : c.place_of-index.result ≡ place_by names s.0.message.group = c.place_of-index.ensures ∙ ap (place_by names) group in
-    let long : c.place_of-index.result < length names = omega (arith, placed names members items next c.args.number c.place_of-index.result s.0 (c.requires.grouped s.0.message.group) s.1 at, c.requires.same) in
-    let near : IsSettled c.put.new.self.items c.moved.new.shelf.items c.new.result c.in_flight-was.result c.in_flight-is.result (group_by names c.as_mut_slice-groups.result.now) (group_by names c.moved.new.groups) =
-    settle_at names c.as_mut_slice-groups.result.now c.moved.new.groups c.put.new.self.items c.moved.new.shelf.items c.new.result c.place_of-index.result c.in_flight-was.result c.in_flight-is.result c.place_of-index.ensures long c.moved.ensures.kept c.moved.ensures.others c.moved.ensures.out c.moved.ensures.held c.moved.ensures.below c.moved.ensures.led in
-    let settled_here : IsSettled (changed (is_numbered c.args.number) (restamped c.args.state c.args.due) items) c.moved.new.shelf.items s.0.message.group (is_in_flight s.0.message) (in_flight_at c.args.state.place) (group_by names members) (group_by names c.moved.new.groups) =
-    settle_as _ _ _ _ _ _ _ _ _ _ _ _ (c.put.ensures.items) group (c.in_flight-was.ensures ∙ ap is_in_flight (sym s.2)) (c.in_flight-is.ensures) (λ j. group_by names (c.as_mut_slice-groups.ensures.value j)) near in
-    let written : (with_items c.args.self.now.members c.moved.new.groups).items ≡ c.moved.new.groups = with_items_is c.args.self.now.members c.moved.new.groups (omega (arith, c.moved.ensures.len, c.as_mut_slice-groups.ensures.len)) in
-    record {
-      led = changed_led c.args.number next items s.0 (group_by names members) c.number-next.ensures.ordered s.1 c.requires.led c.requires.grouped c.args.state mark c.moved.new.shelf.items (group_by names c.moved.new.groups) refl settled_here;
-      same = c.requires.same ∙ ap length (sym c.as_mut_slice-groups.ensures.value) ∙ sym c.moved.ensures.len ∙ ap length (sym written);
-      grouped = subst (λ gs. (h : Option (List ℕ)) → IsGrouped c.moved.new.shelf.items c.moved.new.shelf.next h (group_by names gs h)) (sym written) (subst (λ n. (h : Option (List ℕ)) → IsGrouped c.moved.new.shelf.items n h (group_by names c.moved.new.groups h)) (sym (c.moved.ensures.next ∙ c.put.ensures.next))
-          (changed_grouped c.args.number next items s.0 (group_by names members) c.number-next.ensures.ordered s.1 c.requires.led c.requires.grouped c.args.state mark c.moved.new.shelf.items (group_by names c.moved.new.groups) settled_here));
-    }
+    let m = member _ _ _ _ _ _ _ _ c.as_mut_slice-groups.ensures.value c.requires c.in-Some.ensures c.place_of-index.ensures in
+    let settled : IsSettled (changed (is_numbered c.args.number) (restamped c.args.state c.args.due) items) c.moved.new.shelf.items m.shelved.message.group (is_in_flight m.shelved.message) (in_flight_at c.args.state.place) (group_by names groups) (group_by names after) =
+    subst (λ b. IsSettled (changed (is_numbered c.args.number) (restamped c.args.state c.args.due) items) c.moved.new.shelf.items m.shelved.message.group (is_in_flight m.shelved.message) b (group_by names groups) (group_by names after)) c.in_flight-is.ensures
+    (settle_here _ _ names groups after _ _ _ c.put.new.self.items _ _ _ _ m c.put.ensures.items c.in_flight-was.ensures c.moved.ensures.kept c.moved.ensures.others c.moved.ensures.out c.moved.ensures.held c.moved.ensures.below c.moved.ensures.led) in
+    written_back _ _ _ _ _ _ (c.moved.ensures.next ∙ c.put.ensures.next) (with_items_is c.args.self.now.members after (omega (arith, c.moved.ensures.len, c.as_mut_slice-groups.ensures.len)))
+    (record {
+      led = changed_led c.args.number c.args.shelf.now.next items m.shelved (group_by names groups) c.number-next.ensures.ordered m.found c.requires.led m.table.grouped c.args.state mark c.moved.new.shelf.items (group_by names after) refl settled;
+      same = m.table.same ∙ sym c.moved.ensures.len;
+      grouped = changed_grouped c.args.number c.args.shelf.now.next items m.shelved (group_by names groups) c.number-next.ensures.ordered m.found c.requires.led m.table.grouped c.args.state mark c.moved.new.shelf.items (group_by names after) settled;
+    })

@@ -1,12 +1,11 @@
-use Rattle.std.proofs.Common.{◌≡◌, None, ap, arith, subst, sym, ◌∙◌, ◌≤◌}
+use Rattle.std.proofs.Common.{◌≡◌, None, ap, arith, sym, ◌∙◌}
 use Rattle.std.specs.Prelude.{find}
 use Rattle.sim_clock.specs.Firsts.{changed}
 use Rattle.sqs_model.proofs.Counts.{changed_none}
-use Rattle.sqs_model.specs.Answers.{most_count}
 use Rattle.sqs_model.specs.Queue.{Queue, has_number, with_change}
 use Rattle.sqs_messages.proofs.Calls.{dues_kept, found_counted, put_dues}
 use Rattle.sqs_messages.proofs.Grouped.{find_told}
-use Rattle.sqs_messages.proofs.Kept.{restamped_told}
+use Rattle.sqs_messages.proofs.Kept.{restamped_told, still_kept}
 use Rattle.sqs_messages.specs.Heads.{told}
 use Rattle.sqs_messages.specs.Marked.{restamped}
 use Rattle.sqs_messages.specs.Slots.{is_numbered, restated}
@@ -29,14 +28,10 @@ due_of-due-requires c =
 pub invariant_of-self : goal.invariant_of-self
 invariant_of-self c =
     let inside = c.self.inside in
-    record {
-      settings_in_range = c.self.invariant.settings_in_range;
-      arrivals_in_range = subst (λ n. n ≤ most_count) (sym c.put.ensures.next) c.self.invariant.arrivals_in_range;
-      dues = dues_kept inside.site inside.settings.retention (changed (is_numbered c.args.number) (restamped c.args.state c.due_of-due.result) inside.shelf.items) c.put.new.shelf.items c.put.ensures.changed
-          (put_dues inside.site inside.settings.retention c.args.number inside.shelf.items c.in-Some.message.now c.args.state c.due_of-due.result c.in-Some.ensures c.due_of-due.ensures c.requires.receives c.requires.received c.self.invariant.dues);
-      order_of = c.put.ensures.kind inside.settings.kind c.self.invariant.order_of;
-      ordered = c.put.ensures.ordered;
-    }
+    still_kept _ _ _ _ _ _ _ _ c.self.invariant c.put.ensures.next
+    (dues_kept inside.site inside.settings.retention (changed (is_numbered c.args.number) (restamped c.args.state c.due_of-due.result) inside.shelf.items) c.put.new.shelf.items c.put.ensures.changed
+    (put_dues inside.site inside.settings.retention c.args.number inside.shelf.items c.in-Some.message.now c.args.state c.due_of-due.result c.in-Some.ensures c.due_of-due.ensures c.requires.receives c.requires.received c.self.invariant.dues))
+    (c.put.ensures.kind inside.settings.kind c.self.invariant.order_of) c.put.ensures.ordered
 
 pub returns : goal.returns
 returns c =

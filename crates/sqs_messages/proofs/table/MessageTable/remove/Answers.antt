@@ -1,9 +1,9 @@
-use Rattle.std.proofs.Common.{◌≡◌, ap, subst, sym, ◌∙◌, ◌≤◌}
+use Rattle.std.proofs.Common.{◌≡◌, ap, ◌∙◌}
 use Rattle.sim_clock.specs.Firsts.{without}
-use Rattle.sqs_model.specs.Answers.{most_count}
 use Rattle.sqs_model.specs.Queue.{Queue, has_number, numbered, taken_out}
 use Rattle.sqs_messages.proofs.Calls.{dues_kept}
 use Rattle.sqs_messages.proofs.Grouped.{find_told}
+use Rattle.sqs_messages.proofs.Kept.{still_kept}
 use Rattle.sqs_messages.proofs.Led.{all_without, told_without}
 use Rattle.sqs_messages.proofs.Settled.{told_kept}
 use Rattle.sqs_messages.specs.Heads.{told}
@@ -15,14 +15,10 @@ use Rattle.sqs_messages.proofs.table.MessageTable.remove.Goals as goal
 pub invariant_of-self : goal.invariant_of-self
 invariant_of-self c =
     let inside = c.self.inside in
-    record {
-      settings_in_range = c.self.invariant.settings_in_range;
-      arrivals_in_range = subst (λ n. n ≤ most_count) (sym c.remove.ensures.next) c.self.invariant.arrivals_in_range;
-      dues = dues_kept inside.site inside.settings.retention (without (is_numbered c.args.number) inside.shelf.items) c.remove.new.shelf.items c.remove.ensures.rest
-          (all_without (IsDue inside.site inside.settings.retention) (is_numbered c.args.number) inside.shelf.items c.self.invariant.dues);
-      order_of = c.remove.ensures.kind inside.settings.kind c.self.invariant.order_of;
-      ordered = c.remove.ensures.ordered;
-    }
+    still_kept _ _ _ _ _ _ _ _ c.self.invariant c.remove.ensures.next
+    (dues_kept inside.site inside.settings.retention (without (is_numbered c.args.number) inside.shelf.items) c.remove.new.shelf.items c.remove.ensures.rest
+    (all_without (IsDue inside.site inside.settings.retention) (is_numbered c.args.number) inside.shelf.items c.self.invariant.dues))
+    (c.remove.ensures.kind inside.settings.kind c.self.invariant.order_of) c.remove.ensures.ordered
 
 pub returns-clause-found : goal.returns-clause-found
 returns-clause-found c = c.remove.ensures.found ∙ find_told c.args.number c.self.inside.shelf.items ∙ ap (λ (q : Queue). numbered c.args.number q.records) c.self.view_is

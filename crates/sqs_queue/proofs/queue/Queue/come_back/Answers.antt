@@ -1,20 +1,9 @@
-use Rattle.std.proofs.Common.{None, ap, arith, sym, ◌∙◌}
+use Rattle.std.proofs.Common.{None, ap, sym, ◌∙◌}
 use Rattle.sqs_model.specs.Queue.{Queue}
 use Rattle.sqs_model.specs.Return.{leaves, released, visible_again}
 use Rattle.sqs_messages.specs.Slots.{restated}
-use Rattle.sqs_messages.specs.Stored.{IsCounted}
 use Rattle.sqs_queue.proofs.Coming.{change_as, released_visible}
 use Rattle.sqs_queue.proofs.queue.Queue.come_back.Goals as goal
-
-pub put-requires-clause-receives : goal.put-requires-clause-receives
-put-requires-clause-receives c =
-    let counted : IsCounted c.in_ok-message.message.now = c.in_ok-message.ensures.counted in
-    omega (arith, c.visible_again-state.ensures.receives, counted.receives)
-
-pub put-requires-clause-received : goal.put-requires-clause-received
-put-requires-clause-received c =
-    let counted : IsCounted c.in_ok-message.message.now = c.in_ok-message.ensures.counted in
-    omega (arith, c.visible_again-state.ensures.received, counted.received)
 
 pub returns-then-not-is_spent-clause-answer : goal.returns-then-not-is_spent-clause-answer
 returns-then-not-is_spent-clause-answer c =
