@@ -139,7 +139,6 @@ fn record<W: Out>(
         report,
         watch: &mut watch,
         horizon: 1000,
-        threads: 1,
     };
     in_two_batches(&mut recorder, first, second)
 }

@@ -4,9 +4,11 @@ ghost use Rattle.sim_handoff.specs.Seats.{places_of, table_of, owner_table, owne
 ghost use Rattle.sim_workers.specs.Owners.{IsAllFree};
 
 use crate::same::same;
+use sim_clock::{Class, Key, Refusal};
 use sim_handoff::{Hand, Handoff, Owner, Work};
 use sim_partition::Partition;
-use sim_ring::Counter;
+use sim_ring::{Counter, Told};
+use sim_windows::{Came, Limit};
 use sim_workers::{Gate, Open, Running, collect_at, join_all, round, start_all};
 use std::alloc::Global;
 use std::process::Abort;
@@ -126,14 +128,28 @@ fn one_partition(rt: &impl Abort, alloc: Global) -> Vec<Partition<Counter>>
     vec![in alloc; part].expect(rt, "memory")
 }
 
-#[test]
-fn nothing_due_comes_back(rt: HostRuntime) {
-    let alloc: Global = rt.alloc();
-    let parts = one_partition(&rt, alloc);
-    let (handoff, mut owner) = Handoff::<Running<Counter>>::make(alloc, 1).expect(&rt, "memory");
+// A round of one partition in which nothing is due, while a row is handed on.
+fn round_of_nothing<R: Abort + Wait>(
+    rt: &R,
+    alloc: Global,
+    sink: &mut Limit,
+) -> Result<Vec<Came<Counter>>, Refusal> {
+    let parts = one_partition(rt, alloc);
+    let (handoff, mut owner) = Handoff::<Running<Counter>>::make(alloc, 1).expect(rt, "memory");
     let mut hand = owner.hand(&handoff);
-    let came = round(
-        &rt,
+    let key = Key {
+        at: 1,
+        agent: 0,
+        class: Class::Arrival,
+        number: 0,
+    };
+    let row = Told {
+        key,
+        number: 0,
+        count: 1,
+    };
+    round(
+        rt,
         alloc,
         &handoff,
         &mut owner,
@@ -141,10 +157,24 @@ fn nothing_due_comes_back(rt: HostRuntime) {
         &Open,
         &[7],
         parts,
+        &[row],
+        sink,
     )
-    .expect(&rt, "a round");
-    same(&rt, came.len(), 1);
+}
+
+#[test]
+fn nothing_due_comes_back(rt: HostRuntime) {
+    let mut sink = Limit { left: 3 };
+    let came = round_of_nothing(&rt, rt.alloc(), &mut sink).expect(&rt, "a round");
+    same(&rt, (came.len(), sink.left), (1, 2));
     for one in &came {
         same(&rt, (one.made.rows.len(), one.part.least_due()), (0, None));
     }
+}
+
+#[test]
+fn a_full_sink_ends_a_round(rt: HostRuntime) {
+    let mut sink = Limit { left: 0 };
+    let refusal = round_of_nothing(&rt, rt.alloc(), &mut sink).err();
+    same(&rt, (refusal, sink.left), (Some(Refusal::Write), 0));
 }
