@@ -3,7 +3,9 @@
 #![tactic(auto)]
 
 mod mark;
+mod marked;
 mod marks;
 
 pub use mark::{Mark, NO_MARK};
+pub use marked::MarkedList;
 pub use marks::Marks;

@@ -219,6 +219,13 @@ impl Marks {
         self.width
     }
 
+    /// The marks of the places, in order.
+    pub fn leaves(&self) -> &[Mark]
+        ensures { result.now ≡ self.now }
+    {
+        &self.nodes[self.width..]
+    }
+
     /// Marks a place.
     pub fn put(&mut self, place: usize, mark: Mark)
         requires { place < length self.old }

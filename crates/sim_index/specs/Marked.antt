@@ -1,0 +1,31 @@
+-- Values, each with its mark.
+use Rattle.std.specs.Prelude.{◌&&◌, ◌≡◌, ◌≤◌, Bool, List, length, nat_lt, set, ℕ}
+use Rattle.std.specs.List.{AllZip, items_where_true}
+use Rattle.sim_index.specs.declared.mark.Mark.{Mark}
+use Rattle.sim_index.specs.Marks.{no_mark, node}
+
+-- values, the mark of each, and whether one more certainly finds room
+pub record Marked (A : Type 0) : Type 0 where
+  pub values : List A
+  pub marks : List Mark
+  pub ready : Bool
+
+-- whether a list of so many values has room for one more, and a tree of so many leaves one for its mark
+abbrev pub is_ready : ℕ → ℕ → ℕ → Bool
+is_ready values capacity leaves = nat_lt values capacity && nat_lt values leaves
+
+-- a tree has a leaf for each of so many values, and leaves past them tell nothing
+pub record HasLeaves (values : ℕ) (leaves : List Mark) : Type 0 where
+  pub room : values ≤ length leaves
+  pub rest : (i : ℕ) → values ≤ i → node leaves i ≡ no_mark
+
+-- another value at a place
+abbrev pub with_value : {A : Type 0} → Marked A → ℕ → A → Marked A
+with_value m place value = record m { values = set m.values place value }
+
+-- what stays of values and their marks, where each value was asked about and those stay at which the answer was `true`
+pub record IsPicked {A : Type 0} (answers : A → Bool → Type 0) (old new : Marked A) : Type 0 where
+  pub told : List Bool
+  pub asked : AllZip answers old.values told
+  pub values : new.values ≡ items_where_true told old.values
+  pub marks : new.marks ≡ items_where_true told old.marks

@@ -1,0 +1,272 @@
+//! Values with their marks.
+ghost use Rattle.std.specs.Prelude.{◌≡◌, ◌+◌, ◌*◌, ◌^◌, ◌<◌, ◌≤◌, ◌++◌, ◌∷◌, [], IfOk, if◌then◌else◌, IfSome, IsOk, MatchOption, None, OnErr, OnOk, false, length, set, slice_index_or, true, vec_capacity, vec_len, ℕ};
+ghost use Rattle.std.specs.Borrow.{sem};
+ghost use Rattle.std.specs.Fn.{FnReturnsAt};
+ghost use Rattle.std.specs.List.{AllZip, items_where_true};
+ghost use Rattle.sim_index.specs.Marks.{IsNextIn, IsPlaceOfLeast, IsPower, NoneIn, least_of, no_mark, node};
+ghost use Rattle.sim_index.specs.Marked.{IsPicked};
+
+use crate::mark::{Mark, NO_MARK, mark_at};
+use crate::marks::Marks;
+use sim_clock::Key;
+use std::alloc::{AllocError, Global};
+use std::marker::Model;
+use std::mem;
+
+// How many places there are to be for so many marks.
+fn wider(width: usize, count: usize) -> usize
+    requires power { 1 ≤ width → IsPower width }
+    requires range { width < 2 ^ 60 }
+    requires count { count ≤ width }
+    ensures power { IsPower result }
+    ensures some { 1 ≤ result }
+    ensures more { count < result }
+    ensures wide { width ≤ result }
+    ensures range { 2 * result < 2 ^ 64 }
+{
+    if width == 0 {
+        16
+    } else if width < 2 * count {
+        2 * width
+    } else {
+        width
+    }
+}
+
+// A tree of these marks, of no fewer places than so many, and of twice as many as there are marks.
+fn tree_of(alloc: Global, width: usize, marks: &[Mark]) -> Result<Marks, AllocError>
+    requires power { 1 ≤ width → IsPower width }
+    requires room { length marks.now ≤ width }
+    ensures marks { IfOk result (λ m. (i : ℕ) → node m i ≡ node marks.now i) }
+    ensures more { IfOk result (λ m. length marks.now < length m) }
+    ensures wide { IfOk result (λ m. width ≤ length m) }
+{
+    if 1 << 60 <= width {
+        return Err(AllocError);
+    }
+    Marks::of(alloc, wider(width, marks.len()), marks)
+}
+
+// One more item, if it stays.
+fn push_if<T: Drop>(items: &mut Vec<T>, stays: bool, item: T)
+    requires { vec_len items.old < vec_capacity items.old }
+    ensures items { items.new.items ≡ items.old.items ++ (if stays then item ∷ [] else []) }
+    ensures capacity { vec_capacity items.new ≡ vec_capacity items.old }
+    ensures length { vec_len items.new ≤ vec_len items.old + 1 }
+{
+    if stays {
+        items.push_reserved(item);
+    }
+}
+
+// What a closure answers about each value, and the marks of those at which the answer is `true`.
+fn ask<T, F: Fn(&T) -> bool>(
+    alloc: Global,
+    values: &[T],
+    marks: &[Mark],
+    keeps: F,
+) -> Result<(Vec<bool>, Vec<Mark>), AllocError>
+    requires callable { F.IsAlwaysCallable keeps }
+    requires long { length values.now ≤ length marks.now }
+    ensures told { IfOk result (λ r. AllZip (FnReturnsAt F.Fn keeps) values.now r.0.items) }
+    ensures length { IfOk result (λ r. length r.0.items ≡ length values.now) }
+    ensures few { IfOk result (λ r. length r.1.items ≤ length values.now) }
+    ensures marks { IfOk result (λ r. r.1.items ≡ items_where_true r.0.items marks.now) }
+{
+    let mut told = Vec::with_capacity(alloc, values.len())?;
+    let mut kept = Vec::with_capacity(alloc, values.len())?;
+    for place in 0..values.len() {
+        let stays = keeps(&values[place]);
+        told.push_reserved(stays);
+        push_if(&mut kept, stays, marks[place]);
+    }
+    Ok((told, kept))
+}
+
+// The values at which the answer is `true`, in a list that has room for all.
+fn pick<T: Drop>(values: Vec<T>, told: &[bool], kept: Vec<T>) -> Vec<T>
+    requires none_kept { kept.items ≡ [] }
+    requires room { vec_len values ≤ vec_capacity kept }
+    requires told { length told.now ≡ vec_len values }
+    ensures items { result.items ≡ items_where_true told.now values.items }
+    ensures capacity { vec_capacity result ≡ vec_capacity kept }
+{
+    let mut kept = kept;
+    let mut place = 0;
+    for value in values {
+        push_if(&mut kept, told[place], value);
+        place += 1;
+    }
+    kept
+}
+
+/// Values at the places of a list, each with its mark, in a tree beside them: the least of what is
+/// due, its first place and the next place on a host are told without going over the values.
+/// Contracts see the values, the mark of each, and whether one more certainly finds room.
+#[derive(Drop)]
+pub struct MarkedList<T> {
+    values: Vec<T>,
+    tree: Marks,
+    alloc: Global,
+}
+
+impl<T> Model for MarkedList<T> {
+    ghost use Rattle.std.specs.Prelude.{length, take, vec_capacity, vec_len};
+    ghost use Rattle.sim_index.specs.Marked.{HasLeaves, Marked, is_ready};
+
+    ghost Value = { Marked T };
+
+    ghost view = { λ l. record { values = l.values.items; marks = take (length l.values.items) l.tree; ready = is_ready (vec_len l.values) (vec_capacity l.values) (length l.tree) } };
+
+    ghost invariant = { λ l. HasLeaves (length l.values.items) l.tree };
+}
+
+impl<T> MarkedList<T> {
+    ghost use Rattle.sim_index.specs.Lends.{LendsValue};
+
+    /// An empty list. Takes no memory.
+    pub fn new(alloc: Global) -> MarkedList<T>
+        ensures { result ≡ record { values = []; marks = []; ready = false } }
+    {
+        MarkedList {
+            values: Vec::new(alloc),
+            tree: Marks::new(alloc),
+            alloc,
+        }
+    }
+
+    /// How many values there are.
+    pub fn len(&self) -> usize
+        ensures { result ≡ length self.now.values }
+    {
+        self.values.len()
+    }
+
+    /// The values, of each of which there is a mark.
+    pub fn values(&self) -> &[T]
+        ensures values { result.now ≡ self.now.values }
+        ensures marks { length self.now.marks ≡ length self.now.values }
+    {
+        &self.values
+    }
+
+    /// The value at a place, to be changed. Its mark stays.
+    pub fn value_mut(&mut self, place: usize) -> &mut T
+        requires { place < length self.old.values }
+        ensures* writes_back { sem 𝓛 (LendsValue T.row self.entry place result) }
+        ensures value { result.now ≡ slice_index_or self.old.values place result.now }
+    {
+        &mut self.values[place]
+    }
+
+    /// The mark of the value at a place, or that of an empty place past the end.
+    pub fn mark_at(&self, place: usize) -> Mark
+        ensures { result ≡ node self.now.marks place }
+    {
+        mark_at(self.tree.leaves(), place)
+    }
+
+    /// Marks the value at a place.
+    pub fn set_mark(&mut self, place: usize, mark: Mark)
+        requires { place < length self.old.values }
+        ensures { self.new ≡ record self.old { marks = set self.old.marks place mark } }
+    {
+        self.tree.put(place, mark);
+    }
+
+    /// The least of what is due.
+    pub fn least(&self) -> Option<Key>
+        ensures { result ≡ least_of self.now.marks }
+    {
+        self.tree.least()
+    }
+
+    /// The first place at which the least is due; none where nothing is.
+    pub fn place_of_least(&self) -> Option<usize>
+        ensures first { MatchOption result (least_of self.now.marks ≡ None) (IsPlaceOfLeast self.now.marks) }
+        ensures there { IfSome result (λ place. place < length self.now.values) }
+    {
+        self.tree.place_of_least()
+    }
+
+    /// The first place from one on whose mark tells of one of these hosts.
+    pub fn next(&self, from: usize, hosts: u32) -> Option<usize>
+        requires { from ≤ length self.now.values }
+        ensures first { MatchOption result (NoneIn self.now.marks hosts from (length self.now.marks)) (IsNextIn self.now.marks hosts from (length self.now.marks)) }
+        ensures there { IfSome result (λ place. place < length self.now.values) }
+    {
+        self.tree.next(from, hosts)
+    }
+
+    /// Makes room for one value more, so that its push succeeds.
+    pub fn reserve(&mut self) -> Result<(), AllocError>
+        ensures ready { OnOk result (self.new.ready ≡ true) }
+        ensures values { self.new.values ≡ self.old.values }
+        ensures marks { self.new.marks ≡ self.old.marks }
+        ensures unchanged { OnErr result (self.new ≡ self.old) }
+        ensures succeeds { self.old.ready ≡ true → IsOk result }
+    {
+        self.values.reserve(1)?;
+        let width = self.tree.len();
+        if self.values.len() == width {
+            let tree = tree_of(self.alloc, width, self.tree.leaves())?;
+            self.tree = tree;
+        }
+        Ok(())
+    }
+
+    /// One more value with its mark. Succeeds where there is room.
+    pub fn push(&mut self, value: T, mark: Mark) -> Result<(), AllocError>
+    where
+        T: Drop,
+        ensures values { OnOk result (self.new.values ≡ self.old.values ++ value ∷ []) }
+        ensures marks { OnOk result (self.new.marks ≡ self.old.marks ++ mark ∷ []) }
+        ensures unchanged { OnErr result (self.new ≡ self.old) }
+        ensures succeeds { self.old.ready ≡ true → IsOk result }
+    {
+        self.reserve()?;
+        self.tree.put(self.values.len(), mark);
+        self.values.push_reserved(value);
+        Ok(())
+    }
+
+    /// Keeps the values at which the closure answers `true`, in their order, with their marks, and
+    /// makes room for one more. There are then twice as many places as values, and no fewer than
+    /// there were. Nothing is changed where memory runs out.
+    pub fn retain<F: Fn(&T) -> bool>(&mut self, keeps: F) -> Result<(), AllocError>
+    where
+        T: Drop,
+        requires { F.IsAlwaysCallable keeps }
+        ensures picked { OnOk result (IsPicked (FnReturnsAt F.Fn keeps) self.old self.new) }
+        ensures ready { OnOk result (self.new.ready ≡ true) }
+        ensures unchanged { OnErr result (self.new ≡ self.old) }
+    {
+        let marks = &self.tree.leaves()[..self.values.len()];
+        let (told, marks) = ask(self.alloc, &self.values, marks, keeps)?;
+        let tree = tree_of(self.alloc, self.tree.len(), &marks)?;
+        let kept = Vec::with_capacity(self.alloc, tree.len())?;
+        let values = mem::replace(&mut self.values, Vec::new(self.alloc));
+        self.values = pick(values, &told, kept);
+        self.tree = tree;
+        Ok(())
+    }
+
+    /// Lets all values go, where no mark tells anything. The places are not gone over.
+    pub fn clear(&mut self)
+    where
+        T: Drop,
+        requires { (i : ℕ) → node self.old.marks i ≡ no_mark }
+        ensures values { self.new.values ≡ [] }
+        ensures marks { self.new.marks ≡ [] }
+        ensures ready { self.old.ready ≡ true → self.new.ready ≡ true }
+    {
+        self.values.clear();
+    }
+
+    /// The values, without their marks.
+    pub fn into_values(self) -> Vec<T>
+        ensures { result.items ≡ self.values }
+    {
+        self.values
+    }
+}
