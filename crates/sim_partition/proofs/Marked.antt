@@ -1,9 +1,9 @@
 -- Marks of sites.
-use Rattle.std.specs.Prelude.{Bool, Err, IfOk, List, None, Ok, Option, Result, Some, [], cond, false, get_or, length, map, nat_lt, position, set, true, suc, zero, ℕ, ◌<◌, ◌∷◌, ◌≡◌, ◌≢◌, ◌≤◌}
+use Rattle.std.specs.Prelude.{Bool, List, None, Option, Some, [], cond, false, get_or, length, map, nat_lt, position, set, true, ℕ, ◌++◌, ◌<◌, ◌∷◌, ◌≡◌, ◌≢◌}
 use Rattle.std.specs.List.{position_or_len}
-use Rattle.std.proofs.Common.{ap, arith, inl, inr, refl, subst, sym, ◌∙◌}
-use Rattle.std.proofs.lemmas.Bool.{cases_eq, cases_lt, lt-ltb}
-use Rattle.std.proofs.lemmas.List.{get_or-map, get_or-set_other, get_or-set_same, length-set}
+use Rattle.std.proofs.Common.{ap, arith, refl, sym, ◌∙◌}
+use Rattle.std.proofs.lemmas.Bool.{lt-ltb}
+use Rattle.std.proofs.lemmas.List.{get_or-map, get_or-set_same, map-append, map-set}
 use Rattle.std.proofs.lemmas.List.Sums.{position_or_len_is}
 use Rattle.sim_clock.specs.declared.key.Key.{Key}
 use Rattle.sim_clock.specs.Order.{lesser}
@@ -14,14 +14,8 @@ use Rattle.sim_engine.proofs.Keys.{key_self}
 use Rattle.sim_engine.proofs.WorldMoves.{is_due_least}
 use Rattle.sim_partition.specs.Sites.{AreMarked, is_due_there, mark_of}
 use Rattle.sim_index.specs.declared.mark.Mark.{Mark}
+use Rattle.sim_index.specs.Marked.{Marked}
 use Rattle.sim_index.specs.Marks.{IsPlaceOfLeast, least_of, no_mark, node}
-
--- the same marks tell the same least, whatever empty places follow
-same_least : (xs ys : List Mark) → ((i : ℕ) → node xs i ≡ node ys i) → least_of xs ≡ least_of ys
-same_least [] [] h = refl
-same_least [] (y ∷ ys) h = same_least [] ys (λ i. h (suc i)) ∙ ap (λ (m : Mark). lesser m.due (least_of ys)) (h 0)
-same_least (x ∷ xs) [] h = ap (λ (m : Mark). lesser m.due (least_of xs)) (h 0) ∙ same_least xs [] (λ i. h (suc i))
-same_least (x ∷ xs) (y ∷ ys) h = ap (λ (m : Mark). lesser m.due (least_of xs)) (h 0) ∙ ap (lesser y.due) (same_least xs ys (λ i. h (suc i)))
 
 not_due_by : (key : Key) (o : Option Key) (b : Bool) → is_due key o ≡ b → o ≢ Some key → b ≡ false
 not_due_by key o true h n = absurd (n (is_due_least key o h))
@@ -42,86 +36,47 @@ module _ {Site Row Transfer : Type 0} (engine : Engine Site Row Transfer) where
   marks_least (x ∷ xs) = ap (lesser (least_due engine x)) (marks_least xs)
 
   -- the least of the marks is what is due next
-  pub marked_least : (xs : List Site) (marks : List Mark) → AreMarked engine xs marks → least_of marks ≡ world_due engine xs
-  marked_least xs marks h = same_least marks (map (mark_of engine) xs) h.same ∙ marks_least xs
+  pub marked_least : (sites : Marked Site) → AreMarked engine sites → least_of sites.marks ≡ world_due engine sites.values
+  marked_least sites h = ap least_of h ∙ marks_least sites.values
 
-  pub told_least : (xs : List Site) (marks : List Mark) (told : Option Key) (key : Key) → AreMarked engine xs marks → told ≡ least_of marks → told ≡ Some key → world_due engine xs ≡ Some key
-  told_least xs marks told key h e f = sym (marked_least xs marks h) ∙ sym e ∙ f
+  pub told_least : (sites : Marked Site) (told : Option Key) (key : Key) → AreMarked engine sites → told ≡ least_of sites.marks → told ≡ Some key → world_due engine sites.values ≡ Some key
+  told_least sites told key h e f = sym (marked_least sites h) ∙ sym e ∙ f
 
-  pub none_least : (xs : List Site) (marks : List Mark) (told : Option Key) → AreMarked engine xs marks → told ≡ least_of marks → told ≡ None → world_due engine xs ≡ None
-  none_least xs marks told h e f = sym (marked_least xs marks h) ∙ sym e ∙ f
+  pub none_least : (sites : Marked Site) (told : Option Key) → AreMarked engine sites → told ≡ least_of sites.marks → told ≡ None → world_due engine sites.values ≡ None
+  none_least sites told h e f = sym (marked_least sites h) ∙ sym e ∙ f
 
   -- the mark at a place
-  mark_there : (xs : List Site) (marks : List Mark) (i : ℕ) (d : Site) → AreMarked engine xs marks → i < length xs → (node marks i).due ≡ least_due engine (get_or xs i d)
-  mark_there xs marks i d h l = ap (λ (m : Mark). m.due) (h.same i ∙ get_or-map (mark_of engine) xs i d no_mark l)
-
-  past_marks : (xs : List Site) (i : ℕ) → length xs ≤ i → node (map (mark_of engine) xs) i ≡ no_mark
-  past_marks [] i l = refl
-  past_marks (x ∷ xs) zero l = absurd (omega arith)
-  past_marks (x ∷ xs) (suc i) l = past_marks xs i (omega arith)
-
-  place_within : (xs : List Site) (marks : List Mark) (i : ℕ) (key : Key) → AreMarked engine xs marks → (node marks i).due ≡ Some key → i < length xs
-  place_within xs marks i key h e =
-      elim (cases_lt i (length xs)) as (λ _. i < length xs) [
-        | inl l ↦ l
-        | inr l ↦ absurd (none_some (sym (ap (λ (m : Mark). m.due) (h.same i ∙ past_marks xs i l)) ∙ e))
-      ]
+  mark_there : (sites : Marked Site) (i : ℕ) (d : Site) → AreMarked engine sites → i < length sites.values → (node sites.marks i).due ≡ least_due engine (get_or sites.values i d)
+  mark_there sites i d h l = ap (λ (m : Mark). m.due) (ap (λ ms. node ms i) h ∙ get_or-map (mark_of engine) sites.values i d no_mark l)
 
   -- the first place of the least is that of the first site at which it is due
-  stands_first : (key : Key) (d : Site) (xs : List Site) (marks : List Mark) (i : ℕ) → AreMarked engine xs marks → IsPlaceOfLeast marks i → least_of marks ≡ Some key → Stands (is_due_there engine key) xs i
-  stands_first key d xs marks i h p e =
-      let within : i < length xs = place_within xs marks i key h (p.due ∙ e) in
+  stands_first : (key : Key) (d : Site) (sites : Marked Site) (i : ℕ) → AreMarked engine sites → IsPlaceOfLeast sites.marks i → i < length sites.values → least_of sites.marks ≡ Some key → Stands (is_due_there engine key) sites.values i
+  stands_first key d sites i h p within e =
+      let xs : List Site = sites.values in
       let test : Site → Bool = is_due_there engine key in
       let first : position_or_len test xs ≡ i =
       position_or_len_is test xs i d (omega arith)
-      (λ k l. not_due key (least_due engine (get_or xs k d)) (λ f. p.first k l (mark_there xs marks k d h (omega arith) ∙ f ∙ sym e)))
-      (λ l. is_due_at key (least_due engine (get_or xs i d)) (sym (mark_there xs marks i d h within) ∙ p.due ∙ e)) in
+      (λ k l. not_due key (least_due engine (get_or xs k d)) (λ f. p.first k l (mark_there sites k d h (omega arith) ∙ f ∙ sym e)))
+      (λ l. is_due_at key (least_due engine (get_or xs i d)) (sym (mark_there sites i d h within) ∙ p.due ∙ e)) in
       let found : Some i ≡ position test xs = ap (λ b. cond b (Some i) None) (sym (lt-ltb i (length xs) within)) ∙ ap (λ n. cond (nat_lt n (length xs)) (Some n) None) (sym first) in
       place_from_position test xs (Some i) found
 
-  pub stands_least : (key : Key) (xs : List Site) (marks : List Mark) (i : ℕ) → AreMarked engine xs marks → IsPlaceOfLeast marks i → least_of marks ≡ Some key → Stands (is_due_there engine key) xs i
-  stands_least key [] marks i h p e = let l : i < 0 = place_within [] marks i key h (p.due ∙ e) in absurd (omega arith)
-  stands_least key (x ∷ xs) marks i h p e = stands_first key x (x ∷ xs) marks i h p e
+  some_site : (xs : List Site) (i : ℕ) → i < length xs → Site
+  some_site [] i l = absurd (omega arith)
+  some_site (x ∷ xs) i l = x
 
-  -- the marks of sites with one in the place of another
-  set_there : (xs : List Site) (i : ℕ) (x : Site) → i < length xs → node (map (mark_of engine) (set xs i x)) i ≡ (mark_of engine) x
-  set_there [] i x l = absurd (omega arith)
-  set_there (y ∷ ys) zero x l = refl
-  set_there (y ∷ ys) (suc i) x l = set_there ys i x (omega arith)
+  pub stands_least : (key : Key) (sites : Marked Site) (i : ℕ) → AreMarked engine sites → IsPlaceOfLeast sites.marks i → i < length sites.values → least_of sites.marks ≡ Some key → Stands (is_due_there engine key) sites.values i
+  stands_least key sites i h p l e = stands_first key (some_site sites.values i l) sites i h p l e
 
-  set_apart : (xs : List Site) (i : ℕ) (x : Site) (k : ℕ) → k ≢ i → node (map (mark_of engine) (set xs i x)) k ≡ node (map (mark_of engine) xs) k
-  set_apart [] i x k n = refl
-  set_apart (y ∷ ys) zero x zero n = absurd (n refl)
-  set_apart (y ∷ ys) zero x (suc k) n = refl
-  set_apart (y ∷ ys) (suc i) x zero n = refl
-  set_apart (y ∷ ys) (suc i) x (suc k) n = set_apart ys i x k (λ e. n (ap suc e))
-
-  -- a site that is marked anew
-  marked_at : (xs : List Site) (marks : List Mark) (i : ℕ) (x : Site) (k : ℕ) → AreMarked engine xs marks → i < length xs → node (set marks i ((mark_of engine) x)) k ≡ node (map (mark_of engine) (set xs i x)) k
-  marked_at xs marks i x k h l =
-      elim (cases_eq k i) [
-        | inl e ↦ rw e (get_or-set_same marks i ((mark_of engine) x) no_mark (omega (arith, h.room)) ∙ sym (set_there xs i x l))
-        | inr n ↦ get_or-set_other marks i k ((mark_of engine) x) no_mark n ∙ h.same k ∙ sym (set_apart xs i x k n)
-      ]
-
-  pub marked_put : (xs : List Site) (marks : List Mark) (i : ℕ) (x : Site) → AreMarked engine xs marks → i < length xs → AreMarked engine (set xs i x) (set marks i ((mark_of engine) x))
-  marked_put xs marks i x h l =
-      record { same = λ k. marked_at xs marks i x k h l; room = omega (arith, h.room, length-set xs i x, length-set marks i ((mark_of engine) x)) }
-
-  -- one that is marked anew after a change of it
+  -- a site that is marked anew after a change of it
   pub marked_anew :
-      (xs : List Site) (marks news : List Mark) (i : ℕ) (x y : Site) (m : Mark) → AreMarked engine xs marks → i < length xs → y ≡ get_or (set xs i x) i y → m ≡ (mark_of engine) y
-      → news ≡ set marks i m → AreMarked engine (set xs i x) news
-  marked_anew xs marks news i x y m h l is told put =
-      let same : y ≡ x = is ∙ get_or-set_same xs i x y l in
-      subst (AreMarked engine (set xs i x)) (sym (put ∙ ap (set marks i) (told ∙ ap (mark_of engine) same))) (marked_put xs marks i x h l)
+      (sites news : Marked Site) (i : ℕ) (x y : Site) (m : Mark) (shown : List Site) → AreMarked engine sites → i < length sites.values → shown ≡ set sites.values i x → y ≡ get_or shown i y → m ≡ mark_of engine y
+      → news ≡ record sites { values = set sites.values i x; marks = set sites.marks i m } → AreMarked engine news
+  marked_anew sites news i x y m shown h l is there told put =
+      let same : y ≡ x = there ∙ ap (λ xs. get_or xs i y) is ∙ get_or-set_same sites.values i x y l in
+      ap (λ (s : Marked Site). s.marks) put ∙ ap (set sites.marks i) (told ∙ ap (mark_of engine) same) ∙ ap (λ ms. set ms i (mark_of engine x)) h
+      ∙ sym (map-set (mark_of engine) sites.values i x) ∙ ap (λ (s : Marked Site). map (mark_of engine) s.values) (sym put)
 
-  -- marks that are those of some sites, one by one
-  marked_of : (xs : List Site) (marks news : List Mark) (width : ℕ) → marks ≡ map (mark_of engine) xs → length xs ≤ width → ((i : ℕ) → node news i ≡ node marks i) → length news ≡ width → AreMarked engine xs news
-  marked_of xs marks news width is room same long = record { same = λ i. same i ∙ ap (λ ms. node ms i) is; room = omega (arith, room, long) }
-
-  pub marked_ok :
-      {E : Type 0} (r : Result (List Mark) E) (xs : List Site) (marks : List Mark) (width : ℕ) → marks ≡ map (mark_of engine) xs → length xs ≤ width
-      → IfOk r (λ m. (i : ℕ) → node m i ≡ node marks i) → IfOk r (λ m. length m ≡ width) → IfOk r (AreMarked engine xs)
-  marked_ok (Ok m) xs marks width is room same long = marked_of xs marks m width is room same long
-  marked_ok (Err e) xs marks width is room same long = tt
+  pub one_more : (old new : Marked Site) (x : Site) (m : Mark) → AreMarked engine old → new.values ≡ old.values ++ x ∷ [] → new.marks ≡ old.marks ++ m ∷ [] → m ≡ mark_of engine x → AreMarked engine new
+  one_more old new x m h values marks told =
+      marks ∙ ap (λ ms. ms ++ m ∷ []) h ∙ ap (λ k. map (mark_of engine) old.values ++ k ∷ []) told ∙ sym (map-append (mark_of engine) old.values (x ∷ [])) ∙ ap (map (mark_of engine)) (sym values)

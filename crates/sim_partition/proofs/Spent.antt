@@ -10,7 +10,7 @@ use Rattle.sim_engine.specs.Rounds.{PartRun, part_begun}
 use Rattle.sim_partition.specs.Sites.{IsKeptUnless, due_in, spent_or}
 use Rattle.sim_partition.specs.Steps.{part_made}
 use Rattle.sim_partition.proofs.Marked.{marked_least}
-use Rattle.sim_index.specs.declared.mark.Mark.{Mark}
+use Rattle.sim_index.specs.Marked.{Marked}
 use Rattle.sim_index.specs.Marks.{least_of}
 
 -- one that is not spent lives
@@ -22,9 +22,9 @@ lives_as P v w e p = subst (λ x. IfOk x P) (sym e) p
 
 module _ {Site Row Transfer : Type 0} (engine : Engine Site Row Transfer) where
   -- its least due is told by its marks
-  pub due_now : (conditions : Conditions Site Transfer) (spent : Option Refusal) (xs : List Site) (marks : List Mark) (v : Result (List Site) Refusal) → is_some spent ≡ false → IsKeptUnless engine conditions spent xs marks → spent_or spent xs ≡ v → least_of marks ≡ due_in engine v
-  due_now conditions None xs marks v n k e = marked_least engine xs marks k.marked ∙ ap (due_in engine) e
-  due_now conditions (Some r) xs marks v n k e = let t : true ≡ false = n in cc
+  pub due_now : (conditions : Conditions Site Transfer) (spent : Option Refusal) (sites : Marked Site) (v : Result (List Site) Refusal) → is_some spent ≡ false → IsKeptUnless engine conditions spent sites → spent_or spent sites.values ≡ v → least_of sites.marks ≡ due_in engine v
+  due_now conditions None sites v n k e = marked_least engine sites k.marked ∙ ap (due_in engine) e
+  due_now conditions (Some r) sites v n k e = let t : true ≡ false = n in cc
 
   -- what has done nothing has begun
   pub begins : (w : List Site) (made : Effects Row Transfer) → made.rows.items ≡ [] → made.sent.items ≡ [] → part_made engine w made ≡ part_begun engine w

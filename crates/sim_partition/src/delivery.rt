@@ -8,41 +8,37 @@ use crate::marking::mark_of;
 use crate::places::place_of;
 use sim_clock::Refusal;
 use sim_engine::Site;
-use sim_index::Marks;
+use sim_index::MarkedList;
 
 // Hands a transfer to the site that it goes to, if it is one of these.
-fn deliver_one<S: Site>(
-    sites: &mut Vec<S>,
-    dues: &mut Marks,
-    transfer: S::Transfer,
-) -> Result<(), Refusal>
-    requires ascends { Ascends S.engine.number 0 sites.old.items }
-    requires marked { AreMarked S.engine sites.old.items dues.old }
-    ensures delivered { OnOk result (sites.new.items ≡ map (delivered_one S.engine transfer) sites.old.items) }
-    ensures marked { OnOk result (AreMarked S.engine sites.new.items dues.new) }
+fn deliver_one<S: Site>(sites: &mut MarkedList<S>, transfer: S::Transfer) -> Result<(), Refusal>
+    requires ascends { Ascends S.engine.number 0 sites.old.values }
+    requires marked { AreMarked S.engine sites.old }
+    ensures delivered { OnOk result (sites.new.values ≡ map (delivered_one S.engine transfer) sites.old.values) }
+    ensures marked { OnOk result (AreMarked S.engine sites.new) }
     ensures memory { IfErr result (λ refusal. refusal ≡ Refusal.Memory) }
 {
-    if let Some(place) = place_of(sites, S::to(&transfer)) {
-        sites[place].accept(transfer)?;
-        dues.put(place, mark_of(&sites[place]));
+    if let Some(place) = place_of(sites.values(), S::to(&transfer)) {
+        sites.value_mut(place).accept(transfer)?;
+        let mark = mark_of(&sites.values()[place]);
+        sites.set_mark(place, mark);
     }
     Ok(())
 }
 
 // Hands transfers to the sites that they go to, one after another.
 fn deliver_each<S: Site>(
-    sites: &mut Vec<S>,
-    dues: &mut Marks,
+    sites: &mut MarkedList<S>,
     transfers: Vec<S::Transfer>,
 ) -> Result<(), Refusal>
-    requires ascends { Ascends S.engine.number 0 sites.old.items }
-    requires marked { AreMarked S.engine sites.old.items dues.old }
-    ensures delivered { OnOk result (sites.new.items ≡ delivered S.engine transfers.items sites.old.items) }
-    ensures marked { OnOk result (AreMarked S.engine sites.new.items dues.new) }
+    requires ascends { Ascends S.engine.number 0 sites.old.values }
+    requires marked { AreMarked S.engine sites.old }
+    ensures delivered { OnOk result (sites.new.values ≡ delivered S.engine transfers.items sites.old.values) }
+    ensures marked { OnOk result (AreMarked S.engine sites.new) }
     ensures memory { IfErr result (λ refusal. refusal ≡ Refusal.Memory) }
 {
     for transfer in transfers {
-        deliver_one(sites, dues, transfer)?;
+        deliver_one(sites, transfer)?;
     }
     Ok(())
 }
@@ -50,16 +46,15 @@ fn deliver_each<S: Site>(
 /// Hands transfers to the sites that they go to, one after another; those to a site that is not
 /// here change nothing. The one error is `Memory`.
 pub fn deliver_all<S: Site>(
-    sites: &mut Vec<S>,
-    dues: &mut Marks,
+    sites: &mut MarkedList<S>,
     transfers: Vec<S::Transfer>,
 ) -> Result<(), Refusal>
-    requires kept { IsKept S.engine S.conditions sites.old.items dues.old }
-    requires past { All (λ o. All (S.conditions.Past (arrival S.engine o)) sites.old.items) transfers.items }
+    requires kept { IsKept S.engine S.conditions sites.old }
+    requires past { All (λ o. All (S.conditions.Past (arrival S.engine o)) sites.old.values) transfers.items }
     requires timely { All S.conditions.Timely transfers.items }
-    ensures delivered { OnOk result (sites.new.items ≡ delivered S.engine transfers.items sites.old.items) }
-    ensures kept { OnOk result (IsKept S.engine S.conditions sites.new.items dues.new) }
+    ensures delivered { OnOk result (sites.new.values ≡ delivered S.engine transfers.items sites.old.values) }
+    ensures kept { OnOk result (IsKept S.engine S.conditions sites.new) }
     ensures memory { IfErr result (λ refusal. refusal ≡ Refusal.Memory) }
 {
-    deliver_each(sites, dues, transfers)
+    deliver_each(sites, transfers)
 }

@@ -12,113 +12,110 @@ ghost use Rattle.sim_partition.specs.Steps.{Continues, StaysOfPast, StopsFrom, S
 use crate::marking::mark_of;
 use sim_clock::{Key, Refusal};
 use sim_engine::{Effects, Site};
-use sim_index::Marks;
+use sim_index::MarkedList;
 
 // The site at a place, the first at which a key is due next, handles it. What follows is added to
 // what was made before.
 fn handle_at<S: Site>(
-    sites: &mut Vec<S>,
-    dues: &mut Marks,
+    sites: &mut MarkedList<S>,
     place: usize,
     key: Key,
     effects: &mut Effects<S::Row, S::Transfer>,
 ) -> Result<(), Refusal>
-    requires kept { IsKept S.engine S.conditions sites.old.items dues.old }
-    requires due { world_due S.engine sites.old.items ≡ Some key }
-    requires there { Stands (is_due_there S.engine key) sites.old.items place }
+    requires kept { IsKept S.engine S.conditions sites.old }
+    requires due { world_due S.engine sites.old.values ≡ Some key }
+    requires there { Stands (is_due_there S.engine key) sites.old.values place }
     requires moment { key.at ≤ most_count }
     ensures handled { OnOk result (
-        part_made S.engine sites.new.items effects.new
-        ≡ part_on S.engine (part_made S.engine sites.old.items effects.old) (handled_among S.engine key sites.old.items)) }
-    ensures kept { OnOk result (IsKept S.engine S.conditions sites.new.items dues.new) }
+        part_made S.engine sites.new.values effects.new
+        ≡ part_on S.engine (part_made S.engine sites.old.values effects.old) (handled_among S.engine key sites.old.values)) }
+    ensures kept { OnOk result (IsKept S.engine S.conditions sites.new) }
     ensures timely { All S.conditions.Timely effects.old.sent.items → OnOk result (All S.conditions.Timely effects.new.sent.items) }
-    ensures stops { IfErr result (StopsStep S.engine (handled_among S.engine key sites.old.items)) }
+    ensures stops { IfErr result (StopsStep S.engine (handled_among S.engine key sites.old.values)) }
 {
-    sites[place].handle_into(key, effects)?;
-    dues.put(place, mark_of(&sites[place]));
+    sites.value_mut(place).handle_into(key, effects)?;
+    let mark = mark_of(&sites.values()[place]);
+    sites.set_mark(place, mark);
     Ok(())
 }
 
 /// The first site at which the least is due handles it. What follows is added to what was made before.
 pub fn handle_least<S: Site>(
-    sites: &mut Vec<S>,
-    dues: &mut Marks,
+    sites: &mut MarkedList<S>,
     effects: &mut Effects<S::Row, S::Transfer>,
 ) -> Result<(), Refusal>
-    requires kept { IsKept S.engine S.conditions sites.old.items dues.old }
-    requires due { HasDue S.engine sites.old.items }
-    ensures handled { (key : TheKey) → world_due S.engine sites.old.items ≡ Some key →
+    requires kept { IsKept S.engine S.conditions sites.old }
+    requires due { HasDue S.engine sites.old.values }
+    ensures handled { (key : TheKey) → world_due S.engine sites.old.values ≡ Some key →
         OnOk result (
-        part_made S.engine sites.new.items effects.new
-        ≡ part_on S.engine (part_made S.engine sites.old.items effects.old) (handled_among S.engine key sites.old.items)) }
-    ensures kept { OnOk result (IsKept S.engine S.conditions sites.new.items dues.new) }
+        part_made S.engine sites.new.values effects.new
+        ≡ part_on S.engine (part_made S.engine sites.old.values effects.old) (handled_among S.engine key sites.old.values)) }
+    ensures kept { OnOk result (IsKept S.engine S.conditions sites.new) }
     ensures timely { All S.conditions.Timely effects.old.sent.items → OnOk result (All S.conditions.Timely effects.new.sent.items) }
-    ensures stops { (key : TheKey) → world_due S.engine sites.old.items ≡ Some key →
-        IfErr result (StopsStep S.engine (handled_among S.engine key sites.old.items)) }
+    ensures stops { (key : TheKey) → world_due S.engine sites.old.values ≡ Some key →
+        IfErr result (StopsStep S.engine (handled_among S.engine key sites.old.values)) }
 {
-    let Some(place) = dues.place_of_least() else {
+    let Some(place) = sites.place_of_least() else {
         unreachable!();
     };
-    let Some(key) = dues.least() else {
+    let Some(key) = sites.least() else {
         unreachable!();
     };
-    handle_at(sites, dues, place, key, effects)
+    handle_at(sites, place, key, effects)
 }
 
 // Handles all that is due at the least moment.
 fn run_moment<S: Site>(
-    sites: &mut Vec<S>,
-    dues: &mut Marks,
+    sites: &mut MarkedList<S>,
     moment: u64,
     effects: &mut Effects<S::Row, S::Transfer>,
 ) -> Result<(), Refusal>
-    requires kept { IsKept S.engine S.conditions sites.old.items dues.old }
-    requires from { IsFrom moment (world_due S.engine sites.old.items) }
+    requires kept { IsKept S.engine S.conditions sites.old }
+    requires from { IsFrom moment (world_due S.engine sites.old.values) }
     requires moment { moment ≤ most_count }
     ensures goes_on { OnOk result (
         (bound : ℕ) → moment < bound →
-        Continues S.engine bound (part_made S.engine sites.old.items effects.old)
-        (part_made S.engine sites.new.items effects.new)) }
-    ensures done { OnOk result (IsLater moment (world_due S.engine sites.new.items)) }
-    ensures kept { OnOk result (IsKept S.engine S.conditions sites.new.items dues.new) }
-    ensures past { OnOk result (StaysOfPast S.conditions moment sites.old.items sites.new.items) }
+        Continues S.engine bound (part_made S.engine sites.old.values effects.old)
+        (part_made S.engine sites.new.values effects.new)) }
+    ensures done { OnOk result (IsLater moment (world_due S.engine sites.new.values)) }
+    ensures kept { OnOk result (IsKept S.engine S.conditions sites.new) }
+    ensures past { OnOk result (StaysOfPast S.conditions moment sites.old.values sites.new.values) }
     ensures timely { All S.conditions.Timely effects.old.sent.items → OnOk result (All S.conditions.Timely effects.new.sent.items) }
     ensures stops { IfErr result (λ refusal.
         (bound : ℕ) → moment < bound →
-        StopsFrom S.engine bound (part_made S.engine sites.old.items effects.old) refusal) }
+        StopsFrom S.engine bound (part_made S.engine sites.old.values effects.old) refusal) }
 {
-    while let Some(key) = dues.least() {
+    while let Some(key) = sites.least() {
         if key.at > moment {
             return Ok(());
         }
-        handle_least(sites, dues, effects)?;
+        handle_least(sites, effects)?;
     }
     Ok(())
 }
 
 /// Handles all that is due before a moment, and adds what follows to what was made before.
 pub fn run_before<S: Site>(
-    sites: &mut Vec<S>,
-    dues: &mut Marks,
+    sites: &mut MarkedList<S>,
     end: u64,
     effects: &mut Effects<S::Row, S::Transfer>,
 ) -> Result<(), Refusal>
-    requires kept { IsKept S.engine S.conditions sites.old.items dues.old }
+    requires kept { IsKept S.engine S.conditions sites.old }
     requires end { end ≤ most_count + 1 }
     ensures goes_on { OnOk result (
-        Continues S.engine end (part_made S.engine sites.old.items effects.old)
-        (part_made S.engine sites.new.items effects.new)) }
-    ensures done { OnOk result (due_before end (world_due S.engine sites.new.items) ≡ None) }
-    ensures kept { OnOk result (IsKept S.engine S.conditions sites.new.items dues.new) }
-    ensures past { OnOk result (StaysOfPast S.conditions end sites.old.items sites.new.items) }
+        Continues S.engine end (part_made S.engine sites.old.values effects.old)
+        (part_made S.engine sites.new.values effects.new)) }
+    ensures done { OnOk result (due_before end (world_due S.engine sites.new.values) ≡ None) }
+    ensures kept { OnOk result (IsKept S.engine S.conditions sites.new) }
+    ensures past { OnOk result (StaysOfPast S.conditions end sites.old.values sites.new.values) }
     ensures timely { All S.conditions.Timely effects.old.sent.items → OnOk result (All S.conditions.Timely effects.new.sent.items) }
-    ensures stops { IfErr result (StopsFrom S.engine end (part_made S.engine sites.old.items effects.old)) }
+    ensures stops { IfErr result (StopsFrom S.engine end (part_made S.engine sites.old.values effects.old)) }
 {
-    while let Some(key) = dues.least() {
+    while let Some(key) = sites.least() {
         if key.at >= end {
             return Ok(());
         }
-        run_moment(sites, dues, key.at, effects)?;
+        run_moment(sites, key.at, effects)?;
     }
     Ok(())
 }

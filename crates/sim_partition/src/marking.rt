@@ -1,13 +1,10 @@
-//! Marks of sites.
-ghost use Rattle.std.specs.Prelude.{◌≡◌, All, IfOk};
+//! Sites with what each has due next.
+ghost use Rattle.std.specs.Prelude.{◌≡◌, IfOk};
 ghost use Rattle.sim_partition.specs.Sites.{AreMarked, mark_of};
 
 use sim_engine::Site;
-use sim_index::{Mark, Marks};
+use sim_index::{Mark, MarkedList};
 use std::alloc::{AllocError, Global};
-
-/// As many sites as there are numbers of sites, which have 32 bits.
-const MOST_SITES: usize = 4_294_967_296;
 
 /// What is kept of a site: what is due next there.
 pub fn mark_of<S: Site>(site: &S) -> Mark
@@ -19,17 +16,15 @@ pub fn mark_of<S: Site>(site: &S) -> Mark
     }
 }
 
-/// The marks of some sites. The error is want of memory, as which more sites than there are numbers
-/// are refused too.
-pub fn marks_of<S: Site>(alloc: Global, sites: &[S]) -> Result<Marks, AllocError>
-    ensures { IfOk result (AreMarked S.engine sites.now) }
+/// Sites, each marked with what is due next there. The error is want of memory.
+pub fn marked<S: Site>(alloc: Global, sites: Vec<S>) -> Result<MarkedList<S>, AllocError>
+    ensures sites { IfOk result (λ list. list.values ≡ sites.items) }
+    ensures marked { IfOk result (AreMarked S.engine) }
 {
-    if sites.len() > MOST_SITES {
-        return Err(AllocError);
-    }
-    let mut marks = Vec::new(alloc);
+    let mut list = MarkedList::new(alloc);
     for site in sites {
-        marks.push(mark_of(site))?;
+        let mark = mark_of(&site);
+        list.push(site, mark)?;
     }
-    Marks::of(alloc, sites.len().next_power_of_two(), &marks)
+    Ok(list)
 }

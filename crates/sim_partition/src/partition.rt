@@ -10,10 +10,10 @@ ghost use Rattle.sim_partition.specs.Steps.{Continues, RanTo, StaysOfPast, Stops
 
 use crate::delivery::deliver_all;
 use crate::handling::{handle_least, run_before};
-use crate::marking::marks_of;
+use crate::marking::marked;
 use sim_clock::{Key, Refusal};
 use sim_engine::{Effects, Site};
-use sim_index::Marks;
+use sim_index::MarkedList;
 use std::alloc::{AllocError, Global};
 use std::marker::Model;
 
@@ -23,8 +23,7 @@ use std::marker::Model;
 #[derive(Drop)]
 pub struct Partition<S: Site> {
     alloc: Global,
-    sites: Vec<S>,
-    dues: Marks,
+    sites: MarkedList<S>,
     spent: Option<Refusal>,
     // How many rows its last run made: the next one asks for room for as many at once.
     made: usize,
@@ -33,24 +32,23 @@ pub struct Partition<S: Site> {
 // Handles all that is due before a moment. Room for so many rows is asked for at once.
 fn made_before<S: Site>(
     alloc: Global,
-    sites: &mut Vec<S>,
-    dues: &mut Marks,
+    sites: &mut MarkedList<S>,
     end: u64,
     room: usize,
 ) -> Result<Effects<S::Row, S::Transfer>, Refusal>
-    requires kept { IsKept S.engine S.conditions sites.old.items dues.old }
+    requires kept { IsKept S.engine S.conditions sites.old }
     requires end { end ≤ most_count + 1 }
     ensures goes_on { IfOk result (λ made.
-        Continues S.engine end (part_begun S.engine sites.old.items) (part_made S.engine sites.new.items made)) }
-    ensures done { OnOk result (due_before end (world_due S.engine sites.new.items) ≡ None) }
-    ensures kept { OnOk result (IsKept S.engine S.conditions sites.new.items dues.new) }
-    ensures past { OnOk result (StaysOfPast S.conditions end sites.old.items sites.new.items) }
+        Continues S.engine end (part_begun S.engine sites.old.values) (part_made S.engine sites.new.values made)) }
+    ensures done { OnOk result (due_before end (world_due S.engine sites.new.values) ≡ None) }
+    ensures kept { OnOk result (IsKept S.engine S.conditions sites.new) }
+    ensures past { OnOk result (StaysOfPast S.conditions end sites.old.values sites.new.values) }
     ensures timely { IfOk result (λ made. All S.conditions.Timely made.sent.items) }
-    ensures stops { IfErr result (StopsFrom S.engine end (part_begun S.engine sites.old.items)) }
+    ensures stops { IfErr result (StopsFrom S.engine end (part_begun S.engine sites.old.values)) }
 {
     let mut effects = Effects::new(alloc);
     effects.rows.reserve(room)?;
-    run_before(sites, dues, end, &mut effects)?;
+    run_before(sites, end, &mut effects)?;
     Ok(effects)
 }
 
@@ -61,9 +59,9 @@ impl<S: Site> Model for Partition<S> {
 
     ghost Value = { Result (List S) Refusal };
 
-    ghost view = { λ p. spent_or p.spent p.sites.items };
+    ghost view = { λ p. spent_or p.spent p.sites.values };
 
-    ghost invariant = { λ p. IsKeptUnless S.engine S.conditions p.spent p.sites.items p.dues };
+    ghost invariant = { λ p. IsKeptUnless S.engine S.conditions p.spent p.sites };
 }
 
 impl<S: Site> Partition<S> {
@@ -72,11 +70,10 @@ impl<S: Site> Partition<S> {
         requires { IsPart S.engine S.conditions sites.items }
         ensures { IfOk result (λ p. p ≡ Ok sites.items) }
     {
-        let dues = marks_of(alloc, &sites)?;
+        let sites = marked(alloc, sites)?;
         Ok(Partition {
             alloc,
             sites,
-            dues,
             spent: None,
             made: 0,
         })
@@ -92,7 +89,7 @@ impl<S: Site> Partition<S> {
         if self.spent.is_some() {
             return None;
         }
-        self.dues.least()
+        self.sites.least()
     }
 
     /// The refusal that spent it, if one did.
@@ -124,7 +121,7 @@ impl<S: Site> Partition<S> {
             return Err(refusal);
         }
         let mut effects = Effects::new(self.alloc);
-        if let Err(refusal) = handle_least(&mut self.sites, &mut self.dues, &mut effects) {
+        if let Err(refusal) = handle_least(&mut self.sites, &mut effects) {
             self.spent = Some(refusal);
             return Err(refusal);
         }
@@ -152,7 +149,7 @@ impl<S: Site> Partition<S> {
         if let Some(refusal) = self.spent {
             return Err(refusal);
         }
-        match made_before(self.alloc, &mut self.sites, &mut self.dues, end, self.made) {
+        match made_before(self.alloc, &mut self.sites, end, self.made) {
             Ok(effects) => {
                 self.made = effects.rows.len();
                 Ok(effects)
@@ -178,7 +175,7 @@ impl<S: Site> Partition<S> {
         if let Some(refusal) = self.spent {
             return Err(refusal);
         }
-        if let Err(refusal) = deliver_all(&mut self.sites, &mut self.dues, transfers) {
+        if let Err(refusal) = deliver_all(&mut self.sites, transfers) {
             self.spent = Some(refusal);
             return Err(refusal);
         }
@@ -189,6 +186,6 @@ impl<S: Site> Partition<S> {
     pub fn into_sites(self) -> Vec<S>
         ensures { IfOk self (λ w. result.items ≡ w) }
     {
-        self.sites
+        self.sites.into_values()
     }
 }

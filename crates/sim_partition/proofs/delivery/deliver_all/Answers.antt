@@ -12,8 +12,8 @@ on_both (Err e) P Q R f p q = tt
 pub returns-clause-kept : goal.returns-clause-kept
 returns-clause-kept g c =
     let e = g.S.Site.engine in
-    let w = c.args.sites.now.items in
-    let v = c.deliver_each.new.sites.items in
-    on_both c.deliver_each.result (v ≡ delivered e c.args.transfers.items w) (AreMarked e v c.deliver_each.new.dues) (IsKept e g.S.Site.conditions v c.deliver_each.new.dues)
+    let w = c.args.sites.now.values in
+    let v = c.deliver_each.new.sites in
+    on_both c.deliver_each.result (v.values ≡ delivered e c.args.transfers.items w) (AreMarked e v) (IsKept e g.S.Site.conditions v)
     (λ same marked. record { part = subst (IsPart e g.S.Site.conditions) (sym same) (part_delivered g.met.S.Site.laws c.args.transfers.items w c.requires.kept.part c.requires.past c.requires.timely); marked = marked })
     c.deliver_each.ensures.delivered c.deliver_each.ensures.marked

@@ -6,7 +6,7 @@ use Rattle.sim_partition.proofs.delivery.deliver_each.Goals as goal
 
 pub deliver_one-requires-clause-ascends : goal.deliver_one-requires-clause-ascends
 deliver_one-requires-clause-ascends g c =
-    subst (Ascends g.S.Site.engine.number 0) (sym c.loop-transfer.invariant.delivered) (ascends_delivered g.met.S.Site.laws c.loop-transfer.yielded 0 c.args.sites.now.items c.requires.ascends)
+    subst (Ascends g.S.Site.engine.number 0) (sym c.loop-transfer.invariant.delivered) (ascends_delivered g.met.S.Site.laws c.loop-transfer.yielded 0 c.args.sites.now.values c.requires.ascends)
 
 pub loop-transfer-preserved : goal.loop-transfer-preserved
 loop-transfer-preserved g c =
@@ -14,6 +14,6 @@ loop-transfer-preserved g c =
       delivered =
           c.in_ok-deliver_one.ensures.delivered
           ∙ ap (map (delivered_one g.S.Site.engine c.in-Some.transfer)) c.loop-transfer.invariant.delivered
-          ∙ sym (delivered_more g.met.S.Site.laws c.loop-transfer.yielded c.in-Some.transfer c.args.sites.now.items);
+          ∙ sym (delivered_more g.met.S.Site.laws c.loop-transfer.yielded c.in-Some.transfer c.args.sites.now.values);
       marked = c.in_ok-deliver_one.ensures.marked;
     }

@@ -7,6 +7,6 @@ use Rattle.sim_partition.proofs.delivery.deliver_each.Given as goal
 abbrev pub invariant-loop-transfer : goal.invariant-loop-transfer
 invariant-loop-transfer g l =
     record {
-      delivered : l.sites.items ≡ delivered g.S.Site.engine l.yielded l.initial.sites.items;
-      marked : AreMarked g.S.Site.engine l.sites.items l.dues;
+      delivered : l.sites.values ≡ delivered g.S.Site.engine l.yielded l.initial.sites.values;
+      marked : AreMarked g.S.Site.engine l.sites;
     }

@@ -16,29 +16,29 @@ no_key a h = cc
 
 pub unreachable-requires : goal.unreachable-requires
 unreachable-requires g c =
-    no_key c.requires.due.key (sym c.in_default.ensures ∙ marked_least g.S.Site.engine c.args.sites.now.items c.args.dues.now c.requires.kept.marked ∙ c.requires.due.due)
+    no_key c.requires.due.key (sym c.in_default.ensures.first ∙ marked_least g.S.Site.engine c.args.sites.now c.requires.kept.marked ∙ c.requires.due.due)
 
 pub handle_at-requires-clause-due : goal.handle_at-requires-clause-due
-handle_at-requires-clause-due g c = told_least g.S.Site.engine c.args.sites.now.items c.args.dues.now c.least.result c.in-Some-least.key c.requires.kept.marked c.least.ensures c.in-Some-least.is
+handle_at-requires-clause-due g c = told_least g.S.Site.engine c.args.sites.now c.least.result c.in-Some-least.key c.requires.kept.marked c.least.ensures c.in-Some-least.is
 
 pub handle_at-requires-clause-there : goal.handle_at-requires-clause-there
 handle_at-requires-clause-there g c =
-    stands_least g.S.Site.engine c.in-Some-least.key c.args.sites.now.items c.args.dues.now c.in-Some.place c.requires.kept.marked c.in-Some.ensures (sym c.least.ensures ∙ c.in-Some-least.is)
+    stands_least g.S.Site.engine c.in-Some-least.key c.args.sites.now c.in-Some.place c.requires.kept.marked c.in-Some.ensures.first c.in-Some.ensures.there (sym c.least.ensures ∙ c.in-Some-least.is)
 
 pub handle_at-requires-clause-moment : goal.handle_at-requires-clause-moment
 handle_at-requires-clause-moment g c =
-    let same : c.requires.due.key ≡ c.in-Some-least.key = one_key _ _ (sym c.requires.due.due ∙ told_least g.S.Site.engine c.args.sites.now.items c.args.dues.now c.least.result c.in-Some-least.key c.requires.kept.marked c.least.ensures c.in-Some-least.is) in
+    let same : c.requires.due.key ≡ c.in-Some-least.key = one_key _ _ (sym c.requires.due.due ∙ told_least g.S.Site.engine c.args.sites.now c.least.result c.in-Some-least.key c.requires.kept.marked c.least.ensures c.in-Some-least.is) in
     subst (λ (k : Key). k.at ≤ most_count) same c.requires.due.moment
 
 -- the least is the one key that is told
 pub returns-clause-handled : goal.returns-clause-handled
 returns-clause-handled g c key due =
     let e = g.S.Site.engine in
-    let same : c.in-Some-least.key ≡ key = one_key _ _ (sym (told_least e c.args.sites.now.items c.args.dues.now c.least.result c.in-Some-least.key c.requires.kept.marked c.least.ensures c.in-Some-least.is) ∙ due) in
-    subst (λ (k : Key). OnOk c.handle_at.result (part_made e c.handle_at.new.sites.items c.handle_at.new.effects ≡ part_on e (part_made e c.args.sites.now.items c.args.effects.now) (handled_among e k c.args.sites.now.items))) same c.handle_at.ensures.handled
+    let same : c.in-Some-least.key ≡ key = one_key _ _ (sym (told_least e c.args.sites.now c.least.result c.in-Some-least.key c.requires.kept.marked c.least.ensures c.in-Some-least.is) ∙ due) in
+    subst (λ (k : Key). OnOk c.handle_at.result (part_made e c.handle_at.new.sites.values c.handle_at.new.effects ≡ part_on e (part_made e c.args.sites.now.values c.args.effects.now) (handled_among e k c.args.sites.now.values))) same c.handle_at.ensures.handled
 
 pub returns-clause-stops : goal.returns-clause-stops
 returns-clause-stops g c key due =
     let e = g.S.Site.engine in
-    let same : c.in-Some-least.key ≡ key = one_key _ _ (sym (told_least e c.args.sites.now.items c.args.dues.now c.least.result c.in-Some-least.key c.requires.kept.marked c.least.ensures c.in-Some-least.is) ∙ due) in
-    subst (λ (k : Key). IfErr c.handle_at.result (StopsStep e (handled_among e k c.args.sites.now.items))) same c.handle_at.ensures.stops
+    let same : c.in-Some-least.key ≡ key = one_key _ _ (sym (told_least e c.args.sites.now c.least.result c.in-Some-least.key c.requires.kept.marked c.least.ensures c.in-Some-least.is) ∙ due) in
+    subst (λ (k : Key). IfErr c.handle_at.result (StopsStep e (handled_among e k c.args.sites.now.values))) same c.handle_at.ensures.stops

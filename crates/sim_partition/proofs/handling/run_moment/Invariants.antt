@@ -9,13 +9,13 @@ use Rattle.sim_partition.proofs.handling.run_moment.Given as goal
 abbrev pub invariant-loop-key : goal.invariant-loop-key
 invariant-loop-key g l =
     record {
-      kept : IsKept g.S.Site.engine g.S.Site.conditions l.sites.items l.dues;
-      from : IsFrom l.moment (world_due g.S.Site.engine l.sites.items);
-      goes_on : (bound : ℕ) → l.moment < bound → Continues g.S.Site.engine bound (part_made g.S.Site.engine l.initial.sites.items l.initial.effects) (part_made g.S.Site.engine l.sites.items l.effects);
-      past : StaysOfPast g.S.Site.conditions l.moment l.initial.sites.items l.sites.items;
+      kept : IsKept g.S.Site.engine g.S.Site.conditions l.sites;
+      from : IsFrom l.moment (world_due g.S.Site.engine l.sites.values);
+      goes_on : (bound : ℕ) → l.moment < bound → Continues g.S.Site.engine bound (part_made g.S.Site.engine l.initial.sites.values l.initial.effects) (part_made g.S.Site.engine l.sites.values l.effects);
+      past : StaysOfPast g.S.Site.conditions l.moment l.initial.sites.values l.sites.values;
       timely : All g.S.Site.conditions.Timely l.initial.effects.sent.items → All g.S.Site.conditions.Timely l.effects.sent.items;
     }
 
 -- what is due by the moment
 abbrev pub decreases-loop-key : goal.decreases-loop-key
-decreases-loop-key g l = world_count g.met.S.Site.laws l.moment l.sites.items
+decreases-loop-key g l = world_count g.met.S.Site.laws l.moment l.sites.values

@@ -10,7 +10,7 @@ use Rattle.sim_partition.proofs.partition.Partition.run_to.Goals as goal
 pub returns-in-Err-clause-stops : goal.returns-in-Err-clause-stops
 returns-in-Err-clause-stops g c =
     let e = g.S.Site.engine in
-    let w = c.self.inside.sites.items in
+    let w = c.self.inside.sites.values in
     let refusal = c.in-Err.refusal in
     lives_as (λ v. StopsRun e c.args.end v refusal) c.args.self.now w (now_lives c.self.inside.spent w c.args.self.now c.in_default.is c.self.view_is)
     (stops_run g.met.S.Site.laws c.args.end w refusal
@@ -19,8 +19,8 @@ returns-in-Err-clause-stops g c =
 pub returns-in-Ok-clause-ran : goal.returns-in-Ok-clause-ran
 returns-in-Ok-clause-ran g c =
     let e = g.S.Site.engine in
-    let w = c.self.inside.sites.items in
-    let v = c.made_before.new.sites.items in
+    let w = c.self.inside.sites.values in
+    let v = c.made_before.new.sites.values in
     let x : PartRun e = part_made e v c.in-Ok.effects in
     let on : Continues e c.args.end (part_begun e w) x = c.in-Ok.ensures.goes_on in
     lives_as _ c.args.self.now w (now_lives c.self.inside.spent w c.args.self.now c.in_default.is c.self.view_is)
@@ -38,7 +38,7 @@ returns-in-Ok-clause-ran g c =
 pub returns-in-Ok-clause-past : goal.returns-in-Ok-clause-past
 returns-in-Ok-clause-past g c =
     let e = g.S.Site.engine in
-    let w = c.self.inside.sites.items in
-    let v = c.made_before.new.sites.items in
+    let w = c.self.inside.sites.values in
+    let v = c.made_before.new.sites.values in
     lives_as _ c.args.self.now w (now_lives c.self.inside.spent w c.args.self.now c.in_default.is c.self.view_is)
     (λ moment l p. lives_as (All (g.S.Site.conditions.Past moment)) (spent_or c.self.inside.spent v) v (ap (λ s. spent_or s v) c.in_default.is) (c.in-Ok.ensures.past moment l p))
