@@ -1,5 +1,5 @@
 -- Values, each with its mark.
-use Rattle.std.specs.Prelude.{◌&&◌, ◌≡◌, ◌≤◌, Bool, List, length, nat_lt, set, ℕ}
+use Rattle.std.specs.Prelude.{◌&&◌, ◌≡◌, ◌≤◌, Bool, List, length, map, nat_lt, set, ℕ}
 use Rattle.std.specs.List.{AllZip, items_where_true}
 use Rattle.sim_index.specs.declared.mark.Mark.{Mark}
 use Rattle.sim_index.specs.Marks.{no_mark, node}
@@ -18,6 +18,10 @@ is_ready values capacity leaves = nat_lt values capacity && nat_lt values leaves
 pub record HasLeaves (values : ℕ) (leaves : List Mark) : Type 0 where
   pub room : values ≤ length leaves
   pub rest : (i : ℕ) → values ≤ i → node leaves i ≡ no_mark
+
+-- each value has the mark that is its own
+abbrev pub AreMarked : {A : Type 0} → (A → Mark) → Marked A → Type 0
+AreMarked mark list = list.marks ≡ map mark list.values
 
 -- another value at a place
 abbrev pub with_value : {A : Type 0} → Marked A → ℕ → A → Marked A

@@ -198,6 +198,13 @@ impl<T> MarkedList<T> {
         self.tree.next(from, hosts)
     }
 
+    /// Whether one more certainly finds room.
+    pub fn is_ready(&self) -> bool
+        ensures { result ≡ self.now.ready }
+    {
+        self.values.len() < self.values.capacity() && self.values.len() < self.tree.len()
+    }
+
     /// Makes room for one value more, so that its push succeeds.
     pub fn reserve(&mut self) -> Result<(), AllocError>
         ensures ready { OnOk result (self.new.ready ≡ true) }
@@ -223,6 +230,7 @@ impl<T> MarkedList<T> {
         ensures marks { OnOk result (self.new.marks ≡ self.old.marks ++ mark ∷ []) }
         ensures unchanged { OnErr result (self.new ≡ self.old) }
         ensures succeeds { self.old.ready ≡ true → IsOk result }
+        ensures fits { OnOk result (length self.new.values < 2 ^ 64) }
     {
         self.reserve()?;
         self.tree.put(self.values.len(), mark);

@@ -12,9 +12,10 @@ use Rattle.sim_clock.specs.Places.{Stands, place_from_position}
 use Rattle.sim_engine.specs.World.{is_due, least_due, world_due}
 use Rattle.sim_engine.proofs.Keys.{key_self}
 use Rattle.sim_engine.proofs.WorldMoves.{is_due_least}
-use Rattle.sim_partition.specs.Sites.{AreMarked, is_due_there, mark_of}
+use Rattle.sim_partition.specs.Sites.{is_due_there, mark_of}
 use Rattle.sim_index.specs.declared.mark.Mark.{Mark}
-use Rattle.sim_index.specs.Marked.{Marked}
+use Rattle.sim_index.specs.Marked.{AreMarked, Marked}
+use Rattle.sim_index.proofs.Anew.{mark_there}
 use Rattle.sim_index.specs.Marks.{IsPlaceOfLeast, least_of, no_mark, node}
 
 not_due_by : (key : Key) (o : Option Key) (b : Bool) → is_due key o ≡ b → o ≢ Some key → b ≡ false
@@ -36,28 +37,24 @@ module _ {Site Row Transfer : Type 0} (engine : Engine Site Row Transfer) where
   marks_least (x ∷ xs) = ap (lesser (least_due engine x)) (marks_least xs)
 
   -- the least of the marks is what is due next
-  pub marked_least : (sites : Marked Site) → AreMarked engine sites → least_of sites.marks ≡ world_due engine sites.values
+  pub marked_least : (sites : Marked Site) → AreMarked (mark_of engine) sites → least_of sites.marks ≡ world_due engine sites.values
   marked_least sites h = ap least_of h ∙ marks_least sites.values
 
-  pub told_least : (sites : Marked Site) (told : Option Key) (key : Key) → AreMarked engine sites → told ≡ least_of sites.marks → told ≡ Some key → world_due engine sites.values ≡ Some key
+  pub told_least : (sites : Marked Site) (told : Option Key) (key : Key) → AreMarked (mark_of engine) sites → told ≡ least_of sites.marks → told ≡ Some key → world_due engine sites.values ≡ Some key
   told_least sites told key h e f = sym (marked_least sites h) ∙ sym e ∙ f
 
-  pub none_least : (sites : Marked Site) (told : Option Key) → AreMarked engine sites → told ≡ least_of sites.marks → told ≡ None → world_due engine sites.values ≡ None
+  pub none_least : (sites : Marked Site) (told : Option Key) → AreMarked (mark_of engine) sites → told ≡ least_of sites.marks → told ≡ None → world_due engine sites.values ≡ None
   none_least sites told h e f = sym (marked_least sites h) ∙ sym e ∙ f
 
-  -- the mark at a place
-  mark_there : (sites : Marked Site) (i : ℕ) (d : Site) → AreMarked engine sites → i < length sites.values → (node sites.marks i).due ≡ least_due engine (get_or sites.values i d)
-  mark_there sites i d h l = ap (λ (m : Mark). m.due) (ap (λ ms. node ms i) h ∙ get_or-map (mark_of engine) sites.values i d no_mark l)
-
   -- the first place of the least is that of the first site at which it is due
-  stands_first : (key : Key) (d : Site) (sites : Marked Site) (i : ℕ) → AreMarked engine sites → IsPlaceOfLeast sites.marks i → i < length sites.values → least_of sites.marks ≡ Some key → Stands (is_due_there engine key) sites.values i
+  stands_first : (key : Key) (d : Site) (sites : Marked Site) (i : ℕ) → AreMarked (mark_of engine) sites → IsPlaceOfLeast sites.marks i → i < length sites.values → least_of sites.marks ≡ Some key → Stands (is_due_there engine key) sites.values i
   stands_first key d sites i h p within e =
       let xs : List Site = sites.values in
       let test : Site → Bool = is_due_there engine key in
       let first : position_or_len test xs ≡ i =
       position_or_len_is test xs i d (omega arith)
-      (λ k l. not_due key (least_due engine (get_or xs k d)) (λ f. p.first k l (mark_there sites k d h (omega arith) ∙ f ∙ sym e)))
-      (λ l. is_due_at key (least_due engine (get_or xs i d)) (sym (mark_there sites i d h within) ∙ p.due ∙ e)) in
+      (λ k l. not_due key (least_due engine (get_or xs k d)) (λ f. p.first k l (ap (λ (m : Mark). m.due) (mark_there (mark_of engine) sites k d h (omega arith)) ∙ f ∙ sym e)))
+      (λ l. is_due_at key (least_due engine (get_or xs i d)) (sym (ap (λ (m : Mark). m.due) (mark_there (mark_of engine) sites i d h within)) ∙ p.due ∙ e)) in
       let found : Some i ≡ position test xs = ap (λ b. cond b (Some i) None) (sym (lt-ltb i (length xs) within)) ∙ ap (λ n. cond (nat_lt n (length xs)) (Some n) None) (sym first) in
       place_from_position test xs (Some i) found
 
@@ -65,18 +62,5 @@ module _ {Site Row Transfer : Type 0} (engine : Engine Site Row Transfer) where
   some_site [] i l = absurd (omega arith)
   some_site (x ∷ xs) i l = x
 
-  pub stands_least : (key : Key) (sites : Marked Site) (i : ℕ) → AreMarked engine sites → IsPlaceOfLeast sites.marks i → i < length sites.values → least_of sites.marks ≡ Some key → Stands (is_due_there engine key) sites.values i
+  pub stands_least : (key : Key) (sites : Marked Site) (i : ℕ) → AreMarked (mark_of engine) sites → IsPlaceOfLeast sites.marks i → i < length sites.values → least_of sites.marks ≡ Some key → Stands (is_due_there engine key) sites.values i
   stands_least key sites i h p l e = stands_first key (some_site sites.values i l) sites i h p l e
-
-  -- a site that is marked anew after a change of it
-  pub marked_anew :
-      (sites news : Marked Site) (i : ℕ) (x y : Site) (m : Mark) (shown : List Site) → AreMarked engine sites → i < length sites.values → shown ≡ set sites.values i x → y ≡ get_or shown i y → m ≡ mark_of engine y
-      → news ≡ record sites { values = set sites.values i x; marks = set sites.marks i m } → AreMarked engine news
-  marked_anew sites news i x y m shown h l is there told put =
-      let same : y ≡ x = there ∙ ap (λ xs. get_or xs i y) is ∙ get_or-set_same sites.values i x y l in
-      ap (λ (s : Marked Site). s.marks) put ∙ ap (set sites.marks i) (told ∙ ap (mark_of engine) same) ∙ ap (λ ms. set ms i (mark_of engine x)) h
-      ∙ sym (map-set (mark_of engine) sites.values i x) ∙ ap (λ (s : Marked Site). map (mark_of engine) s.values) (sym put)
-
-  pub one_more : (old new : Marked Site) (x : Site) (m : Mark) → AreMarked engine old → new.values ≡ old.values ++ x ∷ [] → new.marks ≡ old.marks ++ m ∷ [] → m ≡ mark_of engine x → AreMarked engine new
-  one_more old new x m h values marks told =
-      marks ∙ ap (λ ms. ms ++ m ∷ []) h ∙ ap (λ k. map (mark_of engine) old.values ++ k ∷ []) told ∙ sym (map-append (mark_of engine) old.values (x ∷ [])) ∙ ap (map (mark_of engine)) (sym values)

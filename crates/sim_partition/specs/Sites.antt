@@ -1,5 +1,5 @@
 -- Sites in the order of their numbers, until a refusal spends them.
-use Rattle.std.specs.Prelude.{All, Bool, Err, List, None, Ok, Option, Result, Some, map, ℕ, ◌<◌, ◌≡◌, ◌≤◌}
+use Rattle.std.specs.Prelude.{All, Bool, Err, List, None, Ok, Option, Result, Some, ℕ, ◌<◌, ◌≡◌, ◌≤◌}
 use Rattle.sim_clock.specs.declared.key.Key.{Key}
 use Rattle.sim_clock.specs.declared.refusal.Refusal.{Refusal}
 use Rattle.sim_engine.specs.Engine.{Engine}
@@ -8,7 +8,7 @@ use Rattle.sim_engine.specs.Limits.{most_count}
 use Rattle.sim_engine.specs.Members.{Ascends}
 use Rattle.sim_engine.specs.World.{is_due, least_due, world_due}
 use Rattle.sim_index.specs.declared.mark.Mark.{Mark}
-use Rattle.sim_index.specs.Marked.{Marked}
+use Rattle.sim_index.specs.Marked.{AreMarked, Marked}
 
 -- nothing, or later than a moment
 abbrev pub IsLater : ℕ → Option Key → Type 0
@@ -58,10 +58,6 @@ module _ {Site Row Transfer : Type 0} (engine : Engine Site Row Transfer) where
   abbrev pub mark_of : Site → Mark
   mark_of s = record { due = least_due engine s; hosts = 0 }
 
-  -- each site is marked with it
-  abbrev pub AreMarked : Marked Site → Type 0
-  AreMarked sites = sites.marks ≡ map mark_of sites.values
-
 module _ {Site Row Transfer : Type 0} (engine : Engine Site Row Transfer) (conditions : Conditions Site Transfer) where
   open engine use {number}
   open conditions use {Sound}
@@ -75,7 +71,7 @@ module _ {Site Row Transfer : Type 0} (engine : Engine Site Row Transfer) (condi
   -- a partition that lives, with the marks of its sites
   pub record IsKept (sites : Marked Site) : Type 0 where
     pub part : IsPart sites.values
-    pub marked : AreMarked engine sites
+    pub marked : AreMarked (mark_of engine) sites
 
   -- the same, unless a refusal spent it
   abbrev pub IsKeptUnless : Option Refusal → Marked Site → Type 0

@@ -2,7 +2,8 @@
 ghost use Rattle.std.specs.Prelude.{◌≡◌, All, IfErr, OnOk, map};
 ghost use Rattle.sim_engine.specs.Members.{Ascends};
 ghost use Rattle.sim_engine.specs.World.{arrival, delivered, delivered_one};
-ghost use Rattle.sim_partition.specs.Sites.{AreMarked, IsKept};
+ghost use Rattle.sim_index.specs.Marked.{AreMarked};
+ghost use Rattle.sim_partition.specs.Sites.{IsKept, mark_of};
 
 use crate::marking::mark_of;
 use crate::places::place_of;
@@ -13,9 +14,9 @@ use sim_index::MarkedList;
 // Hands a transfer to the site that it goes to, if it is one of these.
 fn deliver_one<S: Site>(sites: &mut MarkedList<S>, transfer: S::Transfer) -> Result<(), Refusal>
     requires ascends { Ascends S.engine.number 0 sites.old.values }
-    requires marked { AreMarked S.engine sites.old }
+    requires marked { AreMarked (mark_of S.engine) sites.old }
     ensures delivered { OnOk result (sites.new.values ≡ map (delivered_one S.engine transfer) sites.old.values) }
-    ensures marked { OnOk result (AreMarked S.engine sites.new) }
+    ensures marked { OnOk result (AreMarked (mark_of S.engine) sites.new) }
     ensures memory { IfErr result (λ refusal. refusal ≡ Refusal.Memory) }
 {
     if let Some(place) = place_of(sites.values(), S::to(&transfer)) {
@@ -32,9 +33,9 @@ fn deliver_each<S: Site>(
     transfers: Vec<S::Transfer>,
 ) -> Result<(), Refusal>
     requires ascends { Ascends S.engine.number 0 sites.old.values }
-    requires marked { AreMarked S.engine sites.old }
+    requires marked { AreMarked (mark_of S.engine) sites.old }
     ensures delivered { OnOk result (sites.new.values ≡ delivered S.engine transfers.items sites.old.values) }
-    ensures marked { OnOk result (AreMarked S.engine sites.new) }
+    ensures marked { OnOk result (AreMarked (mark_of S.engine) sites.new) }
     ensures memory { IfErr result (λ refusal. refusal ≡ Refusal.Memory) }
 {
     for transfer in transfers {

@@ -1,6 +1,7 @@
 //! Sites with what each has due next.
 ghost use Rattle.std.specs.Prelude.{◌≡◌, IfOk};
-ghost use Rattle.sim_partition.specs.Sites.{AreMarked, mark_of};
+ghost use Rattle.sim_index.specs.Marked.{AreMarked};
+ghost use Rattle.sim_partition.specs.Sites.{mark_of};
 
 use sim_engine::Site;
 use sim_index::{Mark, MarkedList};
@@ -19,7 +20,7 @@ pub fn mark_of<S: Site>(site: &S) -> Mark
 /// Sites, each marked with what is due next there. The error is want of memory.
 pub fn marked<S: Site>(alloc: Global, sites: Vec<S>) -> Result<MarkedList<S>, AllocError>
     ensures sites { IfOk result (λ list. list.values ≡ sites.items) }
-    ensures marked { IfOk result (AreMarked S.engine) }
+    ensures marked { IfOk result (AreMarked (mark_of S.engine)) }
 {
     let mut list = MarkedList::new(alloc);
     for site in sites {

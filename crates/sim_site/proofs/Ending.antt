@@ -1,16 +1,18 @@
 -- The polls that wait at a site, by the places where they wait.
-use Rattle.std.specs.Prelude.{Bool, Err, IfOk, List, MatchOption, None, Ok, Option, Result, Some, [], cond, drop, false, get_or, if◌then◌else◌, length, map, nat_lt, position, remove, set, suc, true, zero, ℕ, ◌++◌, ◌+◌, ◌-◌, ◌<◌, ◌∷◌, ◌≡◌, ◌≢◌, ◌≤◌}
+use Rattle.std.specs.Prelude.{Bool, IfSome, List, MatchOption, None, Option, Some, [], cond, drop, false, filter, get_or, if◌then◌else◌, length, map, nat_lt, position, remove, set, suc, true, zero, ℕ, ◌++◌, ◌+◌, ◌-◌, ◌<◌, ◌∷◌, ◌≡◌, ◌≢◌, ◌≤◌}
 use Rattle.std.specs.List.{position_or_len}
-use Rattle.std.proofs.Common.{add-one, ap, append-nil, append_assoc, arith, drop-cons, inl, inr, refl, subst, sym, ◌∙◌}
-use Rattle.std.proofs.lemmas.Bool.{cases_lt, lt-ltb}
-use Rattle.std.proofs.lemmas.List.{drop_all, get_or-map, get_or-set_same, get_or_default, get_or_push, length-set, length_push}
+use Rattle.std.specs.Option.{is_some}
+use Rattle.std.proofs.Common.{ap, arith, refl, subst, sym, ◌∙◌}
+use Rattle.std.proofs.lemmas.Bool.{lt-ltb}
+use Rattle.std.proofs.lemmas.List.{get_or_default, length-map, length_push}
 use Rattle.std.proofs.lemmas.List.Sums.{position_or_len_is}
 use Rattle.sim_clock.specs.declared.key.Key.{Key}
 use Rattle.sim_clock.specs.Firsts.{without}
 use Rattle.sim_clock.specs.Order.{least, lesser}
 use Rattle.sim_index.specs.declared.mark.Mark.{Mark}
 use Rattle.sim_index.specs.Marks.{IsNextIn, IsPlaceOfLeast, NoneIn, least_of, meets, no_mark, node, tells}
-use Rattle.sim_index.proofs.Spans.{same_least}
+use Rattle.sim_index.specs.Marked.{AreMarked, Marked}
+use Rattle.sim_index.proofs.Anew.{mark_there}
 use Rattle.sqs_model.proofs.Counts.{find_picked}
 use Rattle.sqs_model.proofs.StepMoves.{key_self}
 use Rattle.sqs_model.proofs.WorldMoves.{is_due_least}
@@ -19,8 +21,11 @@ use Rattle.sim_clock.specs.Places.{IsAbsent, Stands, place_from_position}
 use Rattle.sqs_model.specs.World.{is_due}
 use Rattle.sqs_model.specs.Site.{Poll}
 use Rattle.sqs_model.specs.Step.{ends_at}
-use Rattle.sim_site.specs.Marked.{AreMarked, AreMarkedBut, AreWaiting, IsFirstAt, IsSetAt, LeavesOne, end_mark, place_ends_at, waiting}
-use Rattle.sim_site.proofs.Marked.{marked_anew, marked_but}
+use Rattle.sim_site.specs.Marked.{AreWaiting, IsFirstAt, LeavesOne, end_mark, place_ends_at, waiting}
+
+nothing : {A : Type 0} (xs : List A) → 0 ≡ length xs → xs ≡ []
+nothing [] h = refl
+nothing (x ∷ xs) h = absurd (omega (arith, h))
 
 abbrev Places : Type 0
 Places = List (Option Poll)
@@ -42,8 +47,8 @@ ends_least [] = refl
 ends_least (None ∷ xs) = ends_least xs
 ends_least (Some p ∷ xs) = ap (lesser (Some (poll_key p))) (ends_least xs)
 
-pub marked_ends : (xs : Places) (marks : List Mark) → AreMarked end_mark xs marks → least_of marks ≡ least (map poll_key (waiting xs))
-marked_ends xs marks h = same_least marks (map end_mark xs) h.same ∙ ends_least xs
+pub marked_ends : (list : Marked (Option Poll)) → AreMarked end_mark list → least_of list.marks ≡ least (map poll_key (waiting list.values))
+marked_ends list h = ap least_of h ∙ ends_least list.values
 
 -- a place that is emptied, in place of one that is taken out
 pub emptied : (xs : Places) (i : ℕ) → waiting (remove xs i) ≡ waiting (set xs i None)
@@ -87,20 +92,23 @@ none_there [] h = refl
 none_there (None ∷ xs) h = none_there xs (λ k l. h (suc k) (omega (arith, l)))
 none_there (Some p ∷ xs) h = absurd (true_false (h 0 (omega arith)))
 
-module _ (xs : Places) (marks : List Mark) (h : AreMarked end_mark xs marks) where
-  told_same : (i : ℕ) (b : Bool) → tells marks 1 i ≡ b → told_at xs i ≡ b
-  told_same i b e = ap (λ (m : Mark). meets 1 m) (sym (h.same i)) ∙ e
+module _ (list : Marked (Option Poll)) (h : AreMarked end_mark list) where
+  told_same : (i : ℕ) (b : Bool) → tells list.marks 1 i ≡ b → told_at list.values i ≡ b
+  told_same i b e = ap (λ ms. tells ms 1 i) (sym h) ∙ e
 
-  pub first_marked : (i : ℕ) → IsNextIn marks 1 0 (length marks) i → IsFirstAt xs i
-  first_marked i n = first_there xs i (λ k l. told_same k false (n.none_before k (omega arith) l)) (told_same i true n.found)
+  long : length list.marks ≡ length list.values
+  long = ap length h ∙ length-map list.values end_mark
 
-  pub none_marked : NoneIn marks 1 0 (length marks) → waiting xs ≡ []
-  none_marked n = none_there xs (λ k l. told_same k false (n k (omega arith) (omega (arith, l, h.room))))
+  first_marked : (i : ℕ) → IsNextIn list.marks 1 0 (length list.marks) i → IsFirstAt list.values i
+  first_marked i n = first_there list.values i (λ k l. told_same k false (n.none_before k (omega arith) l)) (told_same i true n.found)
 
-past_marks : (xs : Places) (i : ℕ) → length xs ≤ i → node (map end_mark xs) i ≡ no_mark
-past_marks [] i l = refl
-past_marks (x ∷ xs) zero l = absurd (omega arith)
-past_marks (x ∷ xs) (suc i) l = past_marks xs i (omega arith)
+  none_marked : NoneIn list.marks 1 0 (length list.marks) → waiting list.values ≡ []
+  none_marked n = none_there list.values (λ k l. told_same k false (n k (omega arith) (omega (arith, l, long))))
+
+  -- the first poll, by its place
+  pub first_matched : (r : Option ℕ) → MatchOption r (NoneIn list.marks 1 0 (length list.marks)) (IsNextIn list.marks 1 0 (length list.marks)) → MatchOption r (waiting list.values ≡ []) (IsFirstAt list.values)
+  first_matched None m = none_marked m
+  first_matched (Some i) m = first_marked i m
 
 ends_due : (key : Key) (o : Option Poll) → place_ends_at key o ≡ is_due key (end_mark o).due
 ends_due key None = refl
@@ -116,76 +124,38 @@ ends_not key o n = ends_not_by key o (place_ends_at key o) refl n
 ends_so : (key : Key) (o : Option Poll) → (end_mark o).due ≡ Some key → place_ends_at key o ≡ true
 ends_so key o e = ends_due key o ∙ ap (is_due key) e ∙ key_self key
 
-module _ (key : Key) (xs : Places) (marks : List Mark) (h : AreMarked end_mark xs marks) where
-  mark_there : (i : ℕ) → i < length xs → (node marks i).due ≡ (end_mark (get_or xs i None)).due
-  mark_there i l = ap (λ (m : Mark). m.due) (h.same i ∙ get_or-map end_mark xs i None no_mark l)
-
-  place_within : (i : ℕ) → (node marks i).due ≡ Some key → i < length xs
-  place_within i e =
-      elim (cases_lt i (length xs)) as (λ _. i < length xs) [
-        | inl l ↦ l
-        | inr l ↦ absurd (none_some (sym (ap (λ (m : Mark). m.due) (h.same i ∙ past_marks xs i l)) ∙ e))
-      ]
+module _ (key : Key) (list : Marked (Option Poll)) (h : AreMarked end_mark list) where
+  due_there : (i : ℕ) → i < length list.values → (node list.marks i).due ≡ (end_mark (get_or list.values i None)).due
+  due_there i l = ap (λ (m : Mark). m.due) (mark_there end_mark list i None h l)
 
   -- the first place of the least is that of the first poll that ends by it
-  pub stands_end : (i : ℕ) → IsPlaceOfLeast marks i → least_of marks ≡ Some key → Stands (place_ends_at key) xs i
-  stands_end i p e =
-      let within : i < length xs = place_within i (p.due ∙ e) in
+  stands_end : (i : ℕ) → IsPlaceOfLeast list.marks i → i < length list.values → least_of list.marks ≡ Some key → Stands (place_ends_at key) list.values i
+  stands_end i p within e =
+      let xs : Places = list.values in
       let test : Option Poll → Bool = place_ends_at key in
       let first : position_or_len test xs ≡ i =
       position_or_len_is test xs i None (omega arith)
-      (λ k l. ends_not key (get_or xs k None) (λ f. p.first k l (mark_there k (omega arith) ∙ f ∙ sym e)))
-      (λ l. ends_so key (get_or xs i None) (sym (mark_there i within) ∙ p.due ∙ e)) in
+      (λ k l. ends_not key (get_or xs k None) (λ f. p.first k l (due_there k (omega arith) ∙ f ∙ sym e)))
+      (λ l. ends_so key (get_or xs i None) (sym (due_there i within) ∙ p.due ∙ e)) in
       let found : Some i ≡ position test xs = ap (λ b. cond b (Some i) None) (sym (lt-ltb i (length xs) within)) ∙ ap (λ n. cond (nat_lt n (length xs)) (Some n) None) (sym first) in
       place_from_position test xs (Some i) found
 
--- the polls of places, gathered one after another
-pub gathered_more :
-    (kept new : List Poll) (xs : Places) (i : ℕ) (x : Option Poll) → i < length xs → x ≡ get_or xs i x → new ≡ kept ++ waiting (x ∷ [])
-    → kept ++ waiting (drop i xs) ≡ waiting xs → new ++ waiting (drop (i + 1) xs) ≡ waiting xs
-gathered_more kept new xs i x l e put so_far =
-    let more : Places = drop (i + 1) xs in
-    let list : drop i xs ≡ x ∷ more = rw add-one (drop-cons xs i x l ∙ ap (λ y. y ∷ drop (suc i) xs) (sym e)) in
-    let parts : waiting (x ∷ more) ≡ waiting (x ∷ []) ++ waiting more = waiting-append (x ∷ []) more in
-    ap (λ ps. ps ++ waiting more) put ∙ append_assoc kept (waiting (x ∷ [])) (waiting more)
-    ∙ ap (λ ps. kept ++ ps) (sym (ap waiting list ∙ parts)) ∙ so_far
+  pub least_matched :
+      (r : Option ℕ) → least_of list.marks ≡ Some key → MatchOption r (least_of list.marks ≡ None) (IsPlaceOfLeast list.marks) → IfSome r (λ i. i < length list.values)
+      → MatchOption r (IsAbsent (place_ends_at key) list.values) (Stands (place_ends_at key) list.values)
+  least_matched None e m l = absurd (none_some (sym m ∙ e))
+  least_matched (Some i) e m l = stands_end i m l e
 
-pub gathered_all : (kept : List Poll) (xs : Places) (i : ℕ) → length xs ≤ i → kept ++ waiting (drop i xs) ≡ waiting xs → kept ≡ waiting xs
-gathered_all kept xs i l h = sym (append-nil kept) ∙ ap (λ ps. kept ++ waiting ps) (sym (drop_all i xs l)) ∙ h
+-- the places where a poll waits, alone
+pub waiting_kept : (xs : Places) → waiting (filter is_some xs) ≡ waiting xs
+waiting_kept [] = refl
+waiting_kept (None ∷ xs) = waiting_kept xs
+waiting_kept (Some p ∷ xs) = ap (λ ps. p ∷ ps) (waiting_kept xs)
 
-pub room_ok : {E : Type 0} (r : Result (List Mark) E) (n width : ℕ) → n < width → IfOk r (λ m. length m ≡ width) → IfOk r (λ m. n < length m)
-room_ok (Ok m) n width l h = rw h l
-room_ok (Err e) n width l h = tt
-
--- a place that is emptied, with its mark
-pub marked_left : (xs news : Places) (marks ends : List Mark) (i : ℕ) → AreMarked end_mark xs marks → i < length xs → news ≡ set xs i None → ends ≡ set marks i no_mark → AreMarked end_mark news ends
-marked_left xs news marks ends i h l left put =
-    let s : IsSetAt i xs news = record { element = None; is = left } in
-    let within : i < length news = omega (arith, l, ap length left, length-set xs i None) in
-    let empty : None ≡ get_or news i None = sym (ap (λ ys. get_or ys i None) left ∙ get_or-set_same xs i None None l) in
-    marked_anew end_mark news marks ends i None no_mark (marked_but end_mark xs news i marks h s) within empty refl put
-
--- a place that is added at the end, with its mark
-pushed_apart : (xs : Places) (x : Option Poll) (k : ℕ) → k ≢ length xs → node (map end_mark (xs ++ x ∷ [])) k ≡ node (map end_mark xs) k
-pushed_apart [] x zero n = absurd (n refl)
-pushed_apart [] x (suc k) n = refl
-pushed_apart (y ∷ xs) x zero n = refl
-pushed_apart (y ∷ xs) x (suc k) n = pushed_apart xs x k (λ e. n (ap suc e))
-
-pub marked_push : (xs news : Places) (marks ends : List Mark) (x : Option Poll) (m : Mark) → AreMarked end_mark xs marks → length xs < length marks → news ≡ xs ++ x ∷ [] → m ≡ end_mark x → ends ≡ set marks (length xs) m → AreMarked end_mark news ends
-marked_push xs news marks ends x m h l added is put =
-    let long : length news ≡ length xs + 1 = ap length added ∙ length_push xs x in
-    let others : AreMarkedBut end_mark (length xs) news marks = record {
-      same = λ k n. h.same k ∙ sym (ap (λ ys. node (map end_mark ys) k) added ∙ pushed_apart xs x k n);
-      room = omega (arith, l, long);
-    } in
-    let there : x ≡ get_or news (length xs) x = sym (ap (λ ys. get_or ys (length xs) x) added ∙ get_or_push xs x x (length xs) refl) in
-    marked_anew end_mark news marks ends (length xs) x m others (omega (arith, long)) there is put
-
--- the first poll, by its place
-pub first_matched : (xs : Places) (marks : List Mark) (r : Option ℕ) → AreMarked end_mark xs marks → MatchOption r (NoneIn marks 1 0 (length marks)) (IsNextIn marks 1 0 (length marks)) → MatchOption r (waiting xs ≡ []) (IsFirstAt xs)
-first_matched xs marks None h m = none_marked xs marks h m
-first_matched xs marks (Some i) h m = first_marked xs marks h i m
+pub few_waiting : (xs : Places) → length (waiting xs) ≤ length xs
+few_waiting [] = omega arith
+few_waiting (None ∷ xs) = omega (arith, few_waiting xs)
+few_waiting (Some p ∷ xs) = omega (arith, few_waiting xs)
 
 module _ (xs : Places) (i : ℕ) (f : IsFirstAt xs i) where
   pub first_leaves : waiting (set xs i None) ≡ drop 1 (waiting xs)
@@ -215,27 +185,20 @@ pub end_absent : (key : Key) (xs : Places) → IsAbsent (place_ends_at key) xs �
 end_absent key xs a = sym (without_waiting key xs ∙ ap waiting a.rest)
 
 -- places of which one is emptied
-pub leaves_waiting : (xs news : Places) (marks ends : List Mark) (i count : ℕ) → AreWaiting xs marks count → LeavesOne xs i → news ≡ set xs i None → AreMarked end_mark news ends → AreWaiting news ends (count - 1)
-leaves_waiting xs news marks ends i count h o left m =
+pub leaves_waiting : (old new : Marked (Option Poll)) (i count : ℕ) → AreWaiting old count → LeavesOne old.values i → new.values ≡ set old.values i None → AreMarked end_mark new → AreWaiting new (count - 1)
+leaves_waiting old new i count h o left m =
     record { marked = m; counted = omega (arith, h.counted, o.one, ap (λ ys. length (waiting ys)) left) }
 
-pub one_counted : (xs : Places) (marks : List Mark) (i count : ℕ) → AreWaiting xs marks count → LeavesOne xs i → 1 ≤ count
-one_counted xs marks i count h o = omega (arith, h.counted, o.one)
+pub one_counted : (old : Marked (Option Poll)) (i count : ℕ) → AreWaiting old count → LeavesOne old.values i → 1 ≤ count
+one_counted old i count h o = omega (arith, h.counted, o.one)
 
 -- places with one more
 pub added_waits : (xs mid news : Places) (p : Poll) → waiting mid ≡ waiting xs → news ≡ mid ++ Some p ∷ [] → waiting news ≡ waiting xs ++ p ∷ []
 added_waits xs mid news p same added = ap waiting added ∙ waiting-append mid (Some p ∷ []) ∙ ap (λ ps. ps ++ p ∷ []) same
 
-pub added_waiting : (xs mid news : Places) (marks ends : List Mark) (p : Poll) (count : ℕ) → AreWaiting xs marks count → waiting mid ≡ waiting xs → news ≡ mid ++ Some p ∷ [] → AreMarked end_mark news ends → AreWaiting news ends (count + 1)
-added_waiting xs mid news marks ends p count h same added m =
-    let long : length (waiting news) ≡ length (waiting xs) + 1 = ap length (added_waits xs mid news p same added) ∙ length_push (waiting xs) p in
-    record { marked = m; counted = omega (arith, h.counted, long) }
-
-pub least_matched :
-    (key : Key) (xs : Places) (marks : List Mark) (r : Option ℕ) → AreMarked end_mark xs marks → least_of marks ≡ Some key → MatchOption r (least_of marks ≡ None) (IsPlaceOfLeast marks)
-    → MatchOption r (IsAbsent (place_ends_at key) xs) (Stands (place_ends_at key) xs)
-least_matched key xs marks None h e m = absurd (none_some (sym m ∙ e))
-least_matched key xs marks (Some i) h e m = stands_end key xs marks h i m e
+pub added_waiting : (xs : Places) (new : Marked (Option Poll)) (p : Poll) (count : ℕ) → count ≡ length (waiting xs) → waiting new.values ≡ waiting xs ++ p ∷ [] → AreMarked end_mark new → AreWaiting new (count + 1)
+added_waiting xs new p count h added m =
+    record { marked = m; counted = omega (arith, h, ap length added, length_push (waiting xs) p) }
 
 -- where no poll waits, each place is empty
 none_kept : (xs : Places) → 0 ≡ length (waiting xs) → (i : ℕ) → node (map end_mark xs) i ≡ no_mark
@@ -245,8 +208,8 @@ none_kept (None ∷ xs) h (suc i) = none_kept xs h i
 none_kept (Some p ∷ xs) h i = absurd (omega (arith, h))
 
 -- and may be forgotten
-pub forgotten : (xs news : Places) (ends : List Mark) (count : ℕ) → AreWaiting xs ends count → count ≡ 0 → news ≡ [] → AreWaiting news ends count
-forgotten xs news ends count h none is =
-    let empty : 0 ≡ length (waiting xs) = sym none ∙ h.counted in
-    subst (λ ys. AreWaiting ys ends count) (sym is)
-    (record { marked = record { same = λ i. h.marked.same i ∙ none_kept xs empty i; room = omega arith }; counted = none })
+pub none_marked_there : (list : Marked (Option Poll)) (count : ℕ) → AreWaiting list count → count ≡ 0 → (i : ℕ) → node list.marks i ≡ no_mark
+none_marked_there list count h none i = ap (λ ms. node ms i) h.marked ∙ none_kept list.values (sym none ∙ h.counted) i
+
+pub none_waiting : (xs : Places) → 0 ≡ length (waiting xs) → waiting xs ≡ []
+none_waiting xs h = nothing (waiting xs) h

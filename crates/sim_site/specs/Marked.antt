@@ -1,38 +1,24 @@
--- Lists whose elements have marks, place by place, with empty places after them.
-use Rattle.std.specs.Prelude.{Bool, IfSome, false, true, List, None, Option, Some, [], get_or, length, map, set, suc, ℕ, ◌<◌, ◌∷◌, ◌≡◌, ◌≢◌, ◌≤◌}
+-- Actors with their wakes, and places where polls may wait with their ends.
+use Rattle.std.specs.Prelude.{Bool, false, true, List, None, Option, Some, [], get_or, length, set, suc, ℕ, ◌<◌, ◌∷◌, ◌≡◌}
 use Rattle.std.specs.List.Sorted.{IsNonDecreasingBy}
 use Rattle.sim_clock.specs.declared.key.Key.{Key}
 use Rattle.sim_clock.specs.Order.{least}
 use Rattle.sim_index.specs.declared.mark.Mark.{Mark}
-use Rattle.sim_index.specs.Marks.{no_mark, node}
+use Rattle.sim_index.specs.Marked.{AreMarked, Marked}
+use Rattle.sim_index.specs.Marks.{no_mark}
 use Rattle.sqs_model.specs.Actor.{Actor}
 use Rattle.sqs_model.specs.Dues.{actor_dues, poll_key}
 use Rattle.sqs_model.specs.Site.{Poll}
 use Rattle.sqs_model.specs.Step.{ends_at}
 
--- marks of some elements, and then of nothing
-pub record AreMarked {A : Type 0} (mark : A → Mark) (xs : List A) (marks : List Mark) : Type 0 where
-  pub same : (i : ℕ) → node marks i ≡ node (map mark xs) i
-  pub room : length xs ≤ length marks
-
--- the same, but for the mark of one place
-pub record AreMarkedBut {A : Type 0} (mark : A → Mark) (place : ℕ) (xs : List A) (marks : List Mark) : Type 0 where
-  pub same : (i : ℕ) → i ≢ place → node marks i ≡ node (map mark xs) i
-  pub room : length xs ≤ length marks
-
--- a list with another element at a place
-pub record IsSetAt {A : Type 0} (place : ℕ) (old new : List A) : Type 0 where
-  pub element : A
-  pub is : new ≡ set old place element
-
 -- what is kept of an actor: its wake
 abbrev pub wake_mark : Actor → Mark
 wake_mark a = record { due = least (actor_dues a); hosts = 0 }
 
--- actors by whose numbers one is found, where these are said not to fall, and with the marks of their wakes, if there are any
-pub record AreFound (actors : List Actor) (is_in_order : Bool) (wakes : Option (List Mark)) : Type 0 where
-  pub order : is_in_order ≡ true → IsNonDecreasingBy (λ (a : Actor). a.number) actors
-  pub marked : IfSome wakes (AreMarked wake_mark actors)
+-- actors with the marks of their wakes, by whose numbers one is found where these are said not to fall
+pub record AreFound (actors : Marked Actor) (is_in_order : Bool) : Type 0 where
+  pub order : is_in_order ≡ true → IsNonDecreasingBy (λ (a : Actor). a.number) actors.values
+  pub marked : AreMarked wake_mark actors
 
 -- what is kept of a place where a poll may wait: its end
 abbrev pub end_mark : Option Poll → Mark
@@ -51,9 +37,9 @@ place_ends_at key None = false
 place_ends_at key (Some p) = ends_at key p
 
 -- places with the marks of their polls, which are so many
-pub record AreWaiting (places : List (Option Poll)) (ends : List Mark) (count : ℕ) : Type 0 where
-  pub marked : AreMarked end_mark places ends
-  pub counted : count ≡ length (waiting places)
+pub record AreWaiting (places : Marked (Option Poll)) (count : ℕ) : Type 0 where
+  pub marked : AreMarked end_mark places
+  pub counted : count ≡ length (waiting places.values)
 
 -- the first place where a poll waits
 pub record IsFirstAt (places : List (Option Poll)) (place : ℕ) : Type 0 where

@@ -1,5 +1,5 @@
 //! The actors of a site, with a tree of their wakes where there are many.
-ghost use Rattle.std.specs.Prelude.{All, IfErr, IfOk, IfSome, MatchOption, Some, find, flat_map, length, map, position, true, ◌<◌, ◌≡◌, ◌≤◌};
+ghost use Rattle.std.specs.Prelude.{All, IfErr, IfOk, MatchOption, Some, find, flat_map, length, map, position, true, ◌<◌, ◌≡◌, ◌≤◌};
 ghost use Rattle.std.specs.List.Sorted.{IsNonDecreasingBy};
 ghost use Rattle.sim_actor.specs.Lives.{greatest_count};
 ghost use Rattle.sim_clock.specs.Order.{least};
@@ -11,23 +11,17 @@ ghost use Rattle.sim_clock.specs.Places.{IsAbsent, Stands};
 ghost use Rattle.sqs_model.specs.Site.{is_actor};
 ghost use Rattle.sim_engine.specs.Limits.{StopsWhere};
 ghost use Rattle.sim_site.specs.Kept.{HasShortWaits};
-ghost use Rattle.sim_site.specs.Marked.{AreMarked, AreMarkedBut, IsSetAt, wake_mark};
+ghost use Rattle.sim_index.specs.Marked.{AreMarked};
+ghost use Rattle.sim_site.specs.Marked.{wake_mark};
 ghost use Rattle.sim_site.specs.Turns.{Polled, Turned, WaitsShortly};
 
 use crate::agents::wake_of;
-use crate::dues::least_wake;
 use sim_actor::Actor;
 use sim_clock::{Key, Refusal};
-use sim_index::{Mark, Marks};
+use sim_index::{Mark, MarkedList};
 use sqs_model::{Act, Answer};
 use std::alloc::{AllocError, Global};
 use std::marker::Model;
-
-/// As many actors as there are numbers of agents, which have 32 bits.
-const MOST_ACTORS: usize = 4_294_967_296;
-
-/// So many actors are gone over in less time than a tree of their wakes takes.
-const FEW_ACTORS: usize = 8;
 
 // What is kept of an actor: its wake.
 fn mark_of(actor: &Actor) -> Mark
@@ -39,49 +33,17 @@ fn mark_of(actor: &Actor) -> Mark
     }
 }
 
-// The marks of some actors. The error is want of memory, as which more actors than there are
-// numbers are refused too.
-fn marks_of(alloc: Global, actors: &[Actor]) -> Result<Marks, AllocError>
-    ensures { IfOk result (AreMarked wake_mark actors.now) }
+// Actors, each marked with its wake. The error is want of memory.
+fn marked(alloc: Global, actors: Vec<Actor>) -> Result<MarkedList<Actor>, AllocError>
+    ensures actors { IfOk result (λ list. list.values ≡ actors.items) }
+    ensures marked { IfOk result (AreMarked wake_mark) }
 {
-    if actors.len() > MOST_ACTORS {
-        return Err(AllocError);
-    }
-    let mut marks = Vec::new(alloc);
+    let mut list = MarkedList::new(alloc);
     for actor in actors {
-        marks.push(mark_of(actor))?;
+        let mark = mark_of(&actor);
+        list.push(actor, mark)?;
     }
-    Marks::of(alloc, actors.len().next_power_of_two(), &marks)
-}
-
-// The marks of many actors; none of a few. The error is as before.
-fn wakes_of(alloc: Global, actors: &[Actor]) -> Result<Option<Marks>, AllocError>
-    ensures { IfOk result (λ wakes. IfSome wakes (AreMarked wake_mark actors.now)) }
-{
-    if actors.len() <= FEW_ACTORS {
-        return Ok(None);
-    }
-    Ok(Some(marks_of(alloc, actors)?))
-}
-
-// The actor at a place is marked anew.
-fn mark_anew(actors: &[Actor], wakes: &mut Marks, place: usize)
-    requires place { place < length actors.now }
-    requires others { AreMarkedBut wake_mark place actors.now wakes.old }
-    ensures { AreMarked wake_mark actors.now wakes.new }
-{
-    wakes.put(place, mark_of(&actors[place]));
-}
-
-// The same, where actors are marked.
-fn mark_if_many(actors: &[Actor], wakes: &mut Option<Marks>, place: usize)
-    requires place { place < length actors.now }
-    requires others { IfSome wakes.old (AreMarkedBut wake_mark place actors.now) }
-    ensures { IfSome wakes.new (AreMarked wake_mark actors.now) }
-{
-    if let Some(wakes) = wakes {
-        mark_anew(actors, wakes, place);
-    }
+    Ok(list)
 }
 
 // Whether the numbers of actors do not fall from one to the next.
@@ -117,38 +79,50 @@ fn first_in_order(actors: &[Actor], number: u32) -> Option<usize>
     }
 }
 
-// The actor at a place is told something, and decides what it does.
+// The actor at a place is told something, decides what it does, and is marked anew.
 fn told_at(
-    actors: &mut Vec<Actor>,
+    actors: &mut MarkedList<Actor>,
     place: usize,
     number: u32,
     now: u64,
     answer: Answer,
 ) -> Result<Act, Refusal>
-    requires place { Stands (is_actor number) actors.old.items place }
+    requires place { Stands (is_actor number) actors.old.values place }
     requires moment { now ≤ most_count }
-    ensures turned { IfOk result (λ act. Turned number now answer act actors.old.items actors.new.items) }
-    ensures settings { map (λ a. a.settings) actors.new.items ≡ map (λ a. a.settings) actors.old.items }
-    ensures waits { All (λ a. HasShortWaits a.role) (map (λ a. a.settings) actors.old.items) → IfOk result WaitsShortly }
-    ensures stops { IfErr result (StopsWhere ((a : TheActor) → find (is_actor number) actors.old.items ≡ Some a → most_count < greatest_count (next a now answer).1)) }
-    ensures others { IsSetAt place actors.old.items actors.new.items }
-    ensures numbers { map (λ a. a.number) actors.new.items ≡ map (λ a. a.number) actors.old.items }
+    requires marked { AreMarked wake_mark actors.old }
+    ensures turned { IfOk result (λ act. Turned number now answer act actors.old.values actors.new.values) }
+    ensures settings { map (λ a. a.settings) actors.new.values ≡ map (λ a. a.settings) actors.old.values }
+    ensures waits { All (λ a. HasShortWaits a.role) (map (λ a. a.settings) actors.old.values) → IfOk result WaitsShortly }
+    ensures stops { IfErr result (StopsWhere ((a : TheActor) → find (is_actor number) actors.old.values ≡ Some a → most_count < greatest_count (next a now answer).1)) }
+    ensures marked { AreMarked wake_mark actors.new }
+    ensures numbers { map (λ a. a.number) actors.new.values ≡ map (λ a. a.number) actors.old.values }
 {
-    actors[place].next(now, answer)
+    let act = actors.value_mut(place).next(now, answer);
+    let mark = mark_of(&actors.values()[place]);
+    actors.set_mark(place, mark);
+    act
 }
 
-// The actor at a place waits for one more poll, and answers how many it had before.
-fn counted_at(actors: &mut Vec<Actor>, place: usize, number: u32) -> Result<u64, Refusal>
-    requires place { Stands (is_actor number) actors.old.items place }
-    ensures polled { IfOk result (λ polls. Polled number polls actors.old.items actors.new.items) }
-    ensures settings { map (λ a. a.settings) actors.new.items ≡ map (λ a. a.settings) actors.old.items }
-    ensures stops { IfErr result (StopsWhere ((a : TheActor) → find (is_actor number) actors.old.items ≡ Some a → a.polls ≡ most_count)) }
-    ensures others { IsSetAt place actors.old.items actors.new.items }
-    ensures numbers { map (λ a. a.number) actors.new.items ≡ map (λ a. a.number) actors.old.items }
+// The actor at a place waits for one more poll, is marked anew, and answers how many it had before.
+fn counted_at(
+    actors: &mut MarkedList<Actor>,
+    place: usize,
+    number: u32,
+) -> Result<u64, Refusal>
+    requires place { Stands (is_actor number) actors.old.values place }
+    requires marked { AreMarked wake_mark actors.old }
+    ensures polled { IfOk result (λ polls. Polled number polls actors.old.values actors.new.values) }
+    ensures settings { map (λ a. a.settings) actors.new.values ≡ map (λ a. a.settings) actors.old.values }
+    ensures stops { IfErr result (StopsWhere ((a : TheActor) → find (is_actor number) actors.old.values ≡ Some a → a.polls ≡ most_count)) }
+    ensures marked { AreMarked wake_mark actors.new }
+    ensures numbers { map (λ a. a.number) actors.new.values ≡ map (λ a. a.number) actors.old.values }
 {
-    let actor = &mut actors[place];
+    let actor = actors.value_mut(place);
     let polls = actor.polls();
-    actor.polled()?;
+    let counted = actor.polled();
+    let mark = mark_of(&actors.values()[place]);
+    actors.set_mark(place, mark);
+    counted?;
     Ok(polls)
 }
 
@@ -164,14 +138,13 @@ fn greatest_of(actors: &[Actor]) -> u64
     most
 }
 
-/// The actors at home at a site. A few are gone over; what wakes next among many is told at once, a
-/// change of one costs the logarithm of their number, and so does the search for one by its number
-/// where the numbers do not fall. Contracts see them as a list.
+/// The actors at home at a site. What wakes next among them is told at once, a change of one costs
+/// the logarithm of their number, and so does the search for one by its number where the numbers do
+/// not fall. Contracts see them as a list.
 #[derive(Drop)]
 pub struct Actors {
-    list: Vec<Actor>,
+    list: MarkedList<Actor>,
     is_in_order: bool,
-    wakes: Option<Marks>,
 }
 
 impl Model for Actors {
@@ -181,24 +154,19 @@ impl Model for Actors {
 
     ghost Value = { List Actor };
 
-    ghost view = { λ a. a.list.items };
+    ghost view = { λ a. a.list.values };
 
-    ghost invariant = { λ a. AreFound a.list.items a.is_in_order a.wakes };
+    ghost invariant = { λ a. AreFound a.list a.is_in_order };
 }
 
 impl Actors {
-    /// These actors. The error is want of memory, as which more actors than there are numbers are
-    /// refused too.
+    /// These actors. The error is want of memory.
     pub fn of(alloc: Global, list: Vec<Actor>) -> Result<Actors, AllocError>
         ensures { IfOk result (λ actors. actors ≡ list.items) }
     {
-        let wakes = wakes_of(alloc, &list)?;
         let is_in_order = are_in_order(&list);
-        Ok(Actors {
-            list,
-            is_in_order,
-            wakes,
-        })
+        let list = marked(alloc, list)?;
+        Ok(Actors { list, is_in_order })
     }
 
     /// The greatest count of them.
@@ -206,7 +174,7 @@ impl Actors {
         ensures count { result ≡ greatest (map actor_count self.now) }
         ensures limit { result ≤ most_count }
     {
-        greatest_of(&self.list)
+        greatest_of(self.list.values())
     }
 
     /// Where the first actor with a number stands, with what it says of the list.
@@ -214,9 +182,9 @@ impl Actors {
         ensures { MatchOption result (IsAbsent (is_actor number) self.now) (Stands (is_actor number) self.now) }
     {
         if self.is_in_order {
-            first_in_order(&self.list, number)
+            first_in_order(self.list.values(), number)
         } else {
-            first_actor(&self.list, number)
+            first_actor(self.list.values(), number)
         }
     }
 
@@ -236,9 +204,7 @@ impl Actors {
         ensures waits { All (λ a. HasShortWaits a.role) (map (λ a. a.settings) self.old) → IfOk result WaitsShortly }
         ensures stops { IfErr result (StopsWhere ((a : TheActor) → find (is_actor number) self.old ≡ Some a → most_count < greatest_count (next a now answer).1)) }
     {
-        let act = told_at(&mut self.list, place, number, now, answer);
-        mark_if_many(&self.list, &mut self.wakes, place);
-        act
+        told_at(&mut self.list, place, number, now, answer)
     }
 
     /// The actor at a place waits for one more poll, and answers how many it had before.
@@ -249,18 +215,13 @@ impl Actors {
         ensures settings { map (λ a. a.settings) self.new ≡ map (λ a. a.settings) self.old }
         ensures stops { IfErr result (StopsWhere ((a : TheActor) → find (is_actor number) self.old ≡ Some a → a.polls ≡ most_count)) }
     {
-        let polls = counted_at(&mut self.list, place, number);
-        mark_if_many(&self.list, &mut self.wakes, place);
-        polls
+        counted_at(&mut self.list, place, number)
     }
 
     /// The least wake.
     pub fn least_wake(&self) -> Option<Key>
         ensures { result ≡ least (flat_map actor_dues self.now) }
     {
-        match &self.wakes {
-            None => least_wake(&self.list),
-            Some(wakes) => wakes.least(),
-        }
+        self.list.least()
     }
 }

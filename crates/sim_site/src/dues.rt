@@ -7,17 +7,6 @@ use crate::agents::{Task, wake_of};
 use sim_actor::Actor;
 use sim_clock::{Key, lesser};
 
-/// The least wake of actors.
-pub fn least_wake(actors: &[Actor]) -> Option<Key>
-    ensures { result ≡ least (flat_map actor_dues actors.now) }
-{
-    let mut best = None;
-    for i in (0..actors.len()).rev() {
-        best = lesser(wake_of(&actors[i]), best);
-    }
-    best
-}
-
 /// The least step of tasks that run.
 pub fn least_step(tasks: &[Task]) -> Option<Key>
     ensures { result ≡ least (flat_map task_dues tasks.now) }

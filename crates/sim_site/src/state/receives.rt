@@ -138,7 +138,7 @@ impl Core {
             timeout,
             end: key.at + 1000 * wait,
         };
-        self.polls.push(self.alloc, poll)?;
+        self.polls.push(poll)?;
         Ok(Answer::Waiting)
     }
 

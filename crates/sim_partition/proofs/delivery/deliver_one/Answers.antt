@@ -1,6 +1,7 @@
 use Rattle.std.proofs.Common.{ap, length, subst, sym, ◌<◌, ◌∙◌, ◌≡◌}
 use Rattle.sim_index.specs.Marked.{Marked}
-use Rattle.sim_partition.proofs.Marked.{marked_anew}
+use Rattle.sim_index.proofs.Anew.{marked_anew}
+use Rattle.sim_partition.specs.Sites.{mark_of}
 use Rattle.sim_partition.proofs.Numbers.{absent, handed, number_there}
 use Rattle.sim_partition.proofs.delivery.deliver_one.Goals as goal
 
@@ -15,7 +16,7 @@ returns-in_ok-accept-clause-delivered g c =
 
 pub returns-in_ok-accept-clause-marked : goal.returns-in_ok-accept-clause-marked
 returns-in_ok-accept-clause-marked g c =
-    marked_anew g.S.Site.engine c.args.sites.now c.set_mark.new.self c.in-Some.place c.accept.new.self c.index-values-place.result c.mark_of-mark.result c.values-in-Some.result.now c.requires.marked
+    marked_anew (mark_of g.S.Site.engine) c.args.sites.now c.set_mark.new.self c.in-Some.place c.accept.new.self c.index-values-place.result c.mark_of-mark.result c.values-in-Some.result.now c.requires.marked
     (subst (λ xs. c.in-Some.place < length xs) c.values.ensures.values c.in-Some.ensures.0) c.values-in-Some.ensures.values c.index-values-place.is c.mark_of-mark.ensures c.set_mark.ensures
 
 pub returns-in_default-clause-delivered : goal.returns-in_default-clause-delivered

@@ -3,10 +3,10 @@ use Rattle.std.proofs.lemmas.List.Elements.{All-append}
 use Rattle.std.proofs.lemmas.Result.{err_from_is_err_and}
 use Rattle.std.specs.Prelude.{All}
 use Rattle.sim_engine.specs.World.{handled_among}
-use Rattle.sim_partition.specs.Sites.{AreOfPast, IsPart}
+use Rattle.sim_partition.specs.Sites.{AreOfPast, IsPart, mark_of}
 use Rattle.sim_partition.proofs.Handled.{due_at_place, handles_at, part_handled, sent_among}
 use Rattle.sim_index.specs.Marked.{Marked}
-use Rattle.sim_partition.proofs.Marked.{marked_anew}
+use Rattle.sim_index.proofs.Anew.{marked_anew}
 use Rattle.sim_partition.proofs.Runs.{stops_here}
 use Rattle.sim_partition.proofs.handling.handle_at.Goals as goal
 
@@ -49,7 +49,7 @@ returns-clause-kept g c =
     record {
       part = subst (IsPart e g.S.Site.conditions) (sym sites) (part_handled g.met.S.Site.laws key xs c.requires.kept.part c.requires.due);
       marked =
-          marked_anew e c.args.sites.now c.set_mark.new.self c.args.place c.handle_into.new.self c.index-values-place.result c.mark_of-mark.result c.values.result.now c.requires.kept.marked
+          marked_anew (mark_of e) c.args.sites.now c.set_mark.new.self c.args.place c.handle_into.new.self c.index-values-place.result c.mark_of-mark.result c.values.result.now c.requires.kept.marked
           c.requires.there.within c.values.ensures.values c.index-values-place.is c.mark_of-mark.ensures c.set_mark.ensures;
     }
 

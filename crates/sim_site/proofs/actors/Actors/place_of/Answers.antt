@@ -7,10 +7,10 @@ use Rattle.sim_site.proofs.actors.Actors.place_of.Goals as goal
 
 pub returns-then-self : goal.returns-then-self
 returns-then-self c =
-    subst (λ (actors : List Actor). MatchOption c.first_in_order.result (IsAbsent (is_actor c.args.number) actors) (Stands (is_actor c.args.number) actors)) (c.deref.ensures.value ∙ c.self.view_is)
-    (place_from_position (is_actor c.args.number) c.deref.result.now _ c.first_in_order.ensures)
+    subst (λ (actors : List Actor). MatchOption c.first_in_order.result (IsAbsent (is_actor c.args.number) actors) (Stands (is_actor c.args.number) actors)) (c.values.ensures.values ∙ c.self.view_is)
+    (place_from_position (is_actor c.args.number) c.values.result.now _ c.first_in_order.ensures)
 
 pub returns-else-self : goal.returns-else-self
 returns-else-self c =
-    subst (λ (actors : List Actor). MatchOption c.first_actor.result (IsAbsent (is_actor c.args.number) actors) (Stands (is_actor c.args.number) actors)) (c.deref-else-self.ensures.value ∙ c.self.view_is)
-    (place_from_position (is_actor c.args.number) c.deref-else-self.result.now _ c.first_actor.ensures)
+    subst (λ (actors : List Actor). MatchOption c.first_actor.result (IsAbsent (is_actor c.args.number) actors) (Stands (is_actor c.args.number) actors)) (c.values-else-self.ensures.values ∙ c.self.view_is)
+    (place_from_position (is_actor c.args.number) c.values-else-self.result.now _ c.first_actor.ensures)
