@@ -1,5 +1,5 @@
 -- Values that stay, each by the answer about it, and their marks.
-use Rattle.std.proofs.Common.{◌≡◌, ◌<◌, ◌≤◌, Bool, true, false, cond, List, [], ◌∷◌, ◌++◌, filter, length, map, get_or, take, arith, refl, ap, sym, ◌∙◌}
+use Rattle.std.proofs.Common.{ℕ, ◌≡◌, ◌<◌, ◌≤◌, Bool, true, false, cond, List, [], ◌∷◌, ◌++◌, filter, length, map, get_or, take, arith, refl, ap, sym, ◌∙◌}
 use Rattle.std.proofs.lemmas.List.{length-take-le}
 use Rattle.std.specs.List.{AllZip, items_where_true}
 use Rattle.sim_index.specs.declared.mark.Mark.{Mark}
@@ -12,7 +12,7 @@ asked_more R (a ∷ xs) [] x y h k = absurd h
 asked_more R (a ∷ xs) (b ∷ ys) x y h k = (h.0, asked_more R xs ys x y h.1 k)
 
 -- one more answer
-pub told_more : {A : Type 0} (bs : List Bool) (xs : List A) (b : Bool) (d : A) → length bs < length xs → items_where_true (bs ++ b ∷ []) xs ≡ items_where_true bs xs ++ cond b (get_or xs (length bs) d ∷ []) []
+told_more : {A : Type 0} (bs : List Bool) (xs : List A) (b : Bool) (d : A) → length bs < length xs → items_where_true (bs ++ b ∷ []) xs ≡ items_where_true bs xs ++ cond b (get_or xs (length bs) d ∷ []) []
 told_more [] [] b d l = absurd (omega arith)
 told_more [] (x ∷ xs) true d l = refl
 told_more [] (x ∷ xs) false d l = refl
@@ -20,17 +20,27 @@ told_more (c ∷ bs) [] b d l = absurd (omega arith)
 told_more (true ∷ bs) (x ∷ xs) b d l = ap (λ rest. x ∷ rest) (told_more bs xs b d (omega arith))
 told_more (false ∷ bs) (x ∷ xs) b d l = told_more bs xs b d (omega arith)
 
+pub told_kept :
+    {A : Type 0} (bs : List Bool) (xs : List A) (b : Bool) (n : ℕ) (d : A) (kept more : List A) → length bs < length xs → length bs ≡ n → kept ≡ items_where_true bs xs
+    → more ≡ kept ++ cond b (get_or xs n d ∷ []) [] → more ≡ items_where_true (bs ++ b ∷ []) xs
+told_kept bs xs b n d kept more l long e is = is ∙ (λ j. e j ++ cond b (get_or xs (sym long j) d ∷ []) []) ∙ sym (told_more bs xs b d l)
+
 pub none_picked : {A : Type 0} (bs : List Bool) → items_where_true {X = A} bs [] ≡ []
 none_picked [] = refl
 none_picked (b ∷ bs) = refl
 
 -- one more value
-pub picked_more : {A : Type 0} (bs : List Bool) (xs : List A) (x : A) → length xs < length bs → items_where_true bs (xs ++ x ∷ []) ≡ items_where_true bs xs ++ cond (get_or bs (length xs) false) (x ∷ []) []
+picked_more : {A : Type 0} (bs : List Bool) (xs : List A) (x : A) → length xs < length bs → items_where_true bs (xs ++ x ∷ []) ≡ items_where_true bs xs ++ cond (get_or bs (length xs) false) (x ∷ []) []
 picked_more [] xs x l = absurd (omega arith)
 picked_more (true ∷ bs) [] x l = ap (λ rest. x ∷ rest) (none_picked bs)
 picked_more (false ∷ bs) [] x l = none_picked bs
 picked_more (true ∷ bs) (y ∷ xs) x l = ap (λ rest. y ∷ rest) (picked_more bs xs x (omega arith))
 picked_more (false ∷ bs) (y ∷ xs) x l = picked_more bs xs x (omega arith)
+
+pub picked_kept :
+    {A : Type 0} (bs : List Bool) (xs : List A) (x : A) (n : ℕ) (kept more : List A) → length xs < length bs → n ≡ length xs → kept ≡ items_where_true bs xs → more ≡ kept ++ cond (get_or bs n false) (x ∷ []) []
+    → more ≡ items_where_true bs (xs ++ x ∷ [])
+picked_kept bs xs x n kept more l long e is = is ∙ (λ j. e j ++ cond (get_or bs (long j) false) (x ∷ []) []) ∙ sym (picked_more bs xs x l)
 
 -- as many values stay as marks
 pub picked_long : {A B : Type 0} (bs : List Bool) (xs : List A) (ys : List B) → length xs ≡ length ys → length (items_where_true bs xs) ≡ length (items_where_true bs ys)
@@ -44,12 +54,6 @@ picked_long (false ∷ bs) (x ∷ xs) (y ∷ ys) e = picked_long bs xs ys (omega
 pub long_picked : {A : Type 0} (told : List Bool) (values : List A) (leaves marks : List Mark) → length values ≤ length leaves → marks ≡ items_where_true told (take (length values) leaves)
     → length (items_where_true told values) ≡ length marks
 long_picked told values leaves marks l e = picked_long told values (take (length values) leaves) (sym (length-take-le (length values) leaves l)) ∙ ap length (sym e)
-
-pub picked_few : {A : Type 0} (bs : List Bool) (xs : List A) → length (items_where_true bs xs) ≤ length xs
-picked_few [] xs = omega arith
-picked_few (b ∷ bs) [] = omega arith
-picked_few (true ∷ bs) (x ∷ xs) = omega (arith, picked_few bs xs)
-picked_few (false ∷ bs) (x ∷ xs) = omega (arith, picked_few bs xs)
 
 module _ {A : Type 0} (mark : A → Mark) where
   -- the marks of the values that stay

@@ -59,11 +59,17 @@ IsFirstBelow first second left place =
 abbrev pub beyond : ℕ → ℕ
 beyond i = 2 * (i / 2 + 1)
 
--- a tree of marks over so many places, none or a power of two: the second half of its nodes
+-- a tree of marks over so many places, a power of two: the second half of its nodes
 pub record IsTree (nodes : List Mark) (width : ℕ) : Type 0 where
   pub power : 1 ≤ width → IsPower width
   pub long : length nodes ≡ 2 * width
   pub pairs : ArePairs nodes
+
+-- what is kept of marks of so many places: up to 8 there is nothing above the second half of the nodes, and over that a tree
+pub record HasNodes (nodes : List Mark) (width : ℕ) : Type 0 where
+  pub power : 1 ≤ width → IsPower width
+  pub long : length nodes ≡ 2 * width
+  pub tree : 8 < width → IsTree nodes width
 
 -- the least of what marks tell to be due
 abbrev pub least_of : List Mark → Option Key

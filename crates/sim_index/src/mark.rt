@@ -1,5 +1,5 @@
 //! What is kept of one place, or of several together.
-ghost use Rattle.std.specs.Prelude.{None, if◌then◌else◌, true, ◌≡◌, get_or};
+ghost use Rattle.std.specs.Prelude.{None, if◌then◌else◌, false, true, ◌≡◌, ◌≢◌, get_or};
 ghost use Rattle.sim_clock.specs.Order.{lesser};
 ghost use Rattle.sim_index.specs.Marks.{joined, meets, no_mark};
 
@@ -25,6 +25,7 @@ pub const NO_MARK: Mark = Mark {
 pub fn is_second(first: Option<Key>, second: Option<Key>) -> bool
     ensures lesser { lesser first second ≡ (if result then second else first) }
     ensures strict { result ≡ true → first ≡ second → second ≡ None }
+    ensures some { result ≡ false → first ≢ None }
 {
     match (first, second) {
         (None, _) => true,

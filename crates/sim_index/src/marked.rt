@@ -239,8 +239,8 @@ impl<T> MarkedList<T> {
     }
 
     /// Keeps the values at which the closure answers `true`, in their order, with their marks, and
-    /// makes room for one more. There are then twice as many places as values, and no fewer than
-    /// there were. Nothing is changed where memory runs out.
+    /// makes room for one more. There are then at least twice as many places as values, and no fewer
+    /// than there were. Nothing is changed where memory runs out.
     pub fn retain<F: Fn(&T) -> bool>(&mut self, keeps: F) -> Result<(), AllocError>
     where
         T: Drop,

@@ -166,6 +166,39 @@ fn leaf_of(nodes: &[Mark], width: usize) -> usize
     node
 }
 
+// The first place at which the least is due, by all the places.
+fn place_among(leaves: &[Mark]) -> Option<usize>
+    ensures { MatchOption result (least_of leaves.now ≡ None) (IsPlaceOfLeast leaves.now) }
+{
+    let mut found = None;
+    let mut least = None;
+    for place in (0..leaves.len()).rev() {
+        let due = leaves[place].due;
+        if is_second(due, least) {
+            continue;
+        }
+        found = Some(place);
+        least = due;
+    }
+    found
+}
+
+// The first place from one on whose mark tells of one of these hosts, by all the places from there on.
+fn next_among(leaves: &[Mark], from: usize, hosts: u32) -> Option<usize>
+    requires { from ≤ length leaves.now }
+    ensures { MatchOption result (NoneIn leaves.now hosts from (length leaves.now)) (IsNextIn leaves.now hosts from (length leaves.now)) }
+{
+    for place in from..leaves.len() {
+        if meets(&leaves[place], hosts) {
+            return Some(place);
+        }
+    }
+    None
+}
+
+// Up to so many places there is nothing above the leaves: to go over them costs less.
+const FEW: usize = 8;
+
 /// The marks of places, of which there are a power of two. Contracts see them as a list.
 #[derive(Drop)]
 pub struct Marks {
@@ -176,13 +209,13 @@ pub struct Marks {
 impl Model for Marks {
     ghost use Rattle.std.specs.Prelude.{List, drop};
     ghost use Rattle.sim_index.specs.declared.mark.Mark.{Mark};
-    ghost use Rattle.sim_index.specs.Marks.{IsTree};
+    ghost use Rattle.sim_index.specs.Marks.{HasNodes};
 
     ghost Value = { List Mark };
 
     ghost view = { λ m. drop m.width m.nodes.items };
 
-    ghost invariant = { λ m. IsTree m.nodes.items m.width };
+    ghost invariant = { λ m. HasNodes m.nodes.items m.width };
 }
 
 impl Marks {
@@ -207,7 +240,9 @@ impl Marks {
     {
         let mut nodes = vec![in alloc; NO_MARK; 2 * width]?;
         write_leaves(&mut nodes, width, marks);
-        write_above(&mut nodes, width);
+        if FEW < width {
+            write_above(&mut nodes, width);
+        }
         Ok(Marks { nodes, width })
     }
 
@@ -233,7 +268,9 @@ impl Marks {
     {
         let node = self.width + place;
         self.nodes[node] = mark;
-        mend(&mut self.nodes, self.width, node);
+        if FEW < self.width {
+            mend(&mut self.nodes, self.width, node);
+        }
     }
 
     /// The first place from one on whose mark tells of one of these hosts.
@@ -241,8 +278,8 @@ impl Marks {
         requires { from ≤ length self.now }
         ensures { MatchOption result (NoneIn self.now hosts from (length self.now)) (IsNextIn self.now hosts from (length self.now)) }
     {
-        if self.width == 0 {
-            return None;
+        if self.width <= FEW {
+            return next_among(self.leaves(), from, hosts);
         }
         match next_leaf(&self.nodes, self.width, self.width + from, hosts) {
             None => None,
@@ -254,14 +291,21 @@ impl Marks {
     pub fn least(&self) -> Option<Key>
         ensures { result ≡ least_of self.now }
     {
-        mark_at(&self.nodes, 1).due
+        if FEW < self.width {
+            return mark_at(&self.nodes, 1).due;
+        }
+        let leaves = self.leaves();
+        leaves[place_among(leaves)?].due
     }
 
     /// The first place at which the least is due; none where nothing is.
     pub fn place_of_least(&self) -> Option<usize>
         ensures { MatchOption result (least_of self.now ≡ None) (IsPlaceOfLeast self.now) }
     {
-        if self.width == 0 || self.least().is_none() {
+        if self.width <= FEW {
+            return place_among(self.leaves());
+        }
+        if self.least().is_none() {
             return None;
         }
         Some(leaf_of(&self.nodes, self.width) - self.width)

@@ -3,7 +3,7 @@ ghost use Rattle.std.specs.Prelude.{◌≡◌, IfOk, length};
 
 use crate::same::same;
 use sim_clock::{Class, Key};
-use sim_index::{Mark, Marks};
+use sim_index::{Mark, MarkedList, Marks, NO_MARK};
 use std::alloc::{AllocError, Global};
 use std::process::Abort;
 
@@ -115,4 +115,77 @@ fn finds_the_next_on_a_host(rt: HostRuntime) {
     ];
     let marks = eight(rt.alloc(), &five).expect(&rt, "memory");
     try_nexts(&rt, &marks);
+}
+
+// Twenty values, each with a mark: the later one stands, the earlier it is due.
+fn twenty(alloc: Global) -> Result<MarkedList<u64>, AllocError> {
+    let mut list = MarkedList::new(alloc);
+    for value in 0..20 {
+        list.push(value, mark(Some(100 - value), 1 << (value % 4)))?;
+    }
+    Ok(list)
+}
+
+// The values of a list, the moments at which they are due, and the least of those with its place.
+fn try_values(rt: &impl Abort, list: &MarkedList<u64>, wanted: &[(u64, Option<u64>)]) {
+    same(rt, list.len(), wanted.len());
+    for (place, &(value, at)) in wanted.iter().enumerate() {
+        assert!(rt; place < list.len());
+        let found = (list.values()[place], list.mark_at(place).due);
+        same(rt, (place, found), (place, (value, wake(at))));
+    }
+}
+
+#[test]
+fn a_list_grows(rt: HostRuntime) {
+    let list = twenty(rt.alloc()).expect(&rt, "memory");
+    same(&rt, (list.len(), list.mark_at(20)), (20, NO_MARK));
+    same(
+        &rt,
+        (list.least(), list.place_of_least()),
+        (wake(Some(81)), Some(19)),
+    );
+    assert!(&rt; list.len() == 20);
+    let told = (list.next(0, 8), list.next(4, 9), list.next(19, 1));
+    same(&rt, told, (Some(3), Some(4), None));
+}
+
+#[test]
+fn a_list_is_changed(rt: HostRuntime) {
+    let mut list = MarkedList::new(rt.alloc());
+    list.reserve().expect(&rt, "memory");
+    list.push(5, mark(Some(9), 1)).expect(&rt, "memory");
+    list.push(6, mark(Some(7), 1)).expect(&rt, "memory");
+    assert!(&rt; list.len() == 2);
+    *list.value_mut(0) += 10;
+    list.set_mark(1, mark(None, 2));
+    try_values(&rt, &list, &[(15, Some(9)), (6, None)]);
+    same(
+        &rt,
+        (list.place_of_least(), list.next(0, 2)),
+        (Some(0), Some(1)),
+    );
+    let values = list.into_values();
+    same(&rt, (values.len(), values[1]), (2, 6));
+}
+
+#[test]
+fn some_values_stay(rt: HostRuntime) {
+    let mut list = twenty(rt.alloc()).expect(&rt, "memory");
+    list.retain(|value| *value % 6 == 1).expect(&rt, "memory");
+    let wanted = [(1, Some(99)), (7, Some(93)), (13, Some(87)), (19, Some(81))];
+    try_values(&rt, &list, &wanted);
+    same(
+        &rt,
+        (list.least(), list.place_of_least()),
+        (wake(Some(81)), Some(3)),
+    );
+}
+
+#[test]
+fn a_list_is_cleared(rt: HostRuntime) {
+    let mut list = MarkedList::new(rt.alloc());
+    list.push(5, NO_MARK).expect(&rt, "memory");
+    list.clear();
+    same(&rt, (list.len(), list.least()), (0, None));
 }

@@ -1,4 +1,4 @@
-use Rattle.std.proofs.Common.{Bool, false, not, true, ℕ, None, Option, ◌≡◌, ◌-◌, ◌<◌, ◌≤◌, List, ap, drop, refl, subst, sym, ◌∙◌}
+use Rattle.std.proofs.Common.{Bool, arith, false, not, true, ℕ, None, Option, ◌≡◌, ◌-◌, ◌<◌, ◌≤◌, List, ap, drop, refl, subst, sym, ◌∙◌}
 use Rattle.std.specs.Option.{is_some}
 use Rattle.std.specs.Prelude.{◌≢◌}
 use Rattle.sim_clock.specs.declared.key.Key.{Key}
@@ -18,7 +18,7 @@ told nodes items marks width least b tree view same is h k e =
 
 pub leaf_of-requires-clause-due : goal.leaf_of-requires-clause-due
 leaf_of-requires-clause-due c =
-    told c.deref.result.now c.self.inside.nodes.items c.args.self.now c.self.inside.width c.least.result c.is_none.result c.self.invariant c.self.view_is c.deref.ensures.value c.least.ensures
+    told c.deref.result.now c.self.inside.nodes.items c.args.self.now c.self.inside.width c.least.result c.is_none.result (c.self.invariant.tree (omega arith)) c.self.view_is c.deref.ensures.value c.least.ensures
     c.is_none.ensures c.if-is_none.false
 
 pub returns : goal.returns
@@ -26,8 +26,8 @@ returns c =
     let items : List Mark = c.self.inside.nodes.items in
     let width : ℕ = c.self.inside.width in
     let leaf : ℕ = c.leaf_of.result in
-    let some : (node items 1).due ≢ None = told items items c.args.self.now width c.least.result c.is_none.result c.self.invariant c.self.view_is refl c.least.ensures c.is_none.ensures c.if-is_none.false in
+    let some : (node items 1).due ≢ None = told items items c.args.self.now width c.least.result c.is_none.result (c.self.invariant.tree (omega arith)) c.self.view_is refl c.least.ensures c.is_none.ensures c.if-is_none.false in
     subst (λ (marks : List Mark). IsPlaceOfLeast marks (leaf - width)) c.self.view_is
-    (leaf_least items width leaf c.self.invariant c.leaf_of.ensures.leaf c.leaf_of.ensures.within some
+    (leaf_least items width leaf (c.self.invariant.tree (omega arith)) c.leaf_of.ensures.leaf c.leaf_of.ensures.within some
     (subst (λ (ns : List Mark). (node ns leaf).due ≡ (node ns 1).due) c.deref.ensures.value c.leaf_of.ensures.due)
     (subst (λ (ns : List Mark). (k : ℕ) → width ≤ k → k < leaf → (node ns k).due ≢ (node ns 1).due) c.deref.ensures.value c.leaf_of.ensures.first))

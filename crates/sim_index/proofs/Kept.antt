@@ -1,0 +1,30 @@
+-- Marks that are each what a function gives of its value, and the least of what they tell.
+use Rattle.std.proofs.Common.{◌≡◌, ℕ, ◌<◌, List, [], ◌∷◌, ◌++◌, Some, flat_map, get_or, length, map, set, refl, ap, sym, ◌∙◌}
+use Rattle.std.proofs.lemmas.List.{get_or-map, map-append, map-set}
+use Rattle.sim_clock.specs.declared.key.Key.{Key}
+use Rattle.sim_clock.specs.Order.{least, lesser}
+use Rattle.sim_index.specs.declared.mark.Mark.{Mark}
+use Rattle.sim_index.specs.Marks.{least_of, no_mark, node}
+use Rattle.sim_index.proofs.Spans.{lesser_assoc}
+
+pub least_append : (xs ys : List Key) → least (xs ++ ys) ≡ lesser (least xs) (least ys)
+least_append [] ys = refl
+least_append (x ∷ xs) ys = ap (lesser (Some x)) (least_append xs ys) ∙ sym (lesser_assoc (Some x) (least xs) (least ys))
+
+module _ {A : Type 0} (mark : A → Mark) where
+  -- a value that is replaced, and marked anew
+  pub set_kept : (values : List A) (marks : List Mark) (place : ℕ) (value : A) (m : Mark) → marks ≡ map mark values → m ≡ mark value → set marks place m ≡ map mark (set values place value)
+  set_kept values marks place value m e is = (λ j. set (e j) place (is j)) ∙ sym (map-set mark values place value)
+
+  -- one more value
+  pub push_kept : (values : List A) (marks : List Mark) (value : A) (m : Mark) → marks ≡ map mark values → m ≡ mark value → marks ++ m ∷ [] ≡ map mark (values ++ value ∷ [])
+  push_kept values marks value m e is = (λ j. e j ++ is j ∷ []) ∙ sym (map-append mark values (value ∷ []))
+
+  -- the mark at the place of a value
+  pub node_kept : (values : List A) (marks : List Mark) (place : ℕ) (d : A) → marks ≡ map mark values → place < length values → node marks place ≡ mark (get_or values place d)
+  node_kept values marks place d e l = ap (λ ms. node ms place) e ∙ get_or-map mark values place d no_mark l
+
+  -- the least of the marks is the least of what is due
+  pub least_kept : (dues : A → List Key) → ((x : A) → (mark x).due ≡ least (dues x)) → (values : List A) → least_of (map mark values) ≡ least (flat_map dues values)
+  least_kept dues h [] = refl
+  least_kept dues h (x ∷ xs) = (λ j. lesser (h x j) (least_kept dues h xs j)) ∙ sym (least_append (dues x) (flat_map dues xs))
