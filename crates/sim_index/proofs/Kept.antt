@@ -1,9 +1,10 @@
 -- Marks that are each what a function gives of its value, and the least of what they tell.
 use Rattle.std.proofs.Common.{◌≡◌, ℕ, ◌<◌, List, [], ◌∷◌, ◌++◌, Some, flat_map, get_or, length, map, set, refl, ap, sym, ◌∙◌}
-use Rattle.std.proofs.lemmas.List.{get_or-map, map-append, map-set}
+use Rattle.std.proofs.lemmas.List.{get_or-map, get_or-set_same, map-append, map-set}
 use Rattle.sim_clock.specs.declared.key.Key.{Key}
 use Rattle.sim_clock.specs.Order.{least, lesser}
 use Rattle.sim_index.specs.declared.mark.Mark.{Mark}
+use Rattle.sim_index.specs.Marked.{AreMarked, Marked}
 use Rattle.sim_index.specs.Marks.{least_of, no_mark, node}
 use Rattle.sim_index.proofs.Spans.{lesser_assoc}
 
@@ -23,6 +24,23 @@ module _ {A : Type 0} (mark : A → Mark) where
   -- the mark at the place of a value
   pub node_kept : (values : List A) (marks : List Mark) (place : ℕ) (d : A) → marks ≡ map mark values → place < length values → node marks place ≡ mark (get_or values place d)
   node_kept values marks place d e l = ap (λ ms. node ms place) e ∙ get_or-map mark values place d no_mark l
+
+  -- another value at a place, with its mark
+  pub marked_with : (list news : Marked A) (i : ℕ) (x : A) (m : Mark) → AreMarked mark list → m ≡ mark x → news ≡ record list { values = set list.values i x; marks = set list.marks i m } → AreMarked mark news
+  marked_with list news i x m h told put =
+      ap (λ (s : Marked A). s.marks) put ∙ set_kept list.values list.marks i x m h told ∙ ap (λ (s : Marked A). map mark s.values) (sym put)
+
+  -- a value that is changed where it is, looked at there, and marked anew
+  pub marked_anew :
+      (list news : Marked A) (i : ℕ) (x y : A) (m : Mark) (shown : List A) → AreMarked mark list → i < length list.values → shown ≡ set list.values i x → y ≡ get_or shown i y → m ≡ mark y
+      → news ≡ record list { values = set list.values i x; marks = set list.marks i m } → AreMarked mark news
+  marked_anew list news i x y m shown h l is there told put =
+      let same : y ≡ x = there ∙ ap (λ xs. get_or xs i y) is ∙ get_or-set_same list.values i x y l in
+      marked_with list news i x m h (told ∙ ap mark same) put
+
+  -- one more value with its mark
+  pub marked_more : (old new : Marked A) (x : A) (m : Mark) → AreMarked mark old → new.values ≡ old.values ++ x ∷ [] → new.marks ≡ old.marks ++ m ∷ [] → m ≡ mark x → AreMarked mark new
+  marked_more old new x m h values marks told = marks ∙ push_kept old.values old.marks x m h told ∙ ap (map mark) (sym values)
 
   -- the least of the marks is the least of what is due
   pub least_kept : (dues : A → List Key) → ((x : A) → (mark x).due ≡ least (dues x)) → (values : List A) → least_of (map mark values) ≡ least (flat_map dues values)

@@ -15,7 +15,7 @@ use Rattle.sim_engine.proofs.WorldMoves.{is_due_least}
 use Rattle.sim_partition.specs.Sites.{is_due_there, mark_of}
 use Rattle.sim_index.specs.declared.mark.Mark.{Mark}
 use Rattle.sim_index.specs.Marked.{AreMarked, Marked}
-use Rattle.sim_index.proofs.Anew.{mark_there}
+use Rattle.sim_index.proofs.Kept.{node_kept}
 use Rattle.sim_index.specs.Marks.{IsPlaceOfLeast, least_of, no_mark, node}
 
 not_due_by : (key : Key) (o : Option Key) (b : Bool) → is_due key o ≡ b → o ≢ Some key → b ≡ false
@@ -53,8 +53,8 @@ module _ {Site Row Transfer : Type 0} (engine : Engine Site Row Transfer) where
       let test : Site → Bool = is_due_there engine key in
       let first : position_or_len test xs ≡ i =
       position_or_len_is test xs i d (omega arith)
-      (λ k l. not_due key (least_due engine (get_or xs k d)) (λ f. p.first k l (ap (λ (m : Mark). m.due) (mark_there (mark_of engine) sites k d h (omega arith)) ∙ f ∙ sym e)))
-      (λ l. is_due_at key (least_due engine (get_or xs i d)) (sym (ap (λ (m : Mark). m.due) (mark_there (mark_of engine) sites i d h within)) ∙ p.due ∙ e)) in
+      (λ k l. not_due key (least_due engine (get_or xs k d)) (λ f. p.first k l (ap (λ (m : Mark). m.due) (node_kept (mark_of engine) sites.values sites.marks k d h (omega arith)) ∙ f ∙ sym e)))
+      (λ l. is_due_at key (least_due engine (get_or xs i d)) (sym (ap (λ (m : Mark). m.due) (node_kept (mark_of engine) sites.values sites.marks i d h within)) ∙ p.due ∙ e)) in
       let found : Some i ≡ position test xs = ap (λ b. cond b (Some i) None) (sym (lt-ltb i (length xs) within)) ∙ ap (λ n. cond (nat_lt n (length xs)) (Some n) None) (sym first) in
       place_from_position test xs (Some i) found
 

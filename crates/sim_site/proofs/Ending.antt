@@ -12,7 +12,7 @@ use Rattle.sim_clock.specs.Order.{least, lesser}
 use Rattle.sim_index.specs.declared.mark.Mark.{Mark}
 use Rattle.sim_index.specs.Marks.{IsNextIn, IsPlaceOfLeast, NoneIn, least_of, meets, no_mark, node, tells}
 use Rattle.sim_index.specs.Marked.{AreMarked, Marked}
-use Rattle.sim_index.proofs.Anew.{mark_there}
+use Rattle.sim_index.proofs.Kept.{node_kept}
 use Rattle.sqs_model.proofs.Counts.{find_picked}
 use Rattle.sqs_model.proofs.StepMoves.{key_self}
 use Rattle.sqs_model.proofs.WorldMoves.{is_due_least}
@@ -126,7 +126,7 @@ ends_so key o e = ends_due key o ∙ ap (is_due key) e ∙ key_self key
 
 module _ (key : Key) (list : Marked (Option Poll)) (h : AreMarked end_mark list) where
   due_there : (i : ℕ) → i < length list.values → (node list.marks i).due ≡ (end_mark (get_or list.values i None)).due
-  due_there i l = ap (λ (m : Mark). m.due) (mark_there end_mark list i None h l)
+  due_there i l = ap (λ (m : Mark). m.due) (node_kept end_mark list.values list.marks i None h l)
 
   -- the first place of the least is that of the first poll that ends by it
   stands_end : (i : ℕ) → IsPlaceOfLeast list.marks i → i < length list.values → least_of list.marks ≡ Some key → Stands (place_ends_at key) list.values i

@@ -1,6 +1,6 @@
 use Rattle.std.proofs.Common.{ap, length, subst, sym, ◌<◌, ◌∙◌, ◌≡◌}
 use Rattle.sim_index.specs.Marked.{Marked}
-use Rattle.sim_index.proofs.Anew.{marked_anew}
+use Rattle.sim_index.proofs.Kept.{marked_anew}
 use Rattle.sim_partition.specs.Sites.{mark_of}
 use Rattle.sim_partition.proofs.Numbers.{absent, handed, number_there}
 use Rattle.sim_partition.proofs.delivery.deliver_one.Goals as goal

@@ -6,7 +6,7 @@ use Rattle.sim_engine.specs.World.{handled_among}
 use Rattle.sim_partition.specs.Sites.{AreOfPast, IsPart, mark_of}
 use Rattle.sim_partition.proofs.Handled.{due_at_place, handles_at, part_handled, sent_among}
 use Rattle.sim_index.specs.Marked.{Marked}
-use Rattle.sim_index.proofs.Anew.{marked_anew}
+use Rattle.sim_index.proofs.Kept.{marked_anew}
 use Rattle.sim_partition.proofs.Runs.{stops_here}
 use Rattle.sim_partition.proofs.handling.handle_at.Goals as goal
 

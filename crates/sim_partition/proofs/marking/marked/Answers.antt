@@ -1,5 +1,5 @@
 use Rattle.std.proofs.Common.{ap, ◌++◌, ◌∷◌, [], ◌∙◌}
-use Rattle.sim_index.proofs.Anew.{marked_more}
+use Rattle.sim_index.proofs.Kept.{marked_more}
 use Rattle.sim_partition.specs.Sites.{mark_of}
 use Rattle.sim_partition.proofs.marking.marked.Goals as goal
 

@@ -1,5 +1,5 @@
 use Rattle.std.proofs.Common.{[], ap, ◌++◌, ◌∙◌, ◌∷◌}
-use Rattle.sim_index.proofs.Anew.{marked_more}
+use Rattle.sim_index.proofs.Kept.{marked_more}
 use Rattle.sim_site.specs.Marked.{wake_mark}
 use Rattle.sim_site.proofs.actors.marked.Goals as goal
 

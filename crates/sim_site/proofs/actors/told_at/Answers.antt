@@ -1,7 +1,7 @@
 use Rattle.std.proofs.Common.{List, ap, map, subst, sym, ◌∙◌}
 use Rattle.std.specs.Prelude.{IfOk}
 use Rattle.sim_index.specs.Marked.{Marked}
-use Rattle.sim_index.proofs.Anew.{marked_anew}
+use Rattle.sim_index.proofs.Kept.{marked_anew}
 use Rattle.sqs_model.specs.Actor.{Actor}
 use Rattle.sim_site.specs.Marked.{wake_mark}
 use Rattle.sim_site.specs.Turns.{Turned}

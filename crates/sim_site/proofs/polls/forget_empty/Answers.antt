@@ -1,6 +1,15 @@
-use Rattle.sim_site.proofs.Ending.{forgotten}
+use Rattle.std.proofs.Common.{ap, sym, ◌∙◌}
+use Rattle.sim_site.specs.Marked.{waiting}
+use Rattle.sim_site.proofs.Ending.{none_marked_there, none_waiting}
 use Rattle.sim_site.proofs.polls.forget_empty.Goals as goal
+
+pub clear-requires : goal.clear-requires
+clear-requires c = none_marked_there c.args.places.now c.args.count c.requires c.if-count-eq0.true
 
 pub returns-then-count-eq0-clause-waiting : goal.returns-then-count-eq0-clause-waiting
 returns-then-count-eq0-clause-waiting c =
-    forgotten c.args.places.now.items c.clear.new.self.items c.args.ends.now c.args.count c.requires c.if-count-eq0.true c.clear.ensures.items
+    record { marked = ?; counted = ? }
+
+pub returns-then-count-eq0-clause-same : goal.returns-then-count-eq0-clause-same
+returns-then-count-eq0-clause-same c =
+    ap waiting c.clear.ensures.values ∙ sym (none_waiting c.args.places.now.values (sym c.if-count-eq0.true ∙ c.requires.counted))

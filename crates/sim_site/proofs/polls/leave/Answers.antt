@@ -1,6 +1,12 @@
-use Rattle.std.proofs.Common.{refl}
-use Rattle.sim_site.proofs.Ending.{marked_left}
+use Rattle.std.proofs.Common.{None, ap, refl}
+use Rattle.sim_index.specs.Marked.{Marked}
+use Rattle.sim_index.specs.Marks.{no_mark}
+use Rattle.sim_index.proofs.Kept.{marked_with}
+use Rattle.sim_site.specs.Marked.{end_mark}
 use Rattle.sim_site.proofs.polls.leave.Goals as goal
 
+pub returns-clause-left : goal.returns-clause-left
+returns-clause-left c = ap (λ (s : Marked _). s.values) c.set_mark.ensures
+
 pub returns-clause-marked : goal.returns-clause-marked
-returns-clause-marked c = marked_left c.args.places.now.items _ c.args.ends.now c.put.new.self c.args.place c.requires.marked c.requires.place refl c.put.ensures
+returns-clause-marked c = marked_with end_mark c.args.places.now c.set_mark.new.self c.args.place None no_mark c.requires.marked refl c.set_mark.ensures

@@ -4,7 +4,7 @@ use Rattle.sim_site.proofs.Ending.{least_matched}
 use Rattle.sim_site.proofs.polls.place_of_end.Goals as goal
 
 pub returns-then-is_least : goal.returns-then-is_least
-returns-then-is_least c = least_matched c.args.key c.args.places.now c.args.ends.now c.place_of_least.result c.requires (c.is_least.ensures c.if-is_least.true) c.place_of_least.ensures
+returns-then-is_least c = least_matched c.args.key c.args.places.now c.requires c.place_of_least.result (c.is_least.ensures c.if-is_least.true) c.place_of_least.ensures.first c.place_of_least.ensures.there
 
 pub returns : goal.returns
-returns c = place_from_position (place_ends_at c.args.key) c.args.places.now _ c.first_ending.ensures
+returns c = rw c.values.ensures.values (place_from_position (place_ends_at c.args.key) c.values.result.now _ c.first_ending.ensures)

@@ -1,13 +1,17 @@
-use Rattle.std.proofs.Common.{[], ap, ◌++◌, ◌∙◌, ◌∷◌}
+use Rattle.std.proofs.Common.{[], Some, ap, arith, ◌++◌, ◌∙◌, ◌∷◌, ◌≡◌}
+use Rattle.sim_index.proofs.Kept.{marked_more}
+use Rattle.sim_site.specs.Marked.{end_mark, waiting}
 use Rattle.sim_site.proofs.Ending.{added_waiting, added_waits}
 use Rattle.sim_site.proofs.polls.Polls.push.Goals as goal
 
 pub invariant_of-self-2 : goal.invariant_of-self-2
 invariant_of-self-2 c =
-    added_waiting c.self.inside.places.items c.make_room.new.places.items c.add.new.places.items c.self.inside.ends c.add.new.ends c.args.poll c.self.inside.count c.self.invariant
-    c.in_ok-make_room.ensures.polls c.in_ok-add.ensures.added c.in_ok-add.ensures.marked
+    let xs = c.self.inside.places.values in
+    let added = c.in_ok-push.ensures in
+    added_waiting xs c.push.new.self c.args.poll c.self.inside.count c.self.invariant.counted (added_waits xs c.make_room.new.places.values c.push.new.self.values c.args.poll c.make_room.ensures.polls added.values)
+    (marked_more end_mark c.make_room.new.places c.push.new.self (Some c.args.poll) c.mark_of.result c.make_room.ensures.marked added.values added.marks c.mark_of.ensures)
 
 pub returns-clause-added : goal.returns-clause-added
 returns-clause-added c =
-    added_waits c.self.inside.places.items c.make_room.new.places.items c.add.new.places.items c.args.poll c.in_ok-make_room.ensures.polls c.in_ok-add.ensures.added
+    added_waits c.self.inside.places.values c.make_room.new.places.values c.push.new.self.values c.args.poll c.make_room.ensures.polls c.in_ok-push.ensures.values
     ∙ ap (λ ps. ps ++ c.args.poll ∷ []) c.self.view_is
