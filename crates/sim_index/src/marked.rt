@@ -25,7 +25,7 @@ fn wider(width: usize, count: usize) -> usize
     ensures range { 2 * result < 2 ^ 64 }
 {
     if width == 0 {
-        16
+        8
     } else if width < 2 * count {
         2 * width
     } else {
