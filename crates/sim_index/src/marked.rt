@@ -202,7 +202,8 @@ impl<T> MarkedList<T> {
     pub fn is_ready(&self) -> bool
         ensures { result ≡ self.now.ready }
     {
-        self.values.len() < self.values.capacity() && self.values.len() < self.tree.len()
+        let count = self.values.len();
+        count < self.values.capacity() && count < self.tree.len()
     }
 
     /// Makes room for one value more, so that its push succeeds.

@@ -104,11 +104,7 @@ fn told_at(
 }
 
 // The actor at a place waits for one more poll, is marked anew, and answers how many it had before.
-fn counted_at(
-    actors: &mut MarkedList<Actor>,
-    place: usize,
-    number: u32,
-) -> Result<u64, Refusal>
+fn counted_at(actors: &mut MarkedList<Actor>, place: usize, number: u32) -> Result<u64, Refusal>
     requires place { Stands (is_actor number) actors.old.values place }
     requires marked { AreMarked wake_mark actors.old }
     ensures polled { IfOk result (λ polls. Polled number polls actors.old.values actors.new.values) }

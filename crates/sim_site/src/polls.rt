@@ -47,7 +47,8 @@ fn make_room(places: &mut MarkedList<Option<Poll>>) -> Result<(), AllocError>
     if places.is_ready() {
         return Ok(());
     }
-    places.retain(|place| place.is_some())
+    places.retain(|place| place.is_some())?;
+    Ok(())
 }
 
 // The poll at a place leaves.

@@ -22,6 +22,11 @@ returns-clause-marked c =
     marked_anew wake_mark c.args.actors.now c.set_mark.new.self c.args.place c.polled-counted.new.self c.index-values-place.result c.mark_of-mark.result c.values.result.now c.requires.marked c.requires.place.within c.values.ensures.values
     c.index-values-place.is c.mark_of-mark.ensures c.set_mark.ensures
 
+pub returns-in_err-counted-clause-marked : goal.returns-in_err-counted-clause-marked
+returns-in_err-counted-clause-marked c =
+    marked_anew wake_mark c.args.actors.now c.set_mark.new.self c.args.place c.polled-counted.new.self c.index-values-place.result c.mark_of-mark.result c.values.result.now c.requires.marked c.requires.place.within c.values.ensures.values
+    c.index-values-place.is c.mark_of-mark.ensures c.set_mark.ensures
+
 pub returns-clause-numbers : goal.returns-clause-numbers
 returns-clause-numbers c =
     ap (λ (s : Marked Actor). map (λ (a : Actor). a.number) s.values) c.set_mark.ensures

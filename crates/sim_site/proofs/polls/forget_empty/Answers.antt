@@ -1,5 +1,5 @@
-use Rattle.std.proofs.Common.{ap, sym, ◌∙◌}
-use Rattle.sim_site.specs.Marked.{waiting}
+use Rattle.std.proofs.Common.{ap, length, map, sym, ◌∙◌}
+use Rattle.sim_site.specs.Marked.{end_mark, waiting}
 use Rattle.sim_site.proofs.Ending.{none_marked_there, none_waiting}
 use Rattle.sim_site.proofs.polls.forget_empty.Goals as goal
 
@@ -8,7 +8,7 @@ clear-requires c = none_marked_there c.args.places.now c.args.count c.requires c
 
 pub returns-then-count-eq0-clause-waiting : goal.returns-then-count-eq0-clause-waiting
 returns-then-count-eq0-clause-waiting c =
-    record { marked = ?; counted = ? }
+    record { marked = c.clear.ensures.marks ∙ ap (map end_mark) (sym c.clear.ensures.values); counted = c.if-count-eq0.true ∙ sym (ap (λ xs. length (waiting xs)) c.clear.ensures.values) }
 
 pub returns-then-count-eq0-clause-same : goal.returns-then-count-eq0-clause-same
 returns-then-count-eq0-clause-same c =

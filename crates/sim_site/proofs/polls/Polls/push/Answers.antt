@@ -1,8 +1,14 @@
-use Rattle.std.proofs.Common.{[], Some, ap, arith, ◌++◌, ◌∙◌, ◌∷◌, ◌≡◌}
+use Rattle.std.proofs.Common.{[], Some, ap, arith, length, ◌++◌, ◌∙◌, ◌∷◌}
+use Rattle.std.proofs.lemmas.List.{length_push}
 use Rattle.sim_index.proofs.Kept.{marked_more}
-use Rattle.sim_site.specs.Marked.{end_mark, waiting}
-use Rattle.sim_site.proofs.Ending.{added_waiting, added_waits}
+use Rattle.sim_site.specs.Marked.{end_mark}
+use Rattle.sim_site.proofs.Ending.{added_waiting, added_waits, few_waiting}
 use Rattle.sim_site.proofs.polls.Polls.push.Goals as goal
+
+pub overflow_add-self : goal.overflow_add-self
+overflow_add-self c =
+    let mid = c.make_room.new.places.values in
+    omega (arith, c.self.invariant.counted, ap length c.make_room.ensures.polls, few_waiting mid, c.in_ok-push.ensures.fits, ap length c.in_ok-push.ensures.values, length_push mid (Some c.args.poll))
 
 pub invariant_of-self-2 : goal.invariant_of-self-2
 invariant_of-self-2 c =
