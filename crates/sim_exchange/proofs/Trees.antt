@@ -1,47 +1,36 @@
 -- A tree of heads: the first node has the least of those at its leaves.
 use Rattle.std.specs.Cmp.{IsTotalOrder}
 use Rattle.std.specs.Ordering.{is_lt}
-use Rattle.std.specs.Prelude.{List, None, Option, Some, drop, false, if◌then◌else◌, length, set, suc, true, zero, ℕ, ◌*◌, ◌+◌, ◌-◌, ◌/◌, ◌<◌, ◌≡◌, ◌≤◌, ◌⊎◌}
+use Rattle.std.specs.Prelude.{List, cond, drop, false, if◌then◌else◌, length, set, suc, true, zero, ℕ, ◌*◌, ◌+◌, ◌-◌, ◌/◌, ◌<◌, ◌≡◌, ◌≤◌, ◌⊎◌}
 use Rattle.std.proofs.Common.{ap, arith, get_or-set_other, get_or-set_same, inl, inr, refl, subst, sym, ◌∙◌}
 use Rattle.std.proofs.lemmas.Bool.{cases_eq, cases_lt}
 use Rattle.std.proofs.lemmas.Cmp.{nat_cmp_total, on_total, then_total}
-use Rattle.std.proofs.lemmas.List.{get_or-drop, get_or_past, length-drop, length-set}
-use Rattle.sim_clock.specs.Order.{key_cmp_total, lesser_by}
+use Rattle.std.proofs.lemmas.List.{get_or-drop, length-drop, length-set}
+use Rattle.sim_clock.specs.Order.{key_cmp_total}
 use Rattle.sim_clock.proofs.Inserted.{upto_before}
 use Rattle.sim_engine.proofs.MergedLists.{later}
 use Rattle.sim_exchange.specs.declared.heads.Head.{Head}
-use Rattle.sim_exchange.specs.Heads.{AreLesserBut, IsLeast, IsTree, IsUpto, head_cmp, head_in}
+use Rattle.sim_exchange.specs.Heads.{AreLesserBut, IsLeast, IsTree, IsUpto, head_cmp, head_in, lesser, no_head}
 
 total : IsTotalOrder head_cmp
-total = then_total (then_total (on_total (λ h. h.key) key_cmp_total) (on_total (λ h. h.site) nat_cmp_total)) (on_total (λ h. h.place) nat_cmp_total)
+total =
+    then_total (on_total (λ h. cond h.is_done 1 0) nat_cmp_total)
+    (then_total (then_total (on_total (λ h. h.key) key_cmp_total) (on_total (λ h. h.site) nat_cmp_total)) (on_total (λ h. h.place) nat_cmp_total))
 
-abbrev lesser : Option Head → Option Head → Option Head
-lesser = lesser_by head_cmp
-
--- heads that do not come after others
-upto_self : (a : Option Head) → IsUpto a a
-upto_self None = tt
-upto_self (Some a) = elim (is_lt (head_cmp a a)) as (λ b. is_lt (head_cmp a a) ≡ b → b ≡ false) [ true ↦ λ e. sym e ∙ later total a a e | false ↦ λ e. refl ] refl
-
-upto_next : (a b c : Option Head) → IsUpto a b → IsUpto b c → IsUpto a c
-upto_next a b None h k = tt
-upto_next a None (Some c) h k = absurd k
-upto_next None (Some b) (Some c) h k = absurd h
-upto_next (Some a) (Some b) (Some c) h k = upto_before total a b c h k
+upto_self : (a : Head) → IsUpto a a
+upto_self a = elim (is_lt (head_cmp a a)) as (λ b. is_lt (head_cmp a a) ≡ b → b ≡ false) [ true ↦ λ e. sym e ∙ later total a a e | false ↦ λ e. refl ] refl
 
 -- the lesser of two heads is one of them, and comes after none
-record IsOne (a b c : Option Head) : Type 0 where
+record IsOne (a b c : Head) : Type 0 where
   one : (c ≡ a) ⊎ (c ≡ b)
   first : IsUpto c a
   second : IsUpto c b
 
-lesser_one : (a b : Option Head) → IsOne a b (lesser a b)
-lesser_one None b = record { one = inr refl; first = tt; second = upto_self b }
-lesser_one (Some a) None = record { one = inl refl; first = upto_self (Some a); second = tt }
-lesser_one (Some a) (Some b) =
-    elim (is_lt (head_cmp b a)) as (λ t. is_lt (head_cmp b a) ≡ t → IsOne (Some a) (Some b) (if t then Some b else Some a)) [
-      | true ↦ λ e. record { one = inr refl; first = later total a b e; second = upto_self (Some b) }
-      | false ↦ λ e. record { one = inl refl; first = upto_self (Some a); second = e }
+lesser_one : (a b : Head) → IsOne a b (lesser a b)
+lesser_one a b =
+    elim (is_lt (head_cmp b a)) as (λ t. is_lt (head_cmp b a) ≡ t → IsOne a b (if t then b else a)) [
+      | true ↦ λ e. record { one = inr refl; first = later total a b e; second = upto_self b }
+      | false ↦ λ e. record { one = inl refl; first = upto_self a; second = e }
     ] refl
 
 -- a node is the first or the second of the two below another
@@ -50,28 +39,28 @@ of_two i = elim (cases_lt (2 * (i / 2)) i) [ inl l ↦ inr (omega arith) | inr l
 
 -- a node that is written
 pub mended :
-    (nodes : List (Option Head)) (i : ℕ) (head : Option Head) → AreLesserBut nodes i → 0 < i → 2 * i + 1 < length nodes
+    (nodes : List Head) (i : ℕ) (head : Head) → AreLesserBut nodes i → 0 < i → 2 * i + 1 < length nodes
     → head ≡ lesser (head_in nodes (2 * i)) (head_in nodes (2 * i + 1)) → AreLesserBut (set nodes i head) (i / 2)
 mended nodes i head h some within is j low high other =
     let long : length (set nodes i head) ≡ length nodes = length-set nodes i head in
     elim (cases_eq j i) [
       | inl e ↦
           rw e
-          (get_or-set_same nodes i head None (omega arith) ∙ is
-          ∙ (λ k. lesser (sym (get_or-set_other nodes i (2 * i) head None (λ e. omega arith)) k) (sym (get_or-set_other nodes i (2 * i + 1) head None (λ e. omega arith)) k)))
+          (get_or-set_same nodes i head (no_head 0) (omega arith) ∙ is
+          ∙ (λ k. lesser (sym (get_or-set_other nodes i (2 * i) head (no_head 0) (λ e. omega arith)) k) (sym (get_or-set_other nodes i (2 * i + 1) head (no_head 0) (λ e. omega arith)) k)))
       | inr n ↦
-          get_or-set_other nodes i j head None n ∙ h j low (omega (arith, long)) n
-          ∙ (λ k. lesser (sym (get_or-set_other nodes i (2 * j) head None (λ e. other (omega arith))) k) (sym (get_or-set_other nodes i (2 * j + 1) head None (λ e. other (omega arith))) k))
+          get_or-set_other nodes i j head (no_head 0) n ∙ h j low (omega (arith, long)) n
+          ∙ (λ k. lesser (sym (get_or-set_other nodes i (2 * j) head (no_head 0) (λ e. other (omega arith))) k) (sym (get_or-set_other nodes i (2 * j + 1) head (no_head 0) (λ e. other (omega arith))) k))
     ]
 
 -- a leaf that is written
-pub leaf_set : (nodes : List (Option Head)) (i : ℕ) (head : Option Head) → length nodes ≤ 2 * i → AreLesserBut nodes 0 → AreLesserBut (set nodes i head) (i / 2)
+pub leaf_set : (nodes : List Head) (i : ℕ) (head : Head) → length nodes ≤ 2 * i → AreLesserBut nodes 0 → AreLesserBut (set nodes i head) (i / 2)
 leaf_set nodes i head past h j low high other =
     let long : length (set nodes i head) ≡ length nodes = length-set nodes i head in
-    get_or-set_other nodes i j head None (λ e. omega (arith, long)) ∙ h j low (omega (arith, long)) (λ e. omega arith)
-    ∙ (λ k. lesser (sym (get_or-set_other nodes i (2 * j) head None (λ e. other (omega arith))) k) (sym (get_or-set_other nodes i (2 * j + 1) head None (λ e. other (omega arith))) k))
+    get_or-set_other nodes i j head (no_head 0) (λ e. omega (arith, long)) ∙ h j low (omega (arith, long)) (λ e. omega arith)
+    ∙ (λ k. lesser (sym (get_or-set_other nodes i (2 * j) head (no_head 0) (λ e. other (omega arith))) k) (sym (get_or-set_other nodes i (2 * j + 1) head (no_head 0) (λ e. other (omega arith))) k))
 
-module _ (nodes : List (Option Head)) (width : ℕ) (tree : IsTree nodes width) where
+module _ (nodes : List Head) (width : ℕ) (tree : IsTree nodes width) where
   one_at : (i : ℕ) → 1 ≤ i → i < width → IsOne (head_in nodes (2 * i)) (head_in nodes (2 * i + 1)) (head_in nodes i)
   one_at i low high =
       subst (IsOne (head_in nodes (2 * i)) (head_in nodes (2 * i + 1))) (sym (tree.lesser i low (omega (arith, tree.long)) (λ e. omega arith)))
@@ -85,7 +74,7 @@ module _ (nodes : List (Option Head)) (width : ℕ) (tree : IsTree nodes width) 
         | inl l ↦
             let above : IsUpto (head_in nodes 1) (head_in nodes (i / 2)) = root_upto n (i / 2) (omega arith) (omega arith) (omega arith) in
             let one = one_at (i / 2) (omega arith) (omega arith) in
-            upto_next (head_in nodes 1) (head_in nodes (i / 2)) (head_in nodes i) above
+            upto_before total (head_in nodes 1) (head_in nodes (i / 2)) (head_in nodes i) above
             (elim (of_two i) [
               | inl e ↦ subst (λ (k : ℕ). IsUpto (head_in nodes (i / 2)) (head_in nodes k)) (sym e) one.first
               | inr e ↦ subst (λ (k : ℕ). IsUpto (head_in nodes (i / 2)) (head_in nodes k)) (sym e) one.second
@@ -111,11 +100,8 @@ module _ (nodes : List (Option Head)) (width : ℕ) (tree : IsTree nodes width) 
   root_least some =
       let leaf = node_leaf (2 * width) 1 (omega arith) (omega arith) (omega arith) in
       record {
-        there = (leaf.0, omega (arith, leaf.1, length-drop width nodes, tree.long), get_or-drop width nodes leaf.0 None ∙ leaf.2);
-        upto = λ p.
-            subst (IsUpto (head_in nodes 1)) (sym (get_or-drop width nodes p None))
-            (elim (cases_lt (width + p) (2 * width)) [
-              | inl l ↦ root_upto (width + p) (width + p) (omega arith) (omega arith) l
-              | inr l ↦ subst (IsUpto (head_in nodes 1)) (sym (get_or_past nodes (width + p) None (omega (arith, tree.long)))) tt
-            ]);
+        there = (leaf.0, omega (arith, leaf.1, length-drop width nodes, tree.long), get_or-drop width nodes leaf.0 (no_head 0) ∙ leaf.2);
+        upto = λ p l.
+            let within : p < width = omega (arith, l, length-drop width nodes, tree.long) in
+            subst (IsUpto (head_in nodes 1)) (sym (get_or-drop width nodes p (no_head 0))) (root_upto (width + p) (width + p) (omega arith) (omega arith) (omega arith));
       }

@@ -1,25 +1,54 @@
 //! The heads of some lists, the least of them at hand.
 ghost use Rattle.std.specs.Ordering.{is_lt};
-ghost use Rattle.std.specs.Prelude.{◌≡◌, ◌*◌, ◌+◌, ◌/◌, ◌<◌, IfOk, None, if◌then◌else◌, drop, length, replicate, set, vec_len};
-ghost use Rattle.sim_clock.specs.Order.{lesser_by};
-ghost use Rattle.sim_exchange.specs.Heads.{AreLesserBut, IsLeast, head_cmp, head_in};
+ghost use Rattle.std.specs.Prelude.{◌≡◌, ◌*◌, ◌+◌, ◌/◌, ◌<◌, IfOk, drop, length, replicate, set, vec_len};
+ghost use Rattle.sim_exchange.specs.Heads.{AreLesserBut, IsLeast, first_cmp, head_cmp, head_in, lesser, no_head};
 
-use sim_clock::Key;
+use sim_clock::{Class, Key};
 use std::alloc::{AllocError, Global};
 use std::marker::Model;
 
 /// The first row of a list: the key of its handling, its site and the place of the list.
 #[derive(Clone, Copy)]
 pub struct Head {
+    /// Whether the list has no rows; the key and the site then tell nothing.
+    pub is_done: bool,
     pub key: Key,
     pub site: u32,
     pub place: usize,
 }
 
 impl Head {
-    // Whether it comes before another one. Mostly their moments tell.
+    /// The head of a list with no rows.
+    pub fn none(place: usize) -> Head
+        ensures { result ≡ no_head place }
+    {
+        Head {
+            is_done: true,
+            key: Key {
+                at: 0,
+                agent: 0,
+                class: Class::Arrival,
+                number: 0,
+            },
+            site: 0,
+            place,
+        }
+    }
+
+    // Whether it comes before another one.
     fn is_before(&self, other: &Head) -> bool
         ensures { result ≡ is_lt (head_cmp self.now other.now) }
+    {
+        if self.is_done == other.is_done {
+            self.is_first_before(other)
+        } else {
+            other.is_done
+        }
+    }
+
+    // The same of two rows. Mostly their moments tell.
+    fn is_first_before(&self, other: &Head) -> bool
+        ensures { result ≡ is_lt (first_cmp self.now other.now) }
     {
         if self.key.at != other.key.at {
             return self.key.at < other.key.at;
@@ -32,25 +61,14 @@ impl Head {
     }
 }
 
-// Whether the second of two heads is the lesser; where there is none is last.
-fn is_second(first: &Option<Head>, second: &Option<Head>) -> bool
-    ensures { lesser_by head_cmp first.now second.now ≡ (if result then second.now else first.now) }
-{
-    match (first, second) {
-        (_, None) => false,
-        (None, Some(_)) => true,
-        (Some(head), Some(other)) => other.is_before(head),
-    }
-}
-
 // Which of the two below a node has the lesser head.
-fn lesser_below(nodes: &[Option<Head>], node: usize) -> usize
+fn lesser_below(nodes: &[Head], node: usize) -> usize
     requires { 2 * node + 1 < length nodes.now }
     ensures within { result < length nodes.now }
-    ensures lesser { head_in nodes.now result ≡ lesser_by head_cmp (head_in nodes.now (2 * node)) (head_in nodes.now (2 * node + 1)) }
+    ensures lesser { head_in nodes.now result ≡ lesser (head_in nodes.now (2 * node)) (head_in nodes.now (2 * node + 1)) }
 {
     let first = 2 * node;
-    if is_second(&nodes[first], &nodes[first + 1]) {
+    if nodes[first + 1].is_before(&nodes[first]) {
         first + 1
     } else {
         first
@@ -58,7 +76,7 @@ fn lesser_below(nodes: &[Option<Head>], node: usize) -> usize
 }
 
 // Writes each node above one, which has the lesser of the two below it.
-fn mend(nodes: &mut Vec<Option<Head>>, width: usize, node: usize)
+fn mend(nodes: &mut Vec<Head>, width: usize, node: usize)
     requires above { AreLesserBut nodes.old.items (node / 2) }
     requires within { node < vec_len nodes.old }
     requires long { vec_len nodes.old ≡ 2 * width }
@@ -76,16 +94,16 @@ fn mend(nodes: &mut Vec<Option<Head>>, width: usize, node: usize)
 /// The heads of some lists. Contracts see them by the places of the lists.
 #[derive(Drop)]
 pub struct Heads {
-    nodes: Vec<Option<Head>>,
+    nodes: Vec<Head>,
     width: usize,
 }
 
 impl Model for Heads {
-    ghost use Rattle.std.specs.Prelude.{List, Option, drop};
+    ghost use Rattle.std.specs.Prelude.{List, drop};
     ghost use Rattle.sim_exchange.specs.declared.heads.Head.{Head};
     ghost use Rattle.sim_exchange.specs.Heads.{IsTree};
 
-    ghost Value = { List (Option Head) };
+    ghost Value = { List Head };
 
     ghost view = { λ m. drop m.width m.nodes.items };
 
@@ -95,15 +113,15 @@ impl Model for Heads {
 impl Heads {
     /// The heads of so many lists with no rows. The error is want of memory.
     pub fn new(alloc: Global, width: usize) -> Result<Heads, AllocError>
-        ensures { IfOk result (λ heads. heads ≡ replicate width None) }
+        ensures { IfOk result (λ heads. heads ≡ replicate width (no_head 0)) }
     {
         let size = width.checked_mul(2).ok_or(AllocError)?;
-        let nodes = vec![in alloc; None; size]?;
+        let nodes = vec![in alloc; Head::none(0); size]?;
         Ok(Heads { nodes, width })
     }
 
     /// Puts the head of a list.
-    pub fn put(&mut self, place: usize, head: Option<Head>)
+    pub fn put(&mut self, place: usize, head: Head)
         requires { place < length self.old }
         ensures { self.new ≡ set self.old place head }
     {
@@ -113,7 +131,7 @@ impl Heads {
     }
 
     /// The least of them.
-    pub fn least(&self) -> Option<Head>
+    pub fn least(&self) -> Head
         requires { 0 < length self.now }
         ensures { IsLeast self.now result }
     {
