@@ -53,13 +53,6 @@ mended nodes i head h some within is j low high other =
           ∙ (λ k. lesser (sym (get_or-set_other nodes i (2 * j) head (no_head 0) (λ e. other (omega arith))) k) (sym (get_or-set_other nodes i (2 * j + 1) head (no_head 0) (λ e. other (omega arith))) k))
     ]
 
--- a leaf that is written
-pub leaf_set : (nodes : List Head) (i : ℕ) (head : Head) → length nodes ≤ 2 * i → AreLesserBut nodes 0 → AreLesserBut (set nodes i head) (i / 2)
-leaf_set nodes i head past h j low high other =
-    let long : length (set nodes i head) ≡ length nodes = length-set nodes i head in
-    get_or-set_other nodes i j head (no_head 0) (λ e. omega (arith, long)) ∙ h j low (omega (arith, long)) (λ e. omega arith)
-    ∙ (λ k. lesser (sym (get_or-set_other nodes i (2 * j) head (no_head 0) (λ e. other (omega arith))) k) (sym (get_or-set_other nodes i (2 * j + 1) head (no_head 0) (λ e. other (omega arith))) k))
-
 module _ (nodes : List Head) (width : ℕ) (tree : IsTree nodes width) where
   one_at : (i : ℕ) → 1 ≤ i → i < width → IsOne (head_in nodes (2 * i)) (head_in nodes (2 * i + 1)) (head_in nodes i)
   one_at i low high =

@@ -7,13 +7,16 @@ use sim_clock::{Class, Key};
 use std::alloc::{AllocError, Global};
 use std::marker::Model;
 
-/// The first row of a list: the key of its handling, its site and the place of the list.
+/// What the first row of a list is compared by.
 #[derive(Clone, Copy)]
 pub struct Head {
     /// Whether the list has no rows; the key and the site then tell nothing.
     pub is_done: bool,
+    /// The key of the row's handling.
     pub key: Key,
+    /// The number of the row's site.
     pub site: u32,
+    /// The place of the list among the lists.
     pub place: usize,
 }
 
@@ -91,7 +94,8 @@ fn mend(nodes: &mut Vec<Head>, width: usize, node: usize)
     }
 }
 
-/// The heads of some lists. Contracts see them by the places of the lists.
+/// The heads of some lists, in a tree: each node above the leaves has the lesser of the two heads
+/// below it. Contracts see the heads by the places of the lists.
 #[derive(Drop)]
 pub struct Heads {
     nodes: Vec<Head>,
@@ -120,7 +124,7 @@ impl Heads {
         Ok(Heads { nodes, width })
     }
 
-    /// Puts the head of a list.
+    /// Puts the head of a list, after a comparison for each doubling of the number of lists.
     pub fn put(&mut self, place: usize, head: Head)
         requires { place < length self.old }
         ensures { self.new ≡ set self.old place head }
