@@ -1,0 +1,144 @@
+//! The heads of some lists, the least of them at hand.
+ghost use Rattle.std.specs.Ordering.{is_lt};
+ghost use Rattle.std.specs.Prelude.{◌≡◌, ◌*◌, ◌+◌, ◌/◌, ◌<◌, IfOk, drop, length, replicate, set, vec_len};
+ghost use Rattle.sim_exchange.specs.Heads.{AreLesserBut, IsLeast, first_cmp, head_cmp, head_in, lesser, no_head};
+
+use sim_clock::{Class, Key};
+use std::alloc::{AllocError, Global};
+use std::marker::Model;
+
+/// What the first row of a list is compared by.
+#[derive(Clone, Copy)]
+pub struct Head {
+    /// Whether the list has no rows; the key and the site then tell nothing.
+    pub is_done: bool,
+    /// The key of the row's handling.
+    pub key: Key,
+    /// The number of the row's site.
+    pub site: u32,
+    /// The place of the list among the lists.
+    pub place: usize,
+}
+
+impl Head {
+    /// The head of a list with no rows.
+    pub fn none(place: usize) -> Head
+        ensures { result ≡ no_head place }
+    {
+        Head {
+            is_done: true,
+            key: Key {
+                at: 0,
+                agent: 0,
+                class: Class::Arrival,
+                number: 0,
+            },
+            site: 0,
+            place,
+        }
+    }
+
+    // Whether it comes before another one.
+    fn is_before(&self, other: &Head) -> bool
+        ensures { result ≡ is_lt (head_cmp self.now other.now) }
+    {
+        if self.is_done == other.is_done {
+            self.is_first_before(other)
+        } else {
+            other.is_done
+        }
+    }
+
+    // The same of two rows. Mostly their moments tell.
+    fn is_first_before(&self, other: &Head) -> bool
+        ensures { result ≡ is_lt (first_cmp self.now other.now) }
+    {
+        if self.key.at != other.key.at {
+            return self.key.at < other.key.at;
+        }
+        self.key
+            .cmp(&other.key)
+            .then(self.site.cmp(&other.site))
+            .then(self.place.cmp(&other.place))
+            .is_lt()
+    }
+}
+
+// Which of the two below a node has the lesser head.
+fn lesser_below(nodes: &[Head], node: usize) -> usize
+    requires { 2 * node + 1 < length nodes.now }
+    ensures within { result < length nodes.now }
+    ensures lesser { head_in nodes.now result ≡ lesser (head_in nodes.now (2 * node)) (head_in nodes.now (2 * node + 1)) }
+{
+    let first = 2 * node;
+    if nodes[first + 1].is_before(&nodes[first]) {
+        first + 1
+    } else {
+        first
+    }
+}
+
+// Writes each node above one, which has the lesser of the two below it.
+fn mend(nodes: &mut Vec<Head>, width: usize, node: usize)
+    requires above { AreLesserBut nodes.old.items (node / 2) }
+    requires within { node < vec_len nodes.old }
+    requires long { vec_len nodes.old ≡ 2 * width }
+    ensures lesser { AreLesserBut nodes.new.items 0 }
+    ensures leaves { drop width nodes.new.items ≡ drop width nodes.old.items }
+    ensures length { vec_len nodes.new ≡ vec_len nodes.old }
+{
+    let mut node = node / 2;
+    while 0 < node {
+        nodes[node] = nodes[lesser_below(nodes, node)];
+        node /= 2;
+    }
+}
+
+/// The heads of some lists, in a tree: each node above the leaves has the lesser of the two heads
+/// below it. Contracts see the heads by the places of the lists.
+#[derive(Drop)]
+pub struct Heads {
+    nodes: Vec<Head>,
+    width: usize,
+}
+
+impl Model for Heads {
+    ghost use Rattle.std.specs.Prelude.{List, drop};
+    ghost use Rattle.sim_exchange.specs.declared.heads.Head.{Head};
+    ghost use Rattle.sim_exchange.specs.Heads.{IsTree};
+
+    ghost Value = { List Head };
+
+    ghost view = { λ m. drop m.width m.nodes.items };
+
+    ghost invariant = { λ m. IsTree m.nodes.items m.width };
+}
+
+impl Heads {
+    /// The heads of so many lists with no rows. The error is want of memory.
+    pub fn new(alloc: Global, width: usize) -> Result<Heads, AllocError>
+        ensures { IfOk result (λ heads. heads ≡ replicate width (no_head 0)) }
+    {
+        let size = width.checked_mul(2).ok_or(AllocError)?;
+        let nodes = vec![in alloc; Head::none(0); size]?;
+        Ok(Heads { nodes, width })
+    }
+
+    /// Puts the head of a list, after a comparison for each doubling of the number of lists.
+    pub fn put(&mut self, place: usize, head: Head)
+        requires { place < length self.old }
+        ensures { self.new ≡ set self.old place head }
+    {
+        let node = self.width + place;
+        self.nodes[node] = head;
+        mend(&mut self.nodes, self.width, node);
+    }
+
+    /// The least of them.
+    pub fn least(&self) -> Head
+        requires { 0 < length self.now }
+        ensures { IsLeast self.now result }
+    {
+        self.nodes[1]
+    }
+}
