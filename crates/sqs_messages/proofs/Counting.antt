@@ -15,9 +15,12 @@ use Rattle.sqs_messages.specs.declared.counts.Counts.{Counts}
 use Rattle.sqs_messages.specs.Counted.{count_at, counts_of, with_one}
 use Rattle.sqs_messages.specs.Heads.{told}
 use Rattle.sim_index.specs.declared.mark.Mark.{Mark}
+use Rattle.sim_index.specs.Marked.{Marked}
+use Rattle.sim_index.specs.Marks.{node}
 use Rattle.sqs_messages.specs.declared.slot.Slot.{Slot}
 use Rattle.sqs_messages.specs.Shelves.{AreShelf}
-use Rattle.sqs_messages.specs.Slots.{IsOn, Shelved, is_numbered, number_of, shelved, shown, with_hosts}
+use Rattle.sqs_messages.specs.Slots.{IsOn, Shelved, is_numbered, number_of, shelved, with_hosts}
+use Rattle.sqs_messages.proofs.Shelves.{found}
 use Rattle.sqs_messages.proofs.Wanted.{shelf_ascends, shelf_below}
 
 -- 1 for a message that a test picks, else 0
@@ -127,43 +130,49 @@ few_numbers low next (s ∷ items) l a h =
     omega (arith, rest, a.0)
 
 -- there are no more messages on a shelf than numbers were given out
-pub few_shelved : (slots : List Slot) (marks : List Mark) (next : ℕ) → AreShelf slots marks next → length (shelved slots) ≤ next
-few_shelved slots marks next h = let few : length (shelved slots) + 0 ≤ next = few_numbers 0 next (shelved slots) (omega arith) (shelf_ascends slots marks next h) (shelf_below slots marks next h) in omega (arith, few)
+pub few_shelved : (list : Marked Slot) (next : ℕ) → AreShelf list next → length (shelved list.values list.marks) ≤ next
+few_shelved list next h =
+    let items : List Shelved = shelved list.values list.marks in
+    let few : length items + 0 ≤ next = few_numbers 0 next items (omega arith) (shelf_ascends list next h) (shelf_below list next h) in
+    omega (arith, few)
 
 stood_by : (o : Option Message) (mark : Mark) (was : Place) → Some was ≡ option_map (λ (m : Message). m.place) o
     → (s : Shelved) × (option_map (λ m. let t : Shelved = record { message = m; mark = mark } in t) o ≡ Some s) × (s.message.place ≡ was)
 stood_by None mark was e = cc
 stood_by (Some m) mark was e = (record { message = m; mark = mark }, refl, cc)
 
--- the counts of a shelf on which a message of a number leaves its place
-module _ (slots : List Slot) (n i : ℕ) (x : Slot) (at : IsOn slots n i) (read : x ≡ get_or slots i x) (was : Place) (stood : Some was ≡ option_map (λ (m : Message). m.place) x.message)
-    (counts less : Counts) (counted : counts ≡ counts_of (told (shelved slots))) where
-  here : (s : Shelved) × (find (is_numbered n) (shelved slots) ≡ Some s) × (s.message.place ≡ was)
-  here = let s = stood_by x.message x.mark was stood in (s.0, at.found x ∙ ap shown (sym read) ∙ s.1, s.2)
+-- the counts of a shelf on which the message of a number leaves its place
+module _ {list : Marked Slot} {next n i : ℕ} {x : Slot} {slots : List Slot} (h : AreShelf list next) (on : IsOn slots n i) (is : slots ≡ list.values) (read : x ≡ get_or list.values i x)
+    {was : Place} (stood : Some was ≡ option_map (λ (m : Message). m.place) x.message) {counts : Counts} (counted : counts ≡ counts_of (told (shelved list.values list.marks))) where
+  abbrev items : List Shelved
+  items = shelved list.values list.marks
 
-  without_one : with_one was (counts_of (told (without (is_numbered n) (shelved slots)))) ≡ counts
+  here : (s : Shelved) × (find (is_numbered n) (shelved list.values list.marks) ≡ Some s) × (s.message.place ≡ was)
+  here = let s = stood_by x.message (node list.marks i) was stood in (s.0, found h on is read ∙ s.1, s.2)
+
+  without_one : with_one was (counts_of (told (without (is_numbered n) (shelved list.values list.marks)))) ≡ counts
   without_one =
       let s = here in
-      ap (λ (p : Place). with_one p (counts_of (told (without (is_numbered n) (shelved slots))))) (sym s.2) ∙ counts_without n (shelved slots) s.0 s.1 ∙ sym counted
+      ap (λ (p : Place). with_one p (counts_of (told (without (is_numbered n) items)))) (sym s.2) ∙ counts_without n items s.0 s.1 ∙ sym counted
 
   pub some_out : 1 ≤ count_at was counts
-  some_out = some_at was (counts_of (told (without (is_numbered n) (shelved slots)))) counts without_one
+  some_out = some_at was (counts_of (told (without (is_numbered n) items))) counts without_one
 
-  pub out_is : with_one was less ≡ counts → less ≡ counts_of (told (without (is_numbered n) (shelved slots)))
-  out_is e = with_one_same was less (counts_of (told (without (is_numbered n) (shelved slots)))) (e ∙ sym without_one)
+  module _ (less : Counts) (left : with_one was less ≡ counts) where
+    pub out_is : less ≡ counts_of (told (without (is_numbered n) (shelved list.values list.marks)))
+    out_is = with_one_same was less (counts_of (told (without (is_numbered n) items))) (left ∙ sym without_one)
 
-  pub few_in : (marks : List Mark) (next : ℕ) (place : Place) → AreShelf slots marks next → with_one was less ≡ counts → count_at place less < next
-  few_in marks next place h e =
-      let s = here in
-      let few : count_at place (counts_of (told (without (is_numbered n) (shelved slots)))) ≤ length (without (is_numbered n) (shelved slots)) = few_at place (without (is_numbered n) (shelved slots)) in
-      let same : count_at place less ≡ count_at place (counts_of (told (without (is_numbered n) (shelved slots)))) = ap (count_at place) (out_is e) in
-      omega (arith, few, same, fewer_without n (shelved slots) s.0 s.1, few_shelved slots marks next h)
+    pub few_in : (place : Place) → count_at place less < next
+    few_in place =
+        let s = here in
+        let few : count_at place (counts_of (told (without (is_numbered n) items))) ≤ length (without (is_numbered n) items) = few_at place (without (is_numbered n) items) in
+        let same : count_at place less ≡ count_at place (counts_of (told (without (is_numbered n) items))) = ap (count_at place) out_is in
+        omega (arith, few, same, fewer_without n items s.0 s.1, few_shelved list next h)
 
-  pub in_is : (more : Counts) (place : Place) (g : Shelved → Shelved) → ((s : Shelved) → (g s).message.place ≡ place) → with_one was less ≡ counts → more ≡ with_one place less
-      → more ≡ counts_of (told (changed (is_numbered n) g (shelved slots)))
-  in_is more place g to e is =
-      let s = here in
-      is
-      ∙ ap (with_one place) (out_is e)
-      ∙ ap (λ (p : Place). with_one p (counts_of (told (without (is_numbered n) (shelved slots))))) (sym (to s.0))
-      ∙ counts_changed n (shelved slots) s.0 s.1 g
+    pub in_is : (more : Counts) (place : Place) (g : Shelved → Shelved) → ((s : Shelved) → (g s).message.place ≡ place) → more ≡ with_one place less → more ≡ counts_of (told (changed (is_numbered n) g (shelved list.values list.marks)))
+    in_is more place g to e =
+        let s = here in
+        e
+        ∙ ap (with_one place) out_is
+        ∙ ap (λ (p : Place). with_one p (counts_of (told (without (is_numbered n) items)))) (sym (to s.0))
+        ∙ counts_changed n items s.0 s.1 g

@@ -1,141 +1,229 @@
--- Shelves: what stands at a place, and places that are written to.
-use Rattle.std.proofs.Common.{◌≡◌, ℕ, ◌+◌, ◌<◌, ◌≤◌, true, false, List, ◌++◌, Option, Some, None, length, set, take, drop, map, get_or, inl, inr, arith, refl, ap, sym, subst, ◌∙◌}
-use Rattle.std.specs.Prelude.{All, IfSome, IsSome, find, is_some, ◌≢◌}
-use Rattle.std.specs.List.{cons_option}
+-- What stands in the places of a shelf: at a place, before it and after it.
+use Rattle.std.proofs.Common.{◌≡◌, ℕ, zero, suc, ◌+◌, ◌<◌, ◌≤◌, true, false, Bool, List, [], ◌∷◌, ◌++◌, Option, Some, None, cond, if◌then◌else◌, length, set, take, drop, get_or, inl, inr, arith, refl, ap, sym, subst, ◌∙◌}
+use Rattle.std.specs.Prelude.{All, IfSome, IsSome, find, ◌≢◌}
+use Rattle.std.specs.List.{AllZip, cons_option}
+use Rattle.std.specs.List.Sorted.{IsNonDecreasingBy}
 use Rattle.std.specs.Option.{option_map}
 use Rattle.std.proofs.lemmas.Bool.{cases_eq, cases_lt}
 use Rattle.std.proofs.lemmas.Bool.Decides.{nat_tests}
-use Rattle.std.proofs.lemmas.List.{get_or-drop, get_or-set_other, get_or-set_same, get_or-take, get_or_default, length-drop, length-map, length-set, length-take-le, map-set}
-use Rattle.std.proofs.lemmas.List.Elements.{All-drop, All-set, All-take}
+use Rattle.std.proofs.lemmas.List.{get_or_default, set-get_or}
+use Rattle.std.proofs.lemmas.List.Elements.{All-cons, All-nil, All-set, All-weaker}
+use Rattle.std.proofs.lemmas.Slice.Zip.{AllZip-long}
 use Rattle.sim_clock.specs.Firsts.{changed, without}
 use Rattle.sim_index.specs.declared.mark.Mark.{Mark}
+use Rattle.sim_index.specs.Marked.{Marked}
 use Rattle.sim_index.specs.Marks.{no_mark, node}
 use Rattle.sqs_message.specs.declared.message.Message.{Message}
+use Rattle.sqs_model.specs.Progress.{Ascends}
 use Rattle.sqs_messages.specs.declared.slot.Slot.{Slot}
-use Rattle.sqs_messages.specs.declared.slot.State.{State}
 use Rattle.sqs_messages.specs.Shelves.{AreShelf}
-use Rattle.sqs_messages.specs.Slots.{AreOrdered, IsNamed, IsOff, IsOn, Shelved, is_numbered, mark_of, restated, shelved, shown, with_hosts}
-use Rattle.sqs_messages.proofs.Firsts.{all_shown, changed_between, find_between, none_changed, none_find, none_without, shown_at, shown_set, without_between}
+use Rattle.sqs_messages.specs.Slots.{AreOrdered, IsNamed, IsOff, IsOn, Shelved, is_numbered, shelved, shown, with_hosts}
+use Rattle.sqs_messages.proofs.Firsts.{skip_changed, skip_find, skip_without}
 
--- a message that stands in a place of another number
-other_by : (n k : ℕ) (mark : Mark) (o : Option Message) → IfSome o (λ m. m.number ≡ k) → k ≢ n → IfSome (option_map (λ m. let s : Shelved = record { message = m; mark = mark } in s) o) (λ b. is_numbered n b ≡ false)
-other_by n k mark None h l = tt
-other_by n k mark (Some m) h l = grind (arith, nat_tests)
+-- two lists whose elements are alike place by place: at one, and with others there
+module _ {A B : Type 0} (R : A → B → Type 0) where
+  pub zip_at : (xs : List A) (ys : List B) (i : ℕ) (d : A) (e : B) → AllZip R xs ys → i < length xs → R (get_or xs i d) (get_or ys i e)
+  zip_at [] ys i d e h l = absurd (omega arith)
+  zip_at (x ∷ xs) [] i d e h l = absurd h
+  zip_at (x ∷ xs) (y ∷ ys) zero d e h l = h.0
+  zip_at (x ∷ xs) (y ∷ ys) (suc i) d e h l = zip_at xs ys i d e h.1 (omega arith)
 
-same_by : (n k : ℕ) (mark : Mark) (o : Option Message) → IfSome o (λ m. m.number ≡ k) → k ≡ n → IfSome (option_map (λ m. let s : Shelved = record { message = m; mark = mark } in s) o) (λ b. is_numbered n b ≡ true)
-same_by n k mark None h l = tt
-same_by n k mark (Some m) h l = grind (arith, nat_tests)
+  zip_set : (xs : List A) (ys : List B) (i : ℕ) (x : A) (y : B) → AllZip R xs ys → R x y → AllZip R (set xs i x) (set ys i y)
+  zip_set [] [] i x y h r = h
+  zip_set [] (b ∷ ys) i x y h r = absurd h
+  zip_set (a ∷ xs) [] i x y h r = absurd h
+  zip_set (a ∷ xs) (b ∷ ys) zero x y h r = (r, h.1)
+  zip_set (a ∷ xs) (b ∷ ys) (suc i) x y h r = (h.0, zip_set xs ys i x y h.1 r)
 
-others : (n : ℕ) (xs : List Slot) → All IsNamed xs → All (λ s. s.number ≢ n) xs → All (λ b. is_numbered n b ≡ false) (shelved xs)
-others n xs h k = all_shown shown (λ b. is_numbered n b ≡ false) xs (λ i d l. let s : Slot = get_or xs i d in other_by n s.number s.mark s.message (h i d l).number (k i d l))
+-- what places show, each that is shown has
+module _ (P : Shelved → Type 0) where
+  pub all_one : (o : Option Shelved) (items : List Shelved) → IfSome o P → All P items → All P (cons_option o items)
+  all_one None items h k = k
+  all_one (Some s) items h k = All-cons P s items h k
 
--- the places before one and after it
-before : (n : ℕ) (xs : List Slot) (i : ℕ) → AreOrdered xs → i < length xs → ((d : Slot) → (get_or xs i d).number ≡ n) → All (λ s. s.number ≢ n) (take i xs)
-before n xs i o l e k d m =
-    let short : length (take i xs) ≡ i = length-take-le i xs (omega arith) in
-    let at : get_or (take i xs) k d ≡ get_or xs k d = get_or-take i xs k d (omega (arith, short)) in
-    λ same. let less : (get_or xs k d).number < (get_or xs i d).number = o k i d d (omega (arith, short)) l in
-    let is : (get_or xs k d).number ≡ n = ap (λ (s : Slot). s.number) (sym at) ∙ same in
-    omega (arith, less, is, e d)
+  pub all_shelved : (slots : List Slot) (marks : List Mark) → ((k : ℕ) (d : Slot) → k < length slots → IfSome (shown (node marks k) (get_or slots k d)) P) → All P (shelved slots marks)
+  all_shelved [] marks h = All-nil P
+  all_shelved (s ∷ slots) [] h = All-nil P
+  all_shelved (s ∷ slots) (m ∷ marks) h = all_one (shown m s) (shelved slots marks) (h 0 s (omega arith)) (all_shelved slots marks (λ k d l. h (suc k) d (omega arith)))
 
-behind : (n : ℕ) (xs : List Slot) (i : ℕ) → AreOrdered xs → i < length xs → ((d : Slot) → (get_or xs i d).number ≡ n) → All (λ s. s.number ≢ n) (drop (i + 1) xs)
-behind n xs i o l e k d m =
-    let short : length (drop (i + 1) xs) + (i + 1) ≡ length xs = omega (arith, length-drop (i + 1) xs) in
-    let at : get_or (drop (i + 1) xs) k d ≡ get_or xs (i + 1 + k) d = get_or-drop (i + 1) xs k d in
-    λ same. let less : (get_or xs i d).number < (get_or xs (i + 1 + k) d).number = o i (i + 1 + k) d d (omega arith) (omega (arith, short)) in
-    let is : (get_or xs (i + 1 + k) d).number ≡ n = ap (λ (s : Slot). s.number) (sym at) ∙ same in
-    omega (arith, less, is, e d)
+  all_before : (i : ℕ) (slots : List Slot) (marks : List Mark) → ((k : ℕ) (d : Slot) → k < i → k < length slots → IfSome (shown (node marks k) (get_or slots k d)) P) → All P (shelved (take i slots) (take i marks))
+  all_before zero slots marks h = All-nil P
+  all_before (suc i) [] marks h = All-nil P
+  all_before (suc i) (s ∷ slots) [] h = All-nil P
+  all_before (suc i) (s ∷ slots) (m ∷ marks) h =
+      all_one (shown m s) (shelved (take i slots) (take i marks)) (h 0 s (omega arith) (omega arith)) (all_before i slots marks (λ k d l n. h (suc k) d (omega arith) (omega arith)))
 
-module _ (xs : List Slot) (n i : ℕ) (o : AreOrdered xs) (h : All IsNamed xs) (l : i < length xs) (e : (d : Slot) → (get_or xs i d).number ≡ n) where
-  front : List Shelved
-  front = shelved (take i xs)
+append_option : (o : Option Shelved) (xs ys : List Shelved) → cons_option o (xs ++ ys) ≡ cons_option o xs ++ ys
+append_option None xs ys = refl
+append_option (Some x) xs ys = refl
 
-  back : List Shelved
-  back = shelved (drop (i + 1) xs)
+-- what is shown with another place and mark
+shown_with : (i : ℕ) (slots : List Slot) (marks : List Mark) (y : Slot) (m : Mark) → i < length slots → i < length marks
+    → shelved (set slots i y) (set marks i m) ≡ shelved (take i slots) (take i marks) ++ cons_option (shown m y) (shelved (drop (suc i) slots) (drop (suc i) marks))
+shown_with i [] marks y m l k = absurd (omega arith)
+shown_with i (s ∷ slots) [] y m l k = absurd (omega arith)
+shown_with zero (s ∷ slots) (n ∷ marks) y m l k = refl
+shown_with (suc i) (s ∷ slots) (n ∷ marks) y m l k =
+    ap (cons_option (shown n s)) (shown_with i slots marks y m (omega arith) (omega arith))
+    ∙ append_option (shown n s) (shelved (take i slots) (take i marks)) (cons_option (shown m y) (shelved (drop (suc i) slots) (drop (suc i) marks)))
 
-  none_front : All (λ b. is_numbered n b ≡ false) (shelved (take i xs))
-  none_front = others n (take i xs) (All-take IsNamed i xs h) (before n xs i o l e)
+-- the first place that shows what a test picks
+module _ (picks : Shelved → Bool) (slots : List Slot) (marks : List Mark) (i : ℕ) (x : Slot) (s : Shelved) (l : i < length slots) (k : i < length marks) (read : get_or slots i x ≡ x)
+    (shows : shown (node marks i) x ≡ Some s) (picked : picks s ≡ true)
+    (before : (j : ℕ) (d : Slot) → j < i → j < length slots → IfSome (shown (node marks j) (get_or slots j d)) (λ b. picks b ≡ false)) where
+  abbrev front : List Shelved
+  front = shelved (take i slots) (take i marks)
 
-  none_back : All (λ b. is_numbered n b ≡ false) (shelved (drop (i + 1) xs))
-  none_back = others n (drop (i + 1) xs) (All-drop IsNamed (i + 1) xs h) (behind n xs i o l e)
+  abbrev back : List Shelved
+  back = shelved (drop (suc i) slots) (drop (suc i) marks)
 
-  here : (d : Slot) → IfSome (shown (get_or xs i d)) (λ b. is_numbered n b ≡ true)
-  here d = let s : Slot = get_or xs i d in same_by n s.number s.mark s.message (h i d l).number (e d)
+  none : All (λ b. picks b ≡ false) (shelved (take i slots) (take i marks))
+  none = all_before (λ b. picks b ≡ false) i slots marks before
 
-  found_at : (d : Slot) → find (is_numbered n) (shelved xs) ≡ shown (get_or xs i d)
-  found_at d =
-      ap (find (is_numbered n)) (shown_at shown xs i d l)
-      ∙ find_between (is_numbered n) (shelved (take i xs)) (shelved (drop (i + 1) xs)) (shown (get_or xs i d)) none_front none_back (here d)
+  whole : shelved slots marks ≡ shelved (take i slots) (take i marks) ++ s ∷ shelved (drop (suc i) slots) (drop (suc i) marks)
+  whole =
+      (λ j. shelved (sym (ap (set slots i) (sym read) ∙ set-get_or slots i x) j) (sym (set-get_or marks i no_mark) j))
+      ∙ shown_with i slots marks x (node marks i) l k
+      ∙ ap (λ o. front ++ cons_option o back) shows
 
-  rest_at : (d : Slot) → without (is_numbered n) (shelved xs) ≡ shelved (take i xs) ++ shelved (drop (i + 1) xs)
-  rest_at d =
-      ap (without (is_numbered n)) (shown_at shown xs i d l)
-      ∙ without_between (is_numbered n) (shelved (take i xs)) (shelved (drop (i + 1) xs)) (shown (get_or xs i d)) none_front none_back (here d)
+  pub find_first : find picks (shelved slots marks) ≡ Some s
+  find_first = ap (find picks) whole ∙ skip_find picks front (s ∷ back) none ∙ ap (λ b. cond b (Some s) (find picks back)) picked
 
-  change_at : (f : Shelved → Shelved) (d : Slot) → changed (is_numbered n) f (shelved xs) ≡ shelved (take i xs) ++ cons_option (option_map f (shown (get_or xs i d))) (shelved (drop (i + 1) xs))
-  change_at f d =
-      ap (changed (is_numbered n) f) (shown_at shown xs i d l)
-      ∙ changed_between (is_numbered n) f (shelved (take i xs)) (shelved (drop (i + 1) xs)) (shown (get_or xs i d)) none_front none_back (here d)
+  pub rest_first : (y : Slot) (m : Mark) → y.message ≡ None → shelved (set slots i y) (set marks i m) ≡ without picks (shelved slots marks)
+  rest_first y m e =
+      shown_with i slots marks y m l k
+      ∙ ap (λ (o : Option Message). front ++ cons_option (option_map (λ n. let t : Shelved = record { message = n; mark = m } in t) o) back) e
+      ∙ sym (ap (without picks) whole ∙ skip_without picks front (s ∷ back) none ∙ ap (λ b. front ++ (if b then back else s ∷ without picks back)) picked)
 
-  pub on : ((d : Slot) → IsSome (get_or xs i d).message) → IsOn xs n i
-  on t =
-      record {
-        within = l;
-        number = e;
-        there = t;
-        found = found_at;
-        rest = λ y k. shown_set shown xs i y l ∙ ap (λ (v : Option Shelved). shelved (take i xs) ++ cons_option v (shelved (drop (i + 1) xs))) k ∙ sym (rest_at y);
-        change = λ f y d k. shown_set shown xs i y l ∙ ap (λ (v : Option Shelved). shelved (take i xs) ++ cons_option v (shelved (drop (i + 1) xs))) k ∙ sym (change_at f d);
-      }
+  pub change_first : (f : Shelved → Shelved) (y : Slot) (m : Mark) → shown m y ≡ Some (f s) → shelved (set slots i y) (set marks i m) ≡ changed picks f (shelved slots marks)
+  change_first f y m e =
+      shown_with i slots marks y m l k
+      ∙ ap (λ o. front ++ cons_option o back) e
+      ∙ sym (ap (changed picks f) whole ∙ skip_changed picks f front (s ∷ back) none ∙ ap (λ b. front ++ (if b then f s ∷ back else s ∷ changed picks f back)) picked)
 
--- no place has the number
-pub off : (xs : List Slot) (n : ℕ) → All IsNamed xs → All (λ s. IfSome s.message (λ _. s.number ≢ n)) xs → IsOff xs n
-off xs n h k =
-    let none : All (λ b. is_numbered n b ≡ false) (shelved xs) =
-    all_shown shown (λ b. is_numbered n b ≡ false) xs (λ i d l. let s : Slot = get_or xs i d in off_by n s.number s.mark s.message (h i d l).number (k i d l)) in
-    record {
-      found = none_find (is_numbered n) (shelved xs) none;
-      rest = none_without (is_numbered n) (shelved xs) none;
-      change = λ f. none_changed (is_numbered n) f (shelved xs) none;
-    }
-  where
-    off_by : (m k : ℕ) (mark : Mark) (o : Option Message) → IfSome o (λ m. m.number ≡ k) → IfSome o (λ _. k ≢ m) → IfSome (option_map (λ m. let s : Shelved = record { message = m; mark = mark } in s) o) (λ b. is_numbered m b ≡ false)
-    off_by m k mark None a b = tt
-    off_by m k mark (Some x) a b = other_by m k mark (Some x) a b
+-- a message that stands in a place, but not in one of this number
+other_by : (n k : ℕ) (mark : Mark) (o : Option Message) → IfSome o (λ m. m.number ≡ k) → (k ≡ n → o ≡ None) → IfSome (option_map (λ m. let s : Shelved = record { message = m; mark = mark } in s) o) (λ s. is_numbered n s ≡ false)
+other_by n k mark None h e = tt
+other_by n k mark (Some m) h e = let other : m.number ≢ n = λ same. let none : Some m ≡ None = e (sym h ∙ same) in cc in grind (arith, nat_tests, other)
 
--- a place that is written to, and its mark
-pub shelf_set : (slots : List Slot) (marks : List Mark) (next i : ℕ) (y : Slot) → AreShelf slots marks next → i < length slots → ((d : Slot) → y.number ≡ (get_or slots i d).number) → IsNamed y → AreShelf (set slots i y) (set marks i y.mark) next
-shelf_set slots marks next i y h l e named =
-    record {
-      ordered = λ j k d c a b.
-          let long : length (set slots i y) ≡ length slots = length-set slots i y in
-          let less : (get_or slots j d).number < (get_or slots k c).number = h.ordered j k d c a (omega (arith, long)) in
-          omega (arith, less, same j d (omega (arith, long)), same k c (omega (arith, long)));
-      named = All-set IsNamed slots i y named h.named;
-      below = All-set (λ (s : Slot). s.number < next) slots i y (omega (arith, e y, h.below i y l)) h.below;
-      marked = λ j.
-          elim (cases_eq j i) [
-            | inl s ↦ rw s (get_or-set_same marks i y.mark no_mark (omega (arith, h.room)) ∙ sym (ap (λ (ms : List Mark). node ms i) (map-set mark_of slots i y) ∙ get_or-set_same (map mark_of slots) i y.mark no_mark (omega (arith, length-map slots mark_of))))
-            | inr n ↦
-                get_or-set_other marks i j y.mark no_mark n ∙ h.marked j ∙ sym (ap (λ (ms : List Mark). node ms j) (map-set mark_of slots i y) ∙ get_or-set_other (map mark_of slots) i j y.mark no_mark n)
-          ];
-      room = omega (arith, length-set slots i y, length-set marks i y.mark, h.room);
-    }
-  where
-    same : (j : ℕ) (d : Slot) → j < length slots → (get_or (set slots i y) j d).number ≡ (get_or slots j d).number
-    same j d m =
-        elim (cases_eq j i) [
-          | inl s ↦ rw s (ap (λ (x : Slot). x.number) (get_or-set_same slots i y d l) ∙ e d)
-          | inr n ↦ ap (λ (x : Slot). x.number) (get_or-set_other slots i j y d n)
-        ]
+pub some_in : (o : Option Message) → IsSome o → (m : Message) × (o ≡ Some m)
+some_in None h = cc
+some_in (Some m) h = (m, refl)
 
-if_other : (n k : ℕ) (o : Option Message) → k ≢ n → IfSome o (λ _. k ≢ n)
-if_other n k None h = tt
-if_other n k (Some m) h = h
+named_some : (o : Option Message) (m : Message) (k : ℕ) → o ≡ Some m → IfSome o (λ m. m.number ≡ k) → m.number ≡ k
+named_some None m k e h = cc
+named_some (Some o) m k e h = let same : o ≡ m = cc in ap (λ (m : Message). m.number) (sym same) ∙ h
 
-if_empty : (n k : ℕ) (o : Option Message) → o ≡ None → IfSome o (λ _. k ≢ n)
-if_empty n k None e = tt
-if_empty n k (Some m) e = cc
+-- places with another in place of one of them, of the same number
+ascends_set : (low i : ℕ) (slots : List Slot) (y : Slot) → ((d : Slot) → i < length slots → y.number ≡ (get_or slots i d).number) → Ascends (λ s. s.number) low slots → Ascends (λ s. s.number) low (set slots i y)
+ascends_set low i [] y e h = h
+ascends_set low zero (s ∷ slots) y e h = let same : y.number ≡ s.number = e s (omega arith) in (omega (arith, same, h.0), subst (λ k. Ascends (λ (t : Slot). t.number) (k + 1) slots) (sym same) h.1)
+ascends_set low (suc i) (s ∷ slots) y e h = (h.0, ascends_set (s.number + 1) i slots y (λ d l. e d (omega arith)) h.1)
+
+-- the message of a number, which stands in a place
+module _ {list : Marked Slot} {next n i : ℕ} {x : Slot} {slots : List Slot} (h : AreShelf list next) (on : IsOn slots n i) (told : slots ≡ list.values) (read : x ≡ get_or list.values i x) where
+  at : IsOn list.values n i
+  at = subst (λ (xs : List Slot). IsOn xs n i) told on
+
+  there : (m : Message) × (x.message ≡ Some m)
+  there = some_in x.message (subst (λ (s : Slot). IsSome s.message) (sym read) (at.there x))
+
+  abbrev here : Shelved
+  here = record { message = there.0; mark = node list.marks i }
+
+  shows : shown (node list.marks i) x ≡ Some here
+  shows = ap (option_map (λ m. let s : Shelved = record { message = m; mark = node list.marks i } in s)) there.1
+
+  named : IsNamed x (node list.marks i)
+  named = subst (λ (s : Slot). IsNamed s (node list.marks i)) (sym read) (zip_at IsNamed list.values list.marks i x no_mark h.named at.within)
+
+  marked : i < length list.marks
+  marked = omega (arith, at.within, AllZip-long IsNamed list.values list.marks h.named)
+
+  picked : is_numbered n here ≡ true
+  picked =
+      let k : here.message.number ≡ x.number = named_some x.message here.message x.number there.1 named.number in
+      let e : x.number ≡ n = ap (λ (s : Slot). s.number) read ∙ at.number x in
+      grind (arith, nat_tests, k, e)
+
+  before : (j : ℕ) (d : Slot) → j < i → j < length list.values → IfSome (shown (node list.marks j) (get_or list.values j d)) (λ b. is_numbered n b ≡ false)
+  before j d l u =
+      let s : Slot = get_or list.values j d in
+      let other : s.number ≢ n = at.first j d l in
+      other_by n s.number (node list.marks j) s.message (zip_at IsNamed list.values list.marks j d no_mark h.named u).number (λ e. absurd (other e))
+
+  pub found : find (is_numbered n) (shelved list.values list.marks) ≡ shown (node list.marks i) x
+  found = find_first (is_numbered n) list.values list.marks i x here at.within marked (sym read) shows picked before ∙ sym shows
+
+  -- and another in place of it
+  module _ {news : Marked Slot} {y : Slot} (m : Mark) (same : y.number ≡ x.number) (is : news ≡ record list { values = set list.values i y; marks = set list.marks i m }) where
+    set_shelf : IsNamed y m → AreShelf news next
+    set_shelf whole =
+        let number : (d : Slot) → i < length list.values → y.number ≡ (get_or list.values i d).number = λ d l. same ∙ ap (λ (s : Slot). s.number) read ∙ at.number x ∙ sym (at.number d) in
+        subst (λ (l : Marked Slot). AreShelf l next) (sym is)
+        (record {
+          ordered = ascends_set 0 i list.values y number h.ordered;
+          named = zip_set IsNamed list.values list.marks i y m h.named whole;
+          below = All-set (λ (s : Slot). s.number < next) list.values i y (omega (arith, number y at.within, h.below i y at.within)) h.below;
+        })
+
+    pub removed_shelf : y.message ≡ None → m ≡ no_mark → AreShelf news next
+    removed_shelf e k = set_shelf (record { number = rw e tt; empty = λ _. k })
+
+    pub removed_items : y.message ≡ None → shelved news.values news.marks ≡ without (is_numbered n) (shelved list.values list.marks)
+    removed_items e = (λ j. shelved (is j).values (is j).marks) ∙ rest_first (is_numbered n) list.values list.marks i x here at.within marked (sym read) shows picked before y m e
+
+    some : (g : Message → Message) → y.message ≡ option_map g x.message → y.message ≡ Some (g there.0)
+    some g e = e ∙ ap (option_map g) there.1
+
+    pub changed_shelf : (g : Message → Message) → ((o : Message) → (g o).number ≡ o.number) → y.message ≡ option_map g x.message → AreShelf news next
+    changed_shelf g kept e =
+        set_shelf (record {
+          number = rw (some g e) (kept there.0 ∙ named_some x.message there.0 x.number there.1 named.number ∙ sym same);
+          empty = λ none. let no : Some (g there.0) ≡ None = sym (some g e) ∙ none in cc;
+        })
+
+    pub changed_items : (g : Message → Message) (f : Shelved → Shelved) → ((o : Message) → f (record { message = o; mark = node list.marks i }) ≡ record { message = g o; mark = m }) → y.message ≡ option_map g x.message
+        → shelved news.values news.marks ≡ changed (is_numbered n) f (shelved list.values list.marks)
+    changed_items g f alike e =
+        (λ j. shelved (is j).values (is j).marks)
+        ∙ change_first (is_numbered n) list.values list.marks i x here at.within marked (sym read) shows picked before f y m
+        (ap (option_map (λ o. let s : Shelved = record { message = o; mark = m } in s)) (some g e) ∙ ap Some (sym (alike there.0)))
+
+same_message : (o : Option Message) → o ≡ option_map (λ m. m) o
+same_message None = refl
+same_message (Some o) = refl
+
+-- the message of a number, with other hosts in its mark
+module _ {list news : Marked Slot} {next n i : ℕ} {slots : List Slot} (m : Mark) (h : AreShelf list next) (on : IsOn slots n i) (told : slots ≡ list.values) (is : news ≡ record list { marks = set list.marks i m }) where
+  abbrev nothing : Slot
+  nothing = record { number = 0; message = None }
+
+  read : get_or list.values i nothing ≡ get_or list.values i (get_or list.values i nothing)
+  read = get_or_default list.values i nothing (get_or list.values i nothing) (subst (λ (xs : List Slot). i < length xs) told on.within)
+
+  put : news ≡ record list { values = set list.values i (get_or list.values i nothing); marks = set list.marks i m }
+  put = is ∙ ap (λ (xs : List Slot). let l : Marked Slot = record list { values = xs; marks = set list.marks i m } in l) (sym (set-get_or list.values i nothing))
+
+  pub marked_shelf : AreShelf news next
+  marked_shelf = changed_shelf h on told read m refl put (λ o. o) (λ o. refl) (same_message (get_or list.values i nothing).message)
+
+  pub marked_items : (hosts : ℕ) → m ≡ record { due = (node list.marks i).due; hosts = hosts } → shelved news.values news.marks ≡ changed (is_numbered n) (with_hosts hosts) (shelved list.values list.marks)
+  marked_items hosts e =
+      changed_items h on told read m refl put (λ o. o) (with_hosts hosts) (λ o. ap (λ (k : Mark). let s : Shelved = record { message = o; mark = k } in s) (sym e)) (same_message (get_or list.values i nothing).message)
+
+-- numbers that go up, place by place
+above : (low : ℕ) (slots : List Slot) → Ascends (λ s. s.number) low slots → All (λ s. low ≤ s.number) slots
+above low [] h = All-nil (λ (x : Slot). low ≤ x.number)
+above low (s ∷ slots) h =
+    All-cons (λ (x : Slot). low ≤ x.number) s slots h.0 (All-weaker (λ (x : Slot). s.number + 1 ≤ x.number) (λ (x : Slot). low ≤ x.number) (λ x l. omega (arith, h.0)) slots (above (s.number + 1) slots h.1))
+
+pub rises : (low : ℕ) (slots : List Slot) → Ascends (λ s. s.number) low slots → (i j : ℕ) (d e : Slot) → i < j → j < length slots → (get_or slots i d).number < (get_or slots j e).number
+rises low [] h i j d e a b = absurd (omega arith)
+rises low (s ∷ slots) h zero zero d e a b = absurd (omega arith)
+rises low (s ∷ slots) h (suc i) zero d e a b = absurd (omega arith)
+rises low (s ∷ slots) h zero (suc j) d e a b = let l : s.number + 1 ≤ (get_or slots j e).number = above (s.number + 1) slots h.1 j e (omega arith) in omega (arith, l)
+rises low (s ∷ slots) h (suc i) (suc j) d e a b = rises (s.number + 1) slots h.1 i j d e (omega arith) (omega arith)
 
 -- what the first place from a number on tells
 pub record IsFrom (slots : List Slot) (n p : ℕ) : Type 0 where
@@ -143,138 +231,43 @@ pub record IsFrom (slots : List Slot) (n p : ℕ) : Type 0 where
   pub below : (k : ℕ) (d : Slot) → k < p → (get_or slots k d).number < n
   pub above : (k : ℕ) (d : Slot) → p ≤ k → k < length slots → n ≤ (get_or slots k d).number
 
-pub off_past : (slots : List Slot) (n p : ℕ) → All IsNamed slots → IsFrom slots n p → length slots ≤ p → IsOff slots n
-off_past slots n p h f l = off slots n h (λ k d m. if_other n (get_or slots k d).number (get_or slots k d).message (λ e. omega (arith, e, f.below k d (omega arith))))
-
-pub off_other : (slots : List Slot) (n p : ℕ) (s : Slot) → AreOrdered slots → All IsNamed slots → IsFrom slots n p → p < length slots → s ≡ get_or slots p s → s.number ≢ n → IsOff slots n
-off_other slots n p s o h f l at other =
-    off slots n h (λ k d m. if_other n (get_or slots k d).number (get_or slots k d).message (λ e. other (by k d m e)))
-  where
-    by : (k : ℕ) (d : Slot) → k < length slots → (get_or slots k d).number ≡ n → s.number ≡ n
-    by k d m e =
-        let there : s.number ≡ (get_or slots p s).number = ap (λ (x : Slot). x.number) at in
-        let from : n ≤ (get_or slots p s).number = f.above p s (omega arith) l in
-        elim (cases_eq k p) [
-          | inl is ↦ there ∙ ap (λ (x : Slot). x.number) (get_or_default slots p s d l) ∙ ap (λ j. (get_or slots j d).number) (sym is) ∙ e
-          | inr n ↦
-              elim (cases_lt k p) [
-                | inl low ↦ absurd (omega (arith, e, f.below k d low))
-                | inr high ↦ let less : (get_or slots p s).number < (get_or slots k d).number = o p k s d (omega arith) m in absurd (omega (arith, less, e, from))
-              ]
-        ]
-
-pub off_empty : (slots : List Slot) (n p : ℕ) (s : Slot) → AreOrdered slots → All IsNamed slots → IsFrom slots n p → p < length slots → s ≡ get_or slots p s → s.message ≡ None → IsOff slots n
-off_empty slots n p s o h f l at empty = off slots n h (λ k d m. by k d m)
-  where
-    by : (k : ℕ) (d : Slot) → k < length slots → IfSome (get_or slots k d).message (λ _. (get_or slots k d).number ≢ n)
-    by k d m =
-        let from : n ≤ (get_or slots p s).number = f.above p s (omega arith) l in
-        elim (cases_eq k p) [
-          | inl is ↦ if_empty n (get_or slots k d).number (get_or slots k d).message (ap (λ j. (get_or slots j d).message) is ∙ ap (λ (x : Slot). x.message) (get_or_default slots p d s l ∙ sym at) ∙ empty)
-          | inr other ↦
-              if_other n (get_or slots k d).number (get_or slots k d).message
-              (λ e. elim (cases_lt k p) [
-                | inl low ↦ omega (arith, e, f.below k d low)
-                | inr high ↦ let less : (get_or slots p s).number < (get_or slots k d).number = o p k s d (omega arith) m in omega (arith, less, e, from)
-              ])
-        ]
-
-is_some_by : (o : Option Message) → is_some o ≡ true → IsSome o
-is_some_by None e = cc
-is_some_by (Some m) e = e
-
-pub on_place : (slots : List Slot) (n p : ℕ) (s : Slot) → AreOrdered slots → All IsNamed slots → p < length slots → s ≡ get_or slots p s → s.number ≡ n → is_some s.message ≡ true → IsOn slots n p
-on_place slots n p s o h l at e t =
-    let same : (d : Slot) → get_or slots p d ≡ s = λ d. get_or_default slots p d s l ∙ sym at in
-    on slots n p o h l (λ d. ap (λ (x : Slot). x.number) (same d) ∙ e) (λ d. is_some_by (get_or slots p d).message (ap (λ (x : Slot). is_some x.message) (same d) ∙ t))
-
--- a message that is restated is named as before
-restated_named : (state : State) (k : ℕ) (o : Option Message) → IfSome o (λ m. m.number ≡ k) → IfSome (option_map (restated state) o) (λ m. m.number ≡ k)
-restated_named state k None h = tt
-restated_named state k (Some m) h = h
-
-restated_some : (state : State) (o : Option Message) (mark : Mark) → IsSome o → option_map (restated state) o ≡ None → mark ≡ no_mark
-restated_some state None mark h e = cc
-restated_some state (Some m) mark h e = cc
-
-restated_shown : (state : State) (old new : Mark) (o : Option Message)
-    → option_map (λ m. let s : Shelved = record { message = m; mark = new } in s) (option_map (restated state) o)
-    ≡ option_map (λ (s : Shelved). let t : Shelved = record { message = restated state s.message; mark = new } in t) (option_map (λ m. let s : Shelved = record { message = m; mark = old } in s) o)
-restated_shown state old new None = refl
-restated_shown state old new (Some m) = refl
-
-empty_named : (o : Option Message) (k : ℕ) → o ≡ None → IfSome o (λ m. m.number ≡ k)
-empty_named None k e = tt
-empty_named (Some m) k e = cc
-
--- a place with another state of its message
-pub record IsWritten (x y : Slot) (state : State) (mark : Mark) : Type 0 where
-  pub of_number : y.number ≡ x.number
-  pub of_mark : y.mark ≡ mark
-  pub of_message : y.message ≡ option_map (restated state) x.message
-
-written_named : (x y : Slot) (state : State) (mark : Mark) → IsWritten x y state mark → IsSome x.message → IsNamed x → IsNamed y
-written_named x y state mark w t h =
+-- a place that has the number is the first
+pub from_place : (slots : List Slot) (n p : ℕ) → AreOrdered slots → p < length slots → ((d : Slot) → (get_or slots p d).number ≡ n) → IsFrom slots n p
+from_place slots n p o l e =
     record {
-      number =
-          let k : IfSome (option_map (restated state) x.message) (λ m. m.number ≡ x.number) = restated_named state x.number x.message h.number in
-          rw (w.of_message, w.of_number) k;
-      empty = λ e. restated_some state x.message y.mark t (sym w.of_message ∙ e);
+      bound = omega arith;
+      below = λ k d b. let less : (get_or slots k d).number < (get_or slots p d).number = rises 0 slots o k p d d b l in omega (arith, less, e d);
+      above = λ k d b u.
+          elim (cases_eq k p) [
+            | inl is ↦ rw is (omega (arith, e d))
+            | inr other ↦ let more : (get_or slots p d).number < (get_or slots k d).number = rises 0 slots o p k d d (omega arith) u in omega (arith, more, e d)
+          ];
     }
 
-written_shown : (x y : Slot) (state : State) (mark : Mark) → IsWritten x y state mark → shown y ≡ option_map (λ (s : Shelved). let t : Shelved = record { message = restated state s.message; mark = mark } in t) (shown x)
-written_shown x y state mark w = (λ j. option_map (λ m. let s : Shelved = record { message = m; mark = w.of_mark j } in s) (w.of_message j)) ∙ restated_shown state x.mark mark x.message
+-- numbers that go up do not fall
+pub rising : (slots : List Slot) → AreOrdered slots → IsNonDecreasingBy (λ s. s.number) slots
+rising slots h i j d l m =
+    elim (cases_eq i j) [
+      | inl e ↦ let same : (get_or slots i d).number ≡ (get_or slots j d).number = ap (λ k. (get_or slots k d).number) e in omega (arith, same)
+      | inr n ↦ let less : (get_or slots i d).number < (get_or slots j d).number = rises 0 slots h i j d d (omega arith) m in omega (arith, less)
+    ]
 
--- a place whose mark tells of other hosts
-abbrev pub marked_with : ℕ → Slot → Slot
-marked_with hosts x = record { number = x.number; mark = record { due = x.mark.due; hosts = hosts }; message = x.message }
+pub off_from : (slots : List Slot) (n p : ℕ) → AreOrdered slots → IsFrom slots n p → ((d : Slot) → p < length slots → (get_or slots p d).number ≡ n → (get_or slots p d).message ≡ None) → IsOff slots n
+off_from slots n p o f here k d l e =
+    elim (cases_eq k p) [
+      | inl is ↦ rw is (here d (omega (arith, is, l)) (ap (λ j. (get_or slots j d).number) (sym is) ∙ e))
+      | inr other ↦
+          elim (cases_lt k p) [
+            | inl low ↦ absurd (omega (arith, e, f.below k d low))
+            | inr high ↦
+                let more : (get_or slots p d).number < (get_or slots k d).number = rises 0 slots o p k d d (omega arith) l in
+                absurd (omega (arith, more, e, f.above p d (omega arith) (omega arith)))
+          ]
+    ]
 
-marked_none : (o : Option Message) (mark : Mark) → IsSome o → o ≡ None → mark ≡ no_mark
-marked_none None mark h e = cc
-marked_none (Some m) mark h e = cc
-
-marked_shown : (hosts : ℕ) (mark : Mark) (o : Option Message)
-    → option_map (λ m. let s : Shelved = record { message = m; mark = record { due = mark.due; hosts = hosts } } in s) o ≡ option_map (with_hosts hosts) (option_map (λ m. let s : Shelved = record { message = m; mark = mark } in s) o)
-marked_shown hosts mark None = refl
-marked_shown hosts mark (Some m) = refl
-
-module _ (slots : List Slot) (marks after : List Mark) (next n i : ℕ) (x y : Slot) (h : AreShelf slots marks next) (at : IsOn slots n i) (read : x ≡ get_or slots i x) where
-  is_read : (d : Slot) → get_or slots i d ≡ x
-  is_read d = get_or_default slots i d x at.within ∙ sym read
-
-  pub put_shelf : (state : State) (mark : Mark) → IsWritten x y state mark → after ≡ set marks i mark → AreShelf (set slots i y) after next
-  put_shelf state mark w put =
-      let there : IsSome x.message = subst (λ (s : Slot). IsSome s.message) (is_read x) (at.there x) in
-      let named : IsNamed x = subst IsNamed (is_read x) (h.named i x at.within) in
-      let whole : AreShelf (set slots i y) (set marks i y.mark) next =
-      shelf_set slots marks next i y h at.within (λ d. w.of_number ∙ ap (λ (s : Slot). s.number) (sym (is_read d))) (written_named x y state mark w there named) in
-      subst (λ (ms : List Mark). AreShelf (set slots i y) ms next) (ap (set marks i) w.of_mark ∙ sym put) whole
-
-  pub put_items : (state : State) (mark : Mark) → IsWritten x y state mark → shelved (set slots i y) ≡ changed (is_numbered n) (λ (s : Shelved). let t : Shelved = record { message = restated state s.message; mark = mark } in t) (shelved slots)
-  put_items state mark w =
-      at.change (λ (s : Shelved). let t : Shelved = record { message = restated state s.message; mark = mark } in t) y x
-      (written_shown x y state mark w ∙ ap (λ (s : Slot). option_map (λ (s : Shelved). let t : Shelved = record { message = restated state s.message; mark = mark } in t) (shown s)) (sym (is_read x)))
-
-  pub remove_shelf : y.number ≡ x.number → y.mark ≡ no_mark → y.message ≡ None → after ≡ set marks i no_mark → AreShelf (set slots i y) after next
-  remove_shelf number mark none put =
-      let named : IsNamed y = record { number = empty_named y.message y.number none; empty = λ _. mark } in
-      let whole : AreShelf (set slots i y) (set marks i y.mark) next = shelf_set slots marks next i y h at.within (λ d. number ∙ ap (λ (s : Slot). s.number) (sym (is_read d))) named in
-      subst (λ (ms : List Mark). AreShelf (set slots i y) ms next) (ap (set marks i) mark ∙ sym put) whole
-
-module _ (slots : List Slot) (marks after : List Mark) (next n i : ℕ) (x : Slot) (h : AreShelf slots marks next) (at : IsOn slots n i) (read : x ≡ get_or slots i x) where
-  pub mark_shelf : (hosts : ℕ) → after ≡ set marks i (marked_with hosts x).mark → AreShelf (set slots i (marked_with hosts x)) after next
-  mark_shelf hosts put =
-      let there : IsSome x.message = subst (λ (s : Slot). IsSome s.message) (sym read) (at.there x) in
-      let named : IsNamed x = subst IsNamed (sym read) (h.named i x at.within) in
-      let named_too : IsNamed (marked_with hosts x) = record { number = named.number; empty = λ e. marked_none x.message (marked_with hosts x).mark there e } in
-      let whole : AreShelf (set slots i (marked_with hosts x)) (set marks i (marked_with hosts x).mark) next =
-      shelf_set slots marks next i (marked_with hosts x) h at.within (λ d. ap (λ (s : Slot). s.number) (read ∙ get_or_default slots i x d at.within)) named_too in
-      subst (λ (ms : List Mark). AreShelf (set slots i (marked_with hosts x)) ms next) (sym put) whole
-
-  pub mark_items : (hosts : ℕ) → shelved (set slots i (marked_with hosts x)) ≡ changed (is_numbered n) (with_hosts hosts) (shelved slots)
-  mark_items hosts =
-      at.change (with_hosts hosts) (marked_with hosts x) x (marked_shown hosts x.mark x.message ∙ ap (λ (s : Slot). option_map (with_hosts hosts) (shown s)) read)
-
-pub none_of : (o : Option Message) → is_some o ≡ false → o ≡ None
-none_of None e = refl
-none_of (Some m) e = cc
+-- on a shelf that has no message of a number in its places none is found
+pub none_numbered : {list : Marked Slot} {next n : ℕ} {slots : List Slot} → AreShelf list next → IsOff slots n → slots ≡ list.values → All (λ b. is_numbered n b ≡ false) (shelved list.values list.marks)
+none_numbered {list = list} {n = n} h off told =
+    all_shelved (λ b. is_numbered n b ≡ false) list.values list.marks
+    (λ k d l. let s : Slot = get_or list.values k d in other_by n s.number (node list.marks k) s.message (zip_at IsNamed list.values list.marks k d no_mark h.named l).number
+    (subst (λ (xs : List Slot). IsOff xs n) told off k d l))

@@ -1,21 +1,21 @@
 -- The messages that are wanted, one after another.
 use Rattle.std.proofs.Common.{◌≡◌, ℕ, zero, suc, ◌+◌, ◌-◌, ◌<◌, ◌≤◌, Bool, true, false, List, [], ◌∷◌, ◌++◌, Option, Some, None, cond, filter, map, take, ◌&&◌, get_or, arith, refl, ap, sym, ◌∙◌, append_assoc, append-nil}
 use Rattle.std.specs.Prelude.{All, IfSome, find, nat_le}
-use Rattle.std.specs.List.{cons_option}
+use Rattle.std.specs.List.{AllZip, cons_option}
 use Rattle.std.specs.Option.{option_map}
 use Rattle.std.proofs.lemmas.Bool.Decides.{nat_tests}
 use Rattle.std.proofs.lemmas.List.Elements.{All-cons, All-head, All-nil, All-tail, All-weaker}
 use Rattle.sim_index.specs.declared.mark.Mark.{Mark}
-use Rattle.sim_index.specs.Marks.{meets}
+use Rattle.sim_index.specs.Marked.{Marked}
+use Rattle.sim_index.specs.Marks.{meets, no_mark, node}
 use Rattle.sqs_message.specs.declared.message.Message.{Message}
 use Rattle.sqs_model.specs.Progress.{Ascends}
 use Rattle.sqs_messages.specs.declared.slot.Slot.{Slot}
 use Rattle.sqs_messages.specs.Shelves.{AreShelf}
-use Rattle.sqs_messages.specs.Slots.{IsNamed, Shelved, number_of, shelved, shown}
-use Rattle.sqs_messages.proofs.Firsts.{all_shown}
+use Rattle.sqs_messages.specs.Slots.{IsNamed, Shelved, number_of, shelved}
 use Rattle.sqs_messages.proofs.Leads.{find_has}
 use Rattle.sqs_messages.proofs.Marked.{wanted}
-use Rattle.sqs_messages.proofs.Pushed.{from_ordered}
+use Rattle.sqs_messages.proofs.Shelves.{all_shelved, zip_at}
 
 lower : (a b : ℕ) (xs : List Shelved) → a ≤ b → Ascends number_of b xs → Ascends number_of a xs
 lower a b [] l h = tt
@@ -30,17 +30,19 @@ shown_ascends : (low : ℕ) (mark : Mark) (n : ℕ) (o : Option Message) (rest :
 shown_ascends low mark n None rest h l r = lower low (n + 1) rest (omega arith) r
 shown_ascends low mark n (Some m) rest h l r = (omega (arith, h), lower (m.number + 1) (n + 1) rest (omega (arith, h)) r)
 
-items_ascend : (low : ℕ) (slots : List Slot) → All IsNamed slots → Ascends (λ s. s.number) low slots → Ascends number_of low (shelved slots)
-items_ascend low [] h a = tt
-items_ascend low (s ∷ ss) h a = shown_ascends low s.mark s.number s.message (shelved ss) (All-head IsNamed s ss h).number a.0 (items_ascend (s.number + 1) ss (All-tail IsNamed s ss h) a.1)
+items_ascend : (low : ℕ) (slots : List Slot) (marks : List Mark) → AllZip IsNamed slots marks → Ascends (λ s. s.number) low slots → Ascends number_of low (shelved slots marks)
+items_ascend low [] marks h a = tt
+items_ascend low (s ∷ slots) [] h a = absurd h
+items_ascend low (s ∷ slots) (m ∷ marks) h a = shown_ascends low m s.number s.message (shelved slots marks) h.0.number a.0 (items_ascend (s.number + 1) slots marks h.1 a.1)
 
-pub shelf_ascends : (slots : List Slot) (marks : List Mark) (next : ℕ) → AreShelf slots marks next → Ascends number_of 0 (shelved slots)
-shelf_ascends slots marks next h = items_ascend 0 slots h.named (from_ordered 0 slots (λ k d l. omega arith) h.ordered)
+pub shelf_ascends : (list : Marked Slot) (next : ℕ) → AreShelf list next → Ascends number_of 0 (shelved list.values list.marks)
+shelf_ascends list next h = items_ascend 0 list.values list.marks h.named h.ordered
 
 -- the numbers on a shelf are below the next
-pub shelf_below : (slots : List Slot) (marks : List Mark) (next : ℕ) → AreShelf slots marks next → All (λ s. number_of s < next) (shelved slots)
-shelf_below slots marks next h =
-    all_shown shown (λ (s : Shelved). number_of s < next) slots (λ k d l. let s : Slot = get_or slots k d in by s.message s.mark s.number (h.named k d l).number (h.below k d l))
+pub shelf_below : (list : Marked Slot) (next : ℕ) → AreShelf list next → All (λ s. number_of s < next) (shelved list.values list.marks)
+shelf_below list next h =
+    all_shelved (λ (s : Shelved). number_of s < next) list.values list.marks
+    (λ k d l. let s : Slot = get_or list.values k d in by s.message (node list.marks k) s.number (zip_at IsNamed list.values list.marks k d no_mark h.named l).number (h.below k d l))
   where
     by : (o : Option Message) (mark : Mark) (n : ℕ) → IfSome o (λ m. m.number ≡ n) → n < next → IfSome (option_map (λ m. let s : Shelved = record { message = m; mark = mark } in s) o) (λ (s : Shelved). number_of s < next)
     by None mark n e l = tt

@@ -2,7 +2,6 @@ pub mod Slots
 pub mod Heads
 pub mod Counted
 pub mod Shelves
-pub mod Room
 pub mod Stored
 pub mod Marked
 pub mod Groups

@@ -1,10 +1,10 @@
 -- The places of a shelf, and what stands in them.
-use Rattle.std.specs.Prelude.{◌≡◌, ◌==◌, ◌&&◌, nat_lt, Bool, IsSome, is_some, find, set, IfSome, List, None, Option, get_or, length, ℕ, ◌<◌}
-use Rattle.std.specs.List.{filter_map}
+use Rattle.std.specs.Prelude.{[], ◌∷◌, ◌≡◌, ◌≢◌, ◌==◌, All, Bool, IsSome, find, IfSome, List, None, Option, get_or, length, ℕ, ◌<◌}
+use Rattle.std.specs.List.{cons_option, filter_map}
 use Rattle.std.specs.Option.{option_map}
-use Rattle.sim_clock.specs.Firsts.{changed, without}
 use Rattle.sim_index.specs.declared.mark.Mark.{Mark}
 use Rattle.sim_index.specs.Marks.{no_mark}
+use Rattle.sqs_model.specs.Progress.{Ascends}
 use Rattle.sqs_message.specs.declared.message.Message.{Message}
 use Rattle.sqs_messages.specs.declared.slot.Slot.{Slot}
 use Rattle.sqs_messages.specs.declared.slot.State.{State}
@@ -14,30 +14,28 @@ pub record Shelved : Type 0 where
   pub message : Message
   pub mark : Mark
 
--- the mark of a place
-abbrev pub mark_of : Slot → Mark
-mark_of s = s.mark
+-- what stands in a place that has this mark
+abbrev pub shown : Mark → Slot → Option Shelved
+shown mark s = option_map (λ m. record { message = m; mark = mark }) s.message
 
--- whether a message stands in a place
-abbrev pub is_living : Slot → Bool
-is_living s = is_some s.message
+-- what stands in places, each with its mark
+abbrev pub shelved : List Slot → List Mark → List Shelved
+shelved [] marks = []
+shelved (s ∷ slots) [] = []
+shelved (s ∷ slots) (mark ∷ marks) = cons_option (shown mark s) (shelved slots marks)
 
--- what stands in a place
-abbrev pub shown : Slot → Option Shelved
-shown s = option_map (λ m. record { message = m; mark = s.mark }) s.message
-
--- what stands in places
-abbrev pub shelved : List Slot → List Shelved
-shelved slots = filter_map shown slots
+-- the messages that stand in places
+abbrev pub standing : List Slot → List Message
+standing slots = filter_map (λ s. s.message) slots
 
 -- places whose numbers go up
 abbrev pub AreOrdered : List Slot → Type 0
-AreOrdered slots = (i j : ℕ) (d e : Slot) → i < j → j < length slots → (get_or slots i d).number < (get_or slots j e).number
+AreOrdered slots = Ascends (λ s. s.number) 0 slots
 
 -- a message stands in the place of its number, and an empty place has no mark
-pub record IsNamed (s : Slot) : Type 0 where
+pub record IsNamed (s : Slot) (mark : Mark) : Type 0 where
   pub number : IfSome s.message (λ m. m.number ≡ s.number)
-  pub empty : s.message ≡ None → s.mark ≡ no_mark
+  pub empty : s.message ≡ None → mark ≡ no_mark
 
 -- a message with another state
 abbrev pub restated : State → Message → Message
@@ -53,20 +51,16 @@ pub record Holding : Type 0 where
 abbrev pub is_numbered : ℕ → Shelved → Bool
 is_numbered n s = s.message.number == n
 
--- no message of a number stands in places
-pub record IsOff (slots : List Slot) (n : ℕ) : Type 0 where
-  pub found : find (is_numbered n) (shelved slots) ≡ None
-  pub rest : without (is_numbered n) (shelved slots) ≡ shelved slots
-  pub change : (f : Shelved → Shelved) → changed (is_numbered n) f (shelved slots) ≡ shelved slots
+-- no message stands in a place of this number
+abbrev pub IsOff : List Slot → ℕ → Type 0
+IsOff slots n = All (λ s. s.number ≡ n → s.message ≡ None) slots
 
--- the message of a number stands in a place
+-- a message stands in the first place of this number
 pub record IsOn (slots : List Slot) (n i : ℕ) : Type 0 where
   pub within : i < length slots
   pub number : (d : Slot) → (get_or slots i d).number ≡ n
   pub there : (d : Slot) → IsSome (get_or slots i d).message
-  pub found : (d : Slot) → find (is_numbered n) (shelved slots) ≡ shown (get_or slots i d)
-  pub rest : (y : Slot) → shown y ≡ None → shelved (set slots i y) ≡ without (is_numbered n) (shelved slots)
-  pub change : (f : Shelved → Shelved) (y d : Slot) → shown y ≡ option_map f (shown (get_or slots i d)) → shelved (set slots i y) ≡ changed (is_numbered n) f (shelved slots)
+  pub first : (k : ℕ) (d : Slot) → k < i → (get_or slots k d).number ≢ n
 
 -- the number of a message with its mark
 abbrev pub number_of : Shelved → ℕ
@@ -83,7 +77,3 @@ message_of items n = option_map (λ s. s.message) (find (is_numbered n) items)
 -- the messages of numbers, of those that are there
 abbrev pub held : List Shelved → List ℕ → List Message
 held items numbers = filter_map (message_of items) numbers
-
--- whether a list of so many places has room for one more, and a tree of so many leaves one for it
-abbrev pub is_ready : ℕ → ℕ → ℕ → Bool
-is_ready places capacity leaves = nat_lt places capacity && nat_lt places leaves

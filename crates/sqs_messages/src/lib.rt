@@ -9,7 +9,6 @@ mod groups;
 mod hosts;
 mod messages;
 mod order;
-mod room;
 mod shelf;
 mod slot;
 mod table;

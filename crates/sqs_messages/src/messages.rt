@@ -1,8 +1,7 @@
 //! A shelf's messages, one after another.
 ghost use Rattle.std.specs.Prelude.{◌≡◌};
 ghost use Rattle.std.specs.Iterator.{YieldsFirstRef, item_count};
-ghost use Rattle.sqs_messages.specs.Heads.{told};
-ghost use Rattle.sqs_messages.specs.Slots.{shelved};
+ghost use Rattle.sqs_messages.specs.Slots.{standing};
 
 use crate::slot::Slot;
 use sqs_message::Message;
@@ -17,17 +16,16 @@ pub struct Messages<'a> {
 impl<'a> Model for Messages<'a> {
     ghost use Rattle.std.specs.Prelude.{List};
     ghost use Rattle.sqs_message.specs.declared.message.Message.{Message};
-    ghost use Rattle.sqs_messages.specs.Heads.{told};
-    ghost use Rattle.sqs_messages.specs.Slots.{shelved};
+    ghost use Rattle.sqs_messages.specs.Slots.{standing};
 
     ghost Value = { List Message };
 
-    ghost view = { λ messages. told (shelved messages.slots.now) };
+    ghost view = { λ messages. standing messages.slots.now };
 }
 
 // The messages that stand in places.
 pub fn messages_in(slots: &[Slot]) -> Messages<'_>
-    ensures { result ≡ told (shelved slots.now) }
+    ensures { result ≡ standing slots.now }
 {
     Messages { slots }
 }

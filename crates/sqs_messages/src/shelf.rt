@@ -10,10 +10,9 @@ ghost use Rattle.sqs_messages.specs.Slots.{is_numbered, number_of, restated, wit
 
 use crate::counts::{Counts, NO_COUNTS, count_in, count_out};
 use crate::messages::{Messages, messages_in};
-use crate::room::make_room;
-use crate::slot::{Slot, State, clear, first_from, place_of, write};
+use crate::slot::{Slot, State, first_from, place_of, write};
 use sim_clock::Key;
-use sim_index::{Mark, Marks, NO_MARK};
+use sim_index::{Mark, MarkedList, NO_MARK};
 use sqs_message::Message;
 use std::alloc::{AllocError, Global};
 use std::marker::Model;
@@ -23,11 +22,9 @@ use std::marker::Model;
 /// with their marks, the number that comes next, and whether there is room for one message more.
 #[derive(Drop)]
 pub struct Shelf {
-    slots: Vec<Slot>,
-    marks: Marks,
+    slots: MarkedList<Slot>,
     counts: Counts,
     next: u64,
-    alloc: Global,
 }
 
 impl Model for Shelf {
@@ -48,11 +45,9 @@ impl Shelf {
         ensures { result ≡ record { items = []; next = next; ready = false } }
     {
         Shelf {
-            slots: Vec::new(alloc),
-            marks: Marks::new(alloc),
+            slots: MarkedList::new(alloc),
             counts: NO_COUNTS,
             next,
-            alloc,
         }
     }
 
@@ -78,15 +73,15 @@ impl Shelf {
     pub fn iter(&self) -> Messages<'_>
         ensures { result ≡ told self.now.items }
     {
-        messages_in(&self.slots)
+        messages_in(self.slots.values())
     }
 
     /// The message of a number.
     pub fn get(&self, number: u64) -> Option<&Message>
         ensures { option_copied result ≡ option_map (λ s. s.message) (find (is_numbered number) self.now.items) }
     {
-        let slot = &self.slots[place_of(&self.slots, number)?];
-        slot.message.as_ref()
+        let slots = self.slots.values();
+        slots[place_of(slots, number)?].message.as_ref()
     }
 
     /// Changes the message of a number, and its mark; nothing where it is not there.
@@ -94,13 +89,13 @@ impl Shelf {
         ensures items { self.new.items ≡ changed (is_numbered number) (λ s. record { message = restated state s.message; mark = mark }) self.old.items }
         ensures next { self.new.next ≡ self.old.next }
     {
-        let Some(place) = place_of(&self.slots, number) else {
+        let Some(place) = place_of(self.slots.values(), number) else {
             return;
         };
-        let Some(was) = write(&mut self.slots[place], state, mark) else {
+        let Some(was) = write(self.slots.value_mut(place), state) else {
             unreachable!();
         };
-        self.marks.put(place, mark);
+        self.slots.set_mark(place, mark);
         count_out(&mut self.counts, was);
         count_in(&mut self.counts, state.place);
     }
@@ -110,13 +105,11 @@ impl Shelf {
         ensures items { self.new.items ≡ changed (is_numbered number) (with_hosts hosts) self.old.items }
         ensures next { self.new.next ≡ self.old.next }
     {
-        let Some(place) = place_of(&self.slots, number) else {
+        let Some(place) = place_of(self.slots.values(), number) else {
             return;
         };
-        let slot = &mut self.slots[place];
-        slot.mark.hosts = hosts;
-        let mark = slot.mark;
-        self.marks.put(place, mark);
+        let due = self.slots.mark_at(place).due;
+        self.slots.set_mark(place, Mark { due, hosts });
     }
 
     /// Takes out the message of a number, if it is there.
@@ -125,11 +118,11 @@ impl Shelf {
         ensures items { self.new.items ≡ without (is_numbered number) self.old.items }
         ensures next { self.new.next ≡ self.old.next }
     {
-        let place = place_of(&self.slots, number)?;
-        let Some(message) = clear(&mut self.slots[place], NO_MARK) else {
+        let place = place_of(self.slots.values(), number)?;
+        let Some(message) = self.slots.value_mut(place).message.take() else {
             unreachable!();
         };
-        self.marks.put(place, NO_MARK);
+        self.slots.set_mark(place, NO_MARK);
         count_out(&mut self.counts, message.place);
         Some(message)
     }
@@ -138,7 +131,7 @@ impl Shelf {
     pub fn least(&self) -> Option<Key>
         ensures { result ≡ least_of (map (λ s. s.mark) self.now.items) }
     {
-        self.marks.least()
+        self.slots.least()
     }
 
     /// The first message of a number from one on whose mark tells of one of these hosts.
@@ -148,17 +141,13 @@ impl Shelf {
         ensures range { self.now.next < 2 ^ 64 }
         ensures ordered { Ascends number_of 0 self.now.items }
     {
-        let place = first_from(&self.slots, from);
-        let Some(place) = self.marks.next(place, hosts) else {
-            return None;
-        };
-        if self.slots.len() <= place {
-            return None;
-        }
-        self.slots[place].message.as_ref()
+        let slots = self.slots.values();
+        let place = self.slots.next(first_from(slots, from), hosts)?;
+        slots[place].message.as_ref()
     }
 
-    /// Makes room for one message more, so that its push succeeds.
+    /// Makes room for one message more, so that its push succeeds: where there is none, the places
+    /// are dropped whose messages left.
     pub fn reserve(&mut self) -> Result<(), AllocError>
         ensures ready { OnOk result (self.new.ready ≡ true) }
         ensures items { self.new.items ≡ self.old.items }
@@ -166,8 +155,10 @@ impl Shelf {
         ensures unchanged { OnErr result (self.new ≡ self.old) }
         ensures succeeds { self.old.ready ≡ true → IsOk result }
     {
-        make_room(self.alloc, &mut self.slots, &mut self.marks)?;
-        Ok(())
+        if self.slots.is_ready() {
+            return Ok(());
+        }
+        self.slots.retain(|slot| slot.message.is_some())
     }
 
     /// One more message, with the next number. Succeeds where there is room.
@@ -179,16 +170,14 @@ impl Shelf {
         ensures unchanged { OnErr result (self.new ≡ self.old) }
         ensures succeeds { self.old.ready ≡ true → IsOk result }
     {
-        make_room(self.alloc, &mut self.slots, &mut self.marks)?;
-        let place = self.slots.len();
-        let number = self.next;
-        count_in(&mut self.counts, message.place);
-        self.slots.push_reserved(Slot {
-            number,
-            mark,
+        self.reserve()?;
+        let place = message.place;
+        let slot = Slot {
+            number: self.next,
             message: Some(message),
-        });
-        self.marks.put(place, mark);
+        };
+        self.slots.push(slot, mark)?;
+        count_in(&mut self.counts, place);
         self.next += 1;
         Ok(())
     }

@@ -1,10 +1,9 @@
 use Rattle.std.proofs.Common.{◌≡◌, length}
-use Rattle.sqs_messages.specs.Heads.{told}
-use Rattle.sqs_messages.specs.Slots.{shelved}
+use Rattle.sqs_messages.specs.Slots.{standing}
 use Rattle.sqs_messages.proofs.messages.MessagesIterator.next.Given as goal
 
 abbrev pub invariant-loop-slot : goal.invariant-loop-slot
-invariant-loop-slot l = told (shelved l.self-inside.slots.now) ≡ l.fn.self
+invariant-loop-slot l = standing l.self-inside.slots.now ≡ l.fn.self
 
 abbrev pub decreases-loop-slot : goal.decreases-loop-slot
 decreases-loop-slot l = length l.self-inside.slots.now

@@ -1,30 +1,57 @@
-use Rattle.std.proofs.Common.{List, ap, subst, sym, ◌∙◌}
+use Rattle.std.proofs.Common.{ap, refl, sym, ◌∙◌}
+use Rattle.std.specs.Prelude.{find}
 use Rattle.std.specs.Option.{option_map}
+use Rattle.sim_clock.specs.Firsts.{without}
+use Rattle.sim_index.specs.Marks.{node, no_mark}
 use Rattle.sqs_message.specs.declared.message.Message.{Message}
-use Rattle.sqs_messages.specs.declared.slot.Slot.{Slot}
 use Rattle.sqs_messages.specs.Counted.{counts_of}
 use Rattle.sqs_messages.specs.Heads.{told}
-use Rattle.sqs_messages.specs.Slots.{IsOn, Shelved}
+use Rattle.sqs_messages.specs.Slots.{Holding, Shelved, is_numbered, shelved}
 use Rattle.sqs_messages.proofs.Counting.{out_is, some_out}
-use Rattle.sqs_messages.proofs.Shelves.{remove_shelf}
+use Rattle.sqs_messages.proofs.Firsts.{none_find, none_without}
+use Rattle.sqs_messages.proofs.Marked.{shown_message}
+use Rattle.sqs_messages.proofs.Shelves.{found, none_numbered, removed_items, removed_shelf}
 use Rattle.sqs_messages.proofs.shelf.Shelf.remove.Goals as goal
+
+pub returns-in_err-place-clause-found : goal.returns-in_err-place-clause-found
+returns-in_err-place-clause-found c =
+    let list = c.self.inside.slots in
+    let none = none_find (is_numbered c.args.number) (shelved list.values list.marks) (none_numbered c.self.invariant.places c.in_err-place.ensures c.values.ensures.values) in
+    c.from_residual.ensures ∙ ap (option_map (λ (s : Shelved). s.message)) (sym none ∙ ap (λ (h : Holding). find (is_numbered c.args.number) h.items) c.self.view_is)
+
+pub returns-in_err-place-clause-items : goal.returns-in_err-place-clause-items
+returns-in_err-place-clause-items c =
+    let list = c.self.inside.slots in
+    let same = none_without (is_numbered c.args.number) (shelved list.values list.marks) (none_numbered c.self.invariant.places c.in_err-place.ensures c.values.ensures.values) in
+    ap (λ (h : Holding). h.items) (sym c.self.view_is) ∙ sym same ∙ ap (λ (h : Holding). without (is_numbered c.args.number) h.items) c.self.view_is
 
 pub count_out-requires : goal.count_out-requires
 count_out-requires c =
-    let on : IsOn c.self.inside.slots.items c.args.number c.in_ok-place.place = subst (λ (slots : List Slot). IsOn slots c.args.number c.in_ok-place.place) c.deref.ensures.value c.in_ok-place.ensures in
-    some_out c.self.inside.slots.items c.args.number c.in_ok-place.place c.index_mut.result.now on c.index_mut.ensures.value c.in-Some.message.place
-    (ap (option_map (λ (m : Message). m.place)) (sym c.in-Some.is ∙ c.clear.ensures.found)) c.self.inside.counts c.self.inside.counts c.self.invariant.counted
+    some_out c.self.invariant.places c.in_ok-place.ensures c.values.ensures.values c.value_mut.ensures.value (ap (option_map (λ (m : Message). m.place)) (sym c.in-Some.is ∙ c.take.ensures.value)) c.self.invariant.counted
 
 pub invariant_of-self : goal.invariant_of-self
 invariant_of-self c =
-    let on : IsOn c.self.inside.slots.items c.args.number c.in_ok-place.place = subst (λ (slots : List Slot). IsOn slots c.args.number c.in_ok-place.place) c.deref.ensures.value c.in_ok-place.ensures in
+    let h = c.self.invariant.places in
+    let items = removed_items h c.in_ok-place.ensures c.values.ensures.values c.value_mut.ensures.value no_mark refl c.set_mark.ensures c.take.ensures.after in
     record {
       in_range = c.self.invariant.in_range;
-      places =
-          remove_shelf c.self.inside.slots.items c.self.inside.marks c.put.new.self c.self.inside.next c.args.number c.in_ok-place.place c.index_mut.result.now c.clear.new.slot c.self.invariant.places on
-          c.index_mut.ensures.value c.clear.ensures.number c.clear.ensures.mark c.clear.ensures.message c.put.ensures;
+      places = removed_shelf h c.in_ok-place.ensures c.values.ensures.values c.value_mut.ensures.value no_mark refl c.set_mark.ensures c.take.ensures.after refl;
       counted =
-          out_is c.self.inside.slots.items c.args.number c.in_ok-place.place c.index_mut.result.now on c.index_mut.ensures.value c.in-Some.message.place
-          (ap (option_map (λ (m : Message). m.place)) (sym c.in-Some.is ∙ c.clear.ensures.found)) c.self.inside.counts c.count_out.new.counts c.self.invariant.counted c.count_out.ensures
-          ∙ ap (λ items. counts_of (told items)) (sym (on.rest c.clear.new.slot (ap (option_map (λ (m : Message). let s : Shelved = record { message = m; mark = c.clear.new.slot.mark } in s)) c.clear.ensures.message)));
+          out_is h c.in_ok-place.ensures c.values.ensures.values c.value_mut.ensures.value (ap (option_map (λ (m : Message). m.place)) (sym c.in-Some.is ∙ c.take.ensures.value)) c.self.invariant.counted
+          c.count_out.new.counts c.count_out.ensures
+          ∙ ap (λ items. counts_of (told items)) (sym items);
     }
+
+pub returns-clause-found : goal.returns-clause-found
+returns-clause-found c =
+    let list = c.self.inside.slots in
+    sym c.in-Some.is
+    ∙ c.take.ensures.value
+    ∙ shown_message c.value_mut.result.now.message (node list.marks c.in_ok-place.place)
+    ∙ ap (option_map (λ (s : Shelved). s.message))
+    (sym (found c.self.invariant.places c.in_ok-place.ensures c.values.ensures.values c.value_mut.ensures.value) ∙ ap (λ (h : Holding). find (is_numbered c.args.number) h.items) c.self.view_is)
+
+pub returns-clause-items : goal.returns-clause-items
+returns-clause-items c =
+    removed_items c.self.invariant.places c.in_ok-place.ensures c.values.ensures.values c.value_mut.ensures.value no_mark refl c.set_mark.ensures c.take.ensures.after
+    ∙ ap (λ (h : Holding). without (is_numbered c.args.number) h.items) c.self.view_is
