@@ -20,6 +20,7 @@ pub mod InRange
 pub mod LowestWays
 pub mod WayRanges
 pub mod AskedNames
+pub mod Drafted
 pub mod Links
 pub mod ItemsRead
 pub mod KinRead

@@ -1,17 +1,13 @@
 -- The walk over a whole text is what the text says.
-use Rattle.std.proofs.Common.{codes, ◌≡◌, ◌∙◌, ℕ, ◌==◌, ◌||◌, ◌<◌, ◌≤◌, ◌+◌, length, Bool, true, false, List, [], Some, None, Result, Ok, Err, refl, ap, sym, arith}
-use Rattle.std.specs.Str.{is_utf8, IsUtf8}
-use Rattle.std.proofs.lemmas.Str.{IsUtf8-from_is_utf8}
+use Rattle.std.proofs.Common.{codes, ◌≡◌, ◌∙◌, ℕ, ◌==◌, ◌||◌, ◌≤◌, ◌+◌, length, Bool, true, false, [], Result, Ok, Err, refl, ap, sym, arith}
 use Rattle.std.proofs.lemmas.Bool.Decides.{nat_tests}
 use Rattle.toml.specs.Data.{Members}
-use Rattle.toml.specs.Parse.{parse_document}
-use Rattle.sim_clock.specs.declared.refusal.Refusal.TheVariants.{NotToml, TooMany}
 use Rattle.sqs_formats.specs.declared.faults.ScenarioFault.{ScenarioFault}
 use Rattle.sqs_formats.specs.Reading.{answer}
-use Rattle.sqs_formats.specs.Keys.{Table, fault_at}
+use Rattle.sqs_formats.specs.Keys.{Table}
 use Rattle.sqs_formats.specs.Outline.{Outline, outline_of}
 use Rattle.sqs_formats.specs.Actors.{Files}
-use Rattle.sqs_formats.specs.Scenario.{Top, agents, by_version, document, document_when, document_reads, is_small, scenario_in, scenario_of, scenario_when, top}
+use Rattle.sqs_formats.specs.Scenario.{Top, agents, by_version, scenario_in, top}
 use Rattle.sqs_model.specs.Valid.{Between}
 use Rattle.sim_scenario.specs.Gives.{Fails, Names, table}
 use Rattle.sim_scenario.specs.Walk.{and_then}
@@ -85,31 +81,6 @@ document_ok files ms t e =
 pub document_fails : (files : Files) (ms : Members) (e : ReadError) → Fails e (top_walk (table [] ms)) → Fails e (answer (scenario_in files ms))
 document_fails files ms e h =
     rw (← scenario_walk_is files ms) (then_fails e (answer (top ms)) (λ (t : Top). answer (by_version (t.version == 1 || t.version == 2) files t)) (rw (top_walk_is ms) at h))
-
--- a text
-sized : (b : Bool) (files : Files) (text : List ℕ) → is_small text ≡ b → scenario_of files text ≡ scenario_when b files text
-unfolding scenario_of
-sized b files text e = rw e refl
-
-pub too_long : (files : Files) (text : List ℕ) → 16777216 < length text → scenario_of files text ≡ Err (fault_at TooMany [])
-too_long files text h =
-    let no : is_small text ≡ false = grind (arith, nat_tests) in
-    sized false files text no
-
-pub a_document : (files : Files) (text : List ℕ) (ms : Members) → length text ≤ 16777216 → is_utf8 text ≡ true → parse_document text ≡ Some ms → scenario_of files text ≡ answer (scenario_in files ms)
-a_document files text ms h u p =
-    let yes : is_small text ≡ true = grind (arith, nat_tests) in
-    let is : document text ≡ Some ms = rw u p in
-    sized true files text yes ∙ ap (document_reads files) is
-
-pub none_by : (text : List ℕ) (b : Bool) → is_utf8 text ≡ b → (IsUtf8 text → parse_document text ≡ None) → document_when b text ≡ None
-none_by text true e h = h (IsUtf8-from_is_utf8 text e)
-none_by text false e h = refl
-
-pub no_document : (files : Files) (text : List ℕ) → length text ≤ 16777216 → (IsUtf8 text → parse_document text ≡ None) → scenario_of files text ≡ Err (fault_at NotToml [])
-no_document files text h n =
-    let yes : is_small text ≡ true = grind (arith, nat_tests) in
-    sized true files text yes ∙ ap (document_reads files) (none_by text (is_utf8 text) refl n)
 
 -- an error that is named, where the reading is that fault
 pub names_fails : {Y : Type 0} (e : ReadError) (f : ScenarioFault) (read : Result Y ScenarioFault) → read ≡ Err f → Names e f → Fails e read

@@ -9,4 +9,5 @@ pub mod AtHome
 pub mod Naming
 pub mod Ranges
 pub mod Lowest
+pub mod Drafts
 pub mod Firsts

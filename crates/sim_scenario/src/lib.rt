@@ -4,6 +4,7 @@
 
 mod actors;
 mod consumers;
+mod draft;
 mod fault;
 mod items;
 mod keys;
@@ -24,12 +25,11 @@ mod scripted;
 mod top;
 mod ways;
 
+pub use draft::{Draft, read};
 pub use fault::ReadError;
 pub use least::least_latency;
-pub use reader::read;
 pub use scenario::{Scenario, ScenarioParts};
 pub use script::{ScriptError, read_script};
-pub use script_files::script_names;
 pub use scripted::Scripts;
 pub use sqs_formats::{ScenarioFault, ScriptFault};
 pub use ways::edges;

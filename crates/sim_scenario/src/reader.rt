@@ -1,21 +1,20 @@
-//! The reader of a scenario: a text in, what it says or the first fault in it out.
+//! The reader of a scenario: a document in, what it says or the first fault in it out.
 ghost use Rattle.std.specs.Prelude.{◌≡◌, ◌≤◌, ◌+◌, ◌++◌, IfOk, OnOk, length, map};
 ghost use Rattle.toml.specs.View.{table_view, view};
 ghost use Rattle.sqs_formats.specs.Reading.{answer};
 ghost use Rattle.sqs_formats.specs.Outline.{outline_of};
-ghost use Rattle.sqs_formats.specs.Scenario.{scenario_in, scenario_of};
+ghost use Rattle.sqs_formats.specs.Scenario.{scenario_in};
 ghost use Rattle.sim_scenario.specs.Gives.{Gives};
 ghost use Rattle.sim_scenario.specs.Ranges.{IsInRange};
 ghost use Rattle.sim_scenario.specs.TopWalks.{IsTop, agents_walk, top_view, whole};
 
 use crate::actors::actors;
-use crate::fault::{ReadError, blame};
+use crate::fault::ReadError;
 use crate::lists::{dead_letters, queues, tasks};
 use crate::outline::Outline;
 use crate::scenario::Scenario;
 use crate::scripted::Scripts;
 use crate::top::{Top, top_table};
-use sim_clock::Refusal;
 use sqs_message::Text;
 use sqs_model::ActorSettings;
 use sqs_redrive::{QueueSettings, TaskSettings};
@@ -90,7 +89,11 @@ fn agents(
 }
 
 /// What a document says.
-fn document(alloc: Global, scripts: &Scripts, table: &Table) -> Result<Scenario, ReadError>
+pub(crate) fn document(
+    alloc: Global,
+    scripts: &Scripts,
+    table: &Table,
+) -> Result<Scenario, ReadError>
     ensures range { IfOk result IsInRange }
     ensures value { Gives (λ s. s) result (answer (scenario_in scripts.now (table_view table.now))) }
 {
@@ -100,26 +103,4 @@ fn document(alloc: Global, scripts: &Scripts, table: &Table) -> Result<Scenario,
     };
     let outline = Outline::new(alloc, top.version, top.queues, top.actors, top.tasks)?;
     agents(alloc, scripts, &top, &outline)
-}
-
-/// The scenario that a text in TOML states with its script files, or the first fault in it:
-/// `TooMany` at no place where it has more than 16 MiB, `NotToml` where it is no document in
-/// UTF-8, else the fault at the first place in the order of the walk. `Memory` tells that a growth
-/// was refused.
-pub fn read(alloc: Global, text: &[u8], scripts: &Scripts) -> Result<Scenario, ReadError>
-    ensures range { IfOk result IsInRange }
-    ensures value { Gives (λ s. s) result (scenario_of scripts.now text.now) }
-{
-    if text.len() > 16_777_216 {
-        return Err(blame(alloc, Refusal::TooMany, "", ""));
-    }
-    match toml::table_from_slice(alloc, text) {
-        Ok(table) => document(alloc, scripts, &table),
-        Err(e) => {
-            if e.is_memory() {
-                return Err(ReadError::Memory);
-            }
-            Err(blame(alloc, Refusal::NotToml, "", ""))
-        }
-    }
 }

@@ -2,7 +2,7 @@
 ghost use Rattle.std.specs.Prelude.{◌≡◌, ◌++◌, ◌∷◌, [], IfOk, OnOk, codes, filter_map, map, option_map};
 ghost use Rattle.toml.specs.Data.{get_member};
 ghost use Rattle.toml.specs.View.{table_view, view};
-ghost use Rattle.sqs_formats.specs.Scenario.{actors_in, script_name as the_script_name, script_names as the_script_names};
+ghost use Rattle.sqs_formats.specs.Scenario.{actors_in, script_name as the_script_name};
 
 use crate::keys::member;
 use crate::names::is_script_name;
@@ -25,7 +25,7 @@ fn script_name(item: &Value) -> Option<&str>
 
 /// The items at `actor`.
 #[tactic(auto, using(crate::proofs::TopParts::in_order_is))]
-fn actor_items<'a>(table: &'a Table) -> &'a [Value]
+pub(crate) fn actor_items<'a>(table: &'a Table) -> &'a [Value]
     ensures { map view result.now ≡ actors_in (get_member (codes "actor") (table_view table.now)) }
 {
     match member(table, "actor") {
@@ -52,7 +52,7 @@ fn push_name(alloc: Global, names: &mut Vec<Text>, item: &Value) -> Result<(), A
 }
 
 /// The names that items ask for.
-fn names_in(alloc: Global, items: &[Value]) -> Result<Vec<Text>, AllocError>
+pub(crate) fn names_in(alloc: Global, items: &[Value]) -> Result<Vec<Text>, AllocError>
     ensures { IfOk result (λ v. v.items ≡ filter_map the_script_name (map view items.now)) }
 {
     let mut names = Vec::new(alloc);
@@ -60,23 +60,4 @@ fn names_in(alloc: Global, items: &[Value]) -> Result<Vec<Text>, AllocError>
         push_name(alloc, &mut names, item)?;
     }
     Ok(names)
-}
-
-/// The names of the script files that the actors of a scenario's text ask for, in their order; none
-/// where the text is no document. The one error is want of memory.
-pub fn script_names(alloc: Global, text: &[u8]) -> Result<Vec<Text>, AllocError>
-    ensures { IfOk result (λ v. v.items ≡ the_script_names text.now) }
-{
-    if text.len() > 16_777_216 {
-        return Ok(Vec::new(alloc));
-    }
-    match toml::table_from_slice(alloc, text) {
-        Ok(table) => names_in(alloc, actor_items(&table)),
-        Err(e) => {
-            if e.is_memory() {
-                return Err(AllocError);
-            }
-            Ok(Vec::new(alloc))
-        }
-    }
 }

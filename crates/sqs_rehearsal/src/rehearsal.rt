@@ -1,6 +1,7 @@
 //! A rehearsal, from bytes to bytes.
-ghost use Rattle.std.specs.Prelude.{◌≡◌, false, IfErr, Ok, OnOk};
+ghost use Rattle.std.specs.Prelude.{◌≡◌, false, IfErr, List, Ok, OnOk, ℕ};
 ghost use Rattle.sqs_formats.specs.Scenario.{scenario_of};
+ghost use Rattle.sim_scenario.specs.Drafts.{IsDraftOf};
 ghost use Rattle.sqs_rehearsal.specs.Rehearsals.{IsRefused, IsWritten, Request};
 ghost use Rattle.sqs_rehearsal.specs.declared.rehearsal.Fault.TheVariants.{Refused};
 ghost use Rattle.sqs_rehearsal.specs.Writers.{Writer};
@@ -12,7 +13,7 @@ use crate::running::Running;
 use sim_clock::Refusal;
 use sim_recorder::{Unwatched, Watch};
 use sim_records::{Names, Out};
-use sim_scenario::{ReadError, Scenario, Scripts, read};
+use sim_scenario::{Draft, ReadError, Scenario, Scripts};
 use sim_workers::Gate;
 use sqs_formats::ScenarioFault;
 use std::alloc::Global;
@@ -88,8 +89,8 @@ fn rehearse_scenario<G: Gate<Running> + Sync, L: Out, R: Out, P: Watch, W: Threa
     outcome.write_ending(alloc, &names, report)
 }
 
-/// Rehearses a scenario as `rehearse` does, and tells a watch how far the run has come, whenever rows are
-/// written.
+/// Rehearses a scenario as `rehearse` does, from the draft of its text, and tells a watch how far the run
+/// has come, whenever rows are written.
 ///
 /// # Errors
 ///
@@ -103,7 +104,7 @@ pub fn rehearse_watched<
 >(
     rt: &W,
     alloc: Global,
-    text: &[u8],
+    draft: Draft,
     scripts: &Scripts,
     options: &Options,
     gate: &G,
@@ -113,10 +114,10 @@ pub fn rehearse_watched<
 ) -> Result<(), Fault>
     requires log { L.failed log.old ≡ false }
     requires report { R.failed report.old ≡ false }
-    ensures written { OnOk result (IsWritten (record { text = text.now; scripts = scripts.now; options = options.now }) (record { before = L.held log.old; after = L.held log.new; failed = L.failed log.new }) (record { before = R.held report.old; after = R.held report.new; failed = R.failed report.new })) }
-    ensures refused { IfErr result (IsRefused (record { text = text.now; scripts = scripts.now; options = options.now }) (record { before = L.held log.old; after = L.held log.new; failed = L.failed log.new }) (record { before = R.held report.old; after = R.held report.new; failed = R.failed report.new })) }
+    ensures written { (text : List ℕ) → IsDraftOf text draft → OnOk result (IsWritten (record { text = text; scripts = scripts.now; options = options.now }) (record { before = L.held log.old; after = L.held log.new; failed = L.failed log.new }) (record { before = R.held report.old; after = R.held report.new; failed = R.failed report.new })) }
+    ensures refused { (text : List ℕ) → IsDraftOf text draft → IfErr result (IsRefused (record { text = text; scripts = scripts.now; options = options.now }) (record { before = L.held log.old; after = L.held log.new; failed = L.failed log.new }) (record { before = R.held report.old; after = R.held report.new; failed = R.failed report.new })) }
 {
-    let scenario = read(alloc, text, scripts)?;
+    let scenario = draft.read(alloc, scripts)?;
     rehearse_scenario(rt, alloc, scenario, options, gate, log, report, watch)?;
     Ok(())
 }
@@ -150,8 +151,11 @@ pub fn rehearse<G: Gate<Running> + Sync, L: Out, R: Out, W: Threads + Wait + Syn
     ensures written { OnOk result (IsWritten (record { text = text.now; scripts = scripts.now; options = options.now }) (record { before = L.held log.old; after = L.held log.new; failed = L.failed log.new }) (record { before = R.held report.old; after = R.held report.new; failed = R.failed report.new })) }
     ensures refused { IfErr result (IsRefused (record { text = text.now; scripts = scripts.now; options = options.now }) (record { before = L.held log.old; after = L.held log.new; failed = L.failed log.new }) (record { before = R.held report.old; after = R.held report.new; failed = R.failed report.new })) }
 {
+    let Ok(draft) = Draft::parse(alloc, text) else {
+        return Err(Fault::Refused(Refusal::Memory));
+    };
     let mut watch = Unwatched;
     rehearse_watched(
-        rt, alloc, text, scripts, options, gate, log, report, &mut watch,
+        rt, alloc, draft, scripts, options, gate, log, report, &mut watch,
     )
 }

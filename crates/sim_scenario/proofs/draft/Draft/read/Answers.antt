@@ -1,0 +1,10 @@
+use Rattle.sim_scenario.proofs.Drafted.{scenario_of_table, scenario_refused}
+use Rattle.sim_scenario.proofs.WholeScenario.{names_fails}
+use Rattle.sim_scenario.proofs.draft.Draft.read.Goals as goal
+
+pub returns-in-Ok-clause-value : goal.returns-in-Ok-clause-value
+returns-in-Ok-clause-value c text of = rw (scenario_of_table c.args.scripts.now text c.args.self c.in-Ok.table of c.in-Ok.is) (rw c.in-Ok.is at c.document.ensures.value)
+
+pub returns-in-Err-clause-value : goal.returns-in-Err-clause-value
+returns-in-Err-clause-value c text of =
+    names_fails c.blame.result _ _ (scenario_refused c.args.scripts.now text c.args.self c.in-Err.refusal of c.in-Err.is) c.blame.ensures

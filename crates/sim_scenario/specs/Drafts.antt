@@ -1,0 +1,17 @@
+-- What a scenario's text is, before its script files are known.
+use Rattle.std.specs.Prelude.{Err, List, Result, if◌then◌else◌, ok_or, ℕ, ◌≡◌}
+use Rattle.std.specs.Result.{result_map_both}
+use Rattle.toml.specs.Data.{Members}
+use Rattle.toml.specs.View.{table_view}
+use Rattle.sim_clock.specs.declared.refusal.Refusal.{Refusal}
+use Rattle.sim_clock.specs.declared.refusal.Refusal.TheVariants.{NotToml, TooMany}
+use Rattle.sqs_formats.specs.Scenario.{document, is_small}
+use Rattle.sim_scenario.specs.declared.draft.Draft.{Draft}
+
+-- the document of a text, or why none is read in it
+abbrev pub draft_of : List ℕ → Result Members Refusal
+draft_of text = if is_small text then ok_or (document text) NotToml else Err TooMany
+
+-- whether a draft is that of a text: it has the document's table, or that refusal
+abbrev pub IsDraftOf : List ℕ → Draft → Type 0
+IsDraftOf text draft = result_map_both table_view (λ refusal. refusal) draft.table ≡ draft_of text
