@@ -1,14 +1,14 @@
 //! Whether a text is a scenario.
 use crate::faults::{Stop, tell, write_refusal};
-use crate::files::read_inputs;
-use sim_scenario::{least_latency, read};
+use crate::files::{Inputs, read_inputs};
+use sim_scenario::least_latency;
 use sqs_command_line::CheckLine;
 use std::process::ExitCode;
 
 // Reads a scenario and prints how much it has.
 fn checked<'a>(rt: &HostRuntime, asked: CheckLine<'a>) -> Result<(), Stop<'a>> {
-    let inputs = read_inputs(rt, asked.scenario, asked.scripts)?;
-    let scenario = read(rt.alloc(), inputs.text.as_slice(), &inputs.scripts)?;
+    let Inputs { draft, scripts } = read_inputs(rt, asked.scenario, asked.scripts)?;
+    let scenario = draft.read(rt.alloc(), &scripts)?;
     let queues = scenario.queues().len();
     let actors = scenario.actors().len();
     let tasks = scenario.tasks().len();

@@ -1,7 +1,7 @@
 //! A comparison of two rehearsals.
 use crate::faults::{Stop, tell};
-use crate::files::{buffered, read_inputs};
-use sim_scenario::{Scenario, read};
+use crate::files::{Inputs, buffered, read_inputs};
+use sim_scenario::Scenario;
 use sqs_command_line::CompareLine;
 use sqs_rehearsal::Outcome;
 use std::process::ExitCode;
@@ -12,8 +12,8 @@ fn scenario<'a>(
     path: Option<&'a str>,
     folder: Option<&str>,
 ) -> Result<Scenario, Stop<'a>> {
-    let inputs = read_inputs(rt, path, folder)?;
-    Ok(read(rt.alloc(), inputs.text.as_slice(), &inputs.scripts)?)
+    let Inputs { draft, scripts } = read_inputs(rt, path, folder)?;
+    Ok(draft.read(rt.alloc(), &scripts)?)
 }
 
 // Runs both scenarios and prints the comparison.

@@ -6,7 +6,7 @@ ghost use Rattle.sqs_shell.specs.Inputs.{input_stop, script_path};
 use crate::faults::{Stop, write_refusal};
 use sim_clock::Refusal;
 use sim_records::ToWriter;
-use sim_scenario::{Scripts, script_names};
+use sim_scenario::{Draft, Scripts};
 use sqs_message::Text;
 use std::alloc::{AllocError, Global};
 use std::fs::File;
@@ -16,10 +16,10 @@ use std::str;
 /// How many reads the program makes of one input at most.
 const MOST_READS: u32 = 33_554_432;
 
-/// The texts of a scenario and of the scripts that it asks for.
+/// The draft of a scenario's text, and the scripts that it asks for.
 #[derive(Drop)]
 pub struct Inputs {
-    pub text: Vec<u8>,
+    pub draft: Draft,
     pub scripts: Scripts,
 }
 
@@ -151,7 +151,8 @@ pub fn read_inputs<'a>(
     folder: Option<&str>,
 ) -> Result<Inputs, Stop<'a>> {
     let text = scenario(rt, path)?;
-    let names = script_names(rt.alloc(), text.as_slice())?;
+    let draft = Draft::parse(rt.alloc(), text.as_slice())?;
+    let names = draft.script_names(rt.alloc())?;
     let scripts = scripts(rt, names, folder)?;
-    Ok(Inputs { text, scripts })
+    Ok(Inputs { draft, scripts })
 }

@@ -18,19 +18,20 @@ use std::thread::Threads;
 fn write<'a, L: Out, W: Threads + Wait + Sync>(
     rt: &HostRuntime,
     threads: &W,
-    inputs: &Inputs,
+    inputs: Inputs,
     split: &Options,
     log: &mut L,
     mut progress: Progress<'_>,
 ) -> Result<(), Stop<'a>>
     requires { L.failed log.old ≡ false }
 {
+    let Inputs { draft, scripts } = inputs;
     let mut report = buffered(rt, rt.stdout())?;
     let answer = rehearse_watched(
         threads,
         rt.alloc(),
-        inputs.text.as_slice(),
-        &inputs.scripts,
+        draft,
+        &scripts,
         split,
         &Open,
         log,
@@ -62,7 +63,7 @@ fn rehearsed<'a, W: Threads + Wait + Sync>(
     match asked.log {
         None => {
             let mut log = buffered(rt, rt.stdout())?;
-            write(rt, threads, &inputs, &split, &mut log, progress)
+            write(rt, threads, inputs, &split, &mut log, progress)
         }
         Some(path) => {
             look_for_output(rt)?;
@@ -71,7 +72,7 @@ fn rehearsed<'a, W: Threads + Wait + Sync>(
                 Err(error) => return Err(Stop::from(write_refusal(&error))),
             };
             let mut log = buffered(rt, file)?;
-            write(rt, threads, &inputs, &split, &mut log, progress)
+            write(rt, threads, inputs, &split, &mut log, progress)
         }
     }
 }
