@@ -197,7 +197,7 @@ fn next_among(leaves: &[Mark], from: usize, hosts: u32) -> Option<usize>
 }
 
 // Up to so many places there is nothing above the leaves: to go over them costs less.
-const FEW: usize = 8;
+const FEW: usize = 2;
 
 /// The marks of places, of which there are a power of two. Contracts see them as a list.
 #[derive(Drop)]
