@@ -2,7 +2,7 @@
 ghost use Rattle.std.specs.Prelude.{◌≡◌, ◌++◌, [], IfOk, List, OnOk, Result, ℕ};
 ghost use Rattle.sim_clock.specs.declared.refusal.Refusal.{Refusal as TheRefusal};
 ghost use Rattle.sim_windows.specs.Rounds.{AreWithin, CanComeBack, HaveCome};
-ghost use Rattle.sim_windows.specs.Stages.{GoesOn, standing_of, with_parts};
+ghost use Rattle.sim_windows.specs.Stages.{GoesOn, Settles, front_in, standing_of, with_parts};
 
 use crate::kept::Kept;
 use crate::stage::{Stage, stage_of};
@@ -51,6 +51,19 @@ impl<S: Site> Lent<S> {
         ensures { result ≡ standing_of kept [] }
     {
         Lent { kept }
+    }
+
+    /// Meanwhile the rows from before a moment are settled, before which nothing might come when the
+    /// partitions were lent. Answers them too, in the order of keys; they follow those that were settled
+    /// before. The error is want of memory.
+    pub fn settle(self, moment: u64) -> Result<(Lent<S>, Vec<S::Row>), AllocError>
+        ensures { (parts : List (Result (List S) TheRefusal)) →
+            moment ≡ front_in S.engine (with_parts parts self) →
+            IfOk result (λ r. Settles S.engine S.conditions (with_parts parts self) (with_parts parts r.0) r.1.items) }
+    {
+        let Lent { mut kept } = self;
+        let rows = kept.settle_before(moment)?;
+        Ok((Lent { kept }, rows))
     }
 
     /// Takes the partitions back, each run to an end that is not past its bound, with what they did. The

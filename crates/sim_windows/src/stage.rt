@@ -182,9 +182,9 @@ impl<S: Site> Stage<S> {
         least_of(&self.kept.bounds, self.kept.horizon)
     }
 
-    // The moment that nothing may come before any more: that of what a partition may handle next, or the
-    // least bound.
-    fn front(&self) -> u64
+    /// The moment that nothing may come before any more, in milliseconds: that of what a partition may
+    /// handle next, or the least bound.
+    pub fn front(&self) -> u64
         ensures { result ≡ front_in S.engine self.now }
     {
         let end = self.window_end();
@@ -215,9 +215,9 @@ impl<S: Site> Stage<S> {
         Ok((Stage { kept, parts }, true))
     }
 
-    /// The rows that nothing may come before any more are settled. Answers them too, in the order of keys;
-    /// they follow those that were settled before. The error is want of memory.
-    pub fn settle(self) -> Result<(Stage<S>, Vec<S::Row>), AllocError>
+    // The rows that nothing may come before any more are settled. Answers them too, in the order of keys;
+    // they follow those that were settled before. The error is want of memory.
+    fn settle(self) -> Result<(Stage<S>, Vec<S::Row>), AllocError>
         ensures { IfOk result (λ r. Settles S.engine S.conditions self r.0 r.1.items) }
     {
         let moment = self.front();

@@ -11,22 +11,17 @@ use Rattle.sim_engine.specs.Machine.{is_finished}
 use Rattle.sim_engine.specs.Prefixes.{Holds, is_before, rows_from}
 use Rattle.sim_engine.specs.Theorems.{machine_of}
 use Rattle.sim_engine.specs.declared.picks.Pick.{Pick}
-use Rattle.sim_workers.specs.Runs.{HasTold, StopsBeside}
+use Rattle.sim_workers.specs.Runs.{HasTold, StopsNext, TellsNext}
 use Rattle.sim_engine.specs.Limits.{IsOver, StopsWhere}
 use Rattle.sim_windows.specs.Stages.{AreNext, Standing, Stands, StandsOn}
 use Rattle.sim_windows.proofs.Beginning.{none_before_zero}
 use Rattle.sim_windows.proofs.Standing.{below}
-use Rattle.sim_windows.specs.Sinks.{HasStopped, IsFront}
+use Rattle.sim_windows.specs.Sinks.{HasStopped, IsFront, StopsAt}
 use Rattle.sim_engine.specs.Setting.{IsRunOf, Setting}
 use Rattle.sim_engine.specs.World.{Run}
 use Rattle.sim_engine.specs.Setting.{Setting}
 use Rattle.sim_engine.specs.Engine.{Engine}
 use Rattle.sim_engine.specs.Laws.{Conditions, SiteLaws}
-
--- a weaker reason
-pub beside_weaker : {Row K : Type 0} (took : K → List Row → K → Type 0) (broke : K → List Row → Refusal → K → Type 0) (P Q : Refusal → Type 0) (before : K) (rows : List Row) (e : Refusal) (now : K) → (P e → Q e) → StopsBeside took broke P before rows e now → StopsBeside took broke Q before rows e now
-beside_weaker took broke P Q before rows e now weaker (inl broken) = inl broken
-beside_weaker took broke P Q before rows e now weaker (inr (h, taken)) = inr (weaker h, taken)
 
 module _ {Site Row Transfer : Type 0} {engine : Engine Site Row Transfer} {conditions : Conditions Site Transfer} (basics : SiteLaws engine conditions) where
   module _ (s : Setting Site) (done : List Pick) (g : Standing Site Row Transfer) (st : Stands engine conditions s done g) where
@@ -91,22 +86,23 @@ module _ {Site Row Transfer : Type 0} {engine : Engine Site Row Transfer} {condi
             at_rows = inr (subst (λ xs. broke before xs e after) is (broke_later before now after (filter (is_before engine moment) r.rows) rows e (told r w) broken));
           }
 
-  -- a sink that is handed what is settled next
-  module _ {K : Type 0} (took : K → List Row → K → Type 0) (took_both : (a b c : K) (xs ys : List Row) → took a xs b → took b ys c → took a (xs ++ ys) c) (s : Setting Site) (moment to : ℕ) (rows : List Row) (next : AreNext engine s moment to rows) (before now after : K) (told : HasTold engine took s moment before now) where
-    -- took all of it
-    pub took_next : took now rows after → HasTold engine took s to before after
-    took_next taken r w = subst (λ xs. took before xs after) (next r w) (took_both before now after (filter (is_before engine moment) r.rows) rows (told r w) taken)
+  -- a sink that took what was settled
+  module _ {K : Type 0} (took : K → List Row → K → Type 0) (took_both : (a b c : K) (xs ys : List Row) → took a xs b → took b ys c → took a (xs ++ ys) c) (s : Setting Site) (g : Standing Site Row Transfer) (on : StandsOn engine conditions s g) (before now : K) (told : HasTold engine took s g.settled before now) where
+    -- and what is settled next
+    next_told : (to : ℕ) (rows : List Row) (after : K) → AreNext engine s g.settled to rows → took now rows after → HasTold engine took s to before after
+    next_told to rows after next taken r w = subst (λ xs. took before xs after) (next r w) (took_both before now after (filter (is_before engine g.settled) r.rows) rows (told r w) taken)
 
-    -- or nothing
-    took_none : took now [] after → HasTold engine took s moment before after
-    took_none taken r w = subst (λ xs. took before xs after) (append-nil (filter (is_before engine moment) r.rows)) (took_both before now after (filter (is_before engine moment) r.rows) [] (told r w) taken)
+    pub told_next : (h : Standing Site Row Transfer) (after : K) → TellsNext engine conditions took g now h after → HasTold engine took s h.settled before after
+    told_next h after tells = let next = tells s on in next_told h.settled next.0 after next.1.0 next.1.1
 
-    module _ (broke : K → List Row → Refusal → K → Type 0) (broke_later : (a b c : K) (xs ys : List Row) (e : Refusal) → took a xs b → broke b ys e c → broke a (xs ++ ys) e c) (g : Standing Site Row Transfer) (on : StandsOn engine conditions s g) (e : Refusal) where
-      -- where the run stops meanwhile
-      pub stops_beside : StopsBeside took broke (StopsWhere (IsOver engine s)) now rows e after → HasStopped engine took broke s before e after
-      stops_beside (inl broken) = breaks_so took broke s g on moment before now told broke_later rows e after broken to next
-      stops_beside (inr (h, inl none)) = stops_so took broke s g on moment before after (took_none none) e h
-      stops_beside (inr (h, inr all)) = stops_so took broke s g on to before after (took_next all) e h
+    -- or at which the run stops
+    module _ (broke : K → List Row → Refusal → K → Type 0) (broke_later : (a b c : K) (xs ys : List Row) (e : Refusal) → took a xs b → broke b ys e c → broke a (xs ++ ys) e c) (e : Refusal) (after : K) where
+      stopped_at : (to : ℕ) (rows : List Row) → AreNext engine s g.settled to rows → StopsAt engine took broke (StopsWhere (IsOver engine s)) rows now e after → HasStopped engine took broke s before e after
+      stopped_at to rows next (inl (taken, h)) = stops_so took broke s g on to before after (next_told to rows after next taken) e h
+      stopped_at to rows next (inr broken) = breaks_so took broke s g on g.settled before now told broke_later rows e after broken to next
+
+      pub stopped_next : StopsNext engine conditions took broke g now e after → HasStopped engine took broke s before e after
+      stopped_next stops = let at = stops s on in stopped_at at.0 at.1.0 at.1.1.0 at.1.1.1
 
   -- want of memory is a reason
   pub memory_stops : (s : Setting Site) (e : Refusal) → e ≡ refusals.Memory → StopsWhere (IsOver engine s) e

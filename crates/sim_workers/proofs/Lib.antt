@@ -1,4 +1,5 @@
 pub mod Sendings
 pub mod Fronts
+pub mod Handing
 pub mod Refused
 pub mod Ran

@@ -1,16 +1,17 @@
 -- What a sink has taken of a run, and what comes of the run.
 use Rattle.std.specs.Global.{Global}
 use Rattle.std.specs.List.{sum_by}
-use Rattle.std.specs.Prelude.{Err, List, Ok, Result, Vec, [], filter, length, ℕ, ◌⊎◌, ◌≡◌}
+use Rattle.std.specs.Prelude.{Err, List, None, Ok, Option, Result, Some, Vec, [], filter, length, ℕ, ◌⊎◌, ◌≡◌}
 use Rattle.sim_clock.specs.declared.refusal.Refusal.{Refusal}
 use Rattle.sim_clock.specs.declared.refusal.Refusal.TheVariants as refusals
 use Rattle.sim_engine.specs.Engine.{Engine}
 use Rattle.sim_engine.specs.Laws.{Conditions}
+use Rattle.sim_engine.specs.Limits.{IsOver, StopsWhere}
 use Rattle.sim_engine.specs.Prefixes.{is_before}
 use Rattle.sim_engine.specs.Setting.{IsRunOf, Setting}
 use Rattle.sim_engine.specs.World.{Run}
-use Rattle.sim_windows.specs.Sinks.{HasStopped, HasTaken}
-use Rattle.sim_windows.specs.Stages.{AreNext, Standing, StandsOn}
+use Rattle.sim_windows.specs.Sinks.{HasStopped, HasTaken, StopsAt}
+use Rattle.sim_windows.specs.Stages.{AreNext, LeadsTo, Settles, Standing, StandsOn, front_in, with_parts}
 use Rattle.sim_windows.specs.declared.lent.Came.{Came}
 use Rattle.sim_workers.specs.Paces.{word_of}
 
@@ -34,24 +35,48 @@ module _ {Site Row Transfer : Type 0} (engine : Engine Site Row Transfer) where
     RanOn s before (Ok sites) now = ready now × HasTaken engine took s before now sites.items
     RanOn s before (Err refusal) now = StopsAnyhow s before refusal now
 
-module _ {Row K : Type 0} (took : K → List Row → K → Type 0) (broke : K → List Row → Refusal → K → Type 0) where
-  -- why a run stops while a sink is handed rows: it breaks at them; or for another reason, and it took none of them, or all
-  abbrev pub StopsBeside : (Refusal → Type 0) → K → List Row → Refusal → K → Type 0
-  StopsBeside Stops before rows refusal now =
-      broke before rows refusal now ⊎ (Stops refusal × (took before [] now ⊎ took before rows now))
+module _ {Site Row Transfer : Type 0} (engine : Engine Site Row Transfer) (conditions : Conditions Site Transfer) where
+  -- rows that are settled while partitions are lent: none, or those from before a moment before which nothing might come when they were
+  abbrev pub AreHanded : Option ℕ → Standing Site Row Transfer → Standing Site Row Transfer → List Row → Type 0
+  AreHanded None lent now rows = (now ≡ lent) × (rows ≡ [])
+  AreHanded (Some moment) lent now rows =
+      (parts : List (Result (List Site) Refusal)) → moment ≡ front_in engine (with_parts parts lent)
+      → Settles engine conditions (with_parts parts lent) (with_parts parts now) rows
 
-module _ {Site Row Transfer : Type 0} (engine : Engine Site Row Transfer) (conditions : Conditions Site Transfer) {K : Type 0} where
-  -- a sink takes what is settled at the other, of whatever setting the one stands on; and the run stops so
-  abbrev pub Told : (K → List Row → K → Type 0) → Standing Site Row Transfer → K → Standing Site Row Transfer → K → Type 0
-  Told took g before h now = (s : Setting Site) → StandsOn engine conditions s g → HasTold engine took s h.settled before now
+  -- it stands some picks on, with as many partitions
+  pub record GoesFurther (g h : Standing Site Row Transfer) : Type 0 where
+    pub on : LeadsTo engine conditions g h
+    pub count : length h.parts ≡ length g.parts
 
-  abbrev pub Stopped : (K → List Row → K → Type 0)
-      → (K → List Row → Refusal → K → Type 0) → Standing Site Row Transfer → K → Refusal → K → Type 0
-  Stopped took broke g before refusal now =
-      (s : Setting Site) → StandsOn engine conditions s g → HasStopped engine took broke s before refusal now
+  module _ {K : Type 0} (took : K → List Row → K → Type 0) where
+    -- a sink takes what is settled while partitions are lent
+    pub record HandsOn (moment : Option ℕ) (lent : Standing Site Row Transfer) (before : K) (after : Standing Site Row Transfer) (now : K) : Type 0 where
+      pub rows : List Row
+      pub are : AreHanded moment lent after rows
+      pub taken : took before rows now
 
-  -- a sink takes what is settled at the other but for these rows, the last of it
-  pub record ToldBut (took : K → List Row → K → Type 0) (g : Standing Site Row Transfer) (before : K) (h : Standing Site Row Transfer) (now : K) (rows : List Row) : Type 0 where
-    pub moment : ℕ
-    pub told : (s : Setting Site) → StandsOn engine conditions s g → HasTold engine took s moment before now
-    pub next : (s : Setting Site) → StandsOn engine conditions s g → AreNext engine s moment h.settled rows
+    -- a sink takes what is settled at the other and was not at the one
+    abbrev pub TellsNext : Standing Site Row Transfer → K → Standing Site Row Transfer → K → Type 0
+    TellsNext g before h now =
+        (s : Setting Site) → StandsOn engine conditions s g → (rows : List Row) × (AreNext engine s g.settled h.settled rows × took before rows now)
+
+    -- a sink takes what is settled at the other, of whatever setting the one stands on
+    abbrev pub Told : Standing Site Row Transfer → K → Standing Site Row Transfer → K → Type 0
+    Told g before h now = (s : Setting Site) → StandsOn engine conditions s g → HasTold engine took s h.settled before now
+
+    module _ (broke : K → List Row → Refusal → K → Type 0) where
+      -- why a round stops while rows are handed on: before that, or at these rows
+      abbrev pub StopsHanding : (Refusal → Type 0) → Option ℕ → Standing Site Row Transfer → K → Refusal → K → Type 0
+      StopsHanding Stops moment lent before refusal now =
+          (Stops refusal × took before [] now)
+          ⊎ ((after : Standing Site Row Transfer) × ((rows : List Row) × (AreHanded moment lent after rows × StopsAt engine took broke Stops rows before refusal now)))
+
+      -- why the next round or barrier stops: at rows that follow those that were settled before it
+      abbrev pub StopsNext : Standing Site Row Transfer → K → Refusal → K → Type 0
+      StopsNext g before refusal now =
+          (s : Setting Site) → StandsOn engine conditions s g
+          → (to : ℕ) × ((rows : List Row) × (AreNext engine s g.settled to rows × StopsAt engine took broke (StopsWhere (IsOver engine s)) rows before refusal now))
+
+      -- the run stops so, of whatever setting it stands on
+      abbrev pub Stopped : Standing Site Row Transfer → K → Refusal → K → Type 0
+      Stopped g before refusal now = (s : Setting Site) → StandsOn engine conditions s g → HasStopped engine took broke s before refusal now

@@ -10,7 +10,7 @@ ghost use Rattle.sim_partition.specs.Sites.{AreOfPast, due_in};
 ghost use Rattle.sim_workers.specs.Owners.{IsAllFree, IsResting, AreResting, IsSentOut, AreSentOut};
 ghost use Rattle.sim_workers.specs.Owners.{IsCollected, AreCollected};
 ghost use Rattle.sim_windows.specs.Rounds.{Comes, HaveCome};
-ghost use Rattle.sim_workers.specs.Runs.{StopsBeside, rows_made};
+ghost use Rattle.sim_workers.specs.Runs.{HandsOn, StopsHanding, rows_made};
 ghost use Rattle.sim_workers.specs.Rounds.{IsRefusedRound, gravest, gravest_of};
 
 use crate::gate::Gate;
@@ -21,12 +21,12 @@ use sim_clock::Refusal;
 use sim_engine::{Effects, Site};
 use sim_handoff::{Hand, Handoff, Owner};
 use sim_partition::Partition;
-use sim_windows::{Came, RowSink};
+use sim_windows::{Came, Lent, RowSink};
 use std::alloc::Global;
 use std::sync::Wait;
 
-// A round of fewer rows is followed by one that the owner's own thread runs, and for fewer that are handed
-// on no hands are called.
+// A round of fewer rows is followed by one that the owner's own thread runs, since to hand partitions to
+// other threads would cost more than it saves.
 const FEW: u64 = 1_024;
 
 // What comes of a partition that is run to its bound.
@@ -195,43 +195,49 @@ fn all_came<S: Site>(
     }
 }
 
-// Whether so few rows were made that to hand partitions to other threads costs more than it saves.
-fn are_few<S: Site>(came: &Result<Vec<Came<S>>, Refusal>) -> bool
-    ensures { IfOk came.now (λ all. result ≡ nat_lt (rows_made all.items) 1024) }
-{
-    match came {
-        Ok(all) => rows_made(all) < FEW,
-        Err(_) => true,
-    }
-}
-
-// Hands rows on, while the hands of other threads do what is offered; for few rows they are not called.
+// Settles the rows from before a moment, where one is given, and hands them on, while the hands of other
+// threads, which are called, do what is offered. Answers how many.
 fn hand_on<S: Site, W: PartWork<S>, K: RowSink<S::Row>>(
     handoff: &Handoff<W>,
-    rows: &[S::Row],
+    lent: Lent<S>,
+    moment: Option<u64>,
     sink: &mut K,
-) -> Result<(), Refusal>
+) -> Result<(Lent<S>, u64), Refusal>
     requires ready { K.ready sink.old }
     ensures ready { OnOk result (K.ready sink.new) }
-    ensures took { OnOk result (K.took sink.old rows.now sink.new) }
-    ensures broke { IfErr result (λ refusal. K.broke sink.old rows.now refusal sink.new) }
+    ensures handed { IfOk result (λ r. HandsOn S.engine S.conditions K.took moment lent sink.old r.0 sink.new) }
+    ensures stops { IfErr result (λ refusal.
+        StopsHanding S.engine S.conditions K.took K.broke (λ e. e ≡ Refusal.Memory) moment lent sink.old refusal sink.new) }
 {
-    if rows.len() as u64 >= FEW {
-        handoff.offers().ring();
-    }
-    sink.take(rows)
+    let Some(moment) = moment else {
+        return Ok((lent, 0));
+    };
+    handoff.offers().ring();
+    let (lent, rows) = lent.settle(moment)?;
+    sink.take(&rows)?;
+    Ok((lent, rows.len() as u64))
+}
+
+/// What comes of a round: what the stage kept that lent its partitions, these as they came back, and how many
+/// rows were handed on meanwhile.
+#[derive(Drop)]
+pub struct Ran<S: Site> {
+    pub lent: Lent<S>,
+    pub came: Vec<Came<S>>,
+    pub handed: u64,
 }
 
 /// Runs every partition that has something due before its bound to that bound, on whatever threads
-/// have hands, while the owner's own hands rows on to the sink and then runs partitions too. All that was
-/// offered is collected, also where one is refused. Where the round before made few rows, and few are
-/// handed on, hands that wait are not called, and the owner's own thread runs all.
+/// have hands. Meanwhile the owner's own settles the rows from before a moment, where one is given, and
+/// hands them on to the sink; then it runs partitions too. All that was offered is collected, also where
+/// one is refused. Where the round before made few rows, and none are settled, hands that wait are not
+/// called, and the owner's own thread runs all.
 ///
 /// # Errors
 ///
-/// `Memory` where a growth is refused here, before anything is offered or handed on. The sink's refusal,
-/// where it breaks at these rows. Else, where partitions are spent by refusals, `Memory` where one of these
-/// is, and else that of the first.
+/// `Memory` where a growth is refused here, before rows are handed on. The sink's refusal, where it breaks
+/// at these rows. Else, where partitions are spent by refusals, `Memory` where one of these is, and else
+/// that of the first.
 pub fn round<S: Site, W: PartWork<S>, G: Gate<W>, K: RowSink<S::Row>, R: Wait>(
     rt: &R,
     alloc: Global,
@@ -241,9 +247,10 @@ pub fn round<S: Site, W: PartWork<S>, G: Gate<W>, K: RowSink<S::Row>, R: Wait>(
     gate: &G,
     bounds: &[u64],
     parts: Vec<Partition<S>>,
-    rows: &[S::Row],
+    lent: Lent<S>,
+    moment: Option<u64>,
     sink: &mut K,
-) -> Result<Vec<Came<S>>, Refusal>
+) -> Result<Ran<S>, Refusal>
     requires here { owner_table owner.old ≡ table_of handoff.now }
     requires idle { IsIdleHand (table_of handoff.now) hand.old }
     requires places { length parts.items ≡ places_of handoff.now }
@@ -255,19 +262,20 @@ pub fn round<S: Site, W: PartWork<S>, G: Gate<W>, K: RowSink<S::Row>, R: Wait>(
     ensures idle { IsIdleHand (table_of handoff.now) hand.new }
     ensures free { IsAllFree (owner_record owner.new) }
     ensures ready { OnOk result (K.ready sink.new) }
-    ensures took { OnOk result (K.took sink.old rows.now sink.new) }
-    ensures came { IfOk result (λ came. HaveCome S.engine S.conditions bounds.now parts.items came.items) }
+    ensures handed { IfOk result (λ ran. HandsOn S.engine S.conditions K.took moment lent sink.old ran.lent sink.new) }
+    ensures came { IfOk result (λ ran. HaveCome S.engine S.conditions bounds.now parts.items ran.came.items) }
     ensures stops { IfErr result (λ refusal.
-        StopsBeside K.took K.broke (IsRefusedRound S.engine S.conditions bounds.now parts.items) sink.old rows.now refusal sink.new) }
+        StopsHanding S.engine S.conditions K.took K.broke (IsRefusedRound S.engine S.conditions bounds.now parts.items)
+        moment lent sink.old refusal sink.new) }
 {
     let homes = Vec::with_capacity(alloc, parts.len())?;
     let came = Vec::with_capacity(alloc, parts.len())?;
     let all = Vec::with_capacity(alloc, parts.len())?;
     let homes = offer_due(alloc, handoff, owner, bounds, parts, homes);
-    let handed = hand_on(handoff, rows, sink);
+    let handed = hand_on(handoff, lent, moment, sink);
     let outcomes = collect_all(rt, handoff, owner, hand, gate, homes, came);
-    let came = all_came(outcomes, all);
-    owner.work_alone(are_few(&came));
-    handed?;
-    came
+    let (lent, handed) = handed?;
+    let came = all_came(outcomes, all)?;
+    owner.work_alone(rows_made(&came) < FEW);
+    Ok(Ran { lent, came, handed })
 }

@@ -1,21 +1,21 @@
 //! Rounds one after another, until nothing is left.
-ghost use Rattle.std.specs.Prelude.{◌≡◌, [], IfErr, IfOk, OnOk, length, true};
+ghost use Rattle.std.specs.Prelude.{◌≡◌, IfErr, IfOk, OnOk, length, true};
+ghost use Rattle.std.specs.Option.{ForSome};
 ghost use Rattle.sim_handoff.specs.Seats.{IsIdleHand, owner_record, owner_table, places_of, table_of};
-ghost use Rattle.sim_workers.specs.Runs.{Stopped, StopsBeside, Told, rows_made};
+ghost use Rattle.sim_workers.specs.Runs.{GoesFurther, Stopped, StopsNext, TellsNext, Told, rows_made};
 ghost use Rattle.sim_engine.specs.Setting.{Setting};
-ghost use Rattle.sim_windows.specs.Stages.{AreNext, Follows, GoesOn, LeadsTo, StandsOn, StopsAt, is_finished_in};
+ghost use Rattle.sim_windows.specs.Stages.{LeadsTo, StandsOn, front_in, is_finished_in};
 ghost use Rattle.sim_windows.specs.Sinks.{HasTaken};
 ghost use Rattle.sim_workers.specs.Owners.{IsAllFree};
 
 use crate::gate::Gate;
-use crate::one_round::round;
+use crate::one_round::{Ran, round};
 use crate::pace::Pace;
 use crate::piece::PartWork;
 use sim_clock::Refusal;
 use sim_engine::Site;
 use sim_handoff::{Hand, Handoff, Owner};
 use sim_windows::{Came, Loan, RowSink, Stage};
-use std::alloc::AllocError;
 use std::sync::Wait;
 
 /// How many rows some partitions made.
@@ -29,8 +29,19 @@ pub fn rows_made<S: Site>(came: &[Came<S>]) -> u64
     rows
 }
 
-// Runs each partition to its bound, or to a cut if that is sooner, and meanwhile hands rows on to the
-// sink. Answers how many rows the partitions made.
+// The moment from before which rows are settled in the next round, where enough wait.
+fn settling_moment<S: Site>(stage: &Stage<S>, pace: &Pace) -> Option<u64>
+    ensures { ForSome result (λ moment. moment ≡ front_in S.engine stage.now) }
+{
+    if pace.is_full() {
+        Some(stage.front())
+    } else {
+        None
+    }
+}
+
+// Runs each partition to its bound, or to a cut if that is sooner. Where enough rows wait, those that
+// nothing can come before any more are settled meanwhile, and handed on to the sink.
 fn run_round<S: Site, W: PartWork<S>, G: Gate<W>, K: RowSink<S::Row>, R: Wait>(
     rt: &R,
     handoff: &Handoff<W>,
@@ -39,9 +50,9 @@ fn run_round<S: Site, W: PartWork<S>, G: Gate<W>, K: RowSink<S::Row>, R: Wait>(
     gate: &G,
     stage: Stage<S>,
     cut: u64,
-    rows: &[S::Row],
+    pace: &mut Pace,
     sink: &mut K,
-) -> Result<(Stage<S>, u64), Refusal>
+) -> Result<Stage<S>, Refusal>
     requires here { owner_table owner.old ≡ table_of handoff.now }
     requires idle { IsIdleHand (table_of handoff.now) hand.old }
     requires free { IsAllFree (owner_record owner.old) }
@@ -51,22 +62,24 @@ fn run_round<S: Site, W: PartWork<S>, G: Gate<W>, K: RowSink<S::Row>, R: Wait>(
     ensures idle { IsIdleHand (table_of handoff.now) hand.new }
     ensures free { IsAllFree (owner_record owner.new) }
     ensures ready { OnOk result (K.ready sink.new) }
-    ensures took { OnOk result (K.took sink.old rows.now sink.new) }
-    ensures on { IfOk result (λ r. GoesOn S.engine S.conditions stage r.0) }
-    ensures stops { IfErr result (λ refusal.
-        StopsBeside K.took K.broke (StopsAt S.engine S.conditions stage) sink.old rows.now refusal sink.new) }
+    ensures on { IfOk result (GoesFurther S.engine S.conditions stage) }
+    ensures told { IfOk result (λ g. TellsNext S.engine S.conditions K.took stage sink.old g sink.new) }
+    ensures stops { IfErr result (λ refusal. StopsNext S.engine S.conditions K.took K.broke stage sink.old refusal sink.new) }
 {
     let alloc = stage.alloc();
+    let moment = settling_moment(&stage, pace);
     let Loan { lent, parts, ends } = stage.lend(cut)?;
-    let came = round(
-        rt, alloc, handoff, owner, hand, gate, &ends, parts, rows, sink,
+    let Ran { lent, came, handed } = round(
+        rt, alloc, handoff, owner, hand, gate, &ends, parts, lent, moment, sink,
     )?;
-    let made = rows_made(&came);
-    Ok((lent.come_back(came)?, made))
+    if moment.is_some() {
+        pace.settle(handed);
+    }
+    pace.count(rows_made(&came));
+    Ok(lent.come_back(came)?)
 }
 
-// Goes on by a round where a partition may go on, and else by a barrier, and hands rows on to the sink.
-// Answers whether nothing was left.
+// Goes on by a round where a partition may go on, and else by a barrier. Answers whether nothing was left.
 fn advance<S: Site, W: PartWork<S>, G: Gate<W>, K: RowSink<S::Row>, R: Wait>(
     rt: &R,
     handoff: &Handoff<W>,
@@ -75,7 +88,6 @@ fn advance<S: Site, W: PartWork<S>, G: Gate<W>, K: RowSink<S::Row>, R: Wait>(
     gate: &G,
     stage: Stage<S>,
     pace: &mut Pace,
-    rows: &[S::Row],
     sink: &mut K,
 ) -> Result<(Stage<S>, bool), Refusal>
     requires here { owner_table owner.old ≡ table_of handoff.now }
@@ -87,21 +99,18 @@ fn advance<S: Site, W: PartWork<S>, G: Gate<W>, K: RowSink<S::Row>, R: Wait>(
     ensures idle { IsIdleHand (table_of handoff.now) hand.new }
     ensures free { IsAllFree (owner_record owner.new) }
     ensures ready { OnOk result (K.ready sink.new) }
-    ensures took { OnOk result (K.took sink.old rows.now sink.new) }
-    ensures on { IfOk result (λ r. GoesOn S.engine S.conditions stage r.0) }
+    ensures on { IfOk result (λ r. GoesFurther S.engine S.conditions stage r.0) }
+    ensures told { IfOk result (λ r. TellsNext S.engine S.conditions K.took stage sink.old r.0 sink.new) }
     ensures over { IfOk result (λ r. r.1 ≡ true → is_finished_in S.engine r.0 ≡ true) }
-    ensures stops { IfErr result (λ refusal.
-        StopsBeside K.took K.broke (StopsAt S.engine S.conditions stage) sink.old rows.now refusal sink.new) }
+    ensures stops { IfErr result (λ refusal. StopsNext S.engine S.conditions K.took K.broke stage sink.old refusal sink.new) }
 {
     match stage.next_ready() {
         Some(next) => {
             let cut = pace.cut_at(next.at);
-            let (stage, made) = run_round(rt, handoff, owner, hand, gate, stage, cut, rows, sink)?;
-            pace.count(made);
+            let stage = run_round(rt, handoff, owner, hand, gate, stage, cut, pace, sink)?;
             Ok((stage, false))
         }
         None => {
-            sink.take(rows)?;
             if stage.is_finished() {
                 return Ok((stage, true));
             }
@@ -110,22 +119,7 @@ fn advance<S: Site, W: PartWork<S>, G: Gate<W>, K: RowSink<S::Row>, R: Wait>(
     }
 }
 
-// Settles the rows that nothing can come before any more, where enough wait. Answers them.
-fn settle<S: Site>(stage: Stage<S>, pace: &mut Pace) -> Result<(Stage<S>, Vec<S::Row>), AllocError>
-    ensures follows { IfOk result (λ r. Follows S.engine S.conditions stage r.0 []) }
-    ensures next { IfOk result (λ r. (s : Setting S) → StandsOn S.engine S.conditions s stage
-        → AreNext S.engine s stage.settled r.0.settled r.1.items) }
-{
-    if !pace.is_full() {
-        let none = Vec::new(stage.alloc());
-        return Ok((stage, none));
-    }
-    let (stage, rows) = stage.settle()?;
-    pace.settle(rows.len() as u64);
-    Ok((stage, rows))
-}
-
-// Goes on until nothing is left by the horizon. Rows that are settled go to the sink in the round after.
+// Goes on until nothing is left by the horizon.
 fn run_rounds<S: Site, W: PartWork<S>, G: Gate<W>, K: RowSink<S::Row>, R: Wait>(
     rt: &R,
     handoff: &Handoff<W>,
@@ -151,17 +145,14 @@ fn run_rounds<S: Site, W: PartWork<S>, G: Gate<W>, K: RowSink<S::Row>, R: Wait>(
     ensures stops { IfErr result (λ refusal.
         Stopped S.engine S.conditions K.took K.broke stage sink.old refusal sink.new) }
 {
-    let mut rows = Vec::new(stage.alloc());
     let mut stage = stage;
     let mut pace = Pace::new();
     for _ in rt.forever() {
-        let (next, over) = advance(
-            rt, handoff, owner, hand, gate, stage, &mut pace, &rows, sink,
-        )?;
+        let (next, over) = advance(rt, handoff, owner, hand, gate, stage, &mut pace, sink)?;
         if over {
             return Ok(next);
         }
-        (stage, rows) = settle(next, &mut pace)?;
+        stage = next;
     }
     unreachable!()
 }

@@ -1,8 +1,9 @@
-use Rattle.std.proofs.Common.{rules, ◌≡◌, ◌≤◌, length, arith, subst, ◌∙◌, inr, map, vec_capacity, Ok, Some}
-use Rattle.std.proofs.lemmas.Result.{IfOk-weaker, IfErr-weaker}
-use Rattle.sim_windows.specs.Rounds.{AllCome, HaveCome}
-use Rattle.sim_workers.specs.Rounds.{IsRefusedRound, gravest}
-use Rattle.sim_workers.specs.Runs.{StopsBeside}
+use Rattle.std.proofs.Common.{rules, ◌≡◌, ◌≤◌, length, arith, subst, ◌∙◌, inl, inr, vec_capacity}
+use Rattle.std.proofs.lemmas.Result.{err_from_is_err_and}
+use Rattle.sim_clock.specs.declared.refusal.Refusal.TheVariants as refusals
+use Rattle.sim_windows.specs.Rounds.{AllCome}
+use Rattle.sim_workers.proofs.Handing.{handing_weaker}
+use Rattle.sim_workers.specs.Rounds.{IsRefusedRound}
 use Rattle.sim_handoff.specs.Seats.{owner_record}
 use Rattle.sim_workers.proofs.Sendings.{as_many_homes, as_many_outcomes, resting_of, round_of}
 use Rattle.sim_workers.proofs.one_round.round.Goals as goal
@@ -39,8 +40,8 @@ collect_all-outcomes-requires-clause-room g c _ _ =
     let room : length c.args.parts.items ≤ vec_capacity c.in_ok-came.came = search rules in
     (c.in_ok-came.ensures.items, omega (arith, homes, room))
 
-pub all_came-came-requires : goal.all_came-came-requires
-all_came-came-requires g c =
+pub all_came-requires : goal.all_came-requires
+all_came-requires g c =
     let e = g.S.Site.engine in
     let k = g.S.Site.conditions in
     let owner = owner_record c.offer_due-homes.new.owner in
@@ -49,33 +50,41 @@ all_came-came-requires g c =
     let room : length c.args.parts.items ≤ vec_capacity c.in_ok-all.all = search rules in
     record { room = (c.in_ok-all.ensures.items, omega (arith, homes, outcomes, room)) }
 
+pub returns-in_err-homes-clause-stops : goal.returns-in_err-homes-clause-stops
+returns-in_err-homes-clause-stops g c =
+    let told = err_from_is_err_and c.from_residual.result c.from_residual.ensures.1 in
+    rw told.1 (inl (inl told.2, g.met.K.RowSink.unchanged c.args.sink.now))
+
+pub returns-in_err-came-clause-stops : goal.returns-in_err-came-clause-stops
+returns-in_err-came-clause-stops g c =
+    let told = err_from_is_err_and c.from_residual-in_err-came.result c.from_residual-in_err-came.ensures.1 in
+    rw told.1 (inl (inl told.2, g.met.K.RowSink.unchanged c.args.sink.now))
+
+pub returns-in_err-all-clause-stops : goal.returns-in_err-all-clause-stops
+returns-in_err-all-clause-stops g c =
+    let told = err_from_is_err_and c.from_residual-in_err-all.result c.from_residual-in_err-all.ensures.1 in
+    rw told.1 (inl (inl told.2, g.met.K.RowSink.unchanged c.args.sink.now))
+
+pub returns-in_err-lent-clause-stops : goal.returns-in_err-lent-clause-stops
+returns-in_err-lent-clause-stops g c =
+    let told = err_from_is_err_and c.from_residual-in_err-lent.result c.from_residual-in_err-lent.ensures.1 in
+    rw (told.1, told.2) (handing_weaker g.met.S.Site.laws g.K.RowSink.took g.K.RowSink.broke c.args.sink.now c.in_err-lent.field-0.0 c.hand_on-handed.new.sink
+    (λ e. e ≡ refusals.Memory) (IsRefusedRound g.S.Site.engine g.S.Site.conditions c.args.bounds.now c.args.parts.items) c.args.moment c.args.lent (λ memory. inl memory) c.in_err-lent.ensures.stops)
+
+pub returns-in_err-came-2-clause-stops : goal.returns-in_err-came-2-clause-stops
+returns-in_err-came-2-clause-stops g c =
+    let e = g.S.Site.engine in
+    let k = g.S.Site.conditions in
+    let owner = owner_record c.offer_due-homes.new.owner in
+    let come = round_of e k g.W.Packs.packed owner c.args.bounds.now _ _ _ c.requires.bounds c.offer_due-homes.ensures.sent c.collect_all-outcomes.ensures.collected in
+    let told = err_from_is_err_and c.from_residual-in_err-came-2.result c.from_residual-in_err-came-2.ensures.1 in
+    let handed = c.in_ok-lent.ensures.handed in
+    rw (told.1, told.2) (inr (_, (handed.rows, (handed.are, inl (handed.taken, inr (record { outcomes = c.collect_all-outcomes.result.items; come = come; graver = c.in_err-came-2.ensures.refused }))))))
+
 pub returns-clause-came : goal.returns-clause-came
 returns-clause-came g c =
     let e = g.S.Site.engine in
     let k = g.S.Site.conditions in
     let owner = owner_record c.offer_due-homes.new.owner in
-    let bounds = c.args.bounds.now in
-    let parts = c.args.parts.items in
-    let outcomes = c.collect_all-outcomes.result.items in
-    let sent = c.offer_due-homes.ensures.sent in
-    let come = round_of e k g.W.Packs.packed owner bounds _ _ _ c.requires.bounds sent c.collect_all-outcomes.ensures.collected in
-    IfOk-weaker c.all_came-came.result (λ all. outcomes ≡ map (λ d. Ok d) all.items)
-    (λ all. HaveCome e k bounds parts all.items)
-    (λ all is. subst (λ os. AllCome e k bounds parts os) is come)
-    c.all_came-came.ensures.came
-
-pub returns-clause-stops : goal.returns-clause-stops
-returns-clause-stops g c =
-    let e = g.S.Site.engine in
-    let k = g.S.Site.conditions in
-    let owner = owner_record c.offer_due-homes.new.owner in
-    let bounds = c.args.bounds.now in
-    let parts = c.args.parts.items in
-    let rows = c.args.rows.now in
-    let outcomes = c.collect_all-outcomes.result.items in
-    let sent = c.offer_due-homes.ensures.sent in
-    let come = round_of e k g.W.Packs.packed owner bounds _ _ _ c.requires.bounds sent c.collect_all-outcomes.ensures.collected in
-    IfErr-weaker c.all_came-came.result (λ refusal. gravest outcomes ≡ Some refusal)
-    (λ refusal. StopsBeside g.K.RowSink.took g.K.RowSink.broke (IsRefusedRound e k bounds parts) c.args.sink.now rows refusal c.hand_on-handed.new.sink)
-    (λ refusal is. inr (inr (record { outcomes = outcomes; come = come; graver = is }), inr c.in_ok-handed.ensures.took))
-    c.all_came-came.ensures.refused
+    let come = round_of e k g.W.Packs.packed owner c.args.bounds.now _ _ _ c.requires.bounds c.offer_due-homes.ensures.sent c.collect_all-outcomes.ensures.collected in
+    subst (λ os. AllCome e k c.args.bounds.now c.args.parts.items os) c.in_ok-came-2.ensures.came come

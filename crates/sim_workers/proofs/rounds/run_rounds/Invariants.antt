@@ -2,10 +2,10 @@ use Rattle.std.proofs.Common.{length, ◌≡◌}
 use Rattle.sim_handoff.specs.Seats.{IsIdleHand, owner_record, owner_table, places_of, table_of}
 use Rattle.sim_windows.specs.Stages.{LeadsTo}
 use Rattle.sim_workers.specs.Owners.{IsAllFree}
-use Rattle.sim_workers.specs.Runs.{ToldBut}
+use Rattle.sim_workers.specs.Runs.{Told}
 use Rattle.sim_workers.proofs.rounds.run_rounds.Given as goal
 
--- the stage stands some picks on, and the sink took what was settled but for the last rows
+-- the stage stands some picks on, and the sink took what was settled
 abbrev pub invariant-loop : goal.invariant-loop
 invariant-loop g l = record {
   here : owner_table l.owner ≡ table_of l.handoff;
@@ -14,5 +14,5 @@ invariant-loop g l = record {
   places : length l.stage.parts ≡ places_of l.handoff;
   ready : g.K.RowSink.ready l.sink;
   leads : LeadsTo g.S.Site.engine g.S.Site.conditions l.fn.stage l.stage;
-  told : ToldBut g.S.Site.engine g.S.Site.conditions g.K.RowSink.took l.fn.stage l.initial.sink l.stage l.sink l.rows.items;
+  told : Told g.S.Site.engine g.S.Site.conditions g.K.RowSink.took l.fn.stage l.initial.sink l.stage l.sink;
 }

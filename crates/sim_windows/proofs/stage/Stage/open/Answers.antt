@@ -1,10 +1,9 @@
 use Rattle.std.specs.List.{range_with_len}
-use Rattle.std.specs.Prelude.{List, None, Ok, Result, Vec, [], get_or, length, map, ℕ, ◌≡◌, ◌≤◌}
-use Rattle.std.proofs.Common.{Global, ap, arith, subst, sym, ◌∙◌}
-use Rattle.std.proofs.lemmas.List.{length-map}
+use Rattle.std.specs.Prelude.{List, Ok, Result, Vec, [], length, map, ℕ, ◌≡◌, ◌≤◌}
+use Rattle.std.proofs.Common.{Global, ap, subst, sym, ◌∙◌}
 use Rattle.std.proofs.lemmas.List.FromFn.{length-map-range_with_len}
 use Rattle.sim_clock.specs.declared.refusal.Refusal.{Refusal}
-use Rattle.sim_engine.specs.Bounds.{AreDistances, bound_by, moment_of}
+use Rattle.sim_engine.specs.Bounds.{AreDistances}
 use Rattle.sim_engine.specs.Engine.{Engine}
 use Rattle.sim_engine.specs.Laws.{Conditions, SiteLaws}
 use Rattle.sim_engine.specs.Limits.{most_count}
@@ -13,8 +12,7 @@ use Rattle.sim_engine.specs.Setting.{IsNumbered, Setting}
 use Rattle.sim_engine.specs.Simulated.{IsSimulated}
 use Rattle.sim_exchange.specs.Layout.{IsLayout, Layout, owner_of}
 use Rattle.sim_exchange.specs.Table.{Table, distance_in}
-use Rattle.sim_partition.specs.Sites.{IsPart, due_in}
-use Rattle.sim_windows.specs.Meeting.{due_moments}
+use Rattle.sim_partition.specs.Sites.{IsPart}
 use Rattle.sim_windows.specs.Stages.{Standing, Stands, opened, standing_of}
 use Rattle.sim_windows.proofs.Beginning.{opens}
 use Rattle.sim_windows.proofs.Divided.{made_of, of_lists, opens_part}
