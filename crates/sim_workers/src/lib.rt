@@ -13,7 +13,6 @@ mod scope;
 mod worker;
 
 pub use gate::{Gate, Open};
-pub use one_round::round;
 pub use piece::{Done, Packs, PartWork, Piece, Running};
 pub use run::run_workers;
 pub use scope::{join_all, start_all};

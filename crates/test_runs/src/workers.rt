@@ -1,17 +1,11 @@
 //! What no clause says: that hands on threads of their own answer pieces, and several at once.
-ghost use Rattle.std.specs.Prelude.{◌≡◌, ◌+◌, ◌≤◌, length, vec_len, vec_capacity};
+ghost use Rattle.std.specs.Prelude.{◌≡◌, ◌+◌, ◌≤◌, vec_len, vec_capacity};
 ghost use Rattle.sim_handoff.specs.Seats.{places_of, table_of, owner_table, owner_record, IsIdleHand};
 ghost use Rattle.sim_workers.specs.Owners.{IsAllFree};
 
 use crate::same::same;
-use sim_clock::{Class, Key, Refusal};
 use sim_handoff::{Hand, Handoff, Owner, Work};
-use sim_partition::Partition;
-use sim_ring::{Counter, Told};
-use sim_windows::{Came, Limit};
-use sim_workers::{Gate, Open, Running, collect_at, join_all, round, start_all};
-use std::alloc::Global;
-use std::process::Abort;
+use sim_workers::{Gate, collect_at, join_all, start_all};
 use std::sync::Wait;
 use std::sync::atomic::{AtomicU64, Ordering};
 use std::thread;
@@ -118,63 +112,4 @@ fn three_at_once(rt: HostRuntime) {
     };
     let right = with_two_threads(&rt, &handoff, owner, &gate, handles);
     same(&rt, (right, gate.met.load(Ordering::SeqCst)), (true, 3));
-}
-
-// One partition, with no site.
-fn one_partition(rt: &impl Abort, alloc: Global) -> Vec<Partition<Counter>>
-    ensures { length result.items ≡ 1 }
-{
-    let part = Partition::new(alloc, Vec::new(alloc)).expect(rt, "memory");
-    vec![in alloc; part].expect(rt, "memory")
-}
-
-// A round of one partition in which nothing is due, while a row is handed on.
-fn round_of_nothing<R: Abort + Wait>(
-    rt: &R,
-    alloc: Global,
-    sink: &mut Limit,
-) -> Result<Vec<Came<Counter>>, Refusal> {
-    let parts = one_partition(rt, alloc);
-    let (handoff, mut owner) = Handoff::<Running<Counter>>::make(alloc, 1).expect(rt, "memory");
-    let mut hand = owner.hand(&handoff);
-    let key = Key {
-        at: 1,
-        agent: 0,
-        class: Class::Arrival,
-        number: 0,
-    };
-    let row = Told {
-        key,
-        number: 0,
-        count: 1,
-    };
-    round(
-        rt,
-        alloc,
-        &handoff,
-        &mut owner,
-        &mut hand,
-        &Open,
-        &[7],
-        parts,
-        &[row],
-        sink,
-    )
-}
-
-#[test]
-fn nothing_due_comes_back(rt: HostRuntime) {
-    let mut sink = Limit { left: 3 };
-    let came = round_of_nothing(&rt, rt.alloc(), &mut sink).expect(&rt, "a round");
-    same(&rt, (came.len(), sink.left), (1, 2));
-    for one in &came {
-        same(&rt, (one.made.rows.len(), one.part.least_due()), (0, None));
-    }
-}
-
-#[test]
-fn a_full_sink_ends_a_round(rt: HostRuntime) {
-    let mut sink = Limit { left: 0 };
-    let refusal = round_of_nothing(&rt, rt.alloc(), &mut sink).err();
-    same(&rt, (refusal, sink.left), (Some(Refusal::Write), 0));
 }
