@@ -3,7 +3,6 @@ ghost use Rattle.std.specs.Prelude.{◌≡◌, ◌+◌, ◌<◌, ◌^◌, [], If
 ghost use Rattle.std.specs.List.{range_with_len};
 ghost use Rattle.sim_clock.specs.declared.refusal.Refusal.{Refusal as TheRefusal};
 ghost use Rattle.sim_engine.specs.Exchange.{exchanged};
-ghost use Rattle.sim_engine.specs.Merge.{merged_all, row_cmp};
 ghost use Rattle.sim_engine.specs.Prefixes.{is_before as is_row_before};
 ghost use Rattle.sim_exchange.specs.Layout.{owner_of};
 ghost use Rattle.sim_windows.specs.Meeting.{AreReached};
@@ -92,20 +91,19 @@ impl<S: Site> Kept<S> {
         deliver_each(parts, lists)
     }
 
-    /// The rows from before a moment are settled. Answers them, in the order of keys.
-    pub fn settle_before(&mut self, moment: u64) -> Result<Vec<S::Row>, AllocError>
+    /// The rows from before a moment are settled. Answers those of each partition.
+    pub fn settle_before(&mut self, moment: u64) -> Result<Vec<Vec<S::Row>>, AllocError>
         ensures settled { (parts : List (Result (List S) TheRefusal)) →
             IfOk result (λ _. standing_of self.new parts ≡ settled_by S.engine (standing_of self.old parts) moment) }
         ensures rows { IfOk result (λ rows.
-            rows.items
-            ≡ merged_all (row_cmp S.engine)
-            (map (filter (is_row_before S.engine moment)) (map (λ l. l.items) self.old.rows.items))) }
+            map (λ l. l.items) rows.items
+            ≡ map (filter (is_row_before S.engine moment)) (map (λ l. l.items) self.old.rows.items)) }
     {
         let rows = mem::replace(&mut self.rows, Vec::new(self.alloc));
         let settled = settle::<S>(self.alloc, rows, moment)?;
         self.rows = settled.kept;
         self.settled = moment;
-        Ok(settled.rows)
+        Ok(settled.fronts)
     }
 
     /// The bounds are set anew, by what is due in the partitions.

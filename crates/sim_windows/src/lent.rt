@@ -1,6 +1,7 @@
 //! Partitions that are lent by their stage, and come back.
-ghost use Rattle.std.specs.Prelude.{◌≡◌, ◌++◌, [], IfOk, List, OnOk, Result, ℕ};
+ghost use Rattle.std.specs.Prelude.{◌≡◌, ◌++◌, [], IfOk, List, OnOk, Result, map, ℕ};
 ghost use Rattle.sim_clock.specs.declared.refusal.Refusal.{Refusal as TheRefusal};
+ghost use Rattle.sim_engine.specs.Merge.{merged_all, row_cmp};
 ghost use Rattle.sim_windows.specs.Rounds.{AreWithin, CanComeBack, HaveCome};
 ghost use Rattle.sim_windows.specs.Stages.{GoesOn, Settles, front_in, standing_of, with_parts};
 
@@ -54,16 +55,17 @@ impl<S: Site> Lent<S> {
     }
 
     /// Meanwhile the rows from before a moment are settled, before which nothing might come when the
-    /// partitions were lent. Answers them too, in the order of keys; they follow those that were settled
-    /// before. The error is want of memory.
-    pub fn settle(self, moment: u64) -> Result<(Lent<S>, Vec<S::Row>), AllocError>
+    /// partitions were lent. Answers those of each partition too: merged they follow the rows that were
+    /// settled before. The error is want of memory.
+    pub fn settle(self, moment: u64) -> Result<(Lent<S>, Vec<Vec<S::Row>>), AllocError>
         ensures { (parts : List (Result (List S) TheRefusal)) →
             moment ≡ front_in S.engine (with_parts parts self) →
-            IfOk result (λ r. Settles S.engine S.conditions (with_parts parts self) (with_parts parts r.0) r.1.items) }
+            IfOk result (λ r. Settles S.engine S.conditions (with_parts parts self) (with_parts parts r.0)
+            (merged_all (row_cmp S.engine) (map (λ l. l.items) r.1.items))) }
     {
         let Lent { mut kept } = self;
-        let rows = kept.settle_before(moment)?;
-        Ok((Lent { kept }, rows))
+        let fronts = kept.settle_before(moment)?;
+        Ok((Lent { kept }, fronts))
     }
 
     /// Takes the partitions back, each run to an end that is not past its bound, with what they did. The

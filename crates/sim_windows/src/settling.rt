@@ -1,11 +1,9 @@
 //! Rows of the log, partition by partition, that are settled: nothing may come before them any more.
 ghost use Rattle.std.specs.List.{list_all};
 ghost use Rattle.std.specs.Prelude.{◌≡◌, ◌++◌, IfOk, filter, map, not};
-ghost use Rattle.sim_engine.specs.Merge.{merged_all, row_cmp};
 ghost use Rattle.sim_engine.specs.Prefixes.{is_before};
 
 use sim_engine::Site;
-use sim_exchange::merge_rows;
 use std::alloc::{AllocError, Global};
 
 /// Some rows in two: those from before a moment, and the others.
@@ -71,23 +69,22 @@ fn part_rows<S: Site>(
     })
 }
 
-/// The rows of each partition in two, those from before a moment in one list, in the order of keys,
-/// and the others by partition.
+/// The rows of each partition in two, those from before a moment and the others.
 #[derive(Drop)]
 pub struct Settled<R> {
-    pub rows: Vec<R>,
+    pub fronts: Vec<Vec<R>>,
     pub kept: Vec<Vec<R>>,
 }
 
-/// Settles the rows from before a moment.
+/// Parts the rows of each partition at a moment.
 pub fn settle<S: Site>(
     alloc: Global,
     lists: Vec<Vec<S::Row>>,
     moment: u64,
 ) -> Result<Settled<S::Row>, AllocError>
-    ensures rows { IfOk result (λ settled.
-        settled.rows.items
-        ≡ merged_all (row_cmp S.engine) (map (λ l. filter (is_before S.engine moment) l.items) lists.items)) }
+    ensures fronts { IfOk result (λ settled.
+        map (λ l. l.items) settled.fronts.items
+        ≡ map (λ l. filter (is_before S.engine moment) l.items) lists.items) }
     ensures kept { IfOk result (λ settled.
         map (λ l. l.items) settled.kept.items
         ≡ map (λ l. filter (λ r. not (is_before S.engine moment r)) l.items) lists.items) }
@@ -99,6 +96,5 @@ pub fn settle<S: Site>(
         fronts.push(parted.before)?;
         kept.push(parted.others)?;
     }
-    let rows = merge_rows::<S>(alloc, fronts)?;
-    Ok(Settled { rows, kept })
+    Ok(Settled { fronts, kept })
 }

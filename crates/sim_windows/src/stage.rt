@@ -222,7 +222,8 @@ impl<S: Site> Stage<S> {
     {
         let moment = self.front();
         let Stage { mut kept, parts } = self;
-        let rows = kept.settle_before(moment)?;
+        let fronts = kept.settle_before(moment)?;
+        let rows = merge_rows::<S>(kept.alloc, fronts)?;
         Ok((Stage { kept, parts }, rows))
     }
 

@@ -1,6 +1,6 @@
 -- The rows from before a moment are ones that a scenario's run begins with.
 use Rattle.std.specs.Prelude.{List, [], filter, true, ℕ, ◌++◌, ◌≡◌}
-use Rattle.std.proofs.Common.{ap, inl, inr, subst, sym, ◌∙◌}
+use Rattle.std.proofs.Common.{ap, append_assoc, inl, inr, subst, sym, ◌∙◌}
 use Rattle.std.proofs.lemmas.List.{append-nil}
 use Rattle.sim_clock.specs.declared.refusal.Refusal.{Refusal}
 use Rattle.sim_clock.specs.declared.refusal.Refusal.TheVariants as refusals
@@ -68,16 +68,7 @@ module _ {Site Row Transfer : Type 0} {engine : Engine Site Row Transfer} {condi
         }
 
     module _ (broke_later : (a b c : K) (xs ys : List Row) (e : Refusal) → took a xs b → broke b ys e c → broke a (xs ++ ys) e c) (rows : List Row) (e : Refusal) (after : K) (broken : broke now rows e after) where
-      -- since the sink broke at what is settled next
-      pub breaks_so : (to : ℕ) → AreNext engine s moment to rows → HasStopped engine took broke s before e after
-      breaks_so to next =
-          record {
-            rows = filter (is_before engine to) some_run.0.rows;
-            front = front s on.picks g on.stands to some_run.0 some_run.1;
-            at_rows = inr (subst (λ xs. broke before xs e after) (next some_run.0 some_run.1) (broke_later before now after (filter (is_before engine moment) some_run.0.rows) rows e (told some_run.0 some_run.1) broken));
-          }
-
-      -- or at the rest
+      -- since the sink broke at the rest
       pub breaks_last : (r : Run engine) → IsRunOf engine s r → filter (is_before engine moment) r.rows ++ rows ≡ r.rows → HasStopped engine took broke s before e after
       breaks_last r w is =
           record {
@@ -97,12 +88,29 @@ module _ {Site Row Transfer : Type 0} {engine : Engine Site Row Transfer} {condi
 
     -- or at which the run stops
     module _ (broke : K → List Row → Refusal → K → Type 0) (broke_later : (a b c : K) (xs ys : List Row) (e : Refusal) → took a xs b → broke b ys e c → broke a (xs ++ ys) e c) (e : Refusal) (after : K) where
-      stopped_at : (to : ℕ) (rows : List Row) → AreNext engine s g.settled to rows → StopsAt engine took broke (StopsWhere (IsOver engine s)) rows now e after → HasStopped engine took broke s before e after
-      stopped_at to rows next (inl (taken, h)) = stops_so took broke s g on to before after (next_told to rows after next taken) e h
-      stopped_at to rows next (inr broken) = breaks_so took broke s g on g.settled before now told broke_later rows e after broken to next
+      abbrev pub run : Run engine
+      run = on.stands.sound.run
+
+      is : IsRunOf engine s run
+      is = on.stands.sound.is_run
+
+      abbrev pub first : List Row
+      first = filter (is_before engine g.settled) run.rows
+
+      still_front : (to : ℕ) (all rows rest : List Row) → AreNext engine s g.settled to all → rows ++ rest ≡ all → IsFront engine s (first ++ rows)
+      still_front to all rows rest next parts x v =
+          let whole = front s on.picks g on.stands to run is x v in
+          (rest ++ whole.0, sym (append_assoc (first ++ rows) rest whole.0) ∙ ap (λ z. z ++ whole.0) (append_assoc first rows rest ∙ ap (λ z. first ++ z) parts ∙ next run is) ∙ whole.1)
+
+      at : (rows : List Row) → StopsAt engine took broke (StopsWhere (IsOver engine s)) rows now e after → StopsAt engine took broke (StopsWhere (IsOver engine s)) (first ++ rows) before e after
+      at rows (inl (taken, h)) = inl (took_both before now after first rows (told run is) taken, h)
+      at rows (inr broken) = inr (broke_later before now after first rows e (told run is) broken)
 
       pub stopped_next : StopsNext engine conditions took broke g now e after → HasStopped engine took broke s before e after
-      stopped_next stops = let at = stops s on in stopped_at at.0 at.1.0 at.1.1.0 at.1.1.1
+      stopped_next stops =
+          let found = stops s on in
+          let among = found.1.1.1 in
+          record { rows = first ++ among.0; front = still_front found.0 found.1.0 among.0 among.1.0 found.1.1.0 among.1.1.0; at_rows = at among.0 among.1.1.1 }
 
   -- want of memory is a reason
   pub memory_stops : (s : Setting Site) (e : Refusal) → e ≡ refusals.Memory → StopsWhere (IsOver engine s) e

@@ -1,17 +1,62 @@
 -- Rows that are settled while partitions are lent follow those that were settled before.
-use Rattle.std.specs.Prelude.{List, None, Option, Result, Some, [], filter, ℕ, ◌≡◌}
-use Rattle.std.proofs.Common.{ap, inl, inr, refl, subst, sym, ◌∙◌}
+use Rattle.std.specs.Prelude.{List, None, Option, Result, Some, [], filter, get_or, length, map, ℕ, ◌++◌, ◌∷◌, ◌≡◌}
+use Rattle.std.proofs.Common.{ap, append_assoc, arith, inl, inr, refl, subst, sym, ◌∙◌}
 use Rattle.std.proofs.lemmas.List.{append-nil}
 use Rattle.sim_clock.specs.declared.refusal.Refusal.{Refusal}
 use Rattle.sim_engine.specs.Engine.{Engine}
 use Rattle.sim_engine.specs.Laws.{Conditions, SiteLaws}
 use Rattle.sim_engine.specs.Limits.{IsOver, StopsWhere}
+use Rattle.std.specs.declared.cmp.Ordering.{Ordering}
+use Rattle.sim_engine.specs.Merge.{merged_all}
 use Rattle.sim_engine.specs.Prefixes.{is_before}
+use Rattle.sim_exchange.proofs.Merging.{merged_single}
 use Rattle.sim_engine.specs.Setting.{Setting}
 use Rattle.sim_windows.specs.Sinks.{StopsAt}
 use Rattle.sim_windows.specs.Stages.{AreNext, Follows, Settles, Standing, Stands, StandsOn, front_in, with_parts}
 use Rattle.sim_windows.proofs.Stepped.{on}
-use Rattle.sim_workers.specs.Runs.{AreHanded, HandsOn, StopsHanding, StopsNext, TellsNext}
+use Rattle.sim_workers.specs.Runs.{AreHanded, HandsOn, StopsAmong, StopsHanding, StopsNext, TellsNext}
+
+-- one list by itself is merged
+pub alone :
+    {A C : Type 0} (R : A → A → Ordering) (f : C → List A) (vs : List C) (v : C) → length vs ≡ 1 → v ≡ get_or vs 0 v → f v ≡ merged_all R (map f vs)
+alone R f [] v one at = absurd (omega (arith, one))
+alone R f (w ∷ []) v one at = ap f at ∙ merged_single R f (w ∷ []) [] w refl (omega arith)
+alone R f (w ∷ x ∷ vs) v one at = absurd (omega (arith, one))
+
+-- a sink took the first of some rows, and these are left
+pub record IsHanding {Row K : Type 0} (took : K → List Row → K → Type 0) (all : List Row) (before now : K) (left : List Row) : Type 0 where
+  pub told : List Row
+  pub parts : told ++ left ≡ all
+  pub taken : took before told now
+
+module _ {Site Row Transfer : Type 0} (engine : Engine Site Row Transfer) {K : Type 0} (took : K → List Row → K → Type 0) (all : List Row) (before now : K) where
+  pub same_left : (left more : List Row) → left ≡ more → IsHanding took all before now left → IsHanding took all before now more
+  same_left left more e i = subst (IsHanding took all before now) e i
+
+  -- one more is at hand
+  pub one_more :
+      (rows merged more left : List Row) (row : Row) → merged ≡ row ∷ left → more ≡ rows ++ row ∷ [] → IsHanding took all before now (rows ++ merged)
+      → IsHanding took all before now (more ++ left)
+  one_more rows merged more left row next pushed i =
+      same_left (rows ++ merged) (more ++ left) (ap (λ z. rows ++ z) next ∙ sym (append_assoc rows (row ∷ []) left) ∙ ap (λ z. z ++ left) (sym pushed)) i
+
+  module _ (broke : K → List Row → Refusal → K → Type 0) (e : Refusal) (left : List Row) (i : IsHanding took all before now left) where
+    pub stops_there : (Stops : Refusal → Type 0) → Stops e → StopsAmong engine took broke Stops all before e now
+    stops_there Stops h = (i.told, (left, (i.parts, inl (i.taken, h))))
+
+    -- the sink breaks at those at hand
+    pub breaks_there :
+        (broke_later : (a b c : K) (xs ys : List Row) (e : Refusal) → took a xs b → broke b ys e c → broke a (xs ++ ys) e c) (Stops : Refusal → Type 0)
+        (rows rest : List Row) (after : K) → left ≡ rows ++ rest → broke now rows e after → StopsAmong engine took broke Stops all before e after
+    breaks_there broke_later Stops rows rest after are broken =
+        (i.told ++ rows, (rest, (append_assoc i.told rows rest ∙ ap (λ z. i.told ++ z) (sym are) ∙ i.parts, inr (broke_later before now after i.told rows e i.taken broken))))
+
+  -- it takes them
+  pub takes_there :
+      (took_both : (a b c : K) (xs ys : List Row) → took a xs b → took b ys c → took a (xs ++ ys) c)
+      (rows rest : List Row) (after : K) → IsHanding took all before now (rows ++ rest) → took now rows after → IsHanding took all before after rest
+  takes_there took_both rows rest after i taken =
+      record { told = i.told ++ rows; parts = append_assoc i.told rows rest ∙ i.parts; taken = took_both before now after i.told rows i.taken taken }
 
 module _ {Site Row Transfer : Type 0} {engine : Engine Site Row Transfer} {conditions : Conditions Site Transfer} (basics : SiteLaws engine conditions) where
   -- some rows are settled, and it stands as it did
@@ -63,9 +108,12 @@ module _ {Site Row Transfer : Type 0} {engine : Engine Site Row Transfer} {condi
 
   module _ {K : Type 0} (took : K → List Row → K → Type 0) (broke : K → List Row → Refusal → K → Type 0) (before : K) (e : Refusal) (now : K) where
     -- a weaker reason
-    weaker : (P Q : Refusal → Type 0) (rows : List Row) → (P e → Q e) → StopsAt engine took broke P rows before e now → StopsAt engine took broke Q rows before e now
-    weaker P Q rows to (inl (taken, h)) = inl (taken, to h)
-    weaker P Q rows to (inr broken) = inr broken
+    weaker_at : (P Q : Refusal → Type 0) (rows : List Row) → (P e → Q e) → StopsAt engine took broke P rows before e now → StopsAt engine took broke Q rows before e now
+    weaker_at P Q rows to (inl (taken, h)) = inl (taken, to h)
+    weaker_at P Q rows to (inr broken) = inr broken
+
+    weaker : (P Q : Refusal → Type 0) (all : List Row) → (P e → Q e) → StopsAmong engine took broke P all before e now → StopsAmong engine took broke Q all before e now
+    weaker P Q all to (rows, (rest, (is, stops))) = (rows, (rest, (is, weaker_at P Q rows to stops)))
 
     pub handing_weaker :
         (P Q : Refusal → Type 0) (moment : Option ℕ) (lent : Standing Site Row Transfer) → (P e → Q e)
@@ -73,10 +121,14 @@ module _ {Site Row Transfer : Type 0} {engine : Engine Site Row Transfer} {condi
     handing_weaker P Q moment lent to (inl (h, none)) = inl (to h, none)
     handing_weaker P Q moment lent to (inr (after, (rows, (handed, stops)))) = inr (after, (rows, (handed, weaker P Q rows to stops)))
 
+    -- all of the rows were taken
+    pub stops_after : (Stops : Refusal → Type 0) (all : List Row) → took before all now → Stops e → StopsAmong engine took broke Stops all before e now
+    stops_after Stops all taken h = (all, ([], (append-nil all, inl (taken, h))))
+
     module _ (g : Standing Site Row Transfer) where
       -- a run stops, and nothing was handed on
       pub stops_before : took before [] now → ((s : Setting Site) → StandsOn engine conditions s g → StopsWhere (IsOver engine s) e) → StopsNext engine conditions took broke g before e now
-      stops_before none over s on = (g.settled, ([], (λ r w. append-nil _, inl (none, over s on))))
+      stops_before none over s on = (g.settled, ([], (λ r w. append-nil _, stops_after (StopsWhere (IsOver engine s)) [] none (over s on))))
 
       -- or it stops while rows are
       pub stops_handing :
@@ -95,4 +147,4 @@ module _ {Site Row Transfer : Type 0} {engine : Engine Site Row Transfer} {condi
           → HandsOn engine conditions took moment lent before after now → StopsNext engine conditions took broke g before e now
       stops_handed moment lent after is at over handed = λ s on.
           let went : Passed g (with_parts g.parts after) handed.rows = went_on g moment lent after handed.rows is at handed.are in
-          (after.settled, (handed.rows, (went.next s on, inl (handed.taken, over s on))))
+          (after.settled, (handed.rows, (went.next s on, stops_after (StopsWhere (IsOver engine s)) handed.rows handed.taken (over s on))))

@@ -1,7 +1,7 @@
 -- What a sink has taken of a run, and what comes of the run.
 use Rattle.std.specs.Global.{Global}
 use Rattle.std.specs.List.{sum_by}
-use Rattle.std.specs.Prelude.{Err, List, None, Ok, Option, Result, Some, Vec, [], filter, length, ℕ, ◌⊎◌, ◌≡◌}
+use Rattle.std.specs.Prelude.{Err, List, None, Ok, Option, Result, Some, Vec, [], filter, length, ℕ, ◌++◌, ◌⊎◌, ◌≡◌}
 use Rattle.sim_clock.specs.declared.refusal.Refusal.{Refusal}
 use Rattle.sim_clock.specs.declared.refusal.Refusal.TheVariants as refusals
 use Rattle.sim_engine.specs.Engine.{Engine}
@@ -35,6 +35,12 @@ module _ {Site Row Transfer : Type 0} (engine : Engine Site Row Transfer) where
     RanOn s before (Ok sites) now = ready now × HasTaken engine took s before now sites.items
     RanOn s before (Err refusal) now = StopsAnyhow s before refusal now
 
+module _ {Site Row Transfer : Type 0} (engine : Engine Site Row Transfer) {K : Type 0} (took : K → List Row → K → Type 0) (broke : K → List Row → Refusal → K → Type 0) where
+  -- how a run stops while a sink is handed rows: at some that they begin with
+  abbrev pub StopsAmong : (Refusal → Type 0) → List Row → K → Refusal → K → Type 0
+  StopsAmong Stops all before refusal now =
+      (rows : List Row) × ((rest : List Row) × ((rows ++ rest ≡ all) × StopsAt engine took broke Stops rows before refusal now))
+
 module _ {Site Row Transfer : Type 0} (engine : Engine Site Row Transfer) (conditions : Conditions Site Transfer) where
   -- rows that are settled while partitions are lent: none, or those from before a moment before which nothing might come when they were
   abbrev pub AreHanded : Option ℕ → Standing Site Row Transfer → Standing Site Row Transfer → List Row → Type 0
@@ -65,17 +71,17 @@ module _ {Site Row Transfer : Type 0} (engine : Engine Site Row Transfer) (condi
     Told g before h now = (s : Setting Site) → StandsOn engine conditions s g → HasTold engine took s h.settled before now
 
     module _ (broke : K → List Row → Refusal → K → Type 0) where
-      -- why a round stops while rows are handed on: before that, or at these rows
+      -- why a round stops while rows are handed on: before that, or among these rows
       abbrev pub StopsHanding : (Refusal → Type 0) → Option ℕ → Standing Site Row Transfer → K → Refusal → K → Type 0
       StopsHanding Stops moment lent before refusal now =
           (Stops refusal × took before [] now)
-          ⊎ ((after : Standing Site Row Transfer) × ((rows : List Row) × (AreHanded moment lent after rows × StopsAt engine took broke Stops rows before refusal now)))
+          ⊎ ((after : Standing Site Row Transfer) × ((rows : List Row) × (AreHanded moment lent after rows × StopsAmong engine took broke Stops rows before refusal now)))
 
-      -- why the next round or barrier stops: at rows that follow those that were settled before it
+      -- why the next round or barrier stops: among rows that follow those that were settled before it
       abbrev pub StopsNext : Standing Site Row Transfer → K → Refusal → K → Type 0
       StopsNext g before refusal now =
           (s : Setting Site) → StandsOn engine conditions s g
-          → (to : ℕ) × ((rows : List Row) × (AreNext engine s g.settled to rows × StopsAt engine took broke (StopsWhere (IsOver engine s)) rows before refusal now))
+          → (to : ℕ) × ((rows : List Row) × (AreNext engine s g.settled to rows × StopsAmong engine took broke (StopsWhere (IsOver engine s)) rows before refusal now))
 
       -- the run stops so, of whatever setting it stands on
       abbrev pub Stopped : Standing Site Row Transfer → K → Refusal → K → Type 0

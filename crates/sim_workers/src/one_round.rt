@@ -3,6 +3,7 @@ ghost use Rattle.std.specs.Prelude.{◌≡◌, ◌≢◌, ◌<◌, ◌≤◌, �
 ghost use Rattle.std.specs.Prelude.{None, Ok, OnOk, Some, IfOk, IfErr, nat_lt};
 ghost use Rattle.sim_clock.specs.Order.{due_before};
 ghost use Rattle.sim_engine.specs.Limits.{most_count};
+ghost use Rattle.sim_engine.specs.Merge.{merged_all, row_cmp};
 ghost use Rattle.sim_engine.specs.World.{world_due};
 ghost use Rattle.sim_handoff.specs.Place.{place_record, IsFree};
 ghost use Rattle.sim_handoff.specs.Seats.{table_of, places_of, owner_table, owner_record, IsIdleHand};
@@ -10,7 +11,7 @@ ghost use Rattle.sim_partition.specs.Sites.{AreOfPast, due_in};
 ghost use Rattle.sim_workers.specs.Owners.{IsAllFree, IsResting, AreResting, IsSentOut, AreSentOut};
 ghost use Rattle.sim_workers.specs.Owners.{IsCollected, AreCollected};
 ghost use Rattle.sim_windows.specs.Rounds.{Comes, HaveCome};
-ghost use Rattle.sim_workers.specs.Runs.{HandsOn, StopsHanding, rows_made};
+ghost use Rattle.sim_workers.specs.Runs.{HandsOn, StopsAmong, StopsHanding, rows_made};
 ghost use Rattle.sim_workers.specs.Rounds.{IsRefusedRound, gravest, gravest_of};
 
 use crate::gate::Gate;
@@ -19,6 +20,7 @@ use crate::rounds::rows_made;
 use crate::worker::collect_at;
 use sim_clock::Refusal;
 use sim_engine::{Effects, Site};
+use sim_exchange::MergedRows;
 use sim_handoff::{Hand, Handoff, Owner};
 use sim_partition::Partition;
 use sim_windows::{Came, Lent, RowSink};
@@ -28,6 +30,9 @@ use std::sync::Wait;
 // A round of fewer rows is followed by one that the owner's own thread runs, since to hand partitions to
 // other threads would cost more than it saves.
 const FEW: u64 = 1_024;
+
+// So many rows are handed on at once, while they are at hand.
+const PIECE: usize = 1_024;
 
 // What comes of a partition that is run to its bound.
 type Outcome<S> = Result<Came<S>, Refusal>;
@@ -195,9 +200,59 @@ fn all_came<S: Site>(
     }
 }
 
+// Hands the rows of some lists on in the order of one list, some at a time. Answers how many.
+fn hand_merged<S: Site, K: RowSink<S::Row>>(
+    alloc: Global,
+    lists: Vec<Vec<S::Row>>,
+    sink: &mut K,
+) -> Result<u64, Refusal>
+    requires ready { K.ready sink.old }
+    ensures ready { OnOk result (K.ready sink.new) }
+    ensures took { OnOk result (K.took sink.old (merged_all (row_cmp S.engine) (map (λ l. l.items) lists.items)) sink.new) }
+    ensures stops { IfErr result (λ refusal.
+        StopsAmong S.engine K.took K.broke (λ e. e ≡ Refusal.Memory)
+        (merged_all (row_cmp S.engine) (map (λ l. l.items) lists.items)) sink.old refusal sink.new) }
+{
+    let mut merged = MergedRows::<S>::new(alloc, lists)?;
+    let mut rows = Vec::with_capacity(alloc, PIECE)?;
+    let mut handed: u64 = 0;
+    while let Some(row) = merged.next() {
+        rows.push(row)?;
+        if rows.len() >= PIECE {
+            sink.take(&rows)?;
+            handed = handed.saturating_add(rows.len() as u64);
+            rows.clear();
+        }
+    }
+    sink.take(&rows)?;
+    Ok(handed.saturating_add(rows.len() as u64))
+}
+
+// The same. One list alone needs no merging.
+fn hand_lists<S: Site, K: RowSink<S::Row>>(
+    alloc: Global,
+    lists: Vec<Vec<S::Row>>,
+    sink: &mut K,
+) -> Result<u64, Refusal>
+    requires ready { K.ready sink.old }
+    ensures ready { OnOk result (K.ready sink.new) }
+    ensures took { OnOk result (K.took sink.old (merged_all (row_cmp S.engine) (map (λ l. l.items) lists.items)) sink.new) }
+    ensures stops { IfErr result (λ refusal.
+        StopsAmong S.engine K.took K.broke (λ e. e ≡ Refusal.Memory)
+        (merged_all (row_cmp S.engine) (map (λ l. l.items) lists.items)) sink.old refusal sink.new) }
+{
+    if lists.len() != 1 {
+        return hand_merged::<S, K>(alloc, lists, sink);
+    }
+    let rows = &lists[0];
+    sink.take(rows)?;
+    Ok(rows.len() as u64)
+}
+
 // Settles the rows from before a moment, where one is given, and hands them on, while the hands of other
 // threads, which are called, do what is offered. Answers how many.
 fn hand_on<S: Site, W: PartWork<S>, K: RowSink<S::Row>>(
+    alloc: Global,
     handoff: &Handoff<W>,
     lent: Lent<S>,
     moment: Option<u64>,
@@ -213,9 +268,9 @@ fn hand_on<S: Site, W: PartWork<S>, K: RowSink<S::Row>>(
         return Ok((lent, 0));
     };
     handoff.offers().ring();
-    let (lent, rows) = lent.settle(moment)?;
-    sink.take(&rows)?;
-    Ok((lent, rows.len() as u64))
+    let (lent, lists) = lent.settle(moment)?;
+    let handed = hand_lists::<S, K>(alloc, lists, sink)?;
+    Ok((lent, handed))
 }
 
 /// What comes of a round: what the stage kept that lent its partitions, these as they came back, and how many
@@ -272,7 +327,7 @@ pub fn round<S: Site, W: PartWork<S>, G: Gate<W>, K: RowSink<S::Row>, R: Wait>(
     let came = Vec::with_capacity(alloc, parts.len())?;
     let all = Vec::with_capacity(alloc, parts.len())?;
     let homes = offer_due(alloc, handoff, owner, bounds, parts, homes);
-    let handed = hand_on(handoff, lent, moment, sink);
+    let handed = hand_on(alloc, handoff, lent, moment, sink);
     let outcomes = collect_all(rt, handoff, owner, hand, gate, homes, came);
     let (lent, handed) = handed?;
     let came = all_came(outcomes, all)?;

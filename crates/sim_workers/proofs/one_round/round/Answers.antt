@@ -2,7 +2,7 @@ use Rattle.std.proofs.Common.{rules, ◌≡◌, ◌≤◌, length, arith, subst,
 use Rattle.std.proofs.lemmas.Result.{err_from_is_err_and}
 use Rattle.sim_clock.specs.declared.refusal.Refusal.TheVariants as refusals
 use Rattle.sim_windows.specs.Rounds.{AllCome}
-use Rattle.sim_workers.proofs.Handing.{handing_weaker}
+use Rattle.sim_workers.proofs.Handing.{handing_weaker, stops_after}
 use Rattle.sim_workers.specs.Rounds.{IsRefusedRound}
 use Rattle.sim_handoff.specs.Seats.{owner_record}
 use Rattle.sim_workers.proofs.Sendings.{as_many_homes, as_many_outcomes, resting_of, round_of}
@@ -79,7 +79,7 @@ returns-in_err-came-2-clause-stops g c =
     let come = round_of e k g.W.Packs.packed owner c.args.bounds.now _ _ _ c.requires.bounds c.offer_due-homes.ensures.sent c.collect_all-outcomes.ensures.collected in
     let told = err_from_is_err_and c.from_residual-in_err-came-2.result c.from_residual-in_err-came-2.ensures.1 in
     let handed = c.in_ok-lent.ensures.handed in
-    rw (told.1, told.2) (inr (_, (handed.rows, (handed.are, inl (handed.taken, inr (record { outcomes = c.collect_all-outcomes.result.items; come = come; graver = c.in_err-came-2.ensures.refused }))))))
+    rw (told.1, told.2) (inr (_, (handed.rows, (handed.are, stops_after g.met.S.Site.laws g.K.RowSink.took g.K.RowSink.broke c.args.sink.now c.in_err-came-2.field-0.0 c.hand_on-handed.new.sink (IsRefusedRound e k c.args.bounds.now c.args.parts.items) handed.rows handed.taken (inr (record { outcomes = c.collect_all-outcomes.result.items; come = come; graver = c.in_err-came-2.ensures.refused }))))))
 
 pub returns-clause-came : goal.returns-clause-came
 returns-clause-came g c =

@@ -1,6 +1,5 @@
 use Rattle.std.specs.Prelude.{List, Vec, [], filter, map, ◌∷◌, ◌≡◌}
 use Rattle.std.proofs.Common.{Global, ap, refl, ◌∙◌}
-use Rattle.sim_engine.specs.Merge.{merged_all, row_cmp}
 use Rattle.sim_engine.specs.Prefixes.{is_before}
 use Rattle.sim_windows.specs.Stages.{Standing, is_from, standing_of}
 use Rattle.sim_windows.proofs.kept.Kept.settle_before.Goals as goal
@@ -26,4 +25,4 @@ returns-clause-settled given c = λ parts.
 pub returns-clause-rows : goal.returns-clause-rows
 returns-clause-rows given c =
     let engine = given.S.Site.engine in
-    c.in_ok-settled.ensures.rows ∙ ap (merged_all (row_cmp engine)) (of_items (filter (is_before engine c.args.moment)) c.replace-rows.result c.args.self.now.rows c.replace-rows.ensures.value)
+    c.in_ok-settled.ensures.fronts ∙ of_items (filter (is_before engine c.args.moment)) c.replace-rows.result c.args.self.now.rows c.replace-rows.ensures.value

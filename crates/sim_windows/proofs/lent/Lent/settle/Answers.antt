@@ -1,4 +1,6 @@
 use Rattle.std.proofs.Common.{ap, subst, sym, ◌∙◌}
+use Rattle.std.specs.Prelude.{map}
+use Rattle.sim_engine.specs.Merge.{merged_all, row_cmp}
 use Rattle.sim_windows.specs.Stages.{Settles, Standing, front_in, standing_of, with_parts}
 use Rattle.sim_windows.proofs.Stepped.{settled}
 use Rattle.sim_windows.proofs.lent.Lent.settle.Goals as goal
@@ -7,6 +9,6 @@ pub returns : goal.returns
 returns g c = λ parts at.
     let k : Standing _ _ _ = standing_of c.self.inside.kept parts in
     let h : Standing _ _ _ = standing_of c.settle_before.new.self parts in
-    subst (λ (x : Standing _ _ _). Settles g.S.Site.engine g.S.Site.conditions (with_parts parts x) h c.in_ok-rows.rows.items) c.self.view_is
-    (settled g.met.S.Site.laws k h c.args.moment c.in_ok-rows.rows.items
-    (at ∙ sym (ap (λ (x : Standing _ _ _). front_in g.S.Site.engine (with_parts parts x)) c.self.view_is)) (c.in_ok-rows.ensures.settled parts) c.in_ok-rows.ensures.rows)
+    subst (λ (x : Standing _ _ _). Settles g.S.Site.engine g.S.Site.conditions (with_parts parts x) h (merged_all (row_cmp g.S.Site.engine) (map (λ l. l.items) c.in_ok-fronts.fronts.items))) c.self.view_is
+    (settled g.met.S.Site.laws k h c.args.moment (merged_all (row_cmp g.S.Site.engine) (map (λ l. l.items) c.in_ok-fronts.fronts.items))
+    (at ∙ sym (ap (λ (x : Standing _ _ _). front_in g.S.Site.engine (with_parts parts x)) c.self.view_is)) (c.in_ok-fronts.ensures.settled parts) (ap (merged_all (row_cmp g.S.Site.engine)) c.in_ok-fronts.ensures.rows))

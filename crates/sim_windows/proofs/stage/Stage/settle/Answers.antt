@@ -1,5 +1,6 @@
 use Rattle.std.specs.Prelude.{[]}
 use Rattle.std.proofs.Common.{ap, subst, sym, ◌∙◌}
+use Rattle.sim_engine.specs.Merge.{merged_all, row_cmp}
 use Rattle.sim_windows.specs.Stages.{Settles, Standing, front_in, standing_of}
 use Rattle.sim_windows.proofs.Stepped.{on, settled}
 use Rattle.sim_windows.proofs.stage.Stage.settle.Goals as goal
@@ -10,7 +11,7 @@ invariant_of-result g c =
     let k : Standing _ _ _ = standing_of i.kept i.parts.items in
     let h : Standing _ _ _ = standing_of c.settle_before.new.self i.parts.items in
     let made = settled g.met.S.Site.laws k h c.front-moment.result c.in_ok-rows.rows.items
-    (c.front-moment.ensures ∙ ap (λ (x : Standing _ _ _). front_in g.S.Site.engine x) (sym c.self.view_is)) (c.in_ok-rows.ensures.settled i.parts.items) c.in_ok-rows.ensures.rows in
+    (c.front-moment.ensures ∙ ap (λ (x : Standing _ _ _). front_in g.S.Site.engine x) (sym c.self.view_is)) (c.in_ok-fronts.ensures.settled i.parts.items) (c.in_ok-rows.ensures ∙ ap (merged_all (row_cmp g.S.Site.engine)) c.in_ok-fronts.ensures.rows) in
     on g.met.S.Site.laws k h [] made.follows c.self.invariant
 
 pub returns : goal.returns
@@ -20,4 +21,4 @@ returns g c =
     let h : Standing _ _ _ = standing_of c.settle_before.new.self i.parts.items in
     subst (λ (x : Standing _ _ _). Settles g.S.Site.engine g.S.Site.conditions x h c.in_ok-rows.rows.items) c.self.view_is
     (settled g.met.S.Site.laws k h c.front-moment.result c.in_ok-rows.rows.items
-    (c.front-moment.ensures ∙ ap (λ (x : Standing _ _ _). front_in g.S.Site.engine x) (sym c.self.view_is)) (c.in_ok-rows.ensures.settled i.parts.items) c.in_ok-rows.ensures.rows)
+    (c.front-moment.ensures ∙ ap (λ (x : Standing _ _ _). front_in g.S.Site.engine x) (sym c.self.view_is)) (c.in_ok-fronts.ensures.settled i.parts.items) (c.in_ok-rows.ensures ∙ ap (merged_all (row_cmp g.S.Site.engine)) c.in_ok-fronts.ensures.rows))
