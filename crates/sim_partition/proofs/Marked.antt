@@ -1,9 +1,8 @@
 -- Marks of sites.
-use Rattle.std.specs.Prelude.{Bool, List, None, Option, Some, [], cond, false, get_or, length, map, nat_lt, position, set, true, ℕ, ◌++◌, ◌<◌, ◌∷◌, ◌≡◌, ◌≢◌}
+use Rattle.std.specs.Prelude.{Bool, List, None, Option, Some, [], cond, false, get_or, length, map, nat_lt, position, true, ℕ, ◌<◌, ◌∷◌, ◌≡◌, ◌≢◌}
 use Rattle.std.specs.List.{position_or_len}
 use Rattle.std.proofs.Common.{ap, arith, refl, sym, ◌∙◌}
 use Rattle.std.proofs.lemmas.Bool.{lt-ltb}
-use Rattle.std.proofs.lemmas.List.{get_or-map, get_or-set_same, map-append, map-set}
 use Rattle.std.proofs.lemmas.List.Sums.{position_or_len_is}
 use Rattle.sim_clock.specs.declared.key.Key.{Key}
 use Rattle.sim_clock.specs.Order.{lesser}
@@ -16,7 +15,7 @@ use Rattle.sim_partition.specs.Sites.{is_due_there, mark_of}
 use Rattle.sim_index.specs.declared.mark.Mark.{Mark}
 use Rattle.sim_index.specs.Marked.{AreMarked, Marked}
 use Rattle.sim_index.proofs.Kept.{node_kept}
-use Rattle.sim_index.specs.Marks.{IsPlaceOfLeast, least_of, no_mark, node}
+use Rattle.sim_index.specs.Marks.{IsPlaceOfLeast, least_of}
 
 not_due_by : (key : Key) (o : Option Key) (b : Bool) → is_due key o ≡ b → o ≢ Some key → b ≡ false
 not_due_by key o true h n = absurd (n (is_due_least key o h))

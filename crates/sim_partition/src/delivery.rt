@@ -5,13 +5,13 @@ ghost use Rattle.sim_engine.specs.World.{arrival, delivered, delivered_one};
 ghost use Rattle.sim_index.specs.Marked.{AreMarked};
 ghost use Rattle.sim_partition.specs.Sites.{IsKept, mark_of};
 
-use crate::marking::mark_of;
 use crate::places::place_of;
-use sim_clock::Refusal;
+use sim_clock::{Refusal, lesser};
 use sim_engine::Site;
-use sim_index::MarkedList;
+use sim_index::{Mark, MarkedList};
 
-// Hands a transfer to the site that it goes to, if it is one of these.
+// Hands a transfer to the site that it goes to, if it is one of these. What is due there next is then the
+// lesser of its key and of what was, so that nothing else of the site is looked at.
 fn deliver_one<S: Site>(sites: &mut MarkedList<S>, transfer: S::Transfer) -> Result<(), Refusal>
     requires ascends { Ascends S.engine.number 0 sites.old.values }
     requires marked { AreMarked (mark_of S.engine) sites.old }
@@ -20,9 +20,10 @@ fn deliver_one<S: Site>(sites: &mut MarkedList<S>, transfer: S::Transfer) -> Res
     ensures memory { IfErr result (λ refusal. refusal ≡ Refusal.Memory) }
 {
     if let Some(place) = place_of(sites.values(), S::to(&transfer)) {
+        let key = S::transfer_key(&transfer);
+        let due = lesser(Some(key), sites.mark_at(place).due);
         sites.value_mut(place).accept(transfer)?;
-        let mark = mark_of(&sites.values()[place]);
-        sites.set_mark(place, mark);
+        sites.set_mark(place, Mark { due, hosts: 0 });
     }
     Ok(())
 }

@@ -1,6 +1,12 @@
 use Rattle.std.proofs.Common.{ap, length, subst, sym, ◌<◌, ◌∙◌, ◌≡◌}
+use Rattle.std.specs.Prelude.{Some}
+use Rattle.std.proofs.lemmas.List.{get_or-map}
+use Rattle.sim_clock.specs.Order.{lesser}
+use Rattle.sim_engine.specs.World.{least_due}
 use Rattle.sim_index.specs.Marked.{Marked}
-use Rattle.sim_index.proofs.Kept.{marked_anew}
+use Rattle.sim_index.specs.Marks.{no_mark, node}
+use Rattle.sim_index.specs.declared.mark.Mark.{Mark}
+use Rattle.sim_index.proofs.Kept.{marked_with}
 use Rattle.sim_partition.specs.Sites.{mark_of}
 use Rattle.sim_partition.proofs.Numbers.{absent, handed, number_there}
 use Rattle.sim_partition.proofs.delivery.deliver_one.Goals as goal
@@ -16,8 +22,18 @@ returns-in_ok-accept-clause-delivered g c =
 
 pub returns-in_ok-accept-clause-marked : goal.returns-in_ok-accept-clause-marked
 returns-in_ok-accept-clause-marked g c =
-    marked_anew (mark_of g.S.Site.engine) c.args.sites.now c.set_mark.new.self c.in-Some.place c.accept.new.self c.index-values-place.result c.mark_of-mark.result c.values-in-Some.result.now c.requires.marked
-    (subst (λ xs. c.in-Some.place < length xs) c.values.ensures.values c.in-Some.ensures.0) c.values-in-Some.ensures.values c.index-values-place.is c.mark_of-mark.ensures c.set_mark.ensures
+    let e = g.S.Site.engine in
+    let list = c.args.sites.now in
+    let place = c.in-Some.place in
+    let site = c.value_mut.result.now in
+    let within = subst (λ xs. place < length xs) c.values.ensures.values c.in-Some.ensures.0 in
+    let kept : node list.marks place ≡ mark_of e site =
+    ap (λ ms. node ms place) c.requires.marked ∙ get_or-map (mark_of e) list.values place site no_mark within ∙ sym (ap (mark_of e) c.value_mut.ensures.value) in
+    let due : c.lesser-due.result ≡ least_due e c.accept.new.self =
+    c.lesser-due.ensures ∙ ap (λ k. lesser (Some k) c.mark_at.result.due) c.transfer_key-key.ensures
+    ∙ ap (λ (m : Mark). lesser (Some (e.transfer_key c.args.transfer)) m.due) (c.mark_at.ensures ∙ kept)
+    ∙ sym (g.met.S.Site.laws.due_accepted c.args.transfer site) ∙ sym (ap (least_due e) c.in_ok-accept.ensures.accepted) in
+    marked_with (mark_of e) list c.set_mark.new.self place c.accept.new.self _ c.requires.marked (ap (λ d. let m : Mark = record { due = d; hosts = 0 } in m) due) c.set_mark.ensures
 
 pub returns-in_default-clause-delivered : goal.returns-in_default-clause-delivered
 returns-in_default-clause-delivered g c =

@@ -1,10 +1,10 @@
-use Rattle.std.proofs.Common.{ap, subst, ◌∙◌}
+use Rattle.std.proofs.Common.{ap, ◌∙◌}
 use Rattle.std.specs.Prelude.{All}
 use Rattle.sim_engine.specs.Rounds.{PartRun, part_begun}
 use Rattle.sim_partition.specs.Sites.{spent_or}
-use Rattle.sim_partition.specs.Steps.{Continues, StopsFrom, StopsRun, part_made}
+use Rattle.sim_partition.specs.Steps.{Continues, StopsRun, part_made}
 use Rattle.sim_partition.proofs.Runs.{after_more, stops_run}
-use Rattle.sim_partition.proofs.Spent.{begins, lives_as, now_lives}
+use Rattle.sim_partition.proofs.Spent.{lives_as, now_lives}
 use Rattle.sim_partition.proofs.partition.Partition.run_to.Goals as goal
 
 pub returns-in-Err-clause-stops : goal.returns-in-Err-clause-stops
