@@ -48,7 +48,8 @@ fn part_each<S: Site>(
     Ok(Parted { before, others })
 }
 
-// Parts rows at a moment. Where those from before it come first, they stay in their list.
+// Parts rows at a moment. Where those from before it come first, they stay in their list, and the others get
+// one with room for as many again.
 fn part_rows<S: Site>(
     alloc: Global,
     mut rows: Vec<S::Row>,
@@ -62,7 +63,8 @@ fn part_rows<S: Site>(
     if !are_before::<S>(first, moment) || !none_before::<S>(rest, moment) {
         return part_each::<S>(alloc, rows, moment);
     }
-    let others = rows.split_off(place)?;
+    let mut others = rows.split_off(place)?;
+    others.reserve(place)?;
     Ok(Parted {
         before: rows,
         others,
