@@ -1,17 +1,13 @@
 -- The leaves of a tree that has one for each of so many values, and the marks of those values.
-use Rattle.std.proofs.Common.{◌≡◌, ℕ, zero, suc, ◌*◌, ◌<◌, ◌≤◌, List, [], ◌∷◌, Option, Some, None, true, length, take, inl, inr, arith, refl, ap, sym, ◌∙◌}
+use Rattle.std.proofs.Common.{◌≡◌, ℕ, zero, suc, ◌<◌, ◌≤◌, List, [], ◌∷◌, Option, Some, None, true, length, take, inl, inr, arith, refl, ap, sym, ◌∙◌}
 use Rattle.std.specs.Prelude.{MatchOption}
-use Rattle.std.proofs.Math.Nat.{pow-succ'}
 use Rattle.std.proofs.lemmas.Bool.{cases_lt}
-use Rattle.std.proofs.lemmas.List.{get_or-take, get_or_past, length-take-le, take_all}
+use Rattle.std.proofs.lemmas.List.{get_or-take, get_or_past, length-take-le}
 use Rattle.std.proofs.lemmas.Bool.Decides.{nat_tests}
 use Rattle.sim_index.specs.declared.mark.Mark.{Mark}
 use Rattle.sim_index.specs.Marked.{HasLeaves, is_ready}
-use Rattle.sim_index.specs.Marks.{IsPlaceOfLeast, IsPower, least_of, no_mark, node}
+use Rattle.sim_index.specs.Marks.{IsPlaceOfLeast, least_of, no_mark, node}
 use Rattle.sim_index.proofs.Spans.{same_least}
-
-pub twice_power : (n : ℕ) → IsPower n → IsPower (2 * n)
-twice_power n h = (suc h.0, ap (λ m. 2 * m) h.1 ∙ sym (pow-succ' 2 h.0))
 
 -- the same nodes are the same marks, as far as both reach
 pub same_taken : (n : ℕ) (xs ys : List Mark) → n ≤ length xs → n ≤ length ys → ((i : ℕ) → node xs i ≡ node ys i) → take n xs ≡ take n ys
@@ -50,13 +46,6 @@ module _ (n : ℕ) (leaves : List Mark) (h : HasLeaves n leaves) where
   pub place_of_taken : (r : Option ℕ) → MatchOption r (least_of leaves ≡ None) (IsPlaceOfLeast leaves) → MatchOption r (least_of (take n leaves) ≡ None) (IsPlaceOfLeast (take n leaves))
   place_of_taken None e = least_taken ∙ e
   place_of_taken (Some place) is = place_taken place is
-
--- a tree of marks has a leaf for each, and they are its marks
-pub fresh_leaves : (n : ℕ) (marks leaves : List Mark) → n ≡ length marks → length marks < length leaves → ((i : ℕ) → node leaves i ≡ node marks i) → HasLeaves n leaves
-fresh_leaves n marks leaves e more same = record { room = omega arith; rest = λ i l. same i ∙ get_or_past marks i no_mark (omega arith) }
-
-pub fresh_taken : (n : ℕ) (marks leaves : List Mark) → n ≡ length marks → length marks < length leaves → ((i : ℕ) → node leaves i ≡ node marks i) → take n leaves ≡ marks
-fresh_taken n marks leaves e more same = same_taken n leaves marks (omega arith) (omega arith) same ∙ take_all n marks (omega arith)
 
 pub ready_by : (a b c : ℕ) → a < b → a < c → is_ready a b c ≡ true
 ready_by a b c l m = grind (arith, nat_tests)
