@@ -1,14 +1,14 @@
 -- Nodes of marks.
-use Rattle.std.proofs.Common.{◌≡◌, ℕ, zero, suc, ◌+◌, ◌*◌, ◌/◌, ◌^◌, ◌<◌, ◌≤◌, Bool, true, false, not, List, length, set, bit_and, bit_or, inl, inr, ◌⊎◌, arith, refl, ap, sym, subst, ◌∙◌}
+use Rattle.std.proofs.Common.{◌≡◌, ℕ, zero, suc, ◌+◌, ◌*◌, ◌-◌, ◌/◌, ◌^◌, ◌<◌, ◌≤◌, Bool, true, false, not, List, drop, length, set, bit_and, bit_or, inl, inr, ◌⊎◌, arith, refl, ap, sym, subst, ◌∙◌}
 use Rattle.std.specs.Prelude.{◌==◌, ◌≢◌}
 use Rattle.std.proofs.lemmas.Nat.{and_assoc, and_comm, and_le_r, and_or_apart, and_or_self, or_comm}
 use Rattle.std.proofs.lemmas.Bool.Decides.{nat_tests}
 use Rattle.std.proofs.lemmas.Bool.{cases_eq, cases_lt}
-use Rattle.std.proofs.lemmas.List.{get_or-set_other, get_or-set_same, length-set}
+use Rattle.std.proofs.lemmas.List.{get_or-drop, get_or-set_other, get_or-set_same, length-drop, length-set}
 use Rattle.std.proofs.lemmas.Nat.{pow_pos}
 use Rattle.std.proofs.Math.Nat.{pow-succ'}
 use Rattle.sim_index.specs.declared.mark.Mark.{Mark}
-use Rattle.sim_index.specs.Marks.{ArePairs, ArePairsBut, IsNextIn, IsPair, IsPower, NoneIn, beyond, joined, meets, no_mark, node, tells}
+use Rattle.sim_index.specs.Marks.{ArePairs, ArePairsBut, IsNextIn, IsPair, IsPower, IsTree, NoneIn, beyond, joined, meets, no_mark, node, tells}
 
 none_or : (a b s : ℕ) → bit_and a s ≡ 0 → bit_and b s ≡ 0 → bit_and (bit_or a b) s ≡ 0
 none_or a b s h k = and_or_apart s a b k ∙ h
@@ -162,3 +162,28 @@ pub quiet_row : (nodes : List Mark) (hosts row : ℕ) → ArePairs nodes → IsP
 quiet_row nodes hosts row pairs h long e =
     let same : row ≡ 2 ^ h.0 = h.1 in
     subst (λ r. NoneIn nodes hosts r (2 * r)) (sym same) (quiet_tree nodes hosts h.0 pairs (omega (arith, long, same)) e)
+
+-- what the leaves tell, by the nodes of the tree whose second half they are
+module _ (nodes leaves : List Mark) (width hosts : ℕ) (tree : IsTree nodes width) (view : drop width nodes ≡ leaves) where
+  as_long : length leaves ≡ width
+  as_long = omega (arith, ap length view, length-drop width nodes, tree.long)
+
+  as_told : (i : ℕ) → tells leaves hosts i ≡ tells nodes hosts (width + i)
+  as_told i = ap (λ ms. tells ms hosts i) (sym view) ∙ ap (meets hosts) (get_or-drop width nodes i no_mark)
+
+  pub none_of_leaves : (from : ℕ) → NoneIn nodes hosts (width + from) (2 * width) → NoneIn leaves hosts from (length leaves)
+  none_of_leaves from none = λ i l u. as_told i ∙ none (width + i) (omega (arith, l)) (omega (arith, u, as_long))
+
+  pub next_of_leaves : (from node : ℕ) → IsNextIn nodes hosts (width + from) (2 * width) node → IsNextIn leaves hosts from (length leaves) (node - width)
+  next_of_leaves from node next =
+      let back : width + (node - width) ≡ node = omega (arith, next.past) in
+      record {
+        past = omega (arith, next.past);
+        within = omega (arith, next.past, next.within, as_long);
+        found = as_told (node - width) ∙ ap (tells nodes hosts) back ∙ next.found;
+        none_before = λ i l u. as_told i ∙ next.none_before (width + i) (omega (arith, l)) (omega (arith, u, next.past));
+      }
+
+  -- none tells of a host of which the first node does not
+  pub none_of_root : (from : ℕ) → tells nodes hosts 1 ≡ false → NoneIn leaves hosts from (length leaves)
+  none_of_root from e i l u = as_told i ∙ quiet_row nodes hosts width tree.pairs (tree.power (omega (arith, u, as_long))) (omega (arith, tree.long)) e (width + i) (omega arith) (omega (arith, u, as_long))

@@ -3,12 +3,8 @@ use Rattle.std.proofs.lemmas.List.{drop-set-add}
 use Rattle.sim_index.specs.declared.mark.Mark.{Mark}
 use Rattle.sim_index.proofs.marks.Marks.put.Goals as goal
 
-pub returns-then-self-gt-FEW : goal.returns-then-self-gt-FEW
-returns-then-self-gt-FEW c =
+pub returns : goal.returns
+returns c =
     c.mend.ensures.leaves c.self.inside.width (omega (arith, c.self.invariant.long))
     ∙ drop-set-add c.self.inside.width c.self.inside.nodes.items c.args.place c.args.mark
     ∙ ap (λ (m : List Mark). set m c.args.place c.args.mark) c.self.view_is
-
-pub returns-else-self-gt-FEW : goal.returns-else-self-gt-FEW
-returns-else-self-gt-FEW c =
-    drop-set-add c.self.inside.width c.self.inside.nodes.items c.args.place c.args.mark ∙ ap (λ (m : List Mark). set m c.args.place c.args.mark) c.self.view_is
