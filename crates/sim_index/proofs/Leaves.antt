@@ -1,8 +1,8 @@
 -- The leaves of a tree that has one for each of so many values, and the marks of those values.
-use Rattle.std.proofs.Common.{◌≡◌, ℕ, zero, suc, ◌<◌, ◌≤◌, List, [], ◌∷◌, Option, Some, None, true, length, take, inl, inr, arith, refl, ap, sym, ◌∙◌}
+use Rattle.std.proofs.Common.{◌≡◌, ℕ, zero, suc, ◌+◌, ◌<◌, ◌≤◌, List, [], ◌∷◌, Option, Some, None, true, length, set, take, inl, inr, arith, refl, ap, sym, ◌∙◌}
 use Rattle.std.specs.Prelude.{MatchOption}
 use Rattle.std.proofs.lemmas.Bool.{cases_lt}
-use Rattle.std.proofs.lemmas.List.{get_or-take, get_or_past, length-take-le}
+use Rattle.std.proofs.lemmas.List.{get_or-set_other, get_or-take, get_or_past, length-set, length-take-le}
 use Rattle.std.proofs.lemmas.Bool.Decides.{nat_tests}
 use Rattle.sim_index.specs.declared.mark.Mark.{Mark}
 use Rattle.sim_index.specs.Marked.{HasLeaves, is_ready}
@@ -49,3 +49,16 @@ module _ (n : ℕ) (leaves : List Mark) (h : HasLeaves n leaves) where
 
 pub ready_by : (a b c : ℕ) → a < b → a < c → is_ready a b c ≡ true
 ready_by a b c l m = grind (arith, nat_tests)
+
+-- where there is room for one more, there is in both
+pub ready_room : (a b c : ℕ) → is_ready a b c ≡ true → (a < b) × (a < c)
+ready_room a b c h = (grind (arith, nat_tests), grind (arith, nat_tests))
+
+-- one more value, marked behind those that are there
+pub more_leaves : (n place more : ℕ) (leaves : List Mark) (mark : Mark) → HasLeaves n leaves → place ≡ n → n < length leaves → more ≡ n + 1 → HasLeaves more (set leaves place mark)
+more_leaves n place more leaves mark h at room next =
+    record { room = omega (arith, next, room, length-set leaves place mark); rest = λ i l. get_or-set_other leaves place i mark no_mark (λ e. omega (arith, e, l, at, next)) ∙ h.rest i (omega (arith, l, next)) }
+
+-- none left of values whose marks tell nothing
+pub no_leaves : {A : Type 0} (n : ℕ) (values : List A) (leaves : List Mark) → HasLeaves n leaves → values ≡ [] → ((i : ℕ) → node (take n leaves) i ≡ no_mark) → HasLeaves (length values) leaves
+no_leaves n values leaves h none quiet = record { room = omega (arith, ap length none); rest = λ i l. sym (node_taken n leaves h i) ∙ quiet i }
