@@ -42,15 +42,17 @@ pub record AreKept {A : Type 0} (told : List Bool) (all : List A) (leaves : List
   pub more : length kept < length tree
   pub fits : HasLeaves (length kept) tree
 
-pub are_kept : {A : Type 0} (told : List Bool) (values kept : List A) (leaves taken marks tree : List Mark) → length values ≤ length leaves → taken ≡ take (length values) leaves → kept ≡ items_where_true told values
-    → marks ≡ items_where_true told taken → length marks < length tree → ((i : ℕ) → node tree i ≡ node marks i) → AreKept told values leaves kept tree
-are_kept told values kept leaves taken marks tree room of picked stay more same =
-    let long : length kept ≡ length marks = ap length picked ∙ picked_long told values taken (sym (ap length of ∙ length-take-le (length values) leaves room)) ∙ ap length (sym stay) in
+pub are_kept : {A : Type 0} (told bs : List Bool) (values kept : List A) (leaves ms tree : List Mark) → length values ≤ length leaves → length told ≡ length values → bs ≡ told → ms ≡ leaves → kept ≡ items_where_true told values
+    → length (items_where_true bs (take (length bs) ms)) < length tree → ((i : ℕ) → node tree i ≡ node (items_where_true bs (take (length bs) ms)) i) → AreKept told values leaves kept tree
+are_kept told bs values kept leaves ms tree room all answers marked picked more same =
+    let marks : List Mark = items_where_true bs (take (length bs) ms) in
+    let stay : marks ≡ items_where_true told (take (length values) leaves) = (λ j. items_where_true (answers j) (take (length (answers j)) (marked j))) ∙ ap (λ k. items_where_true told (take k leaves)) all in
+    let long : length kept ≡ length marks = ap length picked ∙ picked_long told values (take (length values) leaves) (sym (length-take-le (length values) leaves room)) ∙ ap length (sym stay) in
     record {
       values = picked;
-      marks = same_taken (length kept) tree marks (omega (arith, long)) (omega (arith, long)) same ∙ take_all (length kept) marks (omega (arith, long)) ∙ stay ∙ ap (items_where_true told) of;
-      more = omega (arith, long);
-      fits = record { room = omega (arith, long); rest = λ i l. same i ∙ get_or_past marks i no_mark (omega (arith, long, l)) };
+      marks = same_taken (length kept) tree marks (omega (arith, long, more)) (omega (arith, long)) same ∙ take_all (length kept) marks (omega (arith, long)) ∙ stay;
+      more = omega (arith, long, more);
+      fits = record { room = omega (arith, long, more); rest = λ i l. same i ∙ get_or_past marks i no_mark (omega (arith, long, l)) };
     }
 
 module _ {A : Type 0} (mark : A → Mark) where

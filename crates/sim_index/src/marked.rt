@@ -1,5 +1,5 @@
 //! Values with their marks.
-ghost use Rattle.std.specs.Prelude.{◌≡◌, ◌+◌, ◌*◌, ◌^◌, ◌<◌, ◌≤◌, ◌++◌, ◌∷◌, [], IfOk, if◌then◌else◌, IfSome, IsOk, MatchOption, None, OnErr, OnOk, false, length, set, slice_index_or, true, vec_capacity, vec_len, ℕ};
+ghost use Rattle.std.specs.Prelude.{◌≡◌, ◌+◌, ◌*◌, ◌^◌, ◌<◌, ◌≤◌, ◌++◌, ◌∷◌, [], IfOk, if◌then◌else◌, IfSome, IsOk, MatchOption, None, OnErr, OnOk, false, length, set, slice_index_or, take, true, vec_capacity, vec_len, ℕ};
 ghost use Rattle.std.specs.Borrow.{sem};
 ghost use Rattle.std.specs.Fn.{FnReturnsAt};
 ghost use Rattle.std.specs.List.{AllZip, items_where_true};
@@ -55,6 +55,17 @@ fn pick<T: Drop>(values: &mut Vec<T>, told: &[bool])
         None => false,
         Some(stays) => *stays,
     });
+}
+
+// A tree of the marks at which the answer is `true`, for the list that has these leaves.
+fn picked_tree(alloc: Global, leaves: &[Mark], told: &[bool]) -> Result<Marks, AllocError>
+    requires { length told.now ≤ length leaves.now }
+    ensures marks { IfOk result (λ m. (i : ℕ) → node m i ≡ node (items_where_true told.now (take (length told.now) leaves.now)) i) }
+    ensures more { IfOk result (λ m. length (items_where_true told.now (take (length told.now) leaves.now)) < length m) }
+{
+    let mut marks = Vec::from_slice(alloc, &leaves[..told.len()])?;
+    pick(&mut marks, told);
+    tree_of(alloc, leaves.len(), &marks)
 }
 
 /// Values at the places of a list, each with its mark, in a tree beside them: the least of what is
@@ -201,9 +212,7 @@ impl<T> MarkedList<T> {
         ensures unchanged { OnErr result (self.new ≡ self.old) }
     {
         let told = answers(self.alloc, &self.values, keeps)?;
-        let mut marks = Vec::from_slice(self.alloc, &self.tree.leaves()[..self.values.len()])?;
-        pick(&mut marks, &told);
-        let tree = tree_of(self.alloc, self.tree.len(), &marks)?;
+        let tree = picked_tree(self.alloc, self.tree.leaves(), &told)?;
         self.values.reserve(1)?;
         pick(&mut self.values, &told);
         self.tree = tree;

@@ -1,4 +1,4 @@
-use Rattle.std.proofs.Common.{ap, arith, length, subst, take, vec_capacity, vec_len, ◌≡◌, ◌∙◌}
+use Rattle.std.proofs.Common.{ap, arith, length, subst, vec_capacity, vec_len, ◌∙◌}
 use Rattle.std.specs.Fn.{FnReturnsAt}
 use Rattle.std.specs.List.{AllZip, items_where_true}
 use Rattle.sim_index.specs.Marked.{Marked}
@@ -7,22 +7,19 @@ use Rattle.sim_index.proofs.Picked.{AreKept, are_kept}
 use Rattle.sim_index.proofs.marked.MarkedList.retain.Given as given
 use Rattle.sim_index.proofs.marked.MarkedList.retain.Goals as goal
 
-kept : (g : given.Over) (c : goal.After-drop-told-2 g) → AreKept c.in_ok-told.told.items c.self.inside.values.items c.self.inside.tree c.pick-2.new.values.items c.in_ok-tree.tree
+kept : (g : given.Over) (c : goal.After-drop-told-2 g) → AreKept c.in_ok-told.told.items c.self.inside.values.items c.self.inside.tree c.pick.new.values.items c.in_ok-tree.tree
 kept g c =
-    let n : c.len.result ≡ length c.self.inside.values.items = omega (arith, c.len.ensures, c.self.inside.values.ok.0) in
-    are_kept c.in_ok-told.told.items c.self.inside.values.items c.pick-2.new.values.items c.self.inside.tree c.in_ok-marks.marks.items c.deref-3.result.now c.in_ok-tree.tree c.self.invariant.room
-    (c.in_ok-marks.ensures.items ∙ (λ j. take (n j) (c.leaves.ensures j)))
-    (c.pick-2.ensures.items ∙ (λ j. items_where_true (c.deref-4.ensures.value j) (c.reserve.ensures.items j)))
-    (c.deref-3.ensures.value ∙ c.pick.ensures.items ∙ ap (λ bs. items_where_true bs c.in_ok-marks.marks.items) c.deref-2.ensures.value)
-    c.in_ok-tree.ensures.more c.in_ok-tree.ensures.marks
+    are_kept c.in_ok-told.told.items c.deref-2.result.now c.self.inside.values.items c.pick.new.values.items c.self.inside.tree c.leaves.result.now c.in_ok-tree.tree c.self.invariant.room
+    (c.in_ok-told.ensures.length ∙ ap length c.deref.ensures.value) c.deref-2.ensures.value c.leaves.ensures (c.pick.ensures.items ∙ (λ j. items_where_true (c.deref-3.ensures.value j) (c.reserve.ensures.items j))) c.in_ok-tree.ensures.more
+    c.in_ok-tree.ensures.marks
 
 pub invariant_of-self-2 : goal.invariant_of-self-2
 invariant_of-self-2 g c = (kept g c).fits
 
 pub returns-clause-ready : goal.returns-clause-ready
 returns-clause-ready g c =
-    ready_by (vec_len c.pick-2.new.values) (vec_capacity c.pick-2.new.values) (length c.in_ok-tree.tree)
-    (omega (arith, c.pick-2.ensures.length, c.pick-2.ensures.capacity, c.reserve.ensures.len, c.in_ok-reserve.ensures.ok)) (omega (arith, (kept g c).more, c.pick-2.new.values.ok.0))
+    ready_by (vec_len c.pick.new.values) (vec_capacity c.pick.new.values) (length c.in_ok-tree.tree) (omega (arith, c.pick.ensures.length, c.pick.ensures.capacity, c.reserve.ensures.len, c.in_ok-reserve.ensures.ok))
+    (omega (arith, (kept g c).more, c.pick.new.values.ok.0))
 
 pub returns-clause-picked : goal.returns-clause-picked
 returns-clause-picked g c =
