@@ -177,10 +177,11 @@ impl<T> MarkedList<T> {
     {
         self.values.reserve(1)?;
         let width = self.tree.len();
-        if self.values.len() == width {
-            let tree = tree_of(self.alloc, width, self.tree.leaves())?;
-            self.tree = tree;
+        if self.values.len() < width {
+            return Ok(());
         }
+        let tree = tree_of(self.alloc, width, self.tree.leaves())?;
+        self.tree = tree;
         Ok(())
     }
 

@@ -93,18 +93,6 @@ fn mend(nodes: &mut Vec<Mark>, width: usize, node: usize)
     }
 }
 
-// Writes marks over the leaves of a tree of empty places.
-fn write_leaves(nodes: &mut Vec<Mark>, width: usize, marks: &[Mark])
-    requires room { width + length marks.now ≤ vec_len nodes.old }
-    requires empty { (i : ℕ) → node nodes.old.items i ≡ no_mark }
-    ensures leaves { (i : ℕ) → node nodes.new.items (width + i) ≡ node marks.now i }
-    ensures length { vec_len nodes.new ≡ vec_len nodes.old }
-{
-    for i in 0..marks.len() {
-        nodes[width + i] = marks[i];
-    }
-}
-
 // Writes the marks above the leaves of a tree.
 fn write_above(nodes: &mut Vec<Mark>, width: usize)
     requires { vec_len nodes.old ≡ 2 * width }
@@ -189,7 +177,7 @@ impl Marks {
         ensures length { IfOk result (λ m. length m ≡ width) }
     {
         let mut nodes = vec![in alloc; NO_MARK; 2 * width]?;
-        write_leaves(&mut nodes, width, marks);
+        nodes[width..width + marks.len()].copy_from_slice(marks);
         write_above(&mut nodes, width);
         Ok(Marks { nodes, width })
     }
