@@ -62,6 +62,7 @@ fn picked_tree(alloc: Global, leaves: &[Mark], told: &[bool]) -> Result<Marks, A
     requires { length told.now ≤ length leaves.now }
     ensures marks { IfOk result (λ m. (i : ℕ) → node m i ≡ node (items_where_true told.now (take (length told.now) leaves.now)) i) }
     ensures more { IfOk result (λ m. length (items_where_true told.now (take (length told.now) leaves.now)) < length m) }
+    ensures wide { IfOk result (λ m. length leaves.now ≤ length m) }
 {
     let mut marks = Vec::from_slice(alloc, &leaves[..told.len()])?;
     pick(&mut marks, told);
@@ -214,7 +215,7 @@ impl<T> MarkedList<T> {
     {
         let told = answers(self.alloc, &self.values, keeps)?;
         let tree = picked_tree(self.alloc, self.tree.leaves(), &told)?;
-        self.values.reserve(1)?;
+        self.values.reserve(tree.len() - self.values.len())?;
         pick(&mut self.values, &told);
         self.tree = tree;
         Ok(())

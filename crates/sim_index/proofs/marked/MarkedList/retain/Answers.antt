@@ -1,4 +1,4 @@
-use Rattle.std.proofs.Common.{ap, arith, length, subst, vec_capacity, vec_len, ◌∙◌}
+use Rattle.std.proofs.Common.{ap, arith, length, subst, vec_capacity, vec_len, ◌<◌, ◌≤◌, ◌∙◌}
 use Rattle.std.specs.Fn.{FnReturnsAt}
 use Rattle.std.specs.List.{AllZip, items_where_true}
 use Rattle.sim_index.specs.Marked.{Marked}
@@ -18,8 +18,9 @@ invariant_of-self-2 g c = (kept g c).fits
 
 pub returns-clause-ready : goal.returns-clause-ready
 returns-clause-ready g c =
-    ready_by (vec_len c.pick.new.values) (vec_capacity c.pick.new.values) (length c.in_ok-tree.tree) (omega (arith, c.pick.ensures.length, c.pick.ensures.capacity, c.reserve.ensures.len, c.in_ok-reserve.ensures.ok))
-    (omega (arith, (kept g c).more, c.pick.new.values.ok.0))
+    let few : vec_len c.pick.new.values < length c.in_ok-tree.tree = omega (arith, (kept g c).more, c.pick.new.values.ok.0) in
+    let room : length c.in_ok-tree.tree ≤ vec_capacity c.pick.new.values = omega (arith, c.pick.ensures.capacity, c.reserve.ensures.len, c.in_ok-reserve.ensures.ok, c.len.ensures.length, c.len-2.ensures) in
+    ready_by (vec_len c.pick.new.values) (vec_capacity c.pick.new.values) (length c.in_ok-tree.tree) (omega (arith, few, room)) few
 
 pub returns-clause-picked : goal.returns-clause-picked
 returns-clause-picked g c =
