@@ -1,4 +1,4 @@
-use Rattle.std.proofs.Common.{ap, arith, length, subst, vec_capacity, vec_len, ◌<◌, ◌≤◌, ◌∙◌}
+use Rattle.std.proofs.Common.{ap, arith, length, subst, sym, vec_capacity, vec_len, ◌<◌, ◌≤◌, ◌∙◌}
 use Rattle.std.specs.Fn.{FnReturnsAt}
 use Rattle.std.specs.List.{AllZip, items_where_true}
 use Rattle.sim_index.specs.Marked.{Marked}
@@ -12,6 +12,12 @@ kept g c =
     are_kept c.in_ok-told.told.items c.deref-2.result.now c.self.inside.values.items c.pick.new.values.items c.self.inside.tree c.leaves.result.now c.in_ok-tree.tree c.self.invariant.room
     (c.in_ok-told.ensures.length ∙ ap length c.deref.ensures.value) c.deref-2.ensures.value c.leaves.ensures (c.pick.ensures.items ∙ (λ j. items_where_true (c.deref-3.ensures.value j) (c.reserve.ensures.items j))) c.in_ok-tree.ensures.more
     c.in_ok-tree.ensures.marks
+
+pub picked_tree-requires : goal.picked_tree-requires
+picked_tree-requires g c = omega (arith, ap length c.deref-2.ensures.value, c.in_ok-told.ensures.length, ap length c.deref.ensures.value, ap length c.leaves.ensures, c.self.invariant.room)
+
+pub pick-requires : goal.pick-requires
+pick-requires g c = ap length c.deref-3.ensures.value ∙ c.in_ok-told.ensures.length ∙ ap length c.deref.ensures.value ∙ ap length (sym c.reserve.ensures.items)
 
 pub invariant_of-self-2 : goal.invariant_of-self-2
 invariant_of-self-2 g c = (kept g c).fits
