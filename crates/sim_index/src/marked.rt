@@ -22,7 +22,7 @@ fn tree_of(alloc: Global, width: usize, marks: &[Mark]) -> Result<Marks, AllocEr
     if 1 << 60 <= width {
         return Err(AllocError);
     }
-    let places = (2 * marks.len()).max(width).max(8).next_power_of_two();
+    let places = (2 * marks.len()).max(width).next_power_of_two();
     Marks::of(alloc, places, marks)
 }
 
@@ -57,6 +57,10 @@ fn pick<T: Drop>(values: &mut Vec<T>, told: &[bool])
     });
 }
 
+// So many places there are at the least where values leave, so that the list is not gone over again
+// after each push.
+const FEW: usize = 8;
+
 // A tree of the marks at which the answer is `true`, for the list that has these leaves.
 fn picked_tree(alloc: Global, leaves: &[Mark], told: &[bool]) -> Result<Marks, AllocError>
     requires { length told.now ≤ length leaves.now }
@@ -66,7 +70,12 @@ fn picked_tree(alloc: Global, leaves: &[Mark], told: &[bool]) -> Result<Marks, A
 {
     let mut marks = Vec::from_slice(alloc, &leaves[..told.len()])?;
     pick(&mut marks, told);
-    tree_of(alloc, leaves.len(), &marks)
+    let width = if marks.len() < told.len() {
+        leaves.len().max(FEW)
+    } else {
+        leaves.len()
+    };
+    tree_of(alloc, width, &marks)
 }
 
 /// Values at the places of a list, each with its mark, in a tree beside them: the least of what is
