@@ -112,7 +112,7 @@ fn least_below(nodes: &[Mark], above: usize) -> usize
     ensures { IsFirstBelow (node nodes.now (2 * above)).due (node nodes.now (2 * above + 1)).due (2 * above) result }
 {
     let (first, second) = (mark_at(nodes, 2 * above), mark_at(nodes, 2 * above + 1));
-    if is_second(first.due, second.due) {
+    if is_second(&first.due, &second.due) {
         return 2 * above + 1;
     }
     2 * above
@@ -203,6 +203,9 @@ impl Marks {
         ensures { self.new ≡ set self.old place mark }
     {
         let node = self.width + place;
+        if self.nodes[node] == mark {
+            return;
+        }
         self.nodes[node] = mark;
         mend(&mut self.nodes, self.width, node);
     }
