@@ -1,17 +1,13 @@
 -- The leaves of a tree that has one for each of so many values, and the marks of those values.
-use Rattle.std.proofs.Common.{◌≡◌, ℕ, zero, suc, ◌*◌, ◌<◌, ◌≤◌, List, [], ◌∷◌, Option, Some, None, true, length, take, inl, inr, arith, refl, ap, sym, ◌∙◌}
+use Rattle.std.proofs.Common.{◌≡◌, ℕ, zero, suc, ◌+◌, ◌<◌, ◌≤◌, List, [], ◌∷◌, Option, Some, None, true, length, set, take, inl, inr, arith, refl, ap, sym, ◌∙◌}
 use Rattle.std.specs.Prelude.{MatchOption}
-use Rattle.std.proofs.Math.Nat.{pow-succ'}
 use Rattle.std.proofs.lemmas.Bool.{cases_lt}
-use Rattle.std.proofs.lemmas.List.{get_or-take, get_or_past, length-take-le, take_all}
+use Rattle.std.proofs.lemmas.List.{get_or-set_other, get_or-take, get_or_past, length-set, length-take-le}
 use Rattle.std.proofs.lemmas.Bool.Decides.{nat_tests}
 use Rattle.sim_index.specs.declared.mark.Mark.{Mark}
 use Rattle.sim_index.specs.Marked.{HasLeaves, is_ready}
-use Rattle.sim_index.specs.Marks.{IsPlaceOfLeast, IsPower, least_of, no_mark, node}
+use Rattle.sim_index.specs.Marks.{IsPlaceOfLeast, least_of, no_mark, node}
 use Rattle.sim_index.proofs.Spans.{same_least}
-
-pub twice_power : (n : ℕ) → IsPower n → IsPower (2 * n)
-twice_power n h = (suc h.0, ap (λ m. 2 * m) h.1 ∙ sym (pow-succ' 2 h.0))
 
 -- the same nodes are the same marks, as far as both reach
 pub same_taken : (n : ℕ) (xs ys : List Mark) → n ≤ length xs → n ≤ length ys → ((i : ℕ) → node xs i ≡ node ys i) → take n xs ≡ take n ys
@@ -51,12 +47,18 @@ module _ (n : ℕ) (leaves : List Mark) (h : HasLeaves n leaves) where
   place_of_taken None e = least_taken ∙ e
   place_of_taken (Some place) is = place_taken place is
 
--- a tree of marks has a leaf for each, and they are its marks
-pub fresh_leaves : (n : ℕ) (marks leaves : List Mark) → n ≡ length marks → length marks < length leaves → ((i : ℕ) → node leaves i ≡ node marks i) → HasLeaves n leaves
-fresh_leaves n marks leaves e more same = record { room = omega arith; rest = λ i l. same i ∙ get_or_past marks i no_mark (omega arith) }
-
-pub fresh_taken : (n : ℕ) (marks leaves : List Mark) → n ≡ length marks → length marks < length leaves → ((i : ℕ) → node leaves i ≡ node marks i) → take n leaves ≡ marks
-fresh_taken n marks leaves e more same = same_taken n leaves marks (omega arith) (omega arith) same ∙ take_all n marks (omega arith)
-
 pub ready_by : (a b c : ℕ) → a < b → a < c → is_ready a b c ≡ true
 ready_by a b c l m = grind (arith, nat_tests)
+
+-- where there is room for one more, there is in both
+pub ready_room : (a b c : ℕ) → is_ready a b c ≡ true → (a < b) × (a < c)
+ready_room a b c h = (grind (arith, nat_tests), grind (arith, nat_tests))
+
+-- one more value, marked behind those that are there
+pub more_leaves : (n place more : ℕ) (leaves : List Mark) (mark : Mark) → HasLeaves n leaves → place ≡ n → n < length leaves → more ≡ n + 1 → HasLeaves more (set leaves place mark)
+more_leaves n place more leaves mark h at room next =
+    record { room = omega (arith, next, room, length-set leaves place mark); rest = λ i l. get_or-set_other leaves place i mark no_mark (λ e. omega (arith, e, l, at, next)) ∙ h.rest i (omega (arith, l, next)) }
+
+-- none left of values whose marks tell nothing
+pub no_leaves : {A : Type 0} (n : ℕ) (values : List A) (leaves : List Mark) → HasLeaves n leaves → values ≡ [] → ((i : ℕ) → node (take n leaves) i ≡ no_mark) → HasLeaves (length values) leaves
+no_leaves n values leaves h none quiet = record { room = omega (arith, ap length none); rest = λ i l. sym (node_taken n leaves h i) ∙ quiet i }

@@ -1,9 +1,12 @@
 -- Values that stay, each by the answer about it, and their marks.
-use Rattle.std.proofs.Common.{ℕ, ◌≡◌, ◌<◌, ◌≤◌, Bool, true, false, cond, List, [], ◌∷◌, ◌++◌, filter, length, map, get_or, take, arith, refl, ap, sym, ◌∙◌}
-use Rattle.std.proofs.lemmas.List.{length-take-le}
+use Rattle.std.proofs.Common.{ℕ, ◌≡◌, ◌<◌, ◌≤◌, Bool, true, false, cond, List, [], ◌∷◌, ◌++◌, filter, length, map, take, arith, refl, ap, sym, ◌∙◌}
+use Rattle.std.proofs.lemmas.List.{get_or_past, length-take-le, take_all}
 use Rattle.std.specs.List.{AllZip, items_where_true}
+use Rattle.std.specs.List.Retain.{ReturnsInTurn}
 use Rattle.sim_index.specs.declared.mark.Mark.{Mark}
-use Rattle.sim_index.specs.Marked.{IsPicked, Marked}
+use Rattle.sim_index.specs.Marked.{HasLeaves, IsPicked, Marked}
+use Rattle.sim_index.specs.Marks.{no_mark, node}
+use Rattle.sim_index.proofs.Leaves.{same_taken}
 
 pub asked_more : {A B : Type 0} (R : A → B → Type 0) (xs : List A) (ys : List B) (x : A) (y : B) → AllZip R xs ys → R x y → AllZip R (xs ++ x ∷ []) (ys ++ y ∷ [])
 asked_more R [] [] x y h k = (k, tt)
@@ -11,36 +14,17 @@ asked_more R [] (b ∷ ys) x y h k = absurd h
 asked_more R (a ∷ xs) [] x y h k = absurd h
 asked_more R (a ∷ xs) (b ∷ ys) x y h k = (h.0, asked_more R xs ys x y h.1 k)
 
--- one more answer
-told_more : {A : Type 0} (bs : List Bool) (xs : List A) (b : Bool) (d : A) → length bs < length xs → items_where_true (bs ++ b ∷ []) xs ≡ items_where_true bs xs ++ cond b (get_or xs (length bs) d ∷ []) []
-told_more [] [] b d l = absurd (omega arith)
-told_more [] (x ∷ xs) true d l = refl
-told_more [] (x ∷ xs) false d l = refl
-told_more (c ∷ bs) [] b d l = absurd (omega arith)
-told_more (true ∷ bs) (x ∷ xs) b d l = ap (λ rest. x ∷ rest) (told_more bs xs b d (omega arith))
-told_more (false ∷ bs) (x ∷ xs) b d l = told_more bs xs b d (omega arith)
-
-pub told_kept :
-    {A : Type 0} (bs : List Bool) (xs : List A) (b : Bool) (n : ℕ) (d : A) (kept more : List A) → length bs < length xs → length bs ≡ n → kept ≡ items_where_true bs xs
-    → more ≡ kept ++ cond b (get_or xs n d ∷ []) [] → more ≡ items_where_true (bs ++ b ∷ []) xs
-told_kept bs xs b n d kept more l long e is = is ∙ (λ j. e j ++ cond b (get_or xs (sym long j) d ∷ []) []) ∙ sym (told_more bs xs b d l)
-
-pub none_picked : {A : Type 0} (bs : List Bool) → items_where_true {X = A} bs [] ≡ []
-none_picked [] = refl
-none_picked (b ∷ bs) = refl
-
--- one more value
-picked_more : {A : Type 0} (bs : List Bool) (xs : List A) (x : A) → length xs < length bs → items_where_true bs (xs ++ x ∷ []) ≡ items_where_true bs xs ++ cond (get_or bs (length xs) false) (x ∷ []) []
-picked_more [] xs x l = absurd (omega arith)
-picked_more (true ∷ bs) [] x l = ap (λ rest. x ∷ rest) (none_picked bs)
-picked_more (false ∷ bs) [] x l = none_picked bs
-picked_more (true ∷ bs) (y ∷ xs) x l = ap (λ rest. y ∷ rest) (picked_more bs xs x (omega arith))
-picked_more (false ∷ bs) (y ∷ xs) x l = picked_more bs xs x (omega arith)
-
-pub picked_kept :
-    {A : Type 0} (bs : List Bool) (xs : List A) (x : A) (n : ℕ) (kept more : List A) → length xs < length bs → n ≡ length xs → kept ≡ items_where_true bs xs → more ≡ kept ++ cond (get_or bs n false) (x ∷ []) []
-    → more ≡ items_where_true bs (xs ++ x ∷ [])
-picked_kept bs xs x n kept more l long e is = is ∙ (λ j. e j ++ cond (get_or bs (long j) false) (x ∷ []) []) ∙ sym (picked_more bs xs x l)
+-- a test that answers by what is left to tell tells it all
+module _ {X F : Type 0} (R : F → X → Bool → F → Type 0) (left : F → List Bool)
+    (h : (f : F) (x : X) (b : Bool) (f' : F) → R f x b f' → (told : Bool) (rest : List Bool) → left f ≡ told ∷ rest → (b ≡ told) × (left f' ≡ rest)) where
+  pub in_turn : (told bs : List Bool) (xs : List X) (f q : F) → left f ≡ told → length bs ≡ length told → ReturnsInTurn R f bs xs q → bs ≡ told
+  in_turn [] [] xs f q e l t = refl
+  in_turn [] (b ∷ bs) xs f q e l t = absurd (omega arith)
+  in_turn (b ∷ told) [] xs f q e l t = absurd (omega arith)
+  in_turn (a ∷ told) (b ∷ bs) [] f q e l t = absurd t
+  in_turn (a ∷ told) (b ∷ bs) (x ∷ xs) f q e l t =
+      let one = h f x b t.0 t.1 a told e in
+      λ j. one.0 j ∷ in_turn told bs xs t.0 q one.1 (omega arith) t.2 j
 
 -- as many values stay as marks
 pub picked_long : {A B : Type 0} (bs : List Bool) (xs : List A) (ys : List B) → length xs ≡ length ys → length (items_where_true bs xs) ≡ length (items_where_true bs ys)
@@ -51,9 +35,25 @@ picked_long (b ∷ bs) (x ∷ xs) [] e = absurd (omega arith)
 picked_long (true ∷ bs) (x ∷ xs) (y ∷ ys) e = let rest : length (items_where_true bs xs) ≡ length (items_where_true bs ys) = picked_long bs xs ys (omega arith) in omega arith
 picked_long (false ∷ bs) (x ∷ xs) (y ∷ ys) e = picked_long bs xs ys (omega arith)
 
-pub long_picked : {A : Type 0} (told : List Bool) (values : List A) (leaves marks : List Mark) → length values ≤ length leaves → marks ≡ items_where_true told (take (length values) leaves)
-    → length (items_where_true told values) ≡ length marks
-long_picked told values leaves marks l e = picked_long told values (take (length values) leaves) (sym (length-take-le (length values) leaves l)) ∙ ap length (sym e)
+-- values that stay, beside a tree of the marks that do
+pub record AreKept {A : Type 0} (told : List Bool) (all : List A) (leaves : List Mark) (kept : List A) (tree : List Mark) : Type 0 where
+  pub values : kept ≡ items_where_true told all
+  pub marks : take (length kept) tree ≡ items_where_true told (take (length all) leaves)
+  pub more : length kept < length tree
+  pub fits : HasLeaves (length kept) tree
+
+pub are_kept : {A : Type 0} (told bs : List Bool) (values kept : List A) (leaves ms tree : List Mark) → length values ≤ length leaves → length told ≡ length values → bs ≡ told → ms ≡ leaves → kept ≡ items_where_true told values
+    → length (items_where_true bs (take (length bs) ms)) < length tree → ((i : ℕ) → node tree i ≡ node (items_where_true bs (take (length bs) ms)) i) → AreKept told values leaves kept tree
+are_kept told bs values kept leaves ms tree room all answers marked picked more same =
+    let marks : List Mark = items_where_true bs (take (length bs) ms) in
+    let stay : marks ≡ items_where_true told (take (length values) leaves) = (λ j. items_where_true (answers j) (take (length (answers j)) (marked j))) ∙ ap (λ k. items_where_true told (take k leaves)) all in
+    let long : length kept ≡ length marks = ap length picked ∙ picked_long told values (take (length values) leaves) (sym (length-take-le (length values) leaves room)) ∙ ap length (sym stay) in
+    record {
+      values = picked;
+      marks = same_taken (length kept) tree marks (omega (arith, long, more)) (omega (arith, long)) same ∙ take_all (length kept) marks (omega (arith, long)) ∙ stay;
+      more = omega (arith, long, more);
+      fits = record { room = omega (arith, long, more); rest = λ i l. same i ∙ get_or_past marks i no_mark (omega (arith, long, l)) };
+    }
 
 module _ {A : Type 0} (mark : A → Mark) where
   -- the marks of the values that stay

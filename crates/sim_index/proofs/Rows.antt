@@ -1,14 +1,14 @@
 -- Nodes of marks.
-use Rattle.std.proofs.Common.{◌≡◌, ℕ, zero, suc, ◌+◌, ◌*◌, ◌/◌, ◌^◌, ◌<◌, ◌≤◌, Bool, true, false, not, List, length, set, bit_and, bit_or, inl, inr, ◌⊎◌, arith, refl, ap, sym, subst, ◌∙◌}
+use Rattle.std.proofs.Common.{◌≡◌, ℕ, zero, suc, ◌+◌, ◌*◌, ◌-◌, ◌/◌, ◌^◌, ◌<◌, ◌≤◌, Bool, true, false, not, List, drop, length, set, bit_and, bit_or, inl, inr, ◌⊎◌, arith, refl, ap, sym, subst, ◌∙◌}
 use Rattle.std.specs.Prelude.{◌==◌, ◌≢◌}
 use Rattle.std.proofs.lemmas.Nat.{and_assoc, and_comm, and_le_r, and_or_apart, and_or_self, or_comm}
 use Rattle.std.proofs.lemmas.Bool.Decides.{nat_tests}
 use Rattle.std.proofs.lemmas.Bool.{cases_eq, cases_lt}
-use Rattle.std.proofs.lemmas.List.{get_or-set_other, get_or-set_same, length-set}
+use Rattle.std.proofs.lemmas.List.{get_or-drop, get_or_past, get_or-set_other, get_or-set_same, length-drop, length-set}
 use Rattle.std.proofs.lemmas.Nat.{pow_pos}
 use Rattle.std.proofs.Math.Nat.{pow-succ'}
 use Rattle.sim_index.specs.declared.mark.Mark.{Mark}
-use Rattle.sim_index.specs.Marks.{ArePairs, ArePairsBut, IsNextIn, IsPair, IsPower, NoneIn, beyond, joined, meets, no_mark, node, tells}
+use Rattle.sim_index.specs.Marks.{ArePairs, ArePairsBut, IsNextIn, IsPair, IsPower, IsTree, NoneIn, beyond, joined, meets, no_mark, node, tells}
 
 none_or : (a b s : ℕ) → bit_and a s ≡ 0 → bit_and b s ≡ 0 → bit_and (bit_or a b) s ≡ 0
 none_or a b s h k = and_or_apart s a b k ∙ h
@@ -123,21 +123,23 @@ next_below nodes hosts row from p place pairs fits below start near next (inr h)
           ];
     })
 
--- a node that is mended
-pub mended : (nodes : List Mark) (i : ℕ) (mark : Mark) → ArePairsBut nodes i → 0 < i → 2 * i < length nodes → mark ≡ joined (node nodes (2 * i)) (node nodes (2 * i + 1)) → ArePairsBut (set nodes i mark) (i / 2)
-mended nodes i mark h some within is j low high other =
-    let long : length (set nodes i mark) ≡ length nodes = length-set nodes i mark in
+-- a pair of nodes after a node is mended that is neither of the two
+pub pair_set : (nodes : List Mark) (i j : ℕ) (mark : Mark) → 1 ≤ i → 2 * i < length nodes → mark ≡ joined (node nodes (2 * i)) (node nodes (2 * i + 1)) → 2 * j ≢ i → 2 * j + 1 ≢ i → (j ≢ i → IsPair nodes j)
+    → IsPair (set nodes i mark) j
+pair_set nodes i j mark some within is left right h =
     elim (cases_eq j i) [
       | inl e ↦
           rw e
-          (get_or-set_same nodes i mark no_mark (omega arith)
+          (get_or-set_same nodes i mark no_mark (omega (arith, within))
           ∙ is
-          ∙ (λ k. joined (sym (get_or-set_other nodes i (2 * i) mark no_mark (λ e. omega arith)) k) (sym (get_or-set_other nodes i (2 * i + 1) mark no_mark (λ e. omega arith)) k)))
-      | inr n ↦
-          get_or-set_other nodes i j mark no_mark n
-          ∙ h j low (omega (arith, long)) n
-          ∙ (λ k. joined (sym (get_or-set_other nodes i (2 * j) mark no_mark (λ e. other (omega arith))) k) (sym (get_or-set_other nodes i (2 * j + 1) mark no_mark (λ e. other (omega arith))) k))
+          ∙ (λ k. joined (sym (get_or-set_other nodes i (2 * i) mark no_mark (λ e. omega (arith, e, some))) k) (sym (get_or-set_other nodes i (2 * i + 1) mark no_mark (λ e. omega (arith, e))) k)))
+      | inr n ↦ get_or-set_other nodes i j mark no_mark n ∙ h n ∙ (λ k. joined (sym (get_or-set_other nodes i (2 * j) mark no_mark left) k) (sym (get_or-set_other nodes i (2 * j + 1) mark no_mark right) k))
     ]
+
+-- a node that is mended
+pub mended : (nodes : List Mark) (i : ℕ) (mark : Mark) → ArePairsBut nodes i → 0 < i → 2 * i < length nodes → mark ≡ joined (node nodes (2 * i)) (node nodes (2 * i + 1)) → ArePairsBut (set nodes i mark) (i / 2)
+mended nodes i mark h some within is j low high other =
+    pair_set nodes i j mark (omega (arith, some)) within is (λ e. other (omega (arith, e))) (λ e. other (omega (arith, e))) (h j low (omega (arith, high, length-set nodes i mark)))
 
 -- where the one node left out is in order too, all are
 pub all_pairs : (nodes : List Mark) (i : ℕ) → ArePairsBut nodes i → IsPair nodes i → ArePairs nodes
@@ -162,3 +164,36 @@ pub quiet_row : (nodes : List Mark) (hosts row : ℕ) → ArePairs nodes → IsP
 quiet_row nodes hosts row pairs h long e =
     let same : row ≡ 2 ^ h.0 = h.1 in
     subst (λ r. NoneIn nodes hosts r (2 * r)) (sym same) (quiet_tree nodes hosts h.0 pairs (omega (arith, long, same)) e)
+
+-- a tree whose first node tells of a host has a place
+pub some_of_root : (nodes : List Mark) (width hosts : ℕ) → length nodes ≡ 2 * width → tells nodes hosts 1 ≡ true → 1 ≤ width
+some_of_root nodes width hosts long told =
+    elim (cases_lt 0 width) [
+      | inl l ↦ omega (arith, l)
+      | inr l ↦ let none : true ≡ false = sym told ∙ ap (meets hosts) (get_or_past nodes 1 no_mark (omega (arith, long, l))) ∙ no_meets hosts in cc
+    ]
+
+-- what the leaves tell, by the nodes of the tree whose second half they are
+module _ (nodes leaves : List Mark) (width hosts : ℕ) (tree : IsTree nodes width) (view : drop width nodes ≡ leaves) where
+  as_long : length leaves ≡ width
+  as_long = omega (arith, ap length view, length-drop width nodes, tree.long)
+
+  as_told : (i : ℕ) → tells leaves hosts i ≡ tells nodes hosts (width + i)
+  as_told i = ap (λ ms. tells ms hosts i) (sym view) ∙ ap (meets hosts) (get_or-drop width nodes i no_mark)
+
+  pub none_of_leaves : (from : ℕ) → NoneIn nodes hosts (width + from) (2 * width) → NoneIn leaves hosts from (length leaves)
+  none_of_leaves from none = λ i l u. as_told i ∙ none (width + i) (omega (arith, l)) (omega (arith, u, as_long))
+
+  pub next_of_leaves : (from node : ℕ) → IsNextIn nodes hosts (width + from) (2 * width) node → IsNextIn leaves hosts from (length leaves) (node - width)
+  next_of_leaves from node next =
+      let back : width + (node - width) ≡ node = omega (arith, next.past) in
+      record {
+        past = omega (arith, next.past);
+        within = omega (arith, next.past, next.within, as_long);
+        found = as_told (node - width) ∙ ap (tells nodes hosts) back ∙ next.found;
+        none_before = λ i l u. as_told i ∙ next.none_before (width + i) (omega (arith, l)) (omega (arith, u, next.past));
+      }
+
+  -- none tells of a host of which the first node does not
+  pub none_of_root : (from : ℕ) → tells nodes hosts 1 ≡ false → NoneIn leaves hosts from (length leaves)
+  none_of_root from e i l u = as_told i ∙ quiet_row nodes hosts width tree.pairs (tree.power (omega (arith, u, as_long))) (omega (arith, tree.long)) e (width + i) (omega arith) (omega (arith, u, as_long))

@@ -65,12 +65,6 @@ pub record IsTree (nodes : List Mark) (width : ℕ) : Type 0 where
   pub long : length nodes ≡ 2 * width
   pub pairs : ArePairs nodes
 
--- what is kept of marks of so many places: up to 2 there is nothing above the second half of the nodes, and over that a tree
-pub record HasNodes (nodes : List Mark) (width : ℕ) : Type 0 where
-  pub power : 1 ≤ width → IsPower width
-  pub long : length nodes ≡ 2 * width
-  pub tree : 2 < width → IsTree nodes width
-
 -- the least of what marks tell to be due
 abbrev pub least_of : List Mark → Option Key
 least_of [] = None

@@ -22,15 +22,15 @@ pub const NO_MARK: Mark = Mark {
 };
 
 /// Whether the lesser of two keys is the second, and not the first too.
-pub fn is_second(first: Option<Key>, second: Option<Key>) -> bool
-    ensures lesser { lesser first second ≡ (if result then second else first) }
-    ensures strict { result ≡ true → first ≡ second → second ≡ None }
-    ensures some { result ≡ false → first ≢ None }
+pub fn is_second(first: &Option<Key>, second: &Option<Key>) -> bool
+    ensures lesser { lesser first.now second.now ≡ (if result then second.now else first.now) }
+    ensures strict { result ≡ true → first.now ≡ second.now → second.now ≡ None }
+    ensures some { result ≡ false → first.now ≢ None }
 {
     match (first, second) {
         (None, _) => true,
         (Some(_), None) => false,
-        (Some(first), Some(second)) => second.is_before(&first),
+        (Some(first), Some(second)) => second.is_before(first),
     }
 }
 
@@ -38,7 +38,7 @@ pub fn is_second(first: Option<Key>, second: Option<Key>) -> bool
 pub fn join(first: &Mark, second: &Mark) -> Mark
     ensures { result ≡ joined first.now second.now }
 {
-    let least = if is_second(first.due, second.due) {
+    let least = if is_second(&first.due, &second.due) {
         second
     } else {
         first

@@ -1,5 +1,5 @@
 //! Values with their marks.
-ghost use Rattle.std.specs.Prelude.{◌≡◌, ◌+◌, ◌*◌, ◌^◌, ◌<◌, ◌≤◌, ◌++◌, ◌∷◌, [], IfOk, if◌then◌else◌, IfSome, IsOk, MatchOption, None, OnErr, OnOk, false, length, set, slice_index_or, true, vec_capacity, vec_len, ℕ};
+ghost use Rattle.std.specs.Prelude.{◌≡◌, ◌+◌, ◌*◌, ◌^◌, ◌<◌, ◌≤◌, ◌++◌, ◌∷◌, [], IfOk, if◌then◌else◌, IfSome, IsOk, MatchOption, None, OnErr, OnOk, false, length, set, slice_index_or, take, true, vec_capacity, vec_len, ℕ};
 ghost use Rattle.std.specs.Borrow.{sem};
 ghost use Rattle.std.specs.Fn.{FnReturnsAt};
 ghost use Rattle.std.specs.List.{AllZip, items_where_true};
@@ -11,32 +11,10 @@ use crate::marks::Marks;
 use sim_clock::Key;
 use std::alloc::{AllocError, Global};
 use std::marker::Model;
-use std::mem;
-
-// How many places there are to be for so many marks.
-fn wider(width: usize, count: usize) -> usize
-    requires power { 1 ≤ width → IsPower width }
-    requires range { width < 2 ^ 60 }
-    requires count { count ≤ width }
-    ensures power { IsPower result }
-    ensures some { 1 ≤ result }
-    ensures more { count < result }
-    ensures wide { width ≤ result }
-    ensures range { 2 * result < 2 ^ 64 }
-{
-    if width == 0 {
-        8
-    } else if width < 2 * count {
-        2 * width
-    } else {
-        width
-    }
-}
 
 // A tree of these marks, of no fewer places than so many, and of twice as many as there are marks.
 fn tree_of(alloc: Global, width: usize, marks: &[Mark]) -> Result<Marks, AllocError>
-    requires power { 1 ≤ width → IsPower width }
-    requires room { length marks.now ≤ width }
+    requires { length marks.now ≤ width }
     ensures marks { IfOk result (λ m. (i : ℕ) → node m i ≡ node marks.now i) }
     ensures more { IfOk result (λ m. length marks.now < length m) }
     ensures wide { IfOk result (λ m. width ≤ length m) }
@@ -44,60 +22,60 @@ fn tree_of(alloc: Global, width: usize, marks: &[Mark]) -> Result<Marks, AllocEr
     if 1 << 60 <= width {
         return Err(AllocError);
     }
-    Marks::of(alloc, wider(width, marks.len()), marks)
+    let places = (2 * marks.len()).max(width).next_power_of_two();
+    Marks::of(alloc, places, marks)
 }
 
-// One more item, if it stays.
-fn push_if<T: Drop>(items: &mut Vec<T>, stays: bool, item: T)
-    requires { vec_len items.old < vec_capacity items.old }
-    ensures items { items.new.items ≡ items.old.items ++ (if stays then item ∷ [] else []) }
-    ensures capacity { vec_capacity items.new ≡ vec_capacity items.old }
-    ensures length { vec_len items.new ≤ vec_len items.old + 1 }
-{
-    if stays {
-        items.push_reserved(item);
-    }
-}
-
-// What a closure answers about each value, and the marks of those at which the answer is `true`.
-fn ask<T, F: Fn(&T) -> bool>(
+// What a closure answers about each value.
+fn answers<T, F: Fn(&T) -> bool>(
     alloc: Global,
     values: &[T],
-    marks: &[Mark],
     keeps: F,
-) -> Result<(Vec<bool>, Vec<Mark>), AllocError>
-    requires callable { F.IsAlwaysCallable keeps }
-    requires long { length values.now ≤ length marks.now }
-    ensures told { IfOk result (λ r. AllZip (FnReturnsAt F.Fn keeps) values.now r.0.items) }
-    ensures length { IfOk result (λ r. length r.0.items ≡ length values.now) }
-    ensures few { IfOk result (λ r. length r.1.items ≤ length values.now) }
-    ensures marks { IfOk result (λ r. r.1.items ≡ items_where_true r.0.items marks.now) }
+) -> Result<Vec<bool>, AllocError>
+    requires { F.IsAlwaysCallable keeps }
+    ensures told { IfOk result (λ told. AllZip (FnReturnsAt F.Fn keeps) values.now told.items) }
+    ensures length { IfOk result (λ told. length told.items ≡ length values.now) }
 {
     let mut told = Vec::with_capacity(alloc, values.len())?;
-    let mut kept = Vec::with_capacity(alloc, values.len())?;
-    for place in 0..values.len() {
-        let stays = keeps(&values[place]);
-        told.push_reserved(stays);
-        push_if(&mut kept, stays, marks[place]);
+    for value in values {
+        told.push_reserved(keeps(value));
     }
-    Ok((told, kept))
+    Ok(told)
 }
 
-// The values at which the answer is `true`, in a list that has room for all.
-fn pick<T: Drop>(values: Vec<T>, told: &[bool], kept: Vec<T>) -> Vec<T>
-    requires none_kept { kept.items ≡ [] }
-    requires room { vec_len values ≤ vec_capacity kept }
-    requires told { length told.now ≡ vec_len values }
-    ensures items { result.items ≡ items_where_true told.now values.items }
-    ensures capacity { vec_capacity result ≡ vec_capacity kept }
+// Keeps the values at which the answer is `true`.
+fn pick<T: Drop>(values: &mut Vec<T>, told: &[bool])
+    requires { length told.now ≡ length values.old.items }
+    ensures items { values.new.items ≡ items_where_true told.now values.old.items }
+    ensures length { vec_len values.new ≤ vec_len values.old }
+    ensures capacity { vec_capacity values.new ≡ vec_capacity values.old }
 {
-    let mut kept = kept;
-    let mut place = 0;
-    for value in values {
-        push_if(&mut kept, told[place], value);
-        place += 1;
-    }
-    kept
+    let mut answers = told.iter();
+    values.retain(move |_| match answers.next() {
+        None => false,
+        Some(stays) => *stays,
+    });
+}
+
+// So many places there are at the least where values leave, so that the list is not gone over again
+// after each push.
+const FEW: usize = 8;
+
+// A tree of the marks at which the answer is `true`, for the list that has these leaves.
+fn picked_tree(alloc: Global, leaves: &[Mark], told: &[bool]) -> Result<Marks, AllocError>
+    requires { length told.now ≤ length leaves.now }
+    ensures marks { IfOk result (λ m. (i : ℕ) → node m i ≡ node (items_where_true told.now (take (length told.now) leaves.now)) i) }
+    ensures more { IfOk result (λ m. length (items_where_true told.now (take (length told.now) leaves.now)) < length m) }
+    ensures wide { IfOk result (λ m. length leaves.now ≤ length m) }
+{
+    let mut marks = Vec::from_slice(alloc, &leaves[..told.len()])?;
+    pick(&mut marks, told);
+    let width = if marks.len() < told.len() {
+        leaves.len().max(FEW)
+    } else {
+        leaves.len()
+    };
+    tree_of(alloc, width, &marks)
 }
 
 /// Values at the places of a list, each with its mark, in a tree beside them: the least of what is
@@ -133,13 +111,6 @@ impl<T> MarkedList<T> {
             tree: Marks::new(alloc),
             alloc,
         }
-    }
-
-    /// How many values there are.
-    pub fn len(&self) -> usize
-        ensures { result ≡ length self.now.values }
-    {
-        self.values.len()
     }
 
     /// The values, of each of which there is a mark.
@@ -216,10 +187,11 @@ impl<T> MarkedList<T> {
     {
         self.values.reserve(1)?;
         let width = self.tree.len();
-        if self.values.len() == width {
-            let tree = tree_of(self.alloc, width, self.tree.leaves())?;
-            self.tree = tree;
+        if self.values.len() < width {
+            return Ok(());
         }
+        let tree = tree_of(self.alloc, width, self.tree.leaves())?;
+        self.tree = tree;
         Ok(())
     }
 
@@ -250,12 +222,10 @@ impl<T> MarkedList<T> {
         ensures ready { OnOk result (self.new.ready ≡ true) }
         ensures unchanged { OnErr result (self.new ≡ self.old) }
     {
-        let marks = &self.tree.leaves()[..self.values.len()];
-        let (told, marks) = ask(self.alloc, &self.values, marks, keeps)?;
-        let tree = tree_of(self.alloc, self.tree.len(), &marks)?;
-        let kept = Vec::with_capacity(self.alloc, tree.len())?;
-        let values = mem::replace(&mut self.values, Vec::new(self.alloc));
-        self.values = pick(values, &told, kept);
+        let told = answers(self.alloc, &self.values, keeps)?;
+        let tree = picked_tree(self.alloc, self.tree.leaves(), &told)?;
+        self.values.reserve(tree.len() - self.values.len())?;
+        pick(&mut self.values, &told);
         self.tree = tree;
         Ok(())
     }

@@ -73,23 +73,6 @@ fn first_told(nodes: &[Mark], width: usize, hosts: u32) -> usize
     node
 }
 
-// The same; at once where the first node tells of none of these hosts, or from the first leaf on.
-fn next_leaf(nodes: &[Mark], row: usize, from: usize, hosts: u32) -> Option<usize>
-    requires power { IsPower row }
-    requires within { 2 * row ≤ length nodes.now }
-    requires pairs { ArePairs nodes.now }
-    requires from { row ≤ from }
-    ensures { MatchOption result (NoneIn nodes.now hosts from (2 * row)) (IsNextIn nodes.now hosts from (2 * row)) }
-{
-    if !meets(&mark_at(nodes, 1), hosts) {
-        return None;
-    }
-    if from == row {
-        return Some(first_told(nodes, row, hosts));
-    }
-    next_in(nodes, row, from, hosts)
-}
-
 // Brings the marks above a node in order, up to the first that is so.
 fn mend(nodes: &mut Vec<Mark>, width: usize, node: usize)
     requires above { ArePairsBut nodes.old.items (node / 2) }
@@ -107,18 +90,6 @@ fn mend(nodes: &mut Vec<Mark>, width: usize, node: usize)
         }
         nodes[node] = both;
         node /= 2;
-    }
-}
-
-// Writes marks over the leaves of a tree of empty places.
-fn write_leaves(nodes: &mut Vec<Mark>, width: usize, marks: &[Mark])
-    requires room { width + length marks.now ≤ vec_len nodes.old }
-    requires empty { (i : ℕ) → node nodes.old.items i ≡ no_mark }
-    ensures leaves { (i : ℕ) → node nodes.new.items (width + i) ≡ node marks.now i }
-    ensures length { vec_len nodes.new ≡ vec_len nodes.old }
-{
-    for i in 0..marks.len() {
-        nodes[width + i] = marks[i];
     }
 }
 
@@ -141,7 +112,7 @@ fn least_below(nodes: &[Mark], above: usize) -> usize
     ensures { IsFirstBelow (node nodes.now (2 * above)).due (node nodes.now (2 * above + 1)).due (2 * above) result }
 {
     let (first, second) = (mark_at(nodes, 2 * above), mark_at(nodes, 2 * above + 1));
-    if is_second(first.due, second.due) {
+    if is_second(&first.due, &second.due) {
         return 2 * above + 1;
     }
     2 * above
@@ -166,39 +137,6 @@ fn leaf_of(nodes: &[Mark], width: usize) -> usize
     node
 }
 
-// The first place at which the least is due, by all the places.
-fn place_among(leaves: &[Mark]) -> Option<usize>
-    ensures { MatchOption result (least_of leaves.now ≡ None) (IsPlaceOfLeast leaves.now) }
-{
-    let mut found = None;
-    let mut least = None;
-    for place in (0..leaves.len()).rev() {
-        let due = leaves[place].due;
-        if is_second(due, least) {
-            continue;
-        }
-        found = Some(place);
-        least = due;
-    }
-    found
-}
-
-// The first place from one on whose mark tells of one of these hosts, by all the places from there on.
-fn next_among(leaves: &[Mark], from: usize, hosts: u32) -> Option<usize>
-    requires { from ≤ length leaves.now }
-    ensures { MatchOption result (NoneIn leaves.now hosts from (length leaves.now)) (IsNextIn leaves.now hosts from (length leaves.now)) }
-{
-    for place in from..leaves.len() {
-        if meets(&leaves[place], hosts) {
-            return Some(place);
-        }
-    }
-    None
-}
-
-// Up to so many places there is nothing above the leaves: to go over them costs less.
-const FEW: usize = 2;
-
 /// The marks of places, of which there are a power of two. Contracts see them as a list.
 #[derive(Drop)]
 pub struct Marks {
@@ -209,13 +147,13 @@ pub struct Marks {
 impl Model for Marks {
     ghost use Rattle.std.specs.Prelude.{List, drop};
     ghost use Rattle.sim_index.specs.declared.mark.Mark.{Mark};
-    ghost use Rattle.sim_index.specs.Marks.{HasNodes};
+    ghost use Rattle.sim_index.specs.Marks.{IsTree};
 
     ghost Value = { List Mark };
 
     ghost view = { λ m. drop m.width m.nodes.items };
 
-    ghost invariant = { λ m. HasNodes m.nodes.items m.width };
+    ghost invariant = { λ m. IsTree m.nodes.items m.width };
 }
 
 impl Marks {
@@ -239,10 +177,8 @@ impl Marks {
         ensures length { IfOk result (λ m. length m ≡ width) }
     {
         let mut nodes = vec![in alloc; NO_MARK; 2 * width]?;
-        write_leaves(&mut nodes, width, marks);
-        if FEW < width {
-            write_above(&mut nodes, width);
-        }
+        nodes[width..width + marks.len()].copy_from_slice(marks);
+        write_above(&mut nodes, width);
         Ok(Marks { nodes, width })
     }
 
@@ -267,10 +203,11 @@ impl Marks {
         ensures { self.new ≡ set self.old place mark }
     {
         let node = self.width + place;
-        self.nodes[node] = mark;
-        if FEW < self.width {
-            mend(&mut self.nodes, self.width, node);
+        if self.nodes[node] == mark {
+            return;
         }
+        self.nodes[node] = mark;
+        mend(&mut self.nodes, self.width, node);
     }
 
     /// The first place from one on whose mark tells of one of these hosts.
@@ -278,10 +215,13 @@ impl Marks {
         requires { from ≤ length self.now }
         ensures { MatchOption result (NoneIn self.now hosts from (length self.now)) (IsNextIn self.now hosts from (length self.now)) }
     {
-        if self.width <= FEW {
-            return next_among(self.leaves(), from, hosts);
+        if !meets(&mark_at(&self.nodes, 1), hosts) {
+            return None;
         }
-        match next_leaf(&self.nodes, self.width, self.width + from, hosts) {
+        if from == 0 {
+            return Some(first_told(&self.nodes, self.width, hosts) - self.width);
+        }
+        match next_in(&self.nodes, self.width, self.width + from, hosts) {
             None => None,
             Some(node) => Some(node - self.width),
         }
@@ -291,23 +231,14 @@ impl Marks {
     pub fn least(&self) -> Option<Key>
         ensures { result ≡ least_of self.now }
     {
-        if FEW < self.width {
-            return mark_at(&self.nodes, 1).due;
-        }
-        let leaves = self.leaves();
-        leaves[place_among(leaves)?].due
+        mark_at(&self.nodes, 1).due
     }
 
     /// The first place at which the least is due; none where nothing is.
     pub fn place_of_least(&self) -> Option<usize>
         ensures { MatchOption result (least_of self.now ≡ None) (IsPlaceOfLeast self.now) }
     {
-        if self.width <= FEW {
-            return place_among(self.leaves());
-        }
-        if self.least().is_none() {
-            return None;
-        }
+        self.least()?;
         Some(leaf_of(&self.nodes, self.width) - self.width)
     }
 }

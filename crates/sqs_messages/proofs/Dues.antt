@@ -1,19 +1,14 @@
 -- The least of what is due, by marks.
-use Rattle.std.proofs.Common.{◌≡◌, ℕ, List, [], ◌∷◌, ◌++◌, Some, flat_map, map, refl, ap, sym, ◌∙◌}
+use Rattle.std.proofs.Common.{◌≡◌, ℕ, List, [], ◌∷◌, flat_map, map, refl, sym, ◌∙◌}
 use Rattle.std.specs.Prelude.{All}
 use Rattle.std.proofs.lemmas.List.Elements.{All-head, All-tail}
-use Rattle.sim_clock.specs.declared.key.Key.{Key}
 use Rattle.sim_clock.specs.Order.{least, lesser}
 use Rattle.sim_index.specs.Marks.{least_of}
-use Rattle.sim_index.proofs.Spans.{lesser_assoc}
+use Rattle.sim_index.proofs.Kept.{least_append}
 use Rattle.sqs_model.specs.Dues.{message_dues}
 use Rattle.sqs_messages.specs.Heads.{told}
 use Rattle.sqs_messages.specs.Slots.{Shelved}
 use Rattle.sqs_messages.specs.Marked.{IsDue}
-
-least_append : (xs ys : List Key) → least (xs ++ ys) ≡ lesser (least xs) (least ys)
-least_append [] ys = refl
-least_append (x ∷ xs) ys = ap (lesser (Some x)) (least_append xs ys) ∙ sym (lesser_assoc (Some x) (least xs) (least ys))
 
 pub least_marked : (site retention : ℕ) (items : List Shelved) → All (IsDue site retention) items → least_of (map (λ s. s.mark) items) ≡ least (flat_map (message_dues site retention) (told items))
 least_marked site retention [] h = refl

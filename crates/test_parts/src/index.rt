@@ -128,9 +128,9 @@ fn twenty(alloc: Global) -> Result<MarkedList<u64>, AllocError> {
 
 // The values of a list, the moments at which they are due, and the least of those with its place.
 fn try_values(rt: &impl Abort, list: &MarkedList<u64>, wanted: &[(u64, Option<u64>)]) {
-    same(rt, list.len(), wanted.len());
+    same(rt, list.values().len(), wanted.len());
     for (place, &(value, at)) in wanted.iter().enumerate() {
-        assert!(rt; place < list.len());
+        assert!(rt; place < list.values().len());
         let found = (list.values()[place], list.mark_at(place).due);
         same(rt, (place, found), (place, (value, wake(at))));
     }
@@ -139,13 +139,13 @@ fn try_values(rt: &impl Abort, list: &MarkedList<u64>, wanted: &[(u64, Option<u6
 #[test]
 fn a_list_grows(rt: HostRuntime) {
     let list = twenty(rt.alloc()).expect(&rt, "memory");
-    same(&rt, (list.len(), list.mark_at(20)), (20, NO_MARK));
+    same(&rt, (list.values().len(), list.mark_at(20)), (20, NO_MARK));
     same(
         &rt,
         (list.least(), list.place_of_least()),
         (wake(Some(81)), Some(19)),
     );
-    assert!(&rt; list.len() == 20);
+    assert!(&rt; list.values().len() == 20);
     let told = (list.next(0, 8), list.next(4, 9), list.next(19, 1));
     same(&rt, told, (Some(3), Some(4), None));
 }
@@ -156,7 +156,7 @@ fn a_list_is_changed(rt: HostRuntime) {
     list.reserve().expect(&rt, "memory");
     list.push(5, mark(Some(9), 1)).expect(&rt, "memory");
     list.push(6, mark(Some(7), 1)).expect(&rt, "memory");
-    assert!(&rt; list.len() == 2);
+    assert!(&rt; list.values().len() == 2);
     *list.value_mut(0) += 10;
     list.set_mark(1, mark(None, 2));
     try_values(&rt, &list, &[(15, Some(9)), (6, None)]);
@@ -187,5 +187,5 @@ fn a_list_is_cleared(rt: HostRuntime) {
     let mut list = MarkedList::new(rt.alloc());
     list.push(5, NO_MARK).expect(&rt, "memory");
     list.clear();
-    same(&rt, (list.len(), list.least()), (0, None));
+    same(&rt, (list.values().len(), list.least()), (0, None));
 }

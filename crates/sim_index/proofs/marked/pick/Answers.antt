@@ -1,32 +1,12 @@
-use Rattle.std.proofs.Common.{ap, arith, length, refl, sym, ◌+◌, ◌∙◌, ◌≡◌}
-use Rattle.std.proofs.lemmas.List.{length_push}
-use Rattle.sim_index.proofs.Picked.{none_picked, picked_kept}
+use Rattle.std.proofs.Common.{arith, ap, rules, ◌∙◌}
+use Rattle.std.specs.List.{items_where_true}
+use Rattle.sim_index.specs.contracts.marked.fn.pick.retain as closure
+use Rattle.sim_index.proofs.Picked.{in_turn}
 use Rattle.sim_index.proofs.marked.pick.Goals as goal
 
-pub loop-value-init : goal.loop-value-init
-loop-value-init g c =
-    record {
-      items = c.requires.none_kept ∙ sym (none_picked c.args.told.now);
-      short = omega (arith, ap length c.requires.none_kept, c.args.kept.ok.0);
-      left = omega (arith, ap length c.into_iter-value-iterator.ensures.into_iter_gives.0, c.requires.told, c.args.values.ok.0);
-      capacity = refl;
-      place = refl;
-      next = tt;
-      finite = tt;
-    }
-
-pub loop-value-preserved : goal.loop-value-preserved
-loop-value-preserved g c =
-    let place = c.loop-value.place in
-    let yielded = c.loop-value.yielded in
-    let told = c.args.told.now in
-    let rest : length c.loop-value.value-iterator.rest.items ≡ length c.next.new.self.rest.items + 1 = ap length c.in-Some.ensures.steps.0 ∙ omega arith in
-    record {
-      items = picked_kept told yielded c.in-Some.value place c.loop-value.kept.items c.push_if.new.items.items (omega (arith, rest, c.loop-value.invariant.left)) c.loop-value.invariant.place c.loop-value.invariant.items c.push_if.ensures.items;
-      short = omega (arith, length_push yielded c.in-Some.value);
-      left = omega (arith, length_push yielded c.in-Some.value, rest, c.loop-value.invariant.left);
-      capacity = omega arith;
-      place = ap (λ n. n + 1) c.loop-value.invariant.place ∙ sym (length_push yielded c.in-Some.value);
-      next = tt;
-      finite = tt;
-    }
+pub returns-clause-items : goal.returns-clause-items
+returns-clause-items g c =
+    let ran = c.retain.ensures.filtered in
+    let over : closure.Over = record { T = g.row.T; T-Destruct-dict = g.T.Destruct-dict } in
+    ran.4 ∙ ap (λ bs. items_where_true bs c.args.values.now.items)
+    (in_turn _ (λ f. (closure.captures over f).answers.rest.now) (λ f x b f' called told rest e. search rules) c.args.told.now ran.0 c.args.values.now.items _ _ c.iter-answers.ensures.rest (omega (arith, ran.2, c.requires)) ran.3)

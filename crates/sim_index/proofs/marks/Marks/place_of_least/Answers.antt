@@ -1,5 +1,4 @@
-use Rattle.std.proofs.Common.{Bool, arith, false, not, true, ℕ, None, Option, ◌≡◌, ◌-◌, ◌<◌, ◌≤◌, List, ap, drop, refl, subst, sym, ◌∙◌}
-use Rattle.std.specs.Option.{is_some}
+use Rattle.std.proofs.Common.{List, None, Option, Some, ap, drop, subst, sym, ℕ, ◌-◌, ◌<◌, ◌∙◌, ◌≡◌, ◌≤◌}
 use Rattle.std.specs.Prelude.{◌≢◌}
 use Rattle.sim_clock.specs.declared.key.Key.{Key}
 use Rattle.sim_index.specs.declared.mark.Mark.{Mark}
@@ -7,27 +6,24 @@ use Rattle.sim_index.specs.Marks.{IsPlaceOfLeast, IsTree, least_of, node}
 use Rattle.sim_index.proofs.Spans.{leaf_least, root_least}
 use Rattle.sim_index.proofs.marks.Marks.place_of_least.Goals as goal
 
-refuted : (o : Option Key) (b : Bool) → is_some o ≡ not b → b ≡ false → o ≡ None → ⊥
-refuted o b h k e = let f : is_some o ≡ false = ap is_some e in let t : is_some o ≡ true = h ∙ ap not k in cc
-
--- something is due, if the least of the leaves was told
-told : (nodes items marks : List Mark) (width : ℕ) (least : Option Key) (b : Bool) → IsTree items width → drop width items ≡ marks → nodes ≡ items → least ≡ least_of marks
-    → is_some least ≡ not b → b ≡ false → (node nodes 1).due ≢ None
-told nodes items marks width least b tree view same is h k e =
-    refuted least b h k (is ∙ ap least_of (sym view) ∙ sym (root_least items width tree) ∙ ap (λ (ns : List Mark). (node ns 1).due) (sym same) ∙ e)
+-- something is due, if the least of the leaves is
+told : (nodes marks : List Mark) (width : ℕ) (least : Option Key) (key : Key) → IsTree nodes width → drop width nodes ≡ marks → least ≡ least_of marks → least ≡ Some key → (node nodes 1).due ≢ None
+told nodes marks width least key tree view is some e =
+    let none : Some key ≡ None = sym some ∙ is ∙ ap least_of (sym view) ∙ sym (root_least nodes width tree) ∙ e in
+    cc
 
 pub leaf_of-requires-clause-due : goal.leaf_of-requires-clause-due
 leaf_of-requires-clause-due c =
-    told c.deref.result.now c.self.inside.nodes.items c.args.self.now c.self.inside.width c.least.result c.is_none.result (c.self.invariant.tree (omega arith)) c.self.view_is c.deref.ensures.value c.least.ensures
-    c.is_none.ensures c.if-is_none.false
+    subst (λ (ns : List Mark). (node ns 1).due ≢ None) (sym c.deref.ensures.value)
+    (told c.self.inside.nodes.items c.args.self.now c.self.inside.width c.least.result c.in_ok-least.field-0 c.self.invariant c.self.view_is c.least.ensures c.in_ok-least.was)
 
 pub returns : goal.returns
 returns c =
     let items : List Mark = c.self.inside.nodes.items in
     let width : ℕ = c.self.inside.width in
     let leaf : ℕ = c.leaf_of.result in
-    let some : (node items 1).due ≢ None = told items items c.args.self.now width c.least.result c.is_none.result (c.self.invariant.tree (omega arith)) c.self.view_is refl c.least.ensures c.is_none.ensures c.if-is_none.false in
     subst (λ (marks : List Mark). IsPlaceOfLeast marks (leaf - width)) c.self.view_is
-    (leaf_least items width leaf (c.self.invariant.tree (omega arith)) c.leaf_of.ensures.leaf c.leaf_of.ensures.within some
+    (leaf_least items width leaf c.self.invariant c.leaf_of.ensures.leaf c.leaf_of.ensures.within
+    (told items c.args.self.now width c.least.result c.in_ok-least.field-0 c.self.invariant c.self.view_is c.least.ensures c.in_ok-least.was)
     (subst (λ (ns : List Mark). (node ns leaf).due ≡ (node ns 1).due) c.deref.ensures.value c.leaf_of.ensures.due)
     (subst (λ (ns : List Mark). (k : ℕ) → width ≤ k → k < leaf → (node ns k).due ≢ (node ns 1).due) c.deref.ensures.value c.leaf_of.ensures.first))
