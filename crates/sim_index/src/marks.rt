@@ -108,14 +108,15 @@ fn write_above(nodes: &mut Vec<Mark>, width: usize)
 
 // The first of the two below a node that tells the least that is due there.
 fn least_below(nodes: &[Mark], above: usize) -> usize
-    requires { 2 * above + 1 < 2 ^ 64 }
+    requires { 2 * above + 1 < length nodes.now }
     ensures { IsFirstBelow (node nodes.now (2 * above)).due (node nodes.now (2 * above + 1)).due (2 * above) result }
 {
-    let (first, second) = (mark_at(nodes, 2 * above), mark_at(nodes, 2 * above + 1));
-    if is_second(&first.due, &second.due) {
-        return 2 * above + 1;
+    let first = 2 * above;
+    if is_second(&nodes[first].due, &nodes[first + 1].due) {
+        first + 1
+    } else {
+        first
     }
-    2 * above
 }
 
 // The first leaf, of so many, that tells what the first node does.
