@@ -1,13 +1,15 @@
 -- The leaves of a tree that has one for each of so many values, and the marks of those values.
 use Rattle.std.proofs.Common.{◌≡◌, ℕ, zero, suc, ◌+◌, ◌<◌, ◌≤◌, List, [], ◌∷◌, Option, Some, None, true, length, set, take, inl, inr, arith, refl, ap, sym, ◌∙◌}
+use Rattle.std.specs.List.{list_any}
 use Rattle.std.specs.Prelude.{MatchOption}
 use Rattle.std.proofs.lemmas.Bool.{cases_lt}
 use Rattle.std.proofs.lemmas.List.{get_or-set_other, get_or-take, get_or_past, length-set, length-take-le}
 use Rattle.std.proofs.lemmas.Bool.Decides.{nat_tests}
 use Rattle.sim_index.specs.declared.mark.Mark.{Mark}
 use Rattle.sim_index.specs.Marked.{HasLeaves, is_ready}
-use Rattle.sim_index.specs.Marks.{IsPlaceOfLeast, least_of, no_mark, node}
+use Rattle.sim_index.specs.Marks.{IsPlaceOfLeast, least_of, meets, no_mark, node}
 use Rattle.sim_index.proofs.Spans.{same_least}
+use Rattle.sim_index.proofs.Told.{same_any}
 
 -- the same nodes are the same marks, as far as both reach
 pub same_taken : (n : ℕ) (xs ys : List Mark) → n ≤ length xs → n ≤ length ys → ((i : ℕ) → node xs i ≡ node ys i) → take n xs ≡ take n ys
@@ -29,6 +31,9 @@ module _ (n : ℕ) (leaves : List Mark) (h : HasLeaves n leaves) where
 
   pub least_taken : least_of (take n leaves) ≡ least_of leaves
   least_taken = same_least (take n leaves) leaves node_taken
+
+  pub any_taken : (hosts : ℕ) → list_any (meets hosts) (take n leaves) ≡ list_any (meets hosts) leaves
+  any_taken hosts = same_any hosts (take n leaves) leaves node_taken
 
   place_taken : (place : ℕ) → IsPlaceOfLeast leaves place → IsPlaceOfLeast (take n leaves) place
   place_taken place is =

@@ -1,11 +1,14 @@
 -- The way down from the first node to the first leaf that tells of one of some hosts.
-use Rattle.std.proofs.Common.{Bool, List, ap, arith, false, inl, inr, length, refl, suc, sym, true, ℕ, ◌*◌, ◌+◌, ◌/◌, ◌<◌, ◌∙◌, ◌≡◌, ◌≤◌, ◌⊎◌}
+use Rattle.std.proofs.Common.{Bool, List, ap, arith, false, inl, inr, length, refl, suc, sym, true, ℕ, ◌*◌, ◌+◌, ◌/◌, ◌<◌, ◌∙◌, ◌≡◌, ◌≤◌, ◌⊎◌, [], ◌∷◌, ◌-◌, ◌^◌, ◌||◌, drop, subst, zero}
 use Rattle.std.proofs.Math.Nat.{pow-succ'}
 use Rattle.std.proofs.lemmas.Bool.{cases_lt}
+use Rattle.std.proofs.lemmas.List.{get_or-drop, get_or_default, length-drop}
+use Rattle.std.proofs.lemmas.List.Folds.{list_any_at, list_any_none}
 use Rattle.std.proofs.lemmas.Nat.{pow_pos}
+use Rattle.std.specs.List.{list_any}
 use Rattle.sim_index.specs.declared.mark.Mark.{Mark}
-use Rattle.sim_index.specs.Marks.{ArePairs, IsNextIn, IsPower, NoneIn, meets, node, tells}
-use Rattle.sim_index.proofs.Rows.{pair_none, quiet}
+use Rattle.sim_index.specs.Marks.{ArePairs, IsNextIn, IsPower, IsTree, NoneIn, meets, no_mark, node, tells}
+use Rattle.sim_index.proofs.Rows.{no_meets, none_of_root, pair_none, quiet, some_of_root}
 use Rattle.sim_index.proofs.Spans.{row_above}
 
 pub power_some : (n : ℕ) → IsPower n → 1 ≤ n
@@ -89,3 +92,72 @@ told_leaf nodes hosts width leaf power low high first =
                 ]
           ];
     }
+
+-- a node of a row that tells of one of these hosts
+record IsToldIn (nodes : List Mark) (hosts row : ℕ) : Type 0 where
+  pub place : ℕ
+  pub from : row ≤ place
+  pub within : place < 2 * row
+  pub told : tells nodes hosts place ≡ true
+
+told_lower : (nodes : List Mark) (hosts row : ℕ) → ArePairs nodes → 1 ≤ row → 4 * row ≤ length nodes → IsToldIn nodes hosts row → IsToldIn nodes hosts (2 * row)
+told_lower nodes hosts row pairs some long t = by (tells nodes hosts (2 * t.place)) refl
+  where
+    by : (b : Bool) → tells nodes hosts (2 * t.place) ≡ b → IsToldIn nodes hosts (2 * row)
+    by true e = record { place = 2 * t.place; from = omega (arith, t.from); within = omega (arith, t.within); told = e }
+    by false e =
+        record {
+          place = 2 * t.place + 1;
+          from = omega (arith, t.from);
+          within = omega (arith, t.within);
+          told = told_second nodes hosts t.place pairs (omega (arith, some, t.from)) (omega (arith, long, t.within)) t.told e;
+        }
+
+-- where the first node tells of one of these hosts, a node of each row does
+told_in : (nodes : List Mark) (hosts k : ℕ) → ArePairs nodes → 2 * 2 ^ k ≤ length nodes → tells nodes hosts 1 ≡ true → IsToldIn nodes hosts (2 ^ k)
+told_in nodes hosts zero pairs long told = record { place = 1; from = omega arith; within = omega arith; told = told }
+told_in nodes hosts (suc k) pairs long told =
+    let twice : 2 ^ suc k ≡ 2 * 2 ^ k = pow-succ' 2 k in
+    subst (IsToldIn nodes hosts) (sym twice)
+    (told_lower nodes hosts (2 ^ k) pairs (pow_pos k) (omega (arith, twice, long)) (told_in nodes hosts k pairs (omega (arith, twice, long)) told))
+
+module _ (nodes : List Mark) (width hosts : ℕ) (tree : IsTree nodes width) where
+  leaf_told : tells nodes hosts 1 ≡ true → list_any (meets hosts) (drop width nodes) ≡ true
+  leaf_told told =
+      let power : IsPower width = tree.power (some_of_root nodes width hosts tree.long told) in
+      let at : IsToldIn nodes hosts width = subst (IsToldIn nodes hosts) (sym power.1) (told_in nodes hosts power.0 tree.pairs (omega (arith, power.1, tree.long)) told) in
+      let back : width + (at.place - width) ≡ at.place = omega (arith, at.from) in
+      let within : at.place - width < length (drop width nodes) = omega (arith, at.from, at.within, length-drop width nodes, tree.long) in
+      list_any_at (meets hosts) (drop width nodes) (at.place - width) no_mark within (ap (meets hosts) (get_or-drop width nodes (at.place - width) no_mark) ∙ ap (tells nodes hosts) back ∙ at.told)
+
+  no_leaf_told : tells nodes hosts 1 ≡ false → list_any (meets hosts) (drop width nodes) ≡ false
+  no_leaf_told quiet =
+      list_any_none (meets hosts) (drop width nodes)
+      (λ i d l. ap (meets hosts) (get_or_default (drop width nodes) i d no_mark l) ∙ none_of_root nodes (drop width nodes) width hosts tree refl 0 quiet i (omega arith) l)
+
+  -- the first node tells of one of these hosts exactly where a leaf does
+  pub root_any : tells nodes hosts 1 ≡ list_any (meets hosts) (drop width nodes)
+  root_any = by (tells nodes hosts 1) refl
+    where
+      by : (b : Bool) → tells nodes hosts 1 ≡ b → tells nodes hosts 1 ≡ list_any (meets hosts) (drop width nodes)
+      by true e = e ∙ sym (leaf_told e)
+      by false e = e ∙ sym (no_leaf_told e)
+
+-- where no place tells of one of these hosts, none does from one on
+pub none_any : (hosts : ℕ) (marks : List Mark) (from : ℕ) → list_any (meets hosts) marks ≡ false → NoneIn marks hosts from (length marks)
+none_any hosts marks from e i l u = by (tells marks hosts i) refl
+  where
+    by : (b : Bool) → tells marks hosts i ≡ b → tells marks hosts i ≡ false
+    by true k = absurd (true_false (sym (list_any_at (meets hosts) marks i no_mark u k) ∙ e))
+    by false k = k
+
+-- the same marks tell of the same hosts, whatever empty places follow
+pub same_any : (hosts : ℕ) (xs ys : List Mark) → ((i : ℕ) → node xs i ≡ node ys i) → list_any (meets hosts) xs ≡ list_any (meets hosts) ys
+same_any hosts [] [] h = refl
+same_any hosts [] (y ∷ ys) h =
+    let none : meets hosts y ≡ false = ap (meets hosts) (sym (h 0)) ∙ no_meets hosts in
+    same_any hosts [] ys (λ i. h (suc i)) ∙ sym (ap (λ b. b || list_any (meets hosts) ys) none)
+same_any hosts (x ∷ xs) [] h =
+    let none : meets hosts x ≡ false = ap (meets hosts) (h 0) ∙ no_meets hosts in
+    ap (λ b. b || list_any (meets hosts) xs) none ∙ same_any hosts xs [] (λ i. h (suc i))
+same_any hosts (x ∷ xs) (y ∷ ys) h = (λ j. meets hosts (h 0 j) || same_any hosts xs ys (λ i. h (suc i)) j)

@@ -2,8 +2,8 @@
 ghost use Rattle.std.specs.Prelude.{◌≡◌, ◌+◌, ◌*◌, ◌^◌, ◌<◌, ◌≤◌, ◌++◌, ◌∷◌, [], IfOk, if◌then◌else◌, IfSome, IsOk, MatchOption, None, OnErr, OnOk, false, length, set, slice_index_or, take, true, vec_capacity, vec_len, ℕ};
 ghost use Rattle.std.specs.Borrow.{sem};
 ghost use Rattle.std.specs.Fn.{FnReturnsAt};
-ghost use Rattle.std.specs.List.{AllZip, items_where_true};
-ghost use Rattle.sim_index.specs.Marks.{IsNextIn, IsPlaceOfLeast, IsPower, NoneIn, least_of, no_mark, node};
+ghost use Rattle.std.specs.List.{AllZip, items_where_true, list_any};
+ghost use Rattle.sim_index.specs.Marks.{IsNextIn, IsPlaceOfLeast, IsPower, NoneIn, least_of, meets, no_mark, node};
 ghost use Rattle.sim_index.specs.Marked.{IsPicked};
 
 use crate::mark::{Mark, NO_MARK, mark_at};
@@ -158,6 +158,13 @@ impl<T> MarkedList<T> {
         ensures there { IfSome result (λ place. place < length self.now.values) }
     {
         self.tree.place_of_least()
+    }
+
+    /// Whether the mark of any value tells of one of these hosts.
+    pub fn has_on(&self, hosts: u32) -> bool
+        ensures { result ≡ list_any (meets hosts) self.now.marks }
+    {
+        self.tree.has_on(hosts)
     }
 
     /// The first place from one on whose mark tells of one of these hosts.

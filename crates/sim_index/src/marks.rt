@@ -1,7 +1,8 @@
 //! The tree.
 ghost use Rattle.std.specs.Prelude.{◌≡◌, ◌⊎◌, None, [], if◌then◌else◌, ◌*◌, ◌+◌, ◌/◌, ◌^◌, ℕ, ◌<◌, ◌≤◌, ◌≢◌, drop, false, true, IfOk, MatchOption, length, map, set, get_or, vec_len};
+ghost use Rattle.std.specs.List.{list_any};
 ghost use Rattle.sim_clock.specs.Order.{lesser};
-ghost use Rattle.sim_index.specs.Marks.{ArePairs, ArePairsBut, IsFirstBelow, IsNextIn, IsPlaceOfLeast, IsPower, NoneIn, beyond, least_of, no_mark, node, tells};
+ghost use Rattle.sim_index.specs.Marks.{ArePairs, ArePairsBut, IsFirstBelow, IsNextIn, IsPlaceOfLeast, IsPower, NoneIn, beyond, least_of, meets, no_mark, node, tells};
 
 use crate::mark::{Mark, NO_MARK, is_second, join, mark_at, meets};
 use sim_clock::Key;
@@ -211,12 +212,19 @@ impl Marks {
         mend(&mut self.nodes, self.width, node);
     }
 
+    /// Whether the mark of any place tells of one of these hosts.
+    pub fn has_on(&self, hosts: u32) -> bool
+        ensures { result ≡ list_any (meets hosts) self.now }
+    {
+        meets(&mark_at(&self.nodes, 1), hosts)
+    }
+
     /// The first place from one on whose mark tells of one of these hosts.
     pub fn next(&self, from: usize, hosts: u32) -> Option<usize>
         requires { from ≤ length self.now }
         ensures { MatchOption result (NoneIn self.now hosts from (length self.now)) (IsNextIn self.now hosts from (length self.now)) }
     {
-        if !meets(&mark_at(&self.nodes, 1), hosts) {
+        if !self.has_on(hosts) {
             return None;
         }
         if from == 0 {

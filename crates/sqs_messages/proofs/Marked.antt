@@ -1,7 +1,7 @@
 -- What the marks of a shelf tell of its messages.
-use Rattle.std.proofs.Common.{◌≡◌, ℕ, ◌<◌, ◌≤◌, Bool, true, false, List, [], ◌∷◌, Option, Some, None, length, map, get_or, inl, inr, ◌⊎◌, ◌&&◌, arith, refl, ap, sym, subst, ◌∙◌}
+use Rattle.std.proofs.Common.{◌≡◌, ℕ, ◌<◌, ◌≤◌, Bool, true, false, List, [], ◌∷◌, Option, Some, None, length, map, get_or, inl, inr, ◌⊎◌, ◌&&◌, ◌||◌, arith, refl, ap, sym, subst, ◌∙◌}
 use Rattle.std.specs.Prelude.{IfSome, IsSome, find, nat_le}
-use Rattle.std.specs.List.{AllZip, cons_option}
+use Rattle.std.specs.List.{AllZip, cons_option, list_any}
 use Rattle.std.specs.Option.{option_map}
 use Rattle.std.proofs.lemmas.Bool.{cases_lt}
 use Rattle.std.proofs.lemmas.Bool.Decides.{nat_tests}
@@ -43,6 +43,18 @@ least_shelved [] [] h = refl
 least_shelved [] (m ∷ marks) h = absurd h
 least_shelved (s ∷ slots) [] h = absurd h
 least_shelved (s ∷ slots) (m ∷ marks) h = ap (lesser m.due) (least_shelved slots marks h.1) ∙ least_one s.message m (shelved slots marks) h.0.empty
+
+any_one : (hosts : ℕ) (o : Option Message) (mark : Mark) (items : List Shelved) → (o ≡ None → mark ≡ no_mark)
+    → (meets hosts mark || list_any (λ s. meets hosts s.mark) items) ≡ list_any (λ s. meets hosts s.mark) (cons_option (option_map (λ m. let s : Shelved = record { message = m; mark = mark } in s) o) items)
+any_one hosts None mark items h = let none : meets hosts mark ≡ false = ap (meets hosts) (h refl) ∙ no_meets hosts in ap (λ b. b || list_any (λ (s : Shelved). meets hosts s.mark) items) none
+any_one hosts (Some m) mark items h = refl
+
+-- whether any of the marks tells of one of these hosts is whether any of the messages' does
+pub any_shelved : (hosts : ℕ) (slots : List Slot) (marks : List Mark) → AllZip IsNamed slots marks → list_any (meets hosts) marks ≡ list_any (λ s. meets hosts s.mark) (shelved slots marks)
+any_shelved hosts [] [] h = refl
+any_shelved hosts [] (m ∷ marks) h = absurd h
+any_shelved hosts (s ∷ slots) [] h = absurd h
+any_shelved hosts (s ∷ slots) (m ∷ marks) h = ap (λ b. meets hosts m || b) (any_shelved hosts slots marks h.1) ∙ any_one hosts s.message m (shelved slots marks) h.0.empty
 
 -- whether a message of a number from one on is on one of these hosts
 abbrev pub wanted : ℕ → ℕ → Shelved → Bool

@@ -1,6 +1,7 @@
 -- What an order tells of the messages that a queue may give.
 use Rattle.std.proofs.Common.{◌≡◌, ℕ, List, map, take, filter, not, ap, refl, ◌∙◌}
-use Rattle.std.specs.Prelude.{find, is_some}
+use Rattle.std.specs.List.{list_any}
+use Rattle.std.specs.Prelude.{find}
 use Rattle.sim_clock.specs.Firsts.{is_empty}
 use Rattle.sim_index.specs.Marks.{meets}
 use Rattle.sqs_message.specs.declared.message.Message.{Message}
@@ -11,6 +12,7 @@ use Rattle.sqs_redrive.specs.declared.settings.Kind.TheVariants as kinds
 use Rattle.sqs_messages.proofs.Hosting.{any_seen, first_seen, seen}
 use Rattle.sqs_messages.proofs.Leading.{any_given}
 use Rattle.sqs_messages.proofs.Marked.{wanted}
+use Rattle.sqs_messages.proofs.Wanted.{any_wanted}
 use Rattle.sqs_messages.specs.declared.order.Order.{Order}
 use Rattle.sqs_messages.specs.declared.order.Order.TheVariants as orders
 use Rattle.sqs_messages.specs.Heads.{told}
@@ -19,11 +21,12 @@ use Rattle.sqs_messages.specs.Slots.{Shelved, number_of}
 
 -- whether a queue may give any
 pub any_by : (kind : Kind) (order : Order) (set next : ℕ) (items : List Shelved) → IsOrderOf kind order → AreInOrder items next order → Ascends number_of 0 items
-    → is_some (find (wanted 0 (hosts_by order set)) items) ≡ not (is_empty (available_at kind set (told items)))
-any_by (kinds.Standard count sampled) (orders.Hosts hosts) set next items e h a = any_seen hosts set items h.hosted ∙ ap (λ k. not (is_empty (filter (seen k set) (told items)))) e
+    → list_any (λ s. meets (hosts_by order set) s.mark) items ≡ not (is_empty (available_at kind set (told items)))
+any_by (kinds.Standard count sampled) (orders.Hosts hosts) set next items e h a =
+    any_wanted set items ∙ any_seen hosts set items h.hosted ∙ ap (λ k. not (is_empty (filter (seen k set) (told items)))) e
 any_by (kinds.Standard count sampled) (orders.Groups groups) set next items e h a = absurd e
 any_by (kinds.Fifo content_dedup scope) (orders.Hosts hosts) set next items e h a = absurd e
-any_by (kinds.Fifo content_dedup scope) (orders.Groups groups) set next items e h a = any_given items (find (wanted 0 1) items) a h.led refl
+any_by (kinds.Fifo content_dedup scope) (orders.Groups groups) set next items e h a = any_wanted 1 items ∙ any_given items (find (wanted 0 1) items) a h.led refl
 
 -- the first messages that a standard queue may give
 pub first_by : (kind : Kind) (hosts set most : ℕ) (items : List Shelved) → IsOrderOf kind (orders.Hosts hosts) → AreOnHosts hosts items

@@ -1,7 +1,7 @@
 -- The messages that are wanted, one after another.
-use Rattle.std.proofs.Common.{◌≡◌, ℕ, zero, suc, ◌+◌, ◌-◌, ◌<◌, ◌≤◌, Bool, true, false, List, [], ◌∷◌, ◌++◌, Option, Some, None, cond, filter, map, take, ◌&&◌, get_or, arith, refl, ap, sym, ◌∙◌, append_assoc, append-nil}
-use Rattle.std.specs.Prelude.{All, IfSome, find, nat_le}
-use Rattle.std.specs.List.{AllZip, cons_option}
+use Rattle.std.proofs.Common.{◌≡◌, ℕ, zero, suc, ◌+◌, ◌-◌, ◌<◌, ◌≤◌, Bool, true, false, List, [], ◌∷◌, ◌++◌, Option, Some, None, cond, filter, map, take, ◌&&◌, ◌||◌, get_or, arith, refl, ap, sym, ◌∙◌, append_assoc, append-nil}
+use Rattle.std.specs.Prelude.{All, IfSome, find, is_some, nat_le}
+use Rattle.std.specs.List.{AllZip, cons_option, list_any}
 use Rattle.std.specs.Option.{option_map}
 use Rattle.std.proofs.lemmas.Bool.Decides.{nat_tests}
 use Rattle.std.proofs.lemmas.List.Elements.{All-cons, All-head, All-nil, All-tail, All-weaker}
@@ -106,6 +106,17 @@ filter_next from hosts low (x ∷ xs) s h e = by (filter_next from hosts (number
 -- from the start on all are wanted that are on the hosts
 pub filter_all : (hosts : ℕ) (xs : List Shelved) → filter (wanted 0 hosts) xs ≡ filter (λ s. meets hosts s.mark) xs
 filter_all hosts xs = filter_same (wanted 0 hosts) (λ s. meets hosts s.mark) xs (λ k d l. let s : Shelved = get_or xs k d in let t : nat_le 0 s.message.number ≡ true = grind (arith, nat_tests) in ap (λ c. c && meets hosts s.mark) t)
+
+-- whether any is on the hosts is whether one is found that is wanted from the start on
+pub any_wanted : (hosts : ℕ) (xs : List Shelved) → list_any (λ s. meets hosts s.mark) xs ≡ is_some (find (wanted 0 hosts) xs)
+any_wanted hosts [] = refl
+any_wanted hosts (s ∷ xs) =
+    let from : nat_le 0 s.message.number ≡ true = grind (arith, nat_tests) in
+    by (meets hosts s.mark) (any_wanted hosts xs) ∙ sym (ap (λ c. is_some (cond (c && meets hosts s.mark) (Some s) (find (wanted 0 hosts) xs))) from)
+  where
+    by : (b : Bool) → list_any (λ x. meets hosts x.mark) xs ≡ is_some (find (wanted 0 hosts) xs) → (b || list_any (λ x. meets hosts x.mark) xs) ≡ is_some (cond b (Some s) (find (wanted 0 hosts) xs))
+    by true ih = refl
+    by false ih = ih
 
 -- numbers so far, and those of what is wanted after them
 abbrev pub IsChosen : List Shelved → ℕ → ℕ → ℕ → ℕ → List ℕ → Type 0

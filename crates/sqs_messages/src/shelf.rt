@@ -1,5 +1,6 @@
 //! The shelf.
 ghost use Rattle.std.specs.Prelude.{◌≡◌, ◌+◌, ◌<◌, ◌≤◌, ◌^◌, ◌++◌, ◌∷◌, [], ◌&&◌, All, IsOk, OnOk, OnErr, IfSome, count_by, false, find, length, map, nat_le, true};
+ghost use Rattle.std.specs.List.{list_any};
 ghost use Rattle.std.specs.Option.{option_copied, option_map};
 ghost use Rattle.sim_clock.specs.Firsts.{changed, without};
 ghost use Rattle.sim_index.specs.Marks.{least_of, meets};
@@ -132,6 +133,14 @@ impl Shelf {
         ensures { result ≡ least_of (map (λ s. s.mark) self.now.items) }
     {
         self.slots.least()
+    }
+
+    /// Whether the mark of any message tells of one of these hosts.
+    pub fn has_on(&self, hosts: u32) -> bool
+        ensures told { result ≡ list_any (λ s. meets hosts s.mark) self.now.items }
+        ensures ordered { Ascends number_of 0 self.now.items }
+    {
+        self.slots.has_on(hosts)
     }
 
     /// The first message of a number from one on whose mark tells of one of these hosts.

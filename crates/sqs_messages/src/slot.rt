@@ -42,13 +42,16 @@ fn place_from_last(slots: &[Slot], number: u64) -> Option<usize>
 }
 
 // The first place whose number is not below this one. It is known at once where all numbers behind
-// it have their places.
+// it have their places, and of 0.
 pub fn first_from(slots: &[Slot], number: u64) -> usize
     requires { AreOrdered slots.now }
     ensures bound { result ≤ length slots.now }
     ensures below { (k : ℕ) (d : Slot) → k < result → (get_or slots.now k d).number < number }
     ensures from { (k : ℕ) (d : Slot) → result ≤ k → k < length slots.now → number ≤ (get_or slots.now k d).number }
 {
+    if number == 0 {
+        return 0;
+    }
     if let Some(place) = place_from_last(slots, number) {
         return place;
     }

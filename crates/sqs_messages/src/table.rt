@@ -233,11 +233,11 @@ impl MessageTable {
         }
     }
 
-    /// Whether a receive that sees these hosts may give a message. Takes no memory, and reads at most
-    /// one message.
+    /// Whether a receive that sees these hosts may give a message. Takes no memory, and reads no
+    /// message.
     pub fn has_available(&self, hosts: u32) -> bool
         ensures { result ≡ not (is_empty (available self.now hosts)) }
     {
-        self.shelf.next(0, self.order.hosts(hosts)).is_some()
+        self.shelf.has_on(self.order.hosts(hosts))
     }
 }

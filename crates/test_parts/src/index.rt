@@ -30,7 +30,8 @@ fn mark(at: Option<u64>, hosts: u32) -> Mark {
 
 fn try_nothing(rt: &impl Abort, marks: &Marks, places: usize) {
     let told = (marks.len(), marks.least(), marks.place_of_least());
-    same(rt, (told, marks.next(0, 1)), ((places, None, None), None));
+    let found = (marks.has_on(1), marks.next(0, 1));
+    same(rt, (told, found), ((places, None, None), (false, None)));
 }
 
 #[test]
@@ -104,6 +105,15 @@ fn try_nexts(rt: &impl Abort, marks: &Marks) {
     }
 }
 
+// Hosts, and whether any place has a message on one of them.
+const HOSTS: [(u32, bool); 4] = [(1, true), (12, true), (8, false), (0, false)];
+
+fn try_hosts(rt: &impl Abort, marks: &Marks) {
+    for &(hosts, on) in &HOSTS {
+        same(rt, (hosts, marks.has_on(hosts)), (hosts, on));
+    }
+}
+
 #[test]
 fn finds_the_next_on_a_host(rt: HostRuntime) {
     let five = [
@@ -115,6 +125,7 @@ fn finds_the_next_on_a_host(rt: HostRuntime) {
     ];
     let marks = eight(rt.alloc(), &five).expect(&rt, "memory");
     try_nexts(&rt, &marks);
+    try_hosts(&rt, &marks);
 }
 
 // Twenty values, each with a mark: the later one stands, the earlier it is due.
@@ -145,6 +156,7 @@ fn a_list_grows(rt: HostRuntime) {
         (list.least(), list.place_of_least()),
         (wake(Some(81)), Some(19)),
     );
+    same(&rt, (list.has_on(8), list.has_on(16)), (true, false));
     assert!(&rt; list.values().len() == 20);
     let told = (list.next(0, 8), list.next(4, 9), list.next(19, 1));
     same(&rt, told, (Some(3), Some(4), None));

@@ -1,27 +1,27 @@
-use Rattle.std.proofs.Common.{Bool, List, ap, arith, false, length, subst, sym, true, ℕ, ◌*◌, ◌+◌, ◌∙◌, ◌≡◌}
+use Rattle.std.proofs.Common.{Bool, List, ap, arith, drop, length, subst, sym, true, ℕ, ◌*◌, ◌+◌, ◌∙◌, ◌≡◌}
+use Rattle.std.specs.List.{list_any}
 use Rattle.sim_index.specs.declared.mark.Mark.{Mark}
-use Rattle.sim_index.specs.Marks.{ArePairs, IsNextIn, NoneIn, meets, node, tells}
-use Rattle.sim_index.proofs.Rows.{next_of_leaves, none_of_leaves, none_of_root, some_of_root}
+use Rattle.sim_index.specs.Marks.{ArePairs, IsNextIn, IsTree, NoneIn, meets, tells}
+use Rattle.sim_index.proofs.Rows.{next_of_leaves, none_of_leaves, some_of_root}
+use Rattle.sim_index.proofs.Told.{none_any, root_any}
 use Rattle.sim_index.proofs.marks.Marks.next.Goals as goal
 
 -- what the first node tells
-root : (items nodes : List Mark) (hosts : ℕ) (mark : Mark) (met told : Bool) → nodes ≡ items → mark ≡ node nodes 1 → met ≡ meets hosts mark → met ≡ told → tells items hosts 1 ≡ told
-root items nodes hosts mark met told same at is tells_it = ap (λ (ns : List Mark). tells ns hosts 1) (sym same) ∙ ap (meets hosts) (sym at) ∙ sym is ∙ tells_it
+root : (nodes leaves : List Mark) (width hosts : ℕ) (has told : Bool) → IsTree nodes width → drop width nodes ≡ leaves → has ≡ list_any (meets hosts) leaves → has ≡ told → tells nodes hosts 1 ≡ told
+root nodes leaves width hosts has told tree view is tells_it = root_any nodes width hosts tree ∙ ap (list_any (meets hosts)) view ∙ sym is ∙ tells_it
 
-pub returns-then-not-meets : goal.returns-then-not-meets
-returns-then-not-meets c =
-    none_of_root c.self.inside.nodes.items c.args.self.now c.self.inside.width c.args.hosts c.self.invariant c.self.view_is c.args.from
-    (root c.self.inside.nodes.items c.deref.result.now c.args.hosts c.mark_at.result c.meets.result false c.deref.ensures.value c.mark_at.ensures c.meets.ensures c.if-not-meets.true)
+pub returns-then-not-has_on : goal.returns-then-not-has_on
+returns-then-not-has_on c = none_any c.args.hosts c.args.self.now c.args.from (sym c.has_on.ensures ∙ c.if-not-has_on.true)
 
 pub first_told-requires : goal.first_told-requires
 first_told-requires c =
     let items : List Mark = c.self.inside.nodes.items in
-    let told : tells items c.args.hosts 1 ≡ true = root items c.deref.result.now c.args.hosts c.mark_at.result c.meets.result true c.deref.ensures.value c.mark_at.ensures c.meets.ensures c.if-not-meets.false in
+    let told : tells items c.args.hosts 1 ≡ true = root items c.args.self.now c.self.inside.width c.args.hosts c.has_on.result true c.self.invariant c.self.view_is c.has_on.ensures c.if-not-has_on.false in
     record {
-      pairs = subst ArePairs (sym c.deref-then-from-eq0.ensures.value) c.self.invariant.pairs;
+      pairs = subst ArePairs (sym c.deref.ensures.value) c.self.invariant.pairs;
       power = c.self.invariant.power (some_of_root items c.self.inside.width c.args.hosts c.self.invariant.long told);
-      within = omega (arith, ap length c.deref-then-from-eq0.ensures.value, c.self.invariant.long);
-      told = ap (λ (ns : List Mark). tells ns c.args.hosts 1) c.deref-then-from-eq0.ensures.value ∙ told;
+      within = omega (arith, ap length c.deref.ensures.value, c.self.invariant.long);
+      told = ap (λ (ns : List Mark). tells ns c.args.hosts 1) c.deref.ensures.value ∙ told;
     }
 
 pub returns-then-from-eq0 : goal.returns-then-from-eq0
@@ -31,12 +31,12 @@ returns-then-from-eq0 c =
     let start : width ≡ width + c.args.from = omega (arith, c.if-from-eq0.true) in
     next_of_leaves items c.args.self.now width c.args.hosts c.self.invariant c.self.view_is c.args.from c.first_told.result
     (subst (λ (m : ℕ). IsNextIn items c.args.hosts m (2 * width) c.first_told.result) start
-    (subst (λ (ns : List Mark). IsNextIn ns c.args.hosts width (2 * width) c.first_told.result) c.deref-then-from-eq0.ensures.value c.first_told.ensures))
+    (subst (λ (ns : List Mark). IsNextIn ns c.args.hosts width (2 * width) c.first_told.result) c.deref.ensures.value c.first_told.ensures))
 
 pub next_in-requires : goal.next_in-requires
 next_in-requires c =
     let items : List Mark = c.self.inside.nodes.items in
-    let told : tells items c.args.hosts 1 ≡ true = root items c.deref.result.now c.args.hosts c.mark_at.result c.meets.result true c.deref.ensures.value c.mark_at.ensures c.meets.ensures c.if-not-meets.false in
+    let told : tells items c.args.hosts 1 ≡ true = root items c.args.self.now c.self.inside.width c.args.hosts c.has_on.result true c.self.invariant c.self.view_is c.has_on.ensures c.if-not-has_on.false in
     record {
       power = c.self.invariant.power (some_of_root items c.self.inside.width c.args.hosts c.self.invariant.long told);
       within = omega (arith, ap length c.deref-2.ensures.value, c.self.invariant.long);
