@@ -132,7 +132,8 @@ fn run_threads<
 }
 
 /// Runs a world to its horizon, its sites in partitions by a map, with so many workers: one on the
-/// caller's thread, the others each on a thread of its own, started once. Each partition runs to a bound
+/// caller's thread, the others each on a thread of its own, started once, though no more threads than there
+/// are partitions. Each partition runs to a bound
 /// of its own, set anew at each barrier, or to where a round is cut if that is sooner; the rows that
 /// nothing can come before any more go to the sink some thousand at a time. Answers the sites of the last
 /// world, by number. All threads are joined by then.
@@ -170,7 +171,8 @@ where
 {
     let stage = Stage::open(alloc, world, layout)?;
     let (handoff, owner) = Handoff::make(alloc, stage.part_count())?;
-    let threads = workers.saturating_sub(1);
+    // More threads than there are partitions would find nothing to run.
+    let threads = workers.saturating_sub(1).min(stage.part_count());
     let handles = Vec::with_capacity(alloc, threads)?;
     run_threads(rt, &handoff, owner, gate, handles, threads, stage, sink)
 }

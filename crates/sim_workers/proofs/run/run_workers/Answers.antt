@@ -49,4 +49,4 @@ returns-clause-stops g c =
 
 pub returns-clause-alone : goal.returns-clause-alone
 returns-clause-alone g c = λ few.
-    c.run_threads.ensures.alone (omega (arith, c.saturating_sub-threads.ensures, few)) c.args.world (record { picks = []; stands = c.in_ok-stage.ensures.stands })
+    c.run_threads.ensures.alone (omega (arith, c.saturating_sub.ensures, c.min-threads.ensures, few)) c.args.world (record { picks = []; stands = c.in_ok-stage.ensures.stands })
