@@ -181,7 +181,7 @@ impl<T> MarkedList<T> {
         ensures { result ≡ self.now.ready }
     {
         let count = self.values.len();
-        count < self.values.capacity() && count < self.tree.len()
+        count < self.values.capacity() && count < self.tree.leaves().len()
     }
 
     /// Makes room for one value more, so that its push succeeds.
@@ -193,7 +193,7 @@ impl<T> MarkedList<T> {
         ensures succeeds { self.old.ready ≡ true → IsOk result }
     {
         self.values.reserve(1)?;
-        let width = self.tree.len();
+        let width = self.tree.leaves().len();
         if self.values.len() < width {
             return Ok(());
         }
@@ -231,7 +231,8 @@ impl<T> MarkedList<T> {
     {
         let told = answers(self.alloc, &self.values, keeps)?;
         let tree = picked_tree(self.alloc, self.tree.leaves(), &told)?;
-        self.values.reserve(tree.len() - self.values.len())?;
+        self.values
+            .reserve(tree.leaves().len() - self.values.len())?;
         pick(&mut self.values, &told);
         self.tree = tree;
         Ok(())

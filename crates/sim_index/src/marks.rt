@@ -184,14 +184,6 @@ impl Marks {
         Ok(Marks { nodes, width })
     }
 
-    /// How many places there are.
-    pub fn len(&self) -> usize
-        ensures length { result ≡ length self.now }
-        ensures power { 1 ≤ result → IsPower result }
-    {
-        self.width
-    }
-
     /// The marks of the places, in order.
     pub fn leaves(&self) -> &[Mark]
         ensures { result.now ≡ self.now }

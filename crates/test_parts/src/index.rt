@@ -29,7 +29,7 @@ fn mark(at: Option<u64>, hosts: u32) -> Mark {
 }
 
 fn try_nothing(rt: &impl Abort, marks: &Marks, places: usize) {
-    let told = (marks.len(), marks.least(), marks.place_of_least());
+    let told = (marks.leaves().len(), marks.least(), marks.place_of_least());
     let found = (marks.has_on(1), marks.next(0, 1));
     same(rt, (told, found), ((places, None, None), (false, None)));
 }
@@ -66,9 +66,9 @@ fn try_puts(rt: &impl Abort, marks: &mut Marks)
     requires { length marks.old ≡ 8 }
 {
     for &(place, at, hosts, least, first) in &PUTS {
-        assert!(rt; place < marks.len());
+        assert!(rt; place < marks.leaves().len());
         marks.put(place, mark(at, hosts));
-        let told = (marks.len(), marks.least(), marks.place_of_least());
+        let told = (marks.leaves().len(), marks.least(), marks.place_of_least());
         same(rt, told, (8, wake(Some(least)), Some(first)));
     }
 }
@@ -100,7 +100,7 @@ const NEXTS: [(usize, u32, Option<usize>); 8] = [
 
 fn try_nexts(rt: &impl Abort, marks: &Marks) {
     for &(from, hosts, next) in &NEXTS {
-        assert!(rt; from <= marks.len());
+        assert!(rt; from <= marks.leaves().len());
         same(rt, (from, marks.next(from, hosts)), (from, next));
     }
 }

@@ -19,4 +19,4 @@ returns-clause-ready g c =
 
 pub returns-then-len-width-clause-ready : goal.returns-then-len-width-clause-ready
 returns-then-len-width-clause-ready g c =
-    ready_by (vec_len c.reserve.new.self) (vec_capacity c.reserve.new.self) (length c.self.inside.tree) (omega (arith, c.in_ok-reserve.ensures.ok)) (omega (arith, c.if-len-width.true, c.len.ensures, c.len-width.ensures.length))
+    ready_by (vec_len c.reserve.new.self) (vec_capacity c.reserve.new.self) (length c.self.inside.tree) (omega (arith, c.in_ok-reserve.ensures.ok)) (omega (arith, c.if-len-width.true, c.len.ensures, ap length c.leaves-width.ensures))

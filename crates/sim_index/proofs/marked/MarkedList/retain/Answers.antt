@@ -25,7 +25,7 @@ invariant_of-self-2 g c = (kept g c).fits
 pub returns-clause-ready : goal.returns-clause-ready
 returns-clause-ready g c =
     let few : vec_len c.pick.new.values < length c.in_ok-tree.tree = omega (arith, (kept g c).more, c.pick.new.values.ok.0) in
-    let room : length c.in_ok-tree.tree ≤ vec_capacity c.pick.new.values = omega (arith, c.pick.ensures.capacity, c.reserve.ensures.len, c.in_ok-reserve.ensures.ok, c.len.ensures.length, c.len-2.ensures) in
+    let room : length c.in_ok-tree.tree ≤ vec_capacity c.pick.new.values = omega (arith, c.pick.ensures.capacity, c.reserve.ensures.len, c.in_ok-reserve.ensures.ok, ap length c.leaves-2.ensures, c.len.ensures) in
     ready_by (vec_len c.pick.new.values) (vec_capacity c.pick.new.values) (length c.in_ok-tree.tree) (omega (arith, few, room)) few
 
 pub returns-clause-picked : goal.returns-clause-picked
