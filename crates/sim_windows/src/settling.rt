@@ -48,8 +48,7 @@ fn part_each<S: Site>(
     Ok(Parted { before, others })
 }
 
-// Parts rows at a moment. Where those from before it come first, they stay in their list, and the others get
-// one with room for as many again.
+// Parts rows at a moment. Where those from before it come first, they stay in their list.
 fn part_rows<S: Site>(
     alloc: Global,
     mut rows: Vec<S::Row>,
@@ -63,8 +62,7 @@ fn part_rows<S: Site>(
     if !are_before::<S>(first, moment) || !none_before::<S>(rest, moment) {
         return part_each::<S>(alloc, rows, moment);
     }
-    let mut others = rows.split_off(place)?;
-    others.reserve(place)?;
+    let others = rows.split_off(place)?;
     Ok(Parted {
         before: rows,
         others,

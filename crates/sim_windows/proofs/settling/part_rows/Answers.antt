@@ -41,4 +41,4 @@ returns-clause-others g c =
     let place = c.partition_point-place.result in
     let first : list_all p (take place rows) ≡ true = ap (list_all p) (ap (take place) (sym c.deref-2.ensures.value) ∙ sym c.split_at.ensures.front) ∙ sym c.are_before.ensures ∙ c.if-not-are_before.false in
     let rest : list_all (λ r. not (p r)) (drop place rows) ≡ true = ap (list_all (λ r. not (p r))) (ap (drop place) (sym c.deref-2.ensures.value) ∙ sym c.split_at.ensures.back) ∙ sym c.none_before.ensures ∙ c.if-not-none_before.false in
-    c.reserve.ensures.items ∙ c.in_ok-others.ensures.tail ∙ sym (parts p (take place rows) (drop place rows) first rest).left ∙ ap (filter (λ r. not (p r))) (take-append-drop place rows)
+    c.in_ok-others.ensures.tail ∙ sym (parts p (take place rows) (drop place rows) first rest).left ∙ ap (filter (λ r. not (p r))) (take-append-drop place rows)
