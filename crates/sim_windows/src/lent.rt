@@ -1,9 +1,10 @@
 //! Partitions that are lent by their stage, and come back.
-ghost use Rattle.std.specs.Prelude.{◌≡◌, ◌++◌, [], IfOk, List, OnOk, Result, map, ℕ};
+ghost use Rattle.std.specs.Prelude.{◌≡◌, ◌++◌, [], IfOk, List, OnOk, Result, filter, map, ℕ};
 ghost use Rattle.sim_clock.specs.declared.refusal.Refusal.{Refusal as TheRefusal};
 ghost use Rattle.sim_engine.specs.Merge.{merged_all, row_cmp};
+ghost use Rattle.sim_engine.specs.Prefixes.{is_before};
 ghost use Rattle.sim_windows.specs.Rounds.{AreWithin, CanComeBack, HaveCome};
-ghost use Rattle.sim_windows.specs.Stages.{GoesOn, Settles, front_in, standing_of, with_parts};
+ghost use Rattle.sim_windows.specs.Stages.{GoesOn, Settles, front_in, settled_by, standing_of, with_parts};
 
 use crate::kept::Kept;
 use crate::stage::{Stage, stage_of};
@@ -58,7 +59,9 @@ impl<S: Site> Lent<S> {
     /// partitions were lent. Answers those of each partition too: merged they follow the rows that were
     /// settled before. The error is want of memory.
     pub fn settle(self, moment: u64) -> Result<(Lent<S>, Vec<Vec<S::Row>>), AllocError>
-        ensures { (parts : List (Result (List S) TheRefusal)) →
+        ensures settled { IfOk result (λ r. r.0 ≡ settled_by S.engine self moment) }
+        ensures rows { IfOk result (λ r. map (λ l. l.items) r.1.items ≡ map (filter (is_before S.engine moment)) self.rows) }
+        ensures next { (parts : List (Result (List S) TheRefusal)) →
             moment ≡ front_in S.engine (with_parts parts self) →
             IfOk result (λ r. Settles S.engine S.conditions (with_parts parts self) (with_parts parts r.0)
             (merged_all (row_cmp S.engine) (map (λ l. l.items) r.1.items))) }

@@ -290,8 +290,8 @@ pub struct Ran<S: Site> {
 ///
 /// # Errors
 ///
-/// `Memory` where a growth is refused here, before rows are handed on. The sink's refusal, where it breaks
-/// at these rows. Else, where partitions are spent by refusals, `Memory` where one of these is, and else
+/// `Memory` where a growth is refused here, before rows are handed on or among them. The sink's refusal, where
+/// it breaks at some of them. Else, where partitions are spent by refusals, `Memory` where one of these is, and else
 /// that of the first.
 pub fn round<S: Site, W: PartWork<S>, G: Gate<W>, K: RowSink<S::Row>, R: Wait>(
     rt: &R,
