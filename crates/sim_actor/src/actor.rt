@@ -16,6 +16,7 @@ use sqs_message::Receipt;
 use sqs_model::{ActorSettings, MOST_COUNT, Role};
 use sqs_redrive::Got;
 use std::alloc::Global;
+use std::collections::VecDeque;
 use std::marker::Model;
 
 /// What a consumer did last.
@@ -36,7 +37,7 @@ pub struct Actor {
     alloc: Global,
     number: u32,
     settings: ActorSettings,
-    held: Vec<Got>,
+    held: VecDeque<Got>,
     stage: Stage,
     wake: Option<u64>,
     wakes: u64,
@@ -82,7 +83,7 @@ impl Actor {
             alloc,
             number,
             settings,
-            held: Vec::new(alloc),
+            held: VecDeque::new(alloc),
             stage: Stage::Asked,
             wake,
             wakes: 0,

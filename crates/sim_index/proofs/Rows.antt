@@ -1,14 +1,20 @@
 -- Nodes of marks.
-use Rattle.std.proofs.Common.{◌≡◌, ℕ, zero, suc, ◌+◌, ◌*◌, ◌-◌, ◌/◌, ◌^◌, ◌<◌, ◌≤◌, Bool, true, false, not, List, drop, length, set, bit_and, bit_or, inl, inr, ◌⊎◌, arith, refl, ap, sym, subst, ◌∙◌}
+use Rattle.std.proofs.Common.{◌≡◌, ℕ, zero, suc, ◌+◌, ◌*◌, ◌-◌, ◌/◌, ◌^◌, ◌<◌, ◌≤◌, Bool, true, false, not, List, drop, length, bit_and, bit_or, inl, inr, ◌⊎◌, arith, refl, ap, sym, subst, ◌∙◌}
 use Rattle.std.specs.Prelude.{◌==◌, ◌≢◌}
 use Rattle.std.proofs.lemmas.Nat.{and_assoc, and_comm, and_le_r, and_or_apart, and_or_self, or_comm}
 use Rattle.std.proofs.lemmas.Bool.Decides.{nat_tests}
-use Rattle.std.proofs.lemmas.Bool.{cases_eq, cases_lt}
-use Rattle.std.proofs.lemmas.List.{get_or-drop, get_or_past, get_or-set_other, get_or-set_same, length-drop, length-set}
+use Rattle.std.proofs.lemmas.Bool.{cases_lt}
+use Rattle.std.proofs.lemmas.List.{get_or-drop, get_or_past, length-drop}
 use Rattle.std.proofs.lemmas.Nat.{pow_pos}
 use Rattle.std.proofs.Math.Nat.{pow-succ'}
 use Rattle.sim_index.specs.declared.mark.Mark.{Mark}
-use Rattle.sim_index.specs.Marks.{ArePairs, ArePairsBut, IsNextIn, IsPair, IsPower, IsTree, NoneIn, beyond, joined, meets, no_mark, node, tells}
+use Rattle.sim_index.specs.Marks.{ArePairs, IsNextIn, IsPair, IsPower, NoneIn, beyond, joined, meets, no_mark, node, tells}
+
+-- marks over so many places, a power of two: those of the places are the second half
+pub record IsPaired (nodes : List Mark) (width : ℕ) : Type 0 where
+  pub power : 1 ≤ width → IsPower width
+  pub long : length nodes ≡ 2 * width
+  pub pairs : ArePairs nodes
 
 none_or : (a b s : ℕ) → bit_and a s ≡ 0 → bit_and b s ≡ 0 → bit_and (bit_or a b) s ≡ 0
 none_or a b s h k = and_or_apart s a b k ∙ h
@@ -123,28 +129,6 @@ next_below nodes hosts row from p place pairs fits below start near next (inr h)
           ];
     })
 
--- a pair of nodes after a node is mended that is neither of the two
-pub pair_set : (nodes : List Mark) (i j : ℕ) (mark : Mark) → 1 ≤ i → 2 * i < length nodes → mark ≡ joined (node nodes (2 * i)) (node nodes (2 * i + 1)) → 2 * j ≢ i → 2 * j + 1 ≢ i → (j ≢ i → IsPair nodes j)
-    → IsPair (set nodes i mark) j
-pair_set nodes i j mark some within is left right h =
-    elim (cases_eq j i) [
-      | inl e ↦
-          rw e
-          (get_or-set_same nodes i mark no_mark (omega (arith, within))
-          ∙ is
-          ∙ (λ k. joined (sym (get_or-set_other nodes i (2 * i) mark no_mark (λ e. omega (arith, e, some))) k) (sym (get_or-set_other nodes i (2 * i + 1) mark no_mark (λ e. omega (arith, e))) k)))
-      | inr n ↦ get_or-set_other nodes i j mark no_mark n ∙ h n ∙ (λ k. joined (sym (get_or-set_other nodes i (2 * j) mark no_mark left) k) (sym (get_or-set_other nodes i (2 * j + 1) mark no_mark right) k))
-    ]
-
--- a node that is mended
-pub mended : (nodes : List Mark) (i : ℕ) (mark : Mark) → ArePairsBut nodes i → 0 < i → 2 * i < length nodes → mark ≡ joined (node nodes (2 * i)) (node nodes (2 * i + 1)) → ArePairsBut (set nodes i mark) (i / 2)
-mended nodes i mark h some within is j low high other =
-    pair_set nodes i j mark (omega (arith, some)) within is (λ e. other (omega (arith, e))) (λ e. other (omega (arith, e))) (h j low (omega (arith, high, length-set nodes i mark)))
-
--- where the one node left out is in order too, all are
-pub all_pairs : (nodes : List Mark) (i : ℕ) → ArePairsBut nodes i → IsPair nodes i → ArePairs nodes
-all_pairs nodes i h is j low high = elim (cases_eq j i) [ inl e ↦ rw e is | inr n ↦ h j low high n ]
-
 -- an empty place tells of none
 pub no_meets : (hosts : ℕ) → meets hosts no_mark ≡ false
 no_meets hosts = test_no (bit_and 0 hosts) (let l : bit_and hosts 0 ≤ 0 = and_le_r hosts 0 in omega (arith, and_comm 0 hosts, l))
@@ -174,7 +158,7 @@ some_of_root nodes width hosts long told =
     ]
 
 -- what the leaves tell, by the nodes of the tree whose second half they are
-module _ (nodes leaves : List Mark) (width hosts : ℕ) (tree : IsTree nodes width) (view : drop width nodes ≡ leaves) where
+module _ (nodes leaves : List Mark) (width hosts : ℕ) (tree : IsPaired nodes width) (view : drop width nodes ≡ leaves) where
   as_long : length leaves ≡ width
   as_long = omega (arith, ap length view, length-drop width nodes, tree.long)
 

@@ -11,8 +11,8 @@ use Rattle.sim_clock.specs.declared.key.Key.{Key}
 use Rattle.sim_clock.specs.Order.{key_cmp, key_cmp_total, lesser}
 use Rattle.sim_clock.proofs.Least.{key_tied, lesser_swap}
 use Rattle.sim_index.specs.declared.mark.Mark.{Mark}
-use Rattle.sim_index.specs.Marks.{ArePairs, IsFirstBelow, IsPair, IsPlaceOfLeast, IsPower, IsTree, least_of, no_mark, node}
-use Rattle.sim_index.proofs.Rows.{of_pair}
+use Rattle.sim_index.specs.Marks.{ArePairs, IsFirstOf, IsPair, IsPlaceOfLeast, IsPower, least_of, no_mark, node}
+use Rattle.sim_index.proofs.Rows.{IsPaired, of_pair}
 
 swap : (a b : Key) (m : Option Key) → lesser (Some a) (lesser (Some b) m) ≡ lesser (Some b) (lesser (Some a) m)
 swap = lesser_swap key_cmp_total key_tied
@@ -68,7 +68,7 @@ span_drop nodes start (suc n) e =
     ap (lesser (node nodes start).due) (span_drop nodes (start + 1) n (omega arith)) ∙ sym (ap least_of (drop_more nodes start no_mark (omega arith)))
 
 -- the first node tells what all leaves do
-root_some : (nodes : List Mark) (width : ℕ) → IsTree nodes width → 1 ≤ width → (node nodes 1).due ≡ least_of (drop width nodes)
+root_some : (nodes : List Mark) (width : ℕ) → IsPaired nodes width → 1 ≤ width → (node nodes 1).due ≡ least_of (drop width nodes)
 root_some nodes width h l =
     let p = h.power l in
     let e : width ≡ 2 ^ p.0 = p.1 in
@@ -76,7 +76,7 @@ root_some nodes width h l =
     ∙ (λ j. span nodes (sym e j) (sym e j))
     ∙ span_drop nodes width width (omega (arith, h.long))
 
-pub root_least : (nodes : List Mark) (width : ℕ) → IsTree nodes width → (node nodes 1).due ≡ least_of (drop width nodes)
+pub root_least : (nodes : List Mark) (width : ℕ) → IsPaired nodes width → (node nodes 1).due ≡ least_of (drop width nodes)
 root_least nodes width h =
     elim (cases_lt 0 width) [
       | inl l ↦ root_some nodes width h (omega arith)
@@ -154,7 +154,7 @@ pub record Below (nodes : List Mark) (width next : ℕ) : Type 0 where
 -- the first of the two below the first in its row is the first of the row below
 pub first_below :
     (nodes : List Mark) (width at next : ℕ) → ArePairs nodes → length nodes ≡ 2 * width → 1 ≤ at → at < width → (node nodes 1).due ≢ None → (node nodes at).due ≡ (node nodes 1).due → IsFirstInRow nodes at
-    → IsFirstBelow (node nodes (2 * at)).due (node nodes (2 * at + 1)).due (2 * at) next → Below nodes width next
+    → IsFirstOf (node nodes (2 * at)).due (node nodes (2 * at + 1)).due (2 * at) (2 * at + 1) next → Below nodes width next
 first_below nodes width at next pairs long low high some told first is =
     let whole : lesser (node nodes (2 * at)).due (node nodes (2 * at + 1)).due ≡ (node nodes 1).due = ap (λ (m : Mark). m.due) (sym (pairs at low (omega arith))) ∙ told in
     let row : ℕ = first.row in
@@ -214,7 +214,7 @@ first_leaf nodes width leaf power low high first k l u =
     ]
 
 -- the first leaf that tells what the first node does
-pub leaf_least : (nodes : List Mark) (width leaf : ℕ) → IsTree nodes width → width ≤ leaf → leaf < 2 * width → (node nodes 1).due ≢ None → (node nodes leaf).due ≡ (node nodes 1).due
+pub leaf_least : (nodes : List Mark) (width leaf : ℕ) → IsPaired nodes width → width ≤ leaf → leaf < 2 * width → (node nodes 1).due ≢ None → (node nodes leaf).due ≡ (node nodes 1).due
     → ((k : ℕ) → width ≤ k → k < leaf → (node nodes k).due ≢ (node nodes 1).due) → IsPlaceOfLeast (drop width nodes) (leaf - width)
 leaf_least nodes width leaf h low high some e first =
     let long : length (drop width nodes) + width ≡ length nodes = omega (arith, length-drop width nodes, h.long) in

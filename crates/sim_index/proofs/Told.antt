@@ -7,8 +7,8 @@ use Rattle.std.proofs.lemmas.List.Folds.{list_any_at, list_any_none}
 use Rattle.std.proofs.lemmas.Nat.{pow_pos}
 use Rattle.std.specs.List.{list_any}
 use Rattle.sim_index.specs.declared.mark.Mark.{Mark}
-use Rattle.sim_index.specs.Marks.{ArePairs, IsNextIn, IsPower, IsTree, NoneIn, meets, no_mark, node, tells}
-use Rattle.sim_index.proofs.Rows.{no_meets, none_of_root, pair_none, quiet, some_of_root}
+use Rattle.sim_index.specs.Marks.{ArePairs, IsNextIn, IsPower, NoneIn, meets, no_mark, node, tells}
+use Rattle.sim_index.proofs.Rows.{IsPaired, no_meets, none_of_root, pair_none, quiet, some_of_root}
 use Rattle.sim_index.proofs.Spans.{row_above}
 
 pub power_some : (n : ℕ) → IsPower n → 1 ≤ n
@@ -121,7 +121,7 @@ told_in nodes hosts (suc k) pairs long told =
     subst (IsToldIn nodes hosts) (sym twice)
     (told_lower nodes hosts (2 ^ k) pairs (pow_pos k) (omega (arith, twice, long)) (told_in nodes hosts k pairs (omega (arith, twice, long)) told))
 
-module _ (nodes : List Mark) (width hosts : ℕ) (tree : IsTree nodes width) where
+module _ (nodes : List Mark) (width hosts : ℕ) (tree : IsPaired nodes width) where
   leaf_told : tells nodes hosts 1 ≡ true → list_any (meets hosts) (drop width nodes) ≡ true
   leaf_told told =
       let power : IsPower width = tree.power (some_of_root nodes width hosts tree.long told) in

@@ -1,8 +1,9 @@
 -- Marks: what is kept of the places of a list, and of pairs, fours and so on of them.
-use Rattle.std.specs.Prelude.{◌≡◌, ◌⊎◌, Bool, List, [], ◌∷◌, Option, None, bit_and, bit_or, false, true, get_or, length, not, ℕ, ◌*◌, ◌+◌, ◌/◌, ◌<◌, ◌==◌, ◌^◌, ◌≢◌, ◌≤◌}
+use Rattle.std.specs.Prelude.{◌≡◌, ◌⊎◌, Bool, List, [], ◌∷◌, Option, None, bit_and, bit_or, false, true, get_or, length, map, not, set, ℕ, ◌*◌, ◌+◌, ◌/◌, ◌<◌, ◌==◌, ◌^◌, ◌≢◌, ◌≤◌}
 use Rattle.sim_clock.specs.Order.{lesser}
 use Rattle.sim_clock.specs.declared.key.Key.{Key}
 use Rattle.sim_index.specs.declared.mark.Mark.{Mark}
+use Rattle.sim_index.specs.declared.marks.Node.{Node}
 
 -- the mark of an empty place
 abbrev pub no_mark : Mark
@@ -31,10 +32,6 @@ IsPair nodes i = node nodes i ≡ joined (node nodes (2 * i)) (node nodes (2 * i
 abbrev pub ArePairs : List Mark → Type 0
 ArePairs nodes = (i : ℕ) → 1 ≤ i → 2 * i + 1 < length nodes → IsPair nodes i
 
--- the same, but for one
-abbrev pub ArePairsBut : List Mark → ℕ → Type 0
-ArePairsBut nodes but = (i : ℕ) → 1 ≤ i → 2 * i + 1 < length nodes → i ≢ but → IsPair nodes i
-
 -- a power of two
 abbrev pub IsPower : ℕ → Type 0
 IsPower n = (k : ℕ) × (n ≡ 2 ^ k)
@@ -50,20 +47,60 @@ pub record IsNextIn (nodes : List Mark) (set from end place : ℕ) : Type 0 wher
   pub found : tells nodes set place ≡ true
   pub none_before : NoneIn nodes set from place
 
--- of two nodes side by side, of which the first is `left`, the first that tells the least of both
-abbrev pub IsFirstBelow : Option Key → Option Key → ℕ → ℕ → Type 0
-IsFirstBelow first second left place =
-    ((lesser first second ≡ first) × (place ≡ left)) ⊎ ((lesser first second ≡ second) × (place ≡ left + 1) × (first ≡ second → second ≡ None))
-
 -- the node before which the pair of a node ends
 abbrev pub beyond : ℕ → ℕ
 beyond i = 2 * (i / 2 + 1)
 
--- a tree of marks over so many places, a power of two: the second half of its nodes
-pub record IsTree (nodes : List Mark) (width : ℕ) : Type 0 where
-  pub power : 1 ≤ width → IsPower width
-  pub long : length nodes ≡ 2 * width
-  pub pairs : ArePairs nodes
+-- the node of no places, and the node at a place of a list
+abbrev pub no_node : Node
+no_node = record { place = 0; hosts = 0 }
+
+abbrev pub node_in : List Node → ℕ → Node
+node_in nodes i = get_or nodes i no_node
+
+-- what a node tells, by the marks of the places: what is due at its place, and its hosts
+abbrev pub told_by : List Mark → Node → Mark
+told_by marks n = record { due = (node marks n.place).due; hosts = n.hosts }
+
+-- what nodes tell of hosts alone
+abbrev pub bare : List Node → List Mark
+bare nodes = map (told_by []) nodes
+
+-- of two places, with what is due at each, the first at which the least of both is due
+abbrev pub IsFirstOf : Option Key → Option Key → ℕ → ℕ → ℕ → Type 0
+IsFirstOf first second a b place =
+    ((lesser first second ≡ first) × (place ≡ a)) ⊎ ((lesser first second ≡ second) × (place ≡ b) × (first ≡ second → second ≡ None))
+
+-- a node that tells what two others tell together
+pub record IsBoth (marks : List Mark) (a b n : Node) : Type 0 where
+  pub place : IsFirstOf (told_by marks a).due (told_by marks b).due a.place b.place n.place
+  pub hosts : n.hosts ≡ bit_or a.hosts b.hosts
+
+-- whether each node does of the two below it
+abbrev pub AreBoth : List Mark → List Node → Type 0
+AreBoth marks nodes = (i : ℕ) → 1 ≤ i → 2 * i + 1 < length nodes → IsBoth marks (node_in nodes (2 * i)) (node_in nodes (2 * i + 1)) (node_in nodes i)
+
+-- nodes of which the second half are those of single places, and all tell of places that are there
+pub record AreLeaves (marks : List Mark) (nodes : List Node) : Type 0 where
+  pub long : length nodes ≡ 2 * length marks
+  pub there : (i : ℕ) → i < length nodes → (node_in nodes i).place < length marks
+  pub single : (i : ℕ) → i < length marks → node_in nodes (length marks + i) ≡ record { place = i; hosts = (node marks i).hosts }
+
+-- a tree over the marks of places, of which there are a power of two
+pub record IsTree (marks : List Mark) (nodes : List Node) : Type 0 where
+  pub power : 1 ≤ length marks → IsPower (length marks)
+  pub leaves : AreLeaves marks nodes
+  pub pairs : AreBoth marks nodes
+
+-- a tree in which a place has got another mark, with its own node alone
+pub record IsTreeBut (marks : List Mark) (nodes : List Node) (place : ℕ) : Type 0 where
+  pub marks_before : List Mark
+  pub nodes_before : List Node
+  pub mark : Mark
+  pub tree : IsTree marks_before nodes_before
+  pub within : place < length marks_before
+  pub marks_now : marks ≡ set marks_before place mark
+  pub nodes_now : nodes ≡ set nodes_before (length marks + place) (record { place = place; hosts = mark.hosts })
 
 -- the least of what marks tell to be due
 abbrev pub least_of : List Mark → Option Key

@@ -1,7 +1,7 @@
 //! What is kept of one place, or of several together.
 ghost use Rattle.std.specs.Prelude.{None, if◌then◌else◌, false, true, ◌≡◌, ◌≢◌, get_or};
 ghost use Rattle.sim_clock.specs.Order.{lesser};
-ghost use Rattle.sim_index.specs.Marks.{joined, meets, no_mark};
+ghost use Rattle.sim_index.specs.Marks.{no_mark};
 
 use sim_clock::Key;
 
@@ -32,28 +32,6 @@ pub fn is_second(first: &Option<Key>, second: &Option<Key>) -> bool
         (Some(_), None) => false,
         (Some(first), Some(second)) => second.is_before(first),
     }
-}
-
-/// What two marks tell together.
-pub fn join(first: &Mark, second: &Mark) -> Mark
-    ensures { result ≡ joined first.now second.now }
-{
-    let least = if is_second(&first.due, &second.due) {
-        second
-    } else {
-        first
-    };
-    Mark {
-        due: least.due,
-        hosts: first.hosts | second.hosts,
-    }
-}
-
-/// Whether a mark tells of a message on one of these hosts.
-pub fn meets(mark: &Mark, hosts: u32) -> bool
-    ensures { result ≡ meets hosts mark.now }
-{
-    mark.hosts & hosts != 0
 }
 
 /// The mark at a place, or that of an empty place past the end.

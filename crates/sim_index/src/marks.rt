@@ -1,48 +1,89 @@
 //! The tree.
-ghost use Rattle.std.specs.Prelude.{◌≡◌, ◌⊎◌, None, [], if◌then◌else◌, ◌*◌, ◌+◌, ◌/◌, ◌^◌, ℕ, ◌<◌, ◌≤◌, ◌≢◌, drop, false, true, IfOk, MatchOption, length, map, set, get_or, vec_len};
+ghost use Rattle.std.specs.Prelude.{◌≡◌, ◌⊎◌, None, [], ◌*◌, ◌+◌, ◌/◌, ◌^◌, ℕ, ◌<◌, ◌≤◌, drop, false, true, IfOk, MatchOption, length, set, get_or, vec_len};
 ghost use Rattle.std.specs.List.{list_any};
-ghost use Rattle.sim_clock.specs.Order.{lesser};
-ghost use Rattle.sim_index.specs.Marks.{ArePairs, ArePairsBut, IsFirstBelow, IsNextIn, IsPlaceOfLeast, IsPower, NoneIn, beyond, least_of, meets, no_mark, node, tells};
+ghost use Rattle.sim_index.specs.Marks.{AreBoth, AreLeaves, ArePairs, IsBoth, IsNextIn, IsPlaceOfLeast, IsPower, IsTree, IsTreeBut, NoneIn, bare, beyond, least_of, meets, no_mark, no_node, node, tells};
 
-use crate::mark::{Mark, NO_MARK, is_second, join, mark_at, meets};
+use crate::mark::{Mark, NO_MARK, is_second};
 use sim_clock::Key;
 use std::alloc::{AllocError, Global};
 use std::marker::Model;
 
-// The first node of a row from one on of the pair that has it, if its mark tells of one of these hosts.
-fn next_beside(nodes: &[Mark], from: usize, hosts: u32) -> Option<usize>
-    requires { from + 1 < 2 ^ 64 }
-    ensures { MatchOption result (NoneIn nodes.now hosts from (beyond from)) (IsNextIn nodes.now hosts from (beyond from)) }
+// What is kept of some places together: the place of the least of what is due there, the first of
+// several, and the hosts of all of them, as bits.
+#[derive(Clone, Copy, Debug, PartialEq, Eq)]
+struct Node {
+    place: usize,
+    hosts: u32,
+}
+
+// The node of no places.
+const NO_NODE: Node = Node { place: 0, hosts: 0 };
+
+// The node at a place, or that of no places past the end.
+fn node_at(nodes: &[Node], place: usize) -> Node
+    ensures { result ≡ get_or nodes.now place no_node }
 {
-    if meets(&mark_at(nodes, from), hosts) {
+    if place < nodes.len() {
+        nodes[place]
+    } else {
+        NO_NODE
+    }
+}
+
+// Whether a node tells of one of these hosts.
+fn reaches(nodes: &[Node], node: usize, hosts: u32) -> bool
+    ensures { result ≡ tells (bare nodes.now) hosts node }
+{
+    node_at(nodes, node).hosts & hosts != 0
+}
+
+// What two nodes tell together.
+fn both(marks: &[Mark], first: Node, second: Node) -> Node
+    requires first { first.place < length marks.now }
+    requires second { second.place < length marks.now }
+    ensures { IsBoth marks.now first second result }
+{
+    let is_second = is_second(&marks[first.place].due, &marks[second.place].due);
+    Node {
+        place: if is_second { second.place } else { first.place },
+        hosts: first.hosts | second.hosts,
+    }
+}
+
+// The first node of a row from one on of the pair that has it, if it tells of one of these hosts.
+fn next_beside(nodes: &[Node], from: usize, hosts: u32) -> Option<usize>
+    requires { from + 1 < 2 ^ 64 }
+    ensures { MatchOption result (NoneIn (bare nodes.now) hosts from (beyond from)) (IsNextIn (bare nodes.now) hosts from (beyond from)) }
+{
+    if reaches(nodes, from, hosts) {
         return Some(from);
     }
-    if from % 2 == 0 && meets(&mark_at(nodes, from + 1), hosts) {
+    if from % 2 == 0 && reaches(nodes, from + 1, hosts) {
         return Some(from + 1);
     }
     None
 }
 
-// The first of the two below a node whose mark tells of one of these hosts, or else the second.
-fn first_below(nodes: &[Mark], node: usize, hosts: u32) -> usize
+// The first of the two below a node that tells of one of these hosts, or else the second.
+fn first_below(nodes: &[Node], node: usize, hosts: u32) -> usize
     requires { 2 * node + 1 < 2 ^ 64 }
-    ensures { ((tells nodes.now hosts (2 * node) ≡ true) × (result ≡ 2 * node)) ⊎ ((tells nodes.now hosts (2 * node) ≡ false) × (result ≡ 2 * node + 1)) }
+    ensures { ((tells (bare nodes.now) hosts (2 * node) ≡ true) × (result ≡ 2 * node)) ⊎ ((tells (bare nodes.now) hosts (2 * node) ≡ false) × (result ≡ 2 * node + 1)) }
 {
-    if meets(&mark_at(nodes, 2 * node), hosts) {
+    if reaches(nodes, 2 * node, hosts) {
         2 * node
     } else {
         2 * node + 1
     }
 }
 
-// The first node of the row that begins at `row`, from one on, whose mark tells of one of these
+// The first node of the row that begins at `row`, from one on, that tells of one of these
 // hosts, by the rows above.
-fn next_in(nodes: &[Mark], row: usize, from: usize, hosts: u32) -> Option<usize>
+fn next_in(nodes: &[Node], row: usize, from: usize, hosts: u32) -> Option<usize>
     requires power { IsPower row }
     requires within { 2 * row ≤ length nodes.now }
-    requires pairs { ArePairs nodes.now }
+    requires pairs { ArePairs (bare nodes.now) }
     requires from { row ≤ from }
-    ensures { MatchOption result (NoneIn nodes.now hosts from (2 * row)) (IsNextIn nodes.now hosts from (2 * row)) }
+    ensures { MatchOption result (NoneIn (bare nodes.now) hosts from (2 * row)) (IsNextIn (bare nodes.now) hosts from (2 * row)) }
 {
     if 2 * row <= from {
         return None;
@@ -60,12 +101,12 @@ fn next_in(nodes: &[Mark], row: usize, from: usize, hosts: u32) -> Option<usize>
 }
 
 // The first leaf that tells of one of these hosts, where the first node does.
-fn first_told(nodes: &[Mark], width: usize, hosts: u32) -> usize
-    requires pairs { ArePairs nodes.now }
+fn first_told(nodes: &[Node], width: usize, hosts: u32) -> usize
+    requires pairs { ArePairs (bare nodes.now) }
     requires power { IsPower width }
     requires within { 2 * width ≤ length nodes.now }
-    requires told { tells nodes.now hosts 1 ≡ true }
-    ensures { IsNextIn nodes.now hosts width (2 * width) result }
+    requires told { tells (bare nodes.now) hosts 1 ≡ true }
+    ensures { IsNextIn (bare nodes.now) hosts width (2 * width) result }
 {
     let mut node = 1;
     while node < width {
@@ -74,19 +115,16 @@ fn first_told(nodes: &[Mark], width: usize, hosts: u32) -> usize
     node
 }
 
-// Brings the marks above a node in order, up to the first that is so.
-fn mend(nodes: &mut Vec<Mark>, width: usize, node: usize)
-    requires above { ArePairsBut nodes.old.items (node / 2) }
-    requires within { node < vec_len nodes.old }
-    requires long { vec_len nodes.old ≡ 2 * width }
-    ensures pairs { ArePairs nodes.new.items }
-    ensures leaves { (k : ℕ) → vec_len nodes.old ≤ 2 * k → drop k nodes.new.items ≡ drop k nodes.old.items }
-    ensures length { vec_len nodes.new ≡ vec_len nodes.old }
+// Brings the nodes above a place in order, whose mark is new, up to the first that stays as it was and
+// tells of another place.
+fn mend(marks: &[Mark], nodes: &mut Vec<Node>, place: usize)
+    requires { IsTreeBut marks.now nodes.old.items place }
+    ensures { IsTree marks.now nodes.new.items }
 {
-    let mut node = node / 2;
+    let mut node = (marks.len() + place) / 2;
     while 0 < node {
-        let both = join(&nodes[2 * node], &nodes[2 * node + 1]);
-        if nodes[node] == both {
+        let both = both(marks, nodes[2 * node], nodes[2 * node + 1]);
+        if nodes[node] == both && both.place != place {
             return;
         }
         nodes[node] = both;
@@ -94,68 +132,50 @@ fn mend(nodes: &mut Vec<Mark>, width: usize, node: usize)
     }
 }
 
-// Writes the marks above the leaves of a tree.
-fn write_above(nodes: &mut Vec<Mark>, width: usize)
-    requires { vec_len nodes.old ≡ 2 * width }
-    ensures pairs { ArePairs nodes.new.items }
-    ensures leaves { drop width nodes.new.items ≡ drop width nodes.old.items }
-    ensures length { vec_len nodes.new ≡ vec_len nodes.old }
+// Writes the nodes above the places of a tree.
+fn write_above(marks: &[Mark], nodes: &mut Vec<Node>)
+    requires { AreLeaves marks.now nodes.old.items }
+    ensures leaves { AreLeaves marks.now nodes.new.items }
+    ensures pairs { AreBoth marks.now nodes.new.items }
 {
-    for i in (1..width).rev() {
-        let both = join(&mark_at(nodes, 2 * i), &mark_at(nodes, 2 * i + 1));
+    for i in (1..marks.len()).rev() {
+        let both = both(marks, nodes[2 * i], nodes[2 * i + 1]);
         nodes[i] = both;
     }
 }
 
-// The first of the two below a node that tells the least that is due there.
-fn least_below(nodes: &[Mark], above: usize) -> usize
-    requires { 2 * above + 1 < length nodes.now }
-    ensures { IsFirstBelow (node nodes.now (2 * above)).due (node nodes.now (2 * above + 1)).due (2 * above) result }
+// The nodes of single places, with room for those above them before.
+fn leaves(alloc: Global, marks: &[Mark]) -> Result<Vec<Node>, AllocError>
+    requires range { 2 * length marks.now < 2 ^ 64 }
+    ensures { IfOk result (λ v. AreLeaves marks.now v.items) }
 {
-    let first = 2 * above;
-    if is_second(&nodes[first].due, &nodes[first + 1].due) {
-        first + 1
-    } else {
-        first
+    let mut nodes = vec![in alloc; NO_NODE; 2 * marks.len()]?;
+    for (place, mark) in marks.iter().enumerate() {
+        nodes[marks.len() + place] = Node {
+            place,
+            hosts: mark.hosts,
+        };
     }
-}
-
-// The first leaf, of so many, that tells what the first node does.
-fn leaf_of(nodes: &[Mark], width: usize) -> usize
-    requires pairs { ArePairs nodes.now }
-    requires power { IsPower width }
-    requires some { 1 ≤ width }
-    requires long { length nodes.now ≡ 2 * width }
-    requires due { (node nodes.now 1).due ≢ None }
-    ensures leaf { width ≤ result }
-    ensures within { result < 2 * width }
-    ensures due { (node nodes.now result).due ≡ (node nodes.now 1).due }
-    ensures first { (k : ℕ) → width ≤ k → k < result → (node nodes.now k).due ≢ (node nodes.now 1).due }
-{
-    let mut node = 1;
-    while node < width {
-        node = least_below(nodes, node);
-    }
-    node
+    Ok(nodes)
 }
 
 /// The marks of places, of which there are a power of two. Contracts see them as a list.
 #[derive(Drop)]
 pub struct Marks {
-    nodes: Vec<Mark>,
-    width: usize,
+    marks: Vec<Mark>,
+    nodes: Vec<Node>,
 }
 
 impl Model for Marks {
-    ghost use Rattle.std.specs.Prelude.{List, drop};
+    ghost use Rattle.std.specs.Prelude.{List};
     ghost use Rattle.sim_index.specs.declared.mark.Mark.{Mark};
     ghost use Rattle.sim_index.specs.Marks.{IsTree};
 
     ghost Value = { List Mark };
 
-    ghost view = { λ m. drop m.width m.nodes.items };
+    ghost view = { λ m. m.marks.items };
 
-    ghost invariant = { λ m. IsTree m.nodes.items m.width };
+    ghost invariant = { λ m. IsTree m.marks.items m.nodes.items };
 }
 
 impl Marks {
@@ -164,8 +184,8 @@ impl Marks {
         ensures { result ≡ [] }
     {
         Marks {
+            marks: Vec::new(alloc),
             nodes: Vec::new(alloc),
-            width: 0,
         }
     }
 
@@ -178,17 +198,19 @@ impl Marks {
         ensures marks { IfOk result (λ m. (i : ℕ) → node m i ≡ node marks.now i) }
         ensures length { IfOk result (λ m. length m ≡ width) }
     {
-        let mut nodes = vec![in alloc; NO_MARK; 2 * width]?;
-        nodes[width..width + marks.len()].copy_from_slice(marks);
-        write_above(&mut nodes, width);
-        Ok(Marks { nodes, width })
+        let mut all = Vec::with_capacity(alloc, width)?;
+        all.extend_from_slice(marks)?;
+        all.resize(width, NO_MARK)?;
+        let mut nodes = leaves(alloc, &all)?;
+        write_above(&all, &mut nodes);
+        Ok(Marks { marks: all, nodes })
     }
 
     /// The marks of the places, in order.
     pub fn leaves(&self) -> &[Mark]
         ensures { result.now ≡ self.now }
     {
-        &self.nodes[self.width..]
+        &self.marks
     }
 
     /// Marks a place.
@@ -196,19 +218,20 @@ impl Marks {
         requires { place < length self.old }
         ensures { self.new ≡ set self.old place mark }
     {
-        let node = self.width + place;
-        if self.nodes[node] == mark {
+        if self.marks[place] == mark {
             return;
         }
-        self.nodes[node] = mark;
-        mend(&mut self.nodes, self.width, node);
+        self.marks[place] = mark;
+        let leaf = self.marks.len() + place;
+        self.nodes[leaf].hosts = mark.hosts;
+        mend(&self.marks, &mut self.nodes, place);
     }
 
     /// Whether the mark of any place tells of one of these hosts.
     pub fn has_on(&self, hosts: u32) -> bool
         ensures { result ≡ list_any (meets hosts) self.now }
     {
-        meets(&mark_at(&self.nodes, 1), hosts)
+        reaches(&self.nodes, 1, hosts)
     }
 
     /// The first place from one on whose mark tells of one of these hosts.
@@ -219,12 +242,13 @@ impl Marks {
         if !self.has_on(hosts) {
             return None;
         }
+        let width = self.marks.len();
         if from == 0 {
-            return Some(first_told(&self.nodes, self.width, hosts) - self.width);
+            return Some(first_told(&self.nodes, width, hosts) - width);
         }
-        match next_in(&self.nodes, self.width, self.width + from, hosts) {
+        match next_in(&self.nodes, width, width + from, hosts) {
             None => None,
-            Some(node) => Some(node - self.width),
+            Some(node) => Some(node - width),
         }
     }
 
@@ -232,14 +256,15 @@ impl Marks {
     pub fn least(&self) -> Option<Key>
         ensures { result ≡ least_of self.now }
     {
-        mark_at(&self.nodes, 1).due
+        self.marks[self.nodes.get(1)?.place].due
     }
 
     /// The first place at which the least is due; none where nothing is.
     pub fn place_of_least(&self) -> Option<usize>
         ensures { MatchOption result (least_of self.now ≡ None) (IsPlaceOfLeast self.now) }
     {
-        self.least()?;
-        Some(leaf_of(&self.nodes, self.width) - self.width)
+        let root = self.nodes.get(1)?;
+        self.marks[root.place].due?;
+        Some(root.place)
     }
 }

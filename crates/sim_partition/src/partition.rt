@@ -25,7 +25,7 @@ pub struct Partition<S: Site> {
     alloc: Global,
     sites: MarkedList<S>,
     spent: Option<Refusal>,
-    // How many rows its last run made: the next one asks for room for as many at once.
+    // How many rows its last run made: the next one asks for room for twice as many at once.
     made: usize,
 }
 
@@ -149,7 +149,8 @@ impl<S: Site> Partition<S> {
         if let Some(refusal) = self.spent {
             return Err(refusal);
         }
-        match made_before(self.alloc, &mut self.sites, end, self.made) {
+        let room = self.made.saturating_mul(2);
+        match made_before(self.alloc, &mut self.sites, end, room) {
             Ok(effects) => {
                 self.made = effects.rows.len();
                 Ok(effects)

@@ -1,3 +1,3 @@
 pub mod Writes
-pub mod Begun
 pub mod Plain
+pub mod Ended

@@ -1,19 +1,24 @@
 -- Fields that need no quotes: numbers, ids, receipts, digests and counts.
-use Rattle.std.proofs.Common.{Bool, not, true≢false, ◌&&◌, List, [], arith, ap, false, get_or, length, drop, take, slice_set, subst, refl, slice_index, suc, sym, ◌-◌, true, zero, ℕ, ◌++◌, ◌/◌, ◌%◌, ◌<◌, ◌==◌, ◌^◌, ◌∙◌, ◌∷◌, ◌≡◌, ◌≤◌, ◌||◌, if◌then◌else◌}
+use Rattle.std.proofs.Common.{Bool, ◌+◌, not, true≢false, ◌&&◌, List, [], arith, ap, false, get_or, length, drop, slice_set, refl, slice_index, suc, sym, ◌-◌, true, zero, ℕ, ◌++◌, ◌/◌, ◌%◌, ◌<◌, ◌==◌, ◌^◌, ◌∙◌, ◌∷◌, ◌≡◌, ◌≤◌, ◌||◌, if◌then◌else◌}
 use Rattle.std.specs.Fmt.{decimal}
 use Rattle.std.specs.List.{list_any}
 use Rattle.std.proofs.lemmas.Fmt.{decimal_is_IsNumeral, length-decimal-le}
 use Rattle.std.proofs.lemmas.Grind.{common_steps}
-use Rattle.std.proofs.lemmas.List.{drop-set, take_rest}
+use Rattle.std.proofs.lemmas.List.{drop-append-le, drop-drop, drop-set, drop_at, length-append, length-drop, length-take-le}
 use Rattle.std.proofs.lemmas.List.Folds.{list_any-append}
 use Rattle.std.proofs.lemmas.Str.Parse.{digit_at}
-use Rattle.csv.specs.Writing.{default_writer, field_text, needs_byte, needs_quotes, quoted}
+use borrow.Rule.Slice.PartMut.{put_mid}
+use Rattle.csv.specs.Writing.{comma, default_writer, field_text, needs_byte, needs_quotes, quoted}
 use Rattle.hex.specs.Hex.{encode_lower, encode_with, lower_digits}
-use Rattle.sim_records.specs.Lines.{IsPlain, none_quoted}
+use Rattle.sim_records.specs.Lines.{IsPlain, none_quoted, with_field}
 
 -- such a field is written as it is
 pub field_plain : (f : List ℕ) → IsPlain f → field_text default_writer f ≡ f
 field_plain f h = ap (λ b. if b then quoted default_writer f else f) h
+
+-- and so it is a field of a line
+pub plain_put : (f rest : List ℕ) → IsPlain f → comma ∷ (f ++ rest) ≡ with_field rest f
+plain_put f rest h = ap (λ t. comma ∷ (t ++ rest)) (sym (field_plain f h))
 
 pub plain_append : (a b : List ℕ) → IsPlain a → IsPlain b → IsPlain (a ++ b)
 plain_append a b h k = list_any-append (needs_byte default_writer) a b ∙ ap (λ x. x || list_any (needs_byte default_writer) b) h ∙ k
@@ -68,12 +73,37 @@ plain_more mark rest h plain = ap (λ x. x || list_any (needs_byte default_write
 pub plain_marked : (mark n : ℕ) (rest : List ℕ) → needs_byte default_writer mark ≡ false → n < 2 ^ 64 → IsPlain rest → IsPlain (mark ∷ (decimal n ++ rest))
 plain_marked mark n rest h k plain = plain_more mark (decimal n ++ rest) h (plain_append (decimal n) rest (plain_decimal n k) plain)
 
--- a mark before what stands in a text from a place on, and the whole end of a text
+-- a mark before what stands in a text from a place on
 pub set_before : (text : List ℕ) (k mark : ℕ) → 1 ≤ k → k ≤ length text → drop (k - 1) (slice_set text (k - 1) mark) ≡ mark ∷ drop k text
 set_before text k mark h l = drop-set text (k - 1) mark (omega arith) ∙ ap (λ i. mark ∷ drop i text) (omega arith)
 
-pub plain_end : (text f : List ℕ) (n k : ℕ) → length text ≡ n → drop k text ≡ f → IsPlain f → IsPlain (take (n - k) (drop k text))
-plain_end text f n k whole is plain = subst IsPlain (sym (ap (λ m. take (m - k) (drop k text)) (sym whole) ∙ take_rest text k ∙ is)) plain
+-- the last of sixteen bytes that are put before a place, with a comma before them
+put_seam : (text put : List ℕ) (end : ℕ) → 16 ≤ end → end ≤ length text → drop (end - 16) (put_mid (end - 16) (end - (end - 16)) text put) ≡ put ++ drop end text
+put_seam text put end h l =
+    drop_at _ _ (end - 16) (omega (arith, length-take-le (end - 16) text))
+    ∙ ap (λ t. put ++ t) (drop-drop (end - (end - 16)) (end - 16) text ∙ ap (λ (n : ℕ). drop n text) (omega arith))
+
+put_tail : (text put : List ℕ) (end len : ℕ) → 16 ≤ end → end ≤ length text → len ≤ 16 → length put ≡ 16
+    → drop (end - len) (put_mid (end - 16) (end - (end - 16)) text put) ≡ drop (16 - len) put ++ drop end text
+put_tail text put end len h l k long =
+    let all = put_mid (end - 16) (end - (end - 16)) text put in
+    let place : end - len ≡ (end - 16) + (16 - len) = omega arith in
+    ap (λ (n : ℕ). drop n all) place ∙ sym (drop-drop (16 - len) (end - 16) all)
+    ∙ ap (drop (16 - len)) (put_seam text put end h l) ∙ drop-append-le (16 - len) put (drop end text) (omega arith)
+
+put_long : (text put : List ℕ) (end : ℕ) → 16 ≤ end → end ≤ length text → length put ≡ 16 → end ≤ length (put_mid (end - 16) (end - (end - 16)) text put)
+put_long text put end h l long =
+    let seam = ap length (put_seam text put end h l) in
+    let front = length-drop (end - 16) (put_mid (end - 16) (end - (end - 16)) text put) in
+    let back = length-append put (drop end text) in
+    omega arith
+
+pub word_put : (text put : List ℕ) (end len : ℕ) → 16 < end → end ≤ length text → len ≤ 16 → length put ≡ 16
+    → drop (end - len - 1) (slice_set (put_mid (end - 16) (end - (end - 16)) text put) (end - len - 1) comma) ≡ comma ∷ (drop (16 - len) put ++ drop end text)
+word_put text put end len h l k long =
+    let whole = put_long text put end (omega arith) l long in
+    set_before (put_mid (end - 16) (end - (end - 16)) text put) (end - len) comma (omega arith) (omega arith)
+    ∙ ap (λ t. comma ∷ t) (put_tail text put end len (omega arith) l k long)
 
 -- of names that need no quotes none does
 first_plain : (needs others : Bool) → (not needs && others) ≡ true → needs ≡ false

@@ -4,113 +4,121 @@ ghost use Rattle.sim_records.specs.Lines.{IsPlain, with_field};
 ghost use Rattle.sqs_formats.specs.Rows.{answer_text, detail_text, kind_text, name_at, row_receipt, text_if};
 ghost use Rattle.sqs_message.specs.Ids.{id_text};
 
-use crate::fields::Fields;
+use crate::line::Line;
 use crate::names::Names;
-use sqs_message::{Detail, MessageId, RowAnswer, RowKind, RowReceipt};
+use crate::word::Word;
+use sqs_message::{Detail, HandleForm, MessageId, RowAnswer, RowKind, RowReceipt};
 use std::alloc::AllocError;
 
 // The name of what a row tells of.
-pub(crate) fn kind_name(kind: RowKind) -> &'static str
-    ensures name { result.now ≡ kind_text kind }
-    ensures plain { IsPlain result.now }
+fn kind_word(kind: RowKind) -> Word
+    ensures name { result ≡ kind_text kind }
+    ensures plain { IsPlain result }
 {
     match kind {
-        RowKind::Send => "send",
-        RowKind::Receive => "receive",
-        RowKind::Delete => "delete",
-        RowKind::Change => "change",
-        RowKind::Fail => "fail",
-        RowKind::Forward => "forward",
-        RowKind::Start => "start",
-        RowKind::Cancel => "cancel",
-        RowKind::Release => "release",
-        RowKind::Redrive => "redrive",
-        RowKind::Move => "move",
-        RowKind::Arrive => "arrive",
-        RowKind::Expire => "expire",
-        RowKind::Task => "task",
-        RowKind::Sample => "sample",
+        RowKind::Send => Word::new(b"            send", 4),
+        RowKind::Receive => Word::new(b"         receive", 7),
+        RowKind::Delete => Word::new(b"          delete", 6),
+        RowKind::Change => Word::new(b"          change", 6),
+        RowKind::Fail => Word::new(b"            fail", 4),
+        RowKind::Forward => Word::new(b"         forward", 7),
+        RowKind::Start => Word::new(b"           start", 5),
+        RowKind::Cancel => Word::new(b"          cancel", 6),
+        RowKind::Release => Word::new(b"         release", 7),
+        RowKind::Redrive => Word::new(b"         redrive", 7),
+        RowKind::Move => Word::new(b"            move", 4),
+        RowKind::Arrive => Word::new(b"          arrive", 6),
+        RowKind::Expire => Word::new(b"          expire", 6),
+        RowKind::Task => Word::new(b"            task", 4),
+        RowKind::Sample => Word::new(b"          sample", 6),
     }
 }
 
-// The name of how it went.
-pub(crate) fn answer_name(answer: RowAnswer) -> &'static str
-    ensures name { result.now ≡ answer_text answer }
-    ensures plain { IsPlain result.now }
+// The call column: the name of what a row tells of.
+#[inline(always)]
+pub(crate) fn add_kind(line: &mut Line, kind: RowKind) -> Result<(), AllocError>
+    ensures { OnOk result (line.new ≡ with_field line.old (kind_text kind)) }
 {
-    match answer {
-        RowAnswer::New => "new",
-        RowAnswer::Repeat => "repeat",
-        RowAnswer::Ok => "ok",
-        RowAnswer::Wait => "wait",
-        RowAnswer::Empty => "empty",
-        RowAnswer::Deleted => "deleted",
-        RowAnswer::Kept => "kept",
-        RowAnswer::Gone => "gone",
-        RowAnswer::Out => "out",
-        RowAnswer::Visible => "visible",
-        RowAnswer::Expired => "expired",
-        RowAnswer::Completed => "Completed",
-        RowAnswer::Failed => "Failed",
-        RowAnswer::Refused(refusal) => refusal.name(),
-    }
+    line.word(kind_word(kind))
+}
+
+// The answer column: the name of how it went.
+pub(crate) fn add_answer(line: &mut Line, answer: RowAnswer) -> Result<(), AllocError>
+    ensures { OnOk result (line.new ≡ with_field line.old (answer_text answer)) }
+{
+    let name = match answer {
+        RowAnswer::New => Word::new(b"             new", 3),
+        RowAnswer::Repeat => Word::new(b"          repeat", 6),
+        RowAnswer::Ok => Word::new(b"              ok", 2),
+        RowAnswer::Wait => Word::new(b"            wait", 4),
+        RowAnswer::Empty => Word::new(b"           empty", 5),
+        RowAnswer::Deleted => Word::new(b"         deleted", 7),
+        RowAnswer::Kept => Word::new(b"            kept", 4),
+        RowAnswer::Gone => Word::new(b"            gone", 4),
+        RowAnswer::Out => Word::new(b"             out", 3),
+        RowAnswer::Visible => Word::new(b"         visible", 7),
+        RowAnswer::Expired => Word::new(b"         expired", 7),
+        RowAnswer::Completed => Word::new(b"       Completed", 9),
+        RowAnswer::Failed => Word::new(b"          Failed", 6),
+        RowAnswer::Refused(refusal) => return line.plain(refusal.name().as_bytes()),
+    };
+    line.word(name)
 }
 
 // The column of a name: that of an agent, empty where none has the number.
 #[inline(always)]
 #[tactic(auto, using(crate::proofs::Plain::name_plain))]
-pub(crate) fn add_name(fields: &mut Fields, names: &Names, number: u32) -> Result<(), AllocError>
-    ensures { OnOk result (fields.new ≡ with_field fields.old (name_at names.now number)) }
+pub(crate) fn add_name(line: &mut Line, names: &Names, number: u32) -> Result<(), AllocError>
+    ensures { OnOk result (line.new ≡ with_field line.old (name_at names.now number)) }
 {
     let name = names.name(number);
     if names.are_plain() {
-        fields.plain(name)
+        line.plain(name)
     } else {
-        fields.bytes(name)
+        line.bytes(name)
     }
 }
 
 // The message column: its id, where there is one.
-pub(crate) fn add_message(fields: &mut Fields, message: Option<MessageId>) -> Result<(), AllocError>
-    ensures { OnOk result (fields.new ≡ with_field fields.old (text_if id_text message)) }
+pub(crate) fn add_message(line: &mut Line, message: Option<MessageId>) -> Result<(), AllocError>
+    ensures { OnOk result (line.new ≡ with_field line.old (text_if id_text message)) }
 {
     match message {
-        Some(id) => fields.id(id),
-        None => fields.plain(b""),
+        Some(id) => line.id(id),
+        None => line.plain(b""),
     }
 }
 
 // The receipt column: the receipt that was made, or the text that was given.
-pub(crate) fn add_receipt(fields: &mut Fields, receipt: &RowReceipt) -> Result<(), AllocError>
-    ensures { OnOk result (fields.new ≡ with_field fields.old (row_receipt receipt.now)) }
+pub(crate) fn add_receipt(line: &mut Line, receipt: &RowReceipt) -> Result<(), AllocError>
+    ensures { OnOk result (line.new ≡ with_field line.old (row_receipt receipt.now)) }
 {
     match receipt {
-        RowReceipt::Absent => fields.plain(b""),
-        RowReceipt::Made(receipt) => fields.receipt(*receipt),
-        RowReceipt::Given(text) => fields.bytes(text.as_bytes()),
+        RowReceipt::Absent => line.plain(b""),
+        RowReceipt::Made(receipt) => line.receipt(*receipt),
+        RowReceipt::Given(handle) => match handle.form() {
+            HandleForm::Made(receipt) => line.receipt(*receipt),
+            HandleForm::Text(text) => line.bytes(text.as_bytes()),
+        },
     }
 }
 
 // The detail column.
-pub(crate) fn add_detail(
-    fields: &mut Fields,
-    detail: &Detail,
-    names: &Names,
-) -> Result<(), AllocError>
-    ensures { OnOk result (fields.new ≡ with_field fields.old (detail_text names.now detail.now)) }
+pub(crate) fn add_detail(line: &mut Line, detail: &Detail, names: &Names) -> Result<(), AllocError>
+    ensures { OnOk result (line.new ≡ with_field line.old (detail_text names.now detail.now)) }
 {
     match detail {
-        Detail::Absent => fields.plain(b""),
-        Detail::Digest(md5) => fields.digest(md5),
-        Detail::From(origin) => fields.origin(*origin),
+        Detail::Absent => line.plain(b""),
+        Detail::Digest(md5) => line.digest(md5),
+        Detail::From(origin) => line.origin(*origin),
         Detail::Age(number) | Detail::Timeout(number) | Detail::Moved(number) => {
-            fields.number(*number)
+            line.number(*number)
         }
-        Detail::Queue(number) | Detail::Task(number) => add_name(fields, names, *number),
+        Detail::Queue(number) | Detail::Task(number) => add_name(line, names, *number),
         Detail::Counts {
             visible,
             in_flight,
             delayed,
-        } => fields.counts(*visible, *in_flight, *delayed),
+        } => line.counts(*visible, *in_flight, *delayed),
     }
 }

@@ -8,8 +8,8 @@ ghost use Rattle.sqs_formats.specs.Finals.{finals_text, message_fields, message_
 ghost use Rattle.sim_records.specs.Writes.{Wrote, WroteSeveral};
 
 use crate::columns::add_name;
-use crate::fields::Fields;
-use crate::line::write_record;
+use crate::line::Line;
+use crate::lines::write_record;
 use crate::names::Names;
 use crate::record::{Record, write_records};
 use crate::sink::Out;
@@ -58,32 +58,32 @@ fn status_name(status: TaskStatus) -> &'static str
 }
 
 // A number in decimal, where there is one.
-fn add_number(fields: &mut Fields, number: Option<u64>) -> Result<(), AllocError>
-    ensures { OnOk result (fields.new ≡ with_field fields.old (text_if decimal number)) }
+fn add_number(line: &mut Line, number: Option<u64>) -> Result<(), AllocError>
+    ensures { OnOk result (line.new ≡ with_field line.old (text_if decimal number)) }
 {
     match number {
-        Some(number) => fields.number(number),
-        None => fields.plain(b""),
+        Some(number) => line.number(number),
+        None => line.plain(b""),
     }
 }
 
 // The text of an origin, where there is one.
-fn add_origin(fields: &mut Fields, origin: Option<Origin>) -> Result<(), AllocError>
-    ensures { OnOk result (fields.new ≡ with_field fields.old (text_if origin_text origin)) }
+fn add_origin(line: &mut Line, origin: Option<Origin>) -> Result<(), AllocError>
+    ensures { OnOk result (line.new ≡ with_field line.old (text_if origin_text origin)) }
 {
     match origin {
-        Some(origin) => fields.origin(origin),
-        None => fields.plain(b""),
+        Some(origin) => line.origin(origin),
+        None => line.plain(b""),
     }
 }
 
 // A group, where there is one.
-fn add_group(fields: &mut Fields, group: &Option<Text>) -> Result<(), AllocError>
-    ensures { OnOk result (fields.new ≡ with_field fields.old (text_if (λ g. g) group.now)) }
+fn add_group(line: &mut Line, group: &Option<Text>) -> Result<(), AllocError>
+    ensures { OnOk result (line.new ≡ with_field line.old (text_if (λ g. g) group.now)) }
 {
     match group {
-        Some(group) => fields.bytes(group.as_bytes()),
-        None => fields.plain(b""),
+        Some(group) => line.bytes(group.as_bytes()),
+        None => line.plain(b""),
     }
 }
 
@@ -112,17 +112,17 @@ impl Record for FinalMessage {
 
     ghost columns = { λ names message. message_fields names message };
 
-    fn add_to(&self, fields: &mut Fields, names: &Names) -> Result<(), AllocError> {
-        fields.plain(b"final")?;
-        add_name(fields, names, self.id.site)?;
-        fields.id(self.id)?;
-        fields.origin(self.origin)?;
-        fields.plain(place_name(self.place).as_bytes())?;
-        add_number(fields, self.due)?;
-        fields.number(self.enqueued)?;
-        fields.number(self.receives)?;
-        add_group(fields, &self.group)?;
-        fields.digest(&self.md5)
+    fn add_to(&self, line: &mut Line, names: &Names) -> Result<(), AllocError> {
+        line.digest(&self.md5)?;
+        add_group(line, &self.group)?;
+        line.number(self.receives)?;
+        line.number(self.enqueued)?;
+        add_number(line, self.due)?;
+        line.plain(place_name(self.place).as_bytes())?;
+        line.origin(self.origin)?;
+        line.id(self.id)?;
+        add_name(line, names, self.id.site)?;
+        line.plain(b"final")
     }
 }
 
@@ -150,16 +150,16 @@ impl Record for FinalTransfer {
 
     ghost columns = { λ names transfer. transfer_fields names transfer };
 
-    fn add_to(&self, fields: &mut Fields, names: &Names) -> Result<(), AllocError> {
-        fields.plain(b"transfer")?;
-        add_name(fields, names, self.from)?;
-        add_name(fields, names, self.to)?;
-        fields.plain(transfer_kind_name(self.kind).as_bytes())?;
-        fields.number(self.due)?;
-        fields.number(self.number)?;
-        fields.id(self.message)?;
-        add_origin(fields, self.origin)?;
-        fields.digest(&self.md5)
+    fn add_to(&self, line: &mut Line, names: &Names) -> Result<(), AllocError> {
+        line.digest(&self.md5)?;
+        add_origin(line, self.origin)?;
+        line.id(self.message)?;
+        line.number(self.number)?;
+        line.number(self.due)?;
+        line.plain(transfer_kind_name(self.kind).as_bytes())?;
+        add_name(line, names, self.to)?;
+        add_name(line, names, self.from)?;
+        line.plain(b"transfer")
     }
 }
 
@@ -177,11 +177,11 @@ impl Record for FinalTask {
 
     ghost columns = { λ names task. task_fields names task };
 
-    fn add_to(&self, fields: &mut Fields, names: &Names) -> Result<(), AllocError> {
-        fields.plain(b"task")?;
-        add_name(fields, names, self.task)?;
-        fields.plain(status_name(self.status).as_bytes())?;
-        fields.number(self.moved)
+    fn add_to(&self, line: &mut Line, names: &Names) -> Result<(), AllocError> {
+        line.number(self.moved)?;
+        line.plain(status_name(self.status).as_bytes())?;
+        add_name(line, names, self.task)?;
+        line.plain(b"task")
     }
 }
 

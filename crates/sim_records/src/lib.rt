@@ -1,19 +1,21 @@
 //! The records of a run, as bytes to any writer: the lines of the log and of the finals.
 #![tactic(auto)]
 
+mod before;
 mod columns;
-mod fields;
 mod finals;
 mod line;
+mod lines;
 mod names;
 mod quotes;
 mod record;
 mod rows;
 mod sink;
 mod to_writer;
+mod word;
 
 pub use finals::write_finals;
-pub use line::Lines;
+pub use lines::Lines;
 pub use names::Names;
 pub use rows::{write_header, write_row, write_rows};
 pub use sink::{Failed, Out, write_all};

@@ -1,116 +1,262 @@
-//! Records as lines of CSV.
-ghost use Rattle.std.specs.Prelude.{◌≡◌, ◌++◌, [], false, IfOk, OnOk, Some, map};
+//! A line of CSV that is made from its end on.
+ghost use Rattle.std.specs.Prelude.{◌≡◌, ◌≤◌, ◌<◌, ◌++◌, ◌∷◌, ◌-◌, List, [], ℕ, IfOk, OnOk, codes, drop, false, length};
+ghost use Rattle.std.specs.Fmt.{decimal};
+ghost use Rattle.csv.specs.Machine.{line_feed};
+ghost use Rattle.csv.specs.Writing.{comma, default_writer, field_text, needs_byte};
+ghost use Rattle.hex.specs.Hex.{encode_lower};
+ghost use Rattle.sim_records.specs.Lines.{IsPlain, with_field, with_fields};
 ghost use Rattle.sqs_formats.specs.Rows.{line};
-ghost use Rattle.sim_records.specs.Lines.{IsBetweenRecords, made};
-ghost use Rattle.sim_records.specs.Writes.{Wrote};
+ghost use Rattle.sqs_message.specs.Ids.{id_text, origin_text, receipt_text};
 
-use crate::sink::{Out, write_all};
-use csv::{Writer, WriterBuilder};
-use sim_clock::Refusal;
+use crate::before::{NUMBER, put_before, put_field, room_before};
+use crate::quotes::needs_quotes;
+use crate::word::{WORD, Word, put_word};
+use csv::Writer;
+use sqs_message::{MessageId, Origin, Receipt};
 use std::alloc::{AllocError, Global};
 use std::marker::Model;
 
-// A writer of lines, which may differ in how many fields they have.
-pub(crate) fn lines_writer(alloc: Global) -> Writer<Vec<u8>>
-    ensures lines { IsBetweenRecords (Some result) }
-    ensures empty { made (λ v. v.items) (Some result) ≡ [] }
-{
-    WriterBuilder::new()
-        .flexible(true)
-        .from_writer(Vec::new(alloc))
-}
+// How long the text of a digest is: two digits a byte.
+const DIGEST_TEXT: usize = 32;
 
-// The bytes that a writer was given, if it was not given up.
-pub(crate) fn text_of(writer: Option<Writer<Vec<u8>>>) -> Result<Vec<u8>, AllocError>
-    ensures { IfOk result (λ v. v.items ≡ made (λ w. w.items) writer) }
+// Room for three numbers with marks before them, a mark more and a comma.
+const NUMBERS: usize = 3 * NUMBER + 2;
+
+// The text of a field as `csv` writes it, with quotes where it needs them.
+fn text_by_csv(alloc: Global, field: &[u8]) -> Result<Vec<u8>, AllocError>
+    ensures { IfOk result (λ v. v.items ≡ field_text default_writer field.now) }
 {
-    let Some(writer) = writer else {
+    let mut writer = Writer::from_writer(Vec::new(alloc));
+    if writer.write_field(field).is_err() {
         return Err(AllocError);
-    };
+    }
     match writer.into_inner() {
-        Ok(bytes) => Ok(bytes),
+        Ok(text) => Ok(text),
         Err(_) => Err(AllocError),
     }
 }
 
-/// Lines of CSV that are being made, one after another. Contracts see it as their bytes.
+/// Lines of CSV that are made from their end on, the last line first and its last field first. Contracts see their
+/// bytes so far, with a comma before each field. A field that needs no quotes goes into the text as it is; `csv` writes
+/// the others.
 ///
-/// After a growth that was refused it holds nothing and takes nothing.
+/// After a growth that was refused the line is not changed.
 #[derive(Drop)]
-pub struct Lines {
-    writer: Option<Writer<Vec<u8>>>,
+pub(crate) struct Line {
+    // Its end is the lines, from `start` on. Before that is room.
+    text: Vec<u8>,
+    start: usize,
 }
 
-impl Model for Lines {
-    ghost use Rattle.std.specs.Prelude.{List, ℕ};
-    ghost use Rattle.sim_records.specs.Lines.{IsBetweenRecords, made};
+impl Model for Line {
+    ghost use Rattle.std.specs.Prelude.{List, ℕ, ◌≤◌, drop};
+    ghost use Rattle.std.specs.Vec.{vec_len};
 
     ghost Value = { List ℕ };
 
-    ghost view = { λ l. made (λ v. v.items) l.writer };
+    ghost view = { λ l. drop l.start l.text.items };
 
-    ghost invariant = { λ l. IsBetweenRecords l.writer };
+    ghost invariant = { λ l. l.start ≤ vec_len l.text };
 }
 
-impl Lines {
-    /// No lines.
-    pub fn new(alloc: Global) -> Lines
+impl Line {
+    /// No line.
+    pub(crate) fn new(alloc: Global) -> Line
         ensures { result ≡ [] }
     {
-        Lines {
-            writer: Some(lines_writer(alloc)),
+        Line {
+            text: Vec::new(alloc),
+            start: 0,
         }
     }
 
-    /// Adds the line of a record, with quotes where a field needs them.
-    ///
-    /// # Errors
-    ///
-    /// `AllocError` where a growth is refused, now or before.
-    #[tactic(auto, using(crate::proofs::Begun::row_same))]
-    pub fn add(&mut self, fields: &[&[u8]]) -> Result<(), AllocError>
-        ensures { OnOk result (self.new ≡ self.old ++ line (map (λ f. f.now) fields.now)) }
+    /// Leaves no line.
+    pub(crate) fn clear(&mut self)
+        ensures { self.new ≡ [] }
     {
-        if let Some(writer) = &mut self.writer
-            && writer.write_fields(fields).is_ok()
-        {
-            return Ok(());
+        self.start = self.text.len();
+    }
+
+    /// The bytes so far.
+    #[inline(always)]
+    pub(crate) fn as_slice(&self) -> &[u8]
+        ensures { result.now ≡ self.now }
+    {
+        &self.text[self.start..]
+    }
+
+    /// How many bytes there are so far.
+    #[inline(always)]
+    pub(crate) fn len(&self) -> usize
+        ensures { result ≡ length self.now }
+    {
+        self.text.len() - self.start
+    }
+
+    /// A line begins before the others, with no field.
+    #[inline(always)]
+    pub(crate) fn begin(&mut self) -> Result<(), AllocError>
+        ensures { OnOk result (self.new ≡ line_feed ∷ self.old) }
+    {
+        let end = room_before(&mut self.text, self.start, 1)?;
+        self.text[end - 1] = b'\n';
+        self.start = end - 1;
+        Ok(())
+    }
+
+    /// A field that needs no quotes.
+    #[inline(always)]
+    #[tactic(auto, using(crate::proofs::Plain::field_plain))]
+    pub(crate) fn plain(&mut self, field: &[u8]) -> Result<(), AllocError>
+        requires { IsPlain field.now }
+        ensures { OnOk result (self.new ≡ with_field self.old field.now) }
+    {
+        self.put(field)
+    }
+
+    /// A word that needs no quotes.
+    #[inline(always)]
+    #[tactic(auto, using(crate::proofs::Plain::field_plain))]
+    pub(crate) fn word(&mut self, word: Word) -> Result<(), AllocError>
+        requires { IsPlain word }
+        ensures { OnOk result (self.new ≡ with_field self.old word) }
+    {
+        let end = room_before(&mut self.text, self.start, WORD + 1)?;
+        self.start = put_word(&mut self.text, end, word);
+        Ok(())
+    }
+
+    // The text of a field, and the comma before it.
+    #[inline(always)]
+    fn put(&mut self, text: &[u8]) -> Result<(), AllocError>
+        ensures { OnOk result (self.new ≡ comma ∷ (text.now ++ self.old)) }
+    {
+        let end = room_before(&mut self.text, self.start, text.len() + 1)?;
+        self.start = put_field(&mut self.text, end, text);
+        Ok(())
+    }
+
+    // A field of any bytes, as `csv` writes it. Apart from the others, which come a hundred times as often.
+    #[cold]
+    #[inline(never)]
+    fn quoted(&mut self, field: &[u8]) -> Result<(), AllocError>
+        ensures { OnOk result (self.new ≡ with_field self.old field.now) }
+    {
+        let text = text_by_csv(*self.text.allocator(), field)?;
+        self.put(&text)
+    }
+
+    /// A field of these bytes.
+    pub(crate) fn bytes(&mut self, bytes: &[u8]) -> Result<(), AllocError>
+        ensures { OnOk result (self.new ≡ with_field self.old bytes.now) }
+    {
+        if needs_quotes(bytes) {
+            self.quoted(bytes)
+        } else {
+            self.plain(bytes)
         }
-        self.writer = None;
-        Err(AllocError)
     }
 
-    /// The bytes of the lines.
-    ///
-    /// # Errors
-    ///
-    /// `AllocError` where a growth is refused, now or before.
-    pub fn into_bytes(self) -> Result<Vec<u8>, AllocError>
-        ensures { IfOk result (λ v. v.items ≡ self) }
+    /// A number in decimal.
+    #[inline(always)]
+    pub(crate) fn number(&mut self, number: u64) -> Result<(), AllocError>
+        ensures { OnOk result (self.new ≡ with_field self.old (decimal number)) }
     {
-        text_of(self.writer)
+        let end = room_before(&mut self.text, self.start, NUMBER)?;
+        self.start = put_before(self.text.as_mut_slice(), end, b',', number);
+        Ok(())
     }
-}
 
-// The line of a record.
-fn line_of(alloc: Global, fields: &[&[u8]]) -> Result<Vec<u8>, AllocError>
-    ensures { IfOk result (λ v. v.items ≡ line (map (λ f. f.now) fields.now)) }
-{
-    let mut lines = Lines::new(alloc);
-    lines.add(fields)?;
-    lines.into_bytes()
-}
+    // A mark and two numbers, as `m-0-12`.
+    #[inline(always)]
+    fn numbered(&mut self, mark: u8, site: u32, number: u64) -> Result<(), AllocError>
+        requires { needs_byte default_writer mark ≡ false }
+        ensures { OnOk result (self.new ≡ with_field self.old (mark ∷ (codes "-" ++ (decimal site ++ (codes "-" ++ decimal number))))) }
+    {
+        let end = room_before(&mut self.text, self.start, NUMBERS)?;
+        let text = self.text.as_mut_slice();
+        let second = put_before(text, end, b'-', number);
+        let first = put_before(text, second, b'-', u64::from(site));
+        self.start = put_field(text, first, &[mark]);
+        Ok(())
+    }
 
-// Writes a record as a line.
-pub(crate) fn write_record<W: Out>(
-    alloc: Global,
-    out: &mut W,
-    fields: &[&[u8]],
-) -> Result<(), Refusal>
-    requires { W.failed out.old ≡ false }
-    ensures { Wrote (W.held out.old) (W.held out.new) (W.failed out.new) (line (map (λ f. f.now) fields.now)) result }
-{
-    let line = line_of(alloc, fields)?;
-    write_all(out, line.as_slice())?;
-    Ok(())
+    /// The id of a message, as `m-0-12`.
+    #[inline(always)]
+    pub(crate) fn id(&mut self, id: MessageId) -> Result<(), AllocError>
+        ensures { OnOk result (self.new ≡ with_field self.old (id_text id)) }
+    {
+        self.numbered(b'm', id.site, id.number)
+    }
+
+    /// The origin of a message, as `o-0-12`.
+    #[inline(always)]
+    pub(crate) fn origin(&mut self, origin: Origin) -> Result<(), AllocError>
+        ensures { OnOk result (self.new ≡ with_field self.old (origin_text origin)) }
+    {
+        self.numbered(b'o', origin.site, origin.number)
+    }
+
+    /// A receipt handle, as `r-0-12-1`.
+    #[inline(always)]
+    pub(crate) fn receipt(&mut self, receipt: Receipt) -> Result<(), AllocError>
+        ensures { OnOk result (self.new ≡ with_field self.old (receipt_text receipt)) }
+    {
+        let end = room_before(&mut self.text, self.start, NUMBERS)?;
+        let text = self.text.as_mut_slice();
+        let third = put_before(text, end, b'-', receipt.count);
+        let second = put_before(text, third, b'-', receipt.number);
+        let first = put_before(text, second, b'-', u64::from(receipt.site));
+        self.start = put_field(text, first, b"r");
+        Ok(())
+    }
+
+    /// An MD5 digest, in lower-case hex.
+    #[inline(always)]
+    pub(crate) fn digest(&mut self, md5: &[u8; 16]) -> Result<(), AllocError>
+        ensures { OnOk result (self.new ≡ with_field self.old (encode_lower md5.now)) }
+    {
+        let mut text = [0; DIGEST_TEXT];
+        match hex::encode_to_slice(md5, &mut text) {
+            Ok(()) => self.plain(&text),
+            Err(_) => unreachable!(),
+        }
+    }
+
+    /// Three numbers in decimal with slashes between them, as `2/1/0`.
+    pub(crate) fn counts(&mut self, first: u64, second: u64, third: u64) -> Result<(), AllocError>
+        ensures { OnOk result (self.new ≡ with_field self.old ((decimal first ++ (codes "/" ++ (decimal second ++ (codes "/" ++ decimal third)))))) }
+    {
+        let end = room_before(&mut self.text, self.start, NUMBERS)?;
+        let text = self.text.as_mut_slice();
+        let third = put_before(text, end, b'/', third);
+        let second = put_before(text, third, b'/', second);
+        self.start = put_before(text, second, b',', first);
+        Ok(())
+    }
+
+    /// The line before so many bytes is whole: the comma before its first field goes. A record that shows no byte is
+    /// two quotes.
+    #[inline(always)]
+    pub(crate) fn end(&mut self, behind: usize) -> Result<(), AllocError>
+        requires { behind ≤ length self.old }
+        ensures { (rest : List ℕ) (fields : List (List ℕ)) → self.old ≡ with_fields (line_feed ∷ rest) fields → behind ≡ length rest → OnOk result (self.new ≡ line fields ++ rest) }
+    {
+        if self.len() - behind < 3 {
+            self.blank(behind)?;
+        }
+        self.start += 1;
+        Ok(())
+    }
+
+    // Two quotes are the line before so many bytes.
+    #[cold]
+    #[inline(never)]
+    fn blank(&mut self, behind: usize) -> Result<(), AllocError>
+        requires { behind ≤ length self.old }
+        ensures { OnOk result (self.new ≡ comma ∷ (codes "\"\"\n" ++ drop (length self.old - behind) self.old)) }
+    {
+        self.start = self.text.len() - behind;
+        self.put(b"\"\"\n")
+    }
 }

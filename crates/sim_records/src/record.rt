@@ -1,10 +1,10 @@
 //! What a line tells of, and the lines of several.
-ghost use Rattle.std.specs.Prelude.{◌≡◌, ◌≤◌, ℕ, List, false, IfOk, OnOk, length, map};
+ghost use Rattle.std.specs.Prelude.{◌≡◌, ℕ, List, [], false, IfOk, OnOk, map};
 ghost use Rattle.sqs_formats.specs.Rows.{lines};
 ghost use Rattle.sim_records.specs.Lines.{with_fields};
 ghost use Rattle.sim_records.specs.Writes.{Wrote, WroteSeveral};
 
-use crate::fields::Fields;
+use crate::line::Line;
 use crate::names::Names;
 use crate::sink::{Out, write_all};
 use sim_clock::Refusal;
@@ -16,31 +16,54 @@ const AT_ONCE: usize = 1024;
 /// How many bytes most lines have at most, so that their text seldom grows.
 const LINE: usize = 96;
 
+/// How many lines are made in one text, which is kept from these to the next.
+const FEW: usize = 16;
+
 /// What a line tells of.
 pub(crate) trait Record {
     // The fields of its line, by the names of agents.
     ghost columns: { List (List ℕ) → Self → List (List ℕ) };
 
-    /// Adds its fields, which are two or more.
-    fn add_to(&self, fields: &mut Fields, names: &Names) -> Result<(), AllocError>
-        ensures fields { OnOk result (fields.new ≡ with_fields fields.old (columns names.now self.now)) }
-        ensures several { 2 ≤ length (columns names.now self.now) };
+    /// Adds its fields to a line.
+    fn add_to(&self, line: &mut Line, names: &Names) -> Result<(), AllocError>
+        ensures { OnOk result (line.new ≡ with_fields line.old (columns names.now self.now)) };
 }
 
-// The lines of several, in order.
+// Makes the lines of some in a text that has none. The last one is made first.
+fn make_lines<T: Record>(text: &mut Line, records: &[T], names: &Names) -> Result<(), AllocError>
+    requires { text.old ≡ [] }
+    ensures { OnOk result (text.new ≡ lines (map (T.columns names.now) records.now)) }
+{
+    let mut left = records.len();
+    while left > 0 {
+        left -= 1;
+        let behind = text.len();
+        text.begin()?;
+        records[left].add_to(text, names)?;
+        text.end(behind)?;
+    }
+    Ok(())
+}
+
+// The lines of several, in order, some at a time.
 fn lines_of<T: Record>(alloc: Global, records: &[T], names: &Names) -> Result<Vec<u8>, AllocError>
     ensures { IfOk result (λ v. v.items ≡ lines (map (T.columns names.now) records.now)) }
 {
-    let mut fields = Fields::with_room(alloc, records.len().saturating_mul(LINE))?;
-    for record in records {
-        record.add_to(&mut fields, names)?;
-        fields.end_line()?;
+    let mut text = Vec::with_capacity(alloc, records.len().saturating_mul(LINE))?;
+    let mut some = Line::new(alloc);
+    let mut rest = records;
+    while !rest.is_empty() {
+        let (next, others) = rest.split_at(rest.len().min(FEW));
+        some.clear();
+        make_lines(&mut some, next, names)?;
+        text.extend_from_slice(some.as_slice())?;
+        rest = others;
     }
-    Ok(fields.into_bytes())
+    Ok(text)
 }
 
 // Writes the lines of several at once.
-fn write_at_once<W: Out, T: Record>(
+pub(crate) fn write_at_once<W: Out, T: Record>(
     alloc: Global,
     out: &mut W,
     records: &[T],

@@ -1,17 +1,18 @@
 //! The log: its header, and a line for each row.
-ghost use Rattle.std.specs.Prelude.{◌≡◌, ◌++◌, false, IfOk, OnOk, map};
+ghost use Rattle.std.specs.Prelude.{◌≡◌, ◌++◌, false, [], map};
 ghost use Rattle.sqs_formats.specs.Rows.{line, lines, log_header, row_fields};
 ghost use Rattle.sim_records.specs.Writes.{Wrote, WroteSeveral};
 
-use crate::columns::{add_detail, add_message, add_name, add_receipt, answer_name, kind_name};
-use crate::fields::Fields;
-use crate::line::write_record;
+use crate::columns::{add_answer, add_detail, add_kind, add_message, add_name, add_receipt};
+use crate::line::Line;
+use crate::lines::write_record;
 use crate::names::Names;
-use crate::record::{Record, write_records};
-use crate::sink::{Out, write_all};
+use crate::record::{Record, write_at_once, write_records};
+use crate::sink::Out;
 use sim_clock::Refusal;
 use sqs_message::Row;
 use std::alloc::{AllocError, Global};
+use std::slice::from_ref;
 
 /// Writes the header of the log.
 ///
@@ -34,26 +35,16 @@ impl Record for Row {
 
     ghost columns = { λ names row. row_fields names row };
 
-    fn add_to(&self, fields: &mut Fields, names: &Names) -> Result<(), AllocError> {
-        fields.number(self.key.at)?;
-        add_name(fields, names, self.queue)?;
-        add_name(fields, names, self.agent)?;
-        fields.plain(kind_name(self.kind).as_bytes())?;
-        fields.plain(answer_name(self.answer).as_bytes())?;
-        add_message(fields, self.message)?;
-        add_receipt(fields, &self.receipt)?;
-        add_detail(fields, &self.detail, names)
+    fn add_to(&self, line: &mut Line, names: &Names) -> Result<(), AllocError> {
+        add_detail(line, &self.detail, names)?;
+        add_receipt(line, &self.receipt)?;
+        add_message(line, self.message)?;
+        add_answer(line, self.answer)?;
+        add_kind(line, self.kind)?;
+        add_name(line, names, self.agent)?;
+        add_name(line, names, self.queue)?;
+        line.number(self.key.at)
     }
-}
-
-// The line of a row.
-fn row_line(alloc: Global, row: &Row, names: &Names) -> Result<Vec<u8>, AllocError>
-    ensures { IfOk result (λ v. v.items ≡ line (row_fields names.now row.now)) }
-{
-    let mut fields = Fields::new(alloc);
-    row.add_to(&mut fields, names)?;
-    fields.end_line()?;
-    Ok(fields.into_bytes())
 }
 
 /// Writes the line of a row.
@@ -71,9 +62,7 @@ pub fn write_row<W: Out>(
     requires { W.failed out.old ≡ false }
     ensures { Wrote (W.held out.old) (W.held out.new) (W.failed out.new) (line (row_fields names.now row.now)) result }
 {
-    let line = row_line(alloc, row, names)?;
-    write_all(out, line.as_slice())?;
-    Ok(())
+    write_at_once(alloc, out, from_ref(row), names)
 }
 
 /// Writes the lines of several rows, in order. After `write_header` the two make the log.

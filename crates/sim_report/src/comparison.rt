@@ -8,30 +8,12 @@ ghost use Rattle.std.specs.List.{zip};
 ghost use Rattle.std.specs.Option.{option_map};
 
 use crate::columns::{QueueColumns, column_names, named};
-use crate::writing::number_text;
+use crate::number::NumberText;
 use sim_records::Lines;
-use sqs_message::Text;
 use std::alloc::{AllocError, Global};
-
-// The second number less the first, in decimal; empty where either is.
-fn difference_text(
-    alloc: Global,
-    first: Option<u128>,
-    second: Option<u128>,
-) -> Result<Text, AllocError>
-    ensures { IfOk result (λ t. t ≡ difference_if first second) }
-{
-    let text = match (first, second) {
-        (Some(first), Some(second)) if first <= second => format!(in alloc; "{}", second - first)?,
-        (Some(first), Some(second)) => format!(in alloc; "-{}", first - second)?,
-        _ => String::new(alloc),
-    };
-    Ok(Text::new(text.into_bytes()))
-}
 
 // Adds the line of a column of a queue.
 fn add_column(
-    alloc: Global,
     text: &mut Lines,
     queue: &[u8],
     column: &[u8],
@@ -40,9 +22,9 @@ fn add_column(
 ) -> Result<(), AllocError>
     ensures { OnOk result (text.new ≡ text.old ++ line (column_line queue.now (column.now, (first, second)))) }
 {
-    let before = number_text(alloc, first)?;
-    let after = number_text(alloc, second)?;
-    let difference = difference_text(alloc, first, second)?;
+    let before = NumberText::new(first);
+    let after = NumberText::new(second);
+    let difference = NumberText::difference(first, second);
     let fields = [
         b"compare".as_slice(),
         queue,
@@ -73,7 +55,6 @@ fn add_only(text: &mut Lines, queue: &[u8], counts: [&[u8]; 3]) -> Result<(), Al
 
 // Adds the lines of the columns of a queue.
 fn add_columns(
-    alloc: Global,
     text: &mut Lines,
     queue: &[u8],
     first: &[Option<u128>],
@@ -84,21 +65,13 @@ fn add_columns(
     let names = column_names();
     let count = names.len().min(first.len()).min(second.len());
     for place in 0..count {
-        add_column(
-            alloc,
-            text,
-            queue,
-            names[place],
-            first[place],
-            second[place],
-        )?;
+        add_column(text, queue, names[place], first[place], second[place])?;
     }
     Ok(())
 }
 
 // Adds the lines of a queue of the first report, with the same queue of the second.
 fn add_compared(
-    alloc: Global,
     text: &mut Lines,
     first: &QueueColumns,
     second: Option<&QueueColumns>,
@@ -108,7 +81,7 @@ fn add_compared(
     match second {
         Some(second) => {
             let (first_columns, second_columns) = (&first.columns, &second.columns);
-            add_columns(alloc, text, first.name, first_columns, second_columns)
+            add_columns(text, first.name, first_columns, second_columns)
         }
         None => add_only(text, first.name, [b"1", b"0", b"-1"]),
     }
@@ -130,7 +103,6 @@ fn add_new(
 
 // Adds the lines of the queues of the first report, in order.
 fn add_first(
-    alloc: Global,
     text: &mut Lines,
     first: &[QueueColumns],
     second: &[QueueColumns],
@@ -138,7 +110,7 @@ fn add_first(
     ensures { OnOk result (text.new ≡ text.old ++ lines (flat_map (λ q. compared q (named q.0 second.now)) first.now)) }
 {
     for queue in first {
-        add_compared(alloc, text, queue, named(queue.name, second))?;
+        add_compared(text, queue, named(queue.name, second))?;
     }
     Ok(())
 }
@@ -166,7 +138,7 @@ pub(crate) fn comparison_lines(
     ensures { IfOk result (λ v. v.items ≡ comparison first.now second.now) }
 {
     let mut text = Lines::new(alloc);
-    add_first(alloc, &mut text, first, second)?;
+    add_first(&mut text, first, second)?;
     add_second(&mut text, first, second)?;
     text.into_bytes()
 }

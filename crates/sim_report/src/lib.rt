@@ -6,6 +6,7 @@ mod column;
 mod columns;
 mod comparison;
 mod left;
+mod number;
 mod queue;
 mod report;
 mod tally;

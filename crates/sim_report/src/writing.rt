@@ -4,28 +4,18 @@ ghost use Rattle.std.specs.Fmt.{decimal};
 ghost use Rattle.sqs_formats.specs.Rows.{line, text_if};
 ghost use Rattle.sqs_formats.specs.Report.{columns, report_fields, report_text};
 
-use crate::columns::{QueueColumns, column_names};
+use crate::columns::{COLUMNS, QueueColumns, column_names};
+use crate::number::NumberText;
 use sim_records::Lines;
-use sqs_message::Text;
 use std::alloc::{AllocError, Global};
 
-// A number in decimal, where there is one.
-pub(crate) fn number_text(alloc: Global, number: Option<u128>) -> Result<Text, AllocError>
-    ensures { IfOk result (λ t. t ≡ text_if decimal number) }
-{
-    match number {
-        Some(number) => Ok(Text::new(format!(in alloc; "{number}")?.into_bytes())),
-        None => Ok(Text::new(Vec::new(alloc))),
-    }
-}
-
 // The numbers in decimal.
-fn number_texts(alloc: Global, numbers: &[Option<u128>]) -> Result<Vec<Text>, AllocError>
+fn number_texts(alloc: Global, numbers: &[Option<u128>]) -> Result<Vec<NumberText>, AllocError>
     ensures { IfOk result (λ v. v.items ≡ map (text_if decimal) numbers.now) }
 {
     let mut texts = Vec::with_capacity(alloc, numbers.len())?;
     for number in numbers {
-        texts.push(number_text(alloc, *number)?)?;
+        texts.push(NumberText::new(*number))?;
     }
     Ok(texts)
 }
@@ -34,11 +24,11 @@ fn number_texts(alloc: Global, numbers: &[Option<u128>]) -> Result<Vec<Text>, Al
 fn queue_fields<'a>(
     alloc: Global,
     name: &'a [u8],
-    texts: &'a [Text],
+    texts: &'a [NumberText],
 ) -> Result<Vec<&'a [u8]>, AllocError>
     ensures { IfOk result (λ v. map (λ f. f.now) v.items ≡ codes "report" ∷ name.now ∷ texts.now) }
 {
-    let mut fields: Vec<&'a [u8]> = Vec::new(alloc);
+    let mut fields: Vec<&'a [u8]> = Vec::with_capacity(alloc, COLUMNS + 2)?;
     fields.push(b"report")?;
     fields.push(name)?;
     for text in texts {

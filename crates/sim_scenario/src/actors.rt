@@ -121,7 +121,7 @@ pub(crate) fn actors(
     requires { length values.now ≤ 11000 }
     ensures { Gives (λ v. v.items) result (answer (each (codes "actor") (the_actor scripts.now outline.now) 0 (map view values.now))) }
 {
-    let mut actors = Vec::new(alloc);
+    let mut actors = Vec::with_capacity(alloc, values.len())?;
     for (i, value) in values.iter().enumerate() {
         let item = match actor_item(alloc, scripts, outline, i, value) {
             Ok(item) => item,

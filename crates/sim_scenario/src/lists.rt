@@ -95,7 +95,7 @@ pub(crate) fn queues(
 ) -> Result<Vec<(Text, QueueSettings)>, ReadError>
     ensures { Gives (λ v. v.items) result (answer (each (codes "queue") (the_queue outline.now) 0 (map view values.now))) }
 {
-    let mut queues = Vec::new(alloc);
+    let mut queues = Vec::with_capacity(alloc, values.len())?;
     for (i, value) in values.iter().enumerate() {
         let item = match queue_item(alloc, outline, i, value) {
             Ok(item) => item,
@@ -130,7 +130,7 @@ pub(crate) fn dead_letters(
     requires { length values.now ≤ 11000 }
     ensures { Gives (λ v. v.items) result (answer (each (codes "queue") (the_dead_letter outline.now) 0 (map view values.now))) }
 {
-    let mut dead_letters = Vec::new(alloc);
+    let mut dead_letters = Vec::with_capacity(alloc, values.len())?;
     for (i, value) in values.iter().enumerate() {
         let item = match dead_letter_item(alloc, outline, i, value) {
             Ok(item) => item,
@@ -165,7 +165,7 @@ pub(crate) fn tasks(
     requires { length values.now ≤ 11000 }
     ensures { Gives (λ v. v.items) result (answer (each (codes "task") (the_task outline.now) 0 (map view values.now))) }
 {
-    let mut tasks = Vec::new(alloc);
+    let mut tasks = Vec::with_capacity(alloc, values.len())?;
     for (i, value) in values.iter().enumerate() {
         let item = match task_item(alloc, outline, i, value) {
             Ok(item) => item,

@@ -30,7 +30,7 @@ fn part<T: Drop>(
     ensures settings { IfOk result (λ v. v.items ≡ map (λ x. x.1) items.items) }
     ensures names { OnOk result (names.new.items ≡ names.old.items ++ map (λ x. x.0) items.items) }
 {
-    let mut settings = Vec::new(alloc);
+    let mut settings = Vec::with_capacity(alloc, items.len())?;
     for item in items {
         let (name, setting) = item;
         names.push(name)?;

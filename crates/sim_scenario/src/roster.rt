@@ -33,7 +33,7 @@ impl Model for Roster {
 fn firsts_of(alloc: Global, texts: &[Text]) -> Result<IndexMap<Vec<u8>, usize>, AllocError>
     ensures { IfOk result (λ m. AreFirsts m.entries texts.now) }
 {
-    let mut firsts = IndexMap::new(alloc);
+    let mut firsts = IndexMap::with_capacity(alloc, texts.len())?;
     for (place, text) in texts.iter().enumerate() {
         let bytes = text.as_bytes();
         if firsts.contains_key(bytes) {

@@ -10,7 +10,7 @@ use Rattle.sim_clock.specs.declared.key.Key.{Key}
 use Rattle.sim_clock.specs.Firsts.{without}
 use Rattle.sim_clock.specs.Order.{least, lesser}
 use Rattle.sim_index.specs.declared.mark.Mark.{Mark}
-use Rattle.sim_index.specs.Marks.{IsNextIn, IsPlaceOfLeast, NoneIn, least_of, meets, no_mark, node, tells}
+use Rattle.sim_index.specs.Marks.{IsNextIn, IsPlaceOfLeast, NoneIn, least_of, no_mark, node, tells}
 use Rattle.sim_index.specs.Marked.{AreMarked, Marked}
 use Rattle.sim_index.proofs.Kept.{node_kept}
 use Rattle.sqs_model.proofs.Counts.{find_picked}

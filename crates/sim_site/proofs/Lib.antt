@@ -3,7 +3,6 @@ pub mod Carried
 pub mod Least
 pub mod Refusals
 pub mod Waits
-pub mod Receipts
 pub mod Said
 pub mod Made
 pub mod Hosts
@@ -26,6 +25,7 @@ pub mod Told
 pub mod Deciding
 pub mod Answering
 pub mod Numbered
+pub mod Firsts
 pub mod Marked
 pub mod Picked
 pub mod Ordered

@@ -13,7 +13,7 @@ use Rattle.sqs_model.specs.Site.{is_actor}
 use Rattle.sim_site.proofs.Picked.{first_picked, none_picked}
 
 -- the numbers of actors
-abbrev number : Actor → ℕ
+abbrev pub number : Actor → ℕ
 number a = a.number
 
 -- what has the same numbers does not fall either

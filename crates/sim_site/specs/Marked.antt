@@ -1,5 +1,5 @@
 -- Actors with their wakes, and places where polls may wait with their ends.
-use Rattle.std.specs.Prelude.{Bool, false, true, List, None, Option, Some, [], get_or, length, set, suc, ℕ, ◌<◌, ◌∷◌, ◌≡◌}
+use Rattle.std.specs.Prelude.{Bool, false, true, IfSome, List, None, Option, Some, [], get_or, length, map, position, set, suc, ℕ, ◌<◌, ◌==◌, ◌∷◌, ◌≡◌}
 use Rattle.std.specs.List.Sorted.{IsNonDecreasingBy}
 use Rattle.sim_clock.specs.declared.key.Key.{Key}
 use Rattle.sim_clock.specs.Order.{least}
@@ -15,10 +15,20 @@ use Rattle.sqs_model.specs.Step.{ends_at}
 abbrev pub wake_mark : Actor → Mark
 wake_mark a = record { due = least (actor_dues a); hosts = 0 }
 
--- actors with the marks of their wakes, by whose numbers one is found where these are said not to fall
-pub record AreFound (actors : Marked Actor) (is_in_order : Bool) : Type 0 where
+-- actors after the mark of the one at a place is brought up, if there is a place
+abbrev pub brought_up : Option ℕ → Marked Actor → Marked Actor
+brought_up None actors = actors
+brought_up (Some place) actors = record actors { marks = set actors.marks place (get_or (map wake_mark actors.values) place no_mark) }
+
+-- no earlier number is that at a place
+abbrev pub IsFirst : List ℕ → ℕ → Type 0
+IsFirst numbers place = position (λ n. n == get_or numbers place 0) numbers ≡ Some place
+
+-- actors with the marks of their wakes, but for that of the one told last; one is found by its number where these are said not to fall, and at once if it was told last
+pub record AreFound (actors : Marked Actor) (is_in_order : Bool) (told : Option ℕ) : Type 0 where
   pub order : is_in_order ≡ true → IsNonDecreasingBy (λ (a : Actor). a.number) actors.values
-  pub marked : AreMarked wake_mark actors
+  pub first : IfSome told (IsFirst (map (λ (a : Actor). a.number) actors.values))
+  pub marked : AreMarked wake_mark (brought_up told actors)
 
 -- what is kept of a place where a poll may wait: its end
 abbrev pub end_mark : Option Poll → Mark

@@ -1,5 +1,5 @@
 //! The actors of a site, with a tree of their wakes where there are many.
-ghost use Rattle.std.specs.Prelude.{All, IfErr, IfOk, MatchOption, Some, find, flat_map, length, map, position, true, ◌<◌, ◌≡◌, ◌≤◌};
+ghost use Rattle.std.specs.Prelude.{All, IfErr, IfOk, IfSome, MatchOption, Some, find, flat_map, length, map, position, true, ◌<◌, ◌≡◌, ◌≤◌};
 ghost use Rattle.std.specs.List.Sorted.{IsNonDecreasingBy};
 ghost use Rattle.sim_actor.specs.Lives.{greatest_count};
 ghost use Rattle.sim_clock.specs.Order.{least};
@@ -12,7 +12,7 @@ ghost use Rattle.sqs_model.specs.Site.{is_actor};
 ghost use Rattle.sim_engine.specs.Limits.{StopsWhere};
 ghost use Rattle.sim_site.specs.Kept.{HasShortWaits};
 ghost use Rattle.sim_index.specs.Marked.{AreMarked};
-ghost use Rattle.sim_site.specs.Marked.{wake_mark};
+ghost use Rattle.sim_site.specs.Marked.{brought_up, wake_mark};
 ghost use Rattle.sim_site.specs.Turns.{Polled, Turned, WaitsShortly};
 
 use crate::agents::wake_of;
@@ -79,7 +79,30 @@ fn first_in_order(actors: &[Actor], number: u32) -> Option<usize>
     }
 }
 
-// The actor at a place is told something, decides what it does, and is marked anew.
+// The mark of the actor that was told something is brought up, if there is one.
+fn bring_up(actors: &mut MarkedList<Actor>, told: Option<usize>)
+    requires { IfSome told (λ place. place < length actors.old.values) }
+    ensures { actors.new ≡ brought_up told actors.old }
+{
+    if let Some(place) = told {
+        let mark = mark_of(&actors.values()[place]);
+        actors.set_mark(place, mark);
+    }
+}
+
+// All marks are brought up but for that of the actor at a place, which is told something.
+fn turn_to(actors: &mut MarkedList<Actor>, told: Option<usize>, place: usize)
+    requires told { IfSome told (λ place. place < length actors.old.values) }
+    requires marked { AreMarked wake_mark (brought_up told actors.old) }
+    ensures values { actors.new.values ≡ actors.old.values }
+    ensures marked { AreMarked wake_mark (brought_up (Some place) actors.new) }
+{
+    if told != Some(place) {
+        bring_up(actors, told);
+    }
+}
+
+// The actor at a place is told something and decides what it does; its mark is not brought up.
 fn told_at(
     actors: &mut MarkedList<Actor>,
     place: usize,
@@ -89,36 +112,30 @@ fn told_at(
 ) -> Result<Act, Refusal>
     requires place { Stands (is_actor number) actors.old.values place }
     requires moment { now ≤ most_count }
-    requires marked { AreMarked wake_mark actors.old }
+    requires marked { AreMarked wake_mark (brought_up (Some place) actors.old) }
     ensures turned { IfOk result (λ act. Turned number now answer act actors.old.values actors.new.values) }
     ensures settings { map (λ a. a.settings) actors.new.values ≡ map (λ a. a.settings) actors.old.values }
     ensures waits { All (λ a. HasShortWaits a.role) (map (λ a. a.settings) actors.old.values) → IfOk result WaitsShortly }
     ensures stops { IfErr result (StopsWhere ((a : TheActor) → find (is_actor number) actors.old.values ≡ Some a → most_count < greatest_count (next a now answer).1)) }
-    ensures marked { AreMarked wake_mark actors.new }
+    ensures marked { AreMarked wake_mark (brought_up (Some place) actors.new) }
     ensures numbers { map (λ a. a.number) actors.new.values ≡ map (λ a. a.number) actors.old.values }
 {
-    let act = actors.value_mut(place).next(now, answer);
-    let mark = mark_of(&actors.values()[place]);
-    actors.set_mark(place, mark);
-    act
+    actors.value_mut(place).next(now, answer)
 }
 
-// The actor at a place waits for one more poll, is marked anew, and answers how many it had before.
+// The actor at a place waits for one more poll, and answers how many it had before. Its wake stays.
 fn counted_at(actors: &mut MarkedList<Actor>, place: usize, number: u32) -> Result<u64, Refusal>
     requires place { Stands (is_actor number) actors.old.values place }
-    requires marked { AreMarked wake_mark actors.old }
     ensures polled { IfOk result (λ polls. Polled number polls actors.old.values actors.new.values) }
     ensures settings { map (λ a. a.settings) actors.new.values ≡ map (λ a. a.settings) actors.old.values }
     ensures stops { IfErr result (StopsWhere ((a : TheActor) → find (is_actor number) actors.old.values ≡ Some a → a.polls ≡ most_count)) }
-    ensures marked { AreMarked wake_mark actors.new }
+    ensures marks { actors.new.marks ≡ actors.old.marks }
+    ensures wakes { map wake_mark actors.new.values ≡ map wake_mark actors.old.values }
     ensures numbers { map (λ a. a.number) actors.new.values ≡ map (λ a. a.number) actors.old.values }
 {
     let actor = actors.value_mut(place);
     let polls = actor.polls();
-    let counted = actor.polled();
-    let mark = mark_of(&actors.values()[place]);
-    actors.set_mark(place, mark);
-    counted?;
+    actor.polled()?;
     Ok(polls)
 }
 
@@ -136,11 +153,15 @@ fn greatest_of(actors: &[Actor]) -> u64
 
 /// The actors at home at a site. What wakes next among them is told at once, a change of one costs
 /// the logarithm of their number, and so does the search for one by its number where the numbers do
-/// not fall. Contracts see them as a list.
+/// not fall. One that is told several things in turn is searched for and marked once. Contracts see
+/// them as a list.
 #[derive(Drop)]
 pub struct Actors {
     list: MarkedList<Actor>,
     is_in_order: bool,
+    // Where the actor stands whose mark is not brought up, if there is one: the last that was told
+    // something.
+    told: Option<usize>,
 }
 
 impl Model for Actors {
@@ -152,7 +173,7 @@ impl Model for Actors {
 
     ghost view = { λ a. a.list.values };
 
-    ghost invariant = { λ a. AreFound a.list a.is_in_order };
+    ghost invariant = { λ a. AreFound a.list a.is_in_order a.told };
 }
 
 impl Actors {
@@ -162,7 +183,11 @@ impl Actors {
     {
         let is_in_order = are_in_order(&list);
         let list = marked(alloc, list)?;
-        Ok(Actors { list, is_in_order })
+        Ok(Actors {
+            list,
+            is_in_order,
+            told: None,
+        })
     }
 
     /// The greatest count of them.
@@ -177,6 +202,11 @@ impl Actors {
     pub fn place_of(&self, number: u32) -> Option<usize>
         ensures { MatchOption result (IsAbsent (is_actor number) self.now) (Stands (is_actor number) self.now) }
     {
+        if let Some(place) = self.told {
+            if self.list.values()[place].number() == number {
+                return Some(place);
+            }
+        }
         if self.is_in_order {
             first_in_order(self.list.values(), number)
         } else {
@@ -200,6 +230,8 @@ impl Actors {
         ensures waits { All (λ a. HasShortWaits a.role) (map (λ a. a.settings) self.old) → IfOk result WaitsShortly }
         ensures stops { IfErr result (StopsWhere ((a : TheActor) → find (is_actor number) self.old ≡ Some a → most_count < greatest_count (next a now answer).1)) }
     {
+        turn_to(&mut self.list, self.told, place);
+        self.told = Some(place);
         told_at(&mut self.list, place, number, now, answer)
     }
 
@@ -215,9 +247,12 @@ impl Actors {
     }
 
     /// The least wake.
-    pub fn least_wake(&self) -> Option<Key>
-        ensures { result ≡ least (flat_map actor_dues self.now) }
+    pub fn least_wake(&mut self) -> Option<Key>
+        ensures wake { result ≡ least (flat_map actor_dues self.old) }
+        ensures same { self.new ≡ self.old }
     {
+        bring_up(&mut self.list, self.told);
+        self.told = None;
         self.list.least()
     }
 }

@@ -1,11 +1,26 @@
-//! The least due of the actors and tasks of a site.
+//! The lesser of two keys, and the least due of the tasks of a site.
 ghost use Rattle.std.specs.Prelude.{◌≡◌, flat_map};
-ghost use Rattle.sim_clock.specs.Order.{least};
+ghost use Rattle.sim_clock.specs.Order.{least, lesser as the_lesser};
 ghost use Rattle.sqs_model.specs.Dues.{actor_dues, task_dues};
 
 use crate::agents::{Task, wake_of};
 use sim_actor::Actor;
 use sim_clock::{Key, lesser};
+
+/// A key takes the place of a later one, or of none; of two equal keys the first stays.
+pub fn take_lesser(best: &mut Option<Key>, other: Option<Key>)
+    ensures { best.new ≡ the_lesser best.old other }
+{
+    let Some(key) = other else {
+        return;
+    };
+    if let Some(least) = best {
+        if !key.is_before(least) {
+            return;
+        }
+    }
+    *best = other;
+}
 
 /// The least step of tasks that run.
 pub fn least_step(tasks: &[Task]) -> Option<Key>

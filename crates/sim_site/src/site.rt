@@ -49,10 +49,13 @@ impl Model for Site {
 }
 
 // The key of what is due next.
-fn least_of(core: &Core, arriving: &Arrivals) -> Option<Key>
-    ensures { result ≡ least_due (record { core = core.now; arriving = arriving.now }) }
+fn least_of(core: &mut Core, arriving: &Arrivals) -> Option<Key>
+    ensures due { result ≡ least_due (record { core = core.old; arriving = arriving.now }) }
+    ensures same { core.new ≡ core.old }
 {
-    lesser(arriving.least(), core.least_due())
+    let arrival = arriving.least();
+    let other = core.least_due();
+    lesser(arrival, other)
 }
 
 // Handles what is due next.
@@ -100,9 +103,9 @@ impl Site {
         let tasks = open_tasks(alloc, tasks.as_slice(), seed)?;
         let queue = Queue::new(alloc, number, settings);
         let draws = Draws::new(seed, number);
-        let core = Core::new(alloc, queue, actors, tasks, draws, sample);
+        let mut core = Core::new(alloc, queue, actors, tasks, draws, sample);
         let arriving = Arrivals::new(alloc);
-        let due = least_of(&core, &arriving);
+        let due = least_of(&mut core, &arriving);
         Ok(Site {
             core,
             arriving,
@@ -181,14 +184,15 @@ impl sim_engine::Site for Site {
     }
 
     fn accept(&mut self, transfer: Outbound) -> Result<(), Refusal> {
-        let inserted = self.arriving.insert(transfer);
-        self.due = least_of(&self.core, &self.arriving);
-        Ok(inserted?)
+        let due = lesser(Some(transfer.key()), self.due);
+        self.arriving.insert(transfer)?;
+        self.due = due;
+        Ok(())
     }
 
     fn handle_into(&mut self, key: Key, effects: &mut Effects) -> Result<(), Refusal> {
         let done = handle_due(&mut self.core, &mut self.arriving, key, effects);
-        self.due = least_of(&self.core, &self.arriving);
+        self.due = least_of(&mut self.core, &self.arriving);
         done
     }
 

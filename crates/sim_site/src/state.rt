@@ -21,9 +21,9 @@ mod turns;
 
 use crate::actors::Actors;
 use crate::agents::Task;
-use crate::dues::least_step;
+use crate::dues::{least_step, take_lesser};
 use crate::polls::Polls;
-use sim_clock::{Class, Key, lesser};
+use sim_clock::{Class, Key};
 use sim_draw::Draws;
 use sqs_queue::Queue;
 use std::alloc::Global;
@@ -143,12 +143,18 @@ impl Core {
     }
 
     /// The key of what is due next but for arrivals.
-    pub fn least_due(&self) -> Option<Key>
-        ensures { result ≡ least (core_dues self.now) }
+    pub fn least_due(&mut self) -> Option<Key>
+        ensures due { result ≡ least (core_dues self.old) }
+        ensures same { self.new ≡ self.old }
     {
-        let best = lesser(self.queue.least_due(), self.polls.least_end());
-        let best = lesser(best, self.actors.least_wake());
-        let best = lesser(best, self.sample_due());
-        lesser(best, least_step(&self.tasks))
+        let mut best = self.queue.least_due();
+        take_lesser(&mut best, self.polls.least_end());
+        take_lesser(&mut best, self.actors.least_wake());
+        if self.sample == 0 && self.tasks.is_empty() {
+            return best;
+        }
+        take_lesser(&mut best, self.sample_due());
+        take_lesser(&mut best, least_step(&self.tasks));
+        best
     }
 }

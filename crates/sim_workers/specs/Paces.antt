@@ -25,9 +25,9 @@ next_stretch p at = if is_over p at then record p { span = span_after p; cut = w
 abbrev pub added : Pace → ℕ → Pace
 added p rows = record p { made = word_of (p.made + rows); fresh = word_of (p.fresh + rows) }
 
--- whether enough rows wait
-abbrev pub is_full : Pace → Bool
-is_full p = nat_le 1024 p.fresh && nat_le p.kept p.fresh
+-- whether enough rows of so many partitions wait
+abbrev pub is_full : Pace → ℕ → Bool
+is_full p parts = nat_le (64 * min 16 parts) p.fresh && nat_le p.kept p.fresh
 
 -- with so many of those that wait settled
 abbrev pub settled_after : Pace → ℕ → Pace

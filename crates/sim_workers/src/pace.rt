@@ -8,8 +8,10 @@ const FEW: u64 = 16_384;
 const MANY: u64 = 65_536;
 // The longest stretch, in milliseconds.
 const LONGEST: u64 = 60_000;
-// Rows are settled once so many are new.
-const FULL: u64 = 1_024;
+// Rows are settled once so many are new for each partition,
+const FULL: u64 = 64;
+// as far as there are no more partitions than these.
+const SEVERAL: u64 = 16;
 
 /// How far rounds go. Time is cut into stretches: no round goes past the end of its stretch. A stretch of
 /// few rows is followed by one twice as long, and one of many by one half as long. It counts the rows
@@ -77,12 +79,13 @@ impl Pace {
         self.fresh = self.fresh.saturating_add(rows);
     }
 
-    /// Whether enough rows wait: so many are new, and no fewer than could not be settled before. So the
-    /// work of settling goes by the rows that are made, however many have to wait.
-    pub fn is_full(&self) -> bool
-        ensures { result ≡ is_full self.now }
+    /// Whether enough rows of so many partitions wait: so many are new, and no fewer than could not be
+    /// settled before. So the work of settling goes by the rows that are made, however many have to wait,
+    /// and one partition's rows are handed on as it made them.
+    pub fn is_full(&self, parts: usize) -> bool
+        ensures { result ≡ is_full self.now parts }
     {
-        self.fresh >= FULL && self.fresh >= self.kept
+        self.fresh >= FULL * SEVERAL.min(parts as u64) && self.fresh >= self.kept
     }
 
     /// Counts the rows that were settled.

@@ -33,7 +33,7 @@ pub fn rows_made<S: Site>(came: &[Came<S>]) -> u64
 fn settling_moment<S: Site>(stage: &Stage<S>, pace: &Pace) -> Option<u64>
     ensures { ForSome result (λ moment. moment ≡ front_in S.engine stage.now) }
 {
-    if pace.is_full() {
+    if pace.is_full(stage.part_count()) {
         Some(stage.front())
     } else {
         None

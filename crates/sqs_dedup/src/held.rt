@@ -14,10 +14,14 @@ pub struct Held {
     pub number: u64,
 }
 
-// The number of the entry of a key, if it lives at a moment.
+// The number of the entry of a key, if it lives at a moment. Where there are no entries the key is not
+// hashed.
 pub fn number_at(entries: &IndexMap<ScopedId, Held>, now: u64, key: &ScopedId) -> Option<u64>
     ensures { result ≡ number_at now (get same_key entries.now key.now) }
 {
+    if entries.is_empty() {
+        return None;
+    }
     let held = entries.get(key)?;
     if now < held.end {
         Some(held.number)

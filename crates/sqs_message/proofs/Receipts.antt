@@ -1,14 +1,16 @@
 -- The receipt that a text is, by its own numbers.
 use Rattle.std.proofs.Common.{◌≡◌, ℕ, ◌<◌, ◌≤◌, ◌^◌, Bool, true, false, List, ◌∷◌, ◌++◌, Option, Some, None, IfSome, refl, ap, sym, ◌∙◌, subst, arith, if◌then◌else◌, ◌&&◌}
-use Rattle.std.specs.Prelude.{drop, nat_lt, nat_le}
-use Rattle.std.specs.Str.{bytes_eq}
+use Rattle.std.specs.Prelude.{codes, drop, nat_lt, nat_le}
+use Rattle.std.specs.Str.{IsAscii, IsUtf8, bytes_eq}
 use Rattle.std.specs.List.{before_first, after_first}
 use Rattle.std.specs.Fmt.{decimal}
 use Rattle.std.specs.Str.Parse.{digits_value}
-use Rattle.std.proofs.lemmas.Fmt.{decimal_is_IsNumeral}
+use Rattle.std.proofs.lemmas.Fmt.{IsAscii-decimal, decimal_is_IsNumeral}
 use Rattle.std.proofs.lemmas.Bool.{false≢true, ltb-true, lt-ltb}
 use Rattle.std.proofs.lemmas.Bool.Decides.{nat_tests}
 use Rattle.std.proofs.lemmas.Slice.Eq.{bytes_eq-Decides}
+use Rattle.std.proofs.lemmas.Str.{IsAscii-append, IsUtf8-from_ascii}
+use Rattle.std.proofs.lemmas.Str.Ascii.{IsAscii-cons}
 use Rattle.std.proofs.Math.Seq.{take-append_seam, drop-append-add}
 use Rattle.sqs_message.specs.declared.ids.Receipt.{Receipt}
 use Rattle.sqs_message.specs.Ids.{Fits, fits, is_dash, numbers_in, numbers_between, receipt_if, read_receipt, receipt_text, HasNoDash}
@@ -28,11 +30,8 @@ abbrev receipt_of : ℕ → ℕ → ℕ → Receipt
 receipt_of site number count = record { site = site; number = number; count = count }
 
 -- the numbers that stand in a receipt's text are the receipt's
-pub numbers_back : (r : Receipt) → Fits r → numbers_in (drop 2 (receipt_text r)) ≡ r
-numbers_back r f =
-    let s : r.site < 2 ^ 64 = (let h = f.site in omega arith) in
-    let n : r.number < 2 ^ 64 = (let h = f.number in omega arith) in
-    let c : r.count < 2 ^ 64 = (let h = f.count in omega arith) in
+numbers_back : (r : Receipt) → r.site < 2 ^ 64 → r.number < 2 ^ 64 → r.count < 2 ^ 64 → numbers_in (drop 2 (receipt_text r)) ≡ r
+numbers_back r s n c =
     let rest : List ℕ = decimal r.number ++ 45 ∷ decimal r.count in
     let a = before_dash (decimal r.site) rest (decimal_no_dash r.site s) in
     let b = after_dash (decimal r.site) rest (decimal_no_dash r.site s) in
@@ -43,6 +42,9 @@ numbers_back r f =
     let count : digits_value 10 (after_first is_dash rest) ≡ r.count = ap (digits_value 10) e ∙ value r.count c in
     ap (λ (w : List ℕ). numbers_between (decimal r.site ++ 45 ∷ rest) w) b ∙ ap (λ (k : ℕ). receipt_of k (digits_value 10 (before_first is_dash rest)) (digits_value 10 (after_first is_dash rest))) site
     ∙ ap (λ (k : ℕ). receipt_of r.site k (digits_value 10 (after_first is_dash rest))) number ∙ ap (λ (k : ℕ). receipt_of r.site r.number k) count
+
+fitting_back : (r : Receipt) → Fits r → numbers_in (drop 2 (receipt_text r)) ≡ r
+fitting_back r f = numbers_back r (omega (arith, f.site)) (omega (arith, f.number)) (omega (arith, f.count))
 
 all_true : (a b c d : Bool) → a ≡ true → b ≡ true → c ≡ true → d ≡ true → (a && b && c && d) ≡ true
 all_true a b c d h i j k = rw (h, i, j, k) refl
@@ -78,7 +80,7 @@ chosen_back false q r h = cc
 -- a text that is a receipt's is read as that receipt
 pub read_text : (r : Receipt) (text : List ℕ) → Fits r → text ≡ receipt_text r → read_receipt text ≡ Some r
 read_text r text f e =
-    let back : numbers_in (drop 2 text) ≡ r = ap (λ (t : List ℕ). numbers_in (drop 2 t)) e ∙ numbers_back r f in
+    let back : numbers_in (drop 2 text) ≡ r = ap (λ (t : List ℕ). numbers_in (drop 2 t)) e ∙ fitting_back r f in
     let same : bytes_eq (receipt_text r) text ≡ true = (bytes_eq-Decides (receipt_text r) text).1 (sym e) in
     ap (λ (q : Receipt). receipt_if q text) back ∙ chosen (fits r && bytes_eq (receipt_text r) text) r (two_true _ _ (fits_true r f) same)
 
@@ -104,3 +106,39 @@ pub read_answer :
     → ((r : Receipt) → Fits r → text ≡ receipt_text r → o ≡ Some r) → o ≡ read_receipt text
 read_answer text None sound complete = none_by text (read_receipt text) refl complete
 read_answer text (Some r) sound complete = sym (read_text r text sound.0 sound.1)
+
+-- a receipt that fits, with the numbers of another
+abbrev FitsFor : Receipt → Receipt → Type 0
+FitsFor r q = Fits q × (q.site ≡ r.site) × (q.number ≡ r.number) × (q.count ≡ r.count)
+
+same_text : (r : Receipt) (o : Option Receipt) → IfSome o (FitsFor r) → IfSome o (λ q. Fits q × (receipt_text r ≡ receipt_text q))
+same_text r None h = tt
+same_text r (Some q) h = (h.0, rw (h.1, h.2, h.3) refl)
+
+-- the receipt that a receipt's text is: this one, where it fits
+pub own_answer :
+    (r : Receipt) (o : Option Receipt) → r.site < 2 ^ 64 → r.number < 2 ^ 64 → r.count < 2 ^ 64 → IfSome o (FitsFor r)
+    → ((q : Receipt) → Fits q → q.site ≡ r.site → q.number ≡ r.number → q.count ≡ r.count → o ≡ Some q) → o ≡ read_receipt (receipt_text r)
+own_answer r o s n c sound complete = read_answer (receipt_text r) o (same_text r o sound) (λ q f e.
+    let same : q ≡ r = sym (fitting_back q f) ∙ ap (λ (t : List ℕ). numbers_in (drop 2 t)) (sym e) ∙ numbers_back r s n c in
+    complete q f (ap (λ (x : Receipt). x.site) same) (ap (λ (x : Receipt). x.number) same) (ap (λ (x : Receipt). x.count) same))
+
+dash : (bs : List ℕ) → IsAscii bs → IsAscii (codes "-" ++ bs)
+dash bs h = IsAscii-cons 45 bs (omega arith) h
+
+text_is_ascii : (r : Receipt) → Fits r → IsAscii (receipt_text r)
+text_is_ascii r f =
+    let site : IsAscii (decimal r.site) = IsAscii-decimal r.site (omega (arith, f.site)) in
+    let number : IsAscii (decimal r.number) = IsAscii-decimal r.number (omega (arith, f.number)) in
+    let count : IsAscii (decimal r.count) = IsAscii-decimal r.count (omega (arith, f.count)) in
+    let last : List ℕ = decimal r.count in
+    let middle : List ℕ = decimal r.number ++ (codes "-" ++ last) in
+    let first : List ℕ = decimal r.site ++ (codes "-" ++ middle) in
+    let ends : IsAscii (codes "-" ++ last) = dash last count in
+    let goes : IsAscii (codes "-" ++ middle) = dash middle (IsAscii-append (decimal r.number) (codes "-" ++ last) number ends) in
+    let begins : IsAscii first = IsAscii-append (decimal r.site) (codes "-" ++ middle) site goes in
+    IsAscii-cons 114 (codes "-" ++ first) (omega arith) (dash first begins)
+
+-- a text that is not UTF-8 is no receipt
+pub not_a_receipt : (text : List ℕ) → ¬ (IsUtf8 text) → None ≡ read_receipt text
+not_a_receipt text h = none_by text (read_receipt text) refl (λ r f e. absurd (h (subst IsUtf8 (sym e) (IsUtf8-from_ascii (receipt_text r) (text_is_ascii r f)))))

@@ -3,11 +3,7 @@ ghost use Rattle.std.specs.Prelude.{◌≡◌, ◌<◌, ◌^◌, ℕ, List, ◌+
 ghost use Rattle.std.specs.Fmt.{decimal};
 ghost use Rattle.sqs_message.specs.Ids.{HasNoDash, is_plain};
 
-use itoa::Buffer;
 use std::alloc::{AllocError, Global};
-
-// How long the text of a receipt handle is at most that is written without a growth.
-const RECEIPT_TEXT: usize = 32;
 
 /// The id of a message in one stay in a queue: `m-SITE-NUMBER`.
 #[derive(Clone, Copy, Debug, PartialEq, Eq)]
@@ -69,15 +65,7 @@ impl Receipt {
     pub fn text(&self, alloc: Global) -> Result<String, AllocError>
         ensures { IfOk result (λ s. string_bytes s ≡ receipt_text self.now) }
     {
-        let mut buffer = Buffer::new();
-        let mut text = String::with_capacity(alloc, RECEIPT_TEXT)?;
-        text.push_str("r-")?;
-        text.push_str(buffer.format(self.site))?;
-        text.push_str("-")?;
-        text.push_str(buffer.format(self.number))?;
-        text.push_str("-")?;
-        text.push_str(buffer.format(self.count))?;
-        Ok(text)
+        format!(in alloc; "r-{}-{}-{}", self.site, self.number, self.count)
     }
 
     /// The receipt that a text is: numbers in decimal without leading zeros, the site below 2^32,
@@ -88,6 +76,13 @@ impl Receipt {
         ensures named { result ≡ read_receipt text.now }
     {
         Receipt::read_numbers(text)
+    }
+
+    // The receipt that its text is: itself, where `read` knows its numbers.
+    pub(crate) fn fitting(self) -> Option<Receipt>
+        ensures { result ≡ read_receipt (receipt_text self) }
+    {
+        Receipt::within(self.site as u64, self.number, self.count)
     }
 
     // The same, number by number.

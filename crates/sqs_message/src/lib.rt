@@ -3,6 +3,7 @@
 
 mod calls;
 mod digest;
+mod handle;
 mod ids;
 mod listed;
 mod message;
@@ -11,6 +12,7 @@ mod text;
 
 pub use calls::{Call, Script, ScriptCall};
 pub use digest::{body_md5, body_sha256};
+pub use handle::{HandleForm, ReceiptHandle};
 pub use ids::{MessageId, Origin, Receipt};
 pub use listed::Listed;
 pub use message::{Message, Place};

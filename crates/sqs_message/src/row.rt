@@ -1,6 +1,6 @@
 //! Rows of the log.
+use crate::handle::ReceiptHandle;
 use crate::ids::{MessageId, Origin, Receipt};
-use crate::text::Text;
 use sim_clock::{Key, Refusal};
 
 /// What a row tells of: a call of an actor, or what a queue or task did by itself.
@@ -63,8 +63,8 @@ pub enum RowReceipt {
     Absent,
     /// The receipt that a receive made.
     Made(Receipt),
-    /// The text that a call gave.
-    Given(Text),
+    /// The handle that a call gave.
+    Given(ReceiptHandle),
 }
 
 /// The detail column of a row.

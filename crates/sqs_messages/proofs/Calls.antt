@@ -1,8 +1,7 @@
 -- The messages and the table after a message left or changed.
-use Rattle.std.proofs.Common.{◌≡◌, Bor, ℕ, ◌+◌, ◌<◌, ◌≤◌, Bool, true, false, List, [], ◌∷◌, Option, Some, None, cond, if◌then◌else◌, filter, length, map, ◌&&◌, nat_lt, arith, refl, ap, sym, subst, ◌∙◌}
+use Rattle.std.proofs.Common.{◌≡◌, Bor, ℕ, ◌+◌, ◌<◌, ◌≤◌, Bool, true, false, List, [], ◌∷◌, Option, Some, None, cond, if◌then◌else◌, filter, length, map, ◌&&◌, arith, refl, ap, sym, subst, ◌∙◌}
 use Rattle.std.specs.Prelude.{All, IfSome, find, is_some, ◌≢◌}
 use Rattle.std.specs.Option.{option_map}
-use Rattle.std.proofs.lemmas.Bool.Decides.{nat_tests}
 use Rattle.std.proofs.lemmas.List.{length-map}
 use Rattle.std.proofs.lemmas.List.Elements.{All-cons, All-head, All-nil, All-tail, All-weaker}
 use Rattle.sim_clock.specs.Firsts.{changed, without}
@@ -17,17 +16,17 @@ use Rattle.sqs_model.specs.Progress.{Ascends}
 use Rattle.sqs_model.specs.Queue.{has_number, is_in_flight, same_text}
 use Rattle.sqs_model.specs.Texts.{same_text_decides}
 use Rattle.sqs_messages.specs.declared.slot.State.{State}
-use Rattle.sqs_messages.specs.Heads.{AreLed, IsLedBut, in_group, of_group, told}
+use Rattle.sqs_messages.specs.Heads.{AreLed, IsLedBut, of_group, told}
 use Rattle.sqs_messages.specs.Slots.{Shelved, held, is_numbered, number_of, restated}
 use Rattle.sqs_messages.specs.Stored.{IsCounted, IsStored}
+use Rattle.sqs_messages.proofs.Firsts.{some_of}
 use Rattle.sqs_messages.proofs.Leads.{find_has}
 use Rattle.sqs_messages.proofs.Led.{all_changed, led_changed, led_without, told_find}
 use Rattle.sqs_messages.specs.declared.groups.members.Members.{Members}
-use Rattle.sqs_messages.specs.Groups.{IsGrouped, Kept, bit, group_at, group_by, in_flight_at, is_out, nobody, out_of, place_by}
+use Rattle.sqs_messages.specs.Groups.{IsGrouped, IsPlaceOf, Kept, bit, group_at, group_by, in_flight_at, is_out, out_of, place_by}
 use Rattle.sqs_messages.specs.Marked.{IsDue, restamped, unhosted}
-use Rattle.sqs_messages.proofs.Fronts.{none_in}
 use Rattle.sqs_messages.proofs.Grouped.{count_changed, count_without, few, grouped_changed, grouped_without, told_all, told_ascends}
-use Rattle.sqs_messages.proofs.Places.{apart, group_past}
+use Rattle.sqs_messages.proofs.Places.{apart}
 use Rattle.sqs_messages.proofs.Settled.{IsSettled, settled, settled_led}
 
 -- what a change at the place of a group leaves
@@ -46,27 +45,8 @@ settle_at names groups groups2 items after g i was is e l kept others out same b
       led = λ but listed count. led g but (ap (λ j. held items (group_at groups j).numbers) e ∙ listed) (ap (λ j. (group_at groups2 j).out) e ∙ count);
     }
 
--- a message of a group that is on the shelf has its group in the table
-pub not_past : (names : List (Option (List ℕ))) (groups : List Members) (items : List Shelved) (next n i : ℕ) (s : Shelved) → IsGrouped items next s.message.group (group_by names groups s.message.group) → find (is_numbered n) items ≡ Some s
-    → i ≡ place_by names s.message.group → length groups ≤ i → ⊥
-not_past names groups items next n i s h e at l =
-    let past : group_by names groups s.message.group ≡ nobody = ap (group_at groups) (sym at) ∙ group_past groups i l in
-    let none : of_group s.message.group (told items) ≡ [] = sym h.listed ∙ ap (λ (k : Kept). held items k.numbers) past in
-    let no : in_group s.message.group s.message ≡ false = find_has (λ (x : Shelved). in_group s.message.group x.message ≡ false) (is_numbered n) items s (none_in (in_group s.message.group) items none) e in
-    let yes : in_group s.message.group s.message ≡ true = (same_text_decides s.message.group s.message.group).1 refl in
-    let bad : true ≡ false = sym yes ∙ no in
-    cc
-
-pub placed : (names : List (Option (List ℕ))) (groups : List Members) (items : List Shelved) (next n i : ℕ) (s : Shelved) → IsGrouped items next s.message.group (group_by names groups s.message.group) → find (is_numbered n) items ≡ Some s
-    → i ≡ place_by names s.message.group → i < length groups
-placed names groups items next n i s h e at = by (nat_lt i (length groups)) refl
-  where
-    by : (b : Bool) → nat_lt i (length groups) ≡ b → i < length groups
-    by true t = grind (arith, nat_tests, t)
-    by false t = absurd (not_past names groups items next n i s h e at (grind (arith, nat_tests, t)))
-
--- what holds of messages and of what is due of them stays as hosts change
-pub all_kept : (Q : Message × Option Key → Type 0) (items after : List Shelved) → map unhosted after ≡ map unhosted items → All (λ s. Q (unhosted s)) items → All (λ s. Q (unhosted s)) after
+-- what holds of messages, of what is due of them and of the places of their groups stays as hosts change
+pub all_kept : (Q : Message × Option Key × ℕ → Type 0) (items after : List Shelved) → map unhosted after ≡ map unhosted items → All (λ s. Q (unhosted s)) items → All (λ s. Q (unhosted s)) after
 all_kept Q items [] e h = All-nil (λ (s : Shelved). Q (unhosted s))
 all_kept Q [] (y ∷ ys) e h = cc
 all_kept Q (x ∷ xs) (y ∷ ys) e h =
@@ -75,7 +55,7 @@ all_kept Q (x ∷ xs) (y ∷ ys) e h =
     All-cons (λ (s : Shelved). Q (unhosted s)) y ys (subst Q here (All-head (λ (s : Shelved). Q (unhosted s)) x xs h)) (all_kept Q xs ys rest (All-tail (λ (s : Shelved). Q (unhosted s)) x xs h))
 
 -- the same with what is due told of the pair
-pub record IsDuePair (site retention : ℕ) (p : Message × Option Key) : Type 0 where
+pub record IsDuePair (site retention : ℕ) (p : Message × Option Key × ℕ) : Type 0 where
   pub due : p.1 ≡ least (message_dues site retention p.0)
   pub counted : IsCounted p.0
 
@@ -83,6 +63,9 @@ pub dues_kept : (site retention : ℕ) (items after : List Shelved) → map unho
 dues_kept site retention items after e h k d l =
     let pairs : All (λ s. IsDuePair site retention (unhosted s)) after = all_kept (IsDuePair site retention) items after e (λ i c m. record { due = (h i c m).due; counted = (h i c m).counted }) in
     record { due = (pairs k d l).due; counted = (pairs k d l).counted }
+
+pub placed_kept : (names : List (Option (List ℕ))) (items after : List Shelved) → map unhosted after ≡ map unhosted items → All (λ s. IsPlaceOf names s.message.group s.group) items → All (λ s. IsPlaceOf names s.message.group s.group) after
+placed_kept names = all_kept (λ p. IsPlaceOf names p.0.group p.2)
 
 pub no_and : (b : Bool) → bit (b && false) ≡ 0
 no_and true = refl
@@ -102,34 +85,25 @@ module _ (n next : ℕ) (items : List Shelved) (s : Shelved) (old : Option (List
 
   module _ (state : State) (mark : Mark) where
     pub changed_grouped : (after : List Shelved) (new : Option (List ℕ) → Kept)
-        → IsSettled (changed (is_numbered n) (λ (x : Shelved). let t : Shelved = record { message = restated state x.message; mark = mark } in t) items) after s.message.group (is_in_flight s.message) (in_flight_at state.place) old new
+        → IsSettled (changed (is_numbered n) (λ (x : Shelved). let t : Shelved = record x { message = restated state x.message; mark = mark } in t) items) after s.message.group (is_in_flight s.message) (in_flight_at state.place) old new
         → (h : Option (List ℕ)) → IsGrouped after next h (new h)
     changed_grouped after new st h =
-        settled (changed (is_numbered n) (λ (x : Shelved). let t : Shelved = record { message = restated state x.message; mark = mark } in t) items) after next s.message.group (is_in_flight s.message) (in_flight_at state.place) old new st
-        (λ h k same less. grouped_changed h n next items s (λ (x : Shelved). let t : Shelved = record { message = restated state x.message; mark = mark } in t) (restated state) (old h) k a found (λ x. refl) (λ m. refl) (λ m. refl) (grouped h) same less) h
+        settled (changed (is_numbered n) (λ (x : Shelved). let t : Shelved = record x { message = restated state x.message; mark = mark } in t) items) after next s.message.group (is_in_flight s.message) (in_flight_at state.place) old new st
+        (λ h k same less. grouped_changed h n next items s (λ (x : Shelved). let t : Shelved = record x { message = restated state x.message; mark = mark } in t) (restated state) (old h) k a found (λ x. refl) (λ m. refl) (λ m. refl) (grouped h) same less) h
 
     pub changed_led : (after : List Shelved) (new : Option (List ℕ) → Kept) → meets 1 mark ≡ false
-        → IsSettled (changed (is_numbered n) (λ (x : Shelved). let t : Shelved = record { message = restated state x.message; mark = mark } in t) items) after s.message.group (is_in_flight s.message) (in_flight_at state.place) old new
+        → IsSettled (changed (is_numbered n) (λ (x : Shelved). let t : Shelved = record x { message = restated state x.message; mark = mark } in t) items) after s.message.group (is_in_flight s.message) (in_flight_at state.place) old new
         → AreLed after
     changed_led after new off st =
-        settled_led (changed (is_numbered n) (λ (x : Shelved). let t : Shelved = record { message = restated state x.message; mark = mark } in t) items) after next s.message.group (is_in_flight s.message) (in_flight_at state.place) old new st
-        (λ h k same less. grouped_changed h n next items s (λ (x : Shelved). let t : Shelved = record { message = restated state x.message; mark = mark } in t) (restated state) (old h) k a found (λ x. refl) (λ m. refl) (λ m. refl) (grouped h) same less)
-        (led_changed n (λ (x : Shelved). let t : Shelved = record { message = restated state x.message; mark = mark } in t) (restated state) items s (λ x. refl) (λ m. refl) (λ m. refl) led found off)
-
--- the message that was found, with its mark
-pub shelved_of : (o : Option Shelved) (m : Message) → Some m ≡ option_map (λ (s : Shelved). s.message) o → (s : Shelved) × (o ≡ Some s) × (s.message ≡ m)
-shelved_of None m e = cc
-shelved_of (Some s) m e = (s, refl, cc)
+        settled_led (changed (is_numbered n) (λ (x : Shelved). let t : Shelved = record x { message = restated state x.message; mark = mark } in t) items) after next s.message.group (is_in_flight s.message) (in_flight_at state.place) old new st
+        (λ h k same less. grouped_changed h n next items s (λ (x : Shelved). let t : Shelved = record x { message = restated state x.message; mark = mark } in t) (restated state) (old h) k a found (λ x. refl) (λ m. refl) (λ m. refl) (grouped h) same less)
+        (led_changed n (λ (x : Shelved). let t : Shelved = record x { message = restated state x.message; mark = mark } in t) (restated state) items s (λ x. refl) (λ m. refl) (λ m. refl) led found off)
 
 pub some_read : (r : Option (Bor Message)) (o : Option Shelved) → option_map (λ (m : Bor Message). m.now) r ≡ option_map (λ (s : Shelved). s.message) o → is_some r ≡ is_some o
 some_read None None e = refl
 some_read None (Some s) e = cc
 some_read (Some m) None e = cc
 some_read (Some m) (Some s) e = refl
-
-pub none_of : (o : Option Shelved) → None ≡ option_map (λ (s : Shelved). s.message) o → o ≡ None
-none_of None e = refl
-none_of (Some s) e = cc
 
 pub absent_without : {A : Type 0} (p : A → Bool) (xs : List A) → find p xs ≡ None → without p xs ≡ xs
 absent_without p [] e = refl
@@ -176,7 +150,7 @@ out_room n next items s state mark k h e f t a below =
 pub put_dues : (site retention n : ℕ) (items : List Shelved) (m : Message) (state : State) (due : Option Key) → Some m ≡ option_map (λ (s : Shelved). s.message) (find (is_numbered n) items) → due ≡ least (message_dues site retention (restated state m)) → state.receives ≤ most_count → state.received ≤ most_count
     → All (IsDue site retention) items → All (IsDue site retention) (changed (is_numbered n) (restamped state due) items)
 put_dues site retention n items m state due found is receives received h =
-    let s = shelved_of (find (is_numbered n) items) m found in
+    let s = some_of (λ (s : Shelved). s.message) (find (is_numbered n) items) m found in
     all_changed (IsDue site retention) (is_numbered n) (restamped state due) items s.0 s.1
     (record {
       due = is ∙ ap (λ (x : Message). least (message_dues site retention (restated state x))) (sym s.2);
@@ -186,7 +160,7 @@ put_dues site retention n items m state due found is receives received h =
 -- a message that is found is within the limits
 pub found_counted : (site retention n : ℕ) (items : List Shelved) (m : Message) → Some m ≡ option_map (λ (s : Shelved). s.message) (find (is_numbered n) items) → All (IsDue site retention) items → IsCounted m
 found_counted site retention n items m found h =
-    let s = shelved_of (find (is_numbered n) items) m found in
+    let s = some_of (λ (s : Shelved). s.message) (find (is_numbered n) items) m found in
     subst IsCounted s.2 (find_has (IsDue site retention) (is_numbered n) items s.0 h s.1).counted
 
 -- so is what is read of it

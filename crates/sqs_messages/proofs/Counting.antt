@@ -1,7 +1,8 @@
 -- The counts of messages: with one more, without one, and with a change of one.
-use Rattle.std.proofs.Common.{◌≡◌, ℕ, suc, ◌+◌, ◌<◌, ◌≤◌, Bool, true, false, List, [], ◌∷◌, ◌++◌, Option, Some, None, cond, get_or, if◌then◌else◌, length, arith, refl, ap, sym, ◌∙◌}
+use Rattle.std.proofs.Common.{◌≡◌, ℕ, suc, nat_eq, ◌&&◌, ◌+◌, ◌<◌, ◌≤◌, Bool, true, false, List, [], ◌∷◌, ◌++◌, Option, Some, None, cond, get_or, if◌then◌else◌, length, arith, refl, ap, sym, ◌∙◌}
 use Rattle.std.specs.Prelude.{All, count_by, find}
 use Rattle.std.specs.Option.{option_map}
+use Rattle.std.proofs.lemmas.Bool.{eqb-true}
 use Rattle.std.proofs.lemmas.List.{length-map}
 use Rattle.std.proofs.lemmas.List.Sums.{count_by-le-length, sum_by-cons}
 use Rattle.sim_clock.specs.Firsts.{changed, without}
@@ -19,9 +20,13 @@ use Rattle.sim_index.specs.Marked.{Marked}
 use Rattle.sim_index.specs.Marks.{node}
 use Rattle.sqs_messages.specs.declared.slot.Slot.{Slot}
 use Rattle.sqs_messages.specs.Shelves.{AreShelf}
-use Rattle.sqs_messages.specs.Slots.{IsOn, Shelved, is_numbered, number_of, shelved, with_hosts}
+use Rattle.sqs_messages.specs.Slots.{IsOn, Shelved, is_numbered, item_of, number_of, shelved, with_hosts}
 use Rattle.sqs_messages.proofs.Shelves.{found}
 use Rattle.sqs_messages.proofs.Wanted.{shelf_ascends, shelf_below}
+
+-- the counts of no messages
+abbrev no_counts : Counts
+no_counts = record { visible = 0; in_flight = 0; delayed = 0 }
 
 -- 1 for a message that a test picks, else 0
 abbrev picked : (Message → Bool) → Shelved → ℕ
@@ -56,6 +61,13 @@ counts_push items s = one_more s.message.place (counts_of (told items)) (counts_
   where
     by : (p : Message → Bool) → count_by p (told items) + picked p s ≡ count_by p (told (items ++ s ∷ []))
     by p = omega (arith, count_is p items, count_is p (items ++ s ∷ []), total_push (picked p) items s)
+
+-- with one more in front
+counts_cons : (s : Shelved) (items : List Shelved) → with_one s.message.place (counts_of (told items)) ≡ counts_of (told (s ∷ items))
+counts_cons s items = one_more s.message.place (counts_of (told items)) (counts_of (told (s ∷ items))) (by is_visible) (by is_in_flight) (by is_delayed)
+  where
+    by : (p : Message → Bool) → count_by p (told items) + picked p s ≡ count_by p (told (s ∷ items))
+    by p = omega (arith, sum_by-cons (λ m. cond (p m) 1 0) s.message (told items))
 
 module _ (n : ℕ) (items : List Shelved) (y : Shelved) (found : find (is_numbered n) items ≡ Some y) where
   -- without the message of a number
@@ -106,6 +118,32 @@ some_at places.Delayed rest whole e = omega (arith, ap (λ (c : Counts). c.delay
 some_at places.Visible rest whole e = omega (arith, ap (λ (c : Counts). c.visible) e)
 some_at places.InFlight rest whole e = omega (arith, ap (λ (c : Counts). c.in_flight) e)
 
+none_at : (place : Place) → count_at place no_counts ≡ 0
+none_at places.Delayed = refl
+none_at places.Visible = refl
+none_at places.InFlight = refl
+
+all_zero : (c : Counts) → (nat_eq c.visible 0 && (nat_eq c.in_flight 0 && nat_eq c.delayed 0)) ≡ true → c ≡ no_counts
+all_zero c e = by (nat_eq c.visible 0) (nat_eq c.in_flight 0) (nat_eq c.delayed 0) (eqb-true c.visible 0) (eqb-true c.in_flight 0) (eqb-true c.delayed 0) e
+  where
+    by : (v f d : Bool) → (v ≡ true → c.visible ≡ 0) → (f ≡ true → c.in_flight ≡ 0) → (d ≡ true → c.delayed ≡ 0) → (v && (f && d)) ≡ true → c ≡ no_counts
+    by true true true x y z h = (λ j. let k : Counts = record { visible = x refl j; in_flight = y refl j; delayed = z refl j } in k)
+    by true true false x y z h = cc
+    by true false d x y z h = cc
+    by false f d x y z h = cc
+
+none_told : (items : List Shelved) → counts_of (told items) ≡ no_counts → items ≡ []
+none_told [] e = refl
+none_told (s ∷ items) e =
+    let place = s.message.place in
+    let some : 1 ≤ count_at place (counts_of (told (s ∷ items))) = some_at place (counts_of (told items)) (counts_of (told (s ∷ items))) (counts_cons s items) in
+    let none : count_at place (counts_of (told (s ∷ items))) ≡ 0 = ap (count_at place) e ∙ none_at place in
+    absurd (omega (arith, some, none))
+
+-- no message is left where all counts are 0
+pub none_left : (items : List Shelved) (c : Counts) → c ≡ counts_of (told items) → (nat_eq c.visible 0 && (nat_eq c.in_flight 0 && nat_eq c.delayed 0)) ≡ true → items ≡ []
+none_left items c counted e = none_told items (sym counted ∙ all_zero c e)
+
 -- no more messages stand at a place than there are
 pub few_at : (place : Place) (items : List Shelved) → count_at place (counts_of (told items)) ≤ length items
 few_at places.Delayed items = omega (arith, count_by-le-length is_delayed (told items), length-map items (λ (s : Shelved). s.message))
@@ -136,10 +174,10 @@ few_shelved list next h =
     let few : length items + 0 ≤ next = few_numbers 0 next items (omega arith) (shelf_ascends list next h) (shelf_below list next h) in
     omega (arith, few)
 
-stood_by : (o : Option Message) (mark : Mark) (was : Place) → Some was ≡ option_map (λ (m : Message). m.place) o
-    → (s : Shelved) × (option_map (λ m. let t : Shelved = record { message = m; mark = mark } in t) o ≡ Some s) × (s.message.place ≡ was)
-stood_by None mark was e = cc
-stood_by (Some m) mark was e = (record { message = m; mark = mark }, refl, cc)
+stood_by : (o : Option Message) (mark : Mark) (group : ℕ) (was : Place) → Some was ≡ option_map (λ (m : Message). m.place) o
+    → (s : Shelved) × (option_map (item_of mark group) o ≡ Some s) × (s.message.place ≡ was)
+stood_by None mark group was e = cc
+stood_by (Some m) mark group was e = (item_of mark group m, refl, cc)
 
 -- the counts of a shelf on which the message of a number leaves its place
 module _ {list : Marked Slot} {next n i : ℕ} {x : Slot} {slots : List Slot} (h : AreShelf list next) (on : IsOn slots n i) (is : slots ≡ list.values) (read : x ≡ get_or list.values i x)
@@ -148,7 +186,7 @@ module _ {list : Marked Slot} {next n i : ℕ} {x : Slot} {slots : List Slot} (h
   items = shelved list.values list.marks
 
   here : (s : Shelved) × (find (is_numbered n) (shelved list.values list.marks) ≡ Some s) × (s.message.place ≡ was)
-  here = let s = stood_by x.message (node list.marks i) was stood in (s.0, found h on is read ∙ s.1, s.2)
+  here = let s = stood_by x.message (node list.marks i) x.group was stood in (s.0, found h on is read ∙ s.1, s.2)
 
   without_one : with_one was (counts_of (told (without (is_numbered n) (shelved list.values list.marks)))) ≡ counts
   without_one =

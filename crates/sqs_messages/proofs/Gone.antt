@@ -17,6 +17,7 @@ pub relisted : (items : List Shelved) (next : ℕ) (names : List (Option (List �
 relisted items next names groups groups2 place h long others out same below =
     record {
       led = h.led;
+      placed = h.placed;
       same = h.same ∙ sym long;
       grouped = λ g. each g (h.grouped g) (cases_eq (place_by names g) place);
     }

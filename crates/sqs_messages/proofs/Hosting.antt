@@ -1,7 +1,8 @@
 -- A standard queue's messages, and what their hosts tell.
-use Rattle.std.proofs.Common.{◌≡◌, ℕ, zero, suc, ◌%◌, Bool, true, false, List, [], ◌∷◌, Some, cond, filter, if◌then◌else◌, map, take, ◌&&◌, not, bit_and, arith, refl, ap, sym, ◌∙◌}
-use Rattle.std.specs.Prelude.{All, find, is_some, ◌==◌}
+use Rattle.std.proofs.Common.{◌≡◌, ℕ, zero, suc, ◌%◌, ◌≤◌, length, Bool, true, false, List, [], ◌∷◌, Some, cond, filter, if◌then◌else◌, map, take, ◌&&◌, not, bit_and, arith, refl, ap, sym, ◌∙◌}
+use Rattle.std.specs.Prelude.{All, count_by, find, is_some, min, ◌==◌}
 use Rattle.std.proofs.lemmas.Bool.Decides.{nat_tests}
+use Rattle.std.proofs.lemmas.List.Sums.{length-filter}
 use Rattle.std.proofs.lemmas.List.Elements.{All-cons, All-head, All-tail}
 use Rattle.sim_clock.specs.Firsts.{changed, is_empty}
 use Rattle.sim_index.specs.declared.mark.Mark.{Mark}
@@ -11,6 +12,7 @@ use Rattle.sqs_message.specs.declared.message.Place.{Place}
 use Rattle.sqs_message.specs.declared.message.Place.TheVariants as places
 use Rattle.sqs_model.specs.Available.{has_host}
 use Rattle.sqs_model.specs.Queue.{is_visible}
+use Rattle.sqs_messages.proofs.Few.{take_few}
 use Rattle.sqs_messages.proofs.Bits.{host_bit, no_meets}
 use Rattle.sqs_messages.proofs.Marked.{wanted}
 use Rattle.sqs_messages.proofs.Wanted.{filter_all}
@@ -57,6 +59,28 @@ pub first_seen : (hosts set most : ℕ) (items : List Shelved) → All (IsHosted
 first_seen hosts set most items h =
     numbers_taken most (filter (λ s. meets set s.mark) items) ∙ ap (λ ms. map (λ (m : Message). m.number) (take most ms)) (seen_filter hosts set items h)
 
+-- no more messages are seen than are visible
+few_seen : (hosts set : ℕ) (items : List Shelved) → All (IsHosted hosts) items → length (filter (λ s. meets set s.mark) items) ≤ length (filter is_visible (told items))
+few_seen hosts set [] h = omega arith
+few_seen hosts set (s ∷ items) h =
+    by (meets set s.mark) (is_visible s.message) (has_host set (s.message.number % hosts))
+    (meets_seen hosts set s (All-head (IsHosted hosts) s items h))
+    (few_seen hosts set items (All-tail (IsHosted hosts) s items h))
+  where
+    by : (b v k : Bool) → b ≡ (v && k) → length (filter (λ x. meets set x.mark) items) ≤ length (filter is_visible (told items))
+        → length (cond b (s ∷ filter (λ x. meets set x.mark) items) (filter (λ x. meets set x.mark) items)) ≤ length (cond v (s.message ∷ filter is_visible (told items)) (filter is_visible (told items)))
+    by true true k e ih = omega (arith, ih)
+    by true false k e ih = cc
+    by false true k e ih = omega (arith, ih)
+    by false false k e ih = omega (arith, ih)
+
+-- where so many are visible, to ask for more finds no more
+pub visible_taken : (hosts set most : ℕ) (items : List Shelved) → All (IsHosted hosts) items
+    → take (min most (count_by is_visible (told items))) (filter (λ s. meets set s.mark) items) ≡ take most (filter (λ s. meets set s.mark) items)
+visible_taken hosts set most items h =
+    let few : length (filter (λ s. meets set s.mark) items) ≤ count_by is_visible (told items) = omega (arith, few_seen hosts set items h, length-filter is_visible (told items)) in
+    take_few most (count_by is_visible (told items)) (filter (λ s. meets set s.mark) items) few
+
 some_found : (p : Shelved → Bool) (items : List Shelved) → is_some (find p items) ≡ not (is_empty (told (filter p items)))
 some_found p [] = refl
 some_found p (s ∷ items) = by (p s) (some_found p items)
@@ -75,12 +99,12 @@ any_seen hosts set items h =
 
 -- a message that takes another state is marked with its host
 pub put_hosted : (hosts n : ℕ) (state : State) (mark : Mark) (items : List Shelved) → mark.hosts ≡ host_mark hosts n state.place → All (IsHosted hosts) items
-    → All (IsHosted hosts) (changed (is_numbered n) (λ (s : Shelved). let t : Shelved = record { message = restated state s.message; mark = mark } in t) items)
+    → All (IsHosted hosts) (changed (is_numbered n) (λ (s : Shelved). let t : Shelved = record s { message = restated state s.message; mark = mark } in t) items)
 put_hosted hosts n state mark [] e h = h
 put_hosted hosts n state mark (s ∷ items) e h = by (put_hosted hosts n state mark items e) (is_numbered n s) refl
   where
     f : Shelved → Shelved
-    f x = record { message = restated state x.message; mark = mark }
+    f x = record x { message = restated state x.message; mark = mark }
 
     by : (All (IsHosted hosts) items → All (IsHosted hosts) (changed (is_numbered n) f items)) → (b : Bool) → is_numbered n s ≡ b → All (IsHosted hosts) (if is_numbered n s then f s ∷ items else s ∷ changed (is_numbered n) f items)
     by ih true k =

@@ -1,12 +1,14 @@
 -- The messages and the table after one came.
 use Rattle.std.proofs.Common.{◌≡◌, ℕ, ◌+◌, ◌<◌, ◌≤◌, Bool, true, false, List, [], ◌∷◌, ◌++◌, Option, cond, filter, length, map, ◌&&◌, get_or, set, arith, refl, ap, sym, subst, ◌∙◌}
-use Rattle.std.specs.Prelude.{All, ◌≢◌}
-use Rattle.std.proofs.lemmas.List.{length-map}
+use Rattle.std.specs.Prelude.{All, ◌==◌, ◌≢◌}
+use Rattle.std.proofs.lemmas.Bool.Decides.{nat_tests}
+use Rattle.std.proofs.lemmas.List.{length-map, map-append}
+use Rattle.std.proofs.lemmas.List.Elements.{filter-append}
 use Rattle.sim_index.specs.Marks.{meets}
 use Rattle.sqs_model.specs.Progress.{Ascends}
 use Rattle.sqs_model.specs.Queue.{is_in_flight, same_text}
 use Rattle.sqs_model.specs.Texts.{decided_symm, same_text_decides}
-use Rattle.sqs_messages.specs.Heads.{AreLed, IsLedBut, in_group, of_group, told}
+use Rattle.sqs_messages.specs.Heads.{AreLed, IsLedBut, begins, in_group, of_group, told}
 use Rattle.sqs_messages.specs.Slots.{Shelved, held, number_of}
 use Rattle.sqs_messages.proofs.Led.{led_pushed}
 use Rattle.sqs_messages.specs.declared.groups.members.Members.{Members}
@@ -30,7 +32,7 @@ out_is true n k = refl
 out_is false n k = refl
 
 module _ (names : List (Option (List ℕ))) (groups groups2 : List Members) (items before after : List Shelved) (next place : ℕ) (s : Shelved) (pushed : before ≡ items ++ s ∷ []) (number : s.message.number ≡ next) (at : place ≡ place_by names s.message.group) (within : place < length names)
-    (all : All (λ x. number_of x < next) items) (led : AreLed items) (grouped : AreGrouped items next names groups) (off : meets 1 s.mark ≡ false)
+    (all : All (λ x. number_of x < next) items) (led : AreLed items) (grouped : AreGrouped items next names groups) (off : begins (of_group s.message.group (told (items ++ s ∷ []))) s.message ≡ false → meets 1 s.mark ≡ false)
     (kept : map unhosted after ≡ map unhosted before) (others : (j : ℕ) → j ≢ place → group_at groups2 j ≡ group_at groups j)
     (out : (group_at groups2 place).out ≡ (group_at groups place).out + bit (is_in_flight s.message))
     (same : held before (group_at groups2 place).numbers ≡ held before ((group_at groups place).numbers ++ s.message.number ∷ []))
@@ -73,6 +75,19 @@ module _ (names : List (Option (List ℕ))) (groups groups2 : List Members) (ite
   -- and so are the marks of leaders
   pub joined_led : AreLed after
   joined_led = settled_led before after (next + 1) s.message.group false (is_in_flight s.message) old (group_by names groups2) settled_one mid (subst (λ xs. All (IsLedBut xs s.message.group) xs) (sym pushed) (led_pushed items s led off))
+
+-- a message that comes to a group whose list is empty is its first
+pub first_come : (next : ℕ) (items : List Shelved) (s : Shelved) (k : Kept) → IsGrouped items next s.message.group k → k.numbers ≡ [] → begins (of_group s.message.group (told (items ++ s ∷ []))) s.message ≡ true
+first_come next items s k h e =
+    let g : Option (List ℕ) = s.message.group in
+    let none : of_group g (told items) ≡ [] = sym h.listed ∙ ap (held items) e in
+    let own : in_group g s.message ≡ true = (same_text_decides g g).1 refl in
+    let one : of_group g (told (items ++ s ∷ [])) ≡ s.message ∷ [] =
+    ap (of_group g) (map-append (λ (x : Shelved). x.message) items (s ∷ []))
+    ∙ filter-append (in_group g) (told items) (s.message ∷ [])
+    ∙ (λ j. none j ++ cond (own j) (s.message ∷ []) []) in
+    let same : (s.message.number == s.message.number) ≡ true = grind (arith, nat_tests) in
+    ap (λ ms. begins ms s.message) one ∙ same
 
 -- a group counts no more messages than there are numbers
 pub out_few : (g : Option (List ℕ)) (next : ℕ) (items : List Shelved) (k : Kept) → IsGrouped items next g k → Ascends number_of 0 items → All (λ x. number_of x < next) items → k.out ≤ next

@@ -19,7 +19,7 @@ use Rattle.sqs_messages.specs.declared.slot.State.{State}
 use Rattle.sqs_messages.specs.Heads.{told}
 use Rattle.sqs_messages.specs.Marked.{IsDue, restamped, unhosted}
 use Rattle.sqs_messages.specs.Orders.{AreInOrder, IsOrderOf}
-use Rattle.sqs_messages.specs.Slots.{Shelved, is_numbered, restated}
+use Rattle.sqs_messages.specs.Slots.{Shelved, is_numbered, item_of, restated}
 use Rattle.sqs_messages.specs.Stored.{IsCounted}
 use Rattle.sqs_redrive.specs.declared.settings.QueueSettings.{QueueSettings}
 use Rattle.sqs_messages.specs.Tables.{AreKept, IsTable, queue_of}
@@ -39,15 +39,15 @@ pub restamped_told : (n : ℕ) (state : State) (due : Option Key) (items after :
 restamped_told n state due items after e = told_kept (changed (is_numbered n) (restamped state due) items) after e ∙ told_changed n (restamped state due) (restated state) (λ s. refl) items
 
 -- one more message, with what is due of it
-pub added_told : (items after : List Shelved) (m : Message) (due : Option Key) → map unhosted after ≡ map unhosted items ++ (m, due) ∷ [] → told after ≡ told items ++ m ∷ []
-added_told items after m due e =
-    let s : Shelved = record { message = m; mark = record { due = due; hosts = 0 } } in
+pub added_told : (items after : List Shelved) (m : Message) (due : Option Key) (place : ℕ) → map unhosted after ≡ map unhosted items ++ (m, due, place) ∷ [] → told after ≡ told items ++ m ∷ []
+added_told items after m due place e =
+    let s : Shelved = item_of (record { due = due; hosts = 0 }) place m in
     told_kept (items ++ s ∷ []) after (e ∙ sym (map-append unhosted items (s ∷ []))) ∙ map-append (λ (x : Shelved). x.message) items (s ∷ [])
 
-pub added_dues : (site retention : ℕ) (items after : List Shelved) (m : Message) (due : Option Key) → map unhosted after ≡ map unhosted items ++ (m, due) ∷ []
+pub added_dues : (site retention : ℕ) (items after : List Shelved) (m : Message) (due : Option Key) (place : ℕ) → map unhosted after ≡ map unhosted items ++ (m, due, place) ∷ []
     → ((s : Shelved) → s.message ≡ m → s.mark.due ≡ due → IsDue site retention s) → All (IsDue site retention) items → All (IsDue site retention) after
-added_dues site retention items after m due e is h =
-    let s : Shelved = record { message = m; mark = record { due = due; hosts = 0 } } in
+added_dues site retention items after m due place e is h =
+    let s : Shelved = item_of (record { due = due; hosts = 0 }) place m in
     dues_kept site retention (items ++ s ∷ []) after (e ∙ sym (map-append unhosted items (s ∷ []))) (All-push (IsDue site retention) items s h (is s refl refl))
 
 -- a table whose messages changed
@@ -58,8 +58,8 @@ still_kept site settings items after next end before order h same dues kind orde
 
 -- a table for which room was made, and to which one more message came
 module _
-    (inside : Inside) (q : Queue) (between after : List Shelved) (middle end : ℕ) (m : Message) (due : Option Key) (shows : queue_of inside ≡ q) (e : between ≡ inside.shelf.items) (f : middle ≡ inside.shelf.next)
-    (added : map unhosted after ≡ map unhosted between ++ (m, due) ∷ []) (g : end ≡ middle + 1)
+    (inside : Inside) (q : Queue) (between after : List Shelved) (middle end : ℕ) (m : Message) (due : Option Key) (place : ℕ) (shows : queue_of inside ≡ q) (e : between ≡ inside.shelf.items) (f : middle ≡ inside.shelf.next)
+    (added : map unhosted after ≡ map unhosted between ++ (m, due, place) ∷ []) (g : end ≡ middle + 1)
   where
     pub added_kept : (order : Order) → IsTable inside → IsCounted m → q.arrivals < most_count → due ≡ least (message_dues inside.site inside.settings.retention m) → IsOrderOf inside.settings.kind order → AreInOrder after end order
         → AreKept inside.site inside.settings after end order
@@ -67,7 +67,7 @@ module _
         record {
           settings_in_range = h.settings_in_range;
           arrivals_in_range = omega (arith, f, g, ap (λ (p : Queue). p.arrivals) shows, below);
-          dues = added_dues inside.site inside.settings.retention between after m due added
+          dues = added_dues inside.site inside.settings.retention between after m due place added
               (λ s is d. record {
                 due = d ∙ first ∙ ap (λ (x : Message). least (message_dues inside.site inside.settings.retention x)) (sym is);
                 counted = subst IsCounted (sym is) counted;
@@ -80,7 +80,7 @@ module _
     -- and what contracts see of it
     pub added_queue : record (queue_of inside) { records = told after; arrivals = end } ≡ with_message q m
     added_queue =
-        let records : told after ≡ told inside.shelf.items ++ m ∷ [] = added_told between after m due added ∙ ap (λ (xs : List Shelved). told xs ++ m ∷ []) e in
+        let records : told after ≡ told inside.shelf.items ++ m ∷ [] = added_told between after m due place added ∙ ap (λ (xs : List Shelved). told xs ++ m ∷ []) e in
         let next : end ≡ inside.shelf.next + 1 = g ∙ ap (λ n. n + 1) f in
         (λ j. let p : Queue = record (queue_of inside) { records = records j; arrivals = next j } in p)
         ∙ ap (λ (p : Queue). with_message p m) shows

@@ -229,8 +229,8 @@ begins_append : (xs zs : List Message) (m : Message) → begins (xs ++ zs) m ≡
 begins_append [] zs m e = refl
 begins_append (x ∷ xs) zs m e = e
 
--- after a message came that is marked as no leader, only the first of its group may be marked wrongly
-pub led_pushed : (items : List Shelved) (s : Shelved) → AreLed items → meets 1 s.mark ≡ false → All (IsLedBut (items ++ s ∷ []) s.message.group) (items ++ s ∷ [])
+-- after a message came that is marked as no leader or is the first of its group, only the first of its group may be marked wrongly
+pub led_pushed : (items : List Shelved) (s : Shelved) → AreLed items → (begins (of_group s.message.group (told (items ++ s ∷ []))) s.message ≡ false → meets 1 s.mark ≡ false) → All (IsLedBut (items ++ s ∷ []) s.message.group) (items ++ s ∷ [])
 led_pushed items s led off =
     All-push (IsLedBut (items ++ s ∷ []) s.message.group) items s (λ k d l. each (get_or items k d) (led k d l)) here
   where
@@ -241,7 +241,7 @@ led_pushed items s led off =
     itself = (same_text_decides s.message.group s.message.group).1 refl
 
     here : IsLedBut (items ++ s ∷ []) s.message.group s
-    here = record { other = λ o. let no : true ≡ false = sym itself ∙ o in cc; later = λ _. off }
+    here = record { other = λ o. let no : true ≡ false = sym itself ∙ o in cc; later = off }
 
     each : (x : Shelved) → meets 1 x.mark ≡ leads (told items) x.message → IsLedBut (items ++ s ∷ []) s.message.group x
     each x was =

@@ -1,10 +1,10 @@
 -- The places of groups in a table.
-use Rattle.std.proofs.Common.{◌≡◌, ℕ, suc, ◌+◌, ◌<◌, ◌≤◌, Bool, true, false, List, [], ◌∷◌, Option, None, Some, cond, length, map, not, set, get_or, arith, refl, ap, sym, ◌∙◌}
+use Rattle.std.proofs.Common.{◌≡◌, ℕ, suc, ◌+◌, ◌<◌, Bool, true, false, List, [], ◌∷◌, Option, None, Some, cond, length, map, not, set, get_or, arith, refl, ap, sym, ◌∙◌}
 use Rattle.std.specs.Prelude.{◌≢◌}
 use Rattle.std.specs.List.{position_or_len}
 use Rattle.std.specs.Option.{option_eq}
 use Rattle.std.specs.Str.{bytes_eq}
-use Rattle.std.proofs.lemmas.List.{get_or-map, get_or-set_other, get_or-set_same, get_or_past, length-map, map-set}
+use Rattle.std.proofs.lemmas.List.{get_or-map, get_or-set_other, get_or-set_same, length-map, map-set}
 use Rattle.sqs_model.specs.Queue.{same_text}
 use Rattle.sqs_model.specs.Texts.{same_text_decides}
 use Rattle.sqs_messages.specs.declared.groups.members.Members.{Members}
@@ -48,7 +48,3 @@ apart names g h l n e =
     let equal : g ≡ h = one ∙ ap (λ i. get_or names i g) (sym e) ∙ sym other in
     let yes : same_text g h ≡ true = (same_text_decides g h).1 equal in
     cc
-
--- a group that is not in the table has no messages
-pub group_past : (groups : List Members) (i : ℕ) → length groups ≤ i → group_at groups i ≡ nobody
-group_past groups i l = get_or_past (map kept groups) i nobody (omega (arith, length-map groups kept))

@@ -1,18 +1,19 @@
 -- A shelf with one more place, and one without its empty places.
-use Rattle.std.proofs.Common.{◌≡◌, ℕ, ◌+◌, ◌<◌, Bool, true, false, List, [], ◌∷◌, ◌++◌, Option, Some, None, arith, refl, ap, subst, sym, ◌∙◌}
+use Rattle.std.proofs.Common.{◌≡◌, ℕ, zero, suc, ◌+◌, ◌<◌, Bool, true, false, List, [], ◌∷◌, ◌++◌, Option, Some, None, arith, refl, ap, subst, sym, ◌∙◌}
 use Rattle.std.specs.Prelude.{Err, Ok, OnErr, OnOk, Result, is_some}
 use Rattle.std.specs.List.{AllZip, cons_option, items_where_true}
 use Rattle.std.specs.Option.{option_map}
 use Rattle.std.proofs.lemmas.List.Elements.{All-filter, All-push, All-weaker}
 use Rattle.sim_index.specs.declared.mark.Mark.{Mark}
 use Rattle.sim_index.specs.Marked.{IsPicked, Marked}
+use Rattle.sim_index.specs.Marks.{no_mark, node}
 use Rattle.sim_index.proofs.Picked.{asked_more, picked_values}
 use Rattle.sqs_message.specs.declared.message.Message.{Message}
 use Rattle.sqs_model.proofs.Counts.{ascends_lower, ascends_push}
 use Rattle.sqs_model.specs.Progress.{Ascends}
 use Rattle.sqs_messages.specs.declared.slot.Slot.{Slot}
 use Rattle.sqs_messages.specs.Shelves.{AreShelf}
-use Rattle.sqs_messages.specs.Slots.{IsNamed, Shelved, shelved, shown}
+use Rattle.sqs_messages.specs.Slots.{IsNamed, Shelved, item_of, shelved, shown}
 
 items_push : (slots : List Slot) (marks : List Mark) (y : Slot) (m : Mark) → AllZip IsNamed slots marks → shelved (slots ++ y ∷ []) (marks ++ m ∷ []) ≡ shelved slots marks ++ cons_option (shown m y) []
 items_push [] [] y m h = refl
@@ -38,9 +39,25 @@ module _ (list news : Marked Slot) (next : ℕ) (y : Slot) (m : Mark) (h : AreSh
   pub pushed_items : shelved news.values news.marks ≡ shelved list.values list.marks ++ cons_option (shown m y) []
   pushed_items = (λ j. shelved (values j) (marks j)) ∙ items_push list.values list.marks y m h.named
 
-none_shown : (o : Option Message) (mark : Mark) (items : List Shelved) → false ≡ is_some o → items ≡ cons_option (option_map (λ m. let s : Shelved = record { message = m; mark = mark } in s) o) items
-none_shown None mark items e = refl
-none_shown (Some m) mark items e = cc
+none_shown : (o : Option Message) (mark : Mark) (group : ℕ) (items : List Shelved) → false ≡ is_some o → items ≡ cons_option (option_map (item_of mark group) o) items
+none_shown None mark group items e = refl
+none_shown (Some m) mark group items e = cc
+
+no_message : (o : Option Message) (mark : Mark) (group : ℕ) (items : List Shelved) → cons_option (option_map (item_of mark group) o) items ≡ [] → o ≡ None
+no_message None mark group items e = refl
+no_message (Some m) mark group items e = cc
+
+none_behind : (o : Option Shelved) (items : List Shelved) → cons_option o items ≡ [] → items ≡ []
+none_behind None items e = e
+none_behind (Some s) items e = cc
+
+-- places in which no message stands have no marks
+pub unmarked : (slots : List Slot) (marks : List Mark) → AllZip IsNamed slots marks → shelved slots marks ≡ [] → (i : ℕ) → node marks i ≡ no_mark
+unmarked [] [] h e i = refl
+unmarked [] (m ∷ marks) h e i = absurd h
+unmarked (s ∷ slots) [] h e i = absurd h
+unmarked (s ∷ slots) (m ∷ marks) h e zero = h.0.empty (no_message s.message m s.group (shelved slots marks) e)
+unmarked (s ∷ slots) (m ∷ marks) h e (suc i) = unmarked slots marks h.1 (none_behind (shown m s) (shelved slots marks) e) i
 
 -- the places that stay, where each is asked whether a message stands there
 module _ (answers : Slot → Bool → Type 0) (told : (s : Slot) (b : Bool) → answers s b → b ≡ is_some s.message) where
@@ -65,7 +82,7 @@ module _ (answers : Slot → Bool → Type 0) (told : (s : Slot) (b : Bool) → 
   kept_shelved bs [] (m ∷ marks) a h = absurd h
   kept_shelved bs (s ∷ slots) [] a h = absurd h
   kept_shelved (true ∷ bs) (s ∷ slots) (m ∷ marks) a h = ap (cons_option (shown m s)) (kept_shelved bs slots marks a.1 h.1)
-  kept_shelved (false ∷ bs) (s ∷ slots) (m ∷ marks) a h = kept_shelved bs slots marks a.1 h.1 ∙ none_shown s.message m (shelved slots marks) (told s false a.0)
+  kept_shelved (false ∷ bs) (s ∷ slots) (m ∷ marks) a h = kept_shelved bs slots marks a.1 h.1 ∙ none_shown s.message m s.group (shelved slots marks) (told s false a.0)
 
   -- or nothing is changed
   pub kept : {T E : Type 0} (result : Result T E) (old new : Marked Slot) (next : ℕ) → AreShelf old next → OnOk result (IsPicked answers old new) → OnErr result (new ≡ old)

@@ -21,9 +21,9 @@ pub record IsSettled (items after : List Shelved) (g : Option (List ℕ)) (was i
   pub led : All (IsLedBut items g) items → held items (old g).numbers ≡ of_group g (told items) → (new g).out ≡ out_of g (told items) → AreLed after
 
 pub told_kept : (items after : List Shelved) → map unhosted after ≡ map unhosted items → told after ≡ told items
-told_kept items after e = sym (firsts after) ∙ ap (map (λ (p : Message × Option Key). p.0)) e ∙ firsts items
+told_kept items after e = sym (firsts after) ∙ ap (map (λ (p : Message × Option Key × ℕ). p.0)) e ∙ firsts items
   where
-    firsts : (xs : List Shelved) → map (λ (p : Message × Option Key). p.0) (map unhosted xs) ≡ told xs
+    firsts : (xs : List Shelved) → map (λ (p : Message × Option Key × ℕ). p.0) (map unhosted xs) ≡ told xs
     firsts [] = refl
     firsts (x ∷ xs) = ap (λ ys. x.message ∷ ys) (firsts xs)
 

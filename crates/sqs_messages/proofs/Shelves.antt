@@ -17,7 +17,7 @@ use Rattle.sqs_message.specs.declared.message.Message.{Message}
 use Rattle.sqs_model.specs.Progress.{Ascends}
 use Rattle.sqs_messages.specs.declared.slot.Slot.{Slot}
 use Rattle.sqs_messages.specs.Shelves.{AreShelf}
-use Rattle.sqs_messages.specs.Slots.{AreOrdered, IsNamed, IsOff, IsOn, Shelved, is_numbered, shelved, shown, with_hosts}
+use Rattle.sqs_messages.specs.Slots.{AreOrdered, IsNamed, IsOff, IsOn, Shelved, is_numbered, item_of, shelved, shown, with_hosts}
 use Rattle.sqs_messages.proofs.Firsts.{skip_changed, skip_find, skip_without}
 
 -- two lists whose elements are alike place by place: at one, and with others there
@@ -92,7 +92,7 @@ module _ (picks : Shelved → Bool) (slots : List Slot) (marks : List Mark) (i :
   pub rest_first : (y : Slot) (m : Mark) → y.message ≡ None → shelved (set slots i y) (set marks i m) ≡ without picks (shelved slots marks)
   rest_first y m e =
       shown_with i slots marks y m l k
-      ∙ ap (λ (o : Option Message). front ++ cons_option (option_map (λ n. let t : Shelved = record { message = n; mark = m } in t) o) back) e
+      ∙ ap (λ (o : Option Message). front ++ cons_option (option_map (item_of m y.group) o) back) e
       ∙ sym (ap (without picks) whole ∙ skip_without picks front (s ∷ back) none ∙ ap (λ b. front ++ (if b then back else s ∷ without picks back)) picked)
 
   pub change_first : (f : Shelved → Shelved) (y : Slot) (m : Mark) → shown m y ≡ Some (f s) → shelved (set slots i y) (set marks i m) ≡ changed picks f (shelved slots marks)
@@ -102,15 +102,15 @@ module _ (picks : Shelved → Bool) (slots : List Slot) (marks : List Mark) (i :
       ∙ sym (ap (changed picks f) whole ∙ skip_changed picks f front (s ∷ back) none ∙ ap (λ b. front ++ (if b then f s ∷ back else s ∷ changed picks f back)) picked)
 
 -- a message that stands in a place, but not in one of this number
-other_by : (n k : ℕ) (mark : Mark) (o : Option Message) → IfSome o (λ m. m.number ≡ k) → (k ≡ n → o ≡ None) → IfSome (option_map (λ m. let s : Shelved = record { message = m; mark = mark } in s) o) (λ s. is_numbered n s ≡ false)
-other_by n k mark None h e = tt
-other_by n k mark (Some m) h e = let other : m.number ≢ n = λ same. let none : Some m ≡ None = e (sym h ∙ same) in cc in grind (arith, nat_tests, other)
+other_by : (n k : ℕ) (mark : Mark) (group : ℕ) (o : Option Message) → IfSome o (λ m. m.number ≡ k) → (k ≡ n → o ≡ None) → IfSome (option_map (item_of mark group) o) (λ s. is_numbered n s ≡ false)
+other_by n k mark group None h e = tt
+other_by n k mark group (Some m) h e = let other : m.number ≢ n = λ same. let none : Some m ≡ None = e (sym h ∙ same) in cc in grind (arith, nat_tests, other)
 
 pub some_in : (o : Option Message) → IsSome o → (m : Message) × (o ≡ Some m)
 some_in None h = cc
 some_in (Some m) h = (m, refl)
 
-named_some : (o : Option Message) (m : Message) (k : ℕ) → o ≡ Some m → IfSome o (λ m. m.number ≡ k) → m.number ≡ k
+pub named_some : (o : Option Message) (m : Message) (k : ℕ) → o ≡ Some m → IfSome o (λ m. m.number ≡ k) → m.number ≡ k
 named_some None m k e h = cc
 named_some (Some o) m k e h = let same : o ≡ m = cc in ap (λ (m : Message). m.number) (sym same) ∙ h
 
@@ -129,10 +129,10 @@ module _ {list : Marked Slot} {next n i : ℕ} {x : Slot} {slots : List Slot} (h
   there = some_in x.message (subst (λ (s : Slot). IsSome s.message) (sym read) (at.there x))
 
   abbrev here : Shelved
-  here = record { message = there.0; mark = node list.marks i }
+  here = item_of (node list.marks i) x.group there.0
 
   shows : shown (node list.marks i) x ≡ Some here
-  shows = ap (option_map (λ m. let s : Shelved = record { message = m; mark = node list.marks i } in s)) there.1
+  shows = ap (option_map (item_of (node list.marks i) x.group)) there.1
 
   named : IsNamed x (node list.marks i)
   named = subst (λ (s : Slot). IsNamed s (node list.marks i)) (sym read) (zip_at IsNamed list.values list.marks i x no_mark h.named at.within)
@@ -150,13 +150,13 @@ module _ {list : Marked Slot} {next n i : ℕ} {x : Slot} {slots : List Slot} (h
   before j d l u =
       let s : Slot = get_or list.values j d in
       let other : s.number ≢ n = at.first j d l in
-      other_by n s.number (node list.marks j) s.message (zip_at IsNamed list.values list.marks j d no_mark h.named u).number (λ e. absurd (other e))
+      other_by n s.number (node list.marks j) s.group s.message (zip_at IsNamed list.values list.marks j d no_mark h.named u).number (λ e. absurd (other e))
 
   pub found : find (is_numbered n) (shelved list.values list.marks) ≡ shown (node list.marks i) x
   found = find_first (is_numbered n) list.values list.marks i x here at.within marked (sym read) shows picked before ∙ sym shows
 
   -- and another in place of it
-  module _ {news : Marked Slot} {y : Slot} (m : Mark) (same : y.number ≡ x.number) (is : news ≡ record list { values = set list.values i y; marks = set list.marks i m }) where
+  module _ {news : Marked Slot} {y : Slot} (m : Mark) (same : y.number ≡ x.number) (group : y.group ≡ x.group) (is : news ≡ record list { values = set list.values i y; marks = set list.marks i m }) where
     set_shelf : IsNamed y m → AreShelf news next
     set_shelf whole =
         let number : (d : Slot) → i < length list.values → y.number ≡ (get_or list.values i d).number = λ d l. same ∙ ap (λ (s : Slot). s.number) read ∙ at.number x ∙ sym (at.number d) in
@@ -183,12 +183,12 @@ module _ {list : Marked Slot} {next n i : ℕ} {x : Slot} {slots : List Slot} (h
           empty = λ none. let no : Some (g there.0) ≡ None = sym (some g e) ∙ none in cc;
         })
 
-    pub changed_items : (g : Message → Message) (f : Shelved → Shelved) → ((o : Message) → f (record { message = o; mark = node list.marks i }) ≡ record { message = g o; mark = m }) → y.message ≡ option_map g x.message
+    pub changed_items : (g : Message → Message) (f : Shelved → Shelved) → ((o : Message) → f (item_of (node list.marks i) x.group o) ≡ item_of m x.group (g o)) → y.message ≡ option_map g x.message
         → shelved news.values news.marks ≡ changed (is_numbered n) f (shelved list.values list.marks)
     changed_items g f alike e =
         (λ j. shelved (is j).values (is j).marks)
         ∙ change_first (is_numbered n) list.values list.marks i x here at.within marked (sym read) shows picked before f y m
-        (ap (option_map (λ o. let s : Shelved = record { message = o; mark = m } in s)) (some g e) ∙ ap Some (sym (alike there.0)))
+        ((λ j. option_map (item_of m (group j)) (some g e j)) ∙ ap Some (sym (alike there.0)))
 
 same_message : (o : Option Message) → o ≡ option_map (λ m. m) o
 same_message None = refl
@@ -197,7 +197,7 @@ same_message (Some o) = refl
 -- the message of a number, with other hosts in its mark
 module _ {list news : Marked Slot} {next n i : ℕ} {slots : List Slot} (m : Mark) (h : AreShelf list next) (on : IsOn slots n i) (told : slots ≡ list.values) (is : news ≡ record list { marks = set list.marks i m }) where
   abbrev nothing : Slot
-  nothing = record { number = 0; message = None }
+  nothing = record { number = 0; group = 0; message = None }
 
   read : get_or list.values i nothing ≡ get_or list.values i (get_or list.values i nothing)
   read = get_or_default list.values i nothing (get_or list.values i nothing) (subst (λ (xs : List Slot). i < length xs) told on.within)
@@ -206,11 +206,11 @@ module _ {list news : Marked Slot} {next n i : ℕ} {slots : List Slot} (m : Mar
   put = is ∙ ap (λ (xs : List Slot). let l : Marked Slot = record list { values = xs; marks = set list.marks i m } in l) (sym (set-get_or list.values i nothing))
 
   pub marked_shelf : AreShelf news next
-  marked_shelf = changed_shelf h on told read m refl put (λ o. o) (λ o. refl) (same_message (get_or list.values i nothing).message)
+  marked_shelf = changed_shelf h on told read m refl refl put (λ o. o) (λ o. refl) (same_message (get_or list.values i nothing).message)
 
   pub marked_items : (hosts : ℕ) → m ≡ record { due = (node list.marks i).due; hosts = hosts } → shelved news.values news.marks ≡ changed (is_numbered n) (with_hosts hosts) (shelved list.values list.marks)
   marked_items hosts e =
-      changed_items h on told read m refl put (λ o. o) (with_hosts hosts) (λ o. ap (λ (k : Mark). let s : Shelved = record { message = o; mark = k } in s) (sym e)) (same_message (get_or list.values i nothing).message)
+      changed_items h on told read m refl refl put (λ o. o) (with_hosts hosts) (λ o. ap (λ (k : Mark). item_of k (get_or list.values i nothing).group o) (sym e)) (same_message (get_or list.values i nothing).message)
 
 -- numbers that go up, place by place
 above : (low : ℕ) (slots : List Slot) → Ascends (λ s. s.number) low slots → All (λ s. low ≤ s.number) slots
@@ -269,5 +269,5 @@ off_from slots n p o f here k d l e =
 pub none_numbered : {list : Marked Slot} {next n : ℕ} {slots : List Slot} → AreShelf list next → IsOff slots n → slots ≡ list.values → All (λ b. is_numbered n b ≡ false) (shelved list.values list.marks)
 none_numbered {list = list} {n = n} h off told =
     all_shelved (λ b. is_numbered n b ≡ false) list.values list.marks
-    (λ k d l. let s : Slot = get_or list.values k d in other_by n s.number (node list.marks k) s.message (zip_at IsNamed list.values list.marks k d no_mark h.named l).number
+    (λ k d l. let s : Slot = get_or list.values k d in other_by n s.number (node list.marks k) s.group s.message (zip_at IsNamed list.values list.marks k d no_mark h.named l).number
     (subst (λ (xs : List Slot). IsOff xs n) told off k d l))

@@ -12,6 +12,7 @@ skipped items next (orders.Hosts hosts) h = h
 skipped items next (orders.Groups groups) h =
     record {
       led = h.led;
+      placed = h.placed;
       same = h.same;
       grouped = λ g. record {
         listed = (h.grouped g).listed;

@@ -12,7 +12,8 @@ use Rattle.sqs_message.specs.declared.message.Message.{Message}
 use Rattle.sqs_model.specs.Progress.{Ascends}
 use Rattle.sqs_messages.specs.declared.slot.Slot.{Slot}
 use Rattle.sqs_messages.specs.Shelves.{AreShelf}
-use Rattle.sqs_messages.specs.Slots.{IsNamed, Shelved, number_of, shelved}
+use Rattle.sqs_messages.specs.Slots.{IsNamed, Shelved, item_of, number_and_group, number_of, shelved}
+use Rattle.sqs_messages.proofs.Firsts.{none_of, some_of}
 use Rattle.sqs_messages.proofs.Leads.{find_has}
 use Rattle.sqs_messages.proofs.Marked.{wanted}
 use Rattle.sqs_messages.proofs.Shelves.{all_shelved, zip_at}
@@ -25,15 +26,15 @@ pub above : (low : ℕ) (xs : List Shelved) → Ascends number_of low xs → All
 above low [] h = All-nil (λ (s : Shelved). low ≤ number_of s)
 above low (x ∷ xs) h = All-cons (λ (s : Shelved). low ≤ number_of s) x xs h.0 (All-weaker (λ (s : Shelved). number_of x + 1 ≤ number_of s) (λ (s : Shelved). low ≤ number_of s) (λ s l. omega (arith, h.0)) xs (above (number_of x + 1) xs h.1))
 
-shown_ascends : (low : ℕ) (mark : Mark) (n : ℕ) (o : Option Message) (rest : List Shelved) → IfSome o (λ m. m.number ≡ n) → low ≤ n → Ascends number_of (n + 1) rest
-    → Ascends number_of low (cons_option (option_map (λ m. let s : Shelved = record { message = m; mark = mark } in s) o) rest)
-shown_ascends low mark n None rest h l r = lower low (n + 1) rest (omega arith) r
-shown_ascends low mark n (Some m) rest h l r = (omega (arith, h), lower (m.number + 1) (n + 1) rest (omega (arith, h)) r)
+shown_ascends : (low : ℕ) (mark : Mark) (group n : ℕ) (o : Option Message) (rest : List Shelved) → IfSome o (λ m. m.number ≡ n) → low ≤ n → Ascends number_of (n + 1) rest
+    → Ascends number_of low (cons_option (option_map (item_of mark group) o) rest)
+shown_ascends low mark group n None rest h l r = lower low (n + 1) rest (omega arith) r
+shown_ascends low mark group n (Some m) rest h l r = (omega (arith, h), lower (m.number + 1) (n + 1) rest (omega (arith, h)) r)
 
 items_ascend : (low : ℕ) (slots : List Slot) (marks : List Mark) → AllZip IsNamed slots marks → Ascends (λ s. s.number) low slots → Ascends number_of low (shelved slots marks)
 items_ascend low [] marks h a = tt
 items_ascend low (s ∷ slots) [] h a = absurd h
-items_ascend low (s ∷ slots) (m ∷ marks) h a = shown_ascends low m s.number s.message (shelved slots marks) h.0.number a.0 (items_ascend (s.number + 1) slots marks h.1 a.1)
+items_ascend low (s ∷ slots) (m ∷ marks) h a = shown_ascends low m s.group s.number s.message (shelved slots marks) h.0.number a.0 (items_ascend (s.number + 1) slots marks h.1 a.1)
 
 pub shelf_ascends : (list : Marked Slot) (next : ℕ) → AreShelf list next → Ascends number_of 0 (shelved list.values list.marks)
 shelf_ascends list next h = items_ascend 0 list.values list.marks h.named h.ordered
@@ -42,11 +43,11 @@ shelf_ascends list next h = items_ascend 0 list.values list.marks h.named h.orde
 pub shelf_below : (list : Marked Slot) (next : ℕ) → AreShelf list next → All (λ s. number_of s < next) (shelved list.values list.marks)
 shelf_below list next h =
     all_shelved (λ (s : Shelved). number_of s < next) list.values list.marks
-    (λ k d l. let s : Slot = get_or list.values k d in by s.message (node list.marks k) s.number (zip_at IsNamed list.values list.marks k d no_mark h.named l).number (h.below k d l))
+    (λ k d l. let s : Slot = get_or list.values k d in by s.message (node list.marks k) s.group s.number (zip_at IsNamed list.values list.marks k d no_mark h.named l).number (h.below k d l))
   where
-    by : (o : Option Message) (mark : Mark) (n : ℕ) → IfSome o (λ m. m.number ≡ n) → n < next → IfSome (option_map (λ m. let s : Shelved = record { message = m; mark = mark } in s) o) (λ (s : Shelved). number_of s < next)
-    by None mark n e l = tt
-    by (Some m) mark n e l = omega (arith, e)
+    by : (o : Option Message) (mark : Mark) (group n : ℕ) → IfSome o (λ m. m.number ≡ n) → n < next → IfSome (option_map (item_of mark group) o) (λ (s : Shelved). number_of s < next)
+    by None mark group n e l = tt
+    by (Some m) mark group n e l = omega (arith, e)
 
 later : (from hosts : ℕ) (s : Shelved) → number_of s < from → wanted from hosts s ≡ false
 later from hosts s l = let t : nat_le from s.message.number ≡ false = grind (arith, nat_tests) in ap (λ b. b && meets hosts s.mark) t
@@ -131,32 +132,25 @@ chosen_none items hosts most numbers e =
     zero_less : (n : ℕ) → n - 0 ≡ n
     zero_less n = omega arith
 
-some_of : (o : Option Shelved) (m : Message) → Some m ≡ option_map (λ (s : Shelved). s.message) o → (s : Shelved) × (o ≡ Some s) × (s.message ≡ m)
-some_of None m e = cc
-some_of (Some s) m e = (s, refl, cc)
-
-none_of : (o : Option Shelved) → None ≡ option_map (λ (s : Shelved). s.message) o → o ≡ None
-none_of None e = refl
-none_of (Some s) e = cc
-
-pub chosen_more : (items : List Shelved) (hosts most i from : ℕ) (numbers : List ℕ) (m : Message) → Ascends number_of 0 items → i < most → Some m ≡ option_map (λ (s : Shelved). s.message) (find (wanted from hosts) items)
-    → IsChosen items hosts most i from numbers → IsChosen items hosts most (i + 1) (m.number + 1) (numbers ++ m.number ∷ [])
-chosen_more items hosts most i from numbers m a l e h =
-    let s = some_of (find (wanted from hosts) items) m e in
-    let rest : List Shelved = filter (wanted (m.number + 1) hosts) items in
-    let next : filter (wanted from hosts) items ≡ s.0 ∷ rest = filter_next from hosts 0 items s.0 a s.1 ∙ ap (λ (x : Message). s.0 ∷ filter (wanted (x.number + 1) hosts) items) s.2 in
+pub chosen_more : (items : List Shelved) (hosts most i from : ℕ) (numbers : List ℕ) (number group : ℕ) → Ascends number_of 0 items → i < most → Some (number, group) ≡ option_map number_and_group (find (wanted from hosts) items)
+    → IsChosen items hosts most i from numbers → IsChosen items hosts most (i + 1) (number + 1) (numbers ++ number ∷ [])
+chosen_more items hosts most i from numbers number group a l e h =
+    let s = some_of number_and_group (find (wanted from hosts) items) (number, group) e in
+    let n : number_of s.0 ≡ number = ap (λ (p : ℕ × ℕ). p.0) s.2 in
+    let rest : List Shelved = filter (wanted (number + 1) hosts) items in
+    let next : filter (wanted from hosts) items ≡ s.0 ∷ rest = filter_next from hosts 0 items s.0 a s.1 ∙ ap (λ k. s.0 ∷ filter (wanted (k + 1) hosts) items) n in
     let count : most - i ≡ suc (most - (i + 1)) = omega arith in
-    append_assoc numbers (m.number ∷ []) (map number_of (take (most - (i + 1)) rest))
-    ∙ ap (λ (x : Message). numbers ++ (x.number ∷ map number_of (take (most - (i + 1)) rest))) (sym s.2)
+    append_assoc numbers (number ∷ []) (map number_of (take (most - (i + 1)) rest))
+    ∙ ap (λ k. numbers ++ (k ∷ map number_of (take (most - (i + 1)) rest))) (sym n)
     ∙ sym (ap (λ k. numbers ++ map number_of (take k (filter (wanted from hosts) items))) count ∙ ap (λ ys. numbers ++ map number_of (take (suc (most - (i + 1))) ys)) next)
     ∙ h
 
-pub chosen_end : (items : List Shelved) (hosts most i from : ℕ) (numbers : List ℕ) → None ≡ option_map (λ (s : Shelved). s.message) (find (wanted from hosts) items)
+pub chosen_end : (items : List Shelved) (hosts most i from : ℕ) (numbers : List ℕ) → None ≡ option_map number_and_group (find (wanted from hosts) items)
     → IsChosen items hosts most i from numbers → numbers ≡ map number_of (take most (filter (λ s. meets hosts s.mark) items))
 chosen_end items hosts most i from numbers e h =
     sym (append-nil numbers)
     ∙ ap (λ ys. numbers ++ map number_of ys) (sym (take_nil (most - i)))
-    ∙ ap (λ ys. numbers ++ map number_of (take (most - i) ys)) (sym (filter_none (wanted from hosts) items (none_of (find (wanted from hosts) items) e)))
+    ∙ ap (λ ys. numbers ++ map number_of (take (most - i) ys)) (sym (filter_none (wanted from hosts) items (none_of number_and_group (find (wanted from hosts) items) e)))
     ∙ h
   where
     take_nil : (n : ℕ) → take {A = Shelved} n [] ≡ []
@@ -167,9 +161,3 @@ pub chosen_all : (items : List Shelved) (hosts most i from : ℕ) (numbers : Lis
 chosen_all items hosts most i from numbers l h =
     let none : most - i ≡ 0 = omega arith in
     sym (append-nil numbers) ∙ ap (λ k. numbers ++ map number_of (take k (filter (wanted from hosts) items))) (sym none) ∙ h
-
--- what is read of a message that may be there
-pub read_bound : {A : Type 0} (f : A → Message) (r : Option A) (o : Option Message) (n end : ℕ) → option_map f r ≡ o → IfSome o (λ m. m.number ≡ n) → n < end → IfSome r (λ x. (f x).number < end)
-read_bound f None o n end e h l = tt
-read_bound f (Some x) None n end e h l = cc
-read_bound f (Some x) (Some m) n end e h l = let same : f x ≡ m = cc in let k : (f x).number ≡ n = ap (λ (y : Message). y.number) same ∙ h in omega (arith, k)

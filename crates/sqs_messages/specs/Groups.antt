@@ -56,9 +56,15 @@ pub record IsGrouped (items : List Shelved) (next : ℕ) (g : Option (List ℕ))
 abbrev pub AreGrouped : List Shelved → ℕ → List (Option (List ℕ)) → List Members → Type 0
 AreGrouped items next names groups = (g : Option (List ℕ)) → IsGrouped items next g (group_by names groups g)
 
--- each first message that leads is marked, and the table tells of each group
+-- the place at which a group's name stands
+pub record IsPlaceOf (names : List (Option (List ℕ))) (g : Option (List ℕ)) (i : ℕ) : Type 0 where
+  pub at : i ≡ place_by names g
+  pub within : i < length names
+
+-- each first message that leads is marked, each message stands with the place of its group, and the table tells of each group
 pub record AreInGroups (items : List Shelved) (next : ℕ) (names : List (Option (List ℕ))) (groups : List Members) : Type 0 where
   pub led : AreLed items
+  pub placed : All (λ s. IsPlaceOf names s.message.group s.group) items
   pub same : length names ≡ length groups
   pub grouped : AreGrouped items next names groups
 

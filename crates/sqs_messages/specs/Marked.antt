@@ -26,9 +26,9 @@ pub record IsDue (site retention : ℕ) (s : Shelved) : Type 0 where
   pub counted : IsCounted s.message
 
 -- what a message has but for its hosts
-abbrev pub unhosted : Shelved → Message × Option Key
-unhosted s = (s.message, s.mark.due)
+abbrev pub unhosted : Shelved → Message × Option Key × ℕ
+unhosted s = (s.message, s.mark.due, s.group)
 
 -- a message with another state, and what is due of it then, on no host
 abbrev pub restamped : State → Option Key → Shelved → Shelved
-restamped state due s = record { message = restated state s.message; mark = record { due = due; hosts = 0 } }
+restamped state due s = record s { message = restated state s.message; mark = record { due = due; hosts = 0 } }

@@ -1,9 +1,9 @@
 -- What the order keeps in which a queue gives its messages: by their hosts at a standard queue, by their groups at a
 -- FIFO queue.
-use Rattle.std.specs.Prelude.{◌≡◌, All, List, Option, length, ℕ, ◌<◌, ◌≤◌}
+use Rattle.std.specs.Prelude.{◌≡◌, All, List, Option, ℕ, ◌≤◌}
 use Rattle.sqs_redrive.specs.declared.settings.Kind.{Kind}
 use Rattle.sqs_redrive.specs.declared.settings.Kind.TheVariants as kinds
-use Rattle.sqs_messages.specs.Groups.{AreInGroups, HasRoomAt, place_by}
+use Rattle.sqs_messages.specs.Groups.{AreInGroups, HasRoomAt, IsPlaceOf}
 use Rattle.sqs_messages.specs.Marked.{IsHosted}
 use Rattle.sqs_messages.specs.Slots.{Shelved}
 use Rattle.sqs_messages.specs.declared.groups.Groups.{Groups}
@@ -30,8 +30,7 @@ AreInOrder items next (orders.Groups groups) = AreInGroups items next groups.nam
 
 -- the place of a group whose list has room for one more number
 pub record IsPlaced (groups : Groups) (group : Option (List ℕ)) (place : ℕ) : Type 0 where
-  pub at : place ≡ place_by groups.names.keys group
-  pub within : place < length groups.members.items
+  pub at : IsPlaceOf groups.names.keys group place
   pub room : HasRoomAt groups.members.items place
 
 -- whether there is room for one more message of a group

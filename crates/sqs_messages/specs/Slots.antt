@@ -6,17 +6,23 @@ use Rattle.sim_index.specs.declared.mark.Mark.{Mark}
 use Rattle.sim_index.specs.Marks.{no_mark}
 use Rattle.sqs_model.specs.Progress.{Ascends}
 use Rattle.sqs_message.specs.declared.message.Message.{Message}
+use Rattle.sqs_message.specs.declared.message.Place.{Place}
 use Rattle.sqs_messages.specs.declared.slot.Slot.{Slot}
 use Rattle.sqs_messages.specs.declared.slot.State.{State}
 
--- a message with its mark
+-- a message with its mark, and the place of its group where the queue goes by groups
 pub record Shelved : Type 0 where
   pub message : Message
   pub mark : Mark
+  pub group : ℕ
+
+-- a message with this mark and place of its group
+abbrev pub item_of : Mark → ℕ → Message → Shelved
+item_of mark group m = record { message = m; mark = mark; group = group }
 
 -- what stands in a place that has this mark
 abbrev pub shown : Mark → Slot → Option Shelved
-shown mark s = option_map (λ m. record { message = m; mark = mark }) s.message
+shown mark s = option_map (item_of mark s.group) s.message
 
 -- what stands in places, each with its mark
 abbrev pub shelved : List Slot → List Mark → List Shelved
@@ -65,6 +71,16 @@ pub record IsOn (slots : List Slot) (n i : ℕ) : Type 0 where
 -- the number of a message with its mark
 abbrev pub number_of : Shelved → ℕ
 number_of s = s.message.number
+
+-- what is told of a message with the place of its group: its number, where it stands, or all of it
+abbrev pub number_and_group : Shelved → ℕ × ℕ
+number_and_group s = (s.message.number, s.group)
+
+abbrev pub place_and_group : Shelved → Place × ℕ
+place_and_group s = (s.message.place, s.group)
+
+abbrev pub message_and_group : Shelved → Message × ℕ
+message_and_group s = (s.message, s.group)
 
 -- a message whose mark tells of other hosts
 abbrev pub with_hosts : ℕ → Shelved → Shelved

@@ -12,7 +12,7 @@ ghost use Rattle.sqs_messages.specs.Slots.{is_numbered, message_of};
 use crate::shelf::Shelf;
 use crate::slot::State;
 use indexmap::IndexSet;
-use members::{Members, in_flight, moved, place_of};
+use members::{Members, in_flight, moved};
 use sim_clock::Key;
 use sim_index::Mark;
 use sqs_message::{Message, Text};
@@ -53,12 +53,9 @@ impl Groups {
         ensures next { shelf.new.next ≡ shelf.old.next }
     {
         let _next = shelf.number();
-        let Some(message) = shelf.remove(number) else {
-            return None;
-        };
-        let index = place_of(&self.names, &message.group);
+        let (message, place) = shelf.remove(number)?;
         let groups = self.members.as_mut_slice();
-        moved(shelf, groups, index, in_flight(message.place), false);
+        moved(shelf, groups, place, in_flight(message.place), false);
         Some(message)
     }
 
@@ -71,15 +68,10 @@ impl Groups {
         ensures next { shelf.new.next ≡ shelf.old.next }
     {
         let _next = shelf.number();
-        let Some(message) = shelf.get(number) else {
+        let Some((was, place)) = shelf.put(number, state, Mark { due, hosts: 0 }) else {
             return;
         };
-        let index = place_of(&self.names, &message.group);
-        let was = in_flight(message.place);
-        let is = in_flight(state.place);
-        shelf.put(number, state, Mark { due, hosts: 0 });
-        let _after = shelf.number();
         let groups = self.members.as_mut_slice();
-        moved(shelf, groups, index, was, is);
+        moved(shelf, groups, place, in_flight(was), in_flight(state.place));
     }
 }

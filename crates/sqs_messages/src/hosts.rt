@@ -15,6 +15,7 @@ use crate::shelf::Shelf;
 use crate::slot::State;
 use sim_clock::Key;
 use sim_index::Mark;
+use smallvec::SmallVec;
 use sqs_message::{Message, Place};
 use std::alloc::{AllocError, Global};
 
@@ -31,17 +32,18 @@ fn host_bit(hosts: u64, number: u64, place: Place) -> u32
 }
 
 /// One more message, for which there is room, with what is due of it, marked with its host of so many.
-pub fn add(hosts: u64, shelf: &mut Shelf, message: Message, due: Option<Key>)
+/// The place of its group is kept with it.
+pub fn add(hosts: u64, shelf: &mut Shelf, place: usize, message: Message, due: Option<Key>)
     requires hosted { AreOnHosts hosts shelf.old.items }
     requires ready { shelf.old.ready ≡ true }
     requires number { message.number ≡ shelf.old.next }
     requires range { shelf.old.next + 1 < 2 ^ 64 }
     ensures hosted { AreOnHosts hosts shelf.new.items }
-    ensures added { map unhosted shelf.new.items ≡ map unhosted shelf.old.items ++ (message, due) ∷ [] }
+    ensures added { map unhosted shelf.new.items ≡ map unhosted shelf.old.items ++ (message, due, place) ∷ [] }
     ensures next { shelf.new.next ≡ shelf.old.next + 1 }
 {
     let host = host_bit(hosts, message.number, message.place);
-    let Ok(()) = shelf.push(message, Mark { due, hosts: host }) else {
+    let Ok(()) = shelf.push(message, place, Mark { due, hosts: host }) else {
         unreachable!();
     };
 }
@@ -55,7 +57,7 @@ pub fn put(hosts: u64, shelf: &mut Shelf, number: u64, state: State, due: Option
     ensures next { shelf.new.next ≡ shelf.old.next }
 {
     let host = host_bit(hosts, number, state.place);
-    shelf.put(number, state, Mark { due, hosts: host });
+    let _found = shelf.put(number, state, Mark { due, hosts: host });
 }
 
 /// The numbers of the first messages, at most so many, that may be received and lie on one of some
@@ -66,16 +68,15 @@ pub fn choose(alloc: Global, shelf: &Shelf, set: u32, most: u64) -> Result<Choic
     ensures read { IfOk result (λ choice. length choice.numbers.items ≤ choice.looked) }
 {
     let mut choice = Choice {
-        numbers: Vec::new(alloc),
+        numbers: SmallVec::new(alloc),
         looked: 0,
     };
     let mut from = 0;
     for _count in 0..most {
-        let Some(message) = shelf.next(from, set) else {
+        let Some((number, _place)) = shelf.next(from, set) else {
             return Ok(choice);
         };
         choice.looked += 1;
-        let number = message.number;
         choice.numbers.push(number)?;
         from = number + 1;
     }

@@ -79,11 +79,11 @@ impl Order {
         requires room { IsRoomed self.old message.group place }
         ensures ordered { AreInOrder shelf.new.items shelf.new.next self.new }
         ensures kind { (kind : Kind) → IsOrderOf kind self.old → IsOrderOf kind self.new }
-        ensures added { map unhosted shelf.new.items ≡ map unhosted shelf.old.items ++ (message, due) ∷ [] }
+        ensures added { map unhosted shelf.new.items ≡ map unhosted shelf.old.items ++ (message, due, place) ∷ [] }
         ensures next { shelf.new.next ≡ shelf.old.next + 1 }
     {
         match self {
-            Order::Hosts(hosts) => hosts::add(*hosts, shelf, message, due),
+            Order::Hosts(hosts) => hosts::add(*hosts, shelf, place, message, due),
             Order::Groups(groups) => add(
                 shelf,
                 &groups.names,
@@ -119,7 +119,7 @@ impl Order {
         ensures next { shelf.new.next ≡ shelf.old.next }
     {
         match self {
-            Order::Hosts(_) => shelf.remove(number),
+            Order::Hosts(_) => shelf.remove(number).map(|(message, _)| message),
             Order::Groups(groups) => groups.remove(shelf, number),
         }
     }

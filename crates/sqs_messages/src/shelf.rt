@@ -7,20 +7,21 @@ ghost use Rattle.sim_index.specs.Marks.{least_of, meets};
 ghost use Rattle.sqs_model.specs.Progress.{Ascends};
 ghost use Rattle.sqs_model.specs.Queue.{is_delayed, is_in_flight, is_visible};
 ghost use Rattle.sqs_messages.specs.Heads.{told};
-ghost use Rattle.sqs_messages.specs.Slots.{is_numbered, number_of, restated, with_hosts};
+ghost use Rattle.sqs_messages.specs.Slots.{is_numbered, message_and_group, number_and_group, number_of, place_and_group, restated, with_hosts};
 
 use crate::counts::{Counts, NO_COUNTS, count_in, count_out};
 use crate::messages::{Messages, messages_in};
 use crate::slot::{Slot, State, first_from, place_of, write};
 use sim_clock::Key;
 use sim_index::{Mark, MarkedList, NO_MARK};
-use sqs_message::Message;
+use sqs_message::{Message, Place};
 use std::alloc::{AllocError, Global};
 use std::marker::Model;
 
-/// Messages in the order of their numbers, each with a mark, and the number that comes next. A call
-/// on one of so many messages takes the time of their number's logarithm. Contracts see the messages
-/// with their marks, the number that comes next, and whether there is room for one message more.
+/// Messages in the order of their numbers, each with a mark and the place of its group, and the number
+/// that comes next. A call on one of so many messages takes the time of their number's logarithm.
+/// Contracts see the messages with their marks and the places of their groups, the number that comes
+/// next, and whether there is room for one message more.
 #[derive(Drop)]
 pub struct Shelf {
     slots: MarkedList<Slot>,
@@ -85,20 +86,23 @@ impl Shelf {
         slots[place_of(slots, number)?].message.as_ref()
     }
 
-    /// Changes the message of a number, and its mark; nothing where it is not there.
-    pub fn put(&mut self, number: u64, state: State, mark: Mark)
-        ensures items { self.new.items ≡ changed (is_numbered number) (λ s. record { message = restated state s.message; mark = mark }) self.old.items }
+    /// Changes the message of a number, and its mark; nothing where it is not there. Answers where the
+    /// message stood, and the place of its group.
+    pub fn put(&mut self, number: u64, state: State, mark: Mark) -> Option<(Place, usize)>
+        ensures found { result ≡ option_map place_and_group (find (is_numbered number) self.old.items) }
+        ensures items { self.new.items ≡ changed (is_numbered number) (λ s. record s { message = restated state s.message; mark = mark }) self.old.items }
         ensures next { self.new.next ≡ self.old.next }
     {
-        let Some(place) = place_of(self.slots.values(), number) else {
-            return;
-        };
-        let Some(was) = write(self.slots.value_mut(place), state) else {
+        let place = place_of(self.slots.values(), number)?;
+        let slot = self.slots.value_mut(place);
+        let group = slot.group;
+        let Some(was) = write(slot, state) else {
             unreachable!();
         };
         self.slots.set_mark(place, mark);
         count_out(&mut self.counts, was);
         count_in(&mut self.counts, state.place);
+        Some((was, group))
     }
 
     /// Changes the hosts in the mark of a number's message; nothing where it is not there.
@@ -109,23 +113,39 @@ impl Shelf {
         let Some(place) = place_of(self.slots.values(), number) else {
             return;
         };
-        let due = self.slots.mark_at(place).due;
-        self.slots.set_mark(place, Mark { due, hosts });
+        let mark = self.slots.mark_at(place);
+        if mark.hosts == hosts {
+            return;
+        }
+        self.slots.set_mark(place, Mark { hosts, ..mark });
     }
 
-    /// Takes out the message of a number, if it is there.
-    pub fn remove(&mut self, number: u64) -> Option<Message>
-        ensures found { result ≡ option_map (λ s. s.message) (find (is_numbered number) self.old.items) }
+    // Where no message is left, no place is kept.
+    fn forget_empty(&mut self)
+        ensures items { self.new.items ≡ self.old.items }
+        ensures next { self.new.next ≡ self.old.next }
+    {
+        if self.counts == NO_COUNTS {
+            self.slots.clear();
+        }
+    }
+
+    /// Takes out the message of a number, if it is there, and tells the place of its group.
+    pub fn remove(&mut self, number: u64) -> Option<(Message, usize)>
+        ensures found { result ≡ option_map message_and_group (find (is_numbered number) self.old.items) }
         ensures items { self.new.items ≡ without (is_numbered number) self.old.items }
         ensures next { self.new.next ≡ self.old.next }
     {
         let place = place_of(self.slots.values(), number)?;
-        let Some(message) = self.slots.value_mut(place).message.take() else {
+        let slot = self.slots.value_mut(place);
+        let group = slot.group;
+        let Some(message) = slot.message.take() else {
             unreachable!();
         };
         self.slots.set_mark(place, NO_MARK);
         count_out(&mut self.counts, message.place);
-        Some(message)
+        self.forget_empty();
+        Some((message, group))
     }
 
     /// The least of what is due.
@@ -143,16 +163,30 @@ impl Shelf {
         self.slots.has_on(hosts)
     }
 
-    /// The first message of a number from one on whose mark tells of one of these hosts.
-    pub fn next(&self, from: u64, hosts: u32) -> Option<&Message>
-        ensures found { option_copied result ≡ option_map (λ s. s.message) (find (λ s. nat_le from s.message.number && meets hosts s.mark) self.now.items) }
-        ensures bound { IfSome result (λ m. m.now.number < self.now.next) }
+    /// The number of the first message of a number from one on whose mark tells of one of these hosts,
+    /// and the place of its group.
+    pub fn next(&self, from: u64, hosts: u32) -> Option<(u64, usize)>
+        ensures found { result ≡ option_map number_and_group (find (λ s. nat_le from s.message.number && meets hosts s.mark) self.now.items) }
+        ensures bound { IfSome result (λ first. first.0 < self.now.next) }
         ensures range { self.now.next < 2 ^ 64 }
         ensures ordered { Ascends number_of 0 self.now.items }
     {
         let slots = self.slots.values();
         let place = self.slots.next(first_from(slots, from), hosts)?;
-        slots[place].message.as_ref()
+        let slot = &slots[place];
+        Some((slot.number, slot.group))
+    }
+
+    // Drops the places whose messages left, and makes room for one message more.
+    #[cold]
+    #[inline(never)]
+    fn drop_gone(&mut self) -> Result<(), AllocError>
+        ensures ready { OnOk result (self.new.ready ≡ true) }
+        ensures items { self.new.items ≡ self.old.items }
+        ensures next { self.new.next ≡ self.old.next }
+        ensures unchanged { OnErr result (self.new ≡ self.old) }
+    {
+        self.slots.retain(|slot| slot.message.is_some())
     }
 
     /// Makes room for one message more, so that its push succeeds: where there is none, the places
@@ -167,22 +201,22 @@ impl Shelf {
         if self.slots.is_ready() {
             return Ok(());
         }
-        self.slots.retain(|slot| slot.message.is_some())
+        self.drop_gone()
     }
 
-    /// One more message, with the next number. Succeeds where there is room.
-    pub fn push(&mut self, message: Message, mark: Mark) -> Result<(), AllocError>
+    /// One more message, with the next number and the place of its group. Succeeds where there is room.
+    pub fn push(&mut self, message: Message, group: usize, mark: Mark) -> Result<(), AllocError>
         requires number { message.number ≡ self.old.next }
         requires range { self.old.next + 1 < 2 ^ 64 }
-        ensures pushed { OnOk result (self.new.items ≡ self.old.items ++ record { message = message; mark = mark } ∷ []) }
+        ensures pushed { OnOk result (self.new.items ≡ self.old.items ++ record { message = message; mark = mark; group = group } ∷ []) }
         ensures next { OnOk result (self.new.next ≡ self.old.next + 1) }
         ensures unchanged { OnErr result (self.new ≡ self.old) }
         ensures succeeds { self.old.ready ≡ true → IsOk result }
     {
-        self.reserve()?;
         let place = message.place;
         let slot = Slot {
             number: self.next,
+            group,
             message: Some(message),
         };
         self.slots.push(slot, mark)?;

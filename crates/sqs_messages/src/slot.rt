@@ -20,10 +20,12 @@ pub struct State {
     pub received: u64,
 }
 
-// A place: the number of the message that came there, and the message while it is there.
+// A place: the number of the message that came there, the place of its group where the queue goes by
+// groups, and the message while it is there.
 #[derive(Drop)]
 pub struct Slot {
     pub number: u64,
+    pub group: usize,
     pub message: Option<Message>,
 }
 
@@ -75,6 +77,7 @@ pub fn place_of(slots: &[Slot], number: u64) -> Option<usize>
 // A message changes. Answers where it stood.
 pub fn write(slot: &mut Slot, state: State) -> Option<Place>
     ensures number { slot.new.number ≡ slot.old.number }
+    ensures group { slot.new.group ≡ slot.old.group }
     ensures message { slot.new.message ≡ option_map (restated state) slot.old.message }
     ensures was { result ≡ option_map (λ m. m.place) slot.old.message }
 {

@@ -221,15 +221,11 @@ impl MessageTable {
         ensures ordered { Ascends (λ m. m.number) 0 self.now.records }
     {
         let _next = self.shelf.number();
+        // No more are given than are visible, so that none is looked for after the last of these.
+        let most = most.min(self.shelf.counts().visible);
         match &self.order {
             Order::Hosts(_) => hosts::choose(self.alloc, &self.shelf, hosts, most),
-            Order::Groups(groups) => groups::choose::choose(
-                self.alloc,
-                &self.shelf,
-                &groups.names,
-                &groups.members,
-                most,
-            ),
+            Order::Groups(groups) => groups::choose::choose(self.alloc, &self.shelf, groups, most),
         }
     }
 

@@ -1,5 +1,5 @@
 //! What an actor is told, and what it then does.
-use sqs_message::{Call, MessageId, Receipt, Text};
+use sqs_message::{Call, MessageId, Receipt, ReceiptHandle, Text};
 use sqs_redrive::{Batch, Outbound};
 
 /// What an actor is told.
@@ -31,10 +31,10 @@ pub enum Act {
         timeout: Option<u64>,
     },
     Delete {
-        receipt: Text,
+        receipt: ReceiptHandle,
     },
     Change {
-        receipt: Text,
+        receipt: ReceiptHandle,
         timeout: u64,
     },
     Start {
@@ -74,8 +74,13 @@ impl From<Call> for Act {
                 id,
             },
             Call::Receive { max, wait, timeout } => Act::Receive { max, wait, timeout },
-            Call::Delete { receipt } => Act::Delete { receipt },
-            Call::Change { receipt, timeout } => Act::Change { receipt, timeout },
+            Call::Delete { receipt } => Act::Delete {
+                receipt: ReceiptHandle::from(receipt),
+            },
+            Call::Change { receipt, timeout } => Act::Change {
+                receipt: ReceiptHandle::from(receipt),
+                timeout,
+            },
             Call::Start { task } => Act::Start { task },
             Call::Cancel { task } => Act::Cancel { task },
         }

@@ -1,7 +1,7 @@
 use crate::same::same;
 use sqs_message::{
-    Call, Message, MessageId, Origin, Place, Receipt, Script, ScriptCall, Text, body_md5,
-    body_sha256,
+    Call, HandleForm, Message, MessageId, Origin, Place, Receipt, ReceiptHandle, Script,
+    ScriptCall, Text, body_md5, body_sha256,
 };
 use std::alloc::{AllocError, Global};
 use std::process::Abort;
@@ -64,6 +64,43 @@ fn receipts_are_read_back_and_nothing_else(rt: HostRuntime) {
     ] {
         same(&rt, (other, Receipt::read(other)), (other, None));
     }
+}
+
+// Whether a handle was given as a text.
+fn is_text(handle: &ReceiptHandle) -> bool {
+    match handle.form() {
+        HandleForm::Made(_) => false,
+        HandleForm::Text(_) => true,
+    }
+}
+
+#[test]
+fn handles_are_receipts_where_they_fit(rt: HostRuntime) {
+    let receipt = Receipt {
+        site: 0,
+        number: 12,
+        count: 1,
+    };
+    let never_received = Receipt {
+        site: 0,
+        number: 12,
+        count: 0,
+    };
+    let made = ReceiptHandle::from(receipt);
+    let given = ReceiptHandle::from(text(&rt, rt.alloc(), b"r-0-12-1"));
+    let other = ReceiptHandle::from(text(&rt, rt.alloc(), b"r-0-12-1\xff"));
+    same(
+        &rt,
+        (made.receipt(), is_text(&made)),
+        (Some(receipt), false),
+    );
+    same(
+        &rt,
+        (given.receipt(), is_text(&given)),
+        (Some(receipt), true),
+    );
+    same(&rt, other.receipt(), None);
+    same(&rt, ReceiptHandle::from(never_received).receipt(), None);
 }
 
 #[test]

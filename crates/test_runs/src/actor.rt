@@ -5,7 +5,9 @@ ghost use Rattle.sim_actor.specs.Lives.{IsRole};
 
 use crate::same::same;
 use sim_actor::Actor;
-use sqs_message::{Call, MessageId, Origin, Receipt, Script, ScriptCall, Text};
+use sqs_message::{
+    Call, HandleForm, MessageId, Origin, Receipt, ReceiptHandle, Script, ScriptCall, Text,
+};
 use sqs_model::{Act, ActorSettings, Answer, ConsumerSettings, Forwarding, ProducerSettings, Role};
 use sqs_redrive::{Batch, Got, Latency, Load, Outbound};
 use std::alloc::{AllocError, Global};
@@ -49,6 +51,24 @@ fn show_transfer(out: &mut String, sent: &Outbound) -> Shown {
     )
 }
 
+// A receipt.
+fn show_receipt(out: &mut String, receipt: Receipt) -> Shown {
+    let Receipt {
+        site,
+        number,
+        count,
+    } = receipt;
+    write!(out, "r-{site}-{number}-{count}")
+}
+
+// The receipt handle of a call.
+fn show_handle(out: &mut String, handle: &ReceiptHandle) -> Shown {
+    match handle.form() {
+        HandleForm::Made(receipt) => show_receipt(out, *receipt),
+        HandleForm::Text(text) => out.push_str(letters(text)),
+    }
+}
+
 // The end of a service in a line.
 fn show_service(
     out: &mut String,
@@ -56,12 +76,9 @@ fn show_service(
     failed: bool,
     forward: &Option<Outbound>,
 ) -> Shown {
-    let Receipt {
-        site,
-        number,
-        count,
-    } = receipt;
-    write!(out, "serve r-{site}-{number}-{count} {failed}")?;
+    out.push_str("serve ")?;
+    show_receipt(out, receipt)?;
+    write!(out, " {failed}")?;
     match forward {
         None => Ok(()),
         Some(sent) => show_transfer(out, sent),
@@ -83,8 +100,15 @@ fn show(out: &mut String, act: &Act) -> Shown {
         Act::Receive { max, wait, timeout } => {
             write!(out, "receive {max} {wait} {:?}", *timeout)
         }
-        Act::Delete { receipt } => write!(out, "delete {}", letters(receipt)),
-        Act::Change { receipt, timeout } => { write!(out, "change {} {timeout}", letters(receipt)) }
+        Act::Delete { receipt } => {
+            out.push_str("delete ")?;
+            show_handle(out, receipt)
+        }
+        Act::Change { receipt, timeout } => {
+            out.push_str("change ")?;
+            show_handle(out, receipt)?;
+            write!(out, " {timeout}")
+        }
         Act::Start { task } => write!(out, "start {task}"),
         Act::Cancel { task } => write!(out, "cancel {task}"),
         Act::Serve {

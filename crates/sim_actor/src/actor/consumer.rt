@@ -1,17 +1,16 @@
 //! What a consumer does.
-ghost use Rattle.std.specs.Prelude.{◌≡◌, ◌≤◌, Some, IfOk};
+ghost use Rattle.std.specs.Prelude.{◌≡◌, ◌≤◌, Some};
 ghost use Rattle.sqs_model.specs.Actor.{idle as the_idle, serving as the_serving, serves as the_serves, ends_service as the_ends_service, consumer_wake as the_consumer_wake, consumer_got as the_consumer_got, consumer_told as the_consumer_told};
-ghost use Rattle.sqs_message.specs.Ids.{receipt_text as the_receipt_text};
 ghost use Rattle.sqs_model.specs.Answers.{most_count};
 ghost use Rattle.sqs_model.specs.Valid.{IsConsumer, IsLatency, MayBeForward};
 ghost use Rattle.sim_actor.specs.Lives.{Becomes, Decides, IsFramed, Meets};
 
 use super::{Actor, Stage};
 use sim_clock::Refusal;
-use sqs_message::{Receipt, Text};
+use sqs_message::ReceiptHandle;
 use sqs_model::{Act, ConsumerSettings, Forwarding, MOST_COUNT};
 use sqs_redrive::{Batch, Got, Latency, Load, Outbound};
-use std::alloc::{AllocError, Global};
+use std::collections::VecDeque;
 
 impl Actor {
     // Rests.
@@ -130,19 +129,18 @@ impl Actor {
         ensures decision { Decides result self.new (the_consumer_wake self.old settings now self.old.held) }
         ensures framed { IsFramed self.old self.new }
     {
-        if self.held.is_empty() {
+        let Some(got) = self.held.pop_front() else {
             self.stage = Stage::Asked;
             return Ok(Act::Receive {
                 max: settings.batch,
                 wait: settings.wait,
                 timeout: settings.timeout,
             });
-        }
+        };
         if self.draws.taken() == MOST_COUNT {
             return Err(Refusal::CountLimit);
         }
         let fails = self.draws.chance(settings.fail_permille);
-        let got = self.held.remove(0);
         self.end_service(settings, now, got, fails)
     }
 
@@ -162,7 +160,7 @@ impl Actor {
         if messages.is_empty() {
             return Ok(self.idle(settings, now));
         }
-        self.held = messages;
+        self.held = VecDeque::from(messages);
         self.serve_held(settings, now)?;
         Ok(Act::Nothing)
     }
@@ -181,9 +179,10 @@ impl Actor {
         match self.stage {
             Stage::Asked => Ok(self.idle(settings, now)),
             Stage::Served(receipt) => {
-                let receipt = receipt_text(receipt, self.alloc)?;
                 self.stage = Stage::Ended;
-                Ok(Act::Delete { receipt })
+                Ok(Act::Delete {
+                    receipt: ReceiptHandle::from(receipt),
+                })
             }
             Stage::Ended => {
                 self.serve_held(settings, now)?;
@@ -191,11 +190,4 @@ impl Actor {
             }
         }
     }
-}
-
-// The text of a receipt.
-fn receipt_text(receipt: Receipt, alloc: Global) -> Result<Text, AllocError>
-    ensures { IfOk result (λ text. text ≡ the_receipt_text receipt) }
-{
-    Ok(Text::new(receipt.text(alloc)?.into_bytes()))
 }

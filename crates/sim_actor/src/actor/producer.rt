@@ -4,6 +4,7 @@ ghost use Rattle.std.specs.Fmt.{decimal};
 ghost use Rattle.sqs_model.specs.Actor.{filled as the_filled, group_of, id_given};
 
 use crate::bodies::filled;
+use itoa::Buffer;
 use sqs_message::Text;
 use sqs_model::{Act, ProducerSettings};
 use std::alloc::{AllocError, Global};
@@ -17,7 +18,12 @@ fn group(alloc: Global, groups: Option<u64>, n: u64) -> Result<Option<Text>, All
         Some(groups) => {
             // A remainder by 0 is the number itself, as in the definitions.
             let turn = if groups == 0 { n } else { n % groups };
-            Ok(Some(Text::new(format!(in alloc; "g{turn}")?.into_bytes())))
+            let mut buffer = Buffer::new();
+            let digits = buffer.format(turn);
+            let mut name = Vec::with_capacity(alloc, 1 + digits.len())?;
+            name.push(b'g')?;
+            name.extend_from_slice(digits.as_bytes())?;
+            Ok(Some(Text::new(name)))
         }
     }
 }
@@ -31,11 +37,16 @@ fn id(
 ) -> Result<Option<Text>, AllocError>
     ensures { IfOk result (λ id. id ≡ id_given producer.now number n) }
 {
-    if producer.ids {
-        Ok(Some(Text::new(format!(in alloc; "{number}-{n}")?.into_bytes())))
-    } else {
-        Ok(None)
+    if !producer.ids {
+        return Ok(None);
     }
+    let (mut first, mut second) = (Buffer::new(), Buffer::new());
+    let (first, second) = (first.format(number), second.format(n));
+    let mut id = Vec::with_capacity(alloc, first.len() + 1 + second.len())?;
+    id.extend_from_slice(first.as_bytes())?;
+    id.push(b'-')?;
+    id.extend_from_slice(second.as_bytes())?;
+    Ok(Some(Text::new(id)))
 }
 
 // The send of message n of a producer with a number.

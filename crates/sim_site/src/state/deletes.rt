@@ -1,6 +1,6 @@
 //! Deletes and changes of visibility by actors, and ends of services.
 ghost use Rattle.std.specs.Prelude.{IfErr, OnOk, Option, ◌≡◌, ◌≤◌};
-ghost use Rattle.sqs_message.specs.Ids.{read_receipt as the_read_receipt};
+ghost use Rattle.sqs_message.specs.Ids.{read_receipt};
 ghost use Rattle.sqs_message.specs.declared.row.RowReceipt.TheVariants as receipts;
 ghost use Rattle.sqs_model.specs.Actor.{Actor};
 ghost use Rattle.sqs_model.specs.Acts.{change_made, change_answered, delete_made, deleted_row as the_deleted_row, serve_made};
@@ -13,25 +13,14 @@ use super::Core;
 use crate::effects::Effects;
 use crate::rows::row;
 use sim_clock::{Key, Refusal};
-use sqs_message::{Detail, MessageId, Receipt, Row, RowAnswer, RowKind, RowReceipt, Text};
+use sqs_message::{Detail, MessageId, Receipt, ReceiptHandle, Row, RowAnswer, RowKind, RowReceipt};
 use sqs_model::LONGEST_TIMEOUT;
 use sqs_redrive::{Deleted, Outbound};
 use std::alloc::AllocError;
-use std::str;
 
-// The receipt that a text is, if it is one.
-fn read_receipt(text: &Text) -> Option<Receipt>
-    ensures { result ≡ the_read_receipt text.now }
-{
-    match str::from_utf8(text.as_bytes()) {
-        Ok(text) => Receipt::read(text),
-        Err(_) => None,
-    }
-}
-
-// A row with the receipt text that a call gave.
-fn with_text(row: Row, text: Text) -> Row
-    ensures { result ≡ record row { receipt = receipts.Given text } }
+// A row with the receipt handle that a call gave.
+fn with_handle(row: Row, handle: ReceiptHandle) -> Row
+    ensures { result ≡ record row { receipt = receipts.Given handle } }
 {
     Row {
         key: row.key,
@@ -40,7 +29,7 @@ fn with_text(row: Row, text: Text) -> Row
         kind: row.kind,
         answer: row.answer,
         message: row.message,
-        receipt: RowReceipt::Given(text),
+        receipt: RowReceipt::Given(handle),
         detail: row.detail,
     }
 }
@@ -50,11 +39,11 @@ fn deleted_row(
     key: Key,
     site: u32,
     agent: u32,
-    text: Text,
+    handle: ReceiptHandle,
     receipt: Receipt,
     answer: Result<Deleted, Refusal>,
 ) -> Row
-    ensures { (a : Actor) (c : Core) → a.number ≡ agent → number_of c ≡ site → result ≡ the_deleted_row key a c text receipt answer }
+    ensures { (a : Actor) (c : Core) → a.number ≡ agent → number_of c ≡ site → result ≡ the_deleted_row key a c handle receipt answer }
 {
     let id = MessageId {
         site,
@@ -67,22 +56,22 @@ fn deleted_row(
         Err(refusal) => (RowAnswer::Refused(refusal), None, Detail::Absent),
     };
     let row = row(key, site, agent, RowKind::Delete, answer, message, detail);
-    with_text(row, text)
+    with_handle(row, handle)
 }
 
 impl Core {
-    /// An actor deletes a message by a text, which may be no receipt.
+    /// An actor deletes a message by a handle, which may be no receipt.
     pub fn delete(
         &mut self,
         key: Key,
         agent: u32,
-        text: Text,
+        handle: ReceiptHandle,
         effects: &mut Effects,
     ) -> Result<(), AllocError>
-        ensures { (a : Actor) → a.number ≡ agent → OnOk result (Did effects.old effects.new self.new (delete_made key a self.old text (the_read_receipt text)).effect) }
+        ensures { (a : Actor) → a.number ≡ agent → OnOk result (Did effects.old effects.new self.new (delete_made key a self.old handle (read_receipt handle)).effect) }
     {
         let site = self.queue.site();
-        match read_receipt(&text) {
+        match handle.receipt() {
             None => {
                 let answer = RowAnswer::Refused(Refusal::ReceiptHandleIsInvalid);
                 let row = row(
@@ -94,12 +83,12 @@ impl Core {
                     None,
                     Detail::Absent,
                 );
-                effects.say(with_text(row, text))?;
+                effects.say(with_handle(row, handle))?;
                 Ok(())
             }
             Some(receipt) => {
                 let answer = self.queue.delete(key.at, &receipt);
-                effects.say(deleted_row(key, site, agent, text, receipt, answer))
+                effects.say(deleted_row(key, site, agent, handle, receipt, answer))
             }
         }
     }
@@ -109,14 +98,14 @@ impl Core {
         &mut self,
         key: Key,
         agent: u32,
-        text: Text,
+        handle: ReceiptHandle,
         timeout: u64,
         receipt: Receipt,
         effects: &mut Effects,
     ) -> Result<(), Refusal>
         requires { key.at ≤ most_count }
-        ensures did { (a : Actor) → a.number ≡ agent → OnOk result (Did effects.old effects.new self.new (change_answered key a self.old text timeout receipt (change self.old.queue key.at receipt timeout)).effect) }
-        ensures stops { (a : Actor) → a.number ≡ agent → IfErr result (Stops (change_answered key a self.old text timeout receipt (change self.old.queue key.at receipt timeout)).effect) }
+        ensures did { (a : Actor) → a.number ≡ agent → OnOk result (Did effects.old effects.new self.new (change_answered key a self.old handle timeout receipt (change self.old.queue key.at receipt timeout)).effect) }
+        ensures stops { (a : Actor) → a.number ≡ agent → IfErr result (Stops (change_answered key a self.old handle timeout receipt (change self.old.queue key.at receipt timeout)).effect) }
     {
         let site = self.queue.site();
         match self.queue.change(key.at, &receipt, timeout) {
@@ -131,7 +120,7 @@ impl Core {
                     None,
                     Detail::Absent,
                 );
-                effects.say(with_text(row, text))?;
+                effects.say(with_handle(row, handle))?;
                 Ok(())
             }
             Ok(left) => {
@@ -149,7 +138,7 @@ impl Core {
                     Some(id),
                     detail,
                 );
-                effects.say(with_text(row, text))?;
+                effects.say(with_handle(row, handle))?;
                 if timeout == 0 {
                     self.came_back(key, receipt.number, left, effects)
                 } else {
@@ -160,20 +149,20 @@ impl Core {
         }
     }
 
-    /// An actor changes a visibility timeout, in seconds, by a text, which may be no receipt.
+    /// An actor changes a visibility timeout, in seconds, by a handle, which may be no receipt.
     pub fn change(
         &mut self,
         key: Key,
         agent: u32,
-        text: Text,
+        handle: ReceiptHandle,
         timeout: u64,
         effects: &mut Effects,
     ) -> Result<(), Refusal>
         requires { key.at ≤ most_count }
-        ensures did { (a : Actor) → a.number ≡ agent → OnOk result (Did effects.old effects.new self.new (change_made key a self.old text timeout (the_read_receipt text)).effect) }
-        ensures stops { (a : Actor) → a.number ≡ agent → IfErr result (Stops (change_made key a self.old text timeout (the_read_receipt text)).effect) }
+        ensures did { (a : Actor) → a.number ≡ agent → OnOk result (Did effects.old effects.new self.new (change_made key a self.old handle timeout (read_receipt handle)).effect) }
+        ensures stops { (a : Actor) → a.number ≡ agent → IfErr result (Stops (change_made key a self.old handle timeout (read_receipt handle)).effect) }
     {
-        match read_receipt(&text) {
+        match handle.receipt() {
             None => {
                 let site = self.queue.site();
                 let refusal = if timeout > LONGEST_TIMEOUT {
@@ -191,10 +180,10 @@ impl Core {
                     None,
                     Detail::Absent,
                 );
-                effects.say(with_text(row, text))?;
+                effects.say(with_handle(row, handle))?;
                 Ok(())
             }
-            Some(receipt) => self.change_by(key, agent, text, timeout, receipt, effects),
+            Some(receipt) => self.change_by(key, agent, handle, timeout, receipt, effects),
         }
     }
 

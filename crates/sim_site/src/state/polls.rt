@@ -53,7 +53,9 @@ impl Core {
         self.told(key, poll.actor, Answer::Got(Batch::new(gots)), effects)
     }
 
-    // Waiting polls are answered, oldest first, while there is something to give.
+    // Waiting polls are answered, oldest first, while there is something to give. Apart from
+    // `answer_polls`, which comes after each handling.
+    #[inline(never)]
     fn answer_each(&mut self, key: Key, effects: &mut Effects) -> Result<(), Refusal>
         requires moment { key.at ≤ most_count }
         requires recent { IsRecent key.at self.old.queue }

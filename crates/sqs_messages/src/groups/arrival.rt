@@ -3,14 +3,15 @@ ghost use Rattle.std.specs.Prelude.{◌≡◌, ◌≢◌, ◌+◌, ◌++◌, ◌
 ghost use Rattle.sqs_messages.specs.Heads.{AreLed, IsLedBut, of_group, told};
 ghost use Rattle.sqs_messages.specs.Slots.{held};
 ghost use Rattle.sqs_messages.specs.Marked.{unhosted};
-ghost use Rattle.sqs_messages.specs.Groups.{AreInGroups, HasRoomAt, bit, group_at, out_of, place_by};
+ghost use Rattle.sqs_messages.specs.Groups.{AreInGroups, HasRoomAt, IsPlaceOf, bit, group_at, out_of};
 
+use crate::groups::front::leader_hosts;
 use crate::groups::members::{Members, in_flight, moved};
 use crate::shelf::Shelf;
 use indexmap::IndexSet;
 use sim_clock::Key;
 use sim_index::Mark;
-use sqs_message::{Message, Text};
+use sqs_message::{Message, Place, Text};
 
 // The number of a message that came joins its group's, and the first of the group is marked anew.
 fn join(shelf: &mut Shelf, groups: &mut [Members], place: usize, number: u64, is_out: bool)
@@ -30,6 +31,20 @@ fn join(shelf: &mut Shelf, groups: &mut [Members], place: usize, number: u64, is
     moved(shelf, groups, place, false, is_out);
 }
 
+// The hosts of a message that comes to the group at a place. Where the group's list is empty it is the
+// first, and else it is marked as no leader.
+fn hosts_at(groups: &[Members], place: usize, visible: bool) -> u32
+    requires { place < length groups.now }
+    ensures { (group_at groups.now place).numbers ≢ [] → result ≡ 0 }
+{
+    let members = &groups[place];
+    if members.numbers.is_empty() {
+        leader_hosts(visible, members.out)
+    } else {
+        0
+    }
+}
+
 /// One more message, of the group at a place of the table, with what is due of it.
 pub fn add(
     shelf: &mut Shelf,
@@ -43,18 +58,18 @@ pub fn add(
     requires ready { shelf.old.ready ≡ true }
     requires number { message.number ≡ shelf.old.next }
     requires range { shelf.old.next + 1 < 2 ^ 64 }
-    requires place { place ≡ place_by names.now.keys message.group }
-    requires within { place < length groups.old }
+    requires place { IsPlaceOf names.now.keys message.group place }
     requires room { HasRoomAt groups.old place }
     ensures grouped { AreInGroups shelf.new.items shelf.new.next names.now.keys groups.new }
-    ensures added { map unhosted shelf.new.items ≡ map unhosted shelf.old.items ++ (message, due) ∷ [] }
+    ensures added { map unhosted shelf.new.items ≡ map unhosted shelf.old.items ++ (message, due, place) ∷ [] }
     ensures next { shelf.new.next ≡ shelf.old.next + 1 }
     ensures len { length groups.new ≡ length groups.old }
 {
     let _next = shelf.number();
     let number = message.number;
     let is_out = in_flight(message.place);
-    let Ok(()) = shelf.push(message, Mark { due, hosts: 0 }) else {
+    let hosts = hosts_at(groups, place, message.place == Place::Visible);
+    let Ok(()) = shelf.push(message, place, Mark { due, hosts }) else {
         unreachable!();
     };
     join(shelf, groups, place, number, is_out);

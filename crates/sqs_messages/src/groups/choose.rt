@@ -1,16 +1,17 @@
 //! Which messages the queue may give.
-ghost use Rattle.std.specs.Prelude.{◌≡◌, ◌+◌, ◌*◌, ◌++◌, ◌≤◌, [], IfOk, OnOk, length, map, take};
+ghost use Rattle.std.specs.Prelude.{◌≡◌, ◌+◌, ◌*◌, ◌++◌, ◌<◌, ◌≤◌, ◌^◌, [], IfOk, OnOk, length, map, take};
 ghost use Rattle.sqs_model.specs.Available.{by_group, open_from};
 ghost use Rattle.sqs_model.specs.Queue.{is_delayed};
-ghost use Rattle.sqs_messages.specs.Heads.{AreLed, told, until_delayed};
+ghost use Rattle.sqs_messages.specs.Heads.{told, until_delayed};
 ghost use Rattle.sqs_messages.specs.Slots.{held};
-ghost use Rattle.sqs_messages.specs.Groups.{AreGrouped};
+ghost use Rattle.sqs_messages.specs.Groups.{AreInGroups};
 
 use crate::choose::Choice;
-use crate::groups::members::{LEADS, Members, place_of};
+use crate::groups::Groups;
+use crate::groups::members::LEADS;
 use crate::shelf::Shelf;
-use indexmap::IndexSet;
-use sqs_message::{Message, Place, Text};
+use smallvec::SmallVec;
+use sqs_message::{Message, Place};
 use std::alloc::{AllocError, Global};
 use std::collections::VecDeque;
 
@@ -23,6 +24,7 @@ fn give(
     choice: &mut Choice,
 ) -> Result<(), AllocError>
     requires most { length choice.old.numbers.items ≤ most }
+    requires range { most < 2 ^ 63 }
     requires few { choice.old.looked ≤ 2 * length choice.old.numbers.items }
     ensures walked { OnOk result (choice.new.numbers.items ≡ take most (choice.old.numbers.items ++ map (λ m. m.number) (until_delayed (held shelf.now.items numbers.now.items)))) }
     ensures looked { OnOk result (choice.new.looked + length choice.old.numbers.items ≤ choice.old.looked + length choice.new.numbers.items + 1) }
@@ -48,29 +50,26 @@ fn give(
 pub fn choose(
     alloc: Global,
     shelf: &Shelf,
-    names: &IndexSet<Option<Text>>,
-    groups: &[Members],
+    groups: &Groups,
     most: u64,
 ) -> Result<Choice, AllocError>
-    requires led { AreLed shelf.now.items }
-    requires grouped { AreGrouped shelf.now.items shelf.now.next names.now.keys groups.now }
+    requires range { most < 2 ^ 63 }
+    requires grouped { AreInGroups shelf.now.items shelf.now.next groups.now.names.keys groups.now.members.items }
     ensures numbers { IfOk result (λ choice. choice.numbers.items ≡ map (λ m. m.number) (take most (by_group (open_from (told shelf.now.items) [] (told shelf.now.items))))) }
     ensures looked { IfOk result (λ choice. choice.looked ≤ 2 * most) }
     ensures read { IfOk result (λ choice. length choice.numbers.items ≤ choice.looked) }
 {
     let _next = shelf.number();
     let mut choice = Choice {
-        numbers: Vec::new(alloc),
+        numbers: SmallVec::new(alloc),
         looked: 0,
     };
     let mut from = 0;
     while (choice.numbers.len() as u64) < most {
-        let Some(leader) = shelf.next(from, LEADS) else {
+        let Some((number, place)) = shelf.next(from, LEADS) else {
             return Ok(choice);
         };
-        let number = leader.number;
-        let place = place_of(names, &leader.group);
-        give(shelf, &groups[place].numbers, most, &mut choice)?;
+        give(shelf, &groups.members[place].numbers, most, &mut choice)?;
         from = number + 1;
     }
     Ok(choice)

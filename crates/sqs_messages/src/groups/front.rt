@@ -29,7 +29,7 @@ pub fn trim(shelf: &Shelf, numbers: &mut VecDeque<u64>) -> Option<(u64, bool)>
 }
 
 // The hosts of a group's first message.
-fn leader_hosts(visible: bool, out: u64) -> u32
+pub fn leader_hosts(visible: bool, out: u64) -> u32
     ensures { result ≡ bit (visible && out == 0) }
 {
     if visible && out == 0 { LEADS } else { 0 }

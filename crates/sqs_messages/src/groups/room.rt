@@ -1,7 +1,7 @@
 //! Room for one more message of a group.
 ghost use Rattle.std.specs.Prelude.{◌≡◌, ◌≢◌, ◌+◌, ◌++◌, ◌∷◌, ◌<◌, ◌≤◌, [], All, IfOk, List, OnErr, OnOk, Option, filter, is_some, length, map, ℕ};
 ghost use Rattle.std.specs.VecDeque.{deque_capacity, deque_len};
-ghost use Rattle.sqs_messages.specs.Groups.{AreInGroups, HasRoomAt, group_at, group_by, kept, nobody, place_by};
+ghost use Rattle.sqs_messages.specs.Groups.{AreInGroups, HasRoomAt, IsPlaceOf, group_at, group_by, kept, nobody, place_by};
 ghost use Rattle.sqs_messages.specs.Slots.{held, message_of};
 
 use crate::groups::members::{Members, place_of};
@@ -45,8 +45,8 @@ fn place_for(
     requires { length names.old.keys ≡ length groups.old.items }
     ensures same { length names.new.keys ≡ length groups.new.items }
     ensures groups { (g : Option (List ℕ)) → group_by names.new.keys groups.new.items g ≡ group_by names.old.keys groups.old.items g }
-    ensures place { IfOk result (λ place. place ≡ place_by names.new.keys group.now) }
-    ensures within { IfOk result (λ place. place < length groups.new.items) }
+    ensures places { (g : Option (List ℕ)) (i : ℕ) → IsPlaceOf names.old.keys g i → IsPlaceOf names.new.keys g i }
+    ensures place { IfOk result (IsPlaceOf names.new.keys group.now) }
 {
     let place = place_of(names, group);
     if groups.len() <= place {
@@ -103,8 +103,7 @@ pub fn room_for(
 ) -> Result<usize, AllocError>
     requires { AreInGroups shelf.now.items shelf.now.next names.old.keys groups.old.items }
     ensures grouped { AreInGroups shelf.now.items shelf.now.next names.new.keys groups.new.items }
-    ensures place { IfOk result (λ place. place ≡ place_by names.new.keys group.now) }
-    ensures within { IfOk result (λ place. place < length groups.new.items) }
+    ensures place { IfOk result (IsPlaceOf names.new.keys group.now) }
     ensures room { IfOk result (HasRoomAt groups.new.items) }
 {
     let place = place_for(alloc, names, groups, group)?;

@@ -2,7 +2,9 @@ use super::{ABC, names, row, text, try_written, write_log};
 use crate::same::same;
 use sim_clock::Refusal;
 use sim_records::{Names, ToWriter, write_row};
-use sqs_message::{Detail, MessageId, Origin, Receipt, Row, RowAnswer, RowKind, RowReceipt};
+use sqs_message::{
+    Detail, MessageId, Origin, Receipt, ReceiptHandle, Row, RowAnswer, RowKind, RowReceipt,
+};
 use std::alloc::Global;
 use std::process::Abort;
 
@@ -135,7 +137,7 @@ fn messages_and_receipts(rt: HostRuntime) {
     let line = b"30000,q,s,receive,ok,m-0-12,r-0-12-3,\n";
     try_row(&rt, alloc, &names, &receive, line);
     // A receipt with a comma and a quote.
-    let receipt = text(&rt, alloc, b"r-0,\"x");
+    let receipt = ReceiptHandle::from(text(&rt, alloc, b"r-0,\"x"));
     let refused = RowAnswer::Refused(Refusal::ReceiptHandleIsInvalid);
     let delete = row(5, RowKind::Delete, refused, Detail::Absent);
     let delete = with_receipt(delete, None, RowReceipt::Given(receipt));

@@ -1,14 +1,12 @@
-use Rattle.std.proofs.Common.{ℕ, ◌≡◌, ◌*◌, ◌<◌, ◌≤◌, drop, length, vec_len}
-use Rattle.sim_index.specs.Marks.{ArePairsBut}
+use Rattle.std.proofs.Common.{◌≡◌, ◌+◌, ◌*◌, ◌<◌, length, vec_len}
+use Rattle.sim_index.proofs.Mends.{Mending}
 use Rattle.sim_index.proofs.marks.mend.Given as goal
 
 abbrev pub invariant-loop-node : goal.invariant-loop-node
 invariant-loop-node l =
     record {
-      above : ArePairsBut l.nodes.items l.node;
-      within : 2 * l.node < length l.nodes.items;
-      leaves : (k : ℕ) → length l.nodes.items ≤ 2 * k → drop k l.nodes.items ≡ drop k l.fn.nodes.items;
-      long : vec_len l.nodes ≡ vec_len l.fn.nodes;
+      mending : Mending l.marks l.fn.nodes.items l.nodes.items l.place l.node;
+      within : 2 * l.node + 1 < vec_len l.nodes;
       same : vec_len l.nodes ≡ length l.nodes.items;
     }
 

@@ -1,6 +1,5 @@
-use Rattle.std.proofs.Common.{ap, arith, get_or, length, map, max, sym, take, ◌+◌, ◌<◌, ◌≡◌, ◌≤◌, ◌∙◌}
+use Rattle.std.proofs.Common.{ap, get_or, map, max, sym, take, ◌≡◌, ◌∙◌}
 use Rattle.std.proofs.Math.Nat.{max-le}
-use Rattle.std.proofs.lemmas.List.{take_all}
 use Rattle.sqs_model.specs.Actor.{Actor}
 use Rattle.sqs_model.specs.Counts.{actor_count, greatest}
 use Rattle.sim_site.proofs.Greatest.{greatest_take}

@@ -13,11 +13,11 @@ returns-clause-hosted c =
     record {
       some = c.requires.hosted.some;
       few = c.requires.hosted.few;
-      hosted = subst (All (IsHosted c.args.hosts)) (sym c.put.ensures.items) (put_hosted c.args.hosts c.args.number c.args.state mark c.args.shelf.now.items c.host_bit-host.ensures c.requires.hosted.hosted);
+      hosted = subst (All (IsHosted c.args.hosts)) (sym c.put-found.ensures.items) (put_hosted c.args.hosts c.args.number c.args.state mark c.args.shelf.now.items c.host_bit-host.ensures c.requires.hosted.hosted);
     }
 
 pub returns-clause-changed : goal.returns-clause-changed
 returns-clause-changed c =
     let mark : Mark = record { due = c.args.due; hosts = c.host_bit-host.result } in
-    ap (map unhosted) c.put.ensures.items
-    ∙ unhosted_alike (is_numbered c.args.number) (λ (s : Shelved). let t : Shelved = record { message = restated c.args.state s.message; mark = mark } in t) (restamped c.args.state c.args.due) (λ s. refl) c.args.shelf.now.items
+    ap (map unhosted) c.put-found.ensures.items
+    ∙ unhosted_alike (is_numbered c.args.number) (λ (s : Shelved). let t : Shelved = record s { message = restated c.args.state s.message; mark = mark } in t) (restamped c.args.state c.args.due) (λ s. refl) c.args.shelf.now.items

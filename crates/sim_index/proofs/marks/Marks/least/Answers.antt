@@ -1,11 +1,15 @@
-use Rattle.std.proofs.Common.{List, ap, ◌∙◌}
+use Rattle.std.proofs.Common.{List, length, refl, ap, ◌∙◌}
+use Rattle.std.proofs.lemmas.List.{get_or_read_under}
 use Rattle.sim_index.specs.declared.mark.Mark.{Mark}
-use Rattle.sim_index.specs.Marks.{least_of, node}
-use Rattle.sim_index.proofs.Spans.{root_least}
+use Rattle.sim_index.specs.declared.marks.Node.{Node}
+use Rattle.sim_index.specs.Marks.{least_of, no_mark}
+use Rattle.sim_index.proofs.Trees.{least_read, root_read}
 use Rattle.sim_index.proofs.marks.Marks.least.Goals as goal
 
 pub returns : goal.returns
 returns c =
-    ap (λ (m : Mark). m.due) (c.mark_at.ensures ∙ ap (λ (r : List Mark). node r 1) c.deref.ensures.value)
-    ∙ root_least c.self.inside.nodes.items c.self.inside.width c.self.invariant
+    let marks : List Mark = c.self.inside.marks.items in
+    let nodes : List Node = c.self.inside.nodes.items in
+    let root = root_read marks nodes c.self.invariant c.deref.result.now c.in_ok-get.field-0.now c.deref.ensures.value (c.in_ok-get.ensures.lookup.0, c.in_ok-get.ensures.lookup.1) in
+    least_read marks nodes c.self.invariant c.in_ok-get.field-0.now c.index.result.now root.0 root.1 (get_or_read_under marks c.in_ok-get.field-0.now.place (length marks) c.index.result.now no_mark c.index.ensures root.2 refl)
     ∙ ap least_of c.self.view_is

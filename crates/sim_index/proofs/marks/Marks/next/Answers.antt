@@ -1,55 +1,54 @@
-use Rattle.std.proofs.Common.{Bool, List, ap, arith, drop, length, subst, sym, true, ℕ, ◌*◌, ◌+◌, ◌∙◌, ◌≡◌}
+use Rattle.std.proofs.Common.{Bool, List, ap, arith, length, rules, subst, sym, true, ℕ, ◌*◌, ◌+◌, ◌-◌, ◌∙◌, ◌≡◌}
 use Rattle.std.specs.List.{list_any}
 use Rattle.sim_index.specs.declared.mark.Mark.{Mark}
-use Rattle.sim_index.specs.Marks.{ArePairs, IsNextIn, IsTree, NoneIn, meets, tells}
-use Rattle.sim_index.proofs.Rows.{next_of_leaves, none_of_leaves, some_of_root}
-use Rattle.sim_index.proofs.Told.{none_any, root_any}
+use Rattle.sim_index.specs.declared.marks.Node.{Node}
+use Rattle.sim_index.specs.Marks.{ArePairs, IsNextIn, IsTree, NoneIn, bare, meets, tells}
+use Rattle.sim_index.proofs.Told.{none_any}
+use Rattle.sim_index.proofs.Trees.{next_of_places, none_of_places, pairs_bare, root_tells}
 use Rattle.sim_index.proofs.marks.Marks.next.Goals as goal
 
--- what the first node tells
-root : (nodes leaves : List Mark) (width hosts : ℕ) (has told : Bool) → IsTree nodes width → drop width nodes ≡ leaves → has ≡ list_any (meets hosts) leaves → has ≡ told → tells nodes hosts 1 ≡ told
-root nodes leaves width hosts has told tree view is tells_it = root_any nodes width hosts tree ∙ ap (list_any (meets hosts)) view ∙ sym is ∙ tells_it
+-- the first node tells, where some place does
+root : (marks view : List Mark) (nodes seen : List Node) (hosts : ℕ) (has : Bool) → IsTree marks nodes → marks ≡ view → seen ≡ nodes → has ≡ list_any (meets hosts) view → has ≡ true → tells (bare seen) hosts 1 ≡ true
+root marks view nodes seen hosts has tree same see is told = ap (λ (ns : List Node). tells (bare ns) hosts 1) see ∙ root_tells marks nodes tree hosts ∙ ap (list_any (meets hosts)) same ∙ sym is ∙ told
 
 pub returns-then-not-has_on : goal.returns-then-not-has_on
 returns-then-not-has_on c = none_any c.args.hosts c.args.self.now c.args.from (sym c.has_on.ensures ∙ c.if-not-has_on.true)
 
-pub first_told-requires : goal.first_told-requires
-first_told-requires c =
-    let items : List Mark = c.self.inside.nodes.items in
-    let told : tells items c.args.hosts 1 ≡ true = root items c.args.self.now c.self.inside.width c.args.hosts c.has_on.result true c.self.invariant c.self.view_is c.has_on.ensures c.if-not-has_on.false in
-    record {
-      pairs = subst ArePairs (sym c.deref.ensures.value) c.self.invariant.pairs;
-      power = c.self.invariant.power (some_of_root items c.self.inside.width c.args.hosts c.self.invariant.long told);
-      within = omega (arith, ap length c.deref.ensures.value, c.self.invariant.long);
-      told = ap (λ (ns : List Mark). tells ns c.args.hosts 1) c.deref.ensures.value ∙ told;
-    }
+-- what is found from a place on, at the end of the way down
+found : (marks view : List Mark) (nodes seen : List Node) (hosts width from n : ℕ) → IsTree marks nodes → marks ≡ view → seen ≡ nodes → width ≡ length marks → IsNextIn (bare seen) hosts (width + from) (2 * width) n → IsNextIn view hosts from (length view) (n - width)
+found marks view nodes seen hosts width from n tree same see wide is =
+    let here : IsNextIn (bare nodes) hosts (length marks + from) (2 * length marks) n = subst (λ (ns : List Node). IsNextIn (bare ns) hosts (length marks + from) (2 * length marks) n) see (subst (λ (w : ℕ). IsNextIn (bare seen) hosts (w + from) (2 * w) n) wide is) in
+    subst (λ (ms : List Mark). IsNextIn ms hosts from (length ms) (n - width)) same (subst (λ (w : ℕ). IsNextIn marks hosts from (length marks) (n - w)) (sym wide) (next_of_places marks nodes tree hosts from n here))
+
+absent : (marks view : List Mark) (nodes seen : List Node) (hosts width from : ℕ) → IsTree marks nodes → marks ≡ view → seen ≡ nodes → width ≡ length marks → NoneIn (bare seen) hosts (width + from) (2 * width) → NoneIn view hosts from (length view)
+absent marks view nodes seen hosts width from tree same see wide is =
+    let here : NoneIn (bare nodes) hosts (length marks + from) (2 * length marks) = subst (λ (ns : List Node). NoneIn (bare ns) hosts (length marks + from) (2 * length marks)) see (subst (λ (w : ℕ). NoneIn (bare seen) hosts (w + from) (2 * w)) wide is) in
+    subst (λ (ms : List Mark). NoneIn ms hosts from (length ms)) same (none_of_places marks nodes tree hosts from here)
+
+pub first_told-requires-clause-pairs : goal.first_told-requires-clause-pairs
+first_told-requires-clause-pairs c = subst (λ (ns : List Node). ArePairs (bare ns)) (sym c.deref.ensures.value) (pairs_bare c.self.inside.marks.items c.self.inside.nodes.items c.self.invariant)
+
+pub first_told-requires-clause-told : goal.first_told-requires-clause-told
+first_told-requires-clause-told c =
+    root c.self.inside.marks.items c.args.self.now c.self.inside.nodes.items c.deref.result.now c.args.hosts c.has_on.result c.self.invariant c.self.view_is c.deref.ensures.value c.has_on.ensures c.if-not-has_on.false
 
 pub returns-then-from-eq0 : goal.returns-then-from-eq0
 returns-then-from-eq0 c =
-    let items : List Mark = c.self.inside.nodes.items in
-    let width : ℕ = c.self.inside.width in
+    let width : ℕ = c.len-width.result in
+    let wide : width ≡ length c.self.inside.marks.items = search rules in
     let start : width ≡ width + c.args.from = omega (arith, c.if-from-eq0.true) in
-    next_of_leaves items c.args.self.now width c.args.hosts c.self.invariant c.self.view_is c.args.from c.first_told.result
-    (subst (λ (m : ℕ). IsNextIn items c.args.hosts m (2 * width) c.first_told.result) start
-    (subst (λ (ns : List Mark). IsNextIn ns c.args.hosts width (2 * width) c.first_told.result) c.deref.ensures.value c.first_told.ensures))
+    found c.self.inside.marks.items c.args.self.now c.self.inside.nodes.items c.deref.result.now c.args.hosts width c.args.from c.first_told.result c.self.invariant c.self.view_is c.deref.ensures.value wide
+    (subst (λ (m : ℕ). IsNextIn (bare c.deref.result.now) c.args.hosts m (2 * width) c.first_told.result) start c.first_told.ensures)
 
-pub next_in-requires : goal.next_in-requires
-next_in-requires c =
-    let items : List Mark = c.self.inside.nodes.items in
-    let told : tells items c.args.hosts 1 ≡ true = root items c.args.self.now c.self.inside.width c.args.hosts c.has_on.result true c.self.invariant c.self.view_is c.has_on.ensures c.if-not-has_on.false in
-    record {
-      power = c.self.invariant.power (some_of_root items c.self.inside.width c.args.hosts c.self.invariant.long told);
-      within = omega (arith, ap length c.deref-2.ensures.value, c.self.invariant.long);
-      pairs = subst ArePairs (sym c.deref-2.ensures.value) c.self.invariant.pairs;
-      from = omega arith;
-    }
+pub next_in-requires-clause-pairs : goal.next_in-requires-clause-pairs
+next_in-requires-clause-pairs c = subst (λ (ns : List Node). ArePairs (bare ns)) (sym c.deref-2.ensures.value) (pairs_bare c.self.inside.marks.items c.self.inside.nodes.items c.self.invariant)
 
 pub returns-in-None : goal.returns-in-None
 returns-in-None c =
-    none_of_leaves c.self.inside.nodes.items c.args.self.now c.self.inside.width c.args.hosts c.self.invariant c.self.view_is c.args.from
-    (subst (λ (ns : List Mark). NoneIn ns c.args.hosts (c.self.inside.width + c.args.from) (2 * c.self.inside.width)) c.deref-2.ensures.value c.in-None.ensures)
+    let wide : c.len-width.result ≡ length c.self.inside.marks.items = search rules in
+    absent c.self.inside.marks.items c.args.self.now c.self.inside.nodes.items c.deref-2.result.now c.args.hosts c.len-width.result c.args.from c.self.invariant c.self.view_is c.deref-2.ensures.value wide c.in-None.ensures
 
 pub returns-in-Some : goal.returns-in-Some
 returns-in-Some c =
-    next_of_leaves c.self.inside.nodes.items c.args.self.now c.self.inside.width c.args.hosts c.self.invariant c.self.view_is c.args.from c.in-Some.node
-    (subst (λ (ns : List Mark). IsNextIn ns c.args.hosts (c.self.inside.width + c.args.from) (2 * c.self.inside.width) c.in-Some.node) c.deref-2.ensures.value c.in-Some.ensures)
+    let wide : c.len-width.result ≡ length c.self.inside.marks.items = search rules in
+    found c.self.inside.marks.items c.args.self.now c.self.inside.nodes.items c.deref-2.result.now c.args.hosts c.len-width.result c.args.from c.in-Some.node c.self.invariant c.self.view_is c.deref-2.ensures.value wide c.in-Some.ensures

@@ -1,29 +1,26 @@
-use Rattle.std.proofs.Common.{List, None, Option, Some, ap, drop, subst, sym, ℕ, ◌-◌, ◌<◌, ◌∙◌, ◌≡◌, ◌≤◌}
-use Rattle.std.specs.Prelude.{◌≢◌}
-use Rattle.sim_clock.specs.declared.key.Key.{Key}
+use Rattle.std.proofs.Common.{List, None, Some, ap, length, refl, subst, sym, ◌∙◌, ◌≡◌}
+use Rattle.std.proofs.lemmas.List.{get_or_read_under}
 use Rattle.sim_index.specs.declared.mark.Mark.{Mark}
-use Rattle.sim_index.specs.Marks.{IsPlaceOfLeast, IsTree, least_of, node}
-use Rattle.sim_index.proofs.Spans.{leaf_least, root_least}
+use Rattle.sim_index.specs.declared.marks.Node.{Node}
+use Rattle.sim_index.specs.Marks.{IsPlaceOfLeast, least_of, no_mark}
+use Rattle.sim_index.proofs.Trees.{least_read, place_read, root_read}
 use Rattle.sim_index.proofs.marks.Marks.place_of_least.Goals as goal
 
--- something is due, if the least of the leaves is
-told : (nodes marks : List Mark) (width : ℕ) (least : Option Key) (key : Key) → IsTree nodes width → drop width nodes ≡ marks → least ≡ least_of marks → least ≡ Some key → (node nodes 1).due ≢ None
-told nodes marks width least key tree view is some e =
-    let none : Some key ≡ None = sym some ∙ is ∙ ap least_of (sym view) ∙ sym (root_least nodes width tree) ∙ e in
-    cc
-
-pub leaf_of-requires-clause-due : goal.leaf_of-requires-clause-due
-leaf_of-requires-clause-due c =
-    subst (λ (ns : List Mark). (node ns 1).due ≢ None) (sym c.deref.ensures.value)
-    (told c.self.inside.nodes.items c.args.self.now c.self.inside.width c.least.result c.in_ok-least.field-0 c.self.invariant c.self.view_is c.least.ensures c.in_ok-least.was)
+pub returns-in_err-index : goal.returns-in_err-index
+returns-in_err-index c =
+    let marks : List Mark = c.self.inside.marks.items in
+    let nodes : List Node = c.self.inside.nodes.items in
+    let root = root_read marks nodes c.self.invariant c.deref.result.now c.in_ok-root.root.now c.deref.ensures.value (c.in_ok-root.ensures.lookup.0, c.in_ok-root.ensures.lookup.1) in
+    let none : least_of marks ≡ None =
+    sym (least_read marks nodes c.self.invariant c.in_ok-root.root.now c.index.result.now root.0 root.1 (get_or_read_under marks c.in_ok-root.root.now.place (length marks) c.index.result.now no_mark c.index.ensures root.2 refl)) ∙ c.in_err-index.was in
+    rw c.from_residual-in_err-index.ensures (ap least_of (sym c.self.view_is) ∙ none)
 
 pub returns : goal.returns
 returns c =
-    let items : List Mark = c.self.inside.nodes.items in
-    let width : ℕ = c.self.inside.width in
-    let leaf : ℕ = c.leaf_of.result in
-    subst (λ (marks : List Mark). IsPlaceOfLeast marks (leaf - width)) c.self.view_is
-    (leaf_least items width leaf c.self.invariant c.leaf_of.ensures.leaf c.leaf_of.ensures.within
-    (told items c.args.self.now width c.least.result c.in_ok-least.field-0 c.self.invariant c.self.view_is c.least.ensures c.in_ok-least.was)
-    (subst (λ (ns : List Mark). (node ns leaf).due ≡ (node ns 1).due) c.deref.ensures.value c.leaf_of.ensures.due)
-    (subst (λ (ns : List Mark). (k : ℕ) → width ≤ k → k < leaf → (node ns k).due ≢ (node ns 1).due) c.deref.ensures.value c.leaf_of.ensures.first))
+    let marks : List Mark = c.self.inside.marks.items in
+    let nodes : List Node = c.self.inside.nodes.items in
+    let root = root_read marks nodes c.self.invariant c.deref.result.now c.in_ok-root.root.now c.deref.ensures.value (c.in_ok-root.ensures.lookup.0, c.in_ok-root.ensures.lookup.1) in
+    let some : c.index.result.now.due ≡ Some c.in_ok-index.field-0 = c.in_ok-index.was in
+    subst (λ (ms : List Mark). IsPlaceOfLeast ms c.in_ok-root.root.now.place) c.self.view_is
+    (place_read marks nodes c.self.invariant c.in_ok-root.root.now c.index.result.now root.0 root.1 (get_or_read_under marks c.in_ok-root.root.now.place (length marks) c.index.result.now no_mark c.index.ensures root.2 refl)
+    (λ e. let f = sym some ∙ e in cc))

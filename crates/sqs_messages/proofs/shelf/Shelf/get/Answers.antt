@@ -24,6 +24,6 @@ returns c =
     let read : x ≡ get_or list.values place x = c.index-slots-branch.is ∙ ap (λ slots. get_or slots place x) c.values-slots.ensures.values in
     c.as_ref.ensures.value
     ∙ ap (λ (s : Slot). s.message) (sym c.index-slots-branch.is)
-    ∙ shown_message x.message (node list.marks place)
+    ∙ shown_message x.message (node list.marks place) x.group
     ∙ ap (option_map (λ (s : Shelved). s.message))
     (sym (found c.self.invariant.places c.in_ok-place_of.ensures c.values-slots.ensures.values read) ∙ ap (λ (h : Holding). find (is_numbered c.args.number) h.items) c.self.view_is)

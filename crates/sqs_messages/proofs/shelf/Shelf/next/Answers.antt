@@ -1,21 +1,20 @@
 use Rattle.std.proofs.Common.{◌<◌, ◌≡◌, List, ap, get_or, length, subst, sym, ◌∙◌}
 use Rattle.std.specs.Prelude.{find}
-use Rattle.std.specs.Option.{option_copied, option_map}
-use Rattle.sim_index.specs.Marks.{no_mark, node}
+use Rattle.std.specs.Option.{option_map}
 use Rattle.sqs_messages.specs.declared.slot.Slot.{Slot}
-use Rattle.sqs_messages.specs.Slots.{Holding, IsNamed, Shelved, number_of}
-use Rattle.sqs_messages.proofs.Marked.{next_found, next_none, shown_message, wanted}
-use Rattle.sqs_messages.proofs.Shelves.{IsFrom, zip_at}
+use Rattle.sqs_messages.specs.Slots.{Holding, number_and_group, number_of}
+use Rattle.sqs_messages.proofs.Marked.{next_found, next_none, wanted}
+use Rattle.sqs_messages.proofs.Shelves.{IsFrom}
 use Rattle.sqs_model.specs.Progress.{Ascends}
-use Rattle.sqs_messages.proofs.Wanted.{read_bound, shelf_ascends}
+use Rattle.sqs_messages.proofs.Wanted.{shelf_ascends}
 use Rattle.sqs_messages.proofs.shelf.Shelf.next.Goals as goal
 
 pub returns-in_err-place-clause-found : goal.returns-in_err-place-clause-found
 returns-in_err-place-clause-found c =
     let first : IsFrom c.values-slots.result.now c.args.from c.first_from.result = record { bound = c.first_from.ensures.bound; below = c.first_from.ensures.below; above = c.first_from.ensures.from } in
     let from : IsFrom c.self.inside.slots.values c.args.from c.first_from.result = subst (λ (slots : List Slot). IsFrom slots c.args.from c.first_from.result) c.values-slots.ensures.values first in
-    ap option_copied c.from_residual.ensures
-    ∙ ap (option_map (λ (s : Shelved). s.message))
+    c.from_residual.ensures
+    ∙ ap (option_map number_and_group)
     (sym (next_none c.self.inside.slots c.self.inside.next c.args.from c.args.hosts c.first_from.result c.self.invariant.places from c.in_err-place.ensures.first)
     ∙ ap (λ (h : Holding). find (wanted c.args.from c.args.hosts) h.items) c.self.view_is)
 
@@ -30,12 +29,8 @@ returns-clause-found c =
     let first : IsFrom c.values-slots.result.now c.args.from c.first_from.result = record { bound = c.first_from.ensures.bound; below = c.first_from.ensures.below; above = c.first_from.ensures.from } in
     let from : IsFrom list.values c.args.from c.first_from.result = subst (λ (slots : List Slot). IsFrom slots c.args.from c.first_from.result) c.values-slots.ensures.values first in
     let read : x ≡ get_or list.values place x = c.index-slots-place.is ∙ ap (λ slots. get_or slots place x) c.values-slots.ensures.values in
-    c.as_ref.ensures.value
-    ∙ ap (λ (s : Slot). s.message) (sym c.index-slots-place.is)
-    ∙ shown_message x.message (node list.marks place)
-    ∙ ap (option_map (λ (s : Shelved). s.message))
-    (sym (next_found list c.self.inside.next c.args.from c.args.hosts c.first_from.result c.self.invariant.places from place x c.in_ok-place.ensures.first c.in_ok-place.ensures.there read)
-    ∙ ap (λ (h : Holding). find (wanted c.args.from c.args.hosts) h.items) c.self.view_is)
+    next_found list c.self.inside.next c.args.from c.args.hosts c.first_from.result c.self.invariant.places from place x c.in_ok-place.ensures.first c.in_ok-place.ensures.there read
+    ∙ ap (λ (h : Holding). option_map number_and_group (find (wanted c.args.from c.args.hosts) h.items)) c.self.view_is
 
 pub returns-clause-ordered : goal.returns-clause-ordered
 returns-clause-ordered c = subst (λ (h : Holding). Ascends number_of 0 h.items) c.self.view_is (shelf_ascends c.self.inside.slots c.self.inside.next c.self.invariant.places)
@@ -47,6 +42,5 @@ returns-clause-bound c =
     let place = c.in_ok-place.place in
     let within : place < length list.values = c.in_ok-place.ensures.there in
     let read : x ≡ get_or list.values place x = c.index-slots-place.is ∙ ap (λ slots. get_or slots place x) c.values-slots.ensures.values in
-    let named : IsNamed x (node list.marks place) = subst (λ (s : Slot). IsNamed s (node list.marks place)) (sym read) (zip_at IsNamed list.values list.marks place x no_mark c.self.invariant.places.named within) in
     let less : x.number < c.self.inside.next = subst (λ (s : Slot). s.number < c.self.inside.next) (sym read) (c.self.invariant.places.below place x within) in
-    read_bound (λ m. m.now) c.as_ref.result x.message x.number c.args.self.now.next (c.as_ref.ensures.value ∙ ap (λ (s : Slot). s.message) (sym c.index-slots-place.is)) named.number (subst (λ (h : Holding). x.number < h.next) c.self.view_is less)
+    subst (λ (h : Holding). x.number < h.next) c.self.view_is less

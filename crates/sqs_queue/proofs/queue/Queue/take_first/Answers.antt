@@ -9,14 +9,14 @@ use Rattle.sqs_queue.proofs.queue.Queue.take_first.Goals as goal
 
 pub take_each-stuck-requires-clause-apart : goal.take_each-stuck-requires-clause-apart
 take_each-stuck-requires-clause-apart c =
-    chosen_differ c.self.inside.messages c.all_hosts.result c.args.most c.deref.result.now c.in_ok-choice.ensures.ordered (c.deref.ensures.value ∙ c.in_ok-choice.ensures.numbers)
+    chosen_differ c.self.inside.messages c.all_hosts.result c.args.most c.deref.result.now c.in_ok-choice.ensures.ordered (c.deref.ensures ∙ c.in_ok-choice.ensures.numbers)
 
 pub returns-clause-taken : goal.returns-clause-taken
 returns-clause-taken c =
     let q : Queue = c.self.inside.messages in
     let before : Queue = record q { entries = c.self.inside.entries } in
     let hosts : all_hosts q.settings.kind ≡ c.all_hosts.result = ap (λ (r : Queue). all_hosts r.settings.kind) c.self.view_is ∙ sym c.all_hosts.ensures in
-    let same = chosen_messages q c.all_hosts.result c.args.most c.deref.result.now c.in_ok-choice.ensures.ordered (c.deref.ensures.value ∙ c.in_ok-choice.ensures.numbers) in
+    let same = chosen_messages q c.all_hosts.result c.args.most c.deref.result.now c.in_ok-choice.ensures.ordered (c.deref.ensures ∙ c.in_ok-choice.ensures.numbers) in
     ap (λ (r : Queue). take_each r c.args.to (take c.args.most (all_available r))) (sym c.self.view_is)
     ∙ ap (λ h. take_each before c.args.to (take c.args.most (available q h))) hosts
     ∙ ap (take_each before c.args.to) (sym same)
