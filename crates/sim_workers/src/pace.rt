@@ -1,6 +1,6 @@
 //! Where rounds are cut, so that the rows that wait stay few, and when those that wait are settled.
-ghost use Rattle.std.specs.Prelude.{◌≡◌};
-ghost use Rattle.sim_workers.specs.Paces.{added, is_full, next_stretch, settled_after, span_after};
+ghost use Rattle.std.specs.Prelude.{◌≡◌, ◌+◌};
+ghost use Rattle.sim_workers.specs.Paces.{added, is_full, next_stretch, settled_after, span_after, word_of};
 
 // A stretch of fewer rows is too short.
 const FEW: u64 = 16_384;
@@ -13,14 +13,14 @@ const FULL: u64 = 64;
 // as far as there are no more partitions than these.
 const SEVERAL: u64 = 16;
 
-/// How far rounds go. Time is cut into stretches: no round goes past the end of its stretch. A stretch of
-/// few rows is followed by one twice as long, and one of many by one half as long. It counts the rows
-/// that wait, too.
+/// How far rounds go. Time is cut into stretches: one of few rows is followed by one twice as long, and one
+/// of many by one half as long. A round goes no further than a stretch is long. It counts the rows that
+/// wait, too.
 #[derive(Drop)]
 pub struct Pace {
     /// The length of a stretch, in milliseconds.
     pub span: u64,
-    /// The end of this stretch, in milliseconds.
+    /// The end of this stretch, in milliseconds. A round may go past it.
     pub cut: u64,
     /// How many rows this stretch made.
     pub made: u64,
@@ -57,18 +57,19 @@ impl Pace {
         }
     }
 
-    /// The end of the stretch in which something is handled at a moment: of this one, or of the next
-    /// where the moment is not before its end, or a whole stretch and more before it.
+    /// How far a round goes that begins at a moment: as far as the stretch is long, this one, or the next where
+    /// the moment is not before its end, or a whole stretch and more before it. So a round is not cut short
+    /// where a stretch ends.
     pub fn cut_at(&mut self, at: u64) -> u64
         ensures paced { self.new ≡ next_stretch self.old at }
-        ensures cut { result ≡ self.new.cut }
+        ensures cut { result ≡ word_of (at + self.new.span) }
     {
         if self.cut <= at || at.saturating_add(self.span) < self.cut {
             self.span = self.next_span();
             self.cut = at.saturating_add(self.span);
             self.made = 0;
         }
-        self.cut
+        at.saturating_add(self.span)
     }
 
     /// Counts the rows of a round.
