@@ -1,6 +1,6 @@
 //! The heads of some lists, the least of them at hand.
 ghost use Rattle.std.specs.Ordering.{is_lt};
-ghost use Rattle.std.specs.Prelude.{◌≡◌, ◌*◌, ◌+◌, ◌/◌, ◌<◌, IfOk, drop, length, replicate, set, vec_len};
+ghost use Rattle.std.specs.Prelude.{◌≡◌, ◌*◌, ◌+◌, ◌/◌, ◌<◌, IfOk, drop, length, replicate, set, true, vec_len};
 ghost use Rattle.sim_exchange.specs.Heads.{AreLesserBut, IsLeast, first_cmp, head_cmp, head_in, lesser, no_head};
 
 use sim_clock::{Class, Key};
@@ -36,6 +36,16 @@ impl Head {
             site: 0,
             place,
         }
+    }
+
+    // Whether it is the same as another one, where that is told.
+    fn is_same(&self, other: &Head) -> bool
+        ensures { result ≡ true → self.now ≡ other.now }
+    {
+        self.key == other.key
+            && self.site == other.site
+            && self.is_done == other.is_done
+            && self.place == other.place
     }
 
     // Whether it comes before another one.
@@ -124,12 +134,16 @@ impl Heads {
         Ok(Heads { nodes, width })
     }
 
-    /// Puts the head of a list, after a comparison for each doubling of the number of lists.
+    /// Puts the head of a list, after a comparison for each doubling of the number of lists; none where it
+    /// is there already, as after a row whose handling made one more.
     pub fn put(&mut self, place: usize, head: Head)
         requires { place < length self.old }
         ensures { self.new ≡ set self.old place head }
     {
         let node = self.width + place;
+        if self.nodes[node].is_same(&head) {
+            return;
+        }
         self.nodes[node] = head;
         mend(&mut self.nodes, self.width, node);
     }

@@ -50,7 +50,7 @@ fn deal_all<S: Site>(
 fn no_lists<S: Site>(alloc: Global, parts: u32) -> Result<Vec<Vec<S::Transfer>>, AllocError>
     ensures { IfOk result (λ lists. (owner : ℕ → ℕ) → map (λ l. l.items) lists.items ≡ dealt S.engine owner parts []) }
 {
-    let mut lists = Vec::new(alloc);
+    let mut lists = Vec::with_capacity(alloc, parts as usize)?;
     for _part in 0..parts {
         lists.push(Vec::new(alloc))?;
     }

@@ -1,5 +1,7 @@
 -- Marks that are each what a function gives of its value, and the least of what they tell.
-use Rattle.std.proofs.Common.{◌≡◌, ℕ, ◌<◌, List, [], ◌∷◌, ◌++◌, Some, flat_map, get_or, length, map, set, refl, ap, sym, ◌∙◌}
+use Rattle.std.proofs.Common.{◌≡◌, ℕ, ◌<◌, List, [], ◌∷◌, ◌++◌, Err, Ok, Result, Some, flat_map, get_or, length, map, set, refl, ap, sym, ◌∙◌}
+use Rattle.std.specs.List.{AllZip}
+use Rattle.std.specs.Prelude.{IfOk}
 use Rattle.std.proofs.lemmas.List.{get_or-map, get_or-set_same, map-append, map-set}
 use Rattle.sim_clock.specs.declared.key.Key.{Key}
 use Rattle.sim_clock.specs.Order.{least, lesser}
@@ -41,6 +43,20 @@ module _ {A : Type 0} (mark : A → Mark) where
   -- one more value with its mark
   pub marked_more : (old new : Marked A) (x : A) (m : Mark) → AreMarked mark old → new.values ≡ old.values ++ x ∷ [] → new.marks ≡ old.marks ++ m ∷ [] → m ≡ mark x → AreMarked mark new
   marked_more old new x m h values marks told = marks ∙ push_kept old.values old.marks x m h told ∙ ap (map mark) (sym values)
+
+  -- marks that were each told of their value
+  told_kept : (answers : A → Mark → Type 0) → ((x : A) (m : Mark) → answers x m → m ≡ mark x) → (values : List A) (marks : List Mark) → AllZip answers values marks → marks ≡ map mark values
+  told_kept answers told [] [] h = refl
+  told_kept answers told [] (m ∷ ms) h = absurd h
+  told_kept answers told (x ∷ xs) [] h = absurd h
+  told_kept answers told (x ∷ xs) (m ∷ ms) h = λ j. told x m h.0 j ∷ told_kept answers told xs ms h.1 j
+
+  -- a list that was made of values, if there was memory
+  pub made_kept :
+      {E : Type 0} (answers : A → Mark → Type 0) → ((x : A) (m : Mark) → answers x m → m ≡ mark x) → (values : List A) (made : Result (Marked A) E)
+      → IfOk made (λ list. list.values ≡ values) → IfOk made (λ list. AllZip answers values list.marks) → IfOk made (AreMarked mark)
+  made_kept answers told values (Err e) same marked = tt
+  made_kept answers told values (Ok list) same marked = told_kept answers told values list.marks marked ∙ ap (map mark) (sym same)
 
   -- the least of the marks is the least of what is due
   pub least_kept : (dues : A → List Key) → ((x : A) → (mark x).due ≡ least (dues x)) → (values : List A) → least_of (map mark values) ≡ least (flat_map dues values)

@@ -26,19 +26,33 @@ fn tree_of(alloc: Global, width: usize, marks: &[Mark]) -> Result<Marks, AllocEr
     Marks::of(alloc, places, marks)
 }
 
+// A tree of these marks, of as few places as it may have. Takes no memory where there are none.
+fn close_tree_of(alloc: Global, marks: &[Mark]) -> Result<Marks, AllocError>
+    ensures marks { IfOk result (λ m. (i : ℕ) → node m i ≡ node marks.now i) }
+    ensures room { IfOk result (λ m. length marks.now ≤ length m) }
+{
+    if marks.is_empty() {
+        return Ok(Marks::new(alloc));
+    }
+    if 1 << 60 <= marks.len() {
+        return Err(AllocError);
+    }
+    Marks::of(alloc, marks.len().next_power_of_two(), marks)
+}
+
 // What a closure answers about each value.
-fn answers<T, F: Fn(&T) -> bool>(
+fn answers<T, A: Drop, F: Fn(&T) -> A>(
     alloc: Global,
     values: &[T],
-    keeps: F,
-) -> Result<Vec<bool>, AllocError>
-    requires { F.IsAlwaysCallable keeps }
-    ensures told { IfOk result (λ told. AllZip (FnReturnsAt F.Fn keeps) values.now told.items) }
+    answer: F,
+) -> Result<Vec<A>, AllocError>
+    requires { F.IsAlwaysCallable answer }
+    ensures told { IfOk result (λ told. AllZip (FnReturnsAt F.Fn answer) values.now told.items) }
     ensures length { IfOk result (λ told. length told.items ≡ length values.now) }
 {
     let mut told = Vec::with_capacity(alloc, values.len())?;
     for value in values {
-        told.push_reserved(keeps(value));
+        told.push_reserved(answer(value));
     }
     Ok(told)
 }
@@ -111,6 +125,27 @@ impl<T> MarkedList<T> {
             tree: Marks::new(alloc),
             alloc,
         }
+    }
+
+    /// These values, each with the mark that the closure tells of it. The error is want of memory.
+    pub fn of<F: Fn(&T) -> Mark>(
+        alloc: Global,
+        values: Vec<T>,
+        mark_of: F,
+    ) -> Result<MarkedList<T>, AllocError>
+    where
+        T: Drop,
+        requires { F.IsAlwaysCallable mark_of }
+        ensures values { IfOk result (λ list. list.values ≡ values.items) }
+        ensures marks { IfOk result (λ list. AllZip (FnReturnsAt F.Fn mark_of) values.items list.marks) }
+    {
+        let marks = answers(alloc, &values, mark_of)?;
+        let tree = close_tree_of(alloc, &marks)?;
+        Ok(MarkedList {
+            values,
+            tree,
+            alloc,
+        })
     }
 
     /// The values, of each of which there is a mark.

@@ -36,6 +36,14 @@ module _ {Site Row Transfer : Type 0} {engine : Engine Site Row Transfer} {condi
   ascends_delivered [] n w h = h
   ascends_delivered (o ∷ os) n w h = ascends_delivered os n (map (delivered_one engine o) w) (ascends_one o n w h)
 
+  numbers_one : (o : Transfer) (w : List Site) → map number (map (delivered_one engine o) w) ≡ map number w
+  numbers_one o [] = refl
+  numbers_one o (s ∷ ss) = ap (λ k. k ∷ map number (map (delivered_one engine o) ss)) (one_number basics o s) ∙ ap (λ ks. number s ∷ ks) (numbers_one o ss)
+
+  pub numbers_delivered : (os : List Transfer) (w : List Site) → map number (delivered engine os w) ≡ map number w
+  numbers_delivered [] w = refl
+  numbers_delivered (o ∷ os) w = numbers_delivered os (map (delivered_one engine o) w) ∙ numbers_one o w
+
   -- one more delivered after others
   pub delivered_more : (os : List Transfer) (o : Transfer) (w : List Site) → delivered engine (os ++ o ∷ []) w ≡ map (delivered_one engine o) (delivered engine os w)
   delivered_more [] o w = refl

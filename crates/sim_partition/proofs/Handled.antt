@@ -1,5 +1,5 @@
 -- The handling of the first site that a key is due at.
-use Rattle.std.specs.Prelude.{All, Bool, List, None, Option, Some, [], cond, false, find, if◌then◌else◌, set, get_or, true, ℕ, ◌+◌, ◌∷◌, ◌≡◌, ◌≤◌}
+use Rattle.std.specs.Prelude.{All, Bool, List, None, Option, Some, [], cond, false, find, if◌then◌else◌, map, set, get_or, true, ℕ, ◌+◌, ◌∷◌, ◌≡◌, ◌≤◌}
 use Rattle.std.proofs.Common.{ap, arith, refl, subst, sym, ◌∙◌}
 use Rattle.std.proofs.lemmas.List.Elements.{All-cons, All-head, All-nil, All-tail}
 use Rattle.std.proofs.Math.Nat.{le-max_left, le-max_right}
@@ -94,6 +94,14 @@ module _ {Site Row Transfer : Type 0} {engine : Engine Site Row Transfer} {condi
         elim (due_here x) as (λ b. Ascends number n (if b then handled_here engine (handled key x) xs else handled_there engine x (handled_among engine key xs)).sites) [
           | true ↦ subst (λ k. (n ≤ k) × Ascends number (k + 1) xs) (sym (number_handled key x)) h
           | false ↦ (h.0, ascends_among (number x + 1) xs h.1)
+        ]
+
+    pub numbers_among : (w : List Site) → map number (handled_among engine key w).sites ≡ map number w
+    numbers_among [] = refl
+    numbers_among (x ∷ xs) =
+        elim (due_here x) as (λ b. map number (if b then handled_here engine (handled key x) xs else handled_there engine x (handled_among engine key xs)).sites ≡ number x ∷ map number xs) [
+          | true ↦ ap (λ k. k ∷ map number xs) (number_handled key x)
+          | false ↦ ap (λ ks. number x ∷ ks) (numbers_among xs)
         ]
 
     -- a handling at a moment leaves nothing from after it

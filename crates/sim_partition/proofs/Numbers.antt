@@ -1,7 +1,12 @@
 -- Numbers of sites, which ascend.
-use Rattle.std.specs.Prelude.{List, [], false, get_or, if◌then◌else◌, length, map, set, suc, zero, ℕ, ◌+◌, ◌<◌, ◌==◌, ◌∷◌, ◌≡◌, ◌≢◌, ◌≤◌}
-use Rattle.std.proofs.Common.{ap, arith, refl, sym, true}
+use Rattle.std.specs.List.Sorted.{IsBinarySearchResult}
+use Rattle.std.specs.Ordering.{nat_cmp}
+use Rattle.std.specs.Prelude.{Err, List, MatchResult, Ok, Result, [], false, get_or, if◌then◌else◌, length, map, set, suc, zero, ℕ, ◌+◌, ◌<◌, ◌==◌, ◌∷◌, ◌≡◌, ◌≢◌, ◌≤◌}
+use Rattle.std.proofs.Common.{ap, arith, inl, inr, refl, subst, sym, true}
+use Rattle.std.proofs.lemmas.Bool.{cases_lt}
 use Rattle.std.proofs.lemmas.Bool.Decides.{nat_tests}
+use Rattle.std.proofs.lemmas.List.{length-map}
+use Rattle.std.proofs.lemmas.List.Sorted.{searched}
 use Rattle.sim_engine.specs.Engine.{Engine}
 use Rattle.sim_engine.specs.Members.{Ascends}
 use Rattle.sim_engine.specs.World.{delivered_one}
@@ -32,6 +37,29 @@ module _ {Site Row Transfer : Type 0} (engine : Engine Site Row Transfer) where
   rises from zero (suc k) (s ∷ ss) h l u = let n : number s + 1 ≤ number_there ss k = at_least (number s + 1) k ss h.1 (omega arith) in omega (arith, n)
   rises from (suc i) zero (s ∷ ss) h l u = absurd (omega arith)
   rises from (suc i) (suc k) (s ∷ ss) h l u = rises (number s + 1) i k ss h.1 (omega arith) (omega arith)
+
+  -- a search among the numbers of sites, which are a list of their own
+  module _ (x from : ℕ) (w : List Site) (h : Ascends number from w) (ns : List ℕ) (are : ns ≡ map number w) (r : Result ℕ ℕ) (s : IsBinarySearchResult (λ y. nat_cmp y x) ns r) where
+    abbrev told : Result ℕ ℕ → Type 0
+    told q = MatchResult q (λ i. (i < length (map number w)) × (number_there w i ≡ x)) (λ i. (i ≤ length (map number w)) × ((k : ℕ) → k < i → number_there w k < x) × ((k : ℕ) → i ≤ k → k < length (map number w) → x < number_there w k))
+
+    found : told r
+    found =
+        searched (map number w) x r (subst (λ ms. IsBinarySearchResult (λ y. nat_cmp y x) ms r) are s)
+        (λ i j l u. rises from i j w h l (omega (arith, u, length-map w number)))
+
+    -- the place of the one that it finds
+    pub found_there : (i : ℕ) → r ≡ Ok i → (i < length w) × (number_there w i ≡ x)
+    found_there i e = let f : told (Ok i) = subst told e found in (omega (arith, f.0, length-map w number), f.1)
+
+    -- where it finds none there is none
+    pub found_nowhere : (i : ℕ) → r ≡ Err i → (k : ℕ) → k < length w → number_there w k ≢ x
+    found_nowhere i e k l q =
+        let f : told (Err i) = subst told e found in
+        elim (cases_lt k i) [
+          | inl b ↦ absurd (let n : number_there w k < x = f.1 k b in omega (arith, n, q))
+          | inr a ↦ absurd (let n : x < number_there w k = f.2 k a (omega (arith, l, length-map w number)) in omega (arith, n, q))
+        ]
 
   -- deliveries
   arrives : (o : Transfer) (s : Site) → number s ≡ to o → delivered_one engine o s ≡ accepted o s

@@ -1,5 +1,5 @@
 -- How a partition goes on, handling by handling.
-use Rattle.std.specs.Prelude.{All, List, None, Option, Some, max, suc, zero, ℕ, ◌+◌, ◌-◌, ◌++◌, ◌<◌, ◌≡◌, ◌≤◌}
+use Rattle.std.specs.Prelude.{All, List, None, Option, Some, map, max, suc, zero, ℕ, ◌+◌, ◌-◌, ◌++◌, ◌<◌, ◌≡◌, ◌≤◌}
 use Rattle.std.proofs.Common.{ap, arith, refl, subst, sym, ◌∙◌}
 use Rattle.std.proofs.lemmas.Bool.{le-ltb, lt-ltb}
 use Rattle.sim_clock.specs.declared.key.Key.{Key}
@@ -11,7 +11,7 @@ use Rattle.sim_engine.specs.World.{world_due, Stepped, handled_among}
 use Rattle.sim_engine.specs.Counts.{rows_count, sites_count}
 use Rattle.sim_partition.specs.Sites.{AreOfPast, IsLater}
 use Rattle.sim_partition.specs.Steps.{Continues, StaysOfPast, StopsFrom, StopsRun, StopsStep, due_at, part_more, ran_count}
-use Rattle.sim_partition.proofs.Handled.{due_here, past_sites, site_after}
+use Rattle.sim_partition.proofs.Handled.{due_here, numbers_among, past_sites, site_after}
 use Rattle.sim_partition.proofs.Moments.{all_later}
 use Rattle.sim_engine.specs.Limits.{Stops, StopsWhere, PassesCount, most_count}
 use Rattle.sim_partition.proofs.Passing.{more_passes, rows_after, stops_for}
@@ -24,8 +24,19 @@ sooner_by bound key None l h = omega arith
 sooner_by bound key (Some k) l h = omega (arith, h)
 
 module _ {Site Row Transfer : Type 0} {engine : Engine Site Row Transfer} {conditions : Conditions Site Transfer} (basics : SiteLaws engine conditions) where
-  open engine use {handled, core, site_count}
+  open engine use {handled, core, number, site_count}
   open conditions use {Past}
+
+  -- the sites of a run keep their numbers
+  numbers_ran : (r : PartRun engine) (d : Option Key) → map number (part_ran_at engine r d).sites ≡ map number r.sites
+  numbers_ran r None = refl
+  numbers_ran r (Some key) = numbers_among basics key r.sites
+
+  pub numbers_more : (bound n : ℕ) (r : PartRun engine) → map number (part_more engine bound n r).sites ≡ map number r.sites
+  numbers_more bound zero r = refl
+  numbers_more bound (suc n) r =
+      let x : PartRun engine = part_more engine bound n r in
+      numbers_ran x (due_before bound (world_due engine x.sites)) ∙ numbers_more bound n r
 
   -- one more handling
   next_is : (bound : ℕ) (key : Key) (r : PartRun engine) → world_due engine r.sites ≡ Some key → key.at < bound → part_ran engine bound r ≡ part_on engine r (handled_among engine key r.sites)

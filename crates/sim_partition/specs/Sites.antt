@@ -1,5 +1,5 @@
 -- Sites in the order of their numbers, until a refusal spends them.
-use Rattle.std.specs.Prelude.{All, Bool, Err, List, None, Ok, Option, Result, Some, ℕ, ◌<◌, ◌≡◌, ◌≤◌}
+use Rattle.std.specs.Prelude.{All, Bool, Err, List, None, Ok, Option, Result, Some, map, ℕ, ◌<◌, ◌≡◌, ◌≤◌}
 use Rattle.sim_clock.specs.declared.key.Key.{Key}
 use Rattle.sim_clock.specs.declared.refusal.Refusal.{Refusal}
 use Rattle.sim_engine.specs.Engine.{Engine}
@@ -39,6 +39,13 @@ module _ {Site Transfer : Type 0} (conditions : Conditions Site Transfer) where
   AreOfPast sites (Some key) = All (Past key.at) sites
 
 module _ {Site Row Transfer : Type 0} (engine : Engine Site Row Transfer) where
+  open engine use {number}
+
+  -- the numbers of a partition's sites, unless a refusal spent it
+  abbrev pub AreNumbersUnless : Option Refusal → List ℕ → Marked Site → Type 0
+  AreNumbersUnless None numbers sites = numbers ≡ map number sites.values
+  AreNumbersUnless (Some e) numbers sites = Unit {0}
+
   -- whether a key is due next at a site
   abbrev pub is_due_there : Key → Site → Bool
   is_due_there key s = is_due key (least_due engine s)

@@ -5,21 +5,25 @@ ghost use Rattle.sim_engine.specs.World.{arrival, delivered, delivered_one};
 ghost use Rattle.sim_index.specs.Marked.{AreMarked};
 ghost use Rattle.sim_partition.specs.Sites.{IsKept, mark_of};
 
-use crate::places::place_of;
 use sim_clock::{Refusal, lesser};
 use sim_engine::Site;
 use sim_index::{Mark, MarkedList};
 
-// Hands a transfer to the site that it goes to, if it is one of these. What is due there next is then the
-// lesser of its key and of what was, so that nothing else of the site is looked at.
-fn deliver_one<S: Site>(sites: &mut MarkedList<S>, transfer: S::Transfer) -> Result<(), Refusal>
+// Hands a transfer to the site that it goes to, if it is one of these, which have these numbers. What is due
+// there next is then the lesser of its key and of what was, so that nothing else of the site is looked at.
+fn deliver_one<S: Site>(
+    sites: &mut MarkedList<S>,
+    numbers: &[u32],
+    transfer: S::Transfer,
+) -> Result<(), Refusal>
     requires ascends { Ascends S.engine.number 0 sites.old.values }
+    requires numbers { numbers.now ≡ map S.engine.number sites.old.values }
     requires marked { AreMarked (mark_of S.engine) sites.old }
     ensures delivered { OnOk result (sites.new.values ≡ map (delivered_one S.engine transfer) sites.old.values) }
     ensures marked { OnOk result (AreMarked (mark_of S.engine) sites.new) }
     ensures memory { IfErr result (λ refusal. refusal ≡ Refusal.Memory) }
 {
-    if let Some(place) = place_of(sites.values(), S::to(&transfer)) {
+    if let Ok(place) = numbers.binary_search(&S::to(&transfer)) {
         let key = S::transfer_key(&transfer);
         let due = lesser(Some(key), sites.mark_at(place).due);
         sites.value_mut(place).accept(transfer)?;
@@ -31,32 +35,36 @@ fn deliver_one<S: Site>(sites: &mut MarkedList<S>, transfer: S::Transfer) -> Res
 // Hands transfers to the sites that they go to, one after another.
 fn deliver_each<S: Site>(
     sites: &mut MarkedList<S>,
+    numbers: &[u32],
     transfers: Vec<S::Transfer>,
 ) -> Result<(), Refusal>
     requires ascends { Ascends S.engine.number 0 sites.old.values }
+    requires numbers { numbers.now ≡ map S.engine.number sites.old.values }
     requires marked { AreMarked (mark_of S.engine) sites.old }
     ensures delivered { OnOk result (sites.new.values ≡ delivered S.engine transfers.items sites.old.values) }
     ensures marked { OnOk result (AreMarked (mark_of S.engine) sites.new) }
     ensures memory { IfErr result (λ refusal. refusal ≡ Refusal.Memory) }
 {
     for transfer in transfers {
-        deliver_one(sites, transfer)?;
+        deliver_one(sites, numbers, transfer)?;
     }
     Ok(())
 }
 
-/// Hands transfers to the sites that they go to, one after another; those to a site that is not
-/// here change nothing. The one error is `Memory`.
+/// Hands transfers to the sites that they go to, which have these numbers, one after another; those to a
+/// site that is not here change nothing. The one error is `Memory`.
 pub fn deliver_all<S: Site>(
     sites: &mut MarkedList<S>,
+    numbers: &[u32],
     transfers: Vec<S::Transfer>,
 ) -> Result<(), Refusal>
     requires kept { IsKept S.engine S.conditions sites.old }
+    requires numbers { numbers.now ≡ map S.engine.number sites.old.values }
     requires past { All (λ o. All (S.conditions.Past (arrival S.engine o)) sites.old.values) transfers.items }
     requires timely { All S.conditions.Timely transfers.items }
     ensures delivered { OnOk result (sites.new.values ≡ delivered S.engine transfers.items sites.old.values) }
     ensures kept { OnOk result (IsKept S.engine S.conditions sites.new) }
     ensures memory { IfErr result (λ refusal. refusal ≡ Refusal.Memory) }
 {
-    deliver_each(sites, transfers)
+    deliver_each(sites, numbers, transfers)
 }

@@ -1,5 +1,5 @@
 //! Sites with what each has due next.
-ghost use Rattle.std.specs.Prelude.{◌≡◌, IfOk};
+ghost use Rattle.std.specs.Prelude.{◌≡◌, IfOk, map};
 ghost use Rattle.sim_index.specs.Marked.{AreMarked};
 ghost use Rattle.sim_partition.specs.Sites.{mark_of};
 
@@ -22,10 +22,12 @@ pub fn marked<S: Site>(alloc: Global, sites: Vec<S>) -> Result<MarkedList<S>, Al
     ensures sites { IfOk result (λ list. list.values ≡ sites.items) }
     ensures marked { IfOk result (AreMarked (mark_of S.engine)) }
 {
-    let mut list = MarkedList::new(alloc);
-    for site in sites {
-        let mark = mark_of(&site);
-        list.push(site, mark)?;
-    }
-    Ok(list)
+    MarkedList::of(alloc, sites, |site| mark_of(site))
+}
+
+/// The numbers of sites. The error is want of memory.
+pub fn numbers_of<S: Site>(alloc: Global, sites: &[S]) -> Result<Vec<u32>, AllocError>
+    ensures { IfOk result (λ numbers. numbers.items ≡ map S.engine.number sites.now) }
+{
+    sites.iter().map(|site| site.number()).collect(alloc)
 }

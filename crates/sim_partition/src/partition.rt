@@ -10,7 +10,7 @@ ghost use Rattle.sim_partition.specs.Steps.{Continues, RanTo, StaysOfPast, Stops
 
 use crate::delivery::deliver_all;
 use crate::handling::{handle_least, run_before};
-use crate::marking::marked;
+use crate::marking::{marked, numbers_of};
 use sim_clock::{Key, Refusal};
 use sim_engine::{Effects, Site};
 use sim_index::MarkedList;
@@ -24,6 +24,8 @@ use std::marker::Model;
 pub struct Partition<S: Site> {
     alloc: Global,
     sites: MarkedList<S>,
+    // The numbers of the sites. A site is found among them, which lie close together.
+    numbers: Vec<u32>,
     spent: Option<Refusal>,
     // How many rows its last run made: the next one asks for room for twice as many at once.
     made: usize,
@@ -55,13 +57,14 @@ fn made_before<S: Site>(
 impl<S: Site> Model for Partition<S> {
     ghost use Rattle.std.specs.Prelude.{List, Result};
     ghost use Rattle.sim_clock.specs.declared.refusal.Refusal.{Refusal};
-    ghost use Rattle.sim_partition.specs.Sites.{IsKeptUnless, spent_or};
+    ghost use Rattle.sim_partition.specs.Sites.{AreNumbersUnless, IsKeptUnless, spent_or};
 
     ghost Value = { Result (List S) Refusal };
 
     ghost view = { λ p. spent_or p.spent p.sites.values };
 
-    ghost invariant = { λ p. IsKeptUnless S.engine S.conditions p.spent p.sites };
+    ghost invariant = { λ p.
+        IsKeptUnless S.engine S.conditions p.spent p.sites × AreNumbersUnless S.engine p.spent p.numbers.items p.sites };
 }
 
 impl<S: Site> Partition<S> {
@@ -70,10 +73,12 @@ impl<S: Site> Partition<S> {
         requires { IsPart S.engine S.conditions sites.items }
         ensures { IfOk result (λ p. p ≡ Ok sites.items) }
     {
+        let numbers = numbers_of(alloc, &sites)?;
         let sites = marked(alloc, sites)?;
         Ok(Partition {
             alloc,
             sites,
+            numbers,
             spent: None,
             made: 0,
         })
@@ -176,7 +181,7 @@ impl<S: Site> Partition<S> {
         if let Some(refusal) = self.spent {
             return Err(refusal);
         }
-        if let Err(refusal) = deliver_all(&mut self.sites, transfers) {
+        if let Err(refusal) = deliver_all(&mut self.sites, &self.numbers, transfers) {
             self.spent = Some(refusal);
             return Err(refusal);
         }

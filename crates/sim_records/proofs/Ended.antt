@@ -49,6 +49,11 @@ line_ended [] h = absurd (omega (arith, h))
 line_ended (f ∷ []) h = one_shown (field_text default_writer f) (omega arith)
 line_ended (f ∷ g ∷ fs) h = ap (λ t. field_text default_writer f ++ t) (made (g ∷ fs)) ∙ simp append_assoc
 
+-- fields before others
+pub fields_join : (rest : List ℕ) (fs others : List (List ℕ)) → with_fields (with_fields rest others) fs ≡ with_fields rest (fs ++ others)
+fields_join rest [] others = refl
+fields_join rest (f ∷ fs) others = ap (λ t. comma ∷ (field_text default_writer f ++ t)) (fields_join rest fs others)
+
 -- what is behind a line stays behind it
 apart : (rest : List ℕ) (fs : List (List ℕ)) → with_fields (line_feed ∷ rest) fs ≡ with_fields (line_feed ∷ []) fs ++ rest
 apart rest [] = refl

@@ -1,7 +1,8 @@
 -- What a clause reads of lines that are being made.
-use Rattle.std.specs.Prelude.{◌≡◌, ℕ, ◌++◌, List, [], ◌∷◌, Bool, not, false}
+use Rattle.std.specs.Prelude.{◌≡◌, ℕ, ◌++◌, List, [], ◌∷◌, Bool, not, false, Option, None, IfSome, get_or}
 use Rattle.std.specs.List.{list_all}
 use Rattle.csv.specs.Writing.{comma, default_writer, field_text, needs_quotes}
+use Rattle.sqs_formats.specs.Rows.{name_at}
 
 -- a field that needs no quotes
 abbrev pub IsPlain : List ℕ → Type 0
@@ -10,6 +11,14 @@ IsPlain f = needs_quotes default_writer f ≡ false
 -- whether none of these fields needs quotes
 abbrev pub none_quoted : List (List ℕ) → Bool
 none_quoted fs = list_all (λ f. not (needs_quotes default_writer f)) fs
+
+-- the name of this number, which needs no quotes
+abbrev pub IsPlainName : List (List ℕ) → ℕ → List ℕ → Type 0
+IsPlainName names n w = (w ≡ name_at names n) × IsPlain w
+
+-- what the list has for a number, if anything, is the name of that number, which needs no quotes
+abbrev pub AreWordsOf : List (List ℕ) → List (Option (List ℕ)) → Type 0
+AreWordsOf names words = (n : ℕ) → IfSome (get_or words n None) (IsPlainName names n)
 
 -- the end of a line with one more field before it, quoted where it has to be, and a comma before that
 abbrev pub with_field : List ℕ → List ℕ → List ℕ

@@ -11,7 +11,7 @@ use sqs_message::{Detail, HandleForm, MessageId, RowAnswer, RowKind, RowReceipt}
 use std::alloc::AllocError;
 
 // The name of what a row tells of.
-fn kind_word(kind: RowKind) -> Word
+fn kind_word(kind: RowKind) -> Word<'static>
     ensures name { result ≡ kind_text kind }
     ensures plain { IsPlain result }
 {
@@ -65,10 +65,10 @@ pub(crate) fn add_answer(line: &mut Line, answer: RowAnswer) -> Result<(), Alloc
     line.word(name)
 }
 
-// The column of a name: that of an agent, empty where none has the number.
-#[inline(always)]
+// The column of a name that is not kept as a word. Apart from `add_name`, since most names are.
+#[inline(never)]
 #[tactic(auto, using(crate::proofs::Plain::name_plain))]
-pub(crate) fn add_name(line: &mut Line, names: &Names, number: u32) -> Result<(), AllocError>
+fn add_other_name(line: &mut Line, names: &Names, number: u32) -> Result<(), AllocError>
     ensures { OnOk result (line.new ≡ with_field line.old (name_at names.now number)) }
 {
     let name = names.name(number);
@@ -76,6 +76,17 @@ pub(crate) fn add_name(line: &mut Line, names: &Names, number: u32) -> Result<()
         line.plain(name)
     } else {
         line.bytes(name)
+    }
+}
+
+// The column of a name: that of an agent, empty where none has the number.
+#[inline(always)]
+pub(crate) fn add_name(line: &mut Line, names: &Names, number: u32) -> Result<(), AllocError>
+    ensures { OnOk result (line.new ≡ with_field line.old (name_at names.now number)) }
+{
+    match names.word(number) {
+        Some(word) => line.word(word),
+        None => add_other_name(line, names, number),
     }
 }
 

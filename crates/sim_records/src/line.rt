@@ -5,22 +5,23 @@ ghost use Rattle.csv.specs.Machine.{line_feed};
 ghost use Rattle.csv.specs.Writing.{comma, default_writer, field_text, needs_byte};
 ghost use Rattle.hex.specs.Hex.{encode_lower};
 ghost use Rattle.sim_records.specs.Lines.{IsPlain, with_field, with_fields};
-ghost use Rattle.sqs_formats.specs.Rows.{line};
+ghost use Rattle.sqs_formats.specs.Rows.{line, text_if};
 ghost use Rattle.sqs_message.specs.Ids.{id_text, origin_text, receipt_text};
 
 use crate::before::{NUMBER, put_before, put_field, room_before};
 use crate::quotes::needs_quotes;
-use crate::word::{WORD, Word, put_word};
+use crate::word::{DIGEST, WORD, Word, put_digest, put_word};
 use csv::Writer;
+use itoa::Integer;
 use sqs_message::{MessageId, Origin, Receipt};
 use std::alloc::{AllocError, Global};
 use std::marker::Model;
 
-// How long the text of a digest is: two digits a byte.
-const DIGEST_TEXT: usize = 32;
-
 // Room for three numbers with marks before them, a mark more and a comma.
 const NUMBERS: usize = 3 * NUMBER + 2;
+
+// How long a number of 128 bits is at most, with a sign.
+const WIDE_NUMBER: usize = 40;
 
 // The text of a field as `csv` writes it, with quotes where it needs them.
 fn text_by_csv(alloc: Global, field: &[u8]) -> Result<Vec<u8>, AllocError>
@@ -119,7 +120,7 @@ impl Line {
     #[tactic(auto, using(crate::proofs::Plain::field_plain))]
     pub(crate) fn word(&mut self, word: Word) -> Result<(), AllocError>
         requires { IsPlain word }
-        ensures { OnOk result (self.new ≡ with_field self.old word) }
+        ensures { OnOk result (self.new ≡ with_field self.old word.entry) }
     {
         let end = room_before(&mut self.text, self.start, WORD + 1)?;
         self.start = put_word(&mut self.text, end, word);
@@ -165,6 +166,31 @@ impl Line {
         let end = room_before(&mut self.text, self.start, NUMBER)?;
         self.start = put_before(self.text.as_mut_slice(), end, b',', number);
         Ok(())
+    }
+
+    // A number of any size in decimal. Apart from those of 64 bits, which nearly all are.
+    #[cold]
+    #[inline(never)]
+    fn wide_number(&mut self, number: u128) -> Result<(), AllocError>
+        ensures { OnOk result (self.new ≡ with_field self.old (decimal number)) }
+    {
+        let mut text = [0; WIDE_NUMBER];
+        let start = number.write(&mut text);
+        self.bytes(&text[start..])
+    }
+
+    /// A number in decimal; no bytes where there is none.
+    #[inline(always)]
+    pub(crate) fn number_if(&mut self, number: Option<u128>) -> Result<(), AllocError>
+        ensures { OnOk result (self.new ≡ with_field self.old (text_if decimal number)) }
+    {
+        match number {
+            None => self.plain(b""),
+            Some(wide) => match u64::try_from(wide) {
+                Ok(number) => self.number(number),
+                Err(_) => self.wide_number(wide),
+            },
+        }
     }
 
     // A mark and two numbers, as `m-0-12`.
@@ -216,11 +242,9 @@ impl Line {
     pub(crate) fn digest(&mut self, md5: &[u8; 16]) -> Result<(), AllocError>
         ensures { OnOk result (self.new ≡ with_field self.old (encode_lower md5.now)) }
     {
-        let mut text = [0; DIGEST_TEXT];
-        match hex::encode_to_slice(md5, &mut text) {
-            Ok(()) => self.plain(&text),
-            Err(_) => unreachable!(),
-        }
+        let end = room_before(&mut self.text, self.start, DIGEST + 1)?;
+        self.start = put_digest(&mut self.text, end, md5);
+        Ok(())
     }
 
     /// Three numbers in decimal with slashes between them, as `2/1/0`.

@@ -1,6 +1,8 @@
 //! Records as lines of CSV.
 ghost use Rattle.std.specs.Prelude.{◌≡◌, ◌++◌, ◌∷◌, [], false, IfOk, OnOk, Some, map};
-ghost use Rattle.sqs_formats.specs.Rows.{line};
+ghost use Rattle.std.specs.Fmt.{decimal};
+ghost use Rattle.sqs_formats.specs.Rows.{line, text_if};
+ghost use Rattle.sim_records.specs.Lines.{with_fields};
 ghost use Rattle.sim_records.specs.Writes.{Wrote};
 
 use crate::line::Line;
@@ -27,17 +29,38 @@ impl Model for Lines {
     ghost view = { λ l. unwrap_or (option_map (λ v. v.items) l.text) [] };
 }
 
-// Makes the line of these fields alone, the last one first.
-fn make_line(text: &mut Line, fields: &[&[u8]]) -> Result<(), AllocError>
-    ensures { OnOk result (text.new ≡ line (map (λ f. f.now) fields.now)) }
+// Puts these fields before what a line has, the last one first.
+fn put_fields(text: &mut Line, fields: &[&[u8]]) -> Result<(), AllocError>
+    ensures { OnOk result (text.new ≡ with_fields text.old (map (λ f. f.now) fields.now)) }
 {
-    text.clear();
-    text.begin()?;
     let mut left = fields.len();
     while left > 0 {
         left -= 1;
         text.bytes(fields[left])?;
     }
+    Ok(())
+}
+
+// Puts these numbers before what a line has, the last one first.
+fn put_numbers(text: &mut Line, numbers: &[Option<u128>]) -> Result<(), AllocError>
+    ensures { OnOk result (text.new ≡ with_fields text.old (map (text_if decimal) numbers.now)) }
+{
+    let mut left = numbers.len();
+    while left > 0 {
+        left -= 1;
+        text.number_if(numbers[left])?;
+    }
+    Ok(())
+}
+
+// Makes the line of these fields with these numbers behind them alone.
+fn make_line(text: &mut Line, fields: &[&[u8]], numbers: &[Option<u128>]) -> Result<(), AllocError>
+    ensures { OnOk result (text.new ≡ line (map (λ f. f.now) fields.now ++ map (text_if decimal) numbers.now)) }
+{
+    text.clear();
+    text.begin()?;
+    put_numbers(text, numbers)?;
+    put_fields(text, fields)?;
     text.end(0)
 }
 
@@ -60,10 +83,26 @@ impl Lines {
     pub fn add(&mut self, fields: &[&[u8]]) -> Result<(), AllocError>
         ensures { OnOk result (self.new ≡ self.old ++ line (map (λ f. f.now) fields.now)) }
     {
+        self.add_numbers(fields, &[])
+    }
+
+    /// Adds the line of a record of some fields, with quotes where one needs them, and of numbers behind them, in
+    /// decimal, each empty where there is none.
+    ///
+    /// # Errors
+    ///
+    /// `AllocError` where a growth is refused, now or before.
+    pub fn add_numbers(
+        &mut self,
+        fields: &[&[u8]],
+        numbers: &[Option<u128>],
+    ) -> Result<(), AllocError>
+        ensures { OnOk result (self.new ≡ self.old ++ line (map (λ f. f.now) fields.now ++ map (text_if decimal) numbers.now)) }
+    {
         let Some(mut text) = self.text.take() else {
             return Err(AllocError);
         };
-        make_line(&mut self.line, fields)?;
+        make_line(&mut self.line, fields, numbers)?;
         text.extend_from_slice(self.line.as_slice())?;
         self.text = Some(text);
         Ok(())

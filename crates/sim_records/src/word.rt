@@ -1,20 +1,26 @@
-//! Words of the log, which are put by a copy of a constant size.
-ghost use Rattle.std.specs.Prelude.{◌≡◌, ◌≤◌, ◌<◌, ◌++◌, ◌∷◌, ◌-◌, drop, length};
+//! Words and digests of the log, of which a constant number of bytes is put.
+ghost use Rattle.std.specs.Prelude.{◌≡◌, ◌≤◌, ◌<◌, ◌++◌, ◌∷◌, ◌-◌, IfSome, drop, length};
 ghost use Rattle.csv.specs.Writing.{comma};
+ghost use Rattle.hex.specs.Hex.{encode_lower};
+ghost use Rattle.sim_records.specs.Lines.{IsPlain};
 
+use crate::quotes::needs_quotes;
 use std::marker::Model;
 
 /// How many bytes are put for a word, of which its own come last.
 pub(crate) const WORD: usize = 16;
 
+/// How long the text of a digest is: two digits a byte.
+pub(crate) const DIGEST: usize = 32;
+
 /// A word with bytes before it that are not its own. Contracts see its own.
 #[derive(Drop)]
-pub(crate) struct Word {
-    bytes: &'static [u8; WORD],
+pub(crate) struct Word<'a> {
+    bytes: &'a [u8; WORD],
     len: usize,
 }
 
-impl Model for Word {
+impl<'a> Model for Word<'a> {
     ghost use Rattle.std.specs.Prelude.{List, ℕ, ◌≤◌, ◌-◌, drop};
 
     ghost Value = { List ℕ };
@@ -24,14 +30,54 @@ impl Model for Word {
     ghost invariant = { λ w. w.len ≤ 16 };
 }
 
-impl Word {
+impl<'a> Word<'a> {
     /// The word that so many bytes are, the last ones of these.
     #[inline(always)]
-    pub(crate) fn new(bytes: &'static [u8; WORD], len: usize) -> Word
+    pub(crate) fn new(bytes: &'a [u8; WORD], len: usize) -> Word<'a>
         requires { len ≤ WORD }
         ensures { result ≡ drop (WORD - len) bytes.now }
     {
         Word { bytes, len }
+    }
+}
+
+/// A word that has its bytes, to be kept. Contracts see its own.
+#[derive(Drop)]
+pub(crate) struct KeptWord {
+    bytes: [u8; WORD],
+    len: usize,
+}
+
+impl Model for KeptWord {
+    ghost use Rattle.std.specs.Prelude.{List, ℕ, ◌≤◌, ◌-◌, drop};
+
+    ghost Value = { List ℕ };
+
+    ghost view = { λ w. drop (16 - w.len) w.bytes };
+
+    ghost invariant = { λ w. w.len ≤ 16 };
+}
+
+impl KeptWord {
+    /// The word that a text is; none where it is too long for one or needs quotes.
+    pub(crate) fn plain(text: &[u8]) -> Option<KeptWord>
+        ensures { IfSome result (λ w. (w ≡ text.now) × IsPlain w) }
+    {
+        if text.len() > WORD || needs_quotes(text) {
+            return None;
+        }
+        let len = text.len();
+        let mut bytes = [0; WORD];
+        bytes[WORD - len..].copy_from_slice(text);
+        Some(KeptWord { bytes, len })
+    }
+
+    /// The same word, by reference.
+    #[inline(always)]
+    pub(crate) fn word(&self) -> Word<'_>
+        ensures { result ≡ self.now }
+    {
+        Word::new(&self.bytes, self.len)
     }
 }
 
@@ -40,7 +86,7 @@ impl Word {
 pub(crate) fn put_word(text: &mut [u8], end: usize, word: Word) -> usize
     requires room { WORD < end }
     requires within { end ≤ length text.old }
-    ensures written { drop result text.new ≡ comma ∷ (word ++ drop end text.old) }
+    ensures written { drop result text.new ≡ comma ∷ (word.entry ++ drop end text.old) }
     ensures within { result ≤ length text.new }
 {
     let bytes = word.bytes;
@@ -48,4 +94,22 @@ pub(crate) fn put_word(text: &mut [u8], end: usize, word: Word) -> usize
     let start = end - word.len - 1;
     text[start] = b',';
     start
+}
+
+/// Puts a digest in lower-case hex and a comma before it before what stands in a text from `end` on, and answers where
+/// they begin.
+#[inline(always)]
+pub(crate) fn put_digest(text: &mut [u8], end: usize, md5: &[u8; 16]) -> usize
+    requires room { DIGEST < end }
+    requires within { end ≤ length text.old }
+    ensures written { drop result text.new ≡ comma ∷ (encode_lower md5.now ++ drop end text.old) }
+    ensures within { result ≤ length text.new }
+{
+    let start = end - DIGEST;
+    match hex::encode_to_slice(md5, &mut text[start..end]) {
+        Ok(()) => {}
+        Err(_) => unreachable!(),
+    }
+    text[start - 1] = b',';
+    start - 1
 }

@@ -1,4 +1,4 @@
-//! Numbers in decimal, as fields.
+//! Numbers in decimal, as fields of a comparison.
 ghost use Rattle.std.specs.Prelude.{◌≡◌, ◌++◌, codes};
 ghost use Rattle.std.specs.Fmt.{decimal};
 ghost use Rattle.sqs_formats.specs.Rows.{text_if};

@@ -134,9 +134,7 @@ impl Tally {
         let age_sum = total(self.ages.as_slice());
         let others = other_columns(self.depth_max, left, age_sum, sorted.as_slice());
         let mut columns = count_columns(alloc, &self.counts)?;
-        for column in others {
-            columns.push(column)?;
-        }
+        columns.extend_from_slice(&others)?;
         Ok(columns)
     }
 }

@@ -1,3 +1,4 @@
+pub mod Place
 pub mod Gives
 pub mod Walk
 pub mod Walks

@@ -14,6 +14,7 @@ use crate::items::item_table;
 use crate::keys::member;
 use crate::kin::queue_named;
 use crate::outline::Outline;
+use crate::place::Place;
 use crate::producers::producer;
 use crate::queues::agent_name;
 use crate::scripted::{Scripts, scripted};
@@ -33,7 +34,7 @@ pub(crate) enum ActorKind {
 
 /// The kind of an actor.
 #[tactic(auto, unfolding(sqs_formats::specs::Reading::answer))]
-fn actor_kind(alloc: Global, table: &Table, place: &str) -> Result<ActorKind, ReadError>
+fn actor_kind(alloc: Global, table: &Table, place: &Place) -> Result<ActorKind, ReadError>
     ensures { Gives kind_view result (answer (required (one_of Unread kinds_named) (the_table place.now (table_view table.now)) (codes "kind"))) }
 {
     match member(table, "kind") {
@@ -63,7 +64,7 @@ fn role(
     outline: &Outline,
     home: u32,
     table: &Table,
-    place: &str,
+    place: &Place,
 ) -> Result<Role, ReadError>
     ensures { Gives (λ r. r) result (role_by (kind_view kind) scripts.now outline.now home (the_table place.now (table_view table.now))) }
 {
@@ -82,7 +83,7 @@ fn actor(
     outline: &Outline,
     index: usize,
     table: &Table,
-    place: &str,
+    place: &Place,
 ) -> Result<(Text, ActorSettings), ReadError>
     requires { index < 11000 }
     ensures { Gives (λ a. a) result (actor_walk scripts.now outline.now index (the_table place.now (table_view table.now))) }
@@ -108,7 +109,7 @@ fn actor_item(
     ensures { Gives (λ x. x) result (item_walk (codes "actor") (actor_walk scripts.now outline.now i) i (view value.now)) }
 {
     let (table, place) = item_table(alloc, value, "actor", i)?;
-    actor(alloc, scripts, outline, i, table, place.as_str())
+    actor(alloc, scripts, outline, i, table, &place)
 }
 
 /// All actors of a text.

@@ -11,6 +11,7 @@ use crate::fault::ReadError;
 use crate::keys::{ACTOR_KEYS, integer_or, known_keys, maybe_integer, required_integer};
 use crate::kin::kin_named;
 use crate::outline::Outline;
+use crate::place::Place;
 use crate::queues::{has, latency, latency_keys};
 use sqs_model::{ConsumerSettings, Forwarding, Role};
 use std::alloc::Global;
@@ -41,7 +42,7 @@ fn known_consumer_keys(
     alloc: Global,
     version: u64,
     table: &Table,
-    place: &str,
+    place: &Place,
 ) -> Result<(), ReadError>
     ensures { Gives (λ u. u) result (answer (only (actor_keys ++ (consumer_keys ++ forward_keys version (has (the_table place.now (table_view table.now)) (codes "forward")))) (the_table place.now (table_view table.now)))) }
 {
@@ -56,7 +57,7 @@ fn forwarding(
     outline: &Outline,
     home: u32,
     table: &Table,
-    place: &str,
+    place: &Place,
 ) -> Result<Option<Forwarding>, ReadError>
     ensures { Gives (λ f. f) result (forwarding_walk outline.now home (the_table place.now (table_view table.now))) }
 {
@@ -72,7 +73,7 @@ fn forward(
     outline: &Outline,
     home: u32,
     table: &Table,
-    place: &str,
+    place: &Place,
 ) -> Result<Option<Forwarding>, ReadError>
     ensures { Gives (λ f. f) result (forward_by forwards outline.now home (the_table place.now (table_view table.now))) }
 {
@@ -90,7 +91,7 @@ pub(crate) fn consumer(
     outline: &Outline,
     home: u32,
     table: &Table,
-    place: &str,
+    place: &Place,
 ) -> Result<Role, ReadError>
     ensures { Gives (λ c. c) result (consumer_walk outline.now home (the_table place.now (table_view table.now))) }
 {

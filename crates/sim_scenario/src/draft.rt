@@ -6,6 +6,7 @@ ghost use Rattle.sim_scenario.specs.Gives.{Gives};
 ghost use Rattle.sim_scenario.specs.Ranges.{IsInRange};
 
 use crate::fault::{ReadError, blame};
+use crate::place::Place;
 use crate::reader::document;
 use crate::scenario::Scenario;
 use crate::script_files::{actor_items, names_in};
@@ -67,7 +68,7 @@ impl Draft {
     {
         match self.table {
             Ok(table) => document(alloc, scripts, &table),
-            Err(refusal) => Err(blame(alloc, refusal, "", "")),
+            Err(refusal) => Err(blame(alloc, refusal, &Place::top(), "")),
         }
     }
 }

@@ -4,6 +4,7 @@ ghost use Rattle.sqs_formats.specs.Keys.{fault_at};
 ghost use Rattle.sim_scenario.specs.Gives.{Names};
 ghost use Rattle.sim_scenario.specs.declared.fault.ReadError.TheVariants.{Memory};
 
+use crate::place::Place;
 use sim_clock::Refusal;
 use sqs_formats::ScenarioFault;
 use sqs_message::Text;
@@ -34,11 +35,11 @@ impl<T: Drop> From<AllocFailed<T>> for ReadError {
     }
 }
 
-/// The fault at a key of a table, before whose keys `place` stands, or want of memory.
-pub(crate) fn blame(alloc: Global, refusal: Refusal, place: &str, key: &str) -> ReadError
+/// The fault at a key of a table, or want of memory.
+pub(crate) fn blame(alloc: Global, refusal: Refusal, place: &Place, key: &str) -> ReadError
     ensures { Names result (fault_at refusal (place.now ++ key.now)) }
 {
-    match format!(in alloc; "{place}{key}") {
+    match place.of(alloc, key) {
         Ok(place) => ReadError::Fault(ScenarioFault {
             refusal,
             place: Text::new(place.into_bytes()),

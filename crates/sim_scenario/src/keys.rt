@@ -9,6 +9,7 @@ ghost use Rattle.sqs_formats.specs.Keys.{boolean as a_boolean, integer as an_int
 ghost use Rattle.sim_scenario.specs.Gives.{Gives, table as the_table};
 
 use crate::fault::{ReadError, blame};
+use crate::place::Place;
 use sim_clock::Refusal;
 use std::alloc::Global;
 use toml::{Table, Value};
@@ -25,7 +26,7 @@ pub(crate) fn member<'a>(table: &'a Table, key: &str) -> Option<&'a Value>
 fn integer(
     alloc: Global,
     value: &Value,
-    place: &str,
+    place: &Place,
     key: &str,
     low: u64,
     high: u64,
@@ -54,7 +55,7 @@ fn integer(
 pub(crate) fn required_integer(
     alloc: Global,
     table: &Table,
-    place: &str,
+    place: &Place,
     key: &str,
     low: u64,
     high: u64,
@@ -72,7 +73,7 @@ pub(crate) fn required_integer(
 pub(crate) fn integer_or(
     alloc: Global,
     table: &Table,
-    place: &str,
+    place: &Place,
     key: &str,
     low: u64,
     high: u64,
@@ -92,7 +93,7 @@ pub(crate) fn integer_or(
 pub(crate) fn maybe_integer(
     alloc: Global,
     table: &Table,
-    place: &str,
+    place: &Place,
     key: &str,
     low: u64,
     high: u64,
@@ -113,7 +114,7 @@ pub(crate) fn maybe_integer(
 pub(crate) fn text<'a>(
     alloc: Global,
     value: &'a Value,
-    place: &str,
+    place: &Place,
     key: &str,
 ) -> Result<&'a str, ReadError>
     ensures { Gives (λ s. s.now) result (answer (a_text.read (place.now ++ key.now) (view value.now))) }
@@ -129,7 +130,7 @@ pub(crate) fn text<'a>(
 pub(crate) fn required_text<'a>(
     alloc: Global,
     table: &'a Table,
-    place: &str,
+    place: &Place,
     key: &str,
 ) -> Result<&'a str, ReadError>
     ensures { Gives (λ s. s.now) result (answer (required a_text (the_table place.now (table_view table.now)) key.now)) }
@@ -145,7 +146,7 @@ pub(crate) fn required_text<'a>(
 pub(crate) fn maybe_text<'a>(
     alloc: Global,
     table: &'a Table,
-    place: &str,
+    place: &Place,
     key: &str,
 ) -> Result<Option<&'a str>, ReadError>
     ensures { Gives (λ s. option_map (λ b. b.now) s) result (answer (maybe a_text (the_table place.now (table_view table.now)) key.now)) }
@@ -164,7 +165,7 @@ pub(crate) fn maybe_text<'a>(
 pub(crate) fn boolean_or(
     alloc: Global,
     table: &Table,
-    place: &str,
+    place: &Place,
     key: &str,
     default: bool,
 ) -> Result<bool, ReadError>
@@ -200,7 +201,7 @@ fn is_known(known: &[&[&str]], key: &str) -> bool
 pub(crate) fn known_keys(
     alloc: Global,
     table: &Table,
-    place: &str,
+    place: &Place,
     known: &[&[&str]],
 ) -> Result<(), ReadError>
     ensures { Gives (λ u. u) result (answer (only (flat_map (λ ks. map (λ k. k.now) ks.now) known.now) (the_table place.now (table_view table.now)))) }

@@ -9,6 +9,7 @@ ghost use Rattle.sim_scenario.specs.Walks.{kin_walk, maybe_other_walk, other_wal
 use crate::fault::{ReadError, blame};
 use crate::keys::{maybe_text, required_text};
 use crate::outline::Outline;
+use crate::place::Place;
 use sim_clock::Refusal;
 use std::alloc::Global;
 use toml::Table;
@@ -19,7 +20,7 @@ fn queue_of_name(
     alloc: Global,
     outline: &Outline,
     name: &str,
-    place: &str,
+    place: &Place,
     key: &str,
 ) -> Result<u32, ReadError>
     ensures { Gives (λ n. n) result (answer (queue_when (place.now ++ key.now) (queue_number outline.now name.now))) }
@@ -36,7 +37,7 @@ fn of_same_kind(
     alloc: Global,
     outline: &Outline,
     home: u32,
-    place: &str,
+    place: &Place,
     key: &str,
     number: u32,
 ) -> Result<u32, ReadError>
@@ -55,7 +56,7 @@ pub(crate) fn queue_named(
     alloc: Global,
     outline: &Outline,
     table: &Table,
-    place: &str,
+    place: &Place,
     key: &str,
 ) -> Result<u32, ReadError>
     ensures { Gives (λ n. n) result (queue_named_walk outline.now (the_table place.now (table_view table.now)) key.now) }
@@ -71,7 +72,7 @@ pub(crate) fn kin_named(
     outline: &Outline,
     home: u32,
     table: &Table,
-    place: &str,
+    place: &Place,
     key: &str,
 ) -> Result<u32, ReadError>
     ensures { Gives (λ n. n) result (kin_walk outline.now home (the_table place.now (table_view table.now)) key.now) }
@@ -87,7 +88,7 @@ pub(crate) fn source_named(
     alloc: Global,
     outline: &Outline,
     table: &Table,
-    place: &str,
+    place: &Place,
     key: &str,
 ) -> Result<u32, ReadError>
     ensures { Gives (λ n. n) result (source_walk outline.now (the_table place.now (table_view table.now)) key.now) }
@@ -108,7 +109,7 @@ fn other_of_name(
     outline: &Outline,
     home: u32,
     name: &str,
-    place: &str,
+    place: &Place,
     key: &str,
 ) -> Result<u32, ReadError>
     ensures { Gives (λ n. n) result (answer (other_when (place.now ++ key.now) home (queue_number outline.now name.now))) }
@@ -132,7 +133,7 @@ fn other_kin_of_name(
     outline: &Outline,
     home: u32,
     name: &str,
-    place: &str,
+    place: &Place,
     key: &str,
 ) -> Result<u32, ReadError>
     ensures { Gives (λ n. n) result (other_walk outline.now home (place.now ++ key.now) name.now) }
@@ -148,7 +149,7 @@ pub(crate) fn maybe_other_kin(
     outline: &Outline,
     home: u32,
     table: &Table,
-    place: &str,
+    place: &Place,
     key: &str,
 ) -> Result<Option<u32>, ReadError>
     ensures { Gives (λ n. n) result (maybe_other_walk outline.now home (the_table place.now (table_view table.now)) key.now) }

@@ -13,6 +13,7 @@ mod least;
 mod lists;
 mod names;
 mod outline;
+mod place;
 mod producers;
 mod queues;
 mod reader;

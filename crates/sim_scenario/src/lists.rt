@@ -13,6 +13,7 @@ use crate::items::item_table;
 use crate::keys::{integer_or, known_keys};
 use crate::kin::{maybe_other_kin, source_named};
 use crate::outline::Outline;
+use crate::place::Place;
 use crate::queues::{agent_name, latency, latency_keys, queue};
 use sqs_message::Text;
 use sqs_redrive::{QueueSettings, TaskSettings};
@@ -26,7 +27,7 @@ fn dead_letter(
     outline: &Outline,
     number: usize,
     table: &Table,
-    place: &str,
+    place: &Place,
 ) -> Result<Option<u32>, ReadError>
     requires { number < 11000 }
     ensures { Gives (λ n. n) result (dead_letter_walk outline.now number (the_table place.now (table_view table.now))) }
@@ -41,7 +42,7 @@ fn task(
     outline: &Outline,
     index: usize,
     table: &Table,
-    place: &str,
+    place: &Place,
 ) -> Result<(Text, TaskSettings), ReadError>
     requires { index < 11000 }
     ensures { Gives (λ t. t) result (task_walk outline.now index (the_table place.now (table_view table.now))) }
@@ -66,7 +67,12 @@ fn task(
 const TASK_KEYS: &[&str] = &["name", "queue", "to", "per_second"];
 
 /// Finds the first key that a move task should not have.
-fn known_task_keys(alloc: Global, version: u64, table: &Table, place: &str) -> Result<(), ReadError>
+fn known_task_keys(
+    alloc: Global,
+    version: u64,
+    table: &Table,
+    place: &Place,
+) -> Result<(), ReadError>
     ensures { Gives (λ u. u) result (answer (only (task_keys version) (the_table place.now (table_view table.now)))) }
 {
     let latency = latency_keys(version);
@@ -84,7 +90,7 @@ fn queue_item(
     ensures { Gives (λ x. x) result (item_walk (codes "queue") (queue_walk outline.now i) i (view value.now)) }
 {
     let (table, place) = item_table(alloc, value, "queue", i)?;
-    queue(alloc, outline, i, table, place.as_str())
+    queue(alloc, outline, i, table, &place)
 }
 
 /// All queues of a text.
@@ -118,7 +124,7 @@ fn dead_letter_item(
     ensures { Gives (λ x. x) result (item_walk (codes "queue") (dead_letter_walk outline.now i) i (view value.now)) }
 {
     let (table, place) = item_table(alloc, value, "queue", i)?;
-    dead_letter(alloc, outline, i, table, place.as_str())
+    dead_letter(alloc, outline, i, table, &place)
 }
 
 /// The dead-letter queues of all queues, judged when all queues are read.
@@ -153,7 +159,7 @@ fn task_item(
     ensures { Gives (λ x. x) result (item_walk (codes "task") (task_walk outline.now i) i (view value.now)) }
 {
     let (table, place) = item_table(alloc, value, "task", i)?;
-    task(alloc, outline, i, table, place.as_str())
+    task(alloc, outline, i, table, &place)
 }
 
 /// All move tasks of a text.

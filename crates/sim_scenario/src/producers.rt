@@ -14,6 +14,7 @@ use crate::fault::{ReadError, blame};
 use crate::keys::{
     ACTOR_KEYS, boolean_or, integer_or, known_keys, maybe_integer, required_integer, required_text,
 };
+use crate::place::Place;
 use sim_clock::Refusal;
 use sqs_message::Text;
 use sqs_model::{ProducerSettings, Role, has_mark};
@@ -39,7 +40,7 @@ fn known_producer_keys(
     alloc: Global,
     is_fifo: bool,
     table: &Table,
-    place: &str,
+    place: &Place,
 ) -> Result<(), ReadError>
     ensures { Gives (λ u. u) result (answer (only (actor_keys ++ (producer_keys ++ sending_keys is_fifo)) (the_table place.now (table_view table.now)))) }
 {
@@ -52,7 +53,7 @@ fn known_producer_keys(
 fn fifo_sending(
     alloc: Global,
     table: &Table,
-    place: &str,
+    place: &Place,
 ) -> Result<(Option<u64>, bool, Option<u64>), ReadError>
     ensures { Gives (λ s. s) result (fifo_sending_walk (the_table place.now (table_view table.now))) }
 {
@@ -66,7 +67,7 @@ fn fifo_sending(
 fn standard_sending(
     alloc: Global,
     table: &Table,
-    place: &str,
+    place: &Place,
 ) -> Result<(Option<u64>, bool, Option<u64>), ReadError>
     ensures { Gives (λ s. s) result (standard_sending_walk (the_table place.now (table_view table.now))) }
 {
@@ -79,7 +80,7 @@ fn sending(
     alloc: Global,
     is_fifo: bool,
     table: &Table,
-    place: &str,
+    place: &Place,
 ) -> Result<(Option<u64>, bool, Option<u64>), ReadError>
     ensures { Gives (λ s. s) result (sending_by is_fifo (the_table place.now (table_view table.now))) }
 {
@@ -128,7 +129,7 @@ fn is_producer_body(alloc: Global, count: u64, body: &[u8]) -> Result<bool, Allo
 
 /// A text as the body of so many messages.
 #[tactic(auto, unfolding(sqs_formats::specs::Reading::answer))]
-fn body_of_text(alloc: Global, count: u64, text: &str, place: &str) -> Result<Text, ReadError>
+fn body_of_text(alloc: Global, count: u64, text: &str, place: &Place) -> Result<Text, ReadError>
     ensures { Gives (λ b. b) result (answer (needs (is_producer_body count text.now) (fault_at OutOfRange (place.now ++ codes "body")) text.now)) }
 {
     if !is_producer_body(alloc, count, text.as_bytes())? {
@@ -139,7 +140,7 @@ fn body_of_text(alloc: Global, count: u64, text: &str, place: &str) -> Result<Te
 
 /// The body of so many messages.
 #[tactic(auto, unfolding(crate::specs::ActorWalks::body_walk, crate::specs::Walk::and_then))]
-fn body(alloc: Global, count: u64, table: &Table, place: &str) -> Result<Text, ReadError>
+fn body(alloc: Global, count: u64, table: &Table, place: &Place) -> Result<Text, ReadError>
     ensures { Gives (λ b. b) result (body_walk count (the_table place.now (table_view table.now))) }
 {
     let text = required_text(alloc, table, place, "body")?;
@@ -152,7 +153,7 @@ pub(crate) fn producer(
     alloc: Global,
     is_fifo: bool,
     table: &Table,
-    place: &str,
+    place: &Place,
 ) -> Result<Role, ReadError>
     ensures { Gives (λ p. p) result (producer_walk is_fifo (the_table place.now (table_view table.now))) }
 {

@@ -15,6 +15,7 @@ use crate::keys::{
 };
 use crate::names::{is_agent_name, is_fifo, is_queue_name};
 use crate::outline::Outline;
+use crate::place::Place;
 use sim_clock::Refusal;
 use sqs_message::Text;
 use sqs_redrive::{Kind, Latency, Policy, QueueSettings, Scope};
@@ -29,7 +30,7 @@ fn fresh_name(
     number: usize,
     name: &str,
     is_well_formed: bool,
-    place: &str,
+    place: &Place,
 ) -> Result<Text, ReadError>
     ensures { Gives (λ t. t) result (fresh_walk is_well_formed outline.now number (place.now ++ codes "name") name.now) }
 {
@@ -49,7 +50,7 @@ pub(crate) fn agent_name(
     outline: &Outline,
     number: usize,
     table: &Table,
-    place: &str,
+    place: &Place,
 ) -> Result<Text, ReadError>
     ensures { Gives (λ t. t) result (name_walk is_agent_name outline.now number (the_table place.now (table_view table.now))) }
 {
@@ -65,7 +66,7 @@ fn queue_name(
     outline: &Outline,
     number: usize,
     table: &Table,
-    place: &str,
+    place: &Place,
 ) -> Result<Text, ReadError>
     ensures { Gives (λ t. t) result (name_walk is_queue_name outline.now number (the_table place.now (table_view table.now))) }
 {
@@ -76,7 +77,7 @@ fn queue_name(
 
 /// The one latency of version 1, which is both bounds.
 #[tactic(auto, unfolding(crate::specs::Walks::one_latency_walk, crate::specs::Walk::and_then))]
-fn one_latency(alloc: Global, table: &Table, place: &str) -> Result<Latency, ReadError>
+fn one_latency(alloc: Global, table: &Table, place: &Place) -> Result<Latency, ReadError>
     ensures { Gives (λ l. l) result (one_latency_walk (the_table place.now (table_view table.now))) }
 {
     let both = required_integer(alloc, table, place, "latency_ms", 1, 900_000)?;
@@ -88,7 +89,7 @@ fn one_latency(alloc: Global, table: &Table, place: &str) -> Result<Latency, Rea
 
 /// The two bounds of version 2.
 #[tactic(auto, unfolding(crate::specs::Walks::two_bounds_walk, crate::specs::Walk::and_then))]
-fn two_bounds(alloc: Global, table: &Table, place: &str) -> Result<Latency, ReadError>
+fn two_bounds(alloc: Global, table: &Table, place: &Place) -> Result<Latency, ReadError>
     ensures { Gives (λ l. l) result (two_bounds_walk (the_table place.now (table_view table.now))) }
 {
     let least = required_integer(alloc, table, place, "latency_min_ms", 1, 900_000)?;
@@ -101,7 +102,7 @@ pub(crate) fn latency(
     alloc: Global,
     version: u64,
     table: &Table,
-    place: &str,
+    place: &Place,
 ) -> Result<Latency, ReadError>
     ensures { Gives (λ l. l) result (latency_by (version == 2) (the_table place.now (table_view table.now))) }
 {
@@ -114,7 +115,7 @@ pub(crate) fn latency(
 
 /// Where ids are compared; in the whole queue where the key is left out.
 #[tactic(auto, unfolding(sqs_formats::specs::Reading::answer))]
-fn scope(alloc: Global, table: &Table, place: &str) -> Result<Scope, ReadError>
+fn scope(alloc: Global, table: &Table, place: &Place) -> Result<Scope, ReadError>
     ensures { Gives (λ s. s) result (answer (optional scopes.Queue (one_of scopes.Queue scopes_named) (the_table place.now (table_view table.now)) (codes "dedup_scope"))) }
 {
     match member(table, "dedup_scope") {
@@ -136,7 +137,7 @@ fn scope(alloc: Global, table: &Table, place: &str) -> Result<Scope, ReadError>
 
 /// What only a FIFO queue has.
 #[tactic(auto, unfolding(crate::specs::Walks::fifo_walk, crate::specs::Walk::and_then))]
-fn fifo(alloc: Global, table: &Table, place: &str) -> Result<Kind, ReadError>
+fn fifo(alloc: Global, table: &Table, place: &Place) -> Result<Kind, ReadError>
     ensures { Gives (λ k. k) result (fifo_walk (the_table place.now (table_view table.now))) }
 {
     let content_dedup = boolean_or(alloc, table, place, "content_dedup", false)?;
@@ -149,7 +150,7 @@ fn fifo(alloc: Global, table: &Table, place: &str) -> Result<Kind, ReadError>
 
 /// What only a standard queue has.
 #[tactic(auto, unfolding(crate::specs::Walks::standard_walk, crate::specs::Walk::and_then))]
-fn standard(alloc: Global, table: &Table, place: &str) -> Result<Kind, ReadError>
+fn standard(alloc: Global, table: &Table, place: &Place) -> Result<Kind, ReadError>
     ensures { Gives (λ k. k) result (standard_walk (the_table place.now (table_view table.now))) }
 {
     let hosts = integer_or(alloc, table, place, "hosts", 1, 16, 1)?;
@@ -158,7 +159,7 @@ fn standard(alloc: Global, table: &Table, place: &str) -> Result<Kind, ReadError
 }
 
 /// What only a queue of this kind has.
-fn kind(alloc: Global, is_fifo: bool, table: &Table, place: &str) -> Result<Kind, ReadError>
+fn kind(alloc: Global, is_fifo: bool, table: &Table, place: &Place) -> Result<Kind, ReadError>
     ensures { Gives (λ k. k) result (kind_by is_fifo (the_table place.now (table_view table.now))) }
 {
     if is_fifo {
@@ -174,7 +175,7 @@ fn leading(
     alloc: Global,
     outline: &Outline,
     table: &Table,
-    place: &str,
+    place: &Place,
 ) -> Result<Option<Policy>, ReadError>
     ensures { Gives (λ p. p) result (leading_walk outline.now (the_table place.now (table_view table.now))) }
 {
@@ -205,7 +206,7 @@ fn policy(
     leads: bool,
     outline: &Outline,
     table: &Table,
-    place: &str,
+    place: &Place,
 ) -> Result<Option<Policy>, ReadError>
     ensures { Gives (λ p. p) result (policy_by leads outline.now (the_table place.now (table_view table.now))) }
 {
@@ -223,7 +224,7 @@ fn settings(
     outline: &Outline,
     name: Text,
     table: &Table,
-    place: &str,
+    place: &Place,
 ) -> Result<(Text, QueueSettings), ReadError>
     ensures { Gives (λ q. q) result (settings_walk outline.now name (the_table place.now (table_view table.now))) }
 {
@@ -295,7 +296,7 @@ fn known_queue_keys(
     version: u64,
     is_fifo: bool,
     table: &Table,
-    place: &str,
+    place: &Place,
 ) -> Result<(), ReadError>
     ensures { Gives (λ u. u) result (answer (only (queue_keys version is_fifo (has (the_table place.now (table_view table.now)) (codes "dead_letter"))) (the_table place.now (table_view table.now)))) }
 {
@@ -315,7 +316,7 @@ pub(crate) fn queue(
     outline: &Outline,
     number: usize,
     table: &Table,
-    place: &str,
+    place: &Place,
 ) -> Result<(Text, QueueSettings), ReadError>
     ensures { Gives (λ q. q) result (queue_walk outline.now number (the_table place.now (table_view table.now))) }
 {

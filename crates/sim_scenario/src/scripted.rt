@@ -12,6 +12,7 @@ use crate::fault::{ReadError, blame};
 use crate::keys::{ACTOR_KEYS, known_keys, required_text};
 use crate::names::is_script_name;
 use crate::outline::Outline;
+use crate::place::Place;
 use crate::queues::has;
 use crate::script::{ScriptError, read_script};
 use sim_clock::Refusal;
@@ -57,7 +58,7 @@ impl Scripts {
 }
 
 /// A fault of a script as the scenario's: at the script's place, behind it the number of the record.
-fn script_blame(alloc: Global, fault: ScriptFault, place: &str, key: &str) -> ReadError
+fn script_blame(alloc: Global, fault: ScriptFault, place: &Place, key: &str) -> ReadError
     ensures { Names result (script_fault (place.now ++ key.now) fault) }
 {
     match fault.number {
@@ -75,7 +76,7 @@ fn told_calls(
     alloc: Global,
     home: &Home,
     text: &[u8],
-    place: &str,
+    place: &Place,
     key: &str,
 ) -> Result<Script, ReadError>
     ensures { Gives (λ s. s) result (answer (calls_in home.now (place.now ++ key.now) text.now)) }
@@ -89,7 +90,7 @@ fn told_calls(
 
 /// The calls in an actor's own table.
 #[tactic(auto, unfolding(crate::specs::ActorWalks::own_calls_walk, crate::specs::Walk::and_then))]
-fn own_calls(alloc: Global, home: &Home, table: &Table, place: &str) -> Result<Script, ReadError>
+fn own_calls(alloc: Global, home: &Home, table: &Table, place: &Place) -> Result<Script, ReadError>
     ensures { Gives (λ s. s) result (own_calls_walk home.now (the_table place.now (table_view table.now))) }
 {
     let text = required_text(alloc, table, place, "calls")?;
@@ -103,7 +104,7 @@ fn named_calls(
     scripts: &Scripts,
     home: &Home,
     name: &str,
-    place: &str,
+    place: &Place,
     key: &str,
 ) -> Result<Script, ReadError>
     ensures { Gives (λ s. s) result (answer (file_when home.now (place.now ++ key.now) (find (λ file. bytes_eq file.0 name.now) scripts.now))) }
@@ -121,7 +122,7 @@ fn file_calls(
     scripts: &Scripts,
     home: &Home,
     table: &Table,
-    place: &str,
+    place: &Place,
 ) -> Result<Script, ReadError>
     ensures { Gives (λ s. s) result (file_calls_walk scripts.now home.now (the_table place.now (table_view table.now))) }
 {
@@ -139,7 +140,7 @@ fn calls(
     scripts: &Scripts,
     home: &Home,
     table: &Table,
-    place: &str,
+    place: &Place,
 ) -> Result<Script, ReadError>
     ensures { Gives (λ s. s) result (calls_either is_file scripts.now home.now (the_table place.now (table_view table.now))) }
 {
@@ -162,7 +163,7 @@ fn script_keys(has_calls: bool) -> &'static [&'static str]
 }
 
 /// Finds the first key that an actor should not have that follows a script.
-fn known_script_keys(alloc: Global, table: &Table, place: &str) -> Result<(), ReadError>
+fn known_script_keys(alloc: Global, table: &Table, place: &Place) -> Result<(), ReadError>
     ensures { Gives (λ u. u) result (answer (only (actor_keys ++ script_keys (has (the_table place.now (table_view table.now)) (codes "calls"))) (the_table place.now (table_view table.now)))) }
 {
     let own = script_keys(has(table, "calls"));
@@ -177,7 +178,7 @@ pub(crate) fn scripted(
     outline: &Outline,
     home: u32,
     table: &Table,
-    place: &str,
+    place: &Place,
 ) -> Result<Role, ReadError>
     ensures { Gives (λ r. r) result (scripted_walk scripts.now outline.now home (the_table place.now (table_view table.now))) }
 {

@@ -8,6 +8,7 @@ ghost use Rattle.sim_scenario.specs.TopWalks.{agent_list_walk, plain_list, queue
 
 use crate::fault::{ReadError, blame};
 use crate::keys::{integer_or, known_keys, member, required_integer};
+use crate::place::Place;
 use sim_clock::Refusal;
 use std::alloc::Global;
 use toml::{Table, Value};
@@ -30,9 +31,9 @@ fn required_list<'a>(alloc: Global, table: &'a Table, key: &str) -> Result<&'a [
     ensures { Gives (λ vs. map view vs.now) result (answer (required plain_list (the_table [] (table_view table.now)) key.now)) }
 {
     match member(table, key) {
-        None => Err(blame(alloc, Refusal::MissingKey, "", key)),
+        None => Err(blame(alloc, Refusal::MissingKey, &Place::top(), key)),
         Some(value) => match value.as_array() {
-            None => Err(blame(alloc, Refusal::WrongType, "", key)),
+            None => Err(blame(alloc, Refusal::WrongType, &Place::top(), key)),
             Some(values) => Ok(values.as_slice()),
         },
     }
@@ -46,10 +47,10 @@ fn queue_list<'a>(alloc: Global, table: &'a Table) -> Result<&'a [Value], ReadEr
 {
     let values = required_list(alloc, table, "queue")?;
     if values.len() < 1 {
-        return Err(blame(alloc, Refusal::OutOfRange, "", "queue"));
+        return Err(blame(alloc, Refusal::OutOfRange, &Place::top(), "queue"));
     }
     if values.len() > 1000 {
-        return Err(blame(alloc, Refusal::TooMany, "", "queue"));
+        return Err(blame(alloc, Refusal::TooMany, &Place::top(), "queue"));
     }
     Ok(values)
 }
@@ -60,7 +61,7 @@ fn list<'a>(alloc: Global, value: &'a Value, key: &str) -> Result<&'a [Value], R
     ensures { Gives (λ vs. map view vs.now) result (answer (plain_list.read key.now (view value.now))) }
 {
     match value.as_array() {
-        None => Err(blame(alloc, Refusal::WrongType, "", key)),
+        None => Err(blame(alloc, Refusal::WrongType, &Place::top(), key)),
         Some(values) => Ok(values.as_slice()),
     }
 }
@@ -82,7 +83,7 @@ fn agent_list<'a>(
         Some(value) => {
             let values = list(alloc, value, key)?;
             if values.len() > 10_000 - before {
-                return Err(blame(alloc, Refusal::TooMany, "", key));
+                return Err(blame(alloc, Refusal::TooMany, &Place::top(), key));
             }
             Ok(values)
         }
@@ -100,11 +101,20 @@ pub(crate) fn top_table<'a>(alloc: Global, table: &'a Table) -> Result<Top<'a>, 
     ensures value { Gives top_view result (top_walk (the_table [] (table_view table.now))) }
     ensures few { IfOk result (λ t. length t.queues.now + length t.actors.now + length t.tasks.now ≤ 11000) }
 {
-    known_keys(alloc, table, "", &[TOP_KEYS])?;
-    let version = required_integer(alloc, table, "", "version", 1, 2)?;
-    let horizon = required_integer(alloc, table, "", "horizon", 1, 2_592_000_000)?;
-    let seed = integer_or(alloc, table, "", "seed", 0, 9_223_372_036_854_775_807, 0)?;
-    let sample = integer_or(alloc, table, "", "sample", 0, 2_592_000_000, 0)?;
+    let place = Place::top();
+    known_keys(alloc, table, &place, &[TOP_KEYS])?;
+    let version = required_integer(alloc, table, &place, "version", 1, 2)?;
+    let horizon = required_integer(alloc, table, &place, "horizon", 1, 2_592_000_000)?;
+    let seed = integer_or(
+        alloc,
+        table,
+        &place,
+        "seed",
+        0,
+        9_223_372_036_854_775_807,
+        0,
+    )?;
+    let sample = integer_or(alloc, table, &place, "sample", 0, 2_592_000_000, 0)?;
     let queues = queue_list(alloc, table)?;
     let actors = agent_list(alloc, 0, table, "actor")?;
     let tasks = agent_list(alloc, actors.len(), table, "task")?;

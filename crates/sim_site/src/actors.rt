@@ -38,12 +38,7 @@ fn marked(alloc: Global, actors: Vec<Actor>) -> Result<MarkedList<Actor>, AllocE
     ensures actors { IfOk result (λ list. list.values ≡ actors.items) }
     ensures marked { IfOk result (AreMarked wake_mark) }
 {
-    let mut list = MarkedList::new(alloc);
-    for actor in actors {
-        let mark = mark_of(&actor);
-        list.push(actor, mark)?;
-    }
-    Ok(list)
+    MarkedList::of(alloc, actors, |actor| mark_of(actor))
 }
 
 // Whether the numbers of actors do not fall from one to the next.

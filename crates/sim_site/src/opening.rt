@@ -19,7 +19,7 @@ pub fn open_actors(
     requires { All (λ x. IsRole x.1.role) actors.items }
     ensures { IfOk result (λ opened. opened ≡ map (opening_actor seed) actors.items) }
 {
-    let mut opened = Vec::new(alloc);
+    let mut opened = Vec::with_capacity(alloc, actors.len())?;
     for (number, settings) in actors {
         opened.push(Actor::new(alloc, number, settings, seed))?;
     }
@@ -34,7 +34,7 @@ pub fn open_tasks(
 ) -> Result<Vec<Task>, AllocError>
     ensures { IfOk result (λ opened. opened.items ≡ map (opening_task seed) tasks.now) }
 {
-    let mut opened = Vec::new(alloc);
+    let mut opened = Vec::with_capacity(alloc, tasks.len())?;
     for i in 0..tasks.len() {
         let (number, settings) = tasks[i];
         opened.push(Task::new(number, settings, seed))?;

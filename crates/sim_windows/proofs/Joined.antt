@@ -46,6 +46,13 @@ module _ {Site Row Transfer : Type 0} (engine : Engine Site Row Transfer) where
     pub part_keeps : (p : ℕ) (w : List Site) (s : Site) → (owner (number s) == p) ≡ false → part_of engine owner p (w ++ s ∷ []) ≡ part_of engine owner p w
     part_keeps p w s h = filter-append (is_of engine owner p) w (s ∷ []) ∙ ap (λ b. part_of engine owner p w ++ cond b (s ∷ []) []) h ∙ append-nil (part_of engine owner p w)
 
+    -- all of a world are of the one partition that there is
+    pub part_alone : ((n : ℕ) → owner n < 1) → (w : List Site) → part_of engine owner 0 w ≡ w
+    part_alone h [] = refl
+    part_alone h (s ∷ w) =
+        let here : (owner (number s) == 0) ≡ true = (let l : owner (number s) < 1 = h (number s) in grind (arith, nat_tests)) in
+        ap (λ b. cond b (s ∷ part_of engine owner 0 w) (part_of engine owner 0 w)) here ∙ ap (λ z. s ∷ z) (part_alone h w)
+
   -- the lists of the partitions' sites, of so many of a world
   abbrev pub lists_so_far : (ℕ → ℕ) → ℕ → ℕ → List Site → List (List Site)
   lists_so_far owner parts n w = map (λ p. part_of engine owner p (take n w)) (range_with_len 0 parts)

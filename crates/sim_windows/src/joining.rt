@@ -1,6 +1,6 @@
 //! The sites of partitions, in one list again.
 ghost use Rattle.std.specs.List.{range_with_len};
-ghost use Rattle.std.specs.Prelude.{◌≡◌, IfOk, List, Ok, map, reverse};
+ghost use Rattle.std.specs.Prelude.{◌≡◌, ◌∷◌, [], IfOk, List, Ok, map, reverse};
 ghost use Rattle.sim_exchange.specs.Layout.{owner_of};
 ghost use Rattle.sim_engine.specs.Parts.{part_of};
 ghost use Rattle.sim_engine.specs.Setting.{IsNumbered};
@@ -15,13 +15,24 @@ fn turned_sites<S: Site>(alloc: Global, parts: Vec<Partition<S>>) -> Result<Vec<
     ensures { (ws : List (List S)) → parts.items ≡ map (λ w. Ok w) ws →
         IfOk result (λ lists. map (λ l. l.items) lists.items ≡ map (λ w. reverse w) ws) }
 {
-    let mut lists = Vec::new(alloc);
+    let mut lists = Vec::with_capacity(alloc, parts.len())?;
     for part in parts {
         let mut sites = part.into_sites();
         sites.reverse();
         lists.push(sites)?;
     }
     Ok(lists)
+}
+
+// The sites of the one partition that there is.
+fn sites_alone<S: Site>(alloc: Global, parts: Vec<Partition<S>>) -> Result<Vec<S>, AllocError>
+    ensures { (w : List S) → parts.items ≡ Ok w ∷ [] → IfOk result (λ sites. sites.items ≡ w) }
+{
+    let mut parts = parts;
+    match parts.pop() {
+        Some(part) => Ok(part.into_sites()),
+        None => Ok(Vec::new(alloc)),
+    }
 }
 
 /// The sites of all partitions, by number. The error is want of memory.
@@ -34,8 +45,14 @@ pub fn join_sites<S: Site>(
         parts.items ≡ map (λ p. Ok (part_of S.engine (owner_of layout.now) p w)) (range_with_len 0 layout.now.parts) →
         IfOk result (λ sites. sites.items ≡ w) }
 {
+    if layout.parts() == 1 {
+        return sites_alone(alloc, parts);
+    }
     let mut lists = turned_sites(alloc, parts)?;
-    let mut sites = Vec::new(alloc);
+    let count = lists
+        .iter()
+        .fold(0usize, |count, list| count.saturating_add(list.len()));
+    let mut sites = Vec::with_capacity(alloc, count)?;
     // These are not the partitions of the layout.
     if lists.len() != layout.parts() as usize {
         return Ok(sites);

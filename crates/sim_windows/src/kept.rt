@@ -36,7 +36,7 @@ pub struct Kept<S: Site> {
 fn no_rows<S: Site>(alloc: Global, parts: usize) -> Result<Vec<Vec<S::Row>>, AllocError>
     ensures { IfOk result (λ lists. map (λ l. l.items) lists.items ≡ map (λ p. []) (range_with_len 0 parts)) }
 {
-    let mut lists = Vec::new(alloc);
+    let mut lists = Vec::with_capacity(alloc, parts)?;
     for _ in 0..parts {
         lists.push(Vec::new(alloc))?;
     }

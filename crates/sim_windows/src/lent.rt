@@ -80,7 +80,7 @@ impl<S: Site> Lent<S> {
             IfOk result (GoesOn S.engine S.conditions (with_parts parts self)) }
     {
         let Lent { mut kept } = self;
-        let mut parts = Vec::new(kept.alloc);
+        let mut parts = Vec::with_capacity(kept.alloc, came.len())?;
         let mut place = 0;
         for one in came {
             let Came { part, made } = one;

@@ -29,7 +29,7 @@ pub fn dues_of<S: Site>(
 ) -> Result<Vec<Option<u64>>, AllocError>
     ensures { IfOk result (λ dues. dues.items ≡ due_moments S.engine parts.now) }
 {
-    let mut dues = Vec::new(alloc);
+    let mut dues = Vec::with_capacity(alloc, parts.len())?;
     for part in parts {
         dues.push(moment_of(part.least_due()))?;
     }
@@ -51,7 +51,7 @@ pub fn bounds_of(
         ≡ map (λ p. bound_by (distance_in distances.now) horizon (λ q. get_or dues.now q None) p distances.now.parts)
         (range_with_len 0 distances.now.parts)) }
 {
-    let mut bounds = Vec::new(alloc);
+    let mut bounds = Vec::with_capacity(alloc, dues.len())?;
     for part in 0..dues.len() {
         bounds.push(distances.bound(dues, part as u32, horizon))?;
     }

@@ -1,6 +1,6 @@
 //! A world in partitions.
 ghost use Rattle.std.specs.List.{range_with_len};
-ghost use Rattle.std.specs.Prelude.{◌≡◌, ◌<◌, ◌^◌, All, IfOk, List, Ok, [], length, map};
+ghost use Rattle.std.specs.Prelude.{◌≡◌, ◌<◌, ◌^◌, ◌∷◌, All, IfOk, List, Ok, [], length, map};
 ghost use Rattle.sim_exchange.specs.Layout.{owner_of};
 ghost use Rattle.sim_engine.specs.Parts.{part_of};
 ghost use Rattle.sim_partition.specs.Sites.{IsPart};
@@ -11,14 +11,24 @@ use sim_exchange::PartMap;
 use sim_partition::Partition;
 use std::alloc::{AllocError, Global};
 
-// So many lists of sites, none of which has any.
-fn no_sites<S: Site>(alloc: Global, parts: u32) -> Result<Vec<Vec<S>>, AllocError>
+// So many lists of sites, none of which has any, but room for so many.
+fn no_sites<S: Site>(alloc: Global, parts: u32, room: usize) -> Result<Vec<Vec<S>>, AllocError>
     ensures { IfOk result (λ lists. map (λ l. l.items) lists.items ≡ map (λ p. []) (range_with_len 0 parts)) }
 {
-    let mut lists = Vec::new(alloc);
+    let mut lists = Vec::with_capacity(alloc, parts as usize)?;
     for _ in 0..parts {
-        lists.push(Vec::new(alloc))?;
+        let list = Vec::with_capacity(alloc, room)?;
+        lists.push(list)?;
     }
+    Ok(lists)
+}
+
+// A list of one list.
+fn list_alone<S: Site>(alloc: Global, sites: Vec<S>) -> Result<Vec<Vec<S>>, AllocError>
+    ensures { IfOk result (λ lists. map (λ l. l.items) lists.items ≡ sites.items ∷ []) }
+{
+    let mut lists = Vec::with_capacity(alloc, 1)?;
+    lists.push(sites)?;
     Ok(lists)
 }
 
@@ -34,7 +44,12 @@ pub fn split_sites<S: Site>(
         map (λ l. l.items) lists.items
         ≡ map (λ p. part_of S.engine (owner_of layout.now) p sites.items) (range_with_len 0 layout.now.parts)) }
 {
-    let mut lists = no_sites(alloc, layout.parts())?;
+    if layout.parts() == 1 {
+        return list_alone(alloc, sites);
+    }
+    // As many each, as most maps have it.
+    let room = sites.len().div_ceil(layout.parts() as usize);
+    let mut lists = no_sites(alloc, layout.parts(), room)?;
     let mut number = 0;
     for site in sites {
         let part = layout.part_of(number) as usize;
@@ -52,7 +67,7 @@ pub fn open_parts<S: Site>(
     requires { All (λ l. IsPart S.engine S.conditions l.items) lists.items }
     ensures { IfOk result (λ parts. parts.items ≡ map (λ l. Ok l.items) lists.items) }
 {
-    let mut parts = Vec::new(alloc);
+    let mut parts = Vec::with_capacity(alloc, lists.len())?;
     for sites in lists {
         parts.push(Partition::new(alloc, sites)?)?;
     }

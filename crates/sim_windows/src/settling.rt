@@ -89,8 +89,8 @@ pub fn settle<S: Site>(
         map (λ l. l.items) settled.kept.items
         ≡ map (λ l. filter (λ r. not (is_before S.engine moment r)) l.items) lists.items) }
 {
-    let mut fronts = Vec::new(alloc);
-    let mut kept = Vec::new(alloc);
+    let mut fronts = Vec::with_capacity(alloc, lists.len())?;
+    let mut kept = Vec::with_capacity(alloc, lists.len())?;
     for rows in lists {
         let parted = part_rows::<S>(alloc, rows, moment)?;
         fronts.push(parted.before)?;

@@ -299,7 +299,7 @@ impl<S: Site> Stage<S> {
             IsLent S.engine S.conditions self cut loan.lent loan.parts.items loan.ends.items) }
     {
         let Stage { kept, parts } = self;
-        let mut ends = Vec::new(kept.alloc);
+        let mut ends = Vec::with_capacity(kept.alloc, kept.bounds.len())?;
         for bound in &kept.bounds {
             ends.push(cut.min(*bound))?;
         }

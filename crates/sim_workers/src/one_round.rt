@@ -31,8 +31,8 @@ use std::sync::Wait;
 // other threads would cost more than it saves.
 const FEW: u64 = 1_024;
 
-// So many rows are handed on at once, while they are at hand.
-const PIECE: usize = 1_024;
+// So many rows are handed on at once: few enough that they, and the text of their lines, stay at hand.
+const PIECE: usize = 256;
 
 // What comes of a partition that is run to its bound.
 type Outcome<S> = Result<Came<S>, Refusal>;

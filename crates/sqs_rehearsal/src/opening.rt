@@ -29,7 +29,7 @@ fn vacant_homes(alloc: Global, queues: usize) -> Result<Vec<Home>, AllocError>
     ensures vacant { IfOk result (λ homes. All IsVacant homes.items) }
     ensures count { IfOk result (λ homes. length homes.items ≡ queues) }
 {
-    let mut homes = Vec::new(alloc);
+    let mut homes = Vec::with_capacity(alloc, queues)?;
     for _ in 0..queues {
         homes.push(Home {
             actors: Vec::new(alloc),
@@ -117,7 +117,7 @@ fn open_sites(
     requires sample { sample ≤ most_count }
     ensures opened { IfOk result (λ sites. (s : TheScenario) → s.seed ≡ seed → s.sample ≡ sample → s.queues ≡ queues.now → IsSettled homes.items (numbered_actors s) (numbered_tasks s) → sites.items ≡ opening s) }
 {
-    let mut sites = Vec::new(alloc);
+    let mut sites = Vec::with_capacity(alloc, queues.len())?;
     let mut number = 0;
     for home in homes {
         let settings = queues[number as usize];

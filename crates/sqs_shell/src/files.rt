@@ -86,7 +86,7 @@ fn bytes_of<R: Read>(alloc: Global, reader: &mut R) -> Result<Vec<u8>, InputErro
     ensures { IfOk result (λ bytes. IfSome (R.remaining reader.old) (λ left. bytes.items ≡ left)) }
 {
     let mut bytes = Vec::new(alloc);
-    let mut piece = [0; 65536];
+    let mut piece = [0; 4096];
     for _ in 0..MOST_READS {
         let count = reader.read(&mut piece)?;
         if count == 0 {

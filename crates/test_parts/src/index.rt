@@ -163,6 +163,19 @@ fn a_list_grows(rt: HostRuntime) {
 }
 
 #[test]
+fn a_list_is_made_of_values(rt: HostRuntime) {
+    let values = Vec::from_array(rt.alloc(), [9, 4, 7]).expect(&rt, "memory");
+    let list = MarkedList::of(rt.alloc(), values, |value| mark(Some(*value), 1));
+    let list = list.expect(&rt, "memory");
+    try_values(&rt, &list, &[(9, Some(9)), (4, Some(4)), (7, Some(7))]);
+    same(
+        &rt,
+        (list.place_of_least(), list.mark_at(3)),
+        (Some(1), NO_MARK),
+    );
+}
+
+#[test]
 fn a_list_is_changed(rt: HostRuntime) {
     let mut list = MarkedList::new(rt.alloc());
     list.reserve().expect(&rt, "memory");

@@ -134,6 +134,17 @@ fn each_failing_call_leaves_what_came_before(rt: HostRuntime) {
     }
 }
 
+#[test]
+fn numbers_stand_behind_the_fields(rt: HostRuntime) {
+    let mut lines = Lines::new(rt.alloc());
+    let numbers = [Some(0), None, Some(17), Some(u128::MAX)];
+    let added = lines.add_numbers(&[b"a", b"b,c"], &numbers);
+    added.expect(&rt, "memory");
+    let bytes = lines.into_bytes().expect(&rt, "memory");
+    let line = b"a,\"b,c\",0,,17,340282366920938463463374607431768211455\n".as_slice();
+    same(&rt, bytes.as_slice(), line);
+}
+
 /// What a writer holds of some rows whose call after so many bytes fails.
 fn try_rows(rt: &impl Abort, alloc: Global, given: (&[Row], &Names), left: usize, front: &[u8]) {
     let mut out = writer(alloc, left, Fault::Error(ErrorKind::Interrupted));

@@ -14,8 +14,8 @@ loop-value-preserved g c =
     record {
       asked =
           rw (c.push_reserved.ensures.items, take_more values place value (omega arith))
-          (asked_more _ (take place values) c.loop-value.told.items (get_or values place value) c.keeps.result c.loop-value.invariant.asked
-          (subst (λ v. FnReturnsAt g.F.Fn c.args.keeps v c.keeps.result) c.value-item.is (says_at g.F.Fn c.keeps.ensures refl)));
+          (asked_more _ (take place values) c.loop-value.told.items (get_or values place value) c.answer.result c.loop-value.invariant.asked
+          (subst (λ v. FnReturnsAt g.F.Fn c.args.answer v c.answer.result) c.value-item.is (says_at g.F.Fn c.answer.ensures refl)));
       counted = omega arith;
       room = omega arith;
     }
@@ -23,7 +23,7 @@ loop-value-preserved g c =
 pub loop-value-init : goal.loop-value-init
 loop-value-init g c =
     record {
-      asked = subst (AllZip (FnReturnsAt g.F.Fn c.args.keeps) []) (sym c.in_ok-told.ensures.items) tt;
+      asked = subst (AllZip (FnReturnsAt g.F.Fn c.args.answer) []) (sym c.in_ok-told.ensures.items) tt;
       counted = c.in_ok-told.ensures.len;
       room = c.in_ok-told.ensures.exact;
     }
@@ -33,6 +33,6 @@ returns g c =
     let told = c.loop-value.told.items in
     let values = c.args.values.now in
     record {
-      told = subst (λ xs. AllZip (FnReturnsAt g.F.Fn c.args.keeps) xs told) (take_all c.loop-value.value-index values (omega (arith, c.loop-value-test.false))) c.loop-value.invariant.asked;
+      told = subst (λ xs. AllZip (FnReturnsAt g.F.Fn c.args.answer) xs told) (take_all c.loop-value.value-index values (omega (arith, c.loop-value-test.false))) c.loop-value.invariant.asked;
       length = omega (arith, c.loop-value-test.false, c.loop-value.auto.value-index-end, c.loop-value.invariant.counted, c.loop-value.told.ok.0);
     }

@@ -1,4 +1,4 @@
-use Rattle.std.proofs.Common.{ap, length, subst, sym, ◌<◌, ◌∙◌, ◌≡◌}
+use Rattle.std.proofs.Common.{ap, sym, ◌∙◌, ◌≡◌}
 use Rattle.std.specs.Prelude.{Some}
 use Rattle.std.proofs.lemmas.List.{get_or-map}
 use Rattle.sim_clock.specs.Order.{lesser}
@@ -8,25 +8,25 @@ use Rattle.sim_index.specs.Marks.{no_mark, node}
 use Rattle.sim_index.specs.declared.mark.Mark.{Mark}
 use Rattle.sim_index.proofs.Kept.{marked_with}
 use Rattle.sim_partition.specs.Sites.{mark_of}
-use Rattle.sim_partition.proofs.Numbers.{absent, handed, number_there}
+use Rattle.sim_partition.proofs.Numbers.{absent, found_nowhere, found_there, handed}
 use Rattle.sim_partition.proofs.delivery.deliver_one.Goals as goal
 
 pub returns-in_ok-accept-clause-delivered : goal.returns-in_ok-accept-clause-delivered
 returns-in_ok-accept-clause-delivered g c =
     let e = g.S.Site.engine in
     let xs = c.args.sites.now.values in
-    let there : number_there e xs c.in-Some.place ≡ e.to c.args.transfer = ap (λ ys. number_there e ys c.in-Some.place) (sym c.values.ensures.values) ∙ c.in-Some.ensures.1 ∙ c.to.ensures in
+    let there = found_there e c.to.result 0 xs c.requires.ascends c.args.numbers.now c.requires.numbers c.binary_search.result c.binary_search.ensures.position c.in-Ok.place c.in-Ok.is in
     ap (λ (s : Marked _). s.values) c.set_mark.ensures
-    ∙ handed e c.args.transfer 0 c.in-Some.place xs c.accept.new.self c.value_mut.result.now c.requires.ascends (subst (λ ys. c.in-Some.place < length ys) c.values.ensures.values c.in-Some.ensures.0) there
+    ∙ handed e c.args.transfer 0 c.in-Ok.place xs c.accept.new.self c.value_mut.result.now c.requires.ascends there.0 (there.1 ∙ c.to.ensures)
     (c.in_ok-accept.ensures.accepted ∙ ap (e.accepted c.args.transfer) c.value_mut.ensures.value)
 
 pub returns-in_ok-accept-clause-marked : goal.returns-in_ok-accept-clause-marked
 returns-in_ok-accept-clause-marked g c =
     let e = g.S.Site.engine in
     let list = c.args.sites.now in
-    let place = c.in-Some.place in
+    let place = c.in-Ok.place in
     let site = c.value_mut.result.now in
-    let within = subst (λ xs. place < length xs) c.values.ensures.values c.in-Some.ensures.0 in
+    let within = (found_there e c.to.result 0 list.values c.requires.ascends c.args.numbers.now c.requires.numbers c.binary_search.result c.binary_search.ensures.position place c.in-Ok.is).0 in
     let kept : node list.marks place ≡ mark_of e site =
     ap (λ ms. node ms place) c.requires.marked ∙ get_or-map (mark_of e) list.values place site no_mark within ∙ sym (ap (mark_of e) c.value_mut.ensures.value) in
     let due : c.lesser-due.result ≡ least_due e c.accept.new.self =
@@ -38,4 +38,5 @@ returns-in_ok-accept-clause-marked g c =
 pub returns-in_default-clause-delivered : goal.returns-in_default-clause-delivered
 returns-in_default-clause-delivered g c =
     let e = g.S.Site.engine in
-    sym (absent e c.args.transfer c.args.sites.now.values (λ k l h. c.in_default.ensures k (subst (λ ys. k < length ys) (sym c.values.ensures.values) l) (ap (λ ys. number_there e ys k) c.values.ensures.values ∙ h ∙ sym c.to.ensures)))
+    let xs = c.args.sites.now.values in
+    sym (absent e c.args.transfer xs (λ k l h. found_nowhere e c.to.result 0 xs c.requires.ascends c.args.numbers.now c.requires.numbers c.binary_search.result c.binary_search.ensures.position c.in_default.field-0 c.in_default.is k l (h ∙ sym c.to.ensures)))

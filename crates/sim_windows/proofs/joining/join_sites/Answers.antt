@@ -1,11 +1,11 @@
 use Rattle.std.specs.List.{range_with_len}
-use Rattle.std.specs.Prelude.{List, Ok, [], drop, length, map, suc, take, ℕ, ◌++◌, ◌+◌, ◌∷◌, ◌≡◌}
-use Rattle.std.proofs.Common.{ap, arith, refl, sym, ◌∙◌}
+use Rattle.std.specs.Prelude.{List, Ok, [], drop, length, map, suc, take, ℕ, ◌++◌, ◌+◌, ◌<◌, ◌∷◌, ◌≡◌}
+use Rattle.std.proofs.Common.{ap, arith, refl, subst, sym, ◌∙◌}
 use Rattle.std.proofs.lemmas.List.{length-set}
 use Rattle.sim_exchange.specs.Layout.{owner_of}
 use Rattle.sim_engine.specs.Parts.{part_of}
 use Rattle.sim_engine.specs.Setting.{IsNumbered}
-use Rattle.sim_windows.proofs.Joined.{all_taken, left_at, left_first, left_next, many_left, taken_next, turned}
+use Rattle.sim_windows.proofs.Joined.{all_taken, left_at, left_first, left_next, many_left, part_alone, taken_next, turned}
 use Rattle.sim_windows.proofs.joining.join_sites.Goals as goal
 
 nothing : {A : Type 0} (xs : List A) → length xs ≡ 0 → xs ≡ []
@@ -20,7 +20,7 @@ returns-then-len-parts given c =
     let layout = c.args.layout.now in
     let many : length lists.items ≡ layout.parts =
     many_left engine (λ x. x.items) lists.items (owner_of layout) layout.parts 0 w (left_first engine (λ x. x.items) lists.items (owner_of layout) layout.parts w c.args.parts.items c.in_ok-lists.ensures e) in
-    absurd (omega (arith, many, lists.ok.0, c.len.ensures, c.parts.ensures.parts, c.if-len-parts.true))
+    absurd (omega (arith, many, lists.ok.0, c.len.ensures, c.parts-2.ensures.parts, c.if-len-parts.true))
 
 pub loop-number-init : goal.loop-number-init
 loop-number-init given c =
@@ -28,8 +28,8 @@ loop-number-init given c =
     let lists = c.in_ok-lists.lists in
     let layout = c.args.layout.now in
     record {
-      count = omega (arith, lists.ok.0, c.len.ensures, c.parts.ensures.parts, c.if-len-parts.false);
-      joined = λ w h e. c.new-sites.ensures.items;
+      count = omega (arith, lists.ok.0, c.len.ensures, c.parts-2.ensures.parts, c.if-len-parts.false);
+      joined = λ w h e. c.in_ok-sites.ensures.items;
       left = λ w h e. left_first engine (λ x. x.items) lists.items (owner_of layout) layout.parts w c.args.parts.items c.in_ok-lists.ensures e;
     }
 
@@ -70,3 +70,12 @@ loop-number-preserved given c =
           ∙ sym t.taken ∙ ap (λ k. take k w) next;
       left = λ w h e. left_next engine (λ x. x.items) l.lists.items c.pop.new.self part owner parts n w site (taken w h e) c.part_of-part.ensures.below c.part_of-part.ensures.owner (l.invariant.left w h e);
     }
+
+pub returns-then-parts-eq1 : goal.returns-then-parts-eq1
+returns-then-parts-eq1 given c =
+    let engine = given.S.Site.engine in
+    let owner = owner_of c.args.layout.now in
+    let one : c.args.layout.now.parts ≡ 1 = sym c.parts.ensures.parts ∙ c.if-parts-eq1.true in
+    λ w h e.
+    let alone : part_of engine owner 0 w ≡ w = part_alone engine owner (λ n. subst (λ k. owner n < k) one (c.parts.ensures.below n)) w in
+    c.sites_alone.ensures w (e ∙ ap (λ k. map (λ p. Ok (part_of engine owner p w)) (range_with_len 0 k)) one ∙ ap (λ z. Ok z ∷ []) alone)

@@ -9,7 +9,7 @@ loop-part-init given c =
     let engine = given.S.Site.engine in
     record {
       rest = grind (arith, common_steps);
-      turned = λ ws e. ap (map (λ x. x.items)) c.new-lists.ensures.items ∙ none_turned engine ws e;
+      turned = λ ws e. ap (map (λ x. x.items)) c.in_ok-lists.ensures.items ∙ none_turned engine ws e;
     }
 
 pub loop-part-preserved : goal.loop-part-preserved

@@ -3,4 +3,4 @@ use Rattle.std.specs.Io.KnownBytes.{Consumes}
 use Rattle.sqs_shell.proofs.files.bytes_of.Given as goal
 
 abbrev pub invariant-loop : goal.invariant-loop
-invariant-loop g l = Consumes (g.R.Read.remaining l.initial.reader) (g.R.Read.remaining l.reader) l.bytes.items × (length l.piece ≡ 65536)
+invariant-loop g l = Consumes (g.R.Read.remaining l.initial.reader) (g.R.Read.remaining l.reader) l.bytes.items × (length l.piece ≡ 4096)

@@ -7,4 +7,4 @@ returns-in-Ok-clause-value c text of = rw (scenario_of_table c.args.scripts.now 
 
 pub returns-in-Err-clause-value : goal.returns-in-Err-clause-value
 returns-in-Err-clause-value c text of =
-    names_fails c.blame.result _ _ (scenario_refused c.args.scripts.now text c.args.self c.in-Err.refusal of c.in-Err.is) c.blame.ensures
+    names_fails c.blame.result _ _ (scenario_refused c.args.scripts.now text c.args.self c.in-Err.refusal of c.in-Err.is) (rw c.top.ensures at c.blame.ensures)

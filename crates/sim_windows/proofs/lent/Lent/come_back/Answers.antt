@@ -48,13 +48,13 @@ pub loop-one-init : goal.loop-one-init
 loop-one-init g c = record {
   rest = c.into_iter-one-iterator.ensures.into_iter_gives.0;
   place = refl;
-  parts = c.new-parts.ensures.items;
+  parts = c.in_ok-parts.ensures.items;
   rows = sym (rows_many c.self.inside.kept.rows.items) ∙ ap (λ (x : Standing _ _ _). length x.rows) c.self.view_is;
   bounds = ap (λ (x : Standing _ _ _). x.bounds) c.self.view_is;
   same = record { layout = ap (λ (x : Standing _ _ _). x.layout) c.self.view_is; distances = ap (λ (x : Standing _ _ _). x.distances) c.self.view_is };
   settled = ap (λ (x : Standing _ _ _). x.settled) c.self.view_is;
   back = λ s ps ends on under came.
-      subst (λ z. StandsOn g.S.Site.engine g.S.Site.conditions s (standing_of c.self.inside.kept (z ++ ps))) (sym c.new-parts.ensures.items)
+      subst (λ z. StandsOn g.S.Site.engine g.S.Site.conditions s (standing_of c.self.inside.kept (z ++ ps))) (sym c.in_ok-parts.ensures.items)
       (subst (λ (x : Standing _ _ _). StandsOn g.S.Site.engine g.S.Site.conditions s (with_parts ps x)) (sym c.self.view_is) on);
 }
 
