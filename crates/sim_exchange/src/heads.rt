@@ -38,9 +38,10 @@ impl Head {
         }
     }
 
-    // Whether it is the same as another one, where that is told.
+    // Whether it is the same as another one.
     fn is_same(&self, other: &Head) -> bool
-        ensures { result ≡ true → self.now ≡ other.now }
+        ensures same { result ≡ true → self.now ≡ other.now }
+        ensures told { self.now ≡ other.now → result ≡ true }
     {
         self.key == other.key
             && self.site == other.site

@@ -1,6 +1,7 @@
 //! Words and digests of the log, of which a constant number of bytes is put.
-ghost use Rattle.std.specs.Prelude.{◌≡◌, ◌≤◌, ◌<◌, ◌++◌, ◌∷◌, ◌-◌, IfSome, drop, length};
-ghost use Rattle.csv.specs.Writing.{comma};
+ghost use Rattle.std.specs.Option.{is_some};
+ghost use Rattle.std.specs.Prelude.{◌≡◌, ◌≤◌, ◌<◌, ◌&&◌, ◌++◌, ◌∷◌, ◌-◌, IfSome, drop, length, nat_le, not};
+ghost use Rattle.csv.specs.Writing.{comma, default_writer, needs_quotes};
 ghost use Rattle.hex.specs.Hex.{encode_lower};
 ghost use Rattle.sim_records.specs.Lines.{IsPlain};
 
@@ -61,7 +62,8 @@ impl Model for KeptWord {
 impl KeptWord {
     /// The word that a text is; none where it is too long for one or needs quotes.
     pub(crate) fn plain(text: &[u8]) -> Option<KeptWord>
-        ensures { IfSome result (λ w. (w ≡ text.now) × IsPlain w) }
+        ensures word { IfSome result (λ w. (w ≡ text.now) × IsPlain w) }
+        ensures told { is_some result ≡ nat_le (length text.now) 16 && not (needs_quotes default_writer text.now) }
     {
         if text.len() > WORD || needs_quotes(text) {
             return None;
