@@ -7,13 +7,19 @@ import argparse
 import errno
 import importlib.util
 import os
+import re
 import stat
 import sys
 import tempfile
 import time
 
+TOOLS = os.path.dirname(os.path.abspath(__file__))
 # Where Debian's packages put libraries, which another Python than Debian's does not look into.
 DEBIAN_LIBRARIES = "/usr/lib/python3/dist-packages"
+# How the commands of an installed package begin, which run its tools.
+COMMAND = "sqs_rehearse-"
+WRAPPER_NAMED = re.compile(r"(?<![\w/.])\./sqs_rehearse(?![\w/.-])")
+TOOL_NAMED = re.compile(r"(?<![\w/.-])tools/([a-z][a-z-]*)(?![\w/-]|\.\w)")
 
 
 class Fault(Exception):
@@ -21,14 +27,14 @@ class Fault(Exception):
 
 
 class Parser(argparse.ArgumentParser):
-    """A parser of the command line that tells a fault in one line. Its help is the tool's description, with the usage.
-    """
+    """A parser of the command line that tells a fault in one line. Its help is the tool's description, with the usage,
+    in which commands are named as the user calls them."""
 
     def __init__(self, description=None, **more):
         super().__init__(description=description, **more)
 
     def format_help(self):
-        return f"{self.description.strip()}\n"
+        return f"{with_commands(self.description.strip(), *called_by())}\n"
 
     def error(self, message):
         raise Fault(f"{message} (--help tells the usage)")
@@ -50,7 +56,7 @@ def library(name, package):
 
 def missing_library(name, package):
     return Fault(f"the library {name} is missing: Debian's package {package} has it for Debian's python3, and "
-                 "tools/setup installs it")
+                 f"{command_of('setup')} installs it")
 
 
 def check_library(name, package):
@@ -177,9 +183,37 @@ def is_terminal(stream):
     return stream is not None and stream.isatty()
 
 
+def called_by():
+    """The user's command for the program, and what stands before a tool's name in the user's command for it.
+
+    ./sqs_rehearse sets SQS_REHEARSE_TOOL for a tool that it runs, for example to `sqs_rehearse summary`.
+    """
+    own = os.path.basename(sys.argv[0])
+    wrapper, space, name = os.environ.get("SQS_REHEARSE_TOOL", "").rpartition(" ")
+    if space and name == own:
+        return wrapper, f"{wrapper} "
+    return ("sqs_rehearse", COMMAND) if own.startswith(COMMAND) else ("./sqs_rehearse", "tools/")
+
+
+def command_of(name):
+    """The user's command for a tool."""
+    return called_by()[1] + name
+
+
+def with_commands(text, wrapper, before, tools=None):
+    """A text with `wrapper` in place of ./sqs_rehearse, and with `before` in place of tools/ where the name of a tool
+    follows. Without `tools` those are the tools beside this file."""
+    def named(match):
+        is_tool = match[1] in tools if tools is not None else os.access(os.path.join(TOOLS, match[1]), os.X_OK)
+        return before + match[1] if is_tool else match[0]
+
+    return TOOL_NAMED.sub(named, WRAPPER_NAMED.sub(lambda _: wrapper, text))
+
+
 def tool():
-    """The name by which the tool was called."""
-    return os.path.basename(sys.argv[0])
+    """The name by which the tool was called, as its lines on standard error begin."""
+    own, (wrapper, before) = os.path.basename(sys.argv[0]), called_by()
+    return f"{os.path.basename(wrapper)} {own}" if before.endswith(" ") else own
 
 
 def told(fault):

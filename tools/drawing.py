@@ -2,9 +2,13 @@
 import it; it is not run by itself.
 """
 import io
+import logging
 import math
 
 from console import library
+
+# What matplotlib says of its own folders and fonts is no line of a tool.
+logging.getLogger("matplotlib").setLevel(logging.ERROR)
 
 TIME_UNITS = (("ms", 1), ("s", 1_000), ("min", 60_000), ("h", 3_600_000), ("days", 86_400_000))
 STEPS_OF_UNIT = {"s": (10, 15, 20, 30), "min": (10, 15, 20, 30), "h": (3, 6, 12, 24, 48)}

@@ -2,12 +2,12 @@
 import os
 import shutil
 import subprocess
+import sys
 
 from console import Fault, read_bytes
 
 
 TOP = os.path.dirname(os.path.dirname(os.path.abspath(__file__)))
-BUILT = os.path.join(TOP, "crates", "sqs_rehearse", "out", "sqs_rehearse")
 WRAPPER = os.path.join(TOP, "sqs_rehearse")
 
 
@@ -16,30 +16,44 @@ def is_wrapper(path):
     return os.path.exists(WRAPPER) and os.path.samefile(path, WRAPPER)
 
 
-def program_of(given):
-    """The path of the program, which is asked for its help. The script of the repository builds none for a tool."""
-    os.environ.setdefault("SQS_REHEARSE_BUILD", "never")
+def run_by_wrapper():
+    """The path of the program that the script of the repository would run; it builds none for a tool."""
+    asked = subprocess.run([WRAPPER, "--where"], stdin=subprocess.DEVNULL, capture_output=True, text=True,
+                           env={**os.environ, "SQS_REHEARSE_BUILD": "never"})
+    told = asked.stderr.strip().removeprefix("sqs_rehearse: ")
+    if asked.returncode:
+        raise Fault(told)
+    if told:
+        print(asked.stderr, end="", file=sys.stderr)
+    return asked.stdout.removesuffix("\n")
+
+
+def named_program(given):
+    """The path of what is named: the program, or the script of the repository, which finds it on each machine."""
     program = given or os.environ.get("SQS_REHEARSE") or WRAPPER
     found = shutil.which(program)
     if not found:
         raise Fault(f"there is no program {program}")
+    return os.path.abspath(found)
+
+
+def program_of(given):
+    """The path of the program, which is asked for its help: of the script of the repository, the one that it runs."""
+    program = named_program(given)
+    found = run_by_wrapper() if is_wrapper(program) else program
     try:
         runs = subprocess.run([found, "--help"], stdin=subprocess.DEVNULL, stdout=subprocess.DEVNULL,
                               stderr=subprocess.DEVNULL).returncode == 0
     except OSError:
         runs = False
-    if not runs and is_wrapper(found):
-        raise Fault("the program is not built yet: ./sqs_rehearse --build builds it, or SQS_REHEARSE names another")
     if not runs:
-        raise Fault(f"{program} does not run")
-    return os.path.abspath(found)
+        raise Fault(f"{given or program} does not run")
+    return found
 
 
 def program_itself(given):
-    """The path of the program and not of a script that runs it; of the repository's script, what it has built."""
+    """The path of the program, which is no script."""
     found = program_of(given)
-    if is_wrapper(found):
-        found = BUILT
     if not read_bytes(found).startswith(b"\x7fELF"):
         raise Fault(f"{found} is a script, and not the program itself")
     return found

@@ -7,7 +7,7 @@ import json
 import re
 import sys
 
-from console import Fault, check_output, read_bytes, shown, write_text
+from console import Fault, check_output, read_bytes, shown, tool, write_text
 
 QUEUES_MOST = 1_000
 NAME_MOST = 80
@@ -266,7 +266,7 @@ def check_options(options):
     check_output(options.output)
 
 
-def tell_and_write(tool, queues, options, source, has_actors):
+def tell_and_write(queues, options, source, has_actors):
     """Tells what is to be told of each queue and writes the scenario, or tells the faults; gives the status."""
     if len(queues) > QUEUES_MOST:
         raise Fault(f"{len(queues)} queues are too many: a scenario has at most {QUEUES_MOST}")
@@ -274,7 +274,7 @@ def tell_and_write(tool, queues, options, source, has_actors):
     note_waits(queue for queue in queues if queue not in with_actors)
     faults = [f"{queue.name}: {fault}" for queue in queues for fault in queue.faults]
     for line in faults or [f"{queue.name}: {note}" for queue in queues for note in queue.notes]:
-        print(f"{tool}: {line}", file=sys.stderr)
+        print(f"{tool()}: {line}", file=sys.stderr)
     if faults:
         return 2
     write_text(options.output, scenario_text(queues, source, options.horizon, has_actors))

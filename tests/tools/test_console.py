@@ -53,6 +53,26 @@ class Ends(ToolCase):
         self.assertEqual(self.ended("setup now"), (2, "", "setup: now is no word of it: it takes none, or --missing "
                                                           "(--help tells the usage)\n"))
 
+    def test_commands_as_the_user_calls_them(self):
+        """As tools/NAME, as a command of a package, or as sqs_rehearse NAME, by what ./sqs_rehearse sets."""
+        os.symlink(os.path.join(TOOLS, "summary"), self.path("sqs_rehearse-summary"))
+        for command, program, tool, told in (
+                ("summary", "./sqs_rehearse", "tools/summary", "summary"),
+                ("./sqs_rehearse-summary", "sqs_rehearse", "sqs_rehearse-summary", "sqs_rehearse-summary"),
+                ("SQS_REHEARSE_TOOL='sqs_rehearse summary' summary", "sqs_rehearse", "sqs_rehearse summary",
+                 "sqs_rehearse summary"),
+                ("SQS_REHEARSE_TOOL='../a b/sqs_rehearse summary' summary", "../a b/sqs_rehearse",
+                 "../a b/sqs_rehearse summary", "sqs_rehearse summary"),
+                # what another tool was called by, and left in the environment
+                ("SQS_REHEARSE_TOOL='sqs_rehearse sweep' summary", "./sqs_rehearse", "tools/summary", "summary")):
+            with self.subTest(command=command):
+                self.assertIn(f"\n    {program} run SCENARIO | {tool} -\n    {tool} LOG [OUTPUT]",
+                              self.ended(f"{command} --help")[1])
+                self.assertEqual(self.ended(f"{command} none"),
+                                 (2, "", f"{told}: cannot read none: No such file or directory\n"))
+        self.assertIn("draws what sqs_rehearse sweep has",
+                      self.ended("SQS_REHEARSE_TOOL='sqs_rehearse picture' picture --help")[1])
+
     def test_an_output_that_is_full_or_closed(self):
         with open(self.path("log"), "wb") as file:
             file.write(LOG_HEADER + SENT)
@@ -83,14 +103,15 @@ class Ends(ToolCase):
 class Reading(ToolCase):
     def test_progress_on_a_terminal_alone(self):
         """A second after its beginning a tool tells how far it is, and takes the line away again."""
-        rows = b"".join(b"%d,q,s,receive,wait,,,\n" % at for at in range(100_000, 160_000))
+        log = LOG_HEADER + b"".join(b"%d,q,s,receive,wait,,,\n" % at for at in range(100_000, 160_000))
         for is_terminal in (True, False):
             reader, writer = pty.openpty() if is_terminal else os.pipe()
             run = subprocess.Popen([sys.executable, os.path.join(TOOLS, "summary"), "-"], stdin=subprocess.PIPE,
                                    stdout=subprocess.DEVNULL, stderr=writer)
             os.close(writer)
-            time.sleep(1.5)
-            run.communicate(LOG_HEADER + rows, timeout=60)
+            run.stdin.write(log[:200_000])    # more than a pipe holds, so that the tool has begun to read
+            time.sleep(1.1)
+            run.communicate(log[200_000:], timeout=60)
             told = b""
             try:
                 while data := os.read(reader, 4096):

@@ -1,12 +1,14 @@
 """Tests tools/explain with a stand-in for the program that refuses as it is told, and with the program itself."""
+import contextlib
 import glob
+import io
 import os
 import subprocess
 import sys
 import tomllib
 import unittest
 
-from tool import PROGRAM, ROOT, TOOLS, ToolCase, needs_program
+from tool import PROGRAM, ROOT, TOOLS, ToolCase, module_of, needs_program
 from positions import Positions
 
 TOP = "version = 1\nhorizon = 60000\n"
@@ -86,6 +88,7 @@ REASONS = (
      "of one kind."),
     (TOP + "x = [1,\n  ,]\n", "10 NotToml", "4:3", "Invalid value."),
     (TOP + 'x = """a', "10 NotToml", "3:9", "Unterminated string, as the text ends."))
+explain = module_of("explain")
 
 
 class Explain(ToolCase):
@@ -177,10 +180,10 @@ class Explain(ToolCase):
         for path in paths:
             with open(path, encoding="utf-8") as file:
                 refusal = file.read().strip("\n")
-            with self.subTest(path=path):
-                status, out, err = self.run_tool("explain", path.replace(".err", ".toml"))
-                self.assertEqual((status, err), (1, ""))
-                lines = out.splitlines()
+            with self.subTest(path=path), contextlib.redirect_stdout(io.StringIO()) as out, \
+                    contextlib.redirect_stderr(io.StringIO()) as err:
+                self.assertEqual((explain.main([path.replace(".err", ".toml")]), err.getvalue()), (1, ""))
+                lines = out.getvalue().splitlines()
                 self.assertTrue(lines[0].endswith(f": {refusal}"), lines)
                 self.assertTrue(lines[-1].endswith((".", "?")) and len(lines) > 1, lines)
                 self.assertNotIn("?:", lines[0])

@@ -245,13 +245,15 @@ class FromPlan(ToolCase):
         """The package is told where the library is missing, and JSON needs none."""
         code = "import sys; sys.modules['yaml'] = None; sys.argv[0] = sys.argv.pop(1); import runpy; " \
                "runpy.run_path(sys.argv[0], run_name='__main__')"
-        for text, wanted in ((TEMPLATE, 2), (json.dumps(PLAN), 0)):
+        for text, called, wanted in ((TEMPLATE, "", "tools/setup"), (json.dumps(PLAN), "", None),
+                                     (TEMPLATE, "sqs_rehearse from-plan", "sqs_rehearse setup")):
             command = [sys.executable, "-c", code, os.path.join(TOOLS, "from-plan"), self.write("given", text)]
-            ran = subprocess.run(command, capture_output=True, text=True, env={**os.environ, "PYTHONPATH": TOOLS})
-            self.assertEqual(ran.returncode, wanted, ran.stderr)
+            ran = subprocess.run(command, capture_output=True, text=True,
+                                 env={**os.environ, "PYTHONPATH": TOOLS, "SQS_REHEARSE_TOOL": called})
+            self.assertEqual(ran.returncode, 2 if wanted else 0, ran.stderr)
             if wanted:
-                self.assertEqual(ran.stderr, "from-plan: the library yaml is missing: Debian's package python3-yaml "
-                                 "has it for Debian's python3, and tools/setup installs it\n")
+                self.assertEqual(ran.stderr, f"{called or 'from-plan'}: the library yaml is missing: Debian's package "
+                                 f"python3-yaml has it for Debian's python3, and {wanted} installs it\n")
 
     def test_example_of_the_documents(self):
         with open(os.path.join(TOOLS, "README.md"), encoding="utf-8") as file:

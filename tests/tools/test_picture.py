@@ -248,6 +248,12 @@ class Tool(ToolCase):
         self.assertIn("My &lt;queues&gt;", text)
         self.assertIn("s.toml, version 1, seed 5", text)
 
+    def test_without_a_folder_for_matplotlib(self):
+        """Matplotlib keeps what it finds of fonts in the user's folder; if there is none, nothing is said of it."""
+        log, file = self.write("log", LOG), self.write("file", "")
+        status, _, err = self.run_tool("picture", log, HOME=file, XDG_CONFIG_HOME=file, MPLCONFIGDIR="")
+        self.assertEqual((status, err), (0, ""))
+
     def test_what_was_lost_is_told_at_the_top(self):
         lost = LOG + "7000,d,d,expire,expired,m-1-0,,980\n"
         for log, told in ((LOG, []), (lost, ["Lost by expiry in the whole run: 1 in d"])):

@@ -1,4 +1,6 @@
-"""The program is found, and is not built unasked; a build tells how far it is, and leaves nothing behind."""
+"""The program is found: the one that was built, or that of dist/ if it is of these sources. It is not built unasked."""
+import gzip
+import hashlib
 import os
 import pathlib
 import shutil
@@ -7,136 +9,362 @@ import subprocess
 import time
 import unittest
 
-from tool import ROOT, ToolCase
+from tool import ROOT, ToolCase, module_of
 
-NOT_BUILT = "the program is not built yet: ./sqs_rehearse --build builds it"
-# In the place of rt: it tells two crates as rt does and makes a program that tells its words, or fails, or takes long.
-RT = """#!/bin/bash
-echo $$ >> "$RT_CALLS"
-case $RT_DOES$1 in
-  failrun) echo no program; exit 1 ;;
-  slow*) sleep 60 & sleep 60 ;;
-  *all) echo "crate sim_a: 1 of 2"; echo "logic=proved a"; echo "crate sim_b:"; echo "logic=proved b" ;;
-  *) mkdir -p out; printf '#!/bin/sh\\necho ran "$@"\\n' > out/sqs_rehearse; chmod +x out/sqs_rehearse ;;
-esac
+BUILD_IT = "./sqs_rehearse --build builds it"
+NO_DIST = f"the program is not built yet, and dist/ has no program: {BUILD_IT}"
+OTHER_SOURCES = f"the program is not built yet, and dist/ has the program of other sources: {BUILD_IT}"
+# In the place of the program: it prints its own name and its words.
+PROGRAM = '#!/bin/sh\necho {} "$@"\n'
+# In the place of tools/build: it makes a program and goes on as the command that follows.
+BUILD = """#!/bin/bash
+echo build >> "$CALLS"
+if [ "$FAILS" ]; then echo no program >&2; exit 2; fi
+mkdir -p "${0%/*}/../crates/sqs_rehearse/out"
+printf '#!/bin/sh\\necho built "$@"\\n' > "${0%/*}/../crates/sqs_rehearse/out/sqs_rehearse"
+chmod +x "${0%/*}/../crates/sqs_rehearse/out/sqs_rehearse"
+if [ $# -gt 0 ]; then shift; exec "$@"; fi
+"""
+# In the place of gzip: it unpacks once, to be compared, and then takes long.
+SLOW_GZIP = """#!/bin/bash
+if mkdir "$CALLS.first" 2> /dev/null; then exec /bin/gzip "$@"; fi
+echo slow >> "$CALLS"; exec sleep 60
 """
 
 
-class Wrapper(ToolCase):
+class WrapperCase(ToolCase):
+    """A repository with the script, one crate below the program, one beside it, and stand-ins for what they run."""
+
     def setUp(self):
         super().setUp()
-        shutil.copy(os.path.join(ROOT, "sqs_rehearse"), self.folder)
-        for name in ("tools", "kit", "tmp", "crates/sqs_rehearse/src"):
+        for name in ("tools", "kit", "tmp", "home", "dist", *(f"crates/{crate}/src" for crate in
+                                                               ("sqs_rehearse", "sim_a", "test_a"))):
             os.makedirs(self.path(name))
-        shutil.copy(os.path.join(ROOT, "tools", "VERSION"), self.path("tools"))
-        self.write("crates.txt", "sim_a:\nsim_b: sim_a\nsqs_examples: sim_b\n")
-        self.write("crates/sqs_rehearse/src/main.rt", "")
-        self.make_program("kit/rt", RT)
+        for name in ("sqs_rehearse", "tools/VERSION", "tools/sources"):
+            shutil.copy(os.path.join(ROOT, name), self.path(name))
+        self.write("crates.txt", "sim_a:\nsqs_rehearse: sim_a\ntest_a: sim_a\n")
+        for crate in ("sqs_rehearse", "sim_a", "test_a"):
+            self.write(f"crates/{crate}/src/lib.rt", crate)
+        self.make_program("tools/build", BUILD)
+        self.make_program("kit/rt", "#!/bin/sh\necho kit 1\n")
         self.environment = {name: value for name, value in os.environ.items() if not name.startswith("SQS_REHEARSE")}
-        self.environment |= {"PATH": self.path("kit") + ":/usr/bin:/bin", "TMPDIR": self.path("tmp"), "RT_DOES": "",
-                             "RT_CALLS": self.path("calls")}
+        self.environment |= {"PATH": self.path("kit") + ":/usr/bin:/bin", "TMPDIR": self.path("tmp"), "FAILS": "",
+                             "HOME": self.path("home"), "CALLS": self.path("calls")}
+        self.environment.pop("XDG_CACHE_HOME", None)
 
-    def make_program(self, name, text="#!/bin/sh\necho ran \"$@\"\n"):
+    def make_program(self, name, text):
         os.makedirs(os.path.dirname(self.path(name)), exist_ok=True)
         os.chmod(self.write(name, text), 0o755)
+
+    def make_built(self):
+        self.make_program("crates/sqs_rehearse/out/sqs_rehearse", PROGRAM.format("built"))
+
+    def make_dist(self, program=PROGRAM.format("packed")):
+        """Puts a program into dist/, as that of the sources that are there now."""
+        with open(self.path("dist/sqs_rehearse-x86_64-linux.gz"), "wb") as file:
+            file.write(gzip.compress(program.encode(), mtime=0))
+        listed = subprocess.run([self.path("tools/sources")], check=True, capture_output=True).stdout
+        sums = [hashlib.sha256(data).hexdigest() for data in (listed, program.encode())]
+        self.write("dist/manifest", "# A comment.\nversion 1.2\nkit kit 1\nsources {}\nprogram {}\n".format(*sums))
+        return sums[1]
+
+    def cached(self):
+        """The files below the folder of the unpacked programs."""
+        return [path for path in pathlib.Path(self.path("home")).rglob("*") if path.is_file()]
 
     def run_it(self, *words, program="sqs_rehearse", **more):
         ran = subprocess.run([self.path(program), *words], env={**self.environment, **more}, text=True,
                              stdin=subprocess.DEVNULL, capture_output=True, cwd="/")
         return ran.returncode, ran.stdout, ran.stderr
 
-    def made(self):
-        self.make_program("crates/sqs_rehearse/out/sqs_rehearse")
-
     def calls(self):
         return pathlib.Path(self.path("calls")).read_text().split() if os.path.exists(self.path("calls")) else []
 
-    def is_running(self, process):
-        """Whether a process goes on; one that has ended may still wait for somebody to ask for its status."""
-        try:
-            return pathlib.Path(f"/proc/{process}/stat").read_text().rpartition(")")[2].split()[0] not in "ZX"
-        except OSError:
-            return False
+    def assert_refused(self, words, line, **more):
+        self.assert_fault(self.run_it(*words, **more), f"sqs_rehearse: {line}")
+
+
+class Built(WrapperCase):
+    """Where the program was built, or has to be."""
 
     def test_builds_nothing_where_it_must_not(self):
-        for words in ((), ("--help",), ("run", "x.toml")):
-            self.assert_fault(self.run_it(*words, SQS_REHEARSE_BUILD="never"), f"sqs_rehearse: {NOT_BUILT}")
+        for words in (("run", "x.toml"), ("--where",), ("",)):
+            self.assert_refused(words, NO_DIST, SQS_REHEARSE_BUILD="never")
+        self.assert_refused(["--build"], "SQS_REHEARSE_BUILD=never builds nothing", SQS_REHEARSE_BUILD="never")
         self.assertEqual(self.calls(), [])
 
     def test_runs_what_is_there(self):
-        self.made()
-        self.write("crates/sqs_rehearse/src/main.rt", "newer")
-        os.utime(self.path("crates/sqs_rehearse/src/main.rt"), (2e9, 2e9))
-        self.assertEqual(self.run_it("check", "x.toml", SQS_REHEARSE_BUILD="never"), (0, "ran check x.toml\n", ""))
+        self.make_built()
+        os.utime(self.path("crates/sim_a/src/lib.rt"), (2e9, 2e9))
+        self.assertEqual(self.run_it("check", "x.toml", SQS_REHEARSE_BUILD="never"), (0, "built check x.toml\n", ""))
         self.assertEqual(self.calls(), [])
 
     def test_runs_the_program_that_is_named(self):
-        self.made()
-        self.make_program("another", "#!/bin/sh\necho another \"$@\"\n")
+        self.make_built()
+        self.make_program("another", PROGRAM.format("another"))
         self.assertEqual(self.run_it("run", SQS_REHEARSE=self.path("another")), (0, "another run\n", ""))
-        self.assertEqual(self.run_it("run", SQS_REHEARSE=self.path("sqs_rehearse")), (0, "ran run\n", ""))
-        self.assert_fault(self.run_it("run", SQS_REHEARSE="/none"),
-                          "sqs_rehearse: there is no program /none, which SQS_REHEARSE names")
+        self.assertEqual(self.run_it("run", SQS_REHEARSE=self.path("sqs_rehearse")), (0, "built run\n", ""))
+        self.assert_refused(["run"], "there is no program /none, which SQS_REHEARSE names", SQS_REHEARSE="/none")
+        self.assert_refused(["--build"], "SQS_REHEARSE names a program, so that none is built",
+                            SQS_REHEARSE=self.path("another"))
         self.assertEqual(self.calls(), [])
 
     def test_through_a_link(self):
-        self.made()
+        self.make_built()
         os.symlink(self.path("sqs_rehearse"), self.path("kit/rehearse"))
-        self.assertEqual(self.run_it("run", program="kit/rehearse"), (0, "ran run\n", ""))
-
-    def test_help_and_version_build_nothing(self):
-        status, out, err = self.run_it("--help")
-        self.assertEqual((status, err), (0, ""))
-        self.assertTrue(out.startswith("sqs_rehearse rehearses networks of Amazon SQS queues"))
-        self.assertIn("not built yet", out)
-        self.made()
-        self.assertTrue(self.run_it("--help")[1].endswith("\n\nran --help\n"))
-        version = pathlib.Path(ROOT, "tools", "VERSION").read_text()
-        self.assertEqual(self.run_it("--version"), (0, f"sqs_rehearse {version}", ""))
-        self.assertEqual(self.calls(), [])
+        self.assertEqual(self.run_it("run", program="kit/rehearse"), (0, "built run\n", ""))
 
     def test_a_build(self):
         status, out, err = self.run_it("run", "x.toml")
-        self.assertEqual((status, out), (0, "ran run x.toml\n"))
-        lines = err.splitlines()
-        self.assertIn("half an hour to an hour", lines[0])
-        self.assertEqual(lines[1:], ["sqs_rehearse: proved sim_a, crate 1 of 2 at most",
-                                     "sqs_rehearse: proved sim_b, crate 2 of 2 at most"])
+        self.assertEqual((status, out, err), (0, "built run x.toml\n", (
+            "sqs_rehearse: dist/ has no program, so that it is built from these sources\n")))
         self.assertEqual(self.run_it("--build"), (0, "", ""))
-        self.assertEqual((len(self.calls()), os.listdir(self.path("tmp"))), (2, []))
+        self.assertEqual(self.calls(), ["build"])
+        self.assertEqual(self.run_it("run", FAILS="1"), (0, "built run\n", ""))
+        os.utime(self.path("crates/sim_a/src/lib.rt"), (2e9, 2e9))
+        self.assertEqual(self.run_it("--build", FAILS="1"), (2, "", "no program\n"))
 
-    def test_a_build_that_fails(self):
-        status, out, err = self.run_it("--build", RT_DOES="fail")
-        self.assertEqual((status, out), (2, ""))
-        self.assertTrue(err.endswith("no program\nsqs_rehearse: the program could not be built\n"), err)
-        self.assertEqual(os.listdir(self.path("tmp")), [])
-
-    def test_without_rt(self):
+    def test_without_what_a_build_takes(self):
         os.remove(self.path("kit/rt"))
-        self.assert_fault(self.run_it("run"), "sqs_rehearse: the Rattle kit's rt, which proves and builds the program, "
-                          "is not on the PATH (README.md, Install and run)")
+        no_kit = "the Rattle kit's rt is not on the PATH (README.md, What it needs)"
+        self.make_dist()
+        for word in ("--build", "--verify"):
+            self.assert_refused([word], f"the program cannot be built: {no_kit}")
+        self.write("crates/sim_a/src/lib.rt", "changed")
+        status, out, err = self.run_it("run")
+        self.assertEqual((status, out), (2, ""))
+        self.assertEqual(err.splitlines()[-1], "sqs_rehearse: the program cannot be built, and dist/ has the program "
+                         f"of other sources: {no_kit}")
 
-    def test_an_interrupted_build_leaves_nothing_behind(self):
-        for number, status in ((signal.SIGINT, 130), (signal.SIGTERM, 143)):
-            run = subprocess.Popen([self.path("sqs_rehearse"), "run"], env={**self.environment, "RT_DOES": "slow"},
-                                   stdin=subprocess.DEVNULL, stderr=subprocess.PIPE, text=True,
-                                   preexec_fn=lambda: signal.signal(signal.SIGINT, signal.SIG_DFL))
-            while not self.calls():
-                time.sleep(0.02)
-            run.send_signal(number)
-            err = run.communicate(timeout=20)[1]
-            self.assertEqual((run.returncode, err.splitlines()[-1]), (status, (
-                "sqs_rehearse: the build was interrupted; the next one goes on from what is proved")))
-            self.assertFalse(self.is_running(self.calls()[0]))
-            self.assertEqual(os.listdir(self.path("tmp")), [])
-            os.remove(self.path("calls"))
+
+class Dist(WrapperCase):
+    """Where dist/ has the program of these sources, or of others."""
+
+    def test_runs_with_nothing_built(self):
+        sum_of_it = self.make_dist()
+        status, out, err = self.run_it("run", "x.toml")
+        self.assertEqual((status, out), (0, "packed run x.toml\n"))
+        self.assertRegex(err, r"^sqs_rehearse: this runs the proved program of dist/, version 1\.2, [^\n]*\n$")
+        self.assertEqual(self.run_it("run", "x.toml"), (0, "packed run x.toml\n", ""))
+        place = self.path(f"home/.cache/sqs_rehearse/{sum_of_it[:16]}/sqs_rehearse")
+        self.assertEqual(self.run_it("--where"), (0, place + "\n", ""))
+        self.assertEqual([str(path) for path in self.cached()], [place])
+        self.assertEqual((self.calls(), os.path.exists(self.path("crates/sqs_rehearse/out"))), ([], False))
+
+    def test_what_was_built_goes_before(self):
+        self.make_dist()
+        self.make_built()
+        self.assertEqual(self.run_it("run"), (0, "built run\n", ""))
+        os.utime(self.path("crates/sim_a/src/lib.rt"), (2e9, 2e9))
+        self.assertEqual(self.run_it("run")[:2], (0, "packed run\n"))
+
+    def test_other_sources(self):
+        changes = {"a file is changed": lambda: self.write("crates/sim_a/src/lib.rt", "changed"),
+                   "a file is new": lambda: self.write("crates/sim_a/src/more.rt", ""),
+                   "a file is gone": lambda: os.remove(self.path("crates/sim_a/src/lib.rt")),
+                   "a crate has a library more": lambda: self.write("crates.txt", "sim_a: hex\nsqs_rehearse: sim_a\n")}
+        for case, change in changes.items():
+            with self.subTest(case):
+                self.make_dist()
+                self.assertEqual(self.run_it("run")[:2], (0, "packed run\n"))
+                change()
+                self.assert_refused(["run"], OTHER_SOURCES, SQS_REHEARSE_BUILD="never")
+                self.assertEqual(self.run_it("run"), (0, "built run\n", (
+                    "sqs_rehearse: dist/ has the program of other sources, so that it is built from these sources\n")))
+                shutil.rmtree(self.path("crates/sqs_rehearse/out"))
+        self.assertEqual(len(self.calls()), len(changes))
+
+    def test_what_the_program_is_not_made_of(self):
+        self.make_dist()
+        self.write("crates/test_a/src/lib.rt", "changed")
+        self.write("crates/sim_a/src/notes.txt", "")
+        self.write("crates.txt", "test_a: sim_a hex\nsqs_rehearse: sim_a\nsim_a:\n")
+        self.assertEqual(self.run_it("run")[:2], (0, "packed run\n"))
+
+    def test_damage(self):
+        self.make_dist()
+        packed = pathlib.Path(self.path("dist/sqs_rehearse-x86_64-linux.gz"))
+        whole = packed.read_bytes()
+        other = gzip.compress(PROGRAM.format("other").encode())
+        for data in (b"", whole[:-9], whole[:20] + b"x" + whole[21:], other, b"no gzip"):
+            packed.write_bytes(data)
+            for word in ("run", "--verify"):
+                self.assert_refused([word], "dist/sqs_rehearse-x86_64-linux.gz is damaged: it does not have the "
+                                    "program that dist/manifest names")
+        for text, key in (("", "sources"), ("sources " + "0" * 64 + "\n", "program"), ("sources 12\n", "sources")):
+            self.write("dist/manifest", text)
+            self.assert_refused(["run"], f"dist/manifest is damaged: it has no checksum of the {key}")
+        self.assertEqual((self.cached(), self.calls()), ([], []))
+
+    def test_a_damaged_copy_is_unpacked_anew(self):
+        self.make_dist()
+        self.run_it("run")
+        self.cached()[0].write_text("#!/bin/sh\necho something else\n")
+        self.assertEqual(self.run_it("run")[:2], (0, "packed run\n"))
+        self.assertEqual(self.run_it("run"), (0, "packed run\n", ""))
+
+    def test_where_it_is_unpacked(self):
+        self.make_dist()
+        self.assertEqual(self.run_it("run", XDG_CACHE_HOME=self.path("own"))[:2], (0, "packed run\n"))
+        self.assertEqual((self.cached(), os.listdir(self.path("own"))), ([], ["sqs_rehearse"]))
+        self.assertEqual(self.run_it("run", HOME="/dev/null")[:2], (0, "packed run\n"))
+        self.assertEqual(self.run_it("run", HOME=""), (0, "packed run\n", ""))
+        self.assertEqual(os.listdir(self.path("tmp")), [f"sqs_rehearse-{os.geteuid()}"])
+        self.assert_refused(["run"], "the program of dist/ cannot be unpacked: /dev/null/sqs_rehearse /dev/null/"
+                            f"sqs_rehearse-{os.geteuid()} cannot be written; XDG_CACHE_HOME names another folder",
+                            XDG_CACHE_HOME="/dev/null", TMPDIR="/dev/null")
+
+    def test_a_folder_of_somebody_else(self):
+        self.make_dist()
+        os.mkdir(self.path("other"))
+        os.symlink(self.path("other"), self.path(f"tmp/sqs_rehearse-{os.geteuid()}"))
+        self.assertEqual(self.run_it("run", HOME="")[0], 2)
+        self.assertEqual([path for path in pathlib.Path(self.path("other")).rglob("*") if path.is_file()], [])
+
+    def test_a_program_that_does_not_run(self):
+        self.make_dist("#!/bin/sh\necho libc is missing >&2\nexit 1\n")
+        self.assert_refused(["run"], "the program of dist/ does not run here; it needs Linux on x86-64 with glibc 2.34 "
+                            "or later: libc is missing")
+        self.assertEqual(self.cached(), [])
+
+    def test_many_first_runs_at_once(self):
+        self.make_dist()
+        runs = [subprocess.Popen([self.path("sqs_rehearse"), "run"], env=self.environment, stdin=subprocess.DEVNULL,
+                                 stdout=subprocess.PIPE, stderr=subprocess.DEVNULL, text=True) for _ in range(8)]
+        self.assertEqual([(run.communicate()[0], run.returncode) for run in runs], [("packed run\n", 0)] * 8)
+        self.assertEqual([path.name for path in self.cached()], ["sqs_rehearse"])
+
+    def test_an_interrupted_unpacking(self):
+        self.make_dist()
+        self.make_program("kit/gzip", SLOW_GZIP)
+        run = subprocess.Popen([self.path("sqs_rehearse"), "run"], env=self.environment, stdin=subprocess.DEVNULL,
+                               stderr=subprocess.PIPE, text=True, start_new_session=True)
+        while not self.calls():
+            time.sleep(0.02)
+        os.killpg(run.pid, signal.SIGTERM)
+        run.communicate(timeout=20)
+        self.assertEqual((run.returncode, self.cached()), (-signal.SIGTERM, []))
+        os.remove(self.path("kit/gzip"))
+        self.assertEqual(self.run_it("run")[:2], (0, "packed run\n"))
+
+    def test_verify(self):
+        sum_of_it = self.make_dist(PROGRAM.format("built"))
+        same = f"dist/ has the program that these sources give: SHA-256 {sum_of_it}, built by kit 1\n"
+        self.assertEqual(self.run_it("--verify"), (0, same, ""))
+        self.assertEqual(self.run_it("--verify", SQS_REHEARSE_BUILD="never"), (0, same, ""))
+        self.assertEqual(self.calls(), ["build"])
+        other = self.make_dist(PROGRAM.format("packed"))
+        self.assertEqual(self.run_it("--verify"), (1, "", (
+            f"sqs_rehearse: dist/ has another program than these sources give: SHA-256 {other}, built by kit 1, is not "
+            f"{sum_of_it}, built by kit 1\n")))
+        self.write("crates/sim_a/src/lib.rt", "changed")
+        self.assert_refused(["--verify"], "there is nothing to compare: dist/ has the program of other sources")
+        self.assert_refused(["--verify", "x"], "--verify stands alone")
+
+
+class Gate(WrapperCase):
+    """What the gate says of dist/ and of the program that it has built."""
+
+    def setUp(self):
+        super().setUp()
+        os.mkdir(self.path("tests"))
+        shutil.copy(os.path.join(ROOT, "tests", "dist"), self.path("tests"))
+        shutil.copy(os.path.join(ROOT, "tools", "VERSION"), self.path("tools"))
+        self.version = pathlib.Path(ROOT, "tools", "VERSION").read_text().strip()
+        self.make_built()
+
+    def compared(self, program="crates/sqs_rehearse/out/sqs_rehearse"):
+        status, out, err = self.run_it(self.path(program), program="tests/dist")
+        self.assertEqual(err, "")
+        return status, out.splitlines()
+
+    def make_dist(self, program=PROGRAM.format("built")):
+        super().make_dist(program)
+        manifest = pathlib.Path(self.path("dist/manifest"))
+        manifest.write_text(manifest.read_text().replace("version 1.2", f"version {self.version}"))
+
+    def test_the_same(self):
+        self.make_dist()
+        same = ["note: dist/ has the program that was built here from these sources", "2 passed, 0 failed"]
+        self.assertEqual(self.compared(), (0, same))
+        os.remove(self.path("kit/rt"))
+        self.assertEqual(self.compared(), (0, same))
+        self.make_program("unpacked", PROGRAM.format("built"))
+        self.assertEqual(self.compared("unpacked"), (0, ["2 passed, 0 failed"]))
+
+    def test_another_program_of_the_same_sources(self):
+        self.make_dist(PROGRAM.format("packed"))
+        status, lines = self.compared()
+        self.assertEqual((status, len(lines), lines[-1]), (1, 2, "1 passed, 1 failed"))
+
+    def test_damage(self):
+        self.make_dist()
+        pathlib.Path(self.path("dist/sqs_rehearse-x86_64-linux.gz")).write_bytes(b"")
+        status, lines = self.compared()
+        self.assertEqual((status, lines[-1]), (1, "1 passed, 1 failed"))
+
+    def test_behind(self):
+        makes = ": tools/package --dist makes it anew"
+        self.make_dist()
+        self.make_program("kit/rt", "#!/bin/sh\necho kit 2\n")
+        self.assertEqual(self.compared(), (0, [
+            "note: dist/ is behind, with a program that kit 1 built, where kit 2 is here" + makes,
+            "1 passed, 0 failed"]))
+        self.write("crates/sim_a/src/lib.rt", "changed")
+        self.assertEqual(self.compared(), (0, [
+            "note: dist/ is behind, with the program of other sources" + makes, "1 passed, 0 failed"]))
+        self.make_dist()
+        self.make_program("kit/rt", "#!/bin/sh\necho kit 1\n")
+        self.write("tools/VERSION", "9.9\n")
+        self.assertEqual(self.compared(), (0, [
+            f"note: dist/ is behind, with version {self.version}, where tools/VERSION has another" + makes,
+            "1 passed, 0 failed"]))
+
+
+class Words(WrapperCase):
+    """What the script does besides running the program."""
+
+    def test_help_and_version_build_nothing(self):
+        version = pathlib.Path(ROOT, "tools", "VERSION").read_text()
+        shutil.rmtree(self.path("tools"))
+        shutil.copytree(os.path.join(ROOT, "tools"), self.path("tools"))
+        status, out, err = self.run_it("--help")
+        self.assertEqual((status, err), (0, f"sqs_rehearse: {NO_DIST}\n"))
+        self.assertTrue(out.startswith("sqs_rehearse rehearses networks of Amazon SQS queues"))
+        self.make_built()
+        status, out, err = self.run_it("--help")
+        self.assertEqual((status, err), (0, ""))
+        self.assertIn("\n\nbuilt --help\n\nTools:\n", out)
+        listed = [line.split()[0] for line in out.splitlines() if line.startswith("  ") and line[2] not in " -"]
+        package = module_of("package")
+        self.assertEqual(sorted(listed), sorted(package.tools_of(package.files_for_users())))
+        self.assertTrue(all(len(line) <= 120 for line in out.splitlines()))
+        self.assertEqual(self.run_it(), (2, "", out))
+        self.assertEqual(self.run_it("help", "run"), (0, "built help run\n", ""))
+        self.assertEqual(self.run_it("--version"), (0, f"sqs_rehearse {version}", ""))
+        self.assertEqual(self.calls(), [])
+
+    def test_a_tool(self):
+        self.make_program("tools/summary", '#!/bin/sh\necho "$SQS_REHEARSE_TOOL" "$@"\n')
+        called = self.path("sqs_rehearse")
+        self.assertEqual(self.run_it("summary", "a b", "--help"), (0, f"{called} summary a b --help\n", ""))
+        self.assertEqual(self.run_it("help", "summary"), (0, f"{called} summary --help\n", ""))
+        os.symlink(called, self.path("kit/sqs_rehearse"))
+        ran = subprocess.run(["sqs_rehearse", "summary", "x"], env=self.environment, text=True, capture_output=True)
+        self.assertEqual((ran.stdout, ran.stderr), ("sqs_rehearse summary x\n", ""))
+        for name in ("bash", "sha256sum", "readlink", "env"):
+            os.symlink(shutil.which(name), self.path(f"kit/{name}"))
+        self.assert_refused(["summary"], "summary needs Python 3.11 or later, and python3 is not on the PATH; "
+                            "sqs_rehearse setup installs it on Debian", PATH=self.path("kit"))
+        self.make_program("tools/setup", "#!/bin/bash\necho installs\n")
+        self.assertEqual(self.run_it("setup", PATH=self.path("kit")), (0, "installs\n", ""))
 
     def test_a_tool_builds_nothing(self):
         shutil.rmtree(self.path("tools"))
         shutil.copytree(os.path.join(ROOT, "tools"), self.path("tools"))
         shutil.copy(os.path.join(ROOT, "examples", "first.toml"), self.path("s.toml"))
-        self.assert_fault(self.run_it(self.path("s.toml"), program="tools/explain"),
-                          f"explain: {NOT_BUILT}, or SQS_REHEARSE names another")
+        for words in ((self.path("s.toml"),), (self.path("s.toml"), "--program", self.path("sqs_rehearse"))):
+            self.assert_fault(self.run_it(*words, program="tools/explain"), f"explain: {NO_DIST}")
         self.assertEqual(self.calls(), [])
 
 

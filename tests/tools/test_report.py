@@ -151,6 +151,9 @@ class Report(ToolCase):
         path = self.write("bad.toml", SCENARIO.replace("10000", "0"))
         self.assertEqual(self.report(path, "--output", "r.html"),
                          (1, "", "report: refused 14 OutOfRange at horizon; tools/explain tells more\n"))
+        self.assertEqual(self.run_tool("report", path, "--output", "r.html", SQS_REHEARSE=self.program,
+                                       SQS_REHEARSE_TOOL="sqs_rehearse report")[2],
+                         "sqs_rehearse report: refused 14 OutOfRange at horizon; sqs_rehearse explain tells more\n")
         self.assertFalse(os.path.exists(self.path("r.html")))
 
     def test_faults(self):

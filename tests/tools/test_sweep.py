@@ -31,7 +31,8 @@ kind = "consumer"
 queue = "q"
 """
 # Reports 100 sends for each second of visibility and one for each unit of the seed, and refuses a visibility over 50.
-# A seed of 77 takes a minute; with a worker the greatest age is the seed in seconds, and without one it is not there.
+# A seed of 77 makes the file begun and takes a minute; with a worker the greatest age is the seed in seconds, and
+# without one it is not there.
 STAND_IN = f"""#!{sys.executable}
 import re, sys, time
 if sys.argv[1:] == ["--help"]:
@@ -40,6 +41,7 @@ assert sys.argv[1:] == ["run", "--scripts", sys.argv[3], "--log", "/dev/null"], 
 text = sys.stdin.read()
 seed, visibility = (int(re.search(key + " = ([0-9]+)", text)[1]) for key in ("seed", "visibility_s"))
 if seed == 77:
+    open("begun", "w").close()
     time.sleep(60)
 if visibility > 50:
     sys.exit("refused 14 OutOfRange at queue[0].visibility_s")
@@ -238,7 +240,10 @@ r         2     0          0      0       0         0      0          0      0  
             pipe = subprocess.PIPE
             process = subprocess.Popen(command, cwd=self.folder, stdout=pipe, stderr=pipe, text=True)
             self.assertIn("1 of 4 variants run", process.stderr.readline())
-            time.sleep(1)
+            while not os.path.exists(self.path("begun")):
+                time.sleep(0.02)
+            time.sleep(0.5)
+            os.remove(self.path("begun"))
             process.send_signal(number)
             out, err = process.communicate(timeout=20)
             if words:

@@ -83,7 +83,7 @@ class Sweeps(ToolCase):
             text = file.read()
         for name in os.listdir(FILES):
             self.assertIn(f"examples/sweeps/{name}", text)
-        start = text.index("tools/sweep examples/")
-        words = text[start:text.index(" > jobs", start)].replace("\\\n", "").split()[1:]
+        start = text.index("./sqs_rehearse sweep examples/")
+        words = text[start:text.index(" > jobs", start)].replace("\\\n", "").split()[2:]
         status, out, err = self.sweep(os.path.join(ROOT, words[0]), *words[1:])
         self.assertEqual((status, len(out.splitlines()), err), (0, 10_000, ""))

@@ -107,6 +107,7 @@ class WrongBodies(ToolCase):
         ended = subprocess.run(command, env=self.environment, text=True, capture_output=True)
         return ended.returncode, ended.stdout, ended.stderr
 
+    @unittest.skipUnless(shutil.which("rt"), "the Rattle kit's rt is not on the PATH")
     def test_tells_what_is_not_refused(self):
         self.write_edits({**WRONG, **NOT_TRIED})
         status, out, err = self.try_all()
