@@ -17,7 +17,7 @@ temporary folder of a part is removed: to keep a text that fails in tests/fuzz, 
 
 The last line is the sum, `N passed, M failed`, with `, K skipped` if something was left out. The status is 0 if nothing
 failed, 1 if something did, and 2 if the tests cannot run. What tools/setup finds missing is installed first, or named
-if this user may not install it.
+if this user may not install it; the script tests/all does that.
 """
 import collections
 import ctypes
@@ -37,7 +37,6 @@ import crate_list  # noqa: E402 (the folder of the tools comes first)
 from console import Fault, Parser, Progress, ended, is_terminal  # noqa: E402
 from programs import program_itself  # noqa: E402
 
-SETUP = os.path.join(TOP, "tools", "setup")
 LATE_CRATE = "sqs_late_workers"
 # The script that runs this file, by whose name faults begin.
 NAME = "all"
@@ -99,12 +98,6 @@ def chosen_of(parts, only, is_quick):
 
 
 # The programs, and what the tests need.
-def sources_of(crate):
-    for folder, inner, files in os.walk(os.path.join(TOP, "crates", crate)):
-        inner[:] = [name for name in inner if name != "out"]
-        yield from (os.path.join(folder, file) for file in files if file.endswith((".rt", ".antt")))
-
-
 def late_of(given):
     """The path of the program whose workers are late: the one that is given, or that was built from these sources."""
     if given is not None:
@@ -115,31 +108,8 @@ def late_of(given):
     if not os.access(built, os.X_OK):
         return None
     crates = crate_list.read(os.path.join(TOP, "crates.txt"))
-    names = {LATE_CRATE} | crate_list.below(crates, LATE_CRATE)
-    sources = (source for name in names for source in sources_of(name))
-    return None if any(os.path.getmtime(source) > os.path.getmtime(built) for source in sources) else built
-
-
-def may_install():
-    if os.geteuid() == 0:
-        return True
-    asks = ["sudo", "-n", "true"]
-    return bool(shutil.which("sudo")) and subprocess.run(asks, stdin=subprocess.DEVNULL,
-                                                         capture_output=True).returncode == 0
-
-
-def install_missing():
-    """Installs what tools/setup finds missing, or says what it is."""
-    asked = subprocess.run([SETUP, "--missing"], stdin=subprocess.DEVNULL, capture_output=True, text=True)
-    packages = " ".join(asked.stdout.split())
-    if not shutil.which("dpkg-query"):
-        print(f"there is no dpkg-query to ask what is missing; the tests need these packages of Debian: {packages}")
-    elif packages and not may_install():
-        raise Fault(f"packages are missing: as root, apt-get install -y --no-install-recommends {packages}")
-    elif packages:
-        print(f"tools/setup installs {packages}", flush=True)
-        if subprocess.run([SETUP], stdin=subprocess.DEVNULL).returncode != 0:
-            raise Fault(f"tools/setup could not install {packages}")
+    folders = [os.path.join(TOP, "crates", name) for name in {LATE_CRATE} | crate_list.below(crates, LATE_CRATE)]
+    return built if crate_list.newest_source(folders)[0] <= os.path.getmtime(built) else None
 
 
 def environment_of(program):
@@ -357,7 +327,6 @@ def main(words):
     programs = {"program": None, "late": late_of(options.late)}
     if any(part.name not in WITHOUT_PROGRAM for part in chosen):
         programs["program"] = program_itself(options.program)
-    install_missing()
     left_out = [part for part in chosen if part.wants == ("late",) and not programs["late"]]
     for part in left_out:
         print_part(part.name, Counts(skipped=1), [f"`rt run` in crates/{LATE_CRATE} builds its program"])

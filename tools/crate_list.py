@@ -1,4 +1,6 @@
-"""How the crates stand on one another, as crates.txt lists them. The tools import it; it is not run by itself."""
+"""How the crates stand on one another, as crates.txt lists them, and when their sources were last changed. The tools
+import it; it is not run by itself."""
+import os
 
 
 def read(path):
@@ -17,3 +19,14 @@ def below(crates, name):
     for one in crates[name]:
         found |= {one} | below(crates, one)
     return found
+
+
+def newest_source(folders):
+    """The moment at which a source below some folders was last changed, and its path; what rt left in out/ is none."""
+    found = [(0.0, "")]
+    for folder in folders:
+        for place, inner, names in os.walk(folder):
+            inner[:] = [name for name in inner if name != "out"]
+            paths = (os.path.join(place, name) for name in names if name.endswith((".rt", ".antt")))
+            found += [(os.stat(path).st_mtime, path) for path in paths]
+    return max(found)

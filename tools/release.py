@@ -7,13 +7,13 @@ import os
 import subprocess
 
 from console import Fault, read_bytes, read_text, write_bytes
+from crate_list import newest_source
 from programs import TOP, program_itself
 
 DIST = os.path.join(TOP, "dist")
 MANIFEST = os.path.join(DIST, "manifest")
 PACKED = "sqs_rehearse-x86_64-linux.gz"
 BUILT = os.path.join(TOP, "crates", "sqs_rehearse", "out", "sqs_rehearse")
-SOURCES = (".rt", ".antt")
 # Bytes 18 and 19 of an ELF file are the number of its kind of machine.
 X86_64 = b"\x3e\0"
 TEXT = """# What {packed} has in it: CONTRIBUTING.md, "A release", says how it is made.
@@ -40,13 +40,9 @@ def built_program():
     """The path of the program that ./sqs_rehearse has built from the sources as they are."""
     if not os.path.exists(BUILT):
         raise Fault("the program is not built yet: ./sqs_rehearse --build builds it")
-    moment = os.stat(BUILT).st_mtime
-    for place, folders, names in os.walk(os.path.join(TOP, "crates")):
-        folders[:] = [name for name in folders if name != "out"]
-        for path in (os.path.join(place, name) for name in names if name.endswith(SOURCES)):
-            if os.stat(path).st_mtime > moment:
-                raise Fault(f"{os.path.relpath(path, TOP)} is newer than the program: ./sqs_rehearse --build builds it "
-                            "anew")
+    moment, path = newest_source([os.path.join(TOP, "crates")])
+    if moment > os.stat(BUILT).st_mtime:
+        raise Fault(f"{os.path.relpath(path, TOP)} is newer than the program: ./sqs_rehearse --build builds it anew")
     return BUILT
 
 

@@ -12,7 +12,6 @@ import unittest
 from unittest import mock
 
 from tool import ROOT, ToolCase, module_at
-from console import Fault
 
 ALL = os.path.join(ROOT, "tests", "all.py")
 everything = module_at(ALL, "tests_all")
@@ -58,8 +57,10 @@ class Small(ToolCase):
         self.write_script("tools/layers", "#!/bin/sh\necho 3 crates\n")
         self.write_script("sqs_rehearse", WRAPPER)
         self.program = shutil.copy(shutil.which("true"), self.path("bin/program"))
+        os.symlink(sys.executable, self.path("bin/python3"))
         self.environment = {**os.environ, "TMPDIR": self.path("tmp"), "INSTALLED": self.path("installed"),
-                            "SETUP_STATUS": "0", "MISSING": "", "BUILT": self.program, "HERE": self.folder}
+                            "SETUP_STATUS": "0", "MISSING": "", "BUILT": self.program, "HERE": self.folder,
+                            "PATH": f"{self.path('bin')}:{os.environ['PATH']}"}
         self.environment.pop("SQS_REHEARSE", None)
 
     def write_script(self, name, text):
@@ -70,7 +71,7 @@ class Small(ToolCase):
         self.write_script(f"tests/{name}", "#!/bin/bash\n" + text)
 
     def command(self, *words):
-        return [sys.executable, self.path("tests/all.py"), *words]
+        return [self.path("tests/all"), *words]
 
     def run_all(self, *words, **environment):
         """Status, the lines of standard output, and standard error; started as by a service that heeds no child."""
@@ -260,29 +261,27 @@ class Wants(Small):
         self.assertEqual(self.run_all(*words, MISSING="gcc git", SETUP_STATUS="1")[::2],
                          (2, "all: tools/setup could not install gcc git\n"))
 
-    def test_what_is_missing_is_told_where_it_may_not_be_installed(self):
-        with mock.patch.multiple(everything, SETUP=self.path("tools/setup"), may_install=lambda: False), \
-                mock.patch.dict(os.environ, self.environment, MISSING="gcc git"), self.assertRaises(Fault) as fault:
-            everything.install_missing()
-        self.assertEqual(str(fault.exception), "packages are missing: as root, apt-get install -y "
-                         "--no-install-recommends gcc git")
+    def test_what_is_missing_is_named_where_it_may_not_be_installed(self):
+        self.write_script("bin/id", "#!/bin/sh\necho 1000\n")
+        self.write_script("bin/sudo", "#!/bin/sh\nexit 1\n")
+        self.assertEqual(self.run_all("--only", "layers", MISSING="gcc git"), (
+            2, [], "all: packages are missing: as root, apt-get install -y --no-install-recommends gcc git\n"))
+        self.write_script("bin/sudo", "#!/bin/sh\n")
+        self.assertEqual(self.run_all("--only", "layers", MISSING="gcc git")[0], 0)
 
-    def test_python_is_installed_first(self):
-        for name in ("sh", "bash", "env", "dirname"):
+    def test_python_is_installed_too(self):
+        os.remove(self.path("bin/python3"))
+        for name in ("sh", "bash", "env", "dirname", "id", "dpkg-query"):
             os.symlink(shutil.which(name), self.path(f"bin/{name}"))
+        words = dict(PATH=self.path("bin"), MISSING="python3")
+        self.assertEqual(self.run_all("--help", **words), (2, [], "all: python3 is not on the PATH\n"))
         links = f"{shutil.which('ln')} -s {sys.executable} {self.path('bin/python3')}"
-        self.write_script("tools/setup", f"#!/bin/sh\n[ $# = 1 ] || {links}\n")
-        for user, expected in (("1000", (2, "", "all: python3 is missing: as root, tools/setup installs it with what "
-                                            "else the tests need\n")),
-                               ("0", (0, "tools/setup installs Python and what else the tests need", ""))):
-            self.write_script("bin/id", f"#!/bin/sh\necho {user}\n")
-            run = subprocess.run([self.path("tests/all"), "--only", "layers"], text=True, capture_output=True,
-                                 stdin=subprocess.DEVNULL, env={**self.environment, "PATH": self.path("bin")})
-            self.assertEqual((run.returncode, run.stdout.split("\n")[0], run.stderr), expected)
-        self.assertEqual(run.stdout.splitlines()[-1], "1 passed, 0 failed")
+        self.write_script("tools/setup", f"#!/bin/sh\nif [ $# = 0 ]; then {links}; else echo python3; exit 1; fi\n")
+        status, out, _ = self.run_all("--only", "layers", **words)
+        self.assertEqual((status, out[0], out[-1]), (0, "tools/setup installs python3", "1 passed, 0 failed"))
 
     def test_another_system_than_debian(self):
-        for name in ("sh", "bash", "env"):
+        for name in ("sh", "bash", "env", "dirname"):
             os.symlink(shutil.which(name), self.path(f"bin/{name}"))
         status, out, _ = self.run_all("--only", "layers", MISSING="gcc git", PATH=self.path("bin"))
         self.assertEqual((status, out[0], out[-1]), (0, "there is no dpkg-query to ask what is missing; the tests need "
