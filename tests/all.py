@@ -6,8 +6,9 @@ PROGRAM is by default the one that ./sqs_rehearse would run without a build. LAT
 crates/sqs_late_workers, by default the one that `rt run` has built there from the sources as they are; without it
 tests/late and a part of tests/long are left out. --only runs the named parts. --jobs says how many parts run at once,
 by default one for each processor that this process may use. --quick takes less than a minute on 4 processors: it leaves
-out wrong-bodies, long, test_picture, memory, late, huge, test_console, test_sweep, test_package, test_report,
-test_arrivals and test_sweeps, the longest.
+out wrong-bodies, long, test_clusters, test_slurm, test_picture, memory, late, huge, test_console, test_sweep,
+test_package, test_report, test_arrivals, test_sweeps, test_statistics, test_jobs, test_decisions and test_helps, the
+longest.
 
 A part is a program in tests/, tools/layers --check, tests/wrong-bodies/test_run.py or a file tests/tools/test_*.py. A
 program in tests/ is given PROGRAM, and its last line is `N passed, M failed`. The line of a part has what passed and
@@ -30,31 +31,49 @@ import subprocess
 import sys
 import tempfile
 import time
+from argparse import Namespace
+from collections.abc import Iterable, Iterator, Mapping, Sequence
+from typing import NamedTuple
 
 TOP = os.path.dirname(os.path.dirname(os.path.abspath(__file__)))
 sys.path.insert(0, os.path.join(TOP, "tools"))
 import crate_list  # noqa: E402 (the folder of the tools comes first)
-from console import Fault, Parser, Progress, ended, is_terminal  # noqa: E402
-from programs import program_itself  # noqa: E402
+from rehearse_tools.console import Fault, Parser, Progress, ended, is_terminal  # noqa: E402
+from rehearse_tools.programs import program_itself  # noqa: E402
 
 LATE_CRATE = "sqs_late_workers"
 # The script that runs this file, by whose name faults begin.
 NAME = "all"
-WITHOUT_PROGRAM = ("texts", "examples", "layers", "wrong-bodies")
+WITHOUT_PROGRAM = ("texts", "style", "types", "examples", "layers", "wrong-bodies", "bell")
 # Seconds of the longest parts, as measured. They begin first, so that no long one is left at the end.
-SECONDS = {"wrong-bodies": 90, "memory": 60, "test_picture": 50, "long": 40, "late": 20, "test_console": 20,
-           "test_sweep": 19, "test_arrivals": 17, "test_all": 16, "test_package": 15, "test_summary": 15,
-           "test_report": 14, "huge": 13, "questions": 13, "test_sweeps": 12, "test_explain": 10, "test_life": 9,
-           "fuzz": 9, "groups": 8, "run": 8, "test_programs": 6}
-NOT_QUICK = ("wrong-bodies", "long", "test_picture", "memory", "late", "huge", "test_console", "test_sweep",
-             "test_package", "test_report", "test_arrivals", "test_sweeps")
+SECONDS = {"wrong-bodies": 90, "memory": 60, "test_clusters": 50, "test_picture": 50, "long": 40,
+           "test_slurm": 25, "test_statistics": 22, "late": 20, "test_console": 20, "test_sweep": 19,
+           "test_arrivals": 17, "test_all": 16, "test_jobs": 16, "test_sweeps": 16, "test_package": 15,
+           "test_summary": 15, "test_report": 14, "huge": 13, "questions": 13, "test_decisions": 10, "test_runs": 10,
+           "test_helps": 10, "test_explain": 10, "test_life": 9, "fuzz": 9, "groups": 8, "run": 8, "test_reference": 8,
+           "terminal": 7, "bell": 7, "types": 7, "test_programs": 6}
+NOT_QUICK = ("wrong-bodies", "long", "test_clusters", "test_slurm", "test_picture", "memory", "late", "huge",
+             "test_console", "test_sweep", "test_package", "test_report", "test_arrivals", "test_sweeps",
+             "test_statistics", "test_jobs", "test_decisions", "test_helps")
 SET_CHILD_SUBREAPER = 36    # of prctl(2)
 LOOK_SECONDS, GRACE_SECONDS = 0.02, 3
 ENDING = (signal.SIGINT, signal.SIGTERM, signal.SIGHUP)
 
-# A part by its name, its command, and the programs that the command is given.
-Part = collections.namedtuple("Part", "name words wants", defaults=((),))
-Counts = collections.namedtuple("Counts", "passed failed skipped", defaults=(0, 0, 0))
+
+class Part(NamedTuple):
+    """A part by its name, its command, and the programs that the command is given."""
+
+    name: str
+    words: list[str]
+    wants: tuple[str, ...] = ()
+
+
+class Counts(NamedTuple):
+    """How many tests passed, failed and were left out."""
+
+    passed: int = 0
+    failed: int = 0
+    skipped: int = 0
 
 
 class Interrupted(Exception):
@@ -62,18 +81,18 @@ class Interrupted(Exception):
 
 
 # The parts.
-def programs_in_tests():
+def programs_in_tests() -> Iterator[str]:
     """The names of the programs in tests/ itself, other than this one."""
     for entry in sorted(os.scandir(os.path.join(TOP, "tests")), key=lambda entry: entry.name):
         if entry.is_file() and os.access(entry.path, os.X_OK) and entry.name != NAME:
             yield entry.name
 
 
-def unittest_of(folder, file):
+def unittest_of(folder: str, file: str) -> list[str]:
     return [sys.executable, "-m", "unittest", "discover", "-v", "-s", os.path.join("tests", folder), "-p", file]
 
 
-def all_parts():
+def all_parts() -> dict[str, Part]:
     """All parts by their names."""
     wants = {"late": ("late",), "long": ("program", "late"), **dict.fromkeys(WITHOUT_PROGRAM, ())}
     parts = [Part("layers", [os.path.join(TOP, "tools", "layers"), "--check"]),
@@ -86,7 +105,7 @@ def all_parts():
     return {part.name: part for part in parts}
 
 
-def chosen_of(parts, only, is_quick):
+def chosen_of(parts: Mapping[str, Part], only: str, is_quick: bool) -> list[Part]:
     """The parts that are wanted, the longest first."""
     names = [name for name in parts if not (is_quick and name in NOT_QUICK)]
     if only:
@@ -98,7 +117,7 @@ def chosen_of(parts, only, is_quick):
 
 
 # The programs, and what the tests need.
-def late_of(given):
+def late_of(given: str | None) -> str | None:
     """The path of the program whose workers are late: the one that is given, or that was built from these sources."""
     if given is not None:
         if not os.path.isfile(given) or not os.access(given, os.X_OK):
@@ -112,7 +131,7 @@ def late_of(given):
     return built if crate_list.newest_source(folders)[0] <= os.path.getmtime(built) else None
 
 
-def environment_of(program):
+def environment_of(program: str | None) -> dict[str, str]:
     """What the parts find: the program for the tools, and this Python without a script that looks for one."""
     environment = dict(os.environ)
     if program:
@@ -124,7 +143,7 @@ def environment_of(program):
 
 
 # What a part says.
-def counts_of(text, status):
+def counts_of(text: str, status: int) -> Counts:
     """What passed, failed and was left out, by the output of a part. A part that prints no count is one, by its status.
     """
     ran = re.findall(r"^Ran (\d+) tests? in \S+\n\n(?:OK|FAILED|NO TESTS RAN)(.*)$", text, re.MULTILINE)
@@ -143,24 +162,24 @@ def counts_of(text, status):
     return counts
 
 
-def left_out_of(text):
+def left_out_of(text: str) -> list[str]:
     """What the output of a part says of what is left out, each thing once."""
     found = re.findall(r"^left out: (.*)$| \.\.\. skipped (['\"])(.*)\2$", text, re.MULTILINE)
     return list(dict.fromkeys(said or reason for said, _, reason in found))
 
 
-def counts_text(counts):
+def counts_text(counts: Counts) -> str:
     return f"{counts.passed} passed, {counts.failed} failed" + (f", {counts.skipped} skipped" if counts.skipped else "")
 
 
-def print_part(name, counts, left_out, took=""):
+def print_part(name: str, counts: Counts, left_out: Sequence[str], took: str = "") -> None:
     """Prints the line of a part."""
     Progress.clear()
     said = f"left out: {', '.join(left_out)}" if left_out else ""
     print(f"{name:<17} {counts_text(counts):<32} {took:<36}{said}".rstrip(), flush=True)
 
 
-def show_running(runs, waiting):
+def show_running(runs: Iterable["Run"], waiting: int) -> None:
     """Shows on a terminal which parts run."""
     if is_terminal(sys.stdout) and is_terminal(sys.stderr):
         line = f"running: {', '.join(run.part.name for run in runs)}; waiting: {waiting}"
@@ -168,12 +187,12 @@ def show_running(runs, waiting):
 
 
 # Processes.
-def become_reaper():
+def become_reaper() -> None:
     """Makes this process the parent of all below it whose own parents end, so that it can end them."""
     ctypes.CDLL(None).prctl(SET_CHILD_SUBREAPER, 1, 0, 0, 0)
 
 
-def processes():
+def processes() -> Iterator[tuple[int, int, int]]:
     """Each process that has not ended: its number, its parent's and its session's."""
     for name in filter(str.isdigit, os.listdir("/proc")):
         try:
@@ -185,7 +204,7 @@ def processes():
             yield int(name), int(parent), int(session)
 
 
-def below(root):
+def below(root: int) -> set[int]:
     """The processes below one, and those of the session that it leads, without itself."""
     found, others = {root}, list(processes())
     while new := {number for number, parent, session in others
@@ -194,7 +213,7 @@ def below(root):
     return found - {root}
 
 
-def send(number, to):
+def send(number: int, to: Iterable[int]) -> None:
     for process in to:
         try:
             os.kill(process, number)
@@ -202,9 +221,10 @@ def send(number, to):
             pass
 
 
-def end_all():
+def end_all() -> None:
     """Ends all processes below this one. They are asked to end, and killed after a while."""
-    asked, until = set(), time.monotonic() + GRACE_SECONDS
+    asked: set[int] = set()
+    until = time.monotonic() + GRACE_SECONDS
     while left := below(os.getpid()):
         if time.monotonic() < until:
             send(signal.SIGTERM, left - asked)
@@ -215,7 +235,7 @@ def end_all():
         next_ended()
 
 
-def next_ended():
+def next_ended() -> tuple[int, int, float] | None:
     """A process that has ended, with its status and the processor seconds that it used, or None."""
     try:
         process, status, used = os.wait4(-1, os.WNOHANG)
@@ -227,26 +247,27 @@ def next_ended():
 class Run:
     """A part that runs, in a session and with a temporary folder of its own."""
 
-    def __init__(self, part, programs, folder, environment):
+    def __init__(self, part: Part, programs: Mapping[str, str | None], folder: str,
+                 environment: Mapping[str, str]) -> None:
         self.part, self.folder, self.is_stopped = part, os.path.join(folder, part.name), False
         self.output = f"{self.folder}.output"
         os.mkdir(self.folder)
-        words = [*part.words, *(programs[want] for want in part.wants if programs[want])]
+        words = [*part.words, *(program for want in part.wants if (program := programs[want]))]
         with open(self.output, "wb") as output:
             self.process = subprocess.Popen(words, cwd=TOP, stdin=subprocess.DEVNULL, stdout=output,
                                             stderr=subprocess.STDOUT, start_new_session=True,
                                             env={**environment, "TMPDIR": self.folder})
         self.began = time.monotonic()
 
-    def seconds(self):
+    def seconds(self) -> float:
         return time.monotonic() - self.began
 
-    def stop(self):
+    def stop(self) -> None:
         """Ends the part itself first, so that it has nothing to say of the others."""
         self.is_stopped = True
         send(signal.SIGKILL, [self.process.pid, *below(self.process.pid)])
 
-    def end(self, status, used):
+    def end(self, status: int, used: float) -> None:
         """Prints what came of the part, which has ended, keeps its counts and notes, and removes what it left."""
         seconds, self.process.returncode = self.seconds(), status
         send(signal.SIGKILL, below(self.process.pid))
@@ -261,7 +282,7 @@ class Run:
             print("".join(f"    {line}\n" for line in [*text.splitlines(), how]), end="", flush=True)
 
 
-def wait_for(running, limit):
+def wait_for(running: Mapping[int, Run], limit: float) -> tuple[int, int, float]:
     """The process of the next part that ends, its status and processor seconds. What runs too long is stopped."""
     while True:
         for run in running.values():
@@ -274,9 +295,10 @@ def wait_for(running, limit):
             return has_ended
 
 
-def run_parts(parts, programs, options):
+def run_parts(parts: Iterable[Part], programs: Mapping[str, str | None], options: Namespace) -> list[Run]:
     """Runs the parts, so many at once; each as it has ended. Interrupted, when a signal ends them all."""
-    waiting, running, done = collections.deque(parts), {}, []
+    running: dict[int, Run] = {}
+    waiting, done = collections.deque(parts), []
     for number in ENDING:
         signal.signal(number, interrupt)
     become_reaper()
@@ -297,12 +319,12 @@ def run_parts(parts, programs, options):
     return done
 
 
-def interrupt(number, _):
+def interrupt(number: int, _: object) -> None:
     raise Interrupted(number)
 
 
 # The command line.
-def options_of(words):
+def options_of(words: Sequence[str]) -> Namespace:
     reading = Parser(__doc__)
     reading.add_argument("program", nargs="?")
     reading.add_argument("--quick", action="store_true")
@@ -318,7 +340,7 @@ def options_of(words):
     return options
 
 
-def main(words):
+def main(words: Sequence[str]) -> int:
     if sys.version_info < (3, 11):
         raise Fault(f"the tests need Python 3.11 or later, and this is {sys.version.split()[0]}")
     options, began = options_of(words), time.monotonic()
@@ -335,7 +357,7 @@ def main(words):
     except Interrupted as interrupted:
         Progress.clear()
         print("all: interrupted", file=sys.stderr)
-        return 128 + interrupted.args[0]
+        return 128 + int(interrupted.args[0])
     counts = [*(run.counts for run in done), *(Counts(skipped=1) for _ in left_out)]
     total, used = Counts(*map(sum, zip(*counts))), resource.getrusage(resource.RUSAGE_CHILDREN)
     parts = f"{len(counts)} part{'s' if len(counts) != 1 else ''}"

@@ -1,8 +1,12 @@
-"""Makes bash completions from the help texts that helps.py reads. tools/package imports it; it is not run by itself."""
+"""Makes bash completions from the help texts that helps.py reads. tools/package imports it; it is not a command."""
 import re
 from collections import defaultdict
+from collections.abc import Mapping
 
 import helps
+
+# Words and options by their kinds; those of None take nothing.
+Words = defaultdict[str | None, set[str]]
 
 OPTION = re.compile(r"(?<![\w-])(--[a-z][a-z-]*)(?: ([^\s\[\]]+))?")
 # What an option takes as prose names it; and what stands for a file.
@@ -58,7 +62,7 @@ complete -F _sqs_rehearse %s
 """
 
 
-def kind_of(option, value):
+def kind_of(option: str, value: str) -> str | None:
     """Whether an option takes files, folders, queues or something else; None if it takes nothing."""
     if option == "--queue":
         return "queues"
@@ -67,13 +71,13 @@ def kind_of(option, value):
     return None if not value else "files" if OF_FILES.fullmatch(value) else "others"
 
 
-def prose_in(block):
+def prose_in(block: helps.Block) -> list[str]:
     """The prose of a block."""
     return [] if block.kind == "commands" else [block.lead, *map(" ".join, block.rows)]
 
 
-def commands_in(block, own):
-    """What stands behind a tool's command in a block; and the terms that are options, with what they take."""
+def commands_in(block: helps.Block, own: str) -> list[str]:
+    """The options and words after a tool's command in a block, and the terms that are options, with their values."""
     if block.kind == "commands":
         return [row.partition(own)[2] for row in block.rows]
     quoted = [text for prose in prose_in(block) for text in helps.QUOTED.findall(prose)]
@@ -81,10 +85,10 @@ def commands_in(block, own):
             *(term for term, _ in block.rows if term.startswith("-"))]
 
 
-def of_tool(name, text):
+def of_tool(name: str, text: str) -> Words:
     """The words and options of a tool by their kinds. Prose names options of other programs too, so an option in prose
     counts only with what it takes, as --groups N."""
-    found = defaultdict(set, options={"--help"})
+    found: Words = defaultdict(set, {"options": {"--help"}})
     for block in helps.blocks_of(text):
         commands = commands_in(block, f"tools/{name}")
         found["words"] |= {match[1] for command in commands if (match := FIRST_WORD.match(command))}
@@ -97,30 +101,31 @@ def of_tool(name, text):
     return found
 
 
-def of_word(text):
+def of_word(text: str) -> Words:
     """The options of a word of the program by their kinds."""
-    found = defaultdict(set)
+    found: Words = defaultdict(set)
     for block in helps.blocks_of(text):
         for term, text in block.rows if block.lead == "Options:" else ():
-            option, value = re.search(r"(--[a-z-]+)( <)?", term).groups()
+            option, value = re.findall(r"(--[a-z-]+)( <)?", term)[0]
             kind = "files" if re.search(r"\bfile\b", text) else "folders" if "folder" in text else "others"
             found["options"].add(option)
             found[kind if value else None].add(option)
     return found
 
 
-def case_of(command, found):
+def case_of(command: str, found: Words) -> str:
     """The line of the script for a command."""
     lists = (f"{kind}='{' '.join(sorted(found[kind]))}'" for kind in ("words", "options", "files", "folders", "queues",
                                                                      "others") if found[kind])
     return f"    {command}) {' '.join(lists)} ;;"
 
 
-def script(help_of, tools):
+def script(help_of: helps.Texts, tools: Mapping[str, str]) -> str:
     """The script for the program and its tools, from their help texts, which manual.page_of_program takes too."""
     first, _, words = help_of
-    top = {"words": {*words, *tools}, "options": {"--help", "--version", *re.findall(r"(?<![\w-])--[a-z-]+", first)}}
-    cases = [("''", defaultdict(set, top)), *((word, of_word(text)) for word, text in words.items()),
+    options = {"--help", "--version", *re.findall(r"(?<![\w-])--[a-z-]+", first)}
+    top: Words = defaultdict(set, {"words": {*words, *tools}, "options": options})
+    cases = [("''", top), *((word, of_word(text)) for word, text in words.items()),
              *((name, of_tool(name, text)) for name, text in tools.items())]
     names = ["sqs_rehearse", *(f"sqs_rehearse-{name}" for name in tools)]
     return SCRIPT % ("\n".join(case_of(*case) for case in cases), " ".join(names))

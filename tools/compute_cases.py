@@ -6,14 +6,14 @@
 A case is a scenario NAME.toml with what the program prints for it: NAME.out and NAME.err (a missing
 one is empty) and its status in NAME.status. For a case that runs, the lemma says that the scenario
 read from the very bytes of NAME.toml has a one-list run whose log, finals and report are the CSV
-records of NAME.out, after which nothing is due by the horizon and every message accepted stands in
+records of NAME.out, after which nothing is due by the horizon and every accepted message is in
 exactly one place. For a case that is refused, it says that the line of the first fault is NAME.err.
 
-Write OUT.antt into a crate that stands on the definitions (crates/sqs_examples/proofs, with a line
-in its Lib.antt) and run `rt check` there: a case that the definitions do not meet is an error.
+Write OUT.antt into a crate that uses the definitions (crates/sqs_examples/proofs, with a line in
+its Lib.antt) and run `rt check` there: a case that the definitions do not meet is an error.
 --only takes the cases whose name has that word; --most leaves out those with more rows of log.
 
-Each MD5 in the output is told by the body that has it, so that the checker need not compute it.
+Each MD5 in the output is given by the body that has it, so that the checker need not compute it.
 """
 import csv
 import hashlib
@@ -21,8 +21,9 @@ import io
 import os
 import sys
 import tomllib
+from collections.abc import Iterable, Mapping, Sequence
 
-from console import Fault, Parser, check_output, ended, print_text, read_bytes, write_text
+from rehearse_tools.console import Fault, Parser, check_output, ended, print_text, read_bytes, write_text
 
 OPEN = ("reading_on_literals running_on_literals columns_of")
 
@@ -34,11 +35,11 @@ use Rattle.sqs_examples.proofs.Shown.{running_on_literals, digest, ran, refused,
 """
 
 
-def quoted(text):
-    """An antt term for a text: a literal, in pieces where a byte has no place in one."""
+def quoted(text: bytes) -> str:
+    """An antt term for a text: a literal, cut into parts at bytes that a literal can't have."""
     pieces, plain = [], ""
 
-    def close():
+    def close() -> None:
         nonlocal plain
         if plain:
             pieces.append('codes "%s"' % plain)
@@ -61,11 +62,11 @@ def quoted(text):
     return "(" + " ++ ".join(pieces) + ")" if pieces else "[]"
 
 
-def bodies(text):
+def bodies(text: bytes) -> dict[str, bytes]:
     """Every body that a scenario's actors may send, by the MD5 of it."""
     found = {}
 
-    def add(body):
+    def add(body: bytes) -> None:
         found[hashlib.md5(body).hexdigest()] = body
 
     for actor in tomllib.loads(text.decode("utf-8").lstrip("\ufeff")).get("actor", []):
@@ -79,17 +80,17 @@ def bodies(text):
     return found
 
 
-def field(text, known):
+def field(text: str, known: Mapping[str, bytes]) -> str:
     if text in known:
         return "digest %s" % quoted(known[text])
     return quoted(text.encode("utf-8"))
 
 
-def listed(items):
+def listed(items: Iterable[str]) -> str:
     return "(" + " ∷ ".join(list(items) + ["[]"]) + ")"
 
 
-def ran(name, text, out):
+def ran(name: str, text: bytes, out: bytes) -> tuple[int, str]:
     known = bodies(text)
     records = list(csv.reader(io.StringIO(out.decode("utf-8"), newline="")))
     rows = next(i for i, r in enumerate(records) if r[0] == "final") - 1
@@ -97,12 +98,12 @@ def ran(name, text, out):
     return rows, "%s : shown %d [] %s\n    ≡ ran (%s ∷ [])\n" % (name, rows, quoted(text), lines)
 
 
-def stored(path, may_lack=True):
-    """What a file of a case has; nothing where it is missing and may be."""
+def stored(path: str, may_lack: bool = True) -> bytes:
+    """The contents of a file of a case; empty if it is missing and may be."""
     return b"" if may_lack and not os.path.exists(path) else read_bytes(path)
 
 
-def lemma(path, number, most):
+def lemma(path: str, number: int, most: int) -> str | None:
     base = path[:-len(".toml")]
     name = "case_%s_%s" % (number, os.path.basename(base).replace("-", "_"))
     text = stored(path, may_lack=False)
@@ -118,7 +119,7 @@ def lemma(path, number, most):
     return claim + "unfolding %s\n%s = refl\n" % (OPEN, name)
 
 
-def cases_in(folder, only):
+def cases_in(folder: str, only: str) -> list[str]:
     """The paths of the scenarios of a folder."""
     try:
         names = sorted(os.listdir(folder))
@@ -127,7 +128,7 @@ def cases_in(folder, only):
     return [os.path.join(folder, name) for name in names if name.endswith(".toml") and only in name]
 
 
-def main(words):
+def main(words: Sequence[str]) -> int:
     parser = Parser(__doc__)
     parser.add_argument("out", metavar="OUT.antt")
     parser.add_argument("folders", nargs="+", metavar="FOLDER")

@@ -1,11 +1,13 @@
-"""The texts of a package of Debian: its control file, copyright and changelog, the scripts that run as it is installed
-and removed, and its documents with the commands that it has. tools/package imports it; it is not run by itself."""
+"""The texts of a package of Debian: its control file, copyright and changelog, the scripts that run as it is
+installed and removed, and its documents with the commands that it has. tools/package imports it; it is not a
+command."""
 import os
 import re
 import time
+from collections.abc import Collection, Container
 
-from console import read_text, with_commands
-from programs import TOP
+from rehearse_tools.console import read_text, with_commands
+from rehearse_tools.programs import TOP
 
 PLACE = "usr/lib/sqs_rehearse"
 DOCUMENTS = "usr/share/doc/sqs-rehearse"
@@ -17,8 +19,8 @@ Version: {version}
 Architecture: {architecture}
 Maintainer: {maintainer}
 Installed-Size: {size}
-{depends}Recommends: python3 (>= 3.11), python3-yaml, python3-matplotlib, python3-plotly
-Suggests: bash-completion
+{depends}Recommends: python3 (>= 3.11), python3-yaml, python3-matplotlib, python3-plotly, python3-scipy
+Suggests: bash-completion, python3-distributed, python3-pandas
 Section: utils
 Priority: optional
 Description: rehearses networks of Amazon SQS queues in simulated time
@@ -53,13 +55,13 @@ sqs-rehearse: package-contains-documentation-outside-usr-share-doc *
 SHELL = "#!/bin/sh\nset -e\n"
 # In older packages the folder of documents was a link, in whose place dpkg would make no folder.
 NO_LINK = f"""{SHELL}if [ -L "$DPKG_ROOT/{DOCUMENTS}" ]; then rm "$DPKG_ROOT/{DOCUMENTS}"; fi\n"""
-# If root runs a tool, Python keeps bytecode beside it.
-NO_BYTECODE = f"""{SHELL}rm -rf "$DPKG_ROOT/{PLACE}/tools/__pycache__"\n"""
+# If root runs a tool, Python keeps bytecode beside its modules.
+NO_BYTECODE = f"""{SHELL}rm -rf "$DPKG_ROOT/{PLACE}/tools/rehearse_tools/__pycache__"\n"""
 # A postrm would stay behind after `apt remove`, until `apt purge`.
 SCRIPTS = {"preinst": NO_LINK, "prerm": NO_BYTECODE}
 
 
-def control(version, architecture, size, program):
+def control(version: str, architecture: str, size: int, program: bytes) -> str:
     """The control file. `size` is in bytes; the program decides which C library the package depends on."""
     versions = [(int(major), int(minor)) for major, minor in LIBRARY.findall(program)]
     depends = "Depends: libc6 (>= {}.{})\n".format(*max(versions)) if versions else ""
@@ -67,8 +69,8 @@ def control(version, architecture, size, program):
                           maintainer=MAINTAINER)
 
 
-def copyright_text(moment):
-    """The copyright, with the licence of the repository where it has one."""
+def copyright_text(moment: float) -> str:
+    """The copyright, with the licence of the repository if it has one."""
     licences = sorted(name for name in os.listdir(TOP) if re.match(r"LICEN[CS]E|COPYING", name))
     text = read_text(os.path.join(TOP, licences[0])).strip() if licences else ""
     lines = "".join(f"\n {line.rstrip() or '.'}" for line in text.splitlines())
@@ -78,14 +80,14 @@ def copyright_text(moment):
                             licence=f"as-given{lines}" if text else NO_LICENCE)
 
 
-def changes(version, moment):
+def changes(version: str, moment: float) -> str:
     day = time.strftime("%a, %d %b %Y %H:%M:%S +0000", time.gmtime(moment))
     return CHANGES.format(version=version, maintainer=MAINTAINER, day=day)
 
 
-def with_links_that_work(text, path, paths):
+def with_links_that_work(text: str, path: str, paths: Collection[str]) -> str:
     """A document without its links to files that are not in the package; their texts stay."""
-    def kept(link):
+    def kept(link: re.Match[str]) -> str:
         target = os.path.normpath(os.path.join(os.path.dirname(path), link[2]))
         is_there = ":" in link[2] or any(f"{file}/".startswith(f"{target}/") for file in paths)
         return link[0] if is_there else link[1]
@@ -93,6 +95,6 @@ def with_links_that_work(text, path, paths):
     return LINK.sub(kept, text)
 
 
-def with_commands_of_package(text, tools):
+def with_commands_of_package(text: str, tools: Container[str]) -> str:
     """A text with the commands of an installed package."""
     return with_commands(text, "sqs_rehearse", "sqs_rehearse ", tools)

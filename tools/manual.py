@@ -1,4 +1,4 @@
-"""Makes manual pages from the help texts that helps.py reads. tools/package imports it; it is not run by itself.
+"""Makes manual pages from the help texts that helps.py reads. tools/package imports it; it is not a command.
 
 The page of a tool has its first commands as the synopsis; its lists of options and its examples are sections too. The
 page of the program has a section for each of its words, and a list of the tools.
@@ -6,6 +6,7 @@ page of the program has a section for each of its words, and a list of the tools
 import re
 import textwrap
 import time
+from collections.abc import Iterable, Mapping, Sequence
 
 import helps
 
@@ -23,14 +24,14 @@ MARKED = re.compile(rf"(?P<bold>{BOLD.pattern})|(?P<slanted><[a-z]+>|(?<![\w.])[
 TOGETHER = re.compile(r"\[[^\]]*\]|'[^']*'|\S+")
 
 
-def escaped(text, is_literal=False):
+def escaped(text: str, is_literal: bool = False) -> str:
     """A text in which roff finds no command of its own. In commands to type, hyphens are those of ASCII."""
     text = "".join(SPECIAL.get(letter, letter if letter < "\x7f" else f"\\[u{ord(letter):04X}]") for letter in text)
     return text.replace("-", r"\-") if is_literal else text
 
 
-def marked(text, pattern=BOLD, is_literal=False):
-    """A text in which what a pattern finds is bold or slanted."""
+def marked(text: str, pattern: re.Pattern[str] = BOLD, is_literal: bool = False) -> str:
+    """A text in which the matches of a pattern are bold or slanted."""
     made, at = "", 0
     for match in pattern.finditer(text):
         font = "I" if match.groupdict().get("slanted") else "B"
@@ -40,16 +41,16 @@ def marked(text, pattern=BOLD, is_literal=False):
     return made + escaped(text[at:], is_literal)
 
 
-def lines_of(text):
+def lines_of(text: str) -> list[str]:
     """The lines of a text, which roff fills anew; none is a command of roff."""
     return [guarded(line) for line in textwrap.wrap(text, LINE_MOST, break_long_words=False, break_on_hyphens=False)]
 
 
-def guarded(line):
+def guarded(line: str) -> str:
     return f"\\&{line}" if line.startswith((".", "'")) else line
 
 
-def synopsis(command, known):
+def synopsis(command: str, known: Sequence[str]) -> list[str]:
     """A command of the synopsis. Its next lines begin in the column where its first words end."""
     head = next((words for words in known if command.startswith(words + " ")), command.split(" ", 1)[0])
     rest = [marked(piece, MARKED, is_literal=True).replace(" ", r"\~")
@@ -57,19 +58,19 @@ def synopsis(command, known):
     return [f'.SY "{escaped(head, is_literal=True)}"', *lines_of(" ".join(rest)), ".YS"]
 
 
-def synopses(commands, known):
+def synopses(commands: Iterable[str], known: Sequence[str]) -> list[str]:
     """The section of the synopsis."""
     return ['.SH "SYNOPSIS"', *(line for command in commands for line in synopsis(command, known)), WHOLE_WORDS]
 
 
-def example(commands):
-    """Commands as they stand."""
+def example(commands: Iterable[str]) -> list[str]:
+    """Commands, printed as they are."""
     return [".RS 4", ".EX", *(guarded(escaped(command, is_literal=True)) for command in commands), ".EE", ".RE",
             WHOLE_WORDS]
 
 
-def body(block):
-    """A block as it stands in a section."""
+def body(block: helps.Block) -> list[str]:
+    """A block as part of a section."""
     if block.kind == "commands":
         return [".PP", *example(block.rows)]
     if block.kind == "paragraph":
@@ -80,19 +81,19 @@ def body(block):
     return [*lead, *(line for term, text in block.rows for line in (".TP", term_of(term), *lines_of(marked(text))))]
 
 
-def term_of(term):
+def term_of(term: str) -> str:
     """The term of a list: an option with what it takes, or words that are bold as a whole."""
     has_marks = MARKED.match(term) is not None
     return marked(term, MARKED, is_literal=True) if has_marks else rf"\fB{escaped(term, is_literal=True)}\fR"
 
 
-def section(name, blocks, macro=".SH"):
+def section(name: str, blocks: Iterable[helps.Block], macro: str = ".SH") -> list[str]:
     """A section of blocks, or nothing if there are none. Its first paragraph needs no command before it."""
     lines = [line for block in blocks for line in body(block)]
     return [f'{macro} "{escaped(name, is_literal=True)}"', *lines[lines[0] == ".PP":]] if lines else []
 
 
-def head(name, purpose, version, moment):
+def head(name: str, purpose: str, version: str, moment: float) -> list[str]:
     """The head of a page, with the purpose of its command. Its foot has room for the version without the commit."""
     day = time.strftime("%Y-%m-%d", time.gmtime(moment))
     title, version = escaped(name.upper(), is_literal=True), version.partition("+")[0]
@@ -100,16 +101,16 @@ def head(name, purpose, version, moment):
             '.SH "NAME"', *lines_of(rf"{escaped(name, is_literal=True)} \- {escaped(purpose)}")]
 
 
-def see_also(names, documents):
+def see_also(names: Iterable[str], documents: str) -> list[str]:
     pages = [rf"\fB{escaped(name, is_literal=True)}\fR(1)," for name in names]
     return ['.SH "SEE ALSO"', *pages, *lines_of(f"and the documents in {escaped(documents, is_literal=True)}")]
 
 
-def is_options(block):
+def is_options(block: helps.Block) -> bool:
     return block.kind == "list" and all(term.startswith("-") for term, _ in block.rows)
 
 
-def page_of_tool(name, text, about, documents):
+def page_of_tool(name: str, text: str, about: tuple[str, float], documents: str) -> str:
     """The page of a tool. `about` is the version and its moment; `documents` the folder of the documents."""
     first, usage, *blocks = helps.blocks_of(text)
     options = [block for block in blocks if is_options(block)]
@@ -123,13 +124,13 @@ def page_of_tool(name, text, about, documents):
     return "\n".join(lines) + "\n"
 
 
-def page_of_program(help_of, tools, about, documents):
+def page_of_program(help_of: helps.Texts, tools: Mapping[str, str], about: tuple[str, float], documents: str) -> str:
     """The page of the program. `help_of` has the help texts of ./sqs_rehearse, of the program itself, and of its words
     by name; `tools` has those of the tools by name."""
     first, own, words = help_of
     blocks = [block for block in helps.blocks_of(first)
               if block not in helps.blocks_of(own) and not is_of_tools(block, tools)]
-    purpose = re.match(r"(?:sqs_rehearse )?(.*?)[.,:;]", blocks[0].lead + ".")[1]
+    purpose = re.split("[.,:;]", blocks[0].lead, 1)[0].removeprefix("sqs_rehearse ")
     usage = [*filter(None, map(helps.usage_of, words.values())), "sqs_rehearse TOOL [WORD ...]"]
     of_words = [line for word, text in words.items() for line in section(f"sqs_rehearse {word}", [
         block for block in helps.blocks_of(text) if not helps.is_usage(block)], ".SS")]
@@ -142,6 +143,6 @@ def page_of_program(help_of, tools, about, documents):
     return "\n".join(lines) + "\n"
 
 
-def is_of_tools(block, tools):
+def is_of_tools(block: helps.Block, tools: Mapping[str, str]) -> bool:
     """Whether a block is the list of the tools, for which the page has a section."""
     return block.kind == "list" and all(term.split()[-1] in tools for term, _ in block.rows)

@@ -1,14 +1,14 @@
-"""Makes dist/: the program that was built, packed, and the manifest, which names what it was made from. tools/package
-imports it; it is not run by itself."""
+"""Makes dist/: the program that was built, packed, and the manifest, which names what it was made from.
+tools/package imports it; it is not a command."""
 import gzip
 import hashlib
 import io
 import os
 import subprocess
 
-from console import Fault, read_bytes, read_text, write_bytes
+from rehearse_tools.console import Fault, read_bytes, read_text, write_bytes
 from crate_list import newest_source
-from programs import TOP, program_itself
+from rehearse_tools.programs import TOP, program_itself
 
 DIST = os.path.join(TOP, "dist")
 MANIFEST = os.path.join(DIST, "manifest")
@@ -24,7 +24,7 @@ program {program}
 """
 
 
-def packed(data, moment=0):
+def packed(data: bytes, moment: float = 0) -> bytes:
     """Bytes packed by gzip; the same bytes give the same."""
     stream = io.BytesIO()
     with gzip.GzipFile(fileobj=stream, mode="wb", compresslevel=9, mtime=moment, filename="") as file:
@@ -32,11 +32,11 @@ def packed(data, moment=0):
     return stream.getvalue()
 
 
-def sum_of(data):
+def sum_of(data: bytes) -> str:
     return hashlib.sha256(data).hexdigest()
 
 
-def built_program():
+def built_program() -> str:
     """The path of the program that ./sqs_rehearse has built from the sources as they are."""
     if not os.path.exists(BUILT):
         raise Fault("the program is not built yet: ./sqs_rehearse --build builds it")
@@ -46,7 +46,7 @@ def built_program():
     return BUILT
 
 
-def printed_by(command):
+def printed_by(command: list[str]) -> bytes:
     """What a command prints."""
     try:
         ran = subprocess.run(command, stdin=subprocess.DEVNULL, capture_output=True)
@@ -57,14 +57,14 @@ def printed_by(command):
     return ran.stdout
 
 
-def manifest_of(data):
+def manifest_of(data: bytes) -> bytes:
     """The manifest of a program that was built from the sources as they are."""
     return TEXT.format(packed=PACKED, version=read_text(os.path.join(TOP, "tools", "VERSION")).strip(),
                        kit=printed_by(["rt", "version"]).decode().strip(), program=sum_of(data),
                        sources=sum_of(printed_by([os.path.join(TOP, "tools", "sources")]))).encode()
 
 
-def make(given):
+def make(given: str | None) -> str:
     """Makes dist/ anew from a program, or from the one that was built; gives a line on what was done."""
     data = read_bytes(program_itself(given) if given else built_program())
     if data[:4] != b"\x7fELF" or data[18:20] != X86_64:
@@ -81,7 +81,7 @@ def make(given):
     return f"dist/ has the program {sum_of(data)} now, packed into {len(made[os.path.join(DIST, PACKED)]):,} bytes"
 
 
-def manifest_for(data):
+def manifest_for(data: bytes) -> bytes | None:
     """The manifest of dist/ if it is of this program, else None."""
     if not os.path.exists(MANIFEST):
         return None

@@ -45,12 +45,13 @@ class Small(ToolCase):
 
     def setUp(self):
         super().setUp()
-        for folder in ("tests/tools", "tests/wrong-bodies", "tools", "bin", "tmp"):
+        for folder in ("tests/tools", "tests/wrong-bodies", "tools/rehearse_tools", "bin", "tmp"):
             os.makedirs(self.path(folder))
         for name in ("all", "all.py"):
             shutil.copy(os.path.join(ROOT, "tests", name), self.path("tests"))
-        for name in ("console.py", "crate_list.py", "programs.py"):
-            shutil.copy(os.path.join(ROOT, "tools", name), self.path("tools"))
+        for name in ("crate_list.py", "rehearse_tools/__init__.py", "rehearse_tools/console.py",
+                     "rehearse_tools/programs.py"):
+            shutil.copy(os.path.join(ROOT, "tools", name), self.path(f"tools/{name}"))
         self.write("crates.txt", "low:\nsqs_late_workers: low\n")
         self.write("tests/wrong-bodies/test_run.py", UNITTEST)
         self.write_script("tools/setup", SETUP)
@@ -246,9 +247,9 @@ class Wants(Small):
     def test_words_that_are_wrong(self):
         for words, line in ((("--only", "walk"), "there is no part walk; there are layers, wrong-bodies"),
                             (("--only", "layers", "--quick"), "--quick and --only exclude each other"),
-                            (("--jobs", "0"), "--jobs is at least 1"),
-                            (("--late", "/none"), "there is no program /none"),
-                            (("--fast",), "unrecognized arguments: --fast (--help tells the usage)")):
+                            (("--quick", "--jobs", "0"), "--jobs is at least 1"),
+                            (("--quick", "--late", "/none"), "there is no program /none"),
+                            (("--quick", "--fast"), "unrecognized arguments: --fast (--help tells the usage)")):
             self.assertEqual(self.run_all(*words), (2, [], f"all: {line}\n"))
 
     @unittest.skipUnless(os.geteuid() == 0, "this user may not install packages")

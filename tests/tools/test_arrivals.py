@@ -3,6 +3,7 @@ import csv
 import io
 import json
 import os
+import re
 import subprocess
 import unittest
 
@@ -69,6 +70,42 @@ class Arrivals(ToolCase):
         self.assertEqual(counts, [5, 5, 5])
         self.assertEqual(len(times), 15)
 
+    def test_the_end_of_bursts(self):
+        """A burst of 400 over two hours, of which the first hour is wanted: 200 are expected, within four deviations.
+        """
+        _, times = self.made("bursts", "--size", "400", "--every", "3h", "--over", "2h", "--duration", "1h")
+        self.assertTrue(160 <= len(times) <= 240 and times[-1] < 3_600_000, (len(times), times[-1]))
+
+    def test_bursts_that_one_script_stretches(self):
+        """Of 3,000 messages within 100 ms one script makes 3,000 ms; side by side each comes when it was drawn."""
+        words = "bursts", "--size", "3000", "--every", "1h", "--over", "100ms", "--duration", "1h", "--queue", "q"
+        status, out, err = self.run_tool("arrivals", *words)
+        self.assertEqual((status, int(out.splitlines()[-1].split(",")[0]) >= 2_999), (0, True))
+        told = re.fullmatch(r"arrivals: (2,9\d\d) of 3,000 messages are put off, by up to 2,9\d\d ms, as a script "
+                            r"makes one call a millisecond; --side-by-side (\d+) puts off none\n", err)
+        self.assertTrue(told and 30 <= int(told[2]) <= 60, err)
+        status, actors, err = self.run_tool("arrivals", *words, "--side-by-side", told[2], "--output", "a.csv")
+        self.assertEqual((status, err, actors.count("[[actor]]")), (0, "", int(told[2])))
+        times, bodies = [], set()
+        for number in range(1, int(told[2]) + 1):
+            with open(self.path(f"a-{number}.csv"), encoding="utf-8", newline="") as file:
+                records = list(csv.DictReader(file))
+            lane = [int(record["at"]) for record in records]
+            self.assertTrue(all(early < late for early, late in zip(lane, lane[1:])))
+            times += lane
+            bodies |= {record["body"] for record in records}
+        self.assertEqual((len(times), len(bodies), max(times) < 100), (3_000, 3_000, True))
+
+    def test_a_metric_that_is_not_complete(self):
+        """Standard error names what is partial; what CloudWatch refused is a fault."""
+        for code, status, told in (("PartialData", 0, "CloudWatch has more values, which --next-token gets"),
+                                   ("Forbidden", 2, "has the status Forbidden")):
+            result = {**METRIC["MetricDataResults"][0], "StatusCode": code}
+            path = self.write("m.json", json.dumps({"MetricDataResults": [result]}))
+            found, _, err = self.run_tool("arrivals", "metric", path)
+            self.assertEqual((found, len(err.splitlines())), (status, 1))
+            self.assertIn(told, err)
+
     def test_hours_of_the_day(self):
         """400 are expected in the second hour of each of two days, within four deviations, and none in another."""
         numbers = ",".join(["0", "400"] + ["0"] * 22)
@@ -105,6 +142,10 @@ class Arrivals(ToolCase):
                 (("poisson", "--rate", "5/s", "--duration", "9"),
                  "9 is no time with a unit, as 90s or 2h, within 4,294,967,295 ms"),
                 (("poisson", "--rate", "9999999999/ms", "--duration", "1h"), "over 5,000,000 messages"),
+                (("poisson", "--rate", "5/s", "--duration", "5s", "--queue", 'x y"', "--output", "a.csv"),
+                 'no queue of a scenario has the name x y"'),
+                (("poisson", "--rate", "5/s", "--duration", "5s", "--side-by-side", "2"),
+                 "--side-by-side is 1 to 1000, and needs --output"),
                 (("poisson", "--rate", "5/s"), "poisson needs --duration (--help tells the usage)"),
                 (("bursts", "--size", "0", "--every", "1s", "--over", "1s", "--duration", "1s"),
                  "--size is at least 1"),
@@ -119,7 +160,8 @@ class Arrivals(ToolCase):
                 (("times", times, "--origin", "2"), "a time is before the origin 2"),
                 (("times", times, "--origin", "x"), "x is no time"),
                 (("times", times, "--body", ""), "the body of message 0 has not 1 to 1,024 bytes: ''"),
-                (("times", times, "--start", "4294967295", "--output", "t.csv/x"), "cannot write t.csv/x: File exists"),
+                (("times", times, "--start", "4294967295", "--output", "t.csv/x"),
+                 "cannot write t.csv/x: Not a directory"),
                 (("metric", metric), f"{metric} has 2 results, of which --id names one: sent, other"),
                 (("metric", metric, "--id", "sent", "--period", "0"), "a period has 1 to 86400 seconds")):
             with self.subTest(words=words):

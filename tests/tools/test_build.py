@@ -37,10 +37,11 @@ CRATES = "sim_a:\nsim_b: sim_a std\nsim_c: sim_a\nsqs_rehearse: sim_b sim_c\nsqs
 class Build(ToolCase):
     def setUp(self):
         super().setUp()
-        for name in ("tools", "kit", "tmp"):
+        for name in ("tools/rehearse_tools", "kit", "tmp"):
             os.makedirs(self.path(name))
-        for name in ("build", "console.py", "crate_list.py", "side_by_side.py"):
-            shutil.copy(os.path.join(ROOT, "tools", name), self.path("tools"))
+        for name in ("build", "crate_list.py", "rehearse_tools/__init__.py", "rehearse_tools/console.py",
+                     "side_by_side.py"):
+            shutil.copy(os.path.join(ROOT, "tools", name), self.path(f"tools/{name}"))
         for name in ("sim_a", "sim_b", "sim_c", "sqs_rehearse"):
             os.makedirs(self.path(f"crates/{name}/src"))
             self.write(f"crates/{name}/src/lib.rt", "")

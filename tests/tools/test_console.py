@@ -1,5 +1,6 @@
 """Tests how all tools end: help, an unknown word, an output that is full or closed, a log that is no file."""
 import os
+import pathlib
 import pty
 import re
 import stat
@@ -8,11 +9,12 @@ import sys
 import time
 import unittest
 
-from tool import LOG_HEADER, SENT, TOOLS, ToolCase
-from console import Fault, check_output, write_text
+from tool import LOG_HEADER, ROOT, SENT, TOOLS, USERS_TOOLS, ToolCase
+import helps
+from rehearse_tools.console import Fault, check_output, write_text
 
-USERS_TOOLS = ("sweep", "metrics", "from-queue", "from-plan", "explain", "arrivals", "picture", "report", "summary",
-               "life", "bench", "compute_cases.py")
+# Those that take words, and those that also run without one.
+TAKING_TOOLS = (*USERS_TOOLS, "bench", "compute_cases.py")
 OTHER_TOOLS = ("layers", "package", "proof-times")
 
 
@@ -24,12 +26,12 @@ class Ends(ToolCase):
         return run.returncode, run.stdout, run.stderr
 
     def test_help_and_unknown_words(self):
-        for name in (*USERS_TOOLS, *OTHER_TOOLS):
+        for name in (*TAKING_TOOLS, *OTHER_TOOLS):
             with self.subTest(tool=name):
                 status, out, err = self.run_tool(name, "--help")
                 self.assertEqual((status, err), (0, ""))
                 hostile = [(b"--nothing",), (b"\xff",), (b"--nothing", b"\xff\n")]
-                if name in USERS_TOOLS:
+                if name in TAKING_TOOLS:
                     self.assertIn(f"tools/{name} ", out)
                     hostile.append(())
                 for words in hostile:
@@ -39,9 +41,9 @@ class Ends(ToolCase):
                     self.assertEqual(told, (2, b"", 1), run.stderr)
 
     def test_help_has_each_option(self):
-        for name in (*USERS_TOOLS, *OTHER_TOOLS):
+        for name in (*TAKING_TOOLS, *OTHER_TOOLS):
             with self.subTest(tool=name):
-                with open(os.path.join(TOOLS, name), encoding="utf-8") as file:
+                with open(helps.source_of(name), encoding="utf-8") as file:
                     options = re.findall(r'add_argument\("(--[a-z-]+)"', file.read())
                 told = self.run_tool(name, "--help")[1]
                 options += ["--horizon", "--latency", "--output"] if name in ("from-queue", "from-plan") else []
@@ -72,6 +74,38 @@ class Ends(ToolCase):
                                  (2, "", f"{told}: cannot read none: No such file or directory\n"))
         self.assertIn("draws what sqs_rehearse sweep has",
                       self.ended("SQS_REHEARSE_TOOL='sqs_rehearse picture' picture --help")[1])
+
+    def test_all_ways_to_call_a_tool(self):
+        """By its file in tools/, all of one text; by a link of any name; by ./sqs_rehearse; by the package's name."""
+        launchers = {pathlib.Path(TOOLS, name).read_bytes() for name in USERS_TOOLS}
+        self.assertEqual(len(launchers), 1)
+        modules = {path.stem.replace("_", "-") for path in pathlib.Path(TOOLS, "rehearse_tools").glob("*.py")
+                   if re.search(r"^def main\(words", path.read_text(), re.MULTILINE)}
+        self.assertEqual(modules - {"--main--"}, set(USERS_TOOLS))
+        for name in USERS_TOOLS:
+            with self.subTest(tool=name):
+                os.symlink(os.path.join(TOOLS, name), self.path(f"my-{name}"))
+                wanted = self.ended(f"{name} --help")[1]
+                self.assertEqual(self.ended(f"./my-{name} --help"), (0, wanted, ""))
+                self.assertEqual(self.ended(f"PYTHONPATH={TOOLS} {sys.executable} -m rehearse_tools {name} --help"),
+                                 (0, wanted, ""))
+                wrapped = self.ended(f"{ROOT}/sqs_rehearse {name} --help")
+                self.assertEqual((wrapped[0], len(wrapped[1].splitlines()), wrapped[2]),
+                                 (0, len(wanted.splitlines()), ""))
+
+    def test_the_package_by_itself(self):
+        command = f"PYTHONPATH={TOOLS} {sys.executable} -m rehearse_tools"
+        for words, name in (("summary none", "summary"), ("summary '' --json", "summary"), ("", "rehearse_tools"),
+                            ("''", "rehearse_tools"), ("no-tool", "rehearse_tools"), ("console", "rehearse_tools"),
+                            ("from_plan x", "rehearse_tools")):
+            with self.subTest(words=words):
+                status, out, err = self.ended(f"{command} {words}")
+                self.assertEqual((status, out, len(err.splitlines())), (2, "", 1), err)
+                self.assertTrue(err.startswith(f"{name}: "), err)
+        for word in ("--help", "-h"):
+            status, out, err = self.ended(f"{command} {word}")
+            self.assertEqual((status, err), (0, ""))
+            self.assertEqual([name for name in USERS_TOOLS if name not in out], [])
 
     def test_an_output_that_is_full_or_closed(self):
         with open(self.path("log"), "wb") as file:
@@ -120,7 +154,7 @@ class Reading(ToolCase):
                 pass    # the terminal has no writer any more
             os.close(reader)
             self.assertEqual(run.returncode, 0)
-            self.assertRegex(told, rb"^(\rsummary: [12] MB of standard input read\x1b\[K)+\r\x1b\[K$" if is_terminal
+            self.assertRegex(told, rb"^(\rsummary: [0-2] MB of standard input read\x1b\[K)+\r\x1b\[K$" if is_terminal
                              else rb"^$")
 
 

@@ -6,8 +6,8 @@ import unittest
 
 from test_picture import Readable, needs_numpy
 from tool import PROGRAM, ROOT, TOOLS, module_of, needs_program
-from console import Fault
-from curves import Axis, Rows, curves_of, setting_of, sweep_picture
+from rehearse_tools.console import Fault
+from rehearse_tools.curves import Axis, Rows, curves_of, setting_of, sweep_picture
 
 picture = module_of("picture")
 ROWS = """queue.q.visibility_s,seed,failed,queue,sends,age_p95
@@ -66,6 +66,38 @@ class Curves(Readable):
     def test_words_stand_side_by_side(self):
         self.assertEqual(self.curves(WORDS, "q.sends"),
                          ({"group": 0, "queue": 1}, {"": {"group": (4, 4, 4, 1), "queue": (6, 6, 6, 1)}}))
+
+    def test_numbers_far_apart_have_a_logarithmic_axis(self):
+        """20 to 900 in nine steps stand together at the end of an even axis; a logarithmic axis labels all."""
+        numbers = (20, 25, 30, 40, 60, 90, 150, 300, 900)
+        text = "a,failed,queue,age_p95\n" + "".join(f"{number},,q,{number}000\n" for number in numbers)
+        rows = Rows(self.write("rows.csv", text))
+        self.assertTrue(Axis(rows, "a").is_log)
+        texts = self.texts(text, "--column", "q.age_p95", "--width", "1000")
+        for number in numbers:
+            self.assertIn(str(number), texts)
+        for numbers in ((1, 2, 3, 4, 5, 30), (0, 1, 2, 900), (1, 900), (100, 101, 102, 150)):
+            text = "a,failed,queue,age_p95\n" + "".join(f"{number},,q,1\n" for number in numbers)
+            is_log = numbers == (1, 2, 3, 4, 5, 30)
+            self.assertEqual(Axis(Rows(self.write("rows.csv", text)), "a").is_log, is_log, numbers)
+
+    def test_requirements(self):
+        texts = self.texts(ROWS, "--column", "q.age_p95", "--column", "q.sends", "--require", "q.age_p95<5s")
+        self.assertEqual(texts.count("required: q.age_p95<5s"), 1)
+        self.assertIn("5", texts)
+        with self.assertRaises(Fault) as fault:
+            self.texts(ROWS, "--column", "q.sends", "--require", "q.age_p95<5s")
+        self.assertEqual(str(fault.exception), "q.age_p95<5s: no --column is drawn of it")
+
+    def test_intervals_of_means(self):
+        """Of 100 and 400 the deviation is 150 sqrt(2), and Student's quantile for one degree of freedom 12.7062."""
+        rows = Rows(self.write("rows.csv", ROWS))
+        curve, = curves_of(rows, "queue.q.visibility_s", "q.age_p95")
+        self.assertAlmostEqual(curve.half_width("5"), 12.7062 * 150, places=1)
+        folded = FOLDED.replace("age_p95_greatest", "age_p95_greatest,age_p95_half_width")
+        folded = folded.replace(",400\n", ",400,77.5\n").replace(",3000\n", ",3000,\n")
+        curve, = curves_of(Rows(self.write("rows.csv", folded)), "queue.q.visibility_s", "q.age_p95")
+        self.assertEqual((curve.half_width("5"), curve.half_width("20"), curve.half_width("60")), (77.5, None, None))
 
     def test_texts(self):
         texts = self.texts(ROWS, "--column", "q.age_p95", "--column", "q.sends", "--column", "r.age_p95")
@@ -130,6 +162,8 @@ class Curves(Readable):
         run = subprocess.run(command, input=rows, text=True, capture_output=True)
         self.assertEqual((status, run.returncode, run.stderr), (0, 0, ""))
         self.assertIn("mean, and least to greatest, of 4 runs", run.stdout)
+        self.assertIn("<title>What count.left does</title>\n <desc>jobs.age_p95: mean, and least to greatest, of 4 "
+                      "runs (bars: 95 % interval of the mean)</desc>", run.stdout)
 
 
 LONG_WORDS = "a,failed,queue,sends\n" + "".join(f"w{number},,q,1\n" for number in range(41))

@@ -1,4 +1,4 @@
-"""Tests tools/explain with a stand-in for the program that refuses as it is told, and with the program itself."""
+"""Tests tools/explain with a stand-in for the program that refuses as a test asks, and with the program itself."""
 import contextlib
 import glob
 import io
@@ -9,7 +9,7 @@ import tomllib
 import unittest
 
 from tool import PROGRAM, ROOT, TOOLS, ToolCase, module_of, needs_program
-from positions import Positions
+from rehearse_tools.positions import Positions
 
 TOP = "version = 1\nhorizon = 60000\n"
 ORDERS = TOP + """
@@ -42,7 +42,7 @@ sys.exit(os.environ["REFUSAL"])
 PAID = '[[queue]]\nname = "paid"\n'
 INLINE = TOP + 'queue = [{name = "q", latency_ms = 3}, {name = "d.fifo", hosts = 2}]\n'
 ACTOR = ORDERS + '[[actor]]\nname = "{}"\nkind = "{}"\nqueue = "{}"\n'
-# Scenarios, how each is refused, where, and what is told.
+# Scenarios, how each is refused, where, and what is printed.
 REASONS = (
     (ORDERS.replace("delay_s", "dely_s"), "11 UnknownKey at queue[0].dely_s", "6:1",
      "dely_s is no key of the queue orders; it has name, visibility_s, delay_s, retention_s, in_flight, "
@@ -98,7 +98,7 @@ class Explain(ToolCase):
         os.chmod(self.program, 0o755)
 
     def explained(self, text, refusal, *words):
-        """What is told of a scenario that is refused so."""
+        """What is printed of a scenario that is refused so."""
         self.write("s.toml", text)
         status, out, err = self.run_tool("explain", "s.toml", *words, SQS_REHEARSE=self.program, REFUSAL=refusal)
         self.assertEqual((status, err), (1, ""))

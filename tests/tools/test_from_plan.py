@@ -1,11 +1,17 @@
 """Tests tools/from-plan on plans of Terraform and templates of CloudFormation written by hand."""
+import contextlib
+import copy
+import io
 import json
 import os
+import random
 import subprocess
 import sys
+import tomllib
 import unittest
 
-from tool import PROGRAM, ROOT, TOOLS, ToolCase, needs_program
+from tool import PROGRAM, ROOT, TOOLS, ToolCase, module_of, needs_program
+from rehearse_tools.console import Fault
 
 ARN = "arn:aws:sqs:eu-central-1:123456789012:"
 
@@ -131,9 +137,8 @@ delay_s = 0
 dead_letter = "Failed"
 max_receives = 3
 latency_ms = 7
-# DEFAULT: retention_s of 345600, as MessageRetentionPeriod is not given.
+# DEFAULT: retention_s of 345600, as MessageRetentionPeriod is not known: Unset has no default in the template.
 # DEFAULT: latency_ms of 7, how long a redrive takes, as nothing tells it.
-# DEFAULT: MessageRetentionPeriod is not known, as Unset has no default in the template.
 
 [[queue]]
 name = "Failed"
@@ -151,6 +156,67 @@ dead_letter = "old.fifo"
 max_receives = 2
 latency_ms = 7
 """
+SAM = """Transform: AWS::Serverless-2016-10-31
+Parameters:
+  Stage: {Type: String, Default: test}
+Mappings:
+  Times: {prod: {Visibility: 70}, test: {Visibility: 20}}
+Conditions:
+  IsProd: !Equals [!Ref Stage, prod]
+  IsOther: !Not [!Condition IsProd]
+Resources:
+  Jobs:
+    Type: AWS::SQS::Queue
+    Properties:
+      VisibilityTimeout: !If [IsOther, !Ref AWS::NoValue, 90]
+  Extra:
+    Type: AWS::SQS::Queue
+    Condition: IsProd
+    Properties: {VisibilityTimeout: !FindInMap [Times, !Ref Stage, Visibility]}
+  News: {Type: AWS::SNS::Topic}
+  NewsToJobs:
+    Type: AWS::SNS::Subscription
+    Properties: {Protocol: sqs, TopicArn: !Ref News, Endpoint: !GetAtt Jobs.Arn}
+  Work:
+    Type: AWS::Serverless::Function
+    Properties:
+      Events:
+        Job:
+          Type: SQS
+          Properties:
+            Queue: !GetAtt Jobs.Arn
+            BatchSize: 4
+            FunctionResponseTypes: [ReportBatchItemFailures]
+            ScalingConfig: {MaximumConcurrency: 2}
+        Web: {Type: Api, Properties: {Path: /}}
+  Old:
+    Type: AWS::Lambda::EventSourceMapping
+    Condition: IsProd
+    Properties: {FunctionName: !Ref Old, EventSourceArn: !Sub "${Extra.Arn}"}
+"""
+HERE = os.path.dirname(os.path.abspath(__file__))
+STORED = ("modules/plan.json", "nested/plan.json", "wiring/plan.json", "wiring/state.json")
+TEMPLATE_IN_JSON = {
+    "Conditions": {"C": {"Fn::Not": [{"Fn::Equals": [{"Ref": "P"}, "x"]}]}}, "Parameters": {"P": {"Default": "y"}},
+    "Resources": {
+        "Q": {"Type": "AWS::SQS::Queue", "Properties": {"DelaySeconds": {"Fn::If": ["C", 1, {"Ref": "AWS::NoValue"}]}}},
+        "F": {"Type": "AWS::Serverless::Function", "Properties": {"Events": {
+            "E": {"Type": "SQS", "Properties": {"Queue": {"Fn::GetAtt": ["Q", "Arn"]}, "BatchSize": 3}}}}},
+        "T": {"Type": "AWS::SNS::Topic", "Properties": {"Subscription": [
+            {"Protocol": "sqs", "Endpoint": {"Fn::Sub": "${Q.Arn}"}}]}}}}
+OTHERS = (None, 0, -1, 1.5, "", [], {}, True, "x", ["a"], {"a": 1}, "module.a", "each.value", "[[", "a" * 2_000,
+          {"Ref": "Q"}, {"Fn::If": ["C", 1, 2]}, {"Condition": "C"})
+from_plan = module_of("from-plan")
+
+
+def change(found, chance):
+    """Puts another value in the place of one of a document, wherever chance leads."""
+    while found:
+        key = chance.choice(list(found) if isinstance(found, dict) else range(len(found)))
+        if not isinstance(found[key], (dict, list)) or not found[key] or chance.random() < 0.1:
+            found[key] = copy.deepcopy(chance.choice(OTHERS))
+            return
+        found = found[key]
 
 
 class FromPlan(ToolCase):
@@ -195,6 +261,93 @@ class FromPlan(ToolCase):
         self.assertIn("# DEFAULT: no dead-letter queue, as the plan does not tell which one its policy names.\n",
                       self.made(json.dumps(plan)))
 
+    def stored(self, name):
+        """The scenario that is made of a stored plan, and what standard error reports."""
+        status, out, err = self.run_tool("from-plan", os.path.join(HERE, "plans", name))
+        self.assertEqual(status, 0, err)
+        return tomllib.loads(out), err
+
+    def dead_letters(self, scenario):
+        """For each queue with a dead-letter queue its name and after how many receives."""
+        return {queue["name"]: (queue["dead_letter"], queue["max_receives"]) for queue in scenario["queue"]
+                if "dead_letter" in queue}
+
+    def test_modules_with_for_each_whose_resources_have_count(self):
+        """max_receives is what main.tf says, but for audit, pay and ship, whose number the plan does not have."""
+        scenario, err = self.stored("modules/plan.json")
+        self.assertEqual(self.dead_letters(scenario), {
+            "orders": ("orders-dlq", 3), "in-voices-": ("in-voices--dlq", 6), "mail": ("mail-dlq", 7),
+            "audit": ("mail-dlq", 10), "pay": ("pay-dlq", 10), "ship": ("ship-dlq", 10)})
+        for queue, by in (("orders", "each.value"), ("mail", "var.redrive_policy")):
+            self.assertRegex(err, f"from-plan: {queue}: DEFAULT: max_receives of ., the number of {by}, to which")
+        # a dead-letter queue has no actors of its own
+        self.assertEqual(len(scenario["actor"]), 12)
+
+    def test_modules_in_modules(self):
+        scenario, _ = self.stored("nested/plan.json")
+        self.assertEqual(self.dead_letters(scenario), {
+            f"{team}-work-{number}-{kind}": (f"{team}-dead", 4)
+            for team in "ab" for number in (0, 1) for kind in ("fast", "slow")})
+
+    def test_mappings_and_subscriptions(self):
+        """By main.tf: 3 calls at once of batches of 5 for orders, and no limit and batches of 100 for audit."""
+        for name in ("wiring/plan.json", "wiring/state.json"):
+            scenario, err = self.stored(name)
+            self.assertEqual(self.dead_letters(scenario), {"orders": ("orders-failed", 6)})
+            actors = [(actor["name"], actor["queue"], actor.get("batch")) for actor in scenario["actor"]]
+            self.assertEqual(actors, [
+                ("events-to-audit", "audit", None), *((f"audit-all-{i}", "audit", 10) for i in range(1, 6)),
+                ("events-to-orders", "orders", None), *((f"work-{i}", "orders", 5) for i in range(1, 4)),
+                ("plain-sender", "plain", None), ("plain-worker", "plain", 1)])
+            self.assertTrue(all((actor["wait_s"], actor["idle_ms"]) == (20, 1)
+                                for actor in scenario["actor"] if actor["kind"] == "consumer"))
+            for place, told in (
+                    ("aws_lambda_event_source_mapping.work", "its batching window of 2 s is left out"),
+                    ("aws_lambda_event_source_mapping.audit", "it does not report batch item failures"),
+                    ("aws_lambda_event_source_mapping.audit", "a batch of 10, the most of a scenario, in place of 100"),
+                    ('aws_sns_topic_subscription.queues["audit"]', "its filter policy is left out"),
+                    ('aws_sns_topic_subscription.queues["orders"]', "the same messages go to audit")):
+                self.assertIn(f"from-plan: {place}: {told}", err)
+            self.assertIn("from-plan: aws_lambda_event_source_mapping.elsewhere is left out: ", err)
+            self.assertNotIn("work: it does not report", err)
+
+    def test_a_policy_that_cannot_be_placed(self):
+        """Standard error names it, and the queues are made without it."""
+        queues = [resource(f"aws_sqs_queue.{name}", name=name) for name in "ab"]
+        policy = resource("aws_sqs_queue_redrive_policy.p", of="aws_sqs_queue_redrive_policy")
+        plan = {"planned_values": {"root_module": {"resources": [*queues, policy]}}, "configuration": {"root_module": {
+            "resources": [configured("aws_sqs_queue_redrive_policy.p", queue_url=["local.url"])]}}}
+        self.assertIn("# DEFAULT: no dead-letter queue by aws_sqs_queue_redrive_policy.p, as the plan does not tell "
+                      "whose it is.\n", self.made(json.dumps(plan)))
+
+    def test_references_without_end(self):
+        """Modules whose outputs refer to each other end in one line."""
+        call = {"expressions": {"v": {"references": ["module.b.out", "module.c.out"]}}, "module": {
+            "outputs": {"out": {"expression": {"references": ["var.v", "var.v.x", "var.v.y"]}}},
+            "resources": [configured("aws_sqs_queue.q", redrive_policy=["var.v"])]}}
+        children = [{"resources": [resource(f"module.{name}.aws_sqs_queue.q", name=name)]} for name in "abc"]
+        plan = {"planned_values": {"root_module": {"child_modules": children}},
+                "configuration": {"root_module": {"module_calls": {name: call for name in "abc"}}}}
+        status, out, err = self.run_tool("from-plan", self.write("given", json.dumps(plan)))
+        self.assertEqual((status, out, err), (2, "", "from-plan: the plan has over 1,000,000 references\n"))
+
+    def test_sam_and_conditions(self):
+        """By the parameter Stage the queue Extra is there, and the visibility timeout of Jobs is given."""
+        made = tomllib.loads(self.made(SAM))
+        self.assertEqual([(queue["name"], queue.get("visibility_s")) for queue in made["queue"]], [("Jobs", None)])
+        self.assertEqual([(actor["name"], actor["queue"], actor.get("batch")) for actor in made["actor"]],
+                         [("News-to-Jobs", "Jobs", None), ("Work-1", "Jobs", 4), ("Work-2", "Jobs", 4)])
+        made = tomllib.loads(self.made(SAM, "--parameter", "Stage=prod"))
+        self.assertEqual([(queue["name"], queue.get("visibility_s")) for queue in made["queue"]],
+                         [("Jobs", 90), ("Extra", 70)])
+        self.assertEqual([(actor["name"], actor["queue"], actor.get("batch")) for actor in made["actor"][3:]],
+                         [("Extra-sender", "Extra", None), *((f"Old-{i}", "Extra", 10) for i in range(1, 6))])
+        for words, line in ((("--parameter", "Stage"), "Stage is no parameter, as Stage=prod"),
+                            (("--parameter", "Other=1"), "the template has no parameter Other")):
+            self.assert_fault(self.run_tool("from-plan", self.write("given", SAM), *words), f"from-plan: {line}")
+        self.assert_fault(self.run_tool("from-plan", self.write("given", json.dumps(PLAN)), "--parameter", "a=b"),
+                          "from-plan: --parameter goes with a template; a plan has the values of its variables")
+
     def test_template(self):
         self.assertTrue(self.made(TEMPLATE, "--latency", "7").startswith(TEMPLATE_TABLES))
 
@@ -234,6 +387,8 @@ class FromPlan(ToolCase):
         for data in (b"\x00\xff", bytes(range(256)), b"{" * 100_000, b"[" * 100_000, b"- " * 100_000, b"a: !x {b: [",
                      b"\xff\xfea", b'{"Resources": {"A"', b"{\"values\": " + b"9" * 9_000 + b"}", b"? [a]\n: b\n",
                      b'{"values": {"root_module": {"resources": [5, {"type": "aws_sqs_queue", "values": 3}]}}}',
+                     b'{"Resources": {"A": {"Type": ["AWS::SQS::Queue"]}}}',
+                     b'{"Resources": {"A": {"Type": "AWS::Serverless::Function", "Properties": {"Events": {"E": 1}}}}}',
                      b"Resources: {A: {Type: 'AWS::SQS::Queue', Properties: {DelaySeconds: [1]}}}"):
             with open(self.path("given"), "wb") as file:
                 file.write(data)
@@ -241,8 +396,29 @@ class FromPlan(ToolCase):
                 status, out, err = self.run_tool("from-plan", "given")
                 self.assertEqual((status, out, len(err.splitlines())), (2, "", 1), err)
 
+    def test_plans_with_other_values(self):
+        """Some value of a stored plan or template is another one: that is a scenario or a fault, and no traceback."""
+        chance, ends = random.Random(7), []
+        documents = [json.loads(text) for text in (*map(self.text_of, sorted(STORED)), json.dumps(TEMPLATE_IN_JSON))]
+        for _ in range(300):
+            document = copy.deepcopy(chance.choice(documents))
+            for _ in range(chance.choice((1, 1, 3))):
+                change(document, chance)
+            path, told = self.write("given", json.dumps(document)), io.StringIO()
+            with contextlib.redirect_stdout(io.StringIO()), contextlib.redirect_stderr(told):
+                try:
+                    ends.append(from_plan.main([path]))
+                except Fault as fault:
+                    ends.append(str(fault))
+            self.assertNotIn("Traceback", told.getvalue())
+        self.assertGreater(ends.count(0), 150)
+
+    def text_of(self, name):
+        with open(os.path.join(HERE, "plans", name), encoding="utf-8") as file:
+            return file.read()
+
     def test_without_its_library(self):
-        """The package is told where the library is missing, and JSON needs none."""
+        """If the library is missing, the error names its package; JSON needs none."""
         code = "import sys; sys.modules['yaml'] = None; sys.argv[0] = sys.argv.pop(1); import runpy; " \
                "runpy.run_path(sys.argv[0], run_name='__main__')"
         for text, called, wanted in ((TEMPLATE, "", "tools/setup"), (json.dumps(PLAN), "", None),
@@ -278,7 +454,7 @@ class FromPlan(ToolCase):
 
     @needs_program
     def test_long_names_and_many_queues(self):
-        """Names of actors are cut, and are told apart."""
+        """Names of actors are cut, and stay distinct."""
         values = [resource(f"aws_sqs_queue.q{i}", name=("n" * 75) + f"{i:05}") for i in range(12)]
         plan = {"planned_values": {"root_module": {"resources": values}}}
         path = self.write("given", json.dumps(plan))

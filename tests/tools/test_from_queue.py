@@ -1,6 +1,8 @@
 """Tests tools/from-queue on attributes as SQS gives them."""
 import json
+import os
 import subprocess
+import tomllib
 import unittest
 
 from tool import PROGRAM, ToolCase, needs_program
@@ -72,6 +74,34 @@ class FromQueue(ToolCase):
         told = "from-queue: failed: DEFAULT: all its settings, as no file is of this dead-letter queue of orders"
         self.assertIn(told, err.splitlines())
 
+    def test_numbers_without_quotes(self):
+        """Attributes that someone wrote as numbers and truths are those of the texts."""
+        numbers = {key: int(value) if value.isdecimal() else {"true": True, "false": False}.get(value, value)
+                   for key, value in ORDERS.items()}
+        self.assertEqual(self.run_tool("from-queue", self.file("a.json", numbers)),
+                         self.run_tool("from-queue", self.file("b.json", ORDERS)))
+        self.assertIn(45, numbers.values())
+
+    @needs_program
+    def test_depth(self):
+        """2,501 wait and 7 are delayed by the queue's 5 s; 3 in flight are left out. They are there after a second."""
+        path = self.changed(ApproximateNumberOfMessages="2501", ApproximateNumberOfMessagesDelayed="7",
+                            ApproximateNumberOfMessagesNotVisible="3", DelaySeconds="5")
+        status, out, err = self.run_tool("from-queue", path, "--depth", "--horizon", "1000", "--output", "s.toml")
+        self.assertEqual((status, out), (0, ""))
+        self.assertIn("from-queue: orders: its 3 messages in flight are left out: ", err)
+        run = subprocess.run([PROGRAM, "run", "--log", os.devnull, self.path("s.toml")], capture_output=True, text=True)
+        self.assertEqual((run.returncode, run.stderr), (0, ""))
+        records = [line.split(",") for line in run.stdout.splitlines() if line.startswith("report,")]
+        report = dict(zip(records[0], next(record for record in records if record[1] == "orders")))
+        self.assertEqual([report[key] for key in ("sends", "visible", "delayed")], ["2508", "2501", "7"])
+        with open(self.path("s.toml"), "rb") as file:
+            actors = tomllib.load(file)["actor"]
+        self.assertEqual([(actor["name"], actor["count"], actor.get("delay_s")) for actor in actors],
+                         [("orders-depth-1", 834, 0), ("orders-depth-2", 834, 0), ("orders-depth-3", 833, 0),
+                          ("orders-depth-delayed-1", 7, None)])
+        self.assertIn("its present messages are left out", self.run_tool("from-queue", path)[2])
+
     def test_fifo_queue_by_its_url(self):
         url = "https://sqs.eu-central-1.amazonaws.com/123456789012/pay.fifo"
         inside = self.file("inside.json", {**PAYMENTS, "QueueUrl": url})
@@ -126,10 +156,13 @@ class FromQueue(ToolCase):
                           "from-queue: orders: two files are of a queue of this name")
         self.assert_fault(self.run_tool("from-queue", self.changed(FifoQueue="true")),
                           "from-queue: orders: FifoQueue is true, but the name does not end in .fifo")
-        for text in ("[]", "{}", '{"Attributes": []}', '{"Attributes": {"DelaySeconds": 1}}'):
+        for text in ("[]", "{}", '{"Attributes": []}'):
             path = self.write("bad.json", text)
             self.assert_fault(self.run_tool("from-queue", path),
                               f"from-queue: {path} has no Attributes as get-queue-attributes prints them")
+        path = self.file("bad.json", {**ORDERS, "DelaySeconds": [1]})
+        self.assert_fault(self.run_tool("from-queue", path),
+                          f"from-queue: {path}: its attribute DelaySeconds is no text: [1]")
         path = self.file("unnamed.json", {})
         self.assert_fault(self.run_tool("from-queue", path),
                           f"from-queue: {path} has neither QueueArn nor QueueUrl, so the queue's name is not known")
@@ -154,7 +187,7 @@ class FromQueue(ToolCase):
     def test_an_output_that_cannot_be_written(self):
         path = self.file("orders.json", ORDERS)
         self.assert_fault(self.run_tool("from-queue", path, "--output", "orders.json/x"),
-                          "from-queue: cannot write orders.json/x: File exists")
+                          "from-queue: cannot write orders.json/x: Not a directory")
 
     def test_help_has_a_loop_for_an_account(self):
         status, out, _ = self.run_tool("from-queue", "--help")

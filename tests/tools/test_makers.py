@@ -28,6 +28,8 @@ class Bench(ToolCase):
             self.assertEqual((status, err, re.findall("count = ([0-9]+)", out)), (0, "", ["77"]))
         status, out, _ = self.run_tool("bench", "--scenario", "net")
         self.assertEqual((status, out.count("[[queue]]")), (0, 1_000))
+        status, out, _ = self.run_tool("bench", "--scenario", "quiet", "77")
+        self.assertEqual((status, out.splitlines()[1]), (0, "horizon = 4620000"))
 
     def test_faults(self):
         usage = ("a PROGRAM is needed, or --scenario and a KIND; then a SIZE and a TEMPO may follow (--help tells the "
@@ -41,7 +43,7 @@ class Bench(ToolCase):
                 ((shutil.which("false"),), f"{shutil.which('false')} does not run"),
                 ((echo,), f"{echo} makes no log: it is another program"),
                 (("./script",), f"{self.path('script')} is a script, and not the program itself"),
-                ((echo, "two"), "there is no kind two; kinds are one, many, fifo, ring, net"),
+                ((echo, "two"), "there is no kind two; kinds are one, many, fifo, ring, net, quiet"),
                 ((echo, "one", "0"), "SIZE is 1 to 1,000,000,000, and not 0"),
                 (("--scenario", "one", "1", "-1"), "TEMPO is 1 to 1,000,000,000, and not -1"),
                 (("--scenario", "one", "1", "x"), "TEMPO is 1 to 1,000,000,000, and not x")):
@@ -87,6 +89,6 @@ class Cases(ToolCase):
         self.assert_fault(self.run_tool("compute_cases.py", "out", "none"),
                           "compute_cases.py: cannot read none: No such file or directory")
         self.assert_fault(self.run_tool("compute_cases.py", "cases/a.toml/x", "cases"),
-                          "compute_cases.py: cannot write cases/a.toml/x: File exists")
+                          "compute_cases.py: cannot write cases/a.toml/x: Not a directory")
         self.assertEqual(self.run_tool("compute_cases.py", "--help")[0::2], (0, ""))
         self.assertEqual(os.listdir(self.folder), ["cases"])

@@ -1,4 +1,5 @@
 """Tests tools/metrics on a log whose numbers are worked out by hand."""
+import json
 import os
 import subprocess
 import sys
@@ -88,6 +89,57 @@ class Metrics(ToolCase):
         quiet = "--alarm", "NumberOfMessagesSent>2", "--alarm", "d.ApproximateAgeOfOldestMessage>170 for 3"
         self.assertEqual(self.run_tool("metrics", log, *quiet), (0, "no alarm rings\n", ""))
 
+    def measured(self, *results, **more):
+        return self.write("m.json", json.dumps({"MetricDataResults": list(results), **more}))
+
+    def test_against_what_was_measured(self):
+        """Of a 2, 0, 0, 0, 0 were rehearsed and 3, 0, 1 measured; the age of d is 59 s and was 60.5 s."""
+        log, minutes = self.write("log", LOG), [f"2024-05-07T10:0{minute}:00+00:00" for minute in range(9)]
+        sent = {"Id": "s", "Label": "a NumberOfMessagesSent", "StatusCode": "Complete", "Timestamps": minutes[2::-1],
+                "Values": [1.0, 0.0, 3.0]}
+        age = {"Id": "x", "Label": "d ApproximateAgeOfOldestMessage", "Timestamps": [minutes[1], minutes[8]],
+               "Values": [60.5, 1]}
+        path, header = self.measured(sent, age), "second,queue,metric,rehearsed,measured,difference\n"
+        rows = "".join(f"{60 * place},a,NumberOfMessagesSent,{numbers}\n"
+                       for place, numbers in enumerate(("2,3,-1", "0,0,0", "0,1,-1")))
+        rows += "60,d,ApproximateAgeOfOldestMessage,59,60.5,-1.5\n"
+        told = ("metrics: d ApproximateAgeOfOldestMessage: 1 of 2 measured periods are not in the run",
+                "metrics: a NumberOfMessagesSent: 3 periods, mean 0.667 rehearsed, 1.333 measured (-50 %); 0.667 apart "
+                "on average, at most 1 at 0:00:00.000",
+                "metrics: d ApproximateAgeOfOldestMessage: 1 period, mean 59 rehearsed, 60.5 measured (-2 %); 1.5 "
+                "apart on average, at most 1.5 at 0:01:00.000")
+        self.assertEqual(self.run_tool("metrics", log, "--against", path),
+                         (0, header + rows, "".join(f"{line}\n" for line in told)))
+        origin = "--origin", "2024-05-07T09:59:00Z"
+        self.assertEqual(self.run_tool("metrics", log, "--against", self.measured(sent), *origin)[1],
+                         header + "".join(f"{60 * place},a,NumberOfMessagesSent,{numbers}\n"
+                                          for place, numbers in ((1, "0,3,-3"), (2, "0,0,0"), (3, "0,1,-1"))))
+        points = [{"Timestamp": minutes[0], "Sum": 2.0, "Unit": "Count"}]
+        path = self.write("m.json", json.dumps({"Label": "NumberOfMessagesSent", "Datapoints": points}))
+        self.assertEqual(self.run_tool("metrics", log, "--against", path, "--queue", "a")[1],
+                         header + "0,a,NumberOfMessagesSent,2,2,0\n")
+        for words, line in (
+                (("--against", path), "the label NumberOfMessagesSent names 0 queues of the log, and has to name one"),
+                (("--against", self.path("m2.json")), f"{self.path('m2.json')} is not what `aws cloudwatch "
+                 "get-metric-data` prints"),
+                (("--against", path, "--queue", "a", "--origin", "2024-05-07T09:59:30Z"),
+                 "a measured period begins 0:00:30.000 from the origin, which is no whole number of periods of 60 s"),
+                (("--against", path, "--alarm", "NumberOfMessagesSent>1"), "--against and --alarm do not go together"),
+                (("--origin", "0"), "--origin goes with --against")):
+            self.write("m2.json", "{}")
+            with self.subTest(words=words):
+                self.assert_fault(self.run_tool("metrics", log, *words), f"metrics: {line}")
+
+    def test_measurements_of_other_kinds(self):
+        log = self.write("log", LOG)
+        for text in ("", "[]", "5", '{"MetricDataResults": [1]}', '{"MetricDataResults": [{"Timestamps": [1]}]}',
+                     '{"MetricDataResults": []}', '{"Datapoints": [{"Timestamp": "x", "Sum": 1}]}',
+                     '{"Datapoints": [{"Timestamp": "1"}]}', '{"Datapoints": [{"Timestamp": "1", "Sum": NaN}]}',
+                     '{"Label": "Age", "Datapoints": [{"Timestamp": "1", "Sum": 1}]}'):
+            with self.subTest(text=text):
+                status, out, err = self.run_tool("metrics", log, "--against", self.write("m.json", text))
+                self.assertEqual((status, out, len(err.splitlines())), (2, "", 1), err)
+
     def test_faults(self):
         log = self.write("log", LOG)
         names = NAMES.strip().removeprefix("second,queue,").replace(",", ", ")
@@ -97,7 +149,7 @@ class Metrics(ToolCase):
                 ((log, "--period", "1m"), "argument --period: invalid int value: '1m' (--help tells the usage)"),
                 ((log, "--queue", "x"), "no row of the log is of queue x"),
                 ((log, "--alarm", "x.NumberOfMessagesSent>1"), "no row of the log is of queue x"),
-                ((log, "--output", "log/x"), "cannot write log/x: File exists"),
+                ((log, "--output", "log/x"), "cannot write log/x: Not a directory"),
                 *(((log, "--alarm", text), f"{text} is no alarm, as 'ApproximateAgeOfOldestMessage>300 for 5'; the "
                    f"metrics are {names}") for text in ("Age>3", "NumberOfMessagesSent>", "NumberOfMessagesSent",
                                                         "NumberOfMessagesSent>1 for 0"))):

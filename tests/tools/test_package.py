@@ -21,6 +21,7 @@ import manual
 
 # A program in the place of ours, which tells the words that it is given.
 ECHO = shutil.which("echo")
+PATH = os.environ["PATH"]
 VERSION = pathlib.Path(ROOT, "tools", "VERSION").read_text().strip()
 TOOL_HELP = """Counts rows:
 
@@ -94,6 +95,7 @@ class Package(PackageCase):
                          (2, "", "sqs_rehearse-summary: cannot read none: No such file or directory\n"))
         self.assertTrue(os.path.exists(f"{root}/usr/share/doc/sqs-rehearse/docs/FORMATS.md"))
         self.assertFalse(os.path.exists(f"{root}/usr/lib/sqs_rehearse/tools/package"))
+        self.check_tools(root)
         self.assertEqual(self.run_in(os.path.dirname(package), "sha256sum", "--check", "--quiet", "SHA256SUMS"),
                          (0, "", ""))
         depends = self.run_in("/", "dpkg-deb", "--field", package, "Depends")[1]
@@ -107,6 +109,18 @@ class Package(PackageCase):
                          pathlib.Path(ECHO).read_bytes())
         self.check_documents(f"{root}/usr/share/doc/sqs-rehearse")
         self.check_help(f"{root}/usr")
+
+    def check_tools(self, root):
+        """The package of the tools is whole, without what Python keeps; `sqs_rehearse TOOL` is sqs_rehearse-TOOL."""
+        installed = f"{root}/usr/lib/sqs_rehearse/tools/rehearse_tools"
+        self.assertEqual({path.name for path in pathlib.Path(TOOLS, "rehearse_tools").glob("*.py")},
+                         {name for name in os.listdir(installed) if name != "__pycache__"})
+        listed = self.run_in("/", "dpkg-deb", "--contents", self.made)[1]
+        self.assertTrue("rehearse_tools/summary.py" in listed and "__pycache__" not in listed, listed)
+        for command in ("sqs_rehearse summary", "sqs_rehearse-summary"):
+            name, *words = command.split()
+            status, out, err = self.run_in("/", f"{root}/usr/bin/{name}", *words, "none", PATH=f"{root}/usr/bin:{PATH}")
+            self.assertEqual((status, out, err), (2, "", f"{command}: cannot read none: No such file or directory\n"))
 
     def check_documents(self, folder):
         """What Debian asks for is there; commands are those of the package, and no link leads to nothing."""
@@ -139,7 +153,7 @@ class Package(PackageCase):
         """Also not what Python keeps beside the tools when root has run one."""
         root = self.installed(self.made)
         self.run_in("/", f"{root}/usr/bin/sqs_rehearse-summary", "none")
-        kept = f"{root}/usr/lib/sqs_rehearse/tools/__pycache__"
+        kept = f"{root}/usr/lib/sqs_rehearse/tools/rehearse_tools/__pycache__"
         self.assertTrue(os.path.isdir(kept))
         if os.geteuid() == 0:
             self.dpkg("--remove", "sqs-rehearse")
@@ -185,7 +199,7 @@ class Package(PackageCase):
         for words, line in (
                 (("--program", "/none"), "there is no program /none"),
                 (("--program", "./script"), f"{self.path('script')} is a script, and not the program itself"),
-                (("--program", ECHO, "--output", "file"), "cannot write file/SHA256SUMS: File exists"),
+                (("--program", ECHO, "--output", "file"), "cannot write file/SHA256SUMS: Not a directory"),
                 (("x",), "unrecognized arguments: x (--help tells the usage)")):
             with self.subTest(words=words):
                 self.assert_fault(self.run_tool("package", *words), f"package: {line}")
@@ -326,7 +340,7 @@ class Helps(ToolCase):
     def setUp(self):
         super().setUp()
         self.script = self.write("script", completions.script(("sqs_rehearse --see it", "", {}), {
-            "count": TOOL_HELP, **{name: helps.text_of(os.path.join(TOOLS, name)) for name in self.tools()}}))
+            "count": TOOL_HELP, **{name: helps.text_of(name) for name in self.tools()}}))
 
     def tools(self):
         return ("summary", "sweep", "life", "metrics", "picture", "report", "explain", "arrivals", "setup")
@@ -376,7 +390,7 @@ class Helps(ToolCase):
     @unittest.skipUnless(shutil.which("groff"), "groff is not here")
     def test_groff_finds_nothing_wrong(self):
         for name in self.tools():
-            text = helps.text_of(os.path.join(TOOLS, name))
+            text = helps.text_of(name)
             self.write(f"{name}.1", manual.page_of_tool(name, text, (VERSION, 0), "/doc"))
         run = subprocess.run(["groff", "-man", "-ww", "-z", *(self.path(f"{name}.1") for name in self.tools())],
                              capture_output=True, text=True)
@@ -388,7 +402,7 @@ class Helps(ToolCase):
         self.write("run.log", "at,queue,agent\n0,orders,shop\n5,failed,shop\nfinal,queue,x\n")
         cases = {
             "sqs_rehearse su": ["summary"], "sqs_rehearse --": ["--help", "--see", "--version"],
-            "sqs_rehearse-summary --": ["--help", "--json", "--queue"],
+            "sqs_rehearse-summary --": ["--backlog", "--door", "--from", "--help", "--json", "--queue", "--to"],
             "sqs_rehearse summary s.toml run.log --j": ["--json"],
             "sqs_rehearse arrivals ": ["bursts", "hours", "metric", "poisson", "times"],
             "sqs_rehearse arrivals times ru": ["run.log"],
@@ -408,7 +422,7 @@ class Helps(ToolCase):
     def test_each_option_is_completed(self):
         lines = [["sqs_rehearse", name, "--"] for name in self.tools()[:7]]
         for line, options in zip(lines, completed(self.script, self.folder, lines)):
-            text = pathlib.Path(TOOLS, line[1]).read_text()
+            text = pathlib.Path(helps.source_of(line[1])).read_text()
             self.assertEqual(options, sorted({"--help", *re.findall(r'add_argument\("(--[a-z-]+)"', text)}), line[1])
 
 

@@ -8,10 +8,12 @@ import subprocess
 import sys
 import unittest
 
-from tool import ROOT, TOOLS, ToolCase, module_of, needs_program
-from console import Fault, library
-from logs import Log
-from histories import PLACES, BadRow, Histories, History, ages_in, counts_in, levels, oldest, thinned
+from tool import ROOT, TOOLS, ToolCase, module_of, needs_program, row_of
+from rehearse_tools.console import Fault, library
+from rehearse_tools.logs import Log
+from rehearse_tools.histories import (PLACES, Course, Histories, History, ages_in, counts_in, course_of, levels,
+                                      oldest)
+from rehearse_tools.replay import BadRow
 
 try:
     numpy, matplotlib = library("numpy", "python3-numpy"), library("matplotlib", "python3-matplotlib")
@@ -32,6 +34,11 @@ LOG = HEADER + """0,a,shop,send,new,m-0-0,,900150983cd24fb0d6963f7d28e17f72
 6000,a,a,redrive,out,m-0-1,,d
 6020,d,a,arrive,new,m-1-0,,o-0-1
 """
+REPORT_HEADERS = "final,queue,message,origin,place,due,enqueued,receives,group,md5\n" \
+    "report,queue,sends,repeats,receives,empties,deletes,expiries,redrives,moves,arrivals,OverLimit," \
+    "MessageNotInflight,ReceiptHandleIsInvalid,BadTimeout,MissingGroup,MissingDeduplication,BadDelay," \
+    "TaskRunning,NoTask,depth_max,visible,in_flight,delayed,age_sum,age_max,age_p50,age_p95,age_p99\n"
+REPORT_OF_QUIET = REPORT_HEADERS + "report,quiet" + ",0" * 23 + "," * 4 + "\n"
 
 
 def histories_of(path):
@@ -62,32 +69,32 @@ class Counts(ToolCase):
     def test_the_oldest_message(self):
         """m-0-0 is the oldest until it is deleted at 2,500 ms; then it is m-0-1, which came at 5, until 6,000."""
         a = histories_of(self.write("log", LOG)).queues["a"]
-        times, ages = oldest(a, 0, 6020, 100)
+        times, ages = oldest(a, 0, 6020).corners()
         found = [(int(at), None if numpy.isnan(age) else int(age)) for at, age in zip(times, ages)]
         self.assertEqual([pair for pair, _ in itertools.groupby(found)],
                          [(0, 0), (2500, 2500), (2500, 2495), (6000, 5995), (6000, None), (6020, None)])
-        times, ages = oldest(a, 1000, 2000, 100)
+        times, ages = oldest(a, 1000, 2000).corners()
         self.assertEqual(pairs((times, ages)), [(1000, 1000), (2000, 2000)])
 
     def test_messages_that_leave_out_of_order(self):
         """Of three messages the second and the first are deleted; the third, received since, is then the oldest."""
         queue = History("q")
         for at in range(3):
-            queue.enter(at, f"m-7-{at}", "")
-        queue.receive(5, "m-7-2", "")
-        queue.delete(10, "m-7-1", "9")
-        queue.delete(20, "m-7-0", "20")
+            queue.enters(*row_of(at, f"m-7-{at}"))
+        queue.received(*row_of(5, "m-7-2"))
+        queue.deleted(*row_of(10, "m-7-1", "9"))
+        queue.deleted(*row_of(20, "m-7-0", "20"))
         self.assertEqual((queue.entered, queue.left, queue.peak, queue.peak_at, queue.number), (3, 1, 3, 2, 7))
         self.assertEqual((list(queue.oldest_at), list(queue.sinces)), ([0, 20], [0, 2]))
-        queue.expire(30, "m-7-2", "")
-        queue.enter(40, "m-7-3", "")
+        queue.expired(*row_of(30, "m-7-2"))
+        queue.enters(*row_of(40, "m-7-3"))
         self.assertEqual((list(queue.oldest_at)[2:], list(queue.sinces)[2:]), ([30, 40], [2 ** 32 - 1, 40]))
         for message in ("m-7-2", "m-7-4", "m-7-03", "m-7-+3", "m-7-3_", "m-7-\u0663", "m-8-3", "m-7--1", "",
                         "x" * 9_000):
-            for change in (queue.receive, queue.release, queue.expire):
-                self.assertRaises(BadRow, change, 50, message, "")
+            for change in (queue.received, queue.released, queue.expired):
+                self.assertRaises(BadRow, change, *row_of(50, message))
         for message in ("m-7-3", "m-7-5", "m-8-4", "m-7-04", ""):
-            self.assertRaises(BadRow, queue.enter, 50, message, "")
+            self.assertRaises(BadRow, queue.enters, *row_of(50, message))
 
     def test_ages_and_counts_of_bins(self):
         """Of the ages 1 to 20 in the first bin the ranks are 10, 19 and 20; nothing is in the second one."""
@@ -102,12 +109,46 @@ class Counts(ToolCase):
         self.assertEqual(found, [[10, None, 7], [19, None, 7], [20, None, 7]])
         self.assertEqual(list(counts_in(queue.deleted_at, bounds)), [20, 0, 1])
 
-    def test_thinned_lines_keep_peaks(self):
-        times, numbers = numpy.arange(100_000), numpy.zeros(100_000, dtype=int)
+    def test_extents_of_a_step(self):
+        """From 0 on it is 4, from 30 on 0, from 50 on 10, to 100. By fourths: 25 of 4; 5 of 4 and 20 of 0; then 10."""
+        found = course_of(numpy.array([0, 30, 50, 100]), numpy.array([4, 0, 10, 10])).extents(4)
+        self.assertEqual([list(numbers) for numbers in found],
+                         [[0, 25, 50, 75, 100], [4, 0.8, 10, 10], [4, 0, 10, 10], [4, 4, 10, 10]])
+
+    def test_extents_of_a_slope(self):
+        """It rises from 0 to 60 within 60 ms, is none for 20, and is 30 to 50 in the last 20 of 100."""
+        none = numpy.nan
+        course = Course(numpy.array([0, 60, 80, 100]), numpy.array([0, none, 30]), numpy.array([60, none, 50]))
+        for numbers, expected in zip(course.extents(5)[1:], (
+                [10, 30, 50, none, 40], [0, 20, 40, none, 30], [20, 40, 60, none, 50])):
+            numpy.testing.assert_allclose(numbers, expected, rtol=1e-6)
+
+    def test_extents_keep_peaks(self):
+        times, numbers = numpy.arange(100_001), numpy.zeros(100_001, dtype=int)
         numbers[77_777], numbers[33_333] = 9, -9
-        thin_times, thin_numbers = thinned(times, numbers, numbers, 500)
-        self.assertLess(len(thin_times), 2_100)
-        self.assertEqual((thin_numbers.max(), thin_numbers.min(), thin_times[0]), (9, -9, 0))
+        found = course_of(times, numbers).extents(500)
+        self.assertEqual((len(found.means), found.greatest.max(), found.least.min()), (500, 9, -9))
+        self.assertAlmostEqual(found.means[77_777 // 200], 9 / 200, places=6)
+
+    def test_the_oldest_message_of_many(self):
+        """4,100 messages come, one each 10 ms, and leave in turn from 1,800,000 ms on, one each 20 ms.
+
+        So the oldest of them is as old as the run for half an hour. Message n leaves at 1,800,000 + 20 n and message
+        n + 1 came at 10 (n + 1), so that the oldest is 1,799,990 + 10 n old from then on.
+        """
+        queue = History("q")
+        for number in range(4_100):
+            queue.enters(*row_of(10 * number, f"m-1-{number}"))
+        for number in range(4_100):
+            queue.moved(*row_of(1_800_000 + 20 * number, f"m-1-{number}"))
+        found = oldest(queue, 0, 2_400_000).extents(400)
+        for at, age in ((0, 0), (450_000, 450_000), (900_000, 900_000), (1_799_000, 1_799_000),
+                        (1_800_000 + 20 * 2_000, 1_799_990 + 10 * 2_000)):
+            # a column of time is 6,000 ms long
+            column = at // 6_000
+            self.assertAlmostEqual(float(found.means[column]), age, delta=6_000)
+            self.assertTrue(found.least[column] <= age <= found.greatest[column])
+        self.assertTrue(numpy.isnan(found.means[found.bounds[:-1] > 1_890_000]).all())
 
     def test_stored_reports(self):
         """What is left, deleted, redriven, moved and expired is what the stored report of each case says."""
@@ -123,7 +164,7 @@ class Counts(ToolCase):
                 report = dict(zip(records[0][2:], record[2:]))
                 queue = found.queues.get(record[1], History(record[1]))
                 last = [int(levels(queue, place, 0, found.last)[1][-1]) for place in PLACES.values()]
-                numbers = [*last, len(queue.ages), sum(queue.ages), len(queue.redrives), queue.moved,
+                numbers = [*last, len(queue.ages), sum(queue.ages), len(queue.redrives), queue.moves,
                            len(queue.expiries), queue.peak]
                 columns = "visible,in_flight,delayed,deletes,age_sum,redrives,moves,expiries,depth_max".split(",")
                 self.assertEqual(numbers, [int(report[column]) for column in columns], (path, record[1]))
@@ -138,12 +179,12 @@ class Counts(ToolCase):
                 if ",sample,ok," not in file.read():
                     continue
             found, alone = histories_of(path), {}
-            for row in Log(path).rows():
-                alone.setdefault((row.queue, row.at), []).append(row)
+            for at, name, _, call, *_, detail in Log(path).rows():
+                alone.setdefault((name, at), []).append((call, detail))
             for (name, at), rows in alone.items():
-                if len(rows) == 1 and rows[0].call == "sample":
+                if len(rows) == 1 and rows[0][0] == "sample":
                     counts = [int(levels(found.queues[name], place, 0, at)[1][-1]) for place in PLACES.values()]
-                    self.assertEqual("/".join(map(str, counts)), rows[0].detail, (path, name, at))
+                    self.assertEqual("/".join(map(str, counts)), rows[0][1], (path, name, at))
                     compared += 1
         self.assertGreater(compared, 100)
 
@@ -186,17 +227,48 @@ class Geometry(Readable):
         start = found.first if options.start is None else options.start
         end = found.last if options.end is None else options.end
         queues, left_out = found.chosen(options.queue, picture.QUEUES_MOST)
-        parts = [picture.Part(queue, start, end, options.width) for queue in queues]
+        requirements = [picture.Requirement(text) for text in options.require]
+        parts = [picture.Part(queue, start, end, options.width, requirements) for queue in queues]
         figure = picture.picture(parts, start, end, (options.title or "", left_out), options.width, options.height)
         return self.assert_readable(figure)
 
     def test_small_log(self):
         texts = self.texts_of(LOG)
         for text in ("visible", "in flight", "delayed", "redriven", "expired", "middle", "95 %", "greatest", "a", "d",
-                     "time (s)", "age when deleted (ms):", "oldest message", "0", "2"):
+                     "time (s)", "age when deleted (s):", "oldest message", "0", "2"):
             self.assertIn(text, texts)
         told = "Whole run: 2 came in, 1 deleted, 1 redriven, 0 left. The peak was 2 messages at 5\u00a0ms."
         self.assertIn(told, texts)
+
+    def test_requirements(self):
+        """A bound of an age is named, and drawn if it is not far above; one of another queue is neither."""
+        words = "--require", "a.age_p95<3s", "--require", "a.depth_max<=500", "--require", "a.age_max<1h"
+        texts = self.texts_of(LOG, *words)
+        for text in ("required: a.age_p95<3s; a.age_max<1h (far above)", "required: a.depth_max<=500 (far above)"):
+            self.assertEqual(texts.count(text), 1, texts)
+        self.texts_of(LOG, "--width", "640", *(word for i in range(99) for word in ("--require", f"a.age_p95<{i}s")))
+        self.assert_fault(self.run_tool("picture", self.path("log"), "--queue", "d", "--require", "a.age_p95<3s"),
+                          "picture: a.age_p95<3s: no queue a is drawn")
+
+    def test_ages_far_apart_have_a_logarithmic_axis(self):
+        """Of three ages two are 5 ms, and one a minute; times of 1 to 3 s are shown in seconds."""
+        log = HEADER + "".join(f"{at},q,p,send,new,m-0-{i},,x\n" for i, at in enumerate((0, 1, 2)))
+        log += "7,q,c,delete,deleted,m-0-1,r,5\n8,q,c,delete,deleted,m-0-2,r,5\n"
+        log += "60000,q,c,delete,deleted,m-0-0,r,60000\n"
+        texts = self.texts_of(log, "--height", "900")
+        for text in ("age when deleted, logarithmic:", "10 ms", "1 s", "10 s", "1 min"):
+            self.assertIn(text, texts)
+        self.assertIn("age when deleted (s):", self.texts_of(LOG.replace(",2500\n", ",1500\n")))
+
+    def test_a_picture_ends_with_the_traffic(self):
+        """The last message is gone after 1 s, and polls go on for an hour; where one is left they are drawn."""
+        rows = ["0,q,p,send,new,m-0-0,,x", "1000,q,c,delete,deleted,m-0-0,r,1000", "3600000,q,c,receive,empty,,,"]
+        told = "drawn until the traffic ends; the log goes on to 1 h 0 min"
+        soon = [*rows[:2], rows[2].replace("3600000", "1100")]
+        for lines, is_cut in ((rows, True), (rows[::2], False), (soon, False)):
+            out = self.run_tool("picture", self.write("log", HEADER + "\n".join(lines) + "\n"))[1]
+            self.assertEqual(told in out, is_cut, lines)
+            self.assertEqual("time (s)" in out, is_cut or "1100" in lines[-1])
 
     def test_panels_without_anything_are_left_out_and_told(self):
         texts = self.texts_of(LOG, "--queue", "d")
@@ -205,7 +277,7 @@ class Geometry(Readable):
         self.assertIn("no message was deleted and none was redriven or expired.", " ".join(texts))
 
     def test_a_queue_without_rows_is_drawn_where_it_is_asked_for(self):
-        texts = self.texts_of(LOG, "--queue", "quiet", "--queue", "a")
+        texts = self.texts_of(LOG + REPORT_OF_QUIET, "--queue", "quiet", "--queue", "a")
         self.assertIn("quiet", texts)
         self.assertIn("no message was there and no message was deleted", " ".join(texts))
 
@@ -248,6 +320,11 @@ class Tool(ToolCase):
         self.assertIn("My &lt;queues&gt;", text)
         self.assertIn("s.toml, version 1, seed 5", text)
 
+    def test_a_text_for_those_who_do_not_see_it(self):
+        out = self.run_tool("picture", self.write("log", LOG), "--title", "A <b>")[1]
+        self.assertIn("<title>A &lt;b&gt;</title>\n <desc>a: 2 came in, 1 deleted, 1 redriven, 0 left.\n"
+                      "d: 1 came in, 1 left.</desc>", out)
+
     def test_without_a_folder_for_matplotlib(self):
         """Matplotlib keeps what it finds of fonts in the user's folder; if there is none, nothing is said of it."""
         log, file = self.write("log", LOG), self.write("file", "")
@@ -258,7 +335,18 @@ class Tool(ToolCase):
         lost = LOG + "7000,d,d,expire,expired,m-1-0,,980\n"
         for log, told in ((LOG, []), (lost, ["Lost by expiry in the whole run: 1 in d"])):
             out = self.run_tool("picture", self.write("log", log), "--queue", "a", "--to", "2000")[1]
-            self.assertEqual(re.findall(r">(Lost [^<]*)<", out), told)
+            self.assertEqual(re.findall(r"<text [^>]*>(Lost [^<]*)<", out), told)
+
+    def test_letters_that_no_font_has(self):
+        """A PNG tells them in one line, unless a font of this machine has them; an SVG has them as they are."""
+        log, title = self.write("log", LOG), "orders \u6ce8\u6587"
+        status, out, err = self.run_tool("picture", log, "--title", title, "--output", "p.png")
+        self.assertEqual((status, out), (0, ""))
+        self.assertIn(err, ("", "picture: no font of this machine has \u6ce8\u6587: boxes stand there, and an SVG "
+                                "would leave them to its viewer\n"))
+        status, out, err = self.run_tool("picture", log, "--title", title)
+        self.assertEqual((status, err), (0, ""))
+        self.assertIn(title, out)
 
     def test_width_of_a_png(self):
         self.write("s.toml", "seed = 5\n")
@@ -282,21 +370,19 @@ class Tool(ToolCase):
 
     def test_faults(self):
         log = self.write("log", LOG)
-        report = self.write("all", LOG + "".join(f"{header}\n" for header in (
-            "final,queue,message,origin,place,due,enqueued,receives,group,md5",
-            "report,queue,sends,repeats,receives,empties,deletes,expiries,redrives,moves,arrivals,OverLimit,"
-            "MessageNotInflight,ReceiptHandleIsInvalid,BadTimeout,MissingGroup,MissingDeduplication,BadDelay,"
-            "TaskRunning,NoTask,depth_max,visible,in_flight,delayed,age_sum,age_max,age_p50,age_p95,age_p99")))
+        report = self.write("all", LOG + REPORT_HEADERS)
         for words, line in (
                 (("none",), "cannot read none: No such file or directory"),
                 ((self.write("empty", HEADER),), f"{self.path('empty')} has no rows to draw"),
                 ((report, "--queue", "x"), "the run has no queue x"),
+                ((log, "--queue", "x"), "no row of the log is of queue x, and no report follows it"),
+                ((log, "--title", "a\x01b"), "a title is one line of printable characters: 'a\\x01b'"),
                 ((log, "--width", "639"), "a width of 639 will not do: it is 640 to 20000"),
                 ((log, "--width", "x"), "argument --width: invalid int value: 'x' (--help tells the usage)"),
                 ((log, "--from", "9", "--to", "9"), "there is no time from 9 to 9 ms"),
                 ((log, "--output", "p.jpg"), "p.jpg ends in none of .svg, .png, .pdf"),
                 ((log, "--output", "p"), "p ends in none of .svg, .png, .pdf"),
-                ((log, "--output", "log/p.svg"), "cannot write log/p.svg: File exists"),
+                ((log, "--output", "log/p.svg"), "cannot write log/p.svg: Not a directory"),
                 ((log, "--scenario", "none.toml"), "cannot read none.toml: No such file or directory"),
                 ((log, "--height", "60000"), "a height of 60000 is too great: 50000 is the most"),
                 ((self.write("cut", "".join(LOG.splitlines(True)[:1] + LOG.splitlines(True)[3:])),),

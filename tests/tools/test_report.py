@@ -1,6 +1,7 @@
 """Tests tools/report with a stand-in for the program that prints a known run, and with the program itself."""
 import base64
 import gzip
+import hashlib
 import json
 import os
 import re
@@ -8,9 +9,9 @@ import sys
 import unittest
 from html.parser import HTMLParser
 
-from tool import PROGRAM, ROOT, ToolCase, module_of, needs_program
-from console import Fault, library
-from histories import History
+from tool import PROGRAM, ROOT, TOOLS, ToolCase, module_of, needs_program, row_of
+from rehearse_tools.console import Fault, library
+from rehearse_tools.histories import History
 
 try:
     library("plotly.offline", "python3-plotly")
@@ -42,6 +43,24 @@ report,queue,sends,repeats,receives,empties,deletes,expiries,redrives,moves,arri
 ReceiptHandleIsInvalid,BadTimeout,MissingGroup,MissingDeduplication,BadDelay,TaskRunning,NoTask,depth_max,visible,\
 in_flight,delayed,age_sum,age_max,age_p50,age_p95,age_p99
 report,q,2,0,1,0,1,1,0,0,0,0,0,0,0,0,0,0,0,0,2,0,0,0,2000,2000,2000,2000,2000
+"""
+DEAD_LETTERS = """version = 1
+horizon = 1000
+[[queue]]
+name = "q"
+dead_letter = "d"
+max_receives = 1
+latency_ms = 10
+[[queue]]
+name = "d"
+[[actor]]
+name = "p"
+kind = "producer"
+queue = "q"
+count = 1
+gap_min_ms = 1
+gap_max_ms = 1
+body = "m"
 """
 STAND_IN = f"""#!{sys.executable}
 import sys
@@ -86,25 +105,34 @@ class Report(ToolCase):
         self.scenario = self.write("s.toml", SCENARIO)
 
     def report(self, *words):
-        return self.run_tool("report", *words, SQS_REHEARSE=self.program)
+        return self.run_tool("report", *words, SQS_REHEARSE=self.program, SOURCE_DATE_EPOCH="1000000000")
 
     def page(self, *words, status=0):
+        """The page, and what standard error reports; nothing is on standard output."""
         found = self.report(self.scenario, "--output", "r.html", *words)
-        self.assertEqual((found[0], found[2]), (status, ""))
+        self.assertEqual(found[:2], (status, ""))
         with open(self.path("r.html"), encoding="utf-8") as file:
-            return file.read(), found[1]
+            return file.read(), found[2]
 
     def test_what_the_page_tells(self):
-        text, out = self.page("--require", "q.age_p95<60s", "--require", "q.expiries=0", "--title", "A <run>", status=1)
-        self.assertEqual(out, "q.expiries=0 does not hold: it is 1\n")
+        text, err = self.page("--require", "q.age_p95<60s", "--require", "q.expiries=0", "--title", "A <run>", status=1)
+        self.assertEqual(err, "report: q.expiries=0 fails: it is 1\n")
         page = Page(text)
-        self.assertEqual((page.inside, page.links, page.scripts), ([], [], 2))
+        self.assertEqual((page.inside, page.links, page.scripts), ([], ["#section-1"], 2))
+        self.assertIn('<h2 id="section-1">q</h2>', text)
+        self.assertIn('role="img" aria-label="q over time. 2 came in, 1 deleted, 1 expired, 0 left."', text)
         told = "|".join(page.texts)
-        for part in ("A <run>|A <run>|s.toml, seed 11: 5 rows, the last at 9.00 s.|Lost by expiry: 1 in q|",
+        with open(os.path.join(TOOLS, "VERSION"), encoding="utf-8") as file:
+            version = file.read().strip()
+        sha = hashlib.sha256(SCENARIO.encode()).hexdigest()
+        for part in ("A <run>|A <run>|s.toml, seed 11: 5 rows, the last at 9.00 s.|sqs_rehearse {version}, "
+                     "2001-09-09. SHA-256 of the scenario {sha}.|Lost by expiry: 1 in q|",
+                     "All queues|queue|came in|deleted|dead-lettered|lost|left|age 50 %|age 95 %|depth|q|2|1|0|1|0|"
+                     "2.00 s|2.00 s|2|q|",
                      "holds|q.age_p95<60s|q", "fails|q.expiries=0|q|it is 1", "sent|2",
                      "lost by expiry|1|of 2", "deleted|1|of 2", "age when deleted, 95 %|2.00 s",
-                     "seed|11|sample|not given|queue q|visibility_s = 5", "visibility_s = 5 # <b>&amp;"):
-            self.assertIn(part, told)
+                     "seed|11|sample|0, the default|queue q|visibility_s = 5", "visibility_s = 5 # <b>&amp;"):
+            self.assertIn(part.replace("{version}", version).replace("{sha}", sha), told)
         self.assertTrue(told.endswith("--require 'q.age_p95<60s' --require q.expiries=0 --title 'A <run>'"))
         self.assertIn(f"tools/report {self.scenario} --output r.html", told)
 
@@ -117,8 +145,8 @@ class Report(ToolCase):
         self.assertEqual((by_name["visible"]["x"], by_name["visible"]["y"]), ([0, 1, 1.5, 9, 9], [1, 2, 1, 0, 0]))
         self.assertEqual((by_name["in flight"]["x"], by_name["in flight"]["y"]), ([0, 1.5, 2, 9], [0, 1, 0, 0]))
         for name in ("middle", "95 %", "greatest"):
-            self.assertEqual([age for age in by_name[name]["y"] if age is not None], [2_000, 2_000])
-        self.assertEqual(layout["yaxis2"]["title"]["text"], "age when<br>deleted (ms)")
+            self.assertEqual([age for age in by_name[name]["y"] if age is not None], [2, 2])
+        self.assertEqual(layout["yaxis2"]["title"]["text"], "age when<br>deleted (s)")
         self.assertEqual(sum(by_name["expired"]["y"]), 1)
         self.assertEqual(max(age for age in by_name["oldest"]["y"] if age is not None), 8)
         self.assertEqual(layout["xaxis"]["range"], [0, 9])
@@ -133,16 +161,43 @@ class Report(ToolCase):
     def test_panels_without_anything_are_left_out(self):
         """Where nothing expires and nothing is redriven, three panels are left, the last with the time below it."""
         queue = History("q")
-        queue.enter(0, "m-0-0", "")
-        queue.delete(2_000, "m-0-0", "2000")
+        queue.enters(*row_of(0, "m-0-0"))
+        queue.deleted(*row_of(2_000, "m-0-0", "2000"))
         panels = drawn(panels_of(queue, 0, 9_000, 1_000))
-        self.assertEqual([(title, [trace["name"] for trace in traces]) for title, _, traces in panels],
-                         [("messages", ["visible"]), ("age when<br>deleted (ms)", ["greatest", "95 %", "middle"]),
-                          ("oldest (ms)", ["oldest"])])
+        self.assertEqual([(panel.title, [trace["name"] for trace in panel.traces]) for panel in panels],
+                         [("messages", ["visible"]), ("age when<br>deleted (s)", ["greatest", "95 %", "middle"]),
+                          ("oldest (s)", ["oldest"])])
         layout = layout_of(panels, "s", 0, 9)
         self.assertEqual((layout["xaxis"]["anchor"], layout["yaxis3"]["domain"][0], "yaxis4" in layout),
                          ("y3", 0, False))
         self.assertEqual(figure_html(1, History("empty"), 0, 9_000), "")
+
+    def test_bounds_and_a_logarithmic_axis(self):
+        """Ages of 5 ms and one of a minute; the bound of 30 s is half a minute, and that of another queue is none."""
+        queue = History("q")
+        for number in range(3):
+            queue.enters(*row_of(0, f"m-0-{number}"))
+        for number, age in enumerate((5, 5, 60_000)):
+            queue.deleted(*row_of(age, f"m-0-{number}", str(age)))
+        found = [report.Requirement(text) for text in ("q.age_p95<30s", "q.sends=3", "other.age_p95<1s")]
+        text = figure_html(1, queue, 0, 60_000, found)
+        traces, layout = json.loads("[" + re.search(r'draw\("queue-1", (.*), \{"responsive"', text)[1] + "]")
+        self.assertEqual([(trace["x"], trace["y"]) for trace in traces if "dash" in trace["line"]],
+                         [([0, 60], [30, 30])])
+        self.assertEqual([layout[f"yaxis{axis}"]["type"] for axis in (1, 2, 3)], ["linear", "log", "linear"])
+
+    def test_many_changes_are_means_over_extents(self):
+        """5,000 messages come and go: each line is a mean between two edges that are filled between."""
+        queue = History("q")
+        for number in range(5_000):
+            queue.enters(*row_of(10 * number, f"m-0-{number}"))
+            queue.deleted(*row_of(10 * number + 5, f"m-0-{number}", "5"))
+        panel = drawn(panels_of(queue, 0, 50_000, 1_000))[0]
+        least, greatest, mean = panel.traces
+        self.assertEqual([len(trace["x"]) for trace in panel.traces], [report.COLUMNS_OF_LINES] * 3)
+        self.assertEqual((set(least["y"]), set(greatest["y"]), greatest["fill"]), ({0.0}, {1.0}, "tonexty"))
+        self.assertAlmostEqual(sum(mean["y"]) / len(mean["y"]), 0.5, places=3)
+        self.assertEqual([trace.get("showlegend", True) for trace in panel.traces], [False, False, True])
 
     def test_the_same_run_gives_the_same_page(self):
         self.assertEqual(self.page(), self.page())
@@ -160,11 +215,13 @@ class Report(ToolCase):
         for words, line in (
                 ((self.scenario,), "the following arguments are required: --output (--help tells the usage)"),
                 (("none", "--output", "r.html"), "cannot read none: No such file or directory"),
-                ((self.scenario, "--output", "s.toml/r.html"), "cannot write s.toml/r.html: File exists"),
+                ((self.scenario, "--output", "s.toml/r.html"), "cannot write s.toml/r.html: Not a directory"),
                 ((self.scenario, "--output", "r.html", "--queue", "x"), "the scenario has no queue x"),
                 ((self.scenario, "--output", "r.html", "--require", "x.sends=1"), "x.sends=1: there is no queue x"),
                 ((self.scenario, "--output", "r.html", "--require", "sends"),
                  "sends is no requirement, as orders.age_p95<60s"),
+                ((self.scenario, "--output", "r.html", "--require", "q.sends=1 in 95%"),
+                 "q.sends=1 in 95%: a report has one run, and no share of runs (tools/sweep has)"),
                 ((self.scenario, "--output", "r.html", "--program", "/nowhere"), "there is no program /nowhere")):
             with self.subTest(words=words):
                 self.assert_fault(self.report(*words), f"report: {line}")
@@ -189,10 +246,23 @@ class Report(ToolCase):
         words = "--require", "orders.age_p95<10s", "--require", "failed.expiries=0"
         status, out, err = self.run_tool("report", example, "--output", "r.html", *words, SQS_REHEARSE=PROGRAM)
         self.assertEqual((status, out, err),
-                         (1, "orders.age_p95<10s does not hold: it is 10227 ms, 10.2 s\n", ""))
+                         (1, "", "report: orders.age_p95<10s fails: it is 10227 ms, 10.2 s\n"))
         with open(self.path("r.html"), encoding="utf-8") as file:
             page = Page(file.read())
-        self.assertEqual((page.inside, page.links, page.scripts), ([], [], 3))
+        self.assertEqual((page.inside, page.links, page.scripts), ([], ["#section-1", "#section-2"], 3))
+        told = "|".join(page.texts)
+        self.assertIn("All queues|queue|came in|deleted|dead-lettered|lost|left|age 50 %|age 95 %|depth|"
+                      "orders|42|40|2|0|0|146 ms|10.2 s|8|failed|2|0|0|0|0|-|-|2|2 dead letters|", told)
+
+    @needs_program
+    def test_a_dead_letter_queue_without_rows(self):
+        """It stands in the table of all queues, though nothing of it can be drawn."""
+        scenario = self.write("d.toml", DEAD_LETTERS)
+        self.assertEqual(self.run_tool("report", scenario, "--output", "d.html", SQS_REHEARSE=PROGRAM), (0, "", ""))
+        with open(self.path("d.html"), encoding="utf-8") as file:
+            page = Page(file.read())
+        self.assertEqual(page.links, ["#section-1"])
+        self.assertIn("|d|0|0|0|0|0|-|-|0|0 dead letters|", "|".join(page.texts))
 
 
 if __name__ == "__main__":

@@ -1,12 +1,12 @@
-"""Tests that tools/scenarios.py finds what a text has, changes one setting and nothing else, and writes it whole."""
+"""Tests that the module scenarios finds what a text has, changes one setting and nothing else, and writes it whole."""
 import glob
 import os
 import tomllib
 import unittest
 
 import tool  # which also puts the tools on the path
-from console import Fault, read_text
-from scenarios import Setting, parsed, varied, written
+from rehearse_tools.console import Fault, read_text
+from rehearse_tools.scenarios import Setting, parsed, varied, written
 
 TEXT = r'''# A scenario.
 version = 1 # one
@@ -71,10 +71,10 @@ class Varied(unittest.TestCase):
         self.assertEqual([actor.get("batch") for actor in changed("actor.worker*.batch=5")["actor"]], [5, 5])
         self.assertEqual([actor.get("batch") for actor in changed("actor.worker-*.batch=5")["actor"]], [None, 5])
 
-    def test_copies_of_an_actor_stand_in_its_place(self):
-        self.assertEqual([actor["name"] for actor in changed("count.worker=2")["actor"]],
-                         ["worker-1", "worker-2", "worker-9"])
-        for setting, waits in (("actor.worker", [1, 1, None]), ("actor.worker-2", [None, 1, None]),
+    def test_copies_of_an_actor_shift_no_other(self):
+        self.assertEqual([actor["name"] for actor in changed("count.worker=3")["actor"]],
+                         ["worker-1", "worker-9", "worker-2", "worker-3"])
+        for setting, waits in (("actor.worker", [1, None, 1]), ("actor.worker-2", [None, None, 1]),
                                ("actor.worker-*", [1, 1, 1])):
             actors = changed("count.worker=2", f"{setting}.wait_s=1")["actor"]
             self.assertEqual([actor.get("wait_s") for actor in actors], waits)

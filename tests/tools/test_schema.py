@@ -6,9 +6,11 @@ import re
 import tomllib
 import unittest
 
+from code_keys import code_keys, listed_keys
 from tool import ROOT
-from console import Fault, library
-from keys import CONSUMER, HEAD, NUMBER, PRODUCER, QUEUE, REQUIRED, SCRIPT, TASK, TOP, TRUTH, latency
+from rehearse_tools.console import Fault, library
+from rehearse_tools.keys import (CONSUMER, FIFO, HEAD, NUMBER, PRODUCER, QUEUE, REQUIRED, SCRIPT, STANDARD, TASK, TOP,
+                                 TRUTH, latency)
 
 try:
     jsonschema = library("jsonschema", "python3-jsonschema")
@@ -24,6 +26,15 @@ with open(os.path.join(ROOT, "docs", "scenario.schema.json"), encoding="utf-8") 
 # The tables of keys in docs/FORMATS.md, by the first cell of their heads.
 DOCUMENTED = {"Top": TOP, "queue": QUEUE, "actor": HEAD, "script": SCRIPT[len(HEAD):], "producer": PRODUCER[len(HEAD):],
               "consumer": CONSUMER[len(HEAD):], "task": TASK, "latency": latency(1) + latency(2)}
+# The functions of the reader that read these tables, by the files that they and the lists of known keys stand in.
+LATENCY = latency(1) + latency(2)
+CODE = {("top.rt", "top_table"): TOP, ("queues.rt", "Queues::read"): QUEUE + LATENCY, ("actors.rt", "Actors::read"): HEAD,
+        ("scripted.rt", "scripted"): SCRIPT[len(HEAD):], ("producers.rt", "producer"): PRODUCER[len(HEAD):],
+        ("consumers.rt", "consumer"): CONSUMER[len(HEAD):] + LATENCY, ("tasks.rt", "Tasks::read"): TASK + LATENCY}
+LISTS = {"top.rt": TOP, "queues.rt": QUEUE + LATENCY, "section.rt": HEAD, "scripted.rt": SCRIPT[len(HEAD):],
+         "producers.rt": PRODUCER[len(HEAD):], "consumers.rt": CONSUMER[len(HEAD):], "tasks.rt": TASK}
+# These are read only where they are there, so that they are required then.
+WHERE_THERE = {"calls", "script", "dead_letter", "forward"}
 
 
 def cases(folders):
@@ -113,6 +124,32 @@ class Documents(unittest.TestCase):
                     self.assertEqual(default, wanted)
                     if self.range_of(key) and "byte" not in found:
                         self.assertEqual(found.replace("`", ""), self.range_of(key))
+
+    def test_code_reads_the_same_keys(self):
+        """With the same types, ranges and defaults, and in the same order, for each kind of queue and each version."""
+        for (file, function), keys in CODE.items():
+            found = {key.name: key for key in code_keys(file, function)}
+            self.assertEqual(set(found), {key.name for key in keys}, file)
+            for key in keys:
+                with self.subTest(file=file, key=key.name):
+                    self.check_code(found[key.name], key)
+            for kind, other in (STANDARD, latency(2)), (FIFO, latency(1)):
+                order = [key.name for key in keys if key.queues in (None, kind) and key.name not in
+                         {left.name for left in other}]
+                if keys[0].name != "calls":  # a script is at one of its two keys
+                    self.assertEqual([name for name in found if name in order], order, file)
+
+    def check_code(self, found, key):
+        self.assertEqual(found.kind, key.kind)
+        self.assertEqual(found.default, REQUIRED if key.name in WHERE_THERE else
+                         "hosts" if key.name == "sampled" else key.default)
+        if key.kind == NUMBER:
+            self.assertEqual((found.low, found.high), (key.low, None if key.name == "sampled" else key.high))
+        self.assertEqual((found.words, found.least), (key.words, key.least))
+
+    def test_code_lists_the_same_keys(self):
+        for file, keys in LISTS.items():
+            self.assertEqual(listed_keys(file), {key.name for key in keys}, file)
 
     def test_schema_has_the_same_keys(self):
         tables = {"queue": QUEUE, "script": SCRIPT, "producer": PRODUCER, "consumer": CONSUMER, "task": TASK}

@@ -6,12 +6,13 @@ import json
 import os
 import pty
 import random
+import re
 import subprocess
 import sys
 import unittest
 
 from tool import PROGRAM, ROOT, TOOLS, ToolCase, module_of, needs_program
-import summaries
+from rehearse_tools import summaries
 
 HEADER = "at,queue,agent,call,answer,message,receipt,detail\n"
 # A long poll; a batch of two; m-0-0 is handled by two consumers, m-0-1 after its timeout, m-0-2 as it has left for d.
@@ -53,6 +54,10 @@ report,d,0,0,0,0,0,1,0,0,1,0,0,0,0,0,0,0,0,0,1,0,0,0,0,,,,
 TEXT = """run.txt: 25 rows, the last at 1 min 0 s
 !! LOST BY EXPIRY: 1 in d
 
+   came in  deleted  dead-lettered  lost  left  age 50 %  age 95 %  depth
+a        3        2              1     0     0    2.50 s    2.80 s      3
+d        1        0              0     1     0         -         -      1  !!
+
 a
    sent                                   3
    deleted                                2 of 3
@@ -70,7 +75,7 @@ a
    age when deleted, 99 %            2.80 s
    age when deleted, greatest        2.80 s
    greatest depth                         3 at 200 ms
-   backlog gone at                   5.20 s
+   backlog gone at                        - (never over 10 waited)
    API requests                          15
      SendMessage                          3
      ReceiveMessage                       6
@@ -89,7 +94,7 @@ d
 !! LOST BY EXPIRY                         1 of 1
    left at the end                        0 of 1
    greatest depth                         1 at 5.22 s
-   backlog gone at                1 min 0 s
+   backlog gone at                        - (never over 10 waited)
    API requests                           0
      SendMessage                          0
      ReceiveMessage                       0
@@ -141,10 +146,10 @@ def rows_of(log):
 
 
 class SummaryCase(ToolCase):
-    def queues(self, *texts):
+    def queues(self, *texts, backlog=10):
         """What --json tells of the queues of one run, by their names."""
         paths = [self.write(f"text{place}", text) for place, text in enumerate(texts)]
-        status, out, err = self.run_tool("summary", "--json", *paths)
+        status, out, err = self.run_tool("summary", "--json", *paths, "--backlog", str(backlog))
         self.assertEqual((status, err), (0, ""))
         run, = json.loads(out)["runs"]
         return {queue["queue"]: queue for queue in run["queues"]}
@@ -186,7 +191,7 @@ class Definitions(SummaryCase):
     def test_ways_between_queues(self):
         queues = self.queues(WAYS)
         self.assert_values(queues["a"], sent=2, came_in=2, forwarded=1, dead_lettered=1, dead_lettered_to=["d"], left=0,
-                           backlog_gone_at_ms=2000, on_their_way_here=0)
+                           backlog_gone_at_ms=None, not_empty_since_ms=None, on_their_way_here=0)
         self.assert_values(queues["d"], sent=0, came_in=1, came_by_forward=1, SendMessage=1, on_their_way_here=1,
                            left=1, left_visible=None, left_in_flight=0, left_visible_or_delayed=1,
                            backlog_gone_at_ms=None, not_empty_since_ms=1700)
@@ -202,13 +207,29 @@ class Definitions(SummaryCase):
         rows = ["0,q,p,send,new,m-0-0,,x", "5,q,c,receive,ok,m-0-0,r-0-0-1,o-0-0",
                 "9,q,c,delete,deleted,m-0-0,r-0-0-1,9", "20,q,p,send,new,m-0-1,,x",
                 "25,q,c,receive,ok,m-0-1,r-0-1-1,o-0-1"]
-        for length, gone, since in ((1, None, 0), (3, 9, None), (4, None, 20), (5, None, 20)):
+        # more than 0 wait from 0 to 5 ms, and from 20 to 25 ms
+        for length, gone, since, there in ((1, None, 0, 0), (2, 5, None, 0), (3, 5, None, None), (4, None, 20, 20),
+                                           (5, 25, None, 20)):
             log = HEADER + "\n".join(rows[:length]) + "\n"
-            self.assert_values(self.queues(log)["q"], backlog_gone_at_ms=gone, not_empty_since_ms=since)
-        self.assertIn("never (not empty since 20 ms)", self.run_tool("summary", self.write("log", log))[1])
+            self.assert_values(self.queues(log, backlog=0)["q"], backlog_gone_at_ms=gone, backlog_since_ms=since,
+                               not_empty_since_ms=there)
+            told = f"{gone} ms" if since is None else f"never (over 0 wait since {since} ms)"
+            out = self.run_tool("summary", self.path("text0"), "--backlog", "0")[1]
+            self.assertEqual(re.findall("backlog gone at +(.*)", out), [told])
+
+    def test_a_healthy_queue_has_no_backlog(self):
+        """Twelve messages wait until eleven are received; from then on one waits, and one or two are in flight."""
+        log = HEADER + "".join(f"{i},q,p,send,new,m-0-{i},,x\n" for i in range(12))
+        log += "".join(f"{100 + i},q,c,receive,ok,m-0-{i},r-0-{i}-1,o-0-{i}\n" for i in range(11))
+        self.assert_values(self.queues(log)["q"], backlog_gone_at_ms=101, left=12)
+        self.assertIn("backlog gone at                   101 ms\n", self.run_tool("summary", self.path("text0"))[1])
+        self.assert_values(self.queues(log + "200,q,q,release,visible,m-0-0,,\n", backlog=1)["q"],
+                           backlog_gone_at_ms=None, backlog_since_ms=200)
+        self.assert_values(self.queues(log, backlog=12)["q"], backlog_gone_at_ms=None, backlog_since_ms=None)
+        self.assert_fault(self.run_tool("summary", "text0", "--backlog", "-1"), "summary: --backlog is at least 0")
 
     def test_nearest_ranks(self):
-        """Of the ages 1 to 1,000 s the ranks are 500, 950 and 990 s; without a report 16 leading bits are told."""
+        """Of the ages 1 to 1,000 s the ranks are 500, 950 and 990 s; without a report 16 leading bits are shown."""
         log = HEADER + "".join(f"{i},q,p,send,new,m-0-{i},,x\n" for i in range(1_000))
         log += "".join(f"2000,q,c,receive,ok,m-0-{i},r-0-{i}-1,o-0-{i}\n" for i in range(1_000))
         log += "".join(f"3000,q,c,delete,deleted,m-0-{i},r-0-{i}-1,{1_000 * (i + 1)}\n" for i in range(1_000))
@@ -332,7 +353,7 @@ class SideBySide(SummaryCase):
         document = json.loads(self.run_tool("summary", before, after, "--json")[1])
         differences = {queue["queue"]: queue for queue in document["differences"]}
         self.assert_values(differences["a"], handled_once=1, handled_more_than_once=-1, tries_mean=0.0, requests=-1,
-                           age_greatest_ms=-50, backlog_gone_at_ms=0, left_visible=None)
+                           age_greatest_ms=-50, backlog_gone_at_ms=None, left_visible=None)
 
     def test_columns_align(self):
         """The texts of each column end below its title, also with a long name and great numbers."""
@@ -384,7 +405,7 @@ class Stream(SummaryCase):
         self.assertEqual((queue.counts["deleted"], queue.counts["lost_by_expiry"]), (18_001, 1_999))
 
     def test_ages_have_bounded_room(self):
-        """An age of n bits is told by 16 of them at most: 2^15 for each n over 16, and all that are shorter."""
+        """An age of n bits is shown by 16 of them at most: 2^15 for each n over 16, and all that are shorter."""
         ages = {summaries.leading(age) for age in range(1 << 20)}
         self.assertEqual(len(ages), (1 << 16) + 4 * (1 << 15))
         self.assertEqual([summaries.leading(age) for age in (0, 65_535, 65_536, 65_537, 1_209_600_000)],
@@ -430,7 +451,7 @@ class Terminal(SummaryCase):
 
 class Faults(SummaryCase):
     def assert_told(self, text, line, *words):
-        """A text, in a file of that name, is told in one line."""
+        """A text, in a file of that name, is reported in one line."""
         self.write("text", text)
         self.assert_fault(self.run_tool("summary", "text", *words), f"summary: {line}")
 
@@ -459,7 +480,7 @@ class Faults(SummaryCase):
             self.assert_fault(self.run_tool("summary", *words), f"summary: {line}")
 
     def test_cut(self):
-        """No front of a whole output is told, other than one that ends with a row of its log."""
+        """No prefix of a whole output is reported, other than one that ends with a row of its log."""
         text = LOG + PARTS
         whole = {end for end in range(len(LOG) + 1) if LOG[:end].endswith("\n")} | {len(text)}
         for end in (*range(0, len(LOG) - 150, 7), *range(len(LOG) - 150, len(text) + 1)):
@@ -560,7 +581,7 @@ class Program(SummaryCase):
 
     @needs_program
     def test_examples(self):
-        """Each example is told whole, with a report that agrees with its log."""
+        """Each example is summarised whole, with a report that agrees with its log."""
         paths = glob.glob(os.path.join(ROOT, "examples", "**", "*.toml"), recursive=True)
         self.assertGreater(len(paths), 10)
         for scenario in paths:

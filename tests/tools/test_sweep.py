@@ -97,6 +97,17 @@ class Sweep(ToolCase):
         self.assertEqual(rows[0][ages:ages + 5], ["", "", "", "", ""])
         self.assertEqual(rows[2][:5], ["51", "refused 14 OutOfRange at queue[0].visibility_s", "", "3", ""])
 
+    def test_jobs_name_the_command(self):
+        """By the path by which it was called; or that in tools/, which runs from any folder."""
+        own, link = os.path.join(TOOLS, "sweep"), self.path("sqs_rehearse-sweep")
+        os.symlink(own, link)
+        for command, wanted in (([own], own), ([link], link), (["./sqs_rehearse-sweep"], link),
+                                ([sys.executable, "-m", "rehearse_tools", "sweep"], own)):
+            ran = subprocess.run([*command, self.scenario, "--vary", "seed=1", "--print-jobs", "jobs"], cwd=self.folder,
+                                 env={**os.environ, "PYTHONPATH": TOOLS, "SQS_REHEARSE": self.program}, text=True,
+                                 capture_output=True)
+            self.assertEqual((ran.stdout.split()[0], ran.stderr), (wanted, ""))
+
     def test_jobs_and_their_collection(self):
         words = self.scenario, "--vary", "queue.q.visibility_s=2,51", "--vary", 'horizon=7,"8"', "--vary", "seed=1"
         whole = self.sweep(*words)
@@ -108,9 +119,10 @@ class Sweep(ToolCase):
             statuses.append(subprocess.run(["sh", "-c", command], cwd="/", capture_output=True).returncode)
         self.assertEqual(statuses, [1, 1, 0, 0])
         self.assertEqual(self.sweep("--collect", "made here"), (1, whole[1], ""))
-        os.remove(self.path("made here/3-of-4.csv"))
+        third, = (name for name in os.listdir(self.path("made here")) if name.startswith("3-of-4-"))
+        os.remove(self.path(f"made here/{third}"))
         status, out, err = self.sweep("--collect", "made here", "--spread", "seed")
-        self.assertEqual((status, err), (1, "sweep: 1 of 4 jobs have no file yet\n"))
+        self.assertEqual((status, err), (1, "sweep: 1 of 4 variants are left: 3\n"))
         self.assertEqual([row[:2] for row in self.records(out)[1]], [["2", "7"], ["2", "7"], ["2", "8"], ["2", "8"],
                                                                      ["51", "8"]])
 
@@ -125,6 +137,8 @@ class Sweep(ToolCase):
                           "sweep: --require and --spread go with runs, and nothing is run")
 
     def test_faults(self):
+        known = (f"{COLUMNS},door_age_p50,door_age_p95,door_age_max,requests,cost,backlog_gone,new_age_p50,new_age_p95,"
+                 "new_age_max,moved_age_p50,moved_age_p95,moved_age_max,window_age_p95").replace(",", ", ")
         for words, line in (
                 ((), "a SCENARIO and at least one --vary or --require are needed (--help tells the usage)"),
                 ((self.scenario,),
@@ -147,15 +161,15 @@ class Sweep(ToolCase):
                  "q.age_max<x: x is not a number with a unit, as 60s"),
                 ((self.scenario, "--require", "x.sends<1"), "x.sends<1: there is no queue x"),
                 ((self.scenario, "--require", "q.sense<1"),
-                 "q.sense<1: the report has no column sense; it has " + COLUMNS.replace(",", ", ")),
+                 f"q.sense<1: there is no column sense; there are {known}"),
                 ((self.scenario, "--vary", "seed=1", "--columns", "sends,x"),
-                 "the report has no column x; it has " + COLUMNS.replace(",", ", ")),
+                 f"there is no column x; there are {known}"),
                 ((self.scenario, "--vary", "count.q=1"), "the scenario has no table [[actor]] with the name q"),
                 ((self.scenario, "--vary", "seed=1", "--jobs", "0"), "--jobs is 1 to 1024"),
                 ((self.scenario, "--vary", "seed=77", "--output", "s.toml/rows.csv"),
-                 "cannot write s.toml/rows.csv: File exists"),
+                 "cannot write s.toml/rows.csv: Not a directory"),
                 ((self.scenario, "--vary", "seed=77", "--output", "."), "cannot write .: Is a directory"),
-                (("--collect", "."), ". has the files of 0 sweeps, which should be one")):
+                (("--collect", "."), ". has no whole result of a sweep")):
             with self.subTest(words=words):
                 self.assert_fault(self.sweep(*words), f"sweep: {line}")
 
@@ -209,6 +223,7 @@ class Sweep(ToolCase):
             subprocess.run(["sh", "-c", f"{shlex.quote(sys.executable)} {job}"], check=True, capture_output=True)
         status, _, err = self.sweep("--collect", "jobs", "--require", "q.sends=101", "--spread", "seed")
         self.assertEqual((status, err), (1, "sweep: q.sends=101 fails with seed=2: it is 102\n"
+                                         "sweep: q.sends=101 holds in 1 of 2 runs, 1.3 to 98.7 % of all\n"
                                          "sweep: requirements that hold: 1 of 2\n"))
         status, _, err = self.sweep("--collect", "jobs", "--require", "q.sends=101")
         self.assertEqual((status, err.splitlines()[-1]), (1, "sweep: variants that meet all of them: 1 of 2: seed=1"))
@@ -222,10 +237,10 @@ class Sweep(ToolCase):
         ages = self.sweep(*words[:3], "--columns", "age_p95", "--table")[1]
         self.assertEqual(ages, "", "no message was deleted, so that no row has an age")
         self.assertEqual(self.sweep(*words, "--table", "--spread", "seed")[1], """\
-             age_sum                                   sends
-queue  runs  mean  deviation  least  median  greatest   mean  deviation  least  median  greatest
-q         2   5.5      6.364      1     5.5        10  105.5      6.364    101   105.5       110
-r         2     0          0      0       0         0      0          0      0       0         0
+             age_sum                                               sends
+queue  runs  mean  deviation  least  median  greatest  half_width   mean  deviation  least  median  greatest  half_width
+q         2   5.5      6.364      1     5.5        10      57.178  105.5      6.364    101   105.5       110      57.178
+r         2     0          0      0       0         0           0      0          0      0       0         0           0
 """)
         self.assertEqual(self.sweep(*words, "--spread", "seed", "--output", "new/rows.csv")[0], 0)
         with open(self.path("new/rows.csv"), encoding="utf-8") as file:
@@ -273,13 +288,13 @@ r         2     0          0      0       0         0      0          0      0  
         folder = self.path("jobs")
         os.mkdir(folder)
         header = "seed,failed,queue," + COLUMNS
-        for text in ("", "a,b\n", header + "\n1,,q,2\n", header + "\n1,,q" + ",x" * 27 + "\n"):
-            path = self.write("jobs/1-of-1.csv", text)
-            self.assert_fault(self.sweep("--collect", folder), f"sweep: {path} is no file of this sweep")
-        self.write("jobs/1-of-1.csv", header + "\n")
-        self.write("jobs/1-of-2.csv", header + "\n")
-        self.assert_fault(self.sweep("--collect", folder),
-                          f"sweep: {folder} has the files of 2 sweeps, which should be one")
+        for name, text, line in (("1-of-1.csv", header, "is no name of a sweep's result, as 03-of-50-3fa9c2d1.csv"),
+                                 ("1-of-1-3fa9c2d1.csv", "", "is empty"),
+                                 ("1-of-1-3fa9c2d1.csv", header + "\n1,,q,2\n", "is no result of a sweep")):
+            self.write(f"jobs/{name}", text)
+            self.assert_fault(self.sweep("--collect", folder),
+                              f"sweep: {folder} has no whole result of a sweep: {name} {line}")
+            os.remove(self.path(f"jobs/{name}"))
 
     @needs_program
     def test_copies_with_the_program(self):
@@ -298,6 +313,32 @@ body = "b"
 """)
         status, out, _ = self.sweep(scenario, "--program", PROGRAM, "--vary", "count.shop=1..4", "--columns", "sends")
         self.assertEqual((status, [row[-1] for row in self.records(out)[1]]), (0, ["3", "6", "9", "12"]))
+
+    @needs_program
+    def test_copies_change_nothing_of_other_actors(self):
+        """What is sent to b does not depend on how many workers a has."""
+        actors = "".join(f"""[[queue]]
+name = "{name}"
+[[actor]]
+name = "{name}-sender"
+kind = "producer"
+queue = "{name}"
+count = 9000
+gap_min_ms = 1
+gap_max_ms = 1999
+body = "m"
+[[actor]]
+name = "{name}-worker"
+kind = "consumer"
+queue = "{name}"
+service_min_ms = 100
+service_max_ms = 200
+""" for name in "ab")
+        scenario = self.write("two.toml", f"version = 1\nhorizon = 3600000\n{actors}")
+        status, out, _ = self.sweep(scenario, "--program", PROGRAM, "--vary", "count.a-worker=1,2,5",
+                                    "--columns", "sends,age_p99")
+        rows = [row[3:] for row in self.records(out)[1] if row[2] == "b"]
+        self.assertEqual((status, rows[1:]), (0, [rows[0]] * 2))
 
     @needs_program
     def test_example_of_the_documents(self):

@@ -19,6 +19,8 @@ PROGRAM = os.environ.get("SQS_REHEARSE")
 needs_program = unittest.skipUnless(PROGRAM, "SQS_REHEARSE does not name the program")
 
 sys.path.insert(0, TOOLS)
+from rehearse_tools.__main__ import TOOLS as USERS_TOOLS  # noqa: E402 (the folder of the package comes first)
+from rehearse_tools.logs import Head  # noqa: E402
 
 
 def module_at(path, name):
@@ -30,7 +32,9 @@ def module_at(path, name):
 
 
 def module_of(name):
-    """A tool as a module."""
+    """A tool as a module: one of the package, or a program of tools/ for those who work on this repository."""
+    if name in USERS_TOOLS:
+        return importlib.import_module(f"rehearse_tools.{name.replace('-', '_')}")
     return module_at(os.path.join(TOOLS, name), name)
 
 
@@ -48,6 +52,11 @@ HOSTILE_LOGS = {
     "backward": LOG_HEADER + SENT.replace(b"0,q", b"9,q", 1) + SENT,
     "a line without end": LOG_HEADER + b"0" * 3_000_000,
 }
+
+
+def row_of(at, message, detail=""):
+    """A row of the queue q, as what takes rows is given it, without those fields that say what it is."""
+    return at, Head("q", "", "", ""), message, "", detail
 
 
 class ToolCase(unittest.TestCase):

@@ -90,11 +90,12 @@ class WrongBodies(ToolCase):
         self.write("crates/tiny/specs/Lib.antt", "pub mod Choices\n")
         self.write("crates/tiny/specs/Choices.antt", SPECS)
         shutil.copy(RUN, self.path("tests/wrong-bodies/run"))
-        shutil.copy(os.path.join(ROOT, "tools", "console.py"), self.path("tools"))
+        shutil.copytree(os.path.join(ROOT, "tools", "rehearse_tools"), self.path("tools/rehearse_tools"))
 
     def answer_for_prover(self, verdict, status):
-        """Puts a program before `rt` that says of each crate that it is proved, or not."""
-        self.write("bin/rt", f"#!/bin/sh\necho 'fn tiny::Pair::choose: {verdict}'\nexit {status}\n")
+        """Puts a program before `rt` that says of two functions, and of the crate, that it is proved, or not."""
+        told = "".join(f"echo 'fn tiny::{it}: {verdict}'\n" for it in ("choose", "Pair::choose"))
+        self.write("bin/rt", f"#!/bin/sh\n{told}exit {status}\n")
         os.chmod(self.path("bin/rt"), 0o755)
         self.environment = {**os.environ, "PATH": self.path("bin") + os.pathsep + os.environ["PATH"]}
 
@@ -129,6 +130,13 @@ class WrongBodies(ToolCase):
         self.assertIn("0 of 1 wrong bodies refused, in 1 checks and ", out.splitlines()[-1])
         self.assertEqual((status, len(out.splitlines()), err), (1, 3, ""))
 
+    def test_what_is_proved_and_may_wait_is_proved(self):
+        self.write_edits({name: WRONG[name] for name in ("pair_turned", "second_beside_zero")})
+        for verdict in ("proved", "proved, may wait"):
+            self.answer_for_prover(verdict, 0)
+            # once together, and then each alone
+            self.assertIn("tiny: 0 of 2 wrong bodies refused, 0 of them by names alone, in 3 checks", self.try_all()[1])
+
     def test_a_crate_must_be_proved(self):
         self.write_edits(WRONG)
         self.answer_for_prover("not proved", 1)
@@ -146,8 +154,77 @@ class WrongBodies(ToolCase):
         self.assertEqual(run.changed_since(self.folder, "HEAD"), {"tiny"})
         self.assertEqual(self.try_all("--changed", "nowhere")[2], "run: git knows no revision nowhere\n")
 
+    def test_list_tries_none(self):
+        self.write_edits(WRONG)
+        self.answer_for_prover("not proved", 1)
+        status, out, faults = self.try_all("--list", "tiny")
+        self.assertEqual((status, faults, out.count(".edit:\n")), (0, "", len(WRONG)))
+        for name, (file, old, new) in WRONG.items():
+            path = f"tests/wrong-bodies/tiny/{name}.edit"
+            self.assertIn(f"{path}:\n  {file}\n  - {old.strip()}\n  + {new.strip()}\n", out)
+        self.write("tests/wrong-bodies/tiny/unreadable.edit", "new: nothing\n")
+        status, out, _ = self.try_all("--list", "tiny")
+        self.assertEqual(status, 1)
+        self.assertIn("tests/wrong-bodies/tiny/unreadable.edit: BAD EDIT: ", out)
+
     def test_no_such_crate(self):
         self.assertEqual(self.try_all("tiny")[2], "run: there is no wrong body of a crate tiny\n")
+
+
+class Stored(unittest.TestCase):
+    def test_what_is_let_through_is_of_the_code_as_it_is(self):
+        above = os.path.join(ROOT, "tests", "wrong-bodies", "let-through")
+        paths = [os.path.join(folder, name) for folder, _, names in os.walk(above) for name in names]
+        self.assertTrue(paths)
+        for path in paths:
+            name = os.path.relpath(path, above)
+            crate = os.path.join(ROOT, "crates", os.path.dirname(name))
+            self.assertIsNone(run.edit_at(path, name, crate).why, name)
+
+
+MORE = """//! More of pairs.
+use crate::Pair;
+
+impl Pair {
+    /// The other one.
+    pub fn other(self) -> u8 {
+        let second = self.second;
+        second
+    }
+}
+
+impl Iterator for crate::Elsewhere {
+    fn next(&mut self) -> Option<u8> {
+        let none = None;
+        none
+    }
+}
+"""
+
+
+class Methods(ToolCase):
+    def test_a_method_has_the_module_of_its_type(self):
+        os.makedirs(self.path("src/queue"))
+        self.write("src/lib.rt", CODE)
+        self.write("src/queue/more.rt", MORE)
+        of = lambda old: run.functions_of(self.folder, [run.Change("src/queue/more.rt", old, "")])
+        self.assertEqual(of("let second"), {((), ("Pair",), "other")})
+        self.assertEqual(of("let none"), {(("queue", "more"), ("Elsewhere", "Iterator"), "next")})
+        note = "note: src/queue/more.rt:7:9: it is not proved"
+        other, = of("let second")
+        self.assertTrue(run.is_about(note, other, self.folder))
+        self.assertTrue(run.is_about("note: proofs/Pair/other/Answers.antt:1:1: it is not proved", other, self.folder))
+
+
+class Refusals(unittest.TestCase):
+    def test_refused_by_names_alone(self):
+        at = "./proofs/Pair/choose/Answers.antt:3:7: error: `returns`: "
+        names = [at + "record `Rattle.tiny.proofs.Pair.choose.Lts.After-say` has no field `take-3`",
+                 at + "record `Rattle.tiny.proofs.Pair.choose.Lts.After-say` (nearest: .len, .min-end)",
+                 at + "record `Rattle.tiny.proofs.Pair.choose.Lts.After-say`"]
+        self.assertEqual(run.refused(names), run.BY_NAMES)
+        for other in (at + "record `Rattle.tiny.Pair` is no `Pair`", "note: src/lib.rt:7:9: it is not proved that"):
+            self.assertEqual(run.refused([*names, other]), run.REFUSED)
 
 
 class Functions(unittest.TestCase):

@@ -1,14 +1,14 @@
--- What an actor keeps true of itself, and how a decision that may be refused meets the definitions.
+-- What an actor always keeps, and how a decision that may return an error agrees with the definitions.
 use Rattle.std.specs.Prelude.{Err, List, None, Ok, Option, Result, Some, [], length, max, ℕ, ◌<◌, ◌≡◌, ◌≤◌, ◌∷◌}
-use Rattle.sim_actor.specs.declared.actor.Stage.{Stage as OwnStage}
-use Rattle.sim_actor.specs.declared.actor.Stage.TheVariants as own
+use Rattle.sim_actor.specs.declared.actor.LastAct.{LastAct as OwnStage}
+use Rattle.sim_actor.specs.declared.actor.LastAct.TheVariants as own
 use Rattle.sim_clock.specs.declared.refusal.Refusal.{Refusal}
 use Rattle.sim_clock.specs.declared.refusal.Refusal.TheVariants as refusals
 use Rattle.sqs_message.specs.declared.calls.ScriptCall.{ScriptCall}
 use Rattle.sqs_model.specs.declared.acts.Act.{Act}
 use Rattle.sqs_model.specs.declared.agents.Role.{Role}
 use Rattle.sqs_model.specs.declared.agents.Role.TheVariants.{Consumer, Producer, Script}
-use Rattle.sqs_model.specs.Actor.{Actor, Asked, Ended, Served, Stage, act_of, first_at}
+use Rattle.sqs_model.specs.Actor.{Actor, Asked, Ended, Served, LastAct, act_of, first_at}
 use Rattle.sqs_model.specs.Answers.{most_count}
 use Rattle.sqs_model.specs.Valid.{IsConsumer, IsProducer}
 
@@ -19,27 +19,28 @@ IsRole (Producer p) = IsProducer p
 IsRole (Consumer c) = IsConsumer c
 
 -- the definitions' word for what a consumer did last
-abbrev pub stage_of : OwnStage → Stage
-stage_of own.Asked = Asked
-stage_of (own.Served receipt) = Served receipt
-stage_of own.Ended = Ended
+abbrev pub last_act_of : OwnStage → LastAct
+last_act_of own.Asked = Asked
+last_act_of (own.Served receipt) = Served receipt
+last_act_of own.Ended = Ended
 
 -- the greatest of the counts that a decision may move: wakes, transfers and words
 abbrev pub greatest_count : Actor → ℕ
 greatest_count a = max a.wakes (max a.sent a.draws.taken)
 
--- what no decision changes, also where it is refused
+-- what no decision changes, even if it returns an error
 pub record IsFramed (old new : Actor) : Type 0 where
   pub number : new.number ≡ old.number
   pub settings : new.settings ≡ old.settings
 
--- an act and the actor after it are the definition's, and a count at its limit is told where the definition would count past it
+-- an act and the actor after it are the definition's; a count at its limit is returned only if the definition would
+-- count past it
 abbrev pub Decides : Result Act Refusal → Actor → Act × Actor → Type 0
 Decides (Ok act) new model = model ≡ (act, new)
 Decides (Err refusals.CountLimit) new model = most_count < greatest_count model.1
 Decides (Err e) new model = ⊥
 
--- the same where the definition tells the actor alone
+-- the same if the definition returns only the actor
 abbrev pub Becomes : Result (Unit {0}) Refusal → Actor → Actor → Type 0
 Becomes (Ok u) new model = model ≡ new
 Becomes (Err refusals.CountLimit) new model = most_count < greatest_count model

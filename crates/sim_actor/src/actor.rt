@@ -19,14 +19,14 @@ use std::alloc::Global;
 use std::collections::VecDeque;
 use std::marker::Model;
 
-/// What a consumer did last.
+/// The last act of a consumer.
 #[derive(Clone, Copy)]
-enum Stage {
+enum LastAct {
     /// It asked for messages.
     Asked,
-    /// It served the message of this receipt, and the service ended well.
+    /// It served the message with this receipt, and the service ended well.
     Served(Receipt),
-    /// It ended a service, and what follows one.
+    /// It ended a service and did what follows one.
     Ended,
 }
 
@@ -38,7 +38,7 @@ pub struct Actor {
     number: u32,
     settings: ActorSettings,
     held: VecDeque<Got>,
-    stage: Stage,
+    last_act: LastAct,
     wake: Option<u64>,
     wakes: u64,
     polls: u64,
@@ -50,16 +50,16 @@ impl Model for Actor {
     ghost use Rattle.std.specs.Prelude.{◌≤◌};
     ghost use Rattle.sqs_model.specs.Actor.{Actor};
     ghost use Rattle.sqs_model.specs.Answers.{most_count};
-    ghost use Rattle.sim_actor.specs.Lives.{IsRole, stage_of};
+    ghost use Rattle.sim_actor.specs.Lives.{IsRole, last_act_of};
 
     ghost Value = { Actor };
 
-    ghost view = { λ a. record { number = a.number; settings = a.settings; held = a.held.items; stage = stage_of a.stage; wake = a.wake; wakes = a.wakes; polls = a.polls; sent = a.sent; draws = a.draws } };
+    ghost view = { λ a. record { number = a.number; settings = a.settings; held = a.held.items; last_act = last_act_of a.last_act; wake = a.wake; wakes = a.wakes; polls = a.polls; sent = a.sent; draws = a.draws } };
 
     ghost invariant = { λ a. IsRole a.settings.role × (a.wakes ≤ most_count) × (a.polls ≤ most_count) × (a.sent ≤ most_count) × (a.draws.taken ≤ most_count) };
 }
 
-// When an actor of a role first wakes.
+// When an actor with a role first wakes, in milliseconds.
 fn first_wake(role: &Role) -> Option<u64>
     ensures { result ≡ the_first_wake role.now }
 {
@@ -84,7 +84,7 @@ impl Actor {
             number,
             settings,
             held: VecDeque::new(alloc),
-            stage: Stage::Asked,
+            last_act: LastAct::Asked,
             wake,
             wakes: 0,
             polls: 0,
@@ -93,7 +93,7 @@ impl Actor {
         }
     }
 
-    /// When it wakes next, in milliseconds.
+    /// When it next wakes, in milliseconds.
     pub fn wake(&self) -> Option<u64>
         ensures { result ≡ self.now.wake }
     {
@@ -114,7 +114,7 @@ impl Actor {
         &self.settings
     }
 
-    /// Counts a poll that waits. At the limit of counts the actor stays as it was.
+    /// Counts a waiting poll. At the limit of counts the actor stays as it was.
     pub fn polled(&mut self) -> Result<(), Refusal>
         ensures counted { OnOk result (self.new ≡ record self.old { polls = self.old.polls + 1 }) }
         ensures limit { (result ≡ Err Refusal.CountLimit) ↔ (self.old.polls ≡ most_count) }

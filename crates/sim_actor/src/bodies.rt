@@ -8,14 +8,15 @@ use itoa::Buffer;
 use sqs_model::has_mark;
 use std::alloc::{AllocError, Global};
 
-// How many of some bytes, which do not begin with `{n}`, come before the next brace: they stand as they
-// are.
+// The number of bytes before the next brace, in bytes that do not begin with `{n}`: they are copied
+// as they are.
 fn plain_count(bytes: &[u8]) -> usize
     requires some { 1 ≤ length bytes.now }
     requires plain { has_mark bytes.now ≡ false }
     ensures some { 1 ≤ result }
     ensures within { result ≤ length bytes.now }
-    ensures plain { (n : List ℕ) → the_filled n bytes.now ≡ take result bytes.now ++ the_filled n (drop result bytes.now) }
+    ensures plain { (n : List ℕ)
+        → the_filled n bytes.now ≡ take result bytes.now ++ the_filled n (drop result bytes.now) }
 {
     let mut count = 1;
     while count < bytes.len() && bytes[count] != b'{' {

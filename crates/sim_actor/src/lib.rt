@@ -1,5 +1,6 @@
-//! What an actor does next: a pure decision of a script, a producer or a consumer that is told
-//! that its wake has come, or what its last act got.
+//! The decisions of an actor, which is a script, a producer or a consumer. A decision is a pure
+//! function of the actor and of the answer that it gets: that its wake has come, or the result of
+//! its last act.
 #![tactic(auto)]
 
 mod actor;

@@ -13,7 +13,7 @@ use Rattle.sim_clock.specs.Order.{class_rank, key_cmp}
 classes_compare : (a b : Class) → of_classes.cmp a b ≡ nat_cmp (class_rank a) (class_rank b)
 classes_compare a b = search rules
 
-keys_compare : (a b : Key) → of_keys.cmp a b ≡ key_cmp a b
+pub keys_compare : (a b : Key) → of_keys.cmp a b ≡ key_cmp a b
 keys_compare a b =
     ap (λ class. ordering_then (nat_cmp a.at b.at) (ordering_then (nat_cmp a.agent b.agent) (ordering_then class (nat_cmp a.number b.number))))
     (classes_compare a.class b.class)

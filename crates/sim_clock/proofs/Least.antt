@@ -8,6 +8,7 @@ use Rattle.sim_clock.specs.declared.key.Class.{Class}
 use Rattle.sim_clock.specs.declared.key.Class.TheVariants.{Expiry, Release, Arrival, PollEnd, Wake, Sample, Step}
 use Rattle.sim_clock.specs.Order.{class_rank, key_cmp, lesser, lesser_by, least_by, inserted_by, due_before}
 use Rattle.sim_clock.proofs.Inserted.{exactly, upto_before}
+use Rattle.sim_clock.proofs.Orderings.{nat_not_less, nat_tied, then_not_less}
 
 module _ {A : Type 0} {R : A → A → Ordering} (total : IsTotalOrder R) (tied : (x y : A) → is_eq (R x y) ≡ true → x ≡ y) where
   two_by : (a b : A) (c : Bool) → is_eq (R a b) ≡ c → (if is_lt (R b a) then Some b else Some a) ≡ (if is_lt (R a b) then Some a else Some b)
@@ -46,10 +47,6 @@ module _ {A : Type 0} {R : A → A → Ordering} (total : IsTotalOrder R) (tied 
         | true ↦ refl
         | false ↦ ap (lesser_by R (Some (f x))) (least_inserted f o xs ys) ∙ lesser_swap (f x) (f o) (least_by R (map f xs ++ ys))
       ]
-
--- keys that tie are one
-nat_tied : (x y : ℕ) → is_eq (nat_cmp x y) ≡ true → x ≡ y
-nat_tied x y h = grind (arith)
 
 both : (o p : Ordering) → is_eq (ordering_then o p) ≡ true → (is_eq o ≡ true) × (is_eq p ≡ true)
 both Less p h = (cc, cc)
@@ -92,14 +89,6 @@ key_tied a b h =
     let n : a.number ≡ b.number = nat_tied _ _ class.1 in
     let same : key_of a.at a.agent a.class a.number ≡ key_of b.at b.agent b.class b.number = cc in same
 
-not_lt : (o p : Ordering) → is_lt (ordering_then o p) ≡ false → is_lt o ≡ false
-not_lt Less p h = h
-not_lt Equal p h = refl
-not_lt Greater p h = refl
-
-nat_not_lt : (x y : ℕ) → is_lt (nat_cmp x y) ≡ false → y ≤ x
-nat_not_lt x y h = grind (arith)
-
 not_before : (e at : ℕ) → e ≤ at → nat_lt at e ≡ false
 not_before e at l = grind (arith)
 
@@ -109,7 +98,7 @@ later_by :
     → due_before e (if b then Some c else Some k) ≡ due_before e (Some c)
 later_by e k c true h l = refl
 later_by e k c false h l =
-    let n : k.at ≤ c.at = nat_not_lt c.at k.at (not_lt _ _ h) in rw (not_before e k.at l, not_before e c.at (omega arith)) refl
+    let n : k.at ≤ c.at = nat_not_less c.at k.at (then_not_less _ _ h) in rw (not_before e k.at l, not_before e c.at (omega arith)) refl
 
 none_by : (e : ℕ) (k : Key) → e ≤ k.at → due_before e (Some k) ≡ None
 none_by e k l = rw (not_before e k.at l) refl

@@ -23,18 +23,6 @@ pub place_within : {A : Type 0} (p : A → Bool) (xs : List A) (i : ℕ) → i �
 place_within p xs i e = rw e (prefix_len-le-length (λ x. not (p x)) xs)
 
 module _ {A : Type 0} (R : A → A → Ordering) where
-  -- one more stands at the place of the first that comes after it
-  pub insert_inserted : (x : A) (ys : List A) → insert ys (position_or_len (λ y. is_lt (R x y)) ys) x ≡ inserted_by R x ys
-  insert_inserted x [] = refl
-  insert_inserted x (y ∷ ys) =
-      elim (is_lt (R x y)) as (λ b. insert (y ∷ ys) (cond (not b) (1 + position_or_len (λ y. is_lt (R x y)) ys) 0) x ≡ (if b then x ∷ (y ∷ ys) else y ∷ inserted_by R x ys)) [
-        | true ↦ refl
-        | false ↦ rw one-add (ap (λ w. y ∷ w) (insert_inserted x ys))
-      ]
-
-  pub insert_at_place : (x : A) (ys : List A) (i : ℕ) → i ≡ position_or_len (λ y. is_lt (R x y)) ys → insert ys i x ≡ inserted_by R x ys
-  insert_at_place x ys i e = rw e (insert_inserted x ys)
-
   least_first : (x : A) (ys : List A) → IsBefore R x ys → IsInOrder R ys → lesser_by R (Some x) (least_by R ys) ≡ Some x
   least_first x [] b o = refl
   least_first x (y ∷ ys) b o = rw (least_first y ys o.0 o.1, b) refl

@@ -16,7 +16,7 @@ abbrev pub is_empty : {A : Type 0} → List A → Bool
 is_empty [] = true
 is_empty (x ∷ xs) = false
 
--- a list with one more in front, where that one is kept
+-- a list with one more in front, if that one is kept
 abbrev pub kept_when : {A : Type 0} → Bool → A → List A → List A
 kept_when true x xs = x ∷ xs
 kept_when false x xs = xs

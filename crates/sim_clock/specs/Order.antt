@@ -63,7 +63,7 @@ inserted_by R x (y ∷ ys) = if is_lt (R x y) then x ∷ (y ∷ ys) else y ∷ i
 abbrev pub inserted : Key → List Key → List Key
 inserted = inserted_by key_cmp
 
--- the members of a list in order, each put at its place among those behind it
+-- the members of a list in order, each inserted into those after it
 abbrev pub sorted_by : {A : Type 0} → (A → A → Ordering) → List A → List A
 sorted_by R [] = []
 sorted_by R (x ∷ xs) = inserted_by R x (sorted_by R xs)

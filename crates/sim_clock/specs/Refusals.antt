@@ -1,10 +1,10 @@
--- The numbers and the names of the refusals.
+-- The numbers and the names of the errors.
 use Rattle.std.specs.Prelude.{ℕ, List, codes, [], ◌++◌}
 use Rattle.std.specs.Fmt.{decimal}
 use Rattle.sim_clock.specs.declared.refusal.Refusal.{Refusal}
 use Rattle.sim_clock.specs.declared.refusal.Refusal.TheVariants as refusal
 
--- the number by which users know a refusal
+-- the number by which users know an error
 abbrev pub refusal_code : Refusal → ℕ
 refusal_code refusal.OverLimit = 1
 refusal_code refusal.MessageNotInflight = 2
@@ -64,7 +64,7 @@ refusal_name refusal.Memory = codes "Memory"
 refusal_name refusal.NoWorker = codes "NoWorker"
 refusal_name refusal.Write = codes "Write"
 
--- the values of a refusal that has any, each behind a space
+-- the values of an error that has any, each after a space
 abbrev pub refusal_values : Refusal → List ℕ
 refusal_values (refusal.WindowTooLong window least) = codes " " ++ decimal window ++ codes " " ++ decimal least
 refusal_values _ = []

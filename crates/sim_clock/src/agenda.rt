@@ -9,8 +9,8 @@ use std::cmp::Reverse;
 use std::collections::BinaryHeap;
 use std::marker::Model;
 
-/// The keys of the entries that are due. Contracts see it as the list of its keys in their order;
-/// a key may stand in it more than once.
+/// The keys of the entries that are due. Contracts see it as the list of its keys in their order; a
+/// key may be in it more than once.
 #[derive(Drop)]
 pub struct Agenda {
     heap: BinaryHeap<Reverse<Key>>,
@@ -30,7 +30,7 @@ impl Model for Agenda {
 }
 
 impl Agenda {
-    /// An agenda with nothing in it.
+    /// An empty agenda.
     #[tactic(auto, using(crate::proofs::HeapOrder::is_heap))]
     pub fn new(alloc: Global) -> Agenda
         ensures { result ≡ [] }
@@ -40,7 +40,11 @@ impl Agenda {
         }
     }
 
-    /// Adds a key. The one error is `Memory`, after which the agenda is as it was.
+    /// Adds a key.
+    ///
+    /// # Errors
+    ///
+    /// Only `Memory`, if memory runs out; the agenda is then as it was.
     pub fn push(&mut self, key: Key) -> Result<(), Refusal>
         ensures added { OnOk result (self.new ≡ inserted key self.old) }
         ensures unchanged { OnErr result (self.new ≡ self.old) }
@@ -58,10 +62,11 @@ impl Agenda {
         Some(*key)
     }
 
-    /// Takes the least key out.
+    /// Removes the least key and returns it.
     pub fn pop_least(&mut self) -> Option<Key>
         ensures least { result ≡ least self.old }
-        ensures rest { MatchOption result ((self.old ≡ []) × (self.new ≡ [])) (λ k. self.old ≡ k ∷ self.new) }
+        ensures rest { MatchOption result ((self.old ≡ []) × (self.new ≡ []))
+            (λ k. self.old ≡ k ∷ self.new) }
     {
         let Reverse(key) = self.heap.pop()?;
         Some(key)

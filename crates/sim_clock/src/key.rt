@@ -23,19 +23,19 @@ pub enum Class {
     Step,
 }
 
-/// The key of a due entry. Entries are handled least key first, compared field by field in the
-/// order in which the fields stand here.
+/// The key of a due entry. The entry with the least key is handled first. Keys are compared field
+/// by field, in the order of the fields here.
 #[derive(Clone, Copy, Debug, PartialEq, Eq, PartialOrd, Ord)]
 pub struct Key {
     /// When it is due, in milliseconds from the start of the run.
     pub at: u64,
     /// The agent whose entry it is: the queue of a message or sample, the actor of a wake or poll,
-    /// the task of a step, and of a transfer its sender.
+    /// the task of a step, or the sender of a transfer.
     pub agent: u32,
     /// What becomes due.
     pub class: Class,
-    /// Tells the agent's entries of one class apart: the message's number, or how many of the kind
-    /// the agent had before.
+    /// Distinguishes the agent's entries of one class: the message's number, or how many entries of
+    /// the class the agent had before.
     pub number: u64,
 }
 

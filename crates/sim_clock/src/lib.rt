@@ -1,5 +1,5 @@
 //! Simulated time: the keys that order due entries, the agenda that holds them, and the numbered
-//! refusals that every other crate answers with.
+//! errors that all other crates return.
 #![tactic(auto)]
 
 mod agenda;

@@ -1,4 +1,4 @@
-//! The numbered refusals.
+//! The numbered errors.
 ghost use Rattle.std.specs.Prelude.{◌≡◌};
 ghost use Rattle.sim_clock.specs.Refusals.{refusal_code, refusal_name};
 ghost use Rattle.sim_clock.specs.declared.refusal.Refusal.TheVariants.{Memory};
@@ -7,21 +7,22 @@ use std::alloc::{AllocError, AllocFailed};
 use std::error::Error;
 use std::fmt;
 
-/// Why a call is refused. 1 to 9 are answers of queues and tasks, which stand in the log; 10 to 20
-/// are faults of a scenario; 30 to 36 end a run. Displayed as its name and its values.
+/// Why a call is refused. 1 to 9 are answers of queues and tasks, which appear in the log; 10 to 20
+/// are faults of a scenario; 30 to 36 end a run. It is displayed as its name and its values.
 #[derive(Clone, Copy, Debug, PartialEq, Eq)]
 pub enum Refusal {
     /// A short poll of a standard queue found the in-flight limit reached (SQS: `OverLimit`).
     OverLimit,
     /// A change of visibility of a message that is not in flight (SQS: `MessageNotInflight`).
     MessageNotInflight,
-    /// A delete or change with a receipt that names no message here (SQS: `ReceiptHandleIsInvalid`).
+    /// A delete or change with a receipt that names no message here (SQS:
+    /// `ReceiptHandleIsInvalid`).
     ReceiptHandleIsInvalid,
     /// A visibility timeout over 43,200 seconds, or a change past 12 hours from the receive.
     BadTimeout,
     /// A send to a FIFO queue without a message group (SQS: `MissingParameter`).
     MissingGroup,
-    /// A send to a FIFO queue without a deduplication id where bodies are not compared.
+    /// A send to a FIFO queue without a deduplication id, if the queue does not compare bodies.
     MissingDeduplication,
     /// A delay over 900 seconds, or any delay of its own for a message of a FIFO queue.
     BadDelay,
@@ -41,9 +42,9 @@ pub enum Refusal {
     OutOfRange,
     /// A name that is not well-formed.
     BadName,
-    /// A name that stands earlier among queues, actors and tasks.
+    /// A name that an earlier queue, actor or task has.
     NameTwice,
-    /// A queue that is not there, or may not stand here.
+    /// A queue that does not exist, or may not be named here.
     UnknownQueue,
     /// A queue of the other kind than the one that names it.
     KindMismatch,
@@ -51,7 +52,7 @@ pub enum Refusal {
     TooMany,
     /// A script that is missing or has a bad call.
     BadScript,
-    /// The window is longer than the least latency; both are milliseconds.
+    /// The window is longer than the least latency; both are in milliseconds.
     WindowTooLong { window: u64, least: u64 },
     /// The map does not give every queue one of 1 to 256 partitions.
     BadMap,
@@ -61,14 +62,14 @@ pub enum Refusal {
     CountLimit,
     /// A growth was refused.
     Memory,
-    /// A thread's start was refused.
+    /// The start of a thread was refused.
     NoWorker,
     /// A writer failed.
     Write,
 }
 
 impl Refusal {
-    /// The number of the refusal, by which users and scripts know it.
+    /// The number of the error, by which users and scripts know it.
     pub fn code(&self) -> u8
         ensures { result ≡ refusal_code self.now }
     {
@@ -103,7 +104,7 @@ impl Refusal {
         }
     }
 
-    /// The name of the refusal, as it stands in the log and on standard error.
+    /// The name of the error in the log and on standard error.
     pub fn name(&self) -> &'static str
         ensures { result.now ≡ refusal_name self.now }
     {

@@ -8,8 +8,8 @@ use rand_core::SeedableRng;
 use rand_core::utils::NextWord;
 use std::marker::Model;
 
-/// The random words of one agent under a seed, and how many of them it took. Contracts see it as
-/// seed, agent and that number: what was drawn before decides nothing else.
+/// The random words of one agent under a seed, and how many of them were taken. Contracts see it as
+/// seed, agent and that number: nothing else that was drawn before has an effect.
 #[derive(Drop)]
 pub struct Draws {
     words: ChaCha20Rng,
@@ -31,7 +31,7 @@ impl Model for Draws {
 }
 
 impl Draws {
-    /// The draws of an agent, none of them taken.
+    /// The draws of an agent before the first word.
     pub fn new(seed: u64, agent: u32) -> Draws
         ensures { result ≡ record { seed = seed; agent = agent; taken = 0 } }
     {
@@ -47,7 +47,7 @@ impl Draws {
         }
     }
 
-    /// How many words were taken.
+    /// The number of words that were taken.
     pub fn taken(&self) -> u64
         ensures { result ≡ self.now.taken }
     {
@@ -66,7 +66,7 @@ impl Draws {
         word
     }
 
-    /// A number from `low` to `high`, both included. It takes a word always.
+    /// A number from `low` to `high`, both included. It always takes one word.
     #[tactic(auto, using(crate::proofs::Words::share_within))]
     pub fn uniform(&mut self, low: u64, high: u64) -> u64
         requires words { self.old.taken ≤ most_count }
@@ -82,7 +82,7 @@ impl Draws {
         low + ((u128::from(word) * u128::from(span)) >> 32) as u64
     }
 
-    /// Whether an event comes that has so many chances in a thousand. It takes a word always.
+    /// Whether an event with a chance of `permille` in a thousand occurs. It always takes one word.
     pub fn chance(&mut self, permille: u64) -> bool
         requires words { self.old.taken ≤ most_count }
         ensures event { result ≡ the_chance permille (next_word self.old) }
@@ -92,7 +92,7 @@ impl Draws {
         (u64::from(word) * 1000) >> 32 < permille
     }
 
-    /// A number from `low` to `high`, both included. Where they are equal it takes no word.
+    /// A number from `low` to `high`, both included. If they are equal, it takes no word.
     pub fn between(&mut self, low: u64, high: u64) -> u64
         requires words { low < high → self.old.taken ≤ most_count }
         requires order { low ≤ high }

@@ -10,7 +10,7 @@ use Rattle.sim_engine.specs.Setting.{IsRunOf, Setting}
 use Rattle.sim_engine.specs.World.{IsWholeRun, Run, after, delivered, delivered_one, handled_among, handled_here, handled_there, is_due, least_due, next_due, stepped, stepped_at}
 
 -- the greater of greater numbers is greater
-max_up : (a b c d : ℕ) → a ≤ b → c ≤ d → max a c ≤ max b d
+pub max_up : (a b c d : ℕ) → a ≤ b → c ≤ d → max a c ≤ max b d
 max_up a b c d h k = max-le (omega (arith, h, le-max_left b d)) (omega (arith, k, le-max_right b d))
 
 -- so many more

@@ -1,14 +1,15 @@
 -- Where no partition may go on, the rows from before all bounds are those of the one-list run.
 use Rattle.sim_engine.specs.World.{world_due, IsWholeRun, Run, Stepped, after, handled_here, handled_there, next_due}
-use Rattle.std.specs.declared.cmp.Ordering.{Ordering}
 use Rattle.std.specs.List.{range_with_len}
-use Rattle.std.specs.Ordering.{is_lt, nat_cmp, ordering_then}
+use Rattle.std.specs.Ordering.{is_lt, nat_cmp}
 use Rattle.std.specs.Prelude.{Bool, IsNone, List, None, Option, [], cond, false, filter, if◌then◌else◌, true, ℕ, ◌++◌, ◌<◌, ◌==◌, ◌∷◌, ◌≡◌, ◌≤◌, not, ◌&&◌, map}
-use Rattle.std.proofs.Common.{ap, append-nil, append_assoc, arith, refl, subst, sym, ◌∙◌, true≢false, Less, Equal, Greater, inl, inr}
+use Rattle.std.proofs.Common.{ap, append-nil, append_assoc, arith, refl, subst, sym, ◌∙◌, true≢false, inl, inr}
 use Rattle.std.proofs.lemmas.Bool.{le-ltb, lt-ltb, ltb-false, ltb-true, cases_lt, ne_eqb}
 use Rattle.std.proofs.lemmas.List.Elements.{filter-append}
 use Rattle.sim_clock.specs.declared.key.Key.{Key}
 use Rattle.sim_clock.specs.Order.{IsBefore, IsInOrder, due_before, key_cmp}
+use Rattle.sim_clock.proofs.Orderings.{key_not_less, then_not_less}
+use Rattle.std.proofs.Math.Bool.{and-true}
 use Rattle.sim_engine.specs.declared.edge.Edge.{Edge}
 use Rattle.sim_engine.specs.Laws.{SiteLaws, IsRowOf, RunLaws}
 use Rattle.sim_engine.specs.Machine.{Machine, flushed, of_name}
@@ -23,22 +24,13 @@ use Rattle.sim_engine.proofs.Machines.{Follows, MayNow, early_before}
 use Rattle.sim_engine.proofs.Merge.{after_first, each_filter, merged_whole}
 use Rattle.sim_engine.proofs.Merged.{Owned, below, log_owned, map_same, part_rows, run_order, sent_later, tied_site}
 use Rattle.sim_engine.proofs.OneList.{ended_run}
-use Rattle.sim_engine.proofs.Parts.{ComesBy, before_delivered, each_weaker, key_more}
+use Rattle.sim_engine.proofs.Parts.{ComesBy, before_delivered, each_weaker}
 use Rattle.sim_engine.specs.Members.{Each}
 use Rattle.sim_engine.proofs.Rows.{AreNumbered, InOrder, row_total}
 use Rattle.sim_engine.proofs.Whole.{IsTold, HasWhole}
 use Rattle.sim_engine.proofs.Worlds.{GoesOn, SentFrom, apart, goes_on, left_later, not_before, stepped_is}
 use Rattle.sim_engine.specs.Engine.{Engine}
 use Rattle.sim_engine.specs.Laws.{Conditions}
-
-and_true : (b : Bool) → (b && true) ≡ b
-and_true true = refl
-and_true false = refl
-
-more_first : (o p : Ordering) → is_lt (ordering_then o p) ≡ false → is_lt o ≡ false
-more_first Less p h = h
-more_first Equal p h = refl
-more_first Greater p h = refl
 
 module _ {Site Row Transfer : Type 0} {engine : Engine Site Row Transfer} {conditions : Conditions Site Transfer} (basics : SiteLaws engine conditions) where
   open engine use {number, handled, transfer_key, to, row_key, row_site}
@@ -79,7 +71,7 @@ module _ {Site Row Transfer : Type 0} {engine : Engine Site Row Transfer} {condi
       ] refl
 
   row_more : (y x : Row) → is_lt (row_cmp engine y x) ≡ false → (row_key x).at ≤ (row_key y).at
-  row_more y x h = key_more (row_key y) (row_key x) (more_first (key_cmp (row_key y) (row_key x)) (nat_cmp (row_site y) (row_site x)) h)
+  row_more y x h = key_not_less (row_key y) (row_key x) (then_not_less (key_cmp (row_key y) (row_key x)) (nat_cmp (row_site y) (row_site x)) h)
 
   none_picked : (p : Row → Bool) (xs : List Row) → Each (λ x. p x ≡ false) xs → filter p xs ≡ []
   none_picked p [] h = refl
@@ -215,7 +207,7 @@ module _ {Site Row Transfer : Type 0} {engine : Engine Site Row Transfer} {condi
             let j : filter (is_between engine from to) xs ≡ filter (is_before engine to) xs = sym (ap (λ w. w ++ filter (is_between engine from to) xs) z) ∙ i in
             ap (λ w. w ++ cond (is_before engine to x && true) (x ∷ filter (is_between engine from to) xs) (filter (is_between engine from to) xs)) z
             ∙ ap (λ w. cond (is_before engine to x && true) (x ∷ w) w) j
-            ∙ ap (λ b. cond b (x ∷ filter (is_before engine to) xs) (filter (is_before engine to) xs)) (and_true (is_before engine to x))
+            ∙ ap (λ b. cond b (x ∷ filter (is_before engine to) xs) (filter (is_before engine to) xs)) (and-true (is_before engine to x))
       ] refl
 
   -- and all of them are those up to a moment, and the rest

@@ -15,11 +15,11 @@ module _ {Site Row Transfer : Type 0} {engine : Engine Site Row Transfer} {condi
   open engine use {transfer_key}
 
   -- a world after the handling of its least due, by a moment
-  record Stepping (key : Key) (e : ℕ) (sites late : List Site) : Type 0 where
+  pub record Stepping (key : Key) (e : ℕ) (sites late : List Site) : Type 0 where
     pub sound : IsSoundWorld basics late
     pub fewer : world_count basics e late + tick e key.at ≤ world_count basics e sites
 
-  step_falls : (key : Key) (e : ℕ) (sites : List Site) → e ≤ key.at → IsSoundWorld basics sites → world_due engine sites ≡ Some key → Stepping key e sites (delivered engine (handled_among engine key sites).sent (handled_among engine key sites).sites)
+  pub step_falls : (key : Key) (e : ℕ) (sites : List Site) → e ≤ key.at → IsSoundWorld basics sites → world_due engine sites ≡ Some key → Stepping key e sites (delivered engine (handled_among engine key sites).sent (handled_among engine key sites).sites)
   step_falls key e sites l h d =
       let t : Stepped engine = handled_among engine key sites in
       let f : FallsAmong basics key e sites t = among_falls basics key e sites l h (world_in basics key sites d) in
@@ -29,7 +29,7 @@ module _ {Site Row Transfer : Type 0} {engine : Engine Site Row Transfer} {condi
       record { sound = delivered_sound basics t.sent t.sites f.sound; fewer = omega arith }
 
   -- the least due of a world is one that it has
-  least_counts : (key : Key) (sites : List Site) → IsSoundWorld basics sites → world_due engine sites ≡ Some key → 1 ≤ world_count basics key.at sites
+  pub least_counts : (key : Key) (sites : List Site) → IsSoundWorld basics sites → world_due engine sites ≡ Some key → 1 ≤ world_count basics key.at sites
   least_counts key sites h d =
       let f : FallsAmong basics key key.at sites (handled_among engine key sites) = among_falls basics key key.at sites (omega arith) h (world_in basics key sites d) in
       let m : world_count basics key.at (handled_among engine key sites).sites + tick key.at key.at ≤ world_count basics key.at sites = f.fewer in
@@ -65,7 +65,7 @@ module _ {Site Row Transfer : Type 0} {engine : Engine Site Row Transfer} {condi
     ended m l r c h = (r, record { steps = c.steps; reached = c.reached; ended = ends_by m r (world_due engine r.sites) c h l refl })
 
     -- one more handling
-    next_is : (key : Key) (r : Run engine) → world_due engine r.sites ≡ Some key → key.at ≤ horizon → stepped engine horizon r ≡ run_on engine r.rows (handled_among engine key r.sites)
+    pub next_is : (key : Key) (r : Run engine) → world_due engine r.sites ≡ Some key → key.at ≤ horizon → stepped engine horizon r ≡ run_on engine r.rows (handled_among engine key r.sites)
     next_is key r d l =
         let n : next_due engine horizon r.sites ≡ Some key = rw (d, le-leb key.at horizon l) refl in ap (stepped_at engine r) n
 

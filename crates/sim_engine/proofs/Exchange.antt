@@ -1,16 +1,17 @@
 -- What waits may be delivered in the order of keys, and to each partition what goes to it.
 use Rattle.std.specs.Cmp.{IsTotalOrder}
 use Rattle.std.specs.Ordering.{is_eq, is_lt, on}
-use Rattle.std.specs.Prelude.{Bool, List, [], cond, false, if◌then◌else◌, map, true, ℕ, ◌==◌, ◌∷◌, ◌≡◌}
+use Rattle.std.specs.Prelude.{Bool, List, [], cond, count_by, false, if◌then◌else◌, map, true, ℕ, ◌+◌, ◌==◌, ◌∷◌, ◌≡◌}
 use Rattle.std.specs.declared.cmp.Ordering.{Ordering}
-use Rattle.std.proofs.Common.{Equal, Greater, Less, ap, refl, sym, true≢false, ◌∙◌}
+use Rattle.std.proofs.Common.{Equal, Greater, Less, ap, arith, refl, sym, true≢false, ◌∙◌}
 use Rattle.std.proofs.lemmas.Cmp.{on_total}
 use Rattle.sim_clock.specs.Order.{IsInOrder, inserted_by, key_cmp, key_cmp_total}
 use Rattle.sim_clock.proofs.Inserted.{before_upto, ordered_inserted}
 use Rattle.sim_engine.specs.World.{delivered, delivered_one}
-use Rattle.sim_engine.specs.Exchange.{PartsGetSorted, sorted, sorted_into, to_part}
+use Rattle.sim_engine.specs.Exchange.{PartsGetSorted, SortingKeepsEach, sorted, sorted_into, to_part}
 use Rattle.sim_engine.specs.Parts.{is_of, part_of}
 use Rattle.sim_engine.proofs.Merge.{after_first}
+use Rattle.sim_engine.proofs.MergedLists.{count_cons}
 use Rattle.sim_engine.proofs.Parts.{Differs, goes, map_delivered, part_map}
 use Rattle.sim_engine.specs.Members.{Each}
 use Rattle.sim_engine.specs.Engine.{Engine}
@@ -82,3 +83,25 @@ module _ {Site Row Transfer : Type 0} {engine : Engine Site Row Transfer} {condi
 
   pub parts_get_sorted : PartsGetSorted engine
   parts_get_sorted owner p os sites = part_gets_sorted owner p os sites
+
+  -- sorting: how many pass a test, and the order
+  module _ (picks : Transfer → Bool) where
+    count_inserted : (o : Transfer) (os : List Transfer) → count_by picks (inserted_by by_key o os) ≡ count_by picks (o ∷ os)
+    count_inserted o [] = refl
+    count_inserted o (p ∷ os) =
+        elim (is_lt (by_key o p)) as (λ b. count_by picks (if b then o ∷ (p ∷ os) else p ∷ inserted_by by_key o os) ≡ count_by picks (o ∷ (p ∷ os))) [
+          | true ↦ refl
+          | false ↦ omega (arith, count_cons picks p (inserted_by by_key o os), count_inserted o os, count_cons picks o os, count_cons picks o (p ∷ os), count_cons picks p os)
+        ]
+
+    count_sorted : (done os : List Transfer) → count_by picks (sorted_into engine done os) ≡ count_by picks done + count_by picks os
+    count_sorted done [] = omega arith
+    count_sorted done (o ∷ os) =
+        omega (arith, count_sorted (inserted_by by_key o done) os, count_inserted o done, count_cons picks o done, count_cons picks o os)
+
+  order_sorted : (done os : List Transfer) → IsInOrder by_key done → IsInOrder by_key (sorted_into engine done os)
+  order_sorted done [] h = h
+  order_sorted done (o ∷ os) h = order_sorted (inserted_by by_key o done) os (ordered_inserted by_key_total o done h)
+
+  pub sorting_keeps_each : SortingKeepsEach engine
+  sorting_keeps_each os = record { each = λ picks. omega (arith, count_sorted picks [] os); in_order = order_sorted [] os tt }

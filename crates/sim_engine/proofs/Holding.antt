@@ -33,6 +33,13 @@ module _ {Site Row Transfer : Type 0} {engine : Engine Site Row Transfer} {condi
     told_of : (r : Run engine) → IsRunOf engine s r → (told : List (ℕ × Entry engine)) × IsTold basics owner home s.edges Fine Fits sound.laws s.horizon s.opening r told
     told_of r w = whole_told basics owner home s.edges Fine Fits sound.laws s.horizon s.opening r sound.opens w
 
+    -- the rows of the one-list run are in order
+    pub rows_ordered : (r : Run engine) → IsRunOf engine s r → IsInOrder (row_cmp engine) r.rows
+    rows_ordered r w =
+        let order : InOrder basics home s.edges Fine Fits sound.laws (after engine s.horizon w.steps s.opening) =
+        run_order basics owner home s.edges Fine Fits sound.laws s.horizon w.steps s.opening sound.opens (numbered_ascends engine 0 s.opening sound.numbered) in
+        subst (λ (z : Run engine). IsInOrder (row_cmp engine) z.rows) w.reached order.order
+
     pub holds : (rule : List Site → ℕ → ℕ) → IsSafeRule basics s home Fine Fits sound owner rule → (parts : ℕ) → ((n : ℕ) → owner n < parts) → Holds engine s owner parts rule
     holds rule r parts o =
         let run : (x : Run engine) × IsRunOf engine s x = ends basics s.horizon s.opening (sound_all basics owner home s.edges Fine Fits sound.laws s.opening sound.opens) in
@@ -42,22 +49,18 @@ module _ {Site Row Transfer : Type 0} {engine : Engine Site Row Transfer} {condi
           early = λ picks moment x w through.
               picked_rows basics owner home s.edges Fine Fits sound.laws s.horizon moment (is_before engine moment) (λ y e. e) parts o s.opening sound.opens (numbered_ascends engine 0 s.opening sound.numbered) x w (told_of x w).0 (told_of x w).1 (machine_of engine owner rule s picks) (machine_follows basics s home Fine Fits sound owner rule r picks) through;
           last = λ picks from x w f.
-              let order : InOrder basics home s.edges Fine Fits sound.laws (after engine s.horizon w.steps s.opening) =
-              run_order basics owner home s.edges Fine Fits sound.laws s.horizon w.steps s.opening sound.opens (numbered_ascends engine 0 s.opening sound.numbered) in
               let has : HasWhole basics owner home s.edges Fine Fits sound.laws s.horizon x (told_of x w).0 (machine_of engine owner rule s picks) =
               finished_whole basics owner home s.edges Fine Fits sound.laws s.horizon s.opening x (told_of x w).0 (machine_of engine owner rule s picks) w.ended (told_of x w).1 (machine_follows basics s home Fine Fits sound owner rule r picks) f in
               ap (λ z. filter (is_before engine from) x.rows ++ z)
               (picked_whole basics owner home s.edges Fine Fits sound.laws s.horizon (λ y. not (is_before engine from y)) parts o s.opening sound.opens (numbered_ascends engine 0 s.opening sound.numbered) x w (told_of x w).0 (told_of x w).1 (machine_of engine owner rule s picks) has)
-              ∙ rows_rest basics from x.rows (subst (λ (z : Run engine). IsInOrder (row_cmp engine) z.rows) w.reached order.order);
+              ∙ rows_rest basics from x.rows (rows_ordered x w);
           counts = λ picks p.
               let a : IsAsAfter engine owner s.horizon s.opening p (machine_of engine owner rule s picks) = as_after basics owner home s.edges Fine Fits sound.laws s.horizon s.opening (machine_of engine owner rule s picks) p run.1.steps sound.opens ended (machine_follows basics s home Fine Fits sound owner rule r picks) in
               (a.steps, run_counts basics owner home s.edges Fine Fits sound.laws s.horizon s.opening (machine_of engine owner rule s picks) p sound.opens a);
           next = λ picks from to x w l through.
-              let order : InOrder basics home s.edges Fine Fits sound.laws (after engine s.horizon w.steps s.opening) =
-              run_order basics owner home s.edges Fine Fits sound.laws s.horizon w.steps s.opening sound.opens (numbered_ascends engine 0 s.opening sound.numbered) in
               ap (λ z. filter (is_before engine from) x.rows ++ z)
               (picked_rows basics owner home s.edges Fine Fits sound.laws s.horizon to (is_between engine from to) (λ y e. and_first basics owner (is_before engine to y) (not (is_before engine from y)) e) parts o s.opening sound.opens (numbered_ascends engine 0 s.opening sound.numbered) x w (told_of x w).0 (told_of x w).1 (machine_of engine owner rule s picks) (machine_follows basics s home Fine Fits sound owner rule r picks) through)
-              ∙ rows_split basics from to x.rows l (subst (λ (z : Run engine). IsInOrder (row_cmp engine) z.rows) w.reached order.order);
+              ∙ rows_split basics from to x.rows l (rows_ordered x w);
         }
 
     pub comes : (rule : List Site → ℕ → ℕ) → IsSafeRule basics s home Fine Fits sound owner rule → IsLive basics owner home s.edges Fine Fits sound.laws s.horizon rule → ComesToEnd engine s owner rule

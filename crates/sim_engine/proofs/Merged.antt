@@ -1,21 +1,20 @@
 -- The rows of a finished machine's partitions, merged, are those of the one-list run.
 use Rattle.std.specs.List.{range_with_len}
-use Rattle.std.specs.Cmp.{IsTotalOrder}
-use Rattle.std.specs.Ordering.{is_eq, nat_cmp, on, ordering_then}
-use Rattle.std.proofs.lemmas.Cmp.{nat_cmp_total, on_total}
+use Rattle.std.specs.Ordering.{is_eq, ordering_then}
 use Rattle.std.specs.declared.cmp.Ordering.{Ordering}
-use Rattle.std.specs.Prelude.{Bool, List, None, Option, Some, [], cond, false, filter, if◌then◌else◌, map, suc, true, zero, ℕ, ◌+◌, ◌++◌, ◌<◌, ◌==◌, ◌∷◌, ◌≡◌, ◌≤◌}
+use Rattle.std.specs.Prelude.{Bool, List, None, Option, Some, [], cond, false, filter, if◌then◌else◌, map, suc, true, zero, ℕ, ◌++◌, ◌<◌, ◌==◌, ◌∷◌, ◌≡◌, ◌≤◌}
 use Rattle.std.proofs.Common.{Equal, Greater, Less, ap, arith, refl, subst, sym, ◌∙◌}
 use Rattle.std.proofs.lemmas.Bool.{eq-eqb, eqb-true}
 use Rattle.std.proofs.lemmas.List.Elements.{filter-append}
 use Rattle.sim_clock.specs.declared.key.Key.{Key}
 use Rattle.sim_clock.specs.Order.{IsInOrder}
+use Rattle.sim_clock.proofs.Orderings.{nat_tied}
 use Rattle.sim_engine.specs.declared.edge.Edge.{Edge}
 use Rattle.sim_engine.specs.World.{world_due, IsWholeRun, Run, Stepped, after, handled_among, handled_here, handled_there, next_due, stepped_at}
 use Rattle.sim_engine.specs.Laws.{SiteLaws, IsRowOf, RunLaws}
 use Rattle.sim_engine.specs.Machine.{Machine, of_name}
 use Rattle.sim_engine.specs.Merge.{merged_all, row_cmp}
-use Rattle.sim_engine.specs.Parts.{Entry, handled_in, has_due, part_of}
+use Rattle.sim_engine.specs.Parts.{Entry, handled_in, has_due}
 use Rattle.sim_engine.proofs.Landing.{part_stepped, told_at, told_by}
 use Rattle.sim_engine.specs.Prefixes.{told_after}
 use Rattle.sim_engine.specs.Theorems.{rows_by, rows_of}
@@ -36,14 +35,11 @@ both_eq Less p h = cc
 both_eq Equal p h = h
 both_eq Greater p h = cc
 
-nat_eq : (x y : ℕ) → is_eq (nat_cmp x y) ≡ true → x ≡ y
-nat_eq x y h = grind (arith)
-
 module _ {Site Row Transfer : Type 0} {engine : Engine Site Row Transfer} {conditions : Conditions Site Transfer} (basics : SiteLaws engine conditions) where
   open engine use {number, handled, transfer_key, row_site}
 
   pub tied_site : (a b : Row) → is_eq (row_cmp engine a b) ≡ true → (row_site a) ≡ (row_site b)
-  tied_site a b h = nat_eq (row_site a) (row_site b) (both_eq _ _ h)
+  tied_site a b h = nat_tied (row_site a) (row_site b) (both_eq _ _ h)
 
   module _ (owner home : ℕ → ℕ) (edges : List Edge) (Fine : Site → Type 0) (Fits : Transfer → Type 0) (laws : RunLaws engine conditions edges home Fine Fits) (horizon : ℕ) where
     -- 1. the rows of the one-list run are in order
@@ -139,25 +135,3 @@ module _ {Site Row Transfer : Type 0} {engine : Engine Site Row Transfer} {condi
         λ p. ap (rows_of engine) (h.parts p) ∙ sym (part_rows p told owned) ∙ ap (filter (of_part p)) t.rows in
         ap (merged_all (row_cmp engine)) (map_same (rows_by engine m.told) (λ p. filter (of_part p) r.rows) same (range_with_len 0 parts))
         ∙ merged_whole (row_total basics) (λ x. owner (row_site x)) (λ x y e. ap owner (tied_site x y e)) parts r.rows order (below parts o r.rows)
-
-  -- a world whose sites stand by number is its parts, merged by number
-  abbrev pub site_cmp : Site → Site → Ordering
-  site_cmp = on (λ s. number s) nat_cmp
-
-  site_total : IsTotalOrder site_cmp
-  site_total = on_total (λ s. number s) nat_cmp_total
-
-  in_number : (low : ℕ) (w : List Site) → AreNumbered basics low w → IsInOrder site_cmp w
-  in_number low [] h = tt
-  in_number low (s ∷ []) h = (tt, tt)
-  in_number low (s ∷ (x ∷ xs)) h =
-      let l : number s + 1 ≤ number x = h.1.0 in
-      (grind (arith, l), in_number (number s + 1) (x ∷ xs) h.1)
-
-  sites_below : (owner : ℕ → ℕ) (parts : ℕ) → ((n : ℕ) → owner n < parts) → (w : List Site) → Each (λ s. owner (number s) < parts) w
-  sites_below owner parts o [] = tt
-  sites_below owner parts o (s ∷ ss) = (o (number s), sites_below owner parts o ss)
-
-  pub world_of_parts : (owner : ℕ → ℕ) (parts low : ℕ) → ((n : ℕ) → owner n < parts) → (w : List Site) → AreNumbered basics low w → merged_all site_cmp (map (λ p. part_of engine owner p w) (range_with_len 0 parts)) ≡ w
-  world_of_parts owner parts low o w a =
-      merged_whole site_total (λ s. owner (number s)) (λ x y e. ap owner (nat_eq (number x) (number y) e)) parts w (in_number low w a) (sites_below owner parts o w)

@@ -1,50 +1,46 @@
 -- The merge of several lists has each member as often as they have together, and is in order where they are.
 use Rattle.std.specs.Cmp.{IsTotalOrder}
-use Rattle.std.specs.Ordering.{is_lt, ordering_reverse}
+use Rattle.std.specs.Ordering.{is_lt}
 use Rattle.std.specs.Prelude.{All, Bool, List, [], count_by, false, if◌then◌else◌, sum_by, true, ℕ, ◌+◌, ◌∷◌, ◌≡◌}
 use Rattle.std.specs.declared.cmp.Ordering.{Ordering}
-use Rattle.std.proofs.Common.{Equal, Greater, Less, arith, cond, refl}
+use Rattle.std.proofs.Common.{arith, cond, refl}
 use Rattle.std.proofs.lemmas.List.Elements.{All-head, All-tail}
 use Rattle.std.proofs.lemmas.List.Sums.{sum_by-cons}
 use Rattle.sim_clock.specs.Order.{IsBefore, IsInOrder}
+use Rattle.sim_clock.proofs.Orderings.{less_not_back}
 use Rattle.sim_engine.specs.Merge.{IsMergeOf, merged, merged_all, merged_one}
 
 -- 1. how many members pass a test
-module _ {A : Type 0} (R : A → A → Ordering) (picks : A → Bool) where
-  abbrev ticks : A → ℕ
+module _ {A : Type 0} (picks : A → Bool) where
+  abbrev pub ticks : A → ℕ
   ticks x = cond (picks x) 1 0
 
-  count_cons : (x : A) (xs : List A) → count_by picks (x ∷ xs) ≡ ticks x + count_by picks xs
+  pub count_cons : (x : A) (xs : List A) → count_by picks (x ∷ xs) ≡ ticks x + count_by picks xs
   count_cons x xs = sum_by-cons ticks x xs
 
+module _ {A : Type 0} (R : A → A → Ordering) (picks : A → Bool) where
   count_one :
       (x : A) (n : ℕ) (rest : List A → List A) → ((ys : List A) → count_by picks (rest ys) ≡ n + count_by picks ys)
-      → (ys : List A) → count_by picks (merged_one R x rest ys) ≡ ticks x + n + count_by picks ys
-  count_one x n rest h [] = omega (arith, count_cons x (rest []), h [])
+      → (ys : List A) → count_by picks (merged_one R x rest ys) ≡ ticks picks x + n + count_by picks ys
+  count_one x n rest h [] = omega (arith, count_cons picks x (rest []), h [])
   count_one x n rest h (y ∷ ys) =
-      elim (is_lt (R y x)) as (λ b. count_by picks (if b then y ∷ merged_one R x rest ys else x ∷ rest (y ∷ ys)) ≡ ticks x + n + count_by picks (y ∷ ys)) [
-        | true ↦ omega (arith, count_cons y (merged_one R x rest ys), count_cons y ys, count_one x n rest h ys)
-        | false ↦ omega (arith, count_cons x (rest (y ∷ ys)), h (y ∷ ys))
+      elim (is_lt (R y x)) as (λ b. count_by picks (if b then y ∷ merged_one R x rest ys else x ∷ rest (y ∷ ys)) ≡ ticks picks x + n + count_by picks (y ∷ ys)) [
+        | true ↦ omega (arith, count_cons picks y (merged_one R x rest ys), count_cons picks y ys, count_one x n rest h ys)
+        | false ↦ omega (arith, count_cons picks x (rest (y ∷ ys)), h (y ∷ ys))
       ]
 
   count_merged : (xs ys : List A) → count_by picks (merged R xs ys) ≡ count_by picks xs + count_by picks ys
   count_merged [] ys = omega arith
-  count_merged (x ∷ xs) ys = omega (arith, count_one x (count_by picks xs) (merged R xs) (count_merged xs) ys, count_cons x xs)
+  count_merged (x ∷ xs) ys = omega (arith, count_one x (count_by picks xs) (merged R xs) (count_merged xs) ys, count_cons picks x xs)
 
   pub count_all : (lists : List (List A)) → count_by picks (merged_all R lists) ≡ sum_by (count_by picks) lists
   count_all [] = refl
   count_all (l ∷ ls) = omega (arith, count_merged l (merged_all R ls), count_all ls, sum_by-cons (count_by picks) l ls)
 
--- 2. lists in order
-not_after : (o : Ordering) → is_lt o ≡ true → is_lt (ordering_reverse o) ≡ false
-not_after Less h = refl
-not_after Equal h = refl
-not_after Greater h = cc
-
 module _ {A : Type 0} {R : A → A → Ordering} (total : IsTotalOrder R) where
   -- one that comes before another doesn't come after it
   pub later : (x y : A) → is_lt (R y x) ≡ true → is_lt (R x y) ≡ false
-  later x y h = rw (total.antisymm x y) (not_after (R y x) h)
+  later x y h = rw (total.antisymm x y) (less_not_back (R y x) h)
 
   before_one : (z x : A) (rest : List A → List A) (ys : List A) → is_lt (R x z) ≡ false → IsBefore R z ys → IsBefore R z (merged_one R x rest ys)
   before_one z x rest [] h k = h

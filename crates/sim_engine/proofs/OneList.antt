@@ -2,16 +2,16 @@
 use Rattle.std.specs.Prelude.{Bool, IsNone, List, None, Option, Some, [], cond, false, if◌then◌else◌, nat_le, not, suc, true, zero, ℕ, ◌&&◌, ◌+◌, ◌++◌, ◌<◌, ◌∷◌, ◌≡◌, ◌≤◌}
 use Rattle.std.proofs.Common.{Equal, Greater, Less, ap, append-nil, append_assoc, arith, inl, inr, refl, subst, sym, ◌∙◌}
 use Rattle.std.proofs.lemmas.Bool.{eq-eqb, le-ltb, leb-false, leb-true}
-use Rattle.std.specs.Ordering.{is_eq, is_lt, ordering_reverse}
+use Rattle.std.specs.Ordering.{is_eq, is_lt}
 use Rattle.std.specs.declared.cmp.Ordering.{Ordering}
 use Rattle.sim_clock.specs.declared.key.Key.{Key}
 use Rattle.sim_clock.specs.Order.{due_before, key_cmp, key_cmp_total, lesser}
 use Rattle.sim_clock.proofs.Inserted.{exactly, upto_before}
 use Rattle.sim_clock.proofs.Least.{key_tied}
+use Rattle.sim_clock.proofs.Orderings.{key_self, less_not_back}
 use Rattle.sim_engine.specs.declared.edge.Edge.{Edge}
 use Rattle.sim_engine.specs.World.{least_due, world_due, Run, after, due_by, handled_among, handled_here, handled_there, is_due, next_due, run_on, stepped_at}
 use Rattle.sim_engine.proofs.Branches.{either}
-use Rattle.sim_engine.proofs.Keys.{key_self}
 use Rattle.sim_engine.proofs.WorldMoves.{DueIn, is_due_least, world_in}
 use Rattle.sim_engine.specs.Parts.{Entry, entry_of, handled_in, is_of, part_due, part_of}
 use Rattle.sim_engine.proofs.Landing.{HoldsOff, landed, part_stepped, part_stepped_at, told_at, told_by}
@@ -30,13 +30,8 @@ abbrev pub NotLess : Key → Option Key → Type 0
 NotLess key None = Unit {0}
 NotLess key (Some j) = is_lt (key_cmp j key) ≡ false
 
-not_back : (o : Ordering) → is_lt o ≡ true → is_lt (ordering_reverse o) ≡ false
-not_back Less h = refl
-not_back Equal h = refl
-not_back Greater h = cc
-
 less_back : (a b : Key) → is_lt (key_cmp b a) ≡ true → is_lt (key_cmp a b) ≡ false
-less_back a b h = ap is_lt (key_cmp_total.antisymm a b) ∙ not_back (key_cmp b a) h
+less_back a b h = ap is_lt (key_cmp_total.antisymm a b) ∙ less_not_back (key_cmp b a) h
 
 eq_not : (o : Ordering) → is_eq o ≡ true → is_lt o ≡ false
 eq_not Less h = cc

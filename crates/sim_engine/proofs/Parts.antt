@@ -1,12 +1,12 @@
 -- Handlings in partitions, beside handlings in others and beside deliveries.
-use Rattle.std.specs.Prelude.{Bool, List, None, Option, Some, [], cond, false, if◌then◌else◌, map, nat_lt, true, ℕ, ◌&&◌, ◌++◌, ◌<◌, ◌==◌, ◌∷◌, ◌≡◌, ◌≤◌, ◌⊎◌}
-use Rattle.std.proofs.Common.{Equal, Greater, Less, ap, arith, inl, inr, refl, subst, sym, ◌∙◌}
+use Rattle.std.specs.Prelude.{Bool, List, None, Option, Some, [], cond, false, if◌then◌else◌, map, nat_lt, true, ℕ, ◌&&◌, ◌++◌, ◌<◌, ◌==◌, ◌∷◌, ◌≡◌, ◌≤◌}
+use Rattle.std.proofs.Common.{ap, arith, refl, subst, sym, ◌∙◌}
 use Rattle.std.proofs.lemmas.Bool.{and_left, eqb-false, eqb-true, ltb-false, ltb-true}
-use Rattle.std.specs.Ordering.{is_lt, nat_cmp, ordering_then}
-use Rattle.std.specs.declared.cmp.Ordering.{Ordering}
+use Rattle.std.specs.Ordering.{is_lt}
 use Rattle.sim_clock.specs.declared.key.Key.{Key}
 use Rattle.sim_clock.specs.Order.{due_before, key_cmp, lesser, same_key}
 use Rattle.sim_clock.proofs.Least.{key_tied}
+use Rattle.sim_clock.proofs.Orderings.{key_less, key_not_less}
 use Rattle.sim_engine.specs.World.{least_due, world_due, Stepped, delivered, delivered_one, handled_among, handled_here, handled_there, is_due, has_key}
 use Rattle.sim_engine.specs.Engine.{Engine, Handled}
 use Rattle.sim_engine.specs.Laws.{Conditions}
@@ -23,30 +23,6 @@ each_weaker P Q f (x ∷ xs) h = (f x h.0, each_weaker P Q f xs h.1)
 pub each_append : {A : Type 0} (P : A → Type 0) (xs ys : List A) → Each P xs → Each P ys → Each P (xs ++ ys)
 each_append P [] ys h k = k
 each_append P (x ∷ xs) ys h k = (h.0, each_append P xs ys h.1 k)
-
--- the lesser of two keys is not later than the other
-less_at : (o p : Ordering) → is_lt (ordering_then o p) ≡ true → (is_lt o ≡ true) ⊎ (o ≡ Equal)
-less_at Less p h = inl refl
-less_at Equal p h = inr refl
-less_at Greater p h = cc
-
-more_at : (o p : Ordering) → is_lt (ordering_then o p) ≡ false → is_lt o ≡ false
-more_at Less p h = h
-more_at Equal p h = refl
-more_at Greater p h = refl
-
-nat_less : (x y : ℕ) → (is_lt (nat_cmp x y) ≡ true) ⊎ (nat_cmp x y ≡ Equal) → x ≤ y
-nat_less x y (inl h) = grind (arith)
-nat_less x y (inr h) = grind (arith)
-
-nat_more : (x y : ℕ) → is_lt (nat_cmp x y) ≡ false → y ≤ x
-nat_more x y h = grind (arith)
-
-pub key_less : (a b : Key) → is_lt (key_cmp a b) ≡ true → a.at ≤ b.at
-key_less a b h = nat_less a.at b.at (less_at _ _ h)
-
-pub key_more : (a b : Key) → is_lt (key_cmp a b) ≡ false → b.at ≤ a.at
-key_more a b h = nat_more a.at b.at (more_at _ _ h)
 
 not_both : (e x y : ℕ) → y ≤ x → nat_lt x e ≡ true → nat_lt y e ≡ false → ⊥
 not_both e x y l h k = absurd (grind (arith, ltb-true x e h, ltb-false y e k))
@@ -353,7 +329,7 @@ module _ {Site Row Transfer : Type 0} {engine : Engine Site Row Transfer} {condi
   before_by e a b true true false h i j = absurd (not_both e a.at b.at (key_less b a h) i j)
   before_by e a b false true false h i j = rw i refl
   before_by e a b true false true h i j = rw j refl
-  before_by e a b false false true h i j = absurd (not_both e b.at a.at (key_more b a h) j i)
+  before_by e a b false false true h i j = absurd (not_both e b.at a.at (key_not_less b a h) j i)
   before_by e a b true false false h i j = rw j refl
   before_by e a b false false false h i j = rw i refl
 

@@ -4,6 +4,7 @@ use Rattle.std.proofs.Common.{ap, append-nil, arith, inl, inr, length-append, re
 use Rattle.std.proofs.lemmas.Bool.{cases_lt}
 use Rattle.std.proofs.lemmas.List.Elements.{filter-append}
 use Rattle.sim_clock.specs.declared.key.Key.{Key}
+use Rattle.std.proofs.lemmas.List.{nil_from_length}
 use Rattle.sim_engine.specs.declared.edge.Edge.{Edge}
 use Rattle.sim_engine.specs.World.{Stepped, after, handled_among, delivered, delivered_one, next_due}
 use Rattle.sim_engine.proofs.Branches.{either}
@@ -22,10 +23,6 @@ use Rattle.sim_engine.specs.Laws.{SiteLaws, RunLaws}
 use Rattle.sim_engine.specs.Engine.{Engine}
 use Rattle.sim_engine.specs.Laws.{Conditions}
 
-none_long : {A : Type 0} (xs : List A) → length xs ≡ 0 → xs ≡ []
-none_long [] h = refl
-none_long (x ∷ xs) h = absurd (omega arith)
-
 module _ {Site Row Transfer : Type 0} {engine : Engine Site Row Transfer} {conditions : Conditions Site Transfer} (basics : SiteLaws engine conditions) where
   open engine use {number, accepted, to, Core, core}
   open basics use {kept_core}
@@ -37,7 +34,7 @@ module _ {Site Row Transfer : Type 0} {engine : Engine Site Row Transfer} {condi
       let e : core (delivered_one engine o s) ≡ core s = either (λ (x : Site). core x ≡ core s) ((to o) == number s) (accepted o s) s (kept_core o s) refl in
       ap (λ (c : Core). c ∷ map core (map (delivered_one engine o) ss)) e ∙ ap (λ z. core s ∷ z) (map_cores o ss)
 
-  delivered_cores : (os : List Transfer) (w : List Site) → map core (delivered engine os w) ≡ map core w
+  pub delivered_cores : (os : List Transfer) (w : List Site) → map core (delivered engine os w) ≡ map core w
   delivered_cores [] w = refl
   delivered_cores (o ∷ os) w = delivered_cores os (map (delivered_one engine o) w) ∙ map_cores o w
 
@@ -79,11 +76,11 @@ module _ {Site Row Transfer : Type 0} {engine : Engine Site Row Transfer} {condi
     empty_both a b x y h l (inl e) =
         let n : length (a ++ x) ≡ length (b ++ y) = ap (λ z. length z) h in
         let z : length x ≡ 0 = ap (λ v. length v) e in
-        (e, none_long y (omega (arith, length-append a x, length-append b y)))
+        (e, nil_from_length y (omega (arith, length-append a x, length-append b y)))
     empty_both a b x y h l (inr e) =
         let n : length (a ++ x) ≡ length (b ++ y) = ap (λ z. length z) h in
         let z : length y ≡ 0 = ap (λ v. length v) e in
-        (none_long x (omega (arith, length-append a x, length-append b y)), e)
+        (nil_from_length x (omega (arith, length-append a x, length-append b y)), e)
 
     alike : (p : ℕ) (ps gs : List ℕ) (w : List Site) → IsRun (part_stepped basics owner) Now ps w → IsRun (part_stepped basics owner) Now gs w → length (of_name p (logged ps w)) ≡ length (of_name p (logged gs w)) → Alike p ps gs w
     alike p ps gs w h k l =

@@ -37,7 +37,7 @@ is_some_right None b h = h
 is_some_right (Some a) None h = refl
 is_some_right (Some a) (Some b) h = elim (is_lt (key_cmp b a)) as (λ c. is_some (if c then Some b else Some a) ≡ true) [ true ↦ refl | false ↦ refl ]
 
-some_of : (d : Option Key) → is_some d ≡ true → (k : Key) × (d ≡ Some k)
+pub some_of : (d : Option Key) → is_some d ≡ true → (k : Key) × (d ≡ Some k)
 some_of None h = absurd (let x : false ≡ true = h in true≢false (sym x))
 some_of (Some k) h = (k, refl)
 

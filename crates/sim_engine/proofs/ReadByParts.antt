@@ -20,7 +20,7 @@ use Rattle.sim_engine.specs.Laws.{Conditions}
 use Rattle.sim_engine.specs.Laws.{SiteLaws}
 
 -- nothing by the horizon is nothing before the moment after it
-past_by : (horizon : ℕ) (d : Option Key) → due_by horizon d ≡ None → due_before (horizon + 1) d ≡ None
+pub past_by : (horizon : ℕ) (d : Option Key) → due_by horizon d ≡ None → due_before (horizon + 1) d ≡ None
 past_by horizon None h = refl
 past_by horizon (Some k) h =
     elim (nat_le k.at horizon) as (λ b. nat_le k.at horizon ≡ b → (if b then Some k else None) ≡ None → due_before (horizon + 1) (Some k) ≡ None) [
@@ -28,7 +28,7 @@ past_by horizon (Some k) h =
       | false ↦ λ e f. let l : horizon < k.at = leb-false k.at horizon e in ap (λ b. if b then Some k else None) (le-ltb k.at (horizon + 1) (omega arith))
     ] refl h
 
-by_past : (horizon : ℕ) (d : Option Key) → due_before (horizon + 1) d ≡ None → due_by horizon d ≡ None
+pub by_past : (horizon : ℕ) (d : Option Key) → due_before (horizon + 1) d ≡ None → due_by horizon d ≡ None
 by_past horizon None h = refl
 by_past horizon (Some k) h = let l : horizon + 1 ≤ k.at = not_before (horizon + 1) k h in ap (λ b. if b then Some k else None) (lt-leb k.at horizon (omega arith))
 

@@ -9,11 +9,11 @@ use Rattle.sim_clock.specs.declared.key.Key.{Key}
 use Rattle.sim_clock.specs.Order.{IsInOrder, key_cmp, key_cmp_total, least, lesser}
 use Rattle.sim_clock.proofs.Inserted.{upto_before}
 use Rattle.sim_clock.proofs.Least.{key_tied}
+use Rattle.sim_clock.proofs.Orderings.{key_self}
 use Rattle.sim_engine.specs.declared.edge.Edge.{Edge}
 use Rattle.sim_engine.specs.World.{least_due, world_due, Run, Stepped, delivered, delivered_one, handled_among, handled_here, handled_there, is_due, run_on}
 use Rattle.sim_engine.specs.Members.{Ascends, In, Each}
 use Rattle.sim_engine.specs.Laws.{SiteLaws, IsRowOf, RunLaws}
-use Rattle.sim_engine.proofs.Keys.{key_self}
 use Rattle.sim_engine.proofs.WorldMoves.{DueIn, is_due_least, least_in, world_in}
 use Rattle.sim_engine.specs.Merge.{row_cmp}
 use Rattle.sim_engine.proofs.OneList.{NotLess, all_not_less, first_least, joined, not_self, parts, second_least}

@@ -18,10 +18,10 @@ module _ {Site Row Transfer : Type 0} {engine : Engine Site Row Transfer} {condi
   open engine use {number, Core, core, site_count}
 
   -- counts of sites are counts of their cores
-  abbrev cores_count : List Core → ℕ
+  abbrev pub cores_count : List Core → ℕ
   cores_count cs = greatest (map site_count cs)
 
-  sites_cores : (w : List Site) → sites_count engine w ≡ cores_count (map core w)
+  pub sites_cores : (w : List Site) → sites_count engine w ≡ cores_count (map core w)
   sites_cores [] = refl
   sites_cores (s ∷ ss) = ap (max (site_count (core s))) (sites_cores ss)
 

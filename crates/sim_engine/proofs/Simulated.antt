@@ -7,7 +7,7 @@ use Rattle.sim_engine.specs.Setting.{Setting}
 use Rattle.sim_engine.specs.Simulated.{IsSimulated}
 use Rattle.sim_engine.proofs.Ends.{ends}
 use Rattle.sim_engine.proofs.Finished.{at_own_bounds}
-use Rattle.sim_engine.proofs.Holding.{ends_at_own_bounds, holds_at_own_bounds}
+use Rattle.sim_engine.proofs.Holding.{ends_at_own_bounds, holds_at_own_bounds, rows_ordered}
 use Rattle.sim_engine.proofs.Keeping.{machines_keep_bounds, machines_stay_from}
 use Rattle.sim_engine.proofs.Worlds.{sound_all}
 
@@ -22,6 +22,7 @@ module _ {Site Row Transfer : Type 0} {engine : Engine Site Row Transfer} {condi
         past = sound.past;
         run = run.0;
         is_run = run.1;
+        ordered = λ r w. rows_ordered basics s home Fine Fits sound (λ n. n) r w;
         finished = at_own_bounds basics s home Fine Fits sound;
         holds = holds_at_own_bounds basics s home Fine Fits sound;
         ends = ends_at_own_bounds basics s home Fine Fits sound;

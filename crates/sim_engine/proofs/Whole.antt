@@ -1,33 +1,28 @@
 -- A finished machine has the last world of the one-list run, and each partition's handlings told what they told there.
 use Rattle.std.specs.List.{list_all}
 use Rattle.std.specs.Option.{is_some}
-use Rattle.std.specs.Prelude.{Bool, IsNone, List, None, Option, Some, [], false, length, nat_le, not, true, ℕ, ◌&&◌, ◌+◌, ◌++◌, ◌<◌, ◌∷◌, ◌≡◌, ◌≤◌}
+use Rattle.std.specs.Prelude.{IsNone, List, None, Option, Some, [], false, length, nat_le, not, true, ℕ, ◌+◌, ◌++◌, ◌<◌, ◌∷◌, ◌≡◌, ◌≤◌}
 use Rattle.std.proofs.Common.{ap, append-nil, arith, refl, subst, sym, ◌∙◌}
-use Rattle.std.proofs.lemmas.Bool.{leb-false, lt-leb}
+use Rattle.std.proofs.lemmas.Bool.{and_parts, leb-false, lt-leb}
 use Rattle.sim_clock.specs.declared.key.Key.{Key}
 use Rattle.sim_clock.specs.Order.{due_before}
 use Rattle.sim_engine.specs.declared.edge.Edge.{Edge}
 use Rattle.sim_engine.specs.World.{world_due, IsWholeRun, Run, after, due_by, next_due}
-use Rattle.sim_engine.specs.declared.picks.Pick.{Pick}
-use Rattle.sim_engine.specs.Machine.{Machine, flushed, is_finished, opened, played_all, of_name}
+use Rattle.sim_engine.specs.Machine.{Machine, flushed, is_finished, of_name}
 use Rattle.sim_engine.specs.Parts.{Entry, part_due}
 use Rattle.sim_engine.proofs.Landing.{part_stepped, told_by}
 use Rattle.sim_engine.specs.Prefixes.{told_after}
 use Rattle.sim_engine.proofs.Runs.{IsRun, log, play}
 use Rattle.sim_engine.proofs.Confluence.{Joined, joined}
-use Rattle.sim_engine.proofs.Machines.{Follows, IsRule, MayNow, begins, follows}
+use Rattle.sim_engine.proofs.Machines.{Follows, MayNow}
 use Rattle.sim_engine.proofs.OneList.{IsTurns, ended_before, ended_run, part_none, turns, world_none_of}
 use Rattle.sim_engine.specs.Theorems.{rows_of}
 use Rattle.sim_engine.proofs.Parts.{ComesBy, before_delivered, each_weaker}
 use Rattle.sim_engine.specs.Members.{Each}
-use Rattle.sim_engine.proofs.Worlds.{AreSafe, apart, not_before}
+use Rattle.sim_engine.proofs.Worlds.{apart, not_before}
 use Rattle.sim_engine.specs.Laws.{SiteLaws, RunLaws}
 use Rattle.sim_engine.specs.Engine.{Engine}
 use Rattle.sim_engine.specs.Laws.{Conditions}
-
-both_true : (a b : Bool) → (a && b) ≡ true → (a ≡ true) × (b ≡ true)
-both_true true b h = (refl, h)
-both_true false b h = cc
 
 not_some_none : (d : Option Key) → not (is_some d) ≡ true → IsNone d
 not_some_none None h = refl
@@ -52,14 +47,14 @@ module _ {Site Row Transfer : Type 0} {engine : Engine Site Row Transfer} {condi
   all_past : (horizon : ℕ) (os : List Transfer) → list_all (λ o. not (nat_le (transfer_key o).at horizon)) os ≡ true → Each (λ o. horizon < (transfer_key o).at) os
   all_past horizon [] h = tt
   all_past horizon (o ∷ os) h =
-      let b : (not (nat_le (transfer_key o).at horizon) ≡ true) × (list_all (λ o. not (nat_le (transfer_key o).at horizon)) os ≡ true) = both_true _ _ h in
+      let b : (not (nat_le (transfer_key o).at horizon) ≡ true) × (list_all (λ o. not (nat_le (transfer_key o).at horizon)) os ≡ true) = and_parts _ _ h in
       (past_one horizon (transfer_key o).at b.0, all_past horizon os b.1)
 
   module _ (owner home : ℕ → ℕ) (edges : List Edge) (Fine : Site → Type 0) (Fits : Transfer → Type 0) (laws : RunLaws engine conditions edges home Fine Fits) (horizon : ℕ) where
     -- nothing is left of a finished machine's world
     flushed_ends : (m : Machine engine) → is_finished engine horizon m ≡ true → IsNone (next_due engine horizon (flushed engine m))
     flushed_ends m h =
-        let b : (not (is_some (next_due engine horizon m.sites)) ≡ true) × (list_all (λ o. not (nat_le (transfer_key o).at horizon)) m.waiting ≡ true) = both_true _ _ h in
+        let b : (not (is_some (next_due engine horizon m.sites)) ≡ true) × (list_all (λ o. not (nat_le (transfer_key o).at horizon)) m.waiting ≡ true) = and_parts _ _ h in
         let n : due_before (horizon + 1) (world_due engine m.sites) ≡ None = ended_before basics owner home edges Fine Fits laws horizon m.sites (not_some_none (next_due engine horizon m.sites) b.0) in
         let past : Each (λ o. horizon < (transfer_key o).at) m.waiting = all_past horizon m.waiting b.1 in
         let each : (p : ℕ) → due_before (horizon + 1) (part_due engine owner p (flushed engine m)) ≡ None =
@@ -123,14 +118,3 @@ module _ {Site Row Transfer : Type 0} {engine : Engine Site Row Transfer} {condi
               ∙ ap (of_name p) t.log;
           count = omega arith;
         }
-
-    -- the theorem: whatever was picked, a finished machine has the last world of the one-list run, and each partition told what it told there
-    pub machine_whole :
-        (rule : List Site → ℕ → ℕ) (ruled : IsRule basics owner home edges Fine Fits laws horizon rule) (start : List Site) (bounds : ℕ → ℕ)
-        → Each Fine start → AreSafe basics owner home edges Fine Fits laws bounds start → ((p : ℕ) → bounds p ≤ horizon + 1)
-        → (r : Run engine) → IsWholeRun engine horizon start r → (told : List (ℕ × Entry engine)) → IsTold start r told → (xs : List Pick)
-        → is_finished engine horizon (played_all engine owner horizon rule xs (opened engine bounds start)) ≡ true
-        → HasWhole r told (played_all engine owner horizon rule xs (opened engine bounds start))
-    machine_whole rule ruled start bounds h s c r w told t xs f =
-        finished_whole start r told (played_all engine owner horizon rule xs (opened engine bounds start)) w.ended t
-        (follows basics owner home edges Fine Fits laws horizon rule ruled start xs (opened engine bounds start) (begins basics owner home edges Fine Fits laws horizon rule ruled start bounds h s c)) f

@@ -1,9 +1,8 @@
 -- The handling of the least due of a world, and the delivery of what it sends, make nothing due by the present.
 use Rattle.std.specs.Prelude.{All, Bool, List, None, Option, Some, [], false, if◌then◌else◌, map, true, ℕ, ◌+◌, ◌<◌, ◌==◌, ◌∷◌, ◌≡◌, ◌≤◌, ◌⊎◌}
-use Rattle.std.proofs.Common.{Equal, Greater, Less, ap, arith, inl, inr, refl, sym, ◌∙◌, subst}
+use Rattle.std.proofs.Common.{ap, arith, inl, inr, refl, sym, ◌∙◌, subst}
 use Rattle.std.proofs.lemmas.List.Elements.{All-cons, All-head, All-map, All-tail, All-weaker}
-use Rattle.std.specs.Ordering.{is_lt, nat_cmp, ordering_then}
-use Rattle.std.specs.declared.cmp.Ordering.{Ordering}
+use Rattle.std.specs.Ordering.{is_lt}
 use Rattle.sim_clock.specs.declared.key.Key.{Key}
 use Rattle.sim_clock.specs.Order.{key_cmp, least, lesser}
 use Rattle.sim_clock.proofs.Least.{key_tied}
@@ -11,50 +10,20 @@ use Rattle.sim_engine.specs.World.{least_due, world_due, Stepped, delivered, del
 use Rattle.sim_engine.specs.Members.{count_due, In}
 use Rattle.sim_engine.proofs.Counts.{count_is, tick, tick_less, tick_now, tick_past, total}
 use Rattle.sim_engine.proofs.Branches.{either}
-use Rattle.sim_engine.proofs.Keys.{key_self}
 use Rattle.sim_engine.specs.Laws.{SiteLaws, MovesOn}
 use Rattle.sim_engine.specs.Engine.{Engine, Handled}
 use Rattle.sim_engine.specs.Laws.{Conditions}
 use Rattle.std.proofs.lemmas.Bool.{cases_lt}
+use Rattle.sim_clock.proofs.Orderings.{key_less, key_not_less, key_self}
 
 -- 1 for a due that has come by a moment, else 0
 abbrev pub tick_key : ℕ → Option Key → ℕ
 tick_key e None = 0
 tick_key e (Some k) = tick e k.at
 
--- the lesser of two is not later than either
-less_at : (o p : Ordering) → is_lt (ordering_then o p) ≡ true → (is_lt o ≡ true) ⊎ (o ≡ Equal)
-less_at Less p h = inl refl
-less_at Equal p h = inr refl
-less_at Greater p h = cc
-
-more_at : (o p : Ordering) → is_lt (ordering_then o p) ≡ false → is_lt o ≡ false
-more_at Less p h = h
-more_at Equal p h = refl
-more_at Greater p h = refl
-
-nat_less : (x y : ℕ) → is_lt (nat_cmp x y) ≡ true → x ≤ y
-nat_less x y h = grind (arith)
-
-nat_same : (x y : ℕ) → nat_cmp x y ≡ Equal → x ≤ y
-nat_same x y h = grind (arith)
-
-nat_more : (x y : ℕ) → is_lt (nat_cmp x y) ≡ false → y ≤ x
-nat_more x y h = grind (arith)
-
-less_or_same : (x y : ℕ) → (is_lt (nat_cmp x y) ≡ true) ⊎ (nat_cmp x y ≡ Equal) → x ≤ y
-less_or_same x y (inl h) = nat_less x y h
-less_or_same x y (inr h) = nat_same x y h
-
-key_less : (a b : Key) → is_lt (key_cmp a b) ≡ true → a.at ≤ b.at
-key_less a b h = less_or_same a.at b.at (less_at _ _ h)
-
-key_more : (a b : Key) → is_lt (key_cmp a b) ≡ false → b.at ≤ a.at
-key_more a b h = nat_more a.at b.at (more_at _ _ h)
-
 both_ticks : (e : ℕ) (a b : Key) (c : Bool) → is_lt (key_cmp b a) ≡ c → (tick e a.at ≤ tick_key e (if c then Some b else Some a)) × (tick e b.at ≤ tick_key e (if c then Some b else Some a))
 both_ticks e a b true h = (tick_less e b.at a.at (key_less b a h), omega arith)
-both_ticks e a b false h = (omega arith, tick_less e a.at b.at (key_more b a h))
+both_ticks e a b false h = (omega arith, tick_less e a.at b.at (key_not_less b a h))
 
 lesser_ticks : (e : ℕ) (a b : Option Key) → (tick_key e a ≤ tick_key e (lesser a b)) × (tick_key e b ≤ tick_key e (lesser a b))
 lesser_ticks e None b = (omega arith, omega arith)

@@ -1,4 +1,4 @@
--- The greatest count that sites, rows and a run have come to.
+-- The greatest count that sites, rows and a run have reached.
 use Rattle.std.specs.Prelude.{List, [], map, max, ℕ, ◌∷◌}
 use Rattle.sim_engine.specs.Engine.{Engine}
 use Rattle.sim_engine.specs.World.{Run}

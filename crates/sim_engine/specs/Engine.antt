@@ -1,4 +1,4 @@
--- What an engine of the simulator is made of: sites, the rows that they make, the transfers that they send, and what is done with them.
+-- The parts of an engine: sites, the rows that they make, the transfers that they send, and its functions.
 use Rattle.std.specs.Prelude.{List, ℕ}
 use Rattle.sim_clock.specs.declared.key.Key.{Key}
 

@@ -1,4 +1,4 @@
--- What is asked of sites: laws of every site, and laws of the sites that one run comes to.
+-- What the engine requires of sites: laws of every site, and laws of the sites that one run reaches.
 use Rattle.std.specs.Ordering.{is_lt}
 use Rattle.std.specs.Prelude.{All, List, Some, false, ℕ, ◌+◌, ◌<◌, ◌≡◌, ◌≤◌, ◌⊎◌}
 use Rattle.sim_clock.specs.declared.key.Key.{Key}
@@ -27,7 +27,8 @@ module _ {Site Row Transfer : Type 0} (engine : Engine Site Row Transfer) where
   abbrev pub with_accepted : Transfer → Handled Site Row Transfer → Handled Site Row Transfer
   with_accepted o h = record h { site = accepted o h.site }
 
-  -- a transfer that the handling of a key sends from a site: along a way, the way's least latency later at the earliest; its sender is at home at the site
+  -- a transfer that the handling of a key sends from a site: along a way, taking at least the way's latency, from a
+  -- sender of that site
   pub record IsSentBy (edges : List Edge) (home : ℕ → ℕ) (key : Key) (site : ℕ) (o : Transfer) : Type 0 where
     pub sender : home (transfer_key o).agent ≡ site
     pub way : Edge
@@ -84,7 +85,7 @@ module _ {Site Row Transfer : Type 0} (engine : Engine Site Row Transfer) (condi
     pub sent_timely : (key : Key) (s : Site) → Past key.at s → All Timely (handled key s).sent
     pub past_accepted : (now : ℕ) (o : Transfer) (s : Site) → Timely o → Past now s → Past now (accepted o s)
 
-  -- laws of the sites that a run over some ways comes to, which are fine, and of the transfers that fit them
+  -- laws of the sites that a run over some ways reaches, which are fine, and of the transfers that fit them
   pub record RunLaws (edges : List Edge) (home : ℕ → ℕ) (Fine : Site → Type 0) (Fits : Transfer → Type 0) : Type 0 where
     pub sorted : (s : Site) → Fine s → Sorted s
     pub sound : (s : Site) → Fine s → Sound s
@@ -96,7 +97,7 @@ module _ {Site Row Transfer : Type 0} (engine : Engine Site Row Transfer) (condi
     pub fitting : (key : Key) (s : Site) → Fine s → In (dues s) key → Each Fits (handled key s).sent
     -- rows carry the handled key and the site's number
     pub rows : (key : Key) (s : Site) → Fine s → Each (IsRowOf engine key (number s)) (handled key s).rows
-    -- where nothing due comes before a key, nothing does after its handling
+    -- if nothing due comes before a key, nothing does after its handling
     pub remaining : (key : Key) (s : Site) → Fine s → ((j : Key) → In (dues s) j → is_lt (key_cmp j key) ≡ false) → (j : Key) → In (dues (handled key s).site) j → is_lt (key_cmp j key) ≡ false
     -- each way takes a millisecond at least
     pub takes_time : (e : Edge) → In edges e → 1 ≤ e.least

@@ -11,7 +11,7 @@ use Rattle.sim_engine.specs.World.{after}
 abbrev pub most_count : ℕ
 most_count = 2 ^ 62 - 1
 
--- why something is not done: want of memory, or a count at its limit where this holds
+-- why something is not done: out of memory, or a count at its limit, if this holds
 abbrev pub StopsWhere : Type 0 → Refusal → Type 0
 StopsWhere AtLimit refusals.CountLimit = AtLimit
 StopsWhere AtLimit refusals.Memory = Unit {0}
@@ -24,7 +24,7 @@ module _ {Site Row Transfer : Type 0} (engine : Engine Site Row Transfer) where
   abbrev pub PassesCount : Handled Site Row Transfer → Type 0
   PassesCount h = most_count < max (site_count (core h.site)) (rows_count engine h.rows)
 
-  -- why a handling is not carried out: want of memory, or a count that it takes past the limit
+  -- why a handling is not carried out: out of memory, or a count that it takes past the limit
   abbrev pub Stops : Handled Site Row Transfer → Refusal → Type 0
   Stops h = StopsWhere (PassesCount h)
 

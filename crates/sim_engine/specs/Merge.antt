@@ -10,7 +10,7 @@ abbrev pub merged_one : {A : Type 0} → (A → A → Ordering) → A → (List 
 merged_one R x rest [] = x ∷ rest []
 merged_one R x rest (y ∷ ys) = if is_lt (R y x) then y ∷ merged_one R x rest ys else x ∷ rest (y ∷ ys)
 
--- two lists in one: always the lesser of their first, the first list's where they tie
+-- two lists merged: always the lesser of their first members; if they tie, that of the first list
 abbrev pub merged : {A : Type 0} → (A → A → Ordering) → List A → List A → List A
 merged R [] ys = ys
 merged R (x ∷ xs) ys = merged_one R x (merged R xs) ys
@@ -20,7 +20,8 @@ abbrev pub merged_all : {A : Type 0} → (A → A → Ordering) → List (List A
 merged_all R [] = []
 merged_all R (l ∷ ls) = merged R l (merged_all R ls)
 
--- a merge of some lists: it has each member as often as they have together, by whatever test, and is in order where they are
+-- a merge of some lists: it has each member, by any test, as often as they have it together, and is in order if they
+-- are
 pub record IsMergeOf {A : Type 0} (R : A → A → Ordering) (lists : List (List A)) (xs : List A) : Type 0 where
   pub each : (picks : A → Bool) → count_by picks xs ≡ sum_by (count_by picks) lists
   pub in_order : All (IsInOrder R) lists → IsInOrder R xs

@@ -1,4 +1,5 @@
--- What a machine's partition has handled is what the one-list run handles first at its sites; and the rows before the least bound are all there at a barrier.
+-- What a machine's partition has handled is what the one-list run handles first at its sites. At a barrier the rows
+-- before the least bound are all there.
 use Rattle.std.specs.List.{range_with_len}
 use Rattle.std.specs.Prelude.{Bool, List, None, Option, Some, [], false, filter, if◌then◌else◌, map, nat_lt, suc, true, zero, ℕ, ◌++◌, ◌<◌, ◌∷◌, ◌≡◌, ◌≤◌, not, ◌&&◌, max}
 use Rattle.sim_clock.specs.declared.key.Key.{Key}
@@ -15,7 +16,7 @@ use Rattle.sim_engine.specs.Theorems.{machine_of, rows_by}
 use Rattle.sim_engine.specs.Setting.{Setting, IsRunOf}
 use Rattle.sim_engine.specs.Engine.{Engine}
 
--- whether a pick is of one of so many partitions, or a barrier
+-- whether a pick is of one of these partitions, or a barrier
 abbrev pub IsPickOf : ℕ → Pick → Type 0
 IsPickOf parts (Part p) = p < parts
 IsPickOf parts Barrier = Unit {0}
@@ -28,12 +29,12 @@ module _ {Site Row Transfer : Type 0} (engine : Engine Site Row Transfer) where
   turn_of owner key [] = 0
   turn_of owner key (s ∷ ss) = if is_due key (least_due engine s) then owner (number s) else turn_of owner key ss
 
-  -- what one more handling of the one-list run tells, with its partition
+  -- what the next handling of the one-list run makes, with its partition
   abbrev pub told_next : (ℕ → ℕ) → List Site → Option Key → List (ℕ × Entry engine)
   told_next owner sites None = []
   told_next owner sites (Some key) = (turn_of owner key sites, entry_of engine key (handled_among engine key sites)) ∷ []
 
-  -- what the first so many handlings of the one-list run told, each with its partition
+  -- what the first n handlings of the one-list run made, each with its partition
   abbrev pub told_after : (ℕ → ℕ) → ℕ → ℕ → List Site → List (ℕ × Entry engine)
   told_after owner horizon zero sites = []
   told_after owner horizon (suc n) sites =
@@ -43,7 +44,8 @@ module _ {Site Row Transfer : Type 0} (engine : Engine Site Row Transfer) where
   abbrev pub cores_of : (ℕ → ℕ) → ℕ → List Site → List Core
   cores_of owner p sites = map core (part_of engine owner p sites)
 
-  -- after so many handlings of the one-list run, a partition has handled there what it has handled in a machine, and its sites are the same but for what is on its way to them
+  -- after some handlings of the one-list run, a partition has handled there what it has handled in a machine; its sites
+  -- are the same, except for what is on its way to them
   pub record IsAsAfter (owner : ℕ → ℕ) (horizon : ℕ) (start : List Site) (p : ℕ) (m : Machine engine) : Type 0 where
     pub steps : ℕ
     pub told : of_name p (told_after owner horizon steps start) ≡ of_name p m.told
@@ -74,7 +76,7 @@ module _ {Site Row Transfer : Type 0} (engine : Engine Site Row Transfer) where
     pub none : (p : ℕ) → p < parts → due_before moment (part_due engine owner p m.sites) ≡ None
     pub bounds : (p : ℕ) → p < parts → moment ≤ m.bounds p
 
-  -- the greatest count that a partition of a machine has come to: in a site, or of the receives that a row tells
+  -- the greatest count that a partition of a machine has reached: in a site, or in the receive count of a row
   abbrev pub part_count : (ℕ → ℕ) → ℕ → Machine engine → ℕ
   part_count owner p m = max (sites_count engine (part_of engine owner p m.sites)) (rows_count engine (rows_by engine m.told p))
 
@@ -82,9 +84,10 @@ module _ {Site Row Transfer : Type 0} (engine : Engine Site Row Transfer) where
   pub record Holds (s : Setting Site) (owner : ℕ → ℕ) (parts : ℕ) (rule : List Site → ℕ → ℕ) : Type 0 where
     -- each partition has handled what the one-list run handles first at its sites
     pub first : (picks : List Pick) (p : ℕ) → IsAsAfter owner s.horizon s.opening p (machine_of engine owner rule s picks)
-    -- where nothing is due before a moment that no bound is before, the rows from before it are those of the one-list run
+    -- if nothing is due before a moment, and no bound is before it, the rows from before it are those of the one-list
+    -- run
     pub early : (picks : List Pick) (moment : ℕ) (r : Run engine) → IsRunOf engine s r → IsThrough owner parts moment (machine_of engine owner rule s picks) → rows_before parts moment (machine_of engine owner rule s picks) ≡ filter (is_before moment) r.rows
-    -- where its rows from before an earlier one were handed on, those from then up to it are what follows
+    -- if its rows from before an earlier moment were handed on, the rows from then up to this one follow them
     pub next : (picks : List Pick) (from to : ℕ) (r : Run engine) → IsRunOf engine s r → from ≤ to → IsThrough owner parts to (machine_of engine owner rule s picks) → filter (is_before from) r.rows ++ rows_between parts from to (machine_of engine owner rule s picks) ≡ filter (is_before to) r.rows
     -- and at the end all rows from then on
     pub last : (picks : List Pick) (from : ℕ) (r : Run engine) → IsRunOf engine s r → is_finished engine s.horizon (machine_of engine owner rule s picks) ≡ true → filter (is_before from) r.rows ++ rows_from parts from (machine_of engine owner rule s picks) ≡ r.rows

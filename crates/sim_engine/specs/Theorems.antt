@@ -1,4 +1,4 @@
--- Whatever is picked, a machine that has come to its end has what the one-list run has.
+-- Whatever is picked, a machine that has finished has what the one-list run has.
 use Rattle.std.specs.List.{range_with_len}
 use Rattle.std.specs.Prelude.{List, Option, flat_map, map, true, ℕ, ◌<◌, ◌≡◌}
 use Rattle.sim_engine.specs.World.{Run}
@@ -11,7 +11,7 @@ use Rattle.sim_engine.specs.Setting.{Setting, IsRunOf}
 use Rattle.sim_engine.specs.Engine.{Engine}
 
 module _ {Site Row Transfer : Type 0} (engine : Engine Site Row Transfer) where
-  -- the rows of what was told
+  -- the rows of what was made
   abbrev pub rows_of : List (ℕ × Entry engine) → List Row
   rows_of told = flat_map (λ x. x.1.rows) told
 

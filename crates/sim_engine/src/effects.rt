@@ -1,9 +1,10 @@
-//! What handlings make: rows, and transfers to other sites.
+//! The effects of handlings: rows, and transfers to other sites.
 ghost use Rattle.std.specs.Prelude.{◌++◌, ◌∷◌, ◌≡◌, OnOk, []};
 
 use std::alloc::{AllocError, Global};
 
-/// Rows made and transfers sent so far, in order: of one handling, or of several one after another.
+/// The rows made and the transfers sent so far, in order: by one handling, or by several one after
+/// another.
 #[derive(Drop)]
 pub struct Effects<R, T> {
     pub rows: Vec<R>,
@@ -11,7 +12,7 @@ pub struct Effects<R, T> {
 }
 
 impl<R: Drop, T: Drop> Effects<R, T> {
-    /// None so far.
+    /// No rows and no transfers.
     pub fn new(alloc: Global) -> Effects<R, T>
         ensures rows { result.rows.items ≡ [] }
         ensures sent { result.sent.items ≡ [] }
@@ -22,7 +23,11 @@ impl<R: Drop, T: Drop> Effects<R, T> {
         }
     }
 
-    /// Adds a row. The one error is `Memory`.
+    /// Adds a row.
+    ///
+    /// # Errors
+    ///
+    /// `AllocError` if memory runs out.
     pub fn say(&mut self, row: R) -> Result<(), AllocError>
         ensures rows { OnOk result (self.new.rows.items ≡ self.old.rows.items ++ row ∷ []) }
         ensures sent { self.new.sent ≡ self.old.sent }
@@ -31,7 +36,11 @@ impl<R: Drop, T: Drop> Effects<R, T> {
         Ok(())
     }
 
-    /// Adds a transfer. The one error is `Memory`.
+    /// Adds a transfer.
+    ///
+    /// # Errors
+    ///
+    /// `AllocError` if memory runs out.
     pub fn send(&mut self, transfer: T) -> Result<(), AllocError>
         ensures sent { OnOk result (self.new.sent.items ≡ self.old.sent.items ++ transfer ∷ []) }
         ensures rows { self.new.rows ≡ self.old.rows }
@@ -40,7 +49,11 @@ impl<R: Drop, T: Drop> Effects<R, T> {
         Ok(())
     }
 
-    /// Adds a row, and the transfer that it tells of. The one error is `Memory`.
+    /// Adds a transfer and the row that reports it.
+    ///
+    /// # Errors
+    ///
+    /// `AllocError` if memory runs out.
     pub fn say_sent(&mut self, row: R, transfer: T) -> Result<(), AllocError>
         ensures rows { OnOk result (self.new.rows.items ≡ self.old.rows.items ++ row ∷ []) }
         ensures sent { OnOk result (self.new.sent.items ≡ self.old.sent.items ++ transfer ∷ []) }

@@ -1,7 +1,7 @@
-//! A conservative simulator of worlds of sites of any kind: the definitions of a world, of its run on
-//! one list and of its run in partitions, and the proof that every run in partitions comes to the run
-//! on one list. What is asked of a site is the trait `Site`. The definitions stand in `specs/`, the
-//! proofs in `proofs/`.
+//! A conservative simulator of worlds of sites of any kind. The crate defines a world, its run on
+//! one list and its run in partitions. It proves that every run in partitions gives the result of
+//! the run on one list. The trait `Site` says what a site must provide. The definitions are in
+//! `specs/`, the proofs in `proofs/`.
 #![tactic(auto)]
 
 mod edge;
@@ -12,6 +12,9 @@ mod site;
 
 pub use edge::Edge;
 pub use effects::Effects;
-pub use laws::merging_keeps_order;
+pub use laws::{
+    machines_are_read_by_parts, machines_go_on, merging_keeps_order, parts_get_sorted,
+    rounds_are_picks, sorting_keeps_each,
+};
 pub use picks::Pick;
 pub use site::Site;

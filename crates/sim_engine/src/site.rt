@@ -1,4 +1,4 @@
-//! What is asked of a site.
+//! What a site must provide.
 ghost use Rattle.std.specs.Prelude.{◌++◌, ◌≡◌, ◌≤◌, IfErr, OnOk, Some};
 ghost use Rattle.sim_engine.specs.Engine.{Engine};
 ghost use Rattle.sim_engine.specs.Laws.{Conditions, SiteLaws};
@@ -8,14 +8,14 @@ ghost use Rattle.sim_engine.specs.World.{least_due};
 use crate::effects::Effects;
 use sim_clock::{Key, Refusal};
 
-/// A place of a world where entries are due and are handled one after another, in the order of their
-/// keys: a queue with its actors, a server, a counter. A handling makes rows, which tell of it, and
-/// sends transfers, which arrive at other sites later.
+/// A part of a world, for example a queue with its actors, a server or a counter. Entries become
+/// due there and are handled one after another, in the order of their keys. A handling makes rows,
+/// which report it, and sends transfers, which arrive at other sites later.
 pub trait Site: Drop {
-    /// What a handling tells.
+    /// What a handling reports.
     type Row: Drop;
 
-    /// What it sends to other sites.
+    /// What a site sends to other sites.
     type Transfer: Drop;
 
     // What is done with sites, rows and transfers.
@@ -28,7 +28,7 @@ pub trait Site: Drop {
     fn transfer_key(transfer: &Self::Transfer) -> Key
         ensures { result ≡ engine.transfer_key transfer.now };
 
-    /// The number of the site that a transfer is for.
+    /// The number of the site that receives a transfer.
     fn to(transfer: &Self::Transfer) -> u32
         ensures { result ≡ engine.to transfer.now };
 
@@ -40,24 +40,31 @@ pub trait Site: Drop {
     fn row_site(row: &Self::Row) -> u32
         ensures { result ≡ engine.row_site row.now };
 
-    /// Its number.
+    /// The number of the site.
     fn number(&self) -> u32
         ensures { result ≡ engine.number self.now };
 
-    /// The key of what is due next.
+    /// The key of the next entry due.
     fn least_due(&self) -> Option<Key>
         ensures { result ≡ least_due engine self.now };
 
-    /// A transfer is on its way to it from now on. The one error is `Memory`; nothing is said of the
-    /// site after it.
+    /// Puts a transfer on its way to the site.
+    ///
+    /// # Errors
+    ///
+    /// Only `Memory`, if memory runs out; nothing is promised of the site after it.
     fn accept(&mut self, transfer: Self::Transfer) -> Result<(), Refusal>
         ensures accepted { OnOk result (self.new ≡ engine.accepted transfer self.old) }
         ensures memory { IfErr result (λ refusal. refusal ≡ Refusal.Memory) };
 
-    /// Handles its least due, at a moment in milliseconds, and adds the rows and the transfers that
-    /// this makes to those made before. `Memory`, or `CountLimit`, only where the handling takes a
-    /// count past 2^62 - 1; nothing is said of the site after a refusal, and part of what the handling
-    /// makes may have been added.
+    /// Handles the least entry due, at a moment in milliseconds, and appends the rows and transfers
+    /// that this makes to `effects`.
+    ///
+    /// # Errors
+    ///
+    /// `Memory` if a growth is refused, and `CountLimit` only if the handling takes a count past
+    /// 2^62 - 1. After an error nothing is promised of the site, and some of the handling's rows
+    /// and transfers may have been appended.
     fn handle_into(
         &mut self,
         key: Key,
@@ -67,8 +74,10 @@ pub trait Site: Drop {
         requires moment { key.at ≤ most_count }
         requires past { conditions.Past key.at self.old }
         ensures site { OnOk result (self.new ≡ (engine.handled key self.old).site) }
-        ensures rows { OnOk result (effects.new.rows.items ≡ effects.old.rows.items ++ (engine.handled key self.old).rows) }
-        ensures sent { OnOk result (effects.new.sent.items ≡ effects.old.sent.items ++ (engine.handled key self.old).sent) }
+        ensures rows { OnOk result (effects.new.rows.items
+            ≡ effects.old.rows.items ++ (engine.handled key self.old).rows) }
+        ensures sent { OnOk result (effects.new.sent.items
+            ≡ effects.old.sent.items ++ (engine.handled key self.old).sent) }
         ensures stops { IfErr result (Stops engine (engine.handled key self.old)) };
 
     // What handlings and deliveries keep.

@@ -44,7 +44,7 @@ IsLesser nodes i = head_in nodes i ≡ lesser (head_in nodes (2 * i)) (head_in n
 abbrev pub AreLesserBut : List Head → ℕ → Type 0
 AreLesserBut nodes but = (i : ℕ) → 1 ≤ i → 2 * i + 1 < length nodes → i ≢ but → IsLesser nodes i
 
--- a tree over so many places: the second half of its nodes
+-- a tree over the heads of lists, which are the second half of its nodes
 pub record IsTree (nodes : List Head) (width : ℕ) : Type 0 where
   pub long : length nodes ≡ 2 * width
   pub lesser : AreLesserBut nodes 0

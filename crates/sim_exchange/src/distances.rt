@@ -1,4 +1,4 @@
-//! How soon one partition may reach another.
+//! How soon an effect of one partition may reach another.
 ghost use Rattle.std.specs.Prelude.{◌≡◌, ◌+◌, ◌<◌, ◌^◌, ◌≤◌, All, IfOk, None, get_or, length, min, ℕ};
 ghost use Rattle.sim_engine.specs.Bounds.{AreDistances, bound_by, reached};
 ghost use Rattle.sim_exchange.specs.Layout.{owner_of};
@@ -10,8 +10,9 @@ use sim_engine::Edge;
 use std::alloc::{AllocError, Global};
 use std::marker::Model;
 
-/// For each partition and each other, itself included, the least time in milliseconds that anything
-/// takes over one way or more from the one to the other, or none where no ways lead there.
+/// The distance of each pair of partitions, also of a partition to itself. This is the least time
+/// in milliseconds along one way or more from the first to the second; it is none if no ways lead
+/// there.
 #[derive(Drop)]
 pub struct Distances {
     parts: usize,
@@ -30,12 +31,16 @@ impl Model for Distances {
 }
 
 impl Distances {
-    /// The distances over some ways between queues, each of 1 to 900,000 milliseconds. The error is
-    /// want of memory.
+    /// The distances along these ways between sites, each of 1 to 900,000 milliseconds.
+    ///
+    /// # Errors
+    ///
+    /// `AllocError` if memory runs out.
     pub fn new(alloc: Global, ways: &[Edge], layout: &PartMap) -> Result<Distances, AllocError>
         requires { All (λ e. (1 ≤ e.least) × (e.least ≤ 900000)) ways.now }
         ensures parts { IfOk result (λ d. d.parts ≡ layout.now.parts) }
-        ensures distances { IfOk result (λ d. AreDistances (owner_of layout.now) ways.now (distance_in d)) }
+        ensures distances { IfOk result
+            (λ d. AreDistances (owner_of layout.now) ways.now (distance_in d)) }
     {
         let parts = layout.parts();
         let mut cells = Vec::new(alloc);
@@ -49,20 +54,24 @@ impl Distances {
         })
     }
 
-    /// The distance from one partition to another, or to itself; none where no ways lead there.
+    /// The distance from one partition to another, or to itself, in milliseconds; none if no ways
+    /// lead there.
     pub fn between(&self, from: u32, to: u32) -> Option<u64>
         ensures { result ≡ distance_in self.now from to }
     {
         self.cell(from as usize, to as usize)
     }
 
-    /// The moment before which nothing that another partition still does, or it itself, may reach a
-    /// partition, by the moment of the least due of each partition: the least of horizon + 1 and of
-    /// these moments with the distances from there.
+    /// The lower bound on the moments at which anything that a partition still does, this one
+    /// included, may reach this partition, in milliseconds. `dues` has the moment of the least
+    /// entry due in each partition. The bound is the least of horizon + 1 and of each such moment
+    /// plus the distance from that partition.
     pub fn bound(&self, dues: &[Option<u64>], part: u32, horizon: u64) -> u64
         requires dues { length dues.now ≡ self.now.parts }
         requires horizon { horizon + 1 < 2 ^ 64 }
-        ensures { result ≡ bound_by (distance_in self.now) horizon (λ q. get_or dues.now q None) part self.now.parts }
+        ensures { result
+            ≡ bound_by (distance_in self.now) horizon (λ q. get_or dues.now q None) part
+            self.now.parts }
     {
         let mut bound = horizon + 1;
         for (from, due) in dues.iter().enumerate() {
@@ -83,10 +92,11 @@ impl Distances {
     }
 }
 
-// When something due may arrive from so far away: past the horizon, if never.
+// When something due may arrive over a distance: horizon + 1 if never.
 fn arrival(horizon: u64, due: Option<u64>, distance: Option<u64>) -> u64
     requires { horizon + 1 < 2 ^ 64 }
-    ensures { (bound : ℕ) → bound < 2 ^ 64 → min result bound ≡ min (reached horizon due distance) bound }
+    ensures { (bound : ℕ) → bound < 2 ^ 64
+        → min result bound ≡ min (reached horizon due distance) bound }
 {
     match (due, distance) {
         (Some(at), Some(distance)) => at.saturating_add(distance),

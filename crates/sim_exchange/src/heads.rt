@@ -1,4 +1,4 @@
-//! The heads of some lists, the least of them at hand.
+//! The heads of some lists, kept so that the least of them is at hand.
 ghost use Rattle.std.specs.Ordering.{is_lt};
 ghost use Rattle.std.specs.Prelude.{◌≡◌, ◌*◌, ◌+◌, ◌/◌, ◌<◌, IfOk, drop, length, replicate, set, true, vec_len};
 ghost use Rattle.sim_exchange.specs.Heads.{AreLesserBut, IsLeast, first_cmp, head_cmp, head_in, lesser, no_head};
@@ -10,13 +10,13 @@ use std::marker::Model;
 /// What the first row of a list is compared by.
 #[derive(Clone, Copy)]
 pub struct Head {
-    /// Whether the list has no rows; the key and the site then tell nothing.
+    /// Whether the list has no rows. If so, the key and the site mean nothing.
     pub is_done: bool,
     /// The key of the row's handling.
     pub key: Key,
     /// The number of the row's site.
     pub site: u32,
-    /// The place of the list among the lists.
+    /// The index of the list among the lists.
     pub place: usize,
 }
 
@@ -38,7 +38,7 @@ impl Head {
         }
     }
 
-    // Whether it is the same as another one.
+    // Whether it equals another head.
     fn is_same(&self, other: &Head) -> bool
         ensures same { result ≡ true → self.now ≡ other.now }
         ensures told { self.now ≡ other.now → result ≡ true }
@@ -60,7 +60,7 @@ impl Head {
         }
     }
 
-    // The same of two rows. Mostly their moments tell.
+    // The same for two lists that have rows. Mostly the moments decide.
     fn is_first_before(&self, other: &Head) -> bool
         ensures { result ≡ is_lt (first_cmp self.now other.now) }
     {
@@ -79,7 +79,8 @@ impl Head {
 fn lesser_below(nodes: &[Head], node: usize) -> usize
     requires { 2 * node + 1 < length nodes.now }
     ensures within { result < length nodes.now }
-    ensures lesser { head_in nodes.now result ≡ lesser (head_in nodes.now (2 * node)) (head_in nodes.now (2 * node + 1)) }
+    ensures lesser { head_in nodes.now result
+        ≡ lesser (head_in nodes.now (2 * node)) (head_in nodes.now (2 * node + 1)) }
 {
     let first = 2 * node;
     if nodes[first + 1].is_before(&nodes[first]) {
@@ -89,7 +90,7 @@ fn lesser_below(nodes: &[Head], node: usize) -> usize
     }
 }
 
-// Writes each node above one, which has the lesser of the two below it.
+// Writes each node above this one: the lesser of its two children.
 fn mend(nodes: &mut Vec<Head>, width: usize, node: usize)
     requires above { AreLesserBut nodes.old.items (node / 2) }
     requires within { node < vec_len nodes.old }
@@ -105,8 +106,8 @@ fn mend(nodes: &mut Vec<Head>, width: usize, node: usize)
     }
 }
 
-/// The heads of some lists, in a tree: each node above the leaves has the lesser of the two heads
-/// below it. Contracts see the heads by the places of the lists.
+/// The heads of some lists, in a tree: each inner node has the lesser of its two children.
+/// Contracts see the heads by the indices of the lists.
 #[derive(Drop)]
 pub struct Heads {
     nodes: Vec<Head>,
@@ -126,7 +127,7 @@ impl Model for Heads {
 }
 
 impl Heads {
-    /// The heads of so many lists with no rows. The error is want of memory.
+    /// The heads of `width` lists with no rows. It fails if memory runs out.
     pub fn new(alloc: Global, width: usize) -> Result<Heads, AllocError>
         ensures { IfOk result (λ heads. heads ≡ replicate width (no_head 0)) }
     {
@@ -135,8 +136,9 @@ impl Heads {
         Ok(Heads { nodes, width })
     }
 
-    /// Puts the head of a list, after a comparison for each doubling of the number of lists; none where it
-    /// is there already, as after a row whose handling made one more.
+    /// Sets the head of a list, by one comparison for each doubling of the number of lists. If the
+    /// head is there already, as after a row whose handling made another one, the tree stays as it
+    /// is.
     pub fn put(&mut self, place: usize, head: Head)
         requires { place < length self.old }
         ensures { self.new ≡ set self.old place head }
@@ -149,7 +151,7 @@ impl Heads {
         mend(&mut self.nodes, self.width, node);
     }
 
-    /// The least of them.
+    /// The least head.
     pub fn least(&self) -> Head
         requires { 0 < length self.now }
         ensures { IsLeast self.now result }

@@ -10,7 +10,8 @@ use crate::layout::PartMap;
 use sim_engine::Edge;
 use std::alloc::{AllocError, Global};
 
-// The distances from a partition to each: shortened by one more way as long as a way shortens one.
+// The distances from one partition to each. They are shortened by one more way as long as a way
+// shortens one of them.
 pub fn distances_from(
     alloc: Global,
     ways: &[Edge],
@@ -19,14 +20,15 @@ pub fn distances_from(
 ) -> Result<Vec<Option<u64>>, AllocError>
     requires { All (λ e. e.least ≤ 900000) ways.now }
     ensures parts { IfOk result (λ line. length line.items ≡ layout.now.parts) }
-    ensures distances { IfOk result (λ line. (p : ℕ) → IsDistance (owner_of layout.now) ways.now start p (get_or line.items p None)) }
+    ensures distances { IfOk result (λ line.
+        (p : ℕ) → IsDistance (owner_of layout.now) ways.now start p (get_or line.items p None)) }
 {
     let mut line = vec![in alloc; None; layout.parts() as usize]?;
     while shorten(&mut line, ways, layout, start) {}
     Ok(line)
 }
 
-// Goes over the ways once, and says whether any of them shortened a distance.
+// Scans the ways once. Returns whether any of them shortened a distance.
 fn shorten(line: &mut [Option<u64>], ways: &[Edge], layout: &PartMap, start: u32) -> bool
     requires least { All (λ e. e.least ≤ 900000) ways.now }
     requires parts { length line.old ≡ layout.now.parts }
@@ -36,7 +38,8 @@ fn shorten(line: &mut [Option<u64>], ways: &[Edge], layout: &PartMap, start: u32
     ensures short { AreShort line.new }
     ensures walked { AreWalked (owner_of layout.now) ways.now start line.new }
     ensures nearer { result ≡ true → total_of line.new < total_of line.old }
-    ensures settled { result ≡ false → All (IsSettled (owner_of layout.now) start line.new) ways.now }
+    ensures settled { result ≡ false
+        → All (IsSettled (owner_of layout.now) start line.new) ways.now }
 {
     let mut is_shorter = false;
     for way in ways {
@@ -47,7 +50,7 @@ fn shorten(line: &mut [Option<u64>], ways: &[Edge], layout: &PartMap, start: u32
     is_shorter
 }
 
-// Shortens the distance to where a way leads, if the way does, and says whether it did.
+// Shortens the distance to the end of a way, if the way is shorter. Returns whether it did.
 fn shorten_by(line: &mut [Option<u64>], way: &Edge, layout: &PartMap, start: u32) -> bool
     requires least { way.now.least ≤ 900000 }
     requires parts { length line.old ≡ layout.now.parts }
@@ -74,7 +77,7 @@ fn shorten_by(line: &mut [Option<u64>], way: &Edge, layout: &PartMap, start: u32
     }
 }
 
-// How far it is to where a way begins, by the distances so far.
+// The distance to the beginning of a way, by the distances so far.
 fn distance_before(line: &[Option<u64>], part: u32, start: u32) -> Option<u64>
     requires { part < length line.now }
     ensures { result ≡ so_far start line.now part }

@@ -1,4 +1,4 @@
-//! What each partition gets.
+//! The transfers that each partition gets.
 ghost use Rattle.std.specs.Prelude.{◌≡◌, ◌<◌, ◌++◌, ◌∷◌, [], IfOk, List, OnOk, flat_map, get_or, length, map, ℕ};
 ghost use Rattle.std.specs.List.{slice_set};
 ghost use Rattle.sim_clock.specs.declared.key.Key.{Key as TheKey};
@@ -12,9 +12,12 @@ use sim_clock::Key;
 use sim_engine::Site;
 use std::alloc::{AllocError, Global};
 
-/// Each transfer of some lists in the one list of the partition that it goes to, as often as it was
-/// sent; each list in the order of keys, transfers of one key in the order in which they stood. The
-/// error is want of memory.
+/// Puts each transfer into the list of the partition that receives it, as often as it was sent.
+/// Each list is in the order of keys; transfers of one key keep their order.
+///
+/// # Errors
+///
+/// `AllocError` if memory runs out.
 pub fn exchange<S: Site>(
     alloc: Global,
     sent: Vec<Vec<S::Transfer>>,
@@ -22,33 +25,21 @@ pub fn exchange<S: Site>(
 ) -> Result<Vec<Vec<S::Transfer>>, AllocError>
     ensures { IfOk result (λ lists.
         map (λ l. l.items) lists.items
-        ≡ exchanged S.engine (owner_of layout.now) layout.now.parts (flat_map (λ l. l.items) sent.items)) }
-{
-    let mut lists = deal_all::<S>(alloc, sent, layout)?;
-    sort_each::<S>(&mut lists)?;
-    Ok(lists)
-}
-
-// The transfers of some lists, each in the list of its partition, in the order in which they stood.
-fn deal_all<S: Site>(
-    alloc: Global,
-    sent: Vec<Vec<S::Transfer>>,
-    layout: &PartMap,
-) -> Result<Vec<Vec<S::Transfer>>, AllocError>
-    ensures { IfOk result (λ lists.
-        map (λ l. l.items) lists.items
-        ≡ dealt S.engine (owner_of layout.now) layout.now.parts (flat_map (λ l. l.items) sent.items)) }
+        ≡ exchanged S.engine (owner_of layout.now) layout.now.parts
+        (flat_map (λ l. l.items) sent.items)) }
 {
     let mut lists = no_lists::<S>(alloc, layout.parts())?;
     for list in sent {
         deal::<S>(list, layout, &mut lists)?;
     }
+    sort_each::<S>(&mut lists)?;
     Ok(lists)
 }
 
-// So many lists with nothing in them.
+// As many empty lists as there are partitions.
 fn no_lists<S: Site>(alloc: Global, parts: u32) -> Result<Vec<Vec<S::Transfer>>, AllocError>
-    ensures { IfOk result (λ lists. (owner : ℕ → ℕ) → map (λ l. l.items) lists.items ≡ dealt S.engine owner parts []) }
+    ensures { IfOk result (λ lists.
+        (owner : ℕ → ℕ) → map (λ l. l.items) lists.items ≡ dealt S.engine owner parts []) }
 {
     let mut lists = Vec::with_capacity(alloc, parts as usize)?;
     for _part in 0..parts {
@@ -57,7 +48,7 @@ fn no_lists<S: Site>(alloc: Global, parts: u32) -> Result<Vec<Vec<S::Transfer>>,
     Ok(lists)
 }
 
-// Puts each transfer of a list last into the list of its partition.
+// Appends each transfer of a list to the list of its partition.
 fn deal<S: Site>(
     sent: Vec<S::Transfer>,
     layout: &PartMap,
@@ -67,7 +58,8 @@ fn deal<S: Site>(
     ensures lists { OnOk result (length lists.new.items ≡ layout.now.parts) }
     ensures dealt { OnOk result (
         (os : List S.Transfer) →
-        map (λ l. l.items) lists.old.items ≡ dealt S.engine (owner_of layout.now) layout.now.parts os →
+        map (λ l. l.items) lists.old.items
+        ≡ dealt S.engine (owner_of layout.now) layout.now.parts os →
         map (λ l. l.items) lists.new.items
         ≡ dealt S.engine (owner_of layout.now) layout.now.parts (os ++ sent.items)) }
 {
@@ -78,7 +70,7 @@ fn deal<S: Site>(
     Ok(())
 }
 
-// Puts a transfer last into one of some lists.
+// Appends a transfer to one of some lists.
 fn put<S: Site>(
     transfer: S::Transfer,
     place: usize,
@@ -96,9 +88,10 @@ fn put<S: Site>(
     Ok(())
 }
 
-// Brings each of some lists into the order of keys.
+// Sorts each list by keys.
 fn sort_each<S: Site>(lists: &mut Vec<Vec<S::Transfer>>) -> Result<(), AllocError>
-    ensures { OnOk result (map (λ l. l.items) lists.new.items ≡ map (sorted S.engine) (map (λ l. l.items) lists.old.items)) }
+    ensures { OnOk result (map (λ l. l.items) lists.new.items
+        ≡ map (sorted S.engine) (map (λ l. l.items) lists.old.items)) }
 {
     for list in lists.iter_mut() {
         sort::<S>(list)?;
@@ -106,12 +99,12 @@ fn sort_each<S: Site>(lists: &mut Vec<Vec<S::Transfer>>) -> Result<(), AllocErro
     Ok(())
 }
 
-// The order of keys is the definitions'.
+// The order of keys is that of the definitions.
 fn key_order_is()
     ensures { (a b : TheKey) → ⟦<Key as Ord>⟧.cmp a b ≡ key_cmp a b }
 {}
 
-// Brings transfers into the order of their keys; those of one key stay as they were.
+// Sorts transfers by their keys; those of one key keep their order.
 fn sort<S: Site>(transfers: &mut Vec<S::Transfer>) -> Result<(), AllocError>
     ensures { OnOk result (transfers.new.items ≡ sorted S.engine transfers.old.items) }
 {

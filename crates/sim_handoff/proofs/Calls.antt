@@ -29,10 +29,6 @@ module _ {P : Type 0} (p : ℕ) (v : PartyRecord P) (low : p < length v.by_place
       (λ e. subst (λ k. flag (place_record (at p f v) k) ≡ false) (sym e) (ap flag (place_record_after (f (place_record v p))) ∙ here))
       (λ ne. ap flag (get_or-set_other v.by_place p q (f (place_record v p)) blank ne) ∙ all q)
 
--- a change at one place leaves what is known of the others
-pub place_else : {P : Type 0} (v : PartyRecord P) (p q : ℕ) (f : PlaceRecord P → PlaceRecord P) → q ≢ p → place_record (at p f v) q ≡ place_record v q
-place_else v p q f ne = get_or-set_other v.by_place p q (f (place_record v p)) blank ne
-
 -- a list where a place holds a piece reaches that far
 held_inside : {P : Type 0} (l : List (PlaceRecord P)) (p : ℕ) (x : P) → (get_or l p blank).held ≡ Some x → p < length l
 held_inside [] p x e = absurd (cc)

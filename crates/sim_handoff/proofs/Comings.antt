@@ -12,6 +12,7 @@ use Rattle.sim_handoff.specs.declared.records.Slot.{Slot}
 use Rattle.sim_handoff.specs.declared.records.Slot.TheVariants.{Nothing}
 use Rattle.sim_handoff.specs.declared.records.PlaceRecord.{PlaceRecord}
 use Rattle.sim_handoff.specs.declared.records.PartyRecord.{PartyRecord}
+use Rattle.sim_handoff.proofs.Places.{owned_empty}
 use Rattle.sim_handoff.specs.Place.{blank, last_of, place_record, HoldsNothing, column, counted, total, Fits, Stands, IsHandoff}
 use Rattle.sim_handoff.specs.Steps.{stopped, stopping, looking, opening_record, with_hand, new_hand, without_hand, spent_record}
 use Rattle.sim_handoff.proofs.Lists.{within, read, there, one}
@@ -72,14 +73,8 @@ module _ {P D : Type 0} (does : P → D → Type 0) (n : ℕ) (h : Maybe (Slot P
     owner = S.owner;
     holder = S.holder;
     at_owner = at_longer col (blank ∷ []) 0 S.owner S.at_owner;
-    idle = S.idle;
-    small = S.small;
-    shut = S.shut;
-    opened = S.opened;
-    empty = S.empty;
-    offered = S.offered;
+    owned = S.owned;
     claimed = λ e. let c = S.claimed e in (c.0, c.1, at_longer col (blank ∷ []) S.holder c.0 c.2, c.3, c.4, c.5);
-    done = S.done;
     all = λ j s e. ⊎_elim (λ (o : get_elem? col j ≡ some s). S.all j s o) (λ (o : blank ≡ s). subst (λ (t : PlaceRecord P). Fits n S.holder (length S.owner.offers) j t) o (blank_fits j)) (at_snoc col blank s j e);
   }
 
@@ -89,16 +84,10 @@ module _ {P D : Type 0} (does : P → D → Type 0) (n : ℕ) (h : Maybe (Slot P
     owner = S.owner;
     holder = S.holder;
     at_owner = set_else col id 0 blank (λ g. nz (sym g)) ∙ S.at_owner;
-    idle = S.idle;
-    small = S.small;
-    shut = S.shut;
-    opened = S.opened;
-    empty = S.empty;
-    offered = S.offered;
+    owned = S.owned;
     claimed = λ e. let c = S.claimed e in
         let other : S.holder ≢ id = λ g. let same : c.0 ≡ s = one col id c.0 s (subst (λ k. get_elem? col k ≡ some c.0) g c.2) at_id in let f : None ≡ Some c.1 = sym free ∙ ap (λ (w : PlaceRecord P). w.held) (sym same) ∙ c.3 in cc in
         (c.0, c.1, set_else col id S.holder blank other ∙ c.2, c.3, c.4, c.5);
-    done = S.done;
     all = λ j t e. ⊎_elim (λ (m : (j ≡ id) × (blank ≡ t)). subst (λ (w : PlaceRecord P). Fits n S.holder (length S.owner.offers) j w) m.1 (blank_fits j)) (λ (m : (j ≢ id) × (get_elem? col j ≡ some t)). S.all j t m.1) (at_set col id j blank t e);
   }
 
@@ -216,14 +205,8 @@ module _ {P D : Type 0} (does : P → D → Type 0) (places slots : ℕ) where
     owner = blank;
     holder = 0;
     at_owner = refl;
-    idle = (refl, refl);
-    small = omega arith;
-    shut = λ _. refl;
-    opened = λ g. absurd (g refl);
-    empty = λ _. refl;
-    offered = λ g. absurd (omega arith);
+    owned = owned_empty 0 (some Nothing) blank refl refl (refl, refl) refl;
     claimed = λ g. absurd (omega arith);
-    done = λ g. absurd (omega arith);
     all = λ j t e. subst (λ (w : PlaceRecord P). Fits 0 0 0 j w) (alone blank t j e).1 record { held = λ y g. absurd (cc); out = λ g. absurd (cc); known = omega arith; seen = λ g. absurd (omega arith) };
   }
 

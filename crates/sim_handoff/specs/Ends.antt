@@ -14,7 +14,7 @@ module _ {P D : Type 0} where
     pub offered : (piece : P) → word ≡ offered_word → slot ≡ Piece piece → left ≡ Offered piece
     pub done : (answer : D) → word ≡ done_word → slot ≡ Answer answer → left ≡ Done answer
 
-  -- nothing where the owner has nothing to collect, and else its last offer or an answer to it
+  -- nothing if the owner has nothing to collect; otherwise its last offer or an answer to it
   abbrev pub IsLeft : (P → D → Type 0) → PlaceRecord P → Left P D → Type 0
   IsLeft does owner Empty = owner.pending ≡ false
   IsLeft does owner (Offered piece) = (owner.pending ≡ true) × (last_of owner.offers ≡ Some piece)

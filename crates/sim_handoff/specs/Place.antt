@@ -8,7 +8,7 @@ use Rattle.sim_handoff.specs.declared.records.Slot.TheVariants.{Nothing, Piece, 
 use Rattle.sim_handoff.specs.declared.records.PlaceRecord.{PlaceRecord}
 use Rattle.sim_handoff.specs.declared.records.PartyRecord.{PartyRecord}
 
--- the word of a place where nothing is offered
+-- the word of a place in which nothing is offered
 abbrev pub empty_word : ℕ
 empty_word = 0
 
@@ -58,6 +58,11 @@ module _ {P : Type 0} where
   abbrev pub HoldsNothing : PartyRecord P → Type 0
   HoldsNothing party = (place : ℕ) → (place_record party place).held ≡ None
 
+  -- the hand holds this piece at that place, and none at any other
+  pub record HoldsOnly (place : ℕ) (piece : P) (party : PartyRecord P) : Type 0 where
+    pub held : (place_record party place).held ≡ Some piece
+    pub others : (other : ℕ) → other ≢ place → (place_record party other).held ≡ None
+
   -- what all parties know of a place, the owner first
   abbrev pub column : ℕ → List (PartyRecord P) → List (PlaceRecord P)
   column place parties = map (λ party. place_record party place) parties
@@ -71,7 +76,8 @@ module _ {P : Type 0} where
   total [] = 0
   total (party ∷ others) = counted party + total others
 
-  -- what party `id` may know of a place with this word, after `count` offers there, where party `holder` is the one that may hold a piece
+  -- what party `id` may know of a place with this word after `count` offers there, if party `holder` is the one that
+  -- may hold a piece
   pub record Fits (word holder count id : ℕ) (s : PlaceRecord P) : Type 0 where
     -- it holds a piece only of a claimed place, and no other party does
     pub held : (piece : P) → s.held ≡ Some piece → (word ≡ claimed_word) × (id ≡ holder)
@@ -92,7 +98,8 @@ module _ {P D : Type 0} (does : P → D → Type 0) where
   AnswersHeld s done = (piece : P) × (s.held ≡ Some piece) × does piece done
 
 module _ {P D : Type 0} where
-  -- the slot of a place whose value is with a party: at home with nothing in it, or away in the midst of that party's call
+  -- the slot of a place whose value is with a party: in the table with nothing in it, or taken in the midst of that
+  -- party's call
   abbrev pub vacant : Bool → Maybe (Slot P D)
   vacant true = none
   vacant false = some Nothing
@@ -106,14 +113,8 @@ module _ {P D : Type 0} (does : P → D → Type 0) where
   abbrev pub IsDone : Maybe (Slot P D) → List P → Type 0
   IsDone home offers = (piece : P) × (done : D) × (last_of offers ≡ Some piece) × (home ≡ some (Answer done)) × does piece done
 
-  -- what stands of a place with this word, of the slot at home there, and of what all parties know of it: its last piece is with the owner, offered, with one hand, or done
-  pub record Stands (word : ℕ) (home : Maybe (Slot P D)) (known : List (PlaceRecord P)) : Type 0 where
-    -- what the owner knows of the place
-    pub owner : PlaceRecord P
-    -- the party that holds the piece, where the place is claimed
-    pub holder : ℕ
-    -- the owner is the first party
-    pub at_owner : get_elem? known 0 ≡ some owner
+  -- what holds of a place with this word, of its slot if that is in the table, and of what the owner knows of it
+  pub record IsOwned (word : ℕ) (home : Maybe (Slot P D)) (owner : PlaceRecord P) : Type 0 where
     -- the owner is no hand
     pub idle : (owner.held ≡ None) × (owner.out ≡ false)
     -- the place is empty, offered, claimed or done
@@ -126,14 +127,26 @@ module _ {P D : Type 0} (does : P → D → Type 0) where
     pub empty : word ≡ empty_word → home ≡ vacant owner.lifted
     -- the slot of an offered place has the owner's last offer
     pub offered : word ≡ offered_word → (piece : P) × (last_of owner.offers ≡ Some piece) × (home ≡ some (Piece piece))
-    -- the last offer at a claimed place is held
-    pub claimed : word ≡ claimed_word → IsClaimed home known owner.offers holder
     -- the slot of a done place has an answer to the last offer
     pub done : word ≡ done_word → IsDone home owner.offers
+
+  -- and what holds of it, and of what all parties know of it: its last piece is with the owner, offered, with one hand,
+  -- or done
+  pub record Stands (word : ℕ) (home : Maybe (Slot P D)) (known : List (PlaceRecord P)) : Type 0 where
+    -- what the owner knows of the place
+    pub owner : PlaceRecord P
+    pub owned : IsOwned word home owner
+    pub open owned use *
+    -- the party that holds the piece, if the place is claimed
+    pub holder : ℕ
+    -- the owner is the first party
+    pub at_owner : get_elem? known 0 ≡ some owner
+    -- the last offer at a claimed place is held
+    pub claimed : word ≡ claimed_word → IsClaimed home known owner.offers holder
     -- what each party knows fits
     pub all : (id : ℕ) (s : PlaceRecord P) → get_elem? known id ≡ some s → Fits word holder (length owner.offers) id s
 
-  -- what stands of a hand-off between any two steps
+  -- what holds of a hand-off between any two steps
   pub record IsHandoff (places : ℕ) (state : State (Slot P D) (PartyRecord P)) : Type 0 where
     -- the owner's record
     pub head : PartyRecord P
@@ -147,7 +160,7 @@ module _ {P D : Type 0} (does : P → D → Type 0) where
     pub homes : length state.homes ≡ places
     -- the clause of each place
     pub stands : (place : ℕ) → place < places → Stands (slice_index state.words place) (slice_index_or state.homes place none) (column place state.views)
-    -- the flag is set exactly where the owner has stopped
+    -- the flag is set exactly if the owner has stopped
     pub flag : slice_index state.words places ≡ cond head.stopped stopped_word running_word
     -- nobody has seen it set before
     pub saw : (id : ℕ) (party : PartyRecord P) → get_elem? state.views id ≡ some party → party.stopped ≡ true → head.stopped ≡ true

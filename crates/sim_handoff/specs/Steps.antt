@@ -1,4 +1,4 @@
--- What each step changes in its party's record, and what it tells.
+-- How each step changes its party's record, and what it reports.
 use Rattle.std.specs.Prelude.{◌≡◌, ◌≢◌, ℕ, ◌+◌, ◌-◌, ◌≤◌, true, false, [], ◌∷◌, map, None, Some, replicate}
 use Rattle.atomic_table.specs.Table.{Me, Step, rest}
 use Rattle.sim_handoff.specs.declared.records.Slot.{Slot}
@@ -44,11 +44,12 @@ module _ {P : Type 0} where
   abbrev pub returned : PlaceRecord P → PlaceRecord P
   returned s = record s { held = None; out = false }
 
-  -- the hand knows so many first offers to have been claimed
+  -- the hand knows that this many first offers were claimed
   abbrev pub knowing : ℕ → PlaceRecord P → PlaceRecord P
   knowing count s = record s { known = count }
 
-  -- the hand's record changed in one thing alone: the number of first offers at the place that it knows to have been claimed, which is no less
+  -- the hand's record changed only in the number of first offers at the place that it knows to have been claimed, which
+  -- is no less than before
   abbrev pub LearnsClaims : ℕ → PartyRecord P → PartyRecord P → Type 0
   LearnsClaims place old new = (count : ℕ) × ((place_record old place).known ≤ count) × (new ≡ at place (knowing count) old)
 
@@ -88,7 +89,7 @@ module _ {P : Type 0} where
 abbrev pub Party : Type 0 → Type 0 → Type 0
 Party P D = Me (Slot P D) (PartyRecord P)
 
--- what a step tells: of the step, the party before, the word that it found, and the party after
+-- what a step reports: of the step, the party before, the word that it found, and the party after
 abbrev pub Tells : Type 0 → Type 0 → Type 1
 Tells P D = Step (Slot P D) → Party P D → ℕ → Party P D → Type 0
 
@@ -113,7 +114,8 @@ module _ {P D : Type 0} where
   abbrev pub collecting : (P → D → Type 0) → Tells P D
   collecting does this before found after = (found ≡ done_word → Collects does this.word before after) × (found ≢ done_word → after ≡ before)
 
-  -- the hand takes the slot, with the piece, of a place that it finds offered, and else learns how many first offers were claimed
+  -- if the hand finds a place offered, it takes the slot with the piece; if not, it learns how many first offers were
+  -- claimed
   abbrev pub claiming : Tells P D
   claiming this before found after = (found ≡ offered_word → (piece : P) × (after ≡ (at this.word (claimed piece) before.0, (this.word, Piece piece) ∷ before.1)))
       × (found ≢ offered_word → (count : ℕ) × ((place_record before.0 this.word).known ≤ count) × (after ≡ (at this.word (knowing count) before.0, before.1)))

@@ -3,22 +3,49 @@ use std::hint::spin_loop;
 use std::sync::Wait;
 use std::sync::atomic::{AtomicU64, Ordering};
 
-// How often a wait looks before it sleeps: for 3 to 40 microseconds, as processors differ.
+// How often a wait looks before it sleeps: for 3 to 40 microseconds, depending on the processor.
 const LOOKS: u32 = 512;
 
-/// Counts how often it was rung. Who waits for something reads the count, then looks for what it waits for,
-/// and where that is not there waits on the bell with the count read before; who brings it rings the bell
-/// afterwards. So a ring that comes between the look and the wait ends the wait at once.
+/// Counts how often it was rung. A thread that waits for something calls `look` first and then
+/// looks for it. Only a look that found nothing turns what `look` returned into what `wait` takes.
+/// A thread that brings something rings afterwards. So a ring that comes between the look and the
+/// wait ends the wait at once.
 ///
-/// None of this is proved: contracts say only that the calls are safe and that `ring` and `rings` return.
-/// That no wake-up is lost rests on the order of steps. Who waits counts itself as a sleeper and then reads
-/// the rings, and who rings adds a ring and then reads the sleepers; so at least one of the two sees the
-/// other. The sleep compares 32 bits of the count, and so misses rings only where a multiple of 2^32 come
-/// between the read and the sleep.
+/// The types keep that order. Contracts say of the calls only that they are safe, and that `ring`
+/// and `look` return. That no wake-up is lost also rests on the order of steps inside `wait` and
+/// `ring`. `wait` counts itself as a sleeper and then reads the rings; `ring` adds a ring and then
+/// reads the sleepers. So at least one of the two sees the other. The sleep compares 32 bits of the
+/// count, and so misses rings only if a multiple of 2^32 come between the read and the sleep.
 #[derive(Drop)]
 pub struct Bell {
     rings: AtomicU64,
     sleepers: AtomicU64,
+}
+
+/// How often a bell was rung before a thread looks for what it may announce.
+#[derive(Drop)]
+pub struct Seen {
+    rings: u64,
+}
+
+impl Seen {
+    // The look that followed found nothing.
+    pub(crate) fn missed(self) -> Missed {
+        Missed { rings: self.rings }
+    }
+}
+
+/// The result of a look that found nothing, with which a thread may wait for what the look missed.
+/// Only the looks of an owner and of a hand make it, of what was seen before them.
+#[derive(Drop)]
+pub struct Missed {
+    rings: u64,
+}
+
+/// A bell was rung. Only `Bell::ring` makes it.
+#[derive(Drop)]
+pub struct Rung {
+    of: (),
 }
 
 impl Bell {
@@ -30,22 +57,32 @@ impl Bell {
         }
     }
 
-    /// How often it was rung so far.
-    pub fn rings(&self) -> u64 {
+    // How often it was rung so far.
+    fn rings(&self) -> u64 {
         self.rings.load(Ordering::SeqCst)
     }
 
-    /// Rings, and wakes all that wait. It takes no lock, and where none sleeps asks nothing of the system.
-    pub fn ring(&self) {
+    /// Begins a look for what the bell may announce.
+    pub fn look(&self) -> Seen {
+        Seen {
+            rings: self.rings(),
+        }
+    }
+
+    /// Rings, and wakes all threads that wait. It takes no lock, and makes no system call if none
+    /// sleeps.
+    pub fn ring(&self) -> Rung {
         self.rings.fetch_add(1, Ordering::SeqCst);
         if self.sleepers.load(Ordering::SeqCst) != 0 {
             self.rings.wake_all();
         }
+        Rung { of: () }
     }
 
-    /// Waits until it was rung more often than `seen`, or has been: looks a bounded number of times, and then
-    /// sleeps.
-    pub fn wait<R: Wait>(&self, rt: &R, seen: u64) {
+    /// Waits until the bell is rung. It returns at once if the bell was rung since the look began
+    /// that missed. It first looks at the count a bounded number of times, and then sleeps.
+    pub fn wait<R: Wait>(&self, rt: &R, missed: Missed) {
+        let Missed { rings: seen } = missed;
         for _ in 0..LOOKS {
             if self.rings() != seen {
                 return;

@@ -1,4 +1,4 @@
-//! The end of a hand-off, and what is left then.
+//! The end of a hand-off, and what is left in its places then.
 ghost use Rattle.std.specs.Prelude.{◌≡◌, ℕ, ◌+◌, ◌<◌, ◌≤◌, [], length, slice_index, slice_index_or, vec_capacity, IfOk, IsOkUnless, All};
 ghost use Rattle.std.specs.Slots.{slots_items, slots_filled, slots_len, IsFull};
 ghost use Rattle.sim_handoff.specs.Ends.{Says, IsLeft};
@@ -13,18 +13,18 @@ use atomic_table::Closed;
 use sim_clock::Refusal;
 use std::alloc::Global;
 
-/// What is left at a place when its hand-off is closed.
+/// What is left in a place when its hand-off is closed.
 #[derive(Debug, PartialEq, Drop)]
 pub enum Left<P, D> {
     /// The owner has collected all that it offered here.
     Empty,
-    /// The last offer, which nobody claimed.
+    /// The last offer, which no hand claimed.
     Offered(P),
     /// An answer to the last offer, which was not collected.
     Done(D),
 }
 
-// What is left at a place with this word and this slot.
+// What is left in a place with this word and this slot.
 fn left_at<P: Drop, D: Drop>(word: u64, slot: Slot<P, D>) -> Left<P, D>
     ensures { Says word slot result }
 {
@@ -73,10 +73,13 @@ fn take_in_all<W: Work>(owner: &mut Owner<W>, handoff: &Handoff<W>, mut hands: V
     }
 }
 
-/// Ends a hand-off. Its owner calls it, with all hands that it made, none of which holds a piece.
-/// It gives what is left at each place: the last offer, an answer to it, or nothing, and this only
-/// where the owner has nothing to collect. The only error is `Memory`, and then all that lies in
-/// the places is dropped.
+/// Ends a hand-off. Its owner calls it with all hands that it made, none of which holds a piece.
+/// Returns what is left in each place: the last offer, an answer to it, or nothing; nothing only if
+/// the owner has nothing to collect there.
+///
+/// # Errors
+///
+/// Only `Memory`, if memory runs out; all values in the places are then dropped.
 pub fn close<W: Work>(
     alloc: Global,
     handoff: Handoff<W>,

@@ -1,10 +1,10 @@
 //! The table of places, its owner and its hands.
-ghost use Rattle.std.specs.Prelude.{◌≡◌, ℕ, ◌+◌, ◌-◌, ◌<◌, [], length, false, true, None, IfSome, IfNone, IfOk, IsOkUnless, MatchBool, replicate};
+ghost use Rattle.std.specs.Prelude.{◌≡◌, ℕ, ◌+◌, ◌-◌, ◌<◌, ◌≤◌, [], length, false, true, None, IfSome, IfNone, IfOk, IfErr, IsOkUnless, MatchBool, replicate};
 ghost use Rattle.sim_handoff.specs.declared.records.Slot.TheVariants.{Nothing};
-ghost use Rattle.sim_handoff.specs.Place.{place_record, IsFree, HoldsNothing, AnswersLast, AnswersHeld};
+ghost use Rattle.sim_handoff.specs.Place.{place_record, IsFree, HoldsNothing, HoldsOnly, AnswersLast, AnswersHeld};
 ghost use Rattle.sim_handoff.specs.Steps.{at, offered, collected, holding, returned, stopped, with_hand, new_hand, opening_record, LearnsClaims};
 
-use crate::bell::Bell;
+use crate::bell::{Bell, Missed, Rung, Seen};
 use crate::records::{PartyRecord, Slot};
 use crate::rule::{CLAIMED, DONE, EMPTY, HandoffRule, OFFERED, RUNNING, STOPPED, Work};
 use crate::steps::{
@@ -22,9 +22,9 @@ type SeatOf<W> = Seat<SlotOf<W>, RecordOf<W>>;
 
 type TableOf<W> = Table<SlotOf<W>, RecordOf<W>, usize, HandoffRule<W>, Global>;
 
-/// A fixed number of places, each of them empty, offered, claimed or done, and a flag; and a bell on
-/// which hands wait for offers, and one on which the owner waits for answers. Its owner and its hands
-/// share it by reference, each on a thread of its own if they like.
+/// A fixed number of places, each of them empty, offered, claimed or done, and a flag. It has two
+/// bells: hands wait on one for offers, and the owner waits on the other for answers. The owner and
+/// its hands share it by reference, each on a thread of its own if they like.
 #[derive(Drop)]
 pub struct Handoff<W: Work> {
     pub(crate) table: TableOf<W>,
@@ -35,14 +35,14 @@ pub struct Handoff<W: Work> {
         × (table.shared.table_id.slots ≡ places) × (table.shared.key ≡ places) },
 }
 
-/// The one party that offers, collects, stops, makes hands and closes. Its record is kept for
+/// The only party that offers, collects, stops, makes hands and closes. Its record is kept for
 /// contracts alone.
 #[derive(Drop)]
 pub struct Owner<W: Work> {
     pub(crate) seat: SeatOf<W>,
-    // How many pieces it has offered since it called hands last.
+    // The number of pieces that it has offered since it last called hands.
     pub(crate) uncalled: u64,
-    // Whether it calls none.
+    // Whether it never calls hands.
     pub(crate) alone: bool,
     ghost seated: { (seat.id ≡ 0) × (seat.me.1 ≡ [])
         × (length seat.me.0.by_place ≡ seat.table_id.slots) },
@@ -50,7 +50,7 @@ pub struct Owner<W: Work> {
 }
 
 /// A party that claims pieces and gives answers back. Its record is kept for contracts alone. A
-/// hand that is dropped counts as out for good, and then its hand-off can no longer be closed.
+/// hand that is dropped counts as out for good, and its hand-off can then no longer be closed.
 #[derive(Drop)]
 pub struct Hand<W: Work> {
     pub(crate) seat: SeatOf<W>,
@@ -59,7 +59,7 @@ pub struct Hand<W: Work> {
     ghost rests: { (place : ℕ) → (place_record seat.me.0 place).out ≡ false },
 }
 
-/// A place that a hand claimed. It has no `Drop`: only `Hand::give_back` spends it.
+/// A claim of a place by a hand. It has no `Drop`: only `Hand::give_back` consumes it.
 pub struct Claimed {
     place: usize,
 }
@@ -67,7 +67,7 @@ pub struct Claimed {
 impl Claimed {
     ghost use Rattle.sim_handoff.specs.Seats.{claimed_place};
 
-    /// The place that was claimed. Whoever has the claim may ask, and nothing changes.
+    /// The place that was claimed. Any holder of the claim may ask, and nothing changes.
     pub fn place(&self) -> usize
         ensures { result ≡ claimed_place self.now }
     {
@@ -75,7 +75,7 @@ impl Claimed {
     }
 }
 
-// So many slots with nothing in them.
+// `count` empty slots.
 fn empty_slots<P: Drop, D: Drop>(alloc: Global, count: usize) -> Result<Vec<Slot<P, D>>, AllocError>
     ensures { IfOk result (λ slots. slots.items ≡ replicate count Nothing) }
 {
@@ -91,16 +91,19 @@ fn empty_slots<P: Drop, D: Drop>(alloc: Global, count: usize) -> Result<Vec<Slot
 impl<W: Work> Handoff<W> {
     ghost use Rattle.sim_handoff.specs.Seats.{places_of, table_of, owner_table, owner_record};
 
-    /// Makes so many empty places, and their owner, whose record says that nothing was offered,
-    /// no hand is out and the flag is not set. Anyone may call it. The only error is `Memory`,
-    /// which comes also for 2^60 places or more.
+    /// Makes `places` empty places and their owner. The owner's record says that nothing was
+    /// offered, no hand is out and the flag is not set. Anyone may call it.
+    ///
+    /// # Errors
+    ///
+    /// Only `Memory`, if memory runs out and for 2^60 places or more.
     pub fn make(alloc: Global, places: usize) -> Result<(Handoff<W>, Owner<W>), Refusal>
         ensures places { IfOk result (λ made. places_of made.0 ≡ places) }
         ensures here { IfOk result (λ made. owner_table made.1 ≡ table_of made.0) }
         ensures owner { IfOk result (λ made. owner_record made.1 ≡ opening_record places) }
         ensures memory_only { IsOkUnless result Refusal.Memory }
     {
-        // No allocator has room for so many words.
+        // No allocator has room for that many words.
         if places >= 1 << 60 {
             return Err(Refusal::Memory);
         }
@@ -124,7 +127,7 @@ impl<W: Work> Handoff<W> {
         }
     }
 
-    /// How many places there are. Anyone may ask, and nothing changes.
+    /// The number of places. Anyone may ask, and nothing changes.
     pub fn places(&self) -> usize
         ensures { result ≡ places_of self.now }
     {
@@ -154,7 +157,8 @@ impl<W: Work> Owner<W> {
         ensures theirs { hand_table result ≡ owner_table self.old }
         ensures owner { owner_record self.new ≡ with_hand (owner_record self.old) }
         ensures places { (place : ℕ)
-            → place_record (owner_record self.new) place ≡ place_record (owner_record self.old) place }
+            → place_record (owner_record self.new) place
+            ≡ place_record (owner_record self.old) place }
         ensures hand { hand_record result ≡ new_hand (owner_record self.old) }
         ensures idle { HoldsNothing (hand_record result) }
     {
@@ -162,8 +166,8 @@ impl<W: Work> Owner<W> {
         Hand { seat }
     }
 
-    /// Calls the hands that wait, where several pieces were offered since it was called last; one
-    /// piece the owner's own thread can as well claim. An owner that works alone calls none. The
+    /// Wakes the waiting hands if several pieces were offered since the last call. If only one was,
+    /// the owner's own thread can claim it as well. An owner that works alone wakes none. The
     /// owner's record stays as it was.
     pub fn call(&mut self, handoff: &Handoff<W>)
         ensures here { owner_table self.new ≡ owner_table self.old }
@@ -175,8 +179,8 @@ impl<W: Work> Owner<W> {
         self.uncalled = 0;
     }
 
-    /// Says whether the owner works alone from now on: then `call` calls nobody. The owner's record
-    /// stays as it was.
+    /// Sets whether the owner works alone from now on. If it does, `call` wakes no hand. The
+    /// owner's record stays as it was.
     pub fn work_alone(&mut self, alone: bool)
         ensures here { owner_table self.new ≡ owner_table self.old }
         ensures same { owner_record self.new ≡ owner_record self.old }
@@ -184,9 +188,9 @@ impl<W: Work> Owner<W> {
         self.alone = alone;
     }
 
-    /// Sets the flag of the owner's hand-off, which stays set, and calls all hands. The owner's
-    /// record says so.
-    pub fn stop(&mut self, handoff: &Handoff<W>)
+    /// Sets the flag of the owner's hand-off for good, and wakes all hands. The owner's record says
+    /// so.
+    pub fn stop(&mut self, handoff: &Handoff<W>) -> Rung
         requires here { owner_table self.old ≡ table_of handoff.now }
         ensures here { owner_table self.new ≡ owner_table self.old }
         ensures stopped { owner_record self.new ≡ stopped (owner_record self.old) }
@@ -195,7 +199,7 @@ impl<W: Work> Owner<W> {
             .table
             .shared
             .store::<Stop>(&mut self.seat, handoff.places, STOPPED);
-        handoff.offers.ring();
+        handoff.offers.ring()
     }
 
     // Takes in a hand that holds nothing.
@@ -214,8 +218,8 @@ impl<W: Work> Owner<W> {
             .join_seat::<Joining>(&mut self.seat, seat);
     }
 
-    /// Offers a piece at a place of the owner's hand-off where it has nothing to collect. In the
-    /// owner's record the piece is the last offer there, and the place is to be collected.
+    /// Offers a piece in a place of the owner's hand-off from which it has nothing to collect. In
+    /// the owner's record the piece is then the last offer there, and the place is to be collected.
     pub fn offer(&mut self, handoff: &Handoff<W>, place: usize, piece: W::Piece)
         requires here { owner_table self.old ≡ table_of handoff.now }
         requires place { place < places_of handoff.now }
@@ -233,8 +237,9 @@ impl<W: Work> Owner<W> {
         self.uncalled = self.uncalled.saturating_add(1);
     }
 
-    /// Collects, at any place of the owner's hand-off, an answer to its last offer there; the place
-    /// is then empty. None, where the place was seen not done, leaves the owner's record as it was.
+    /// Collects, from any place of the owner's hand-off, an answer to its last offer there; the
+    /// place is then empty. If the place was not seen done, returns none and leaves the owner's
+    /// record as it was.
     pub fn collect(&mut self, handoff: &Handoff<W>, place: usize) -> Option<W::Done>
         requires here { owner_table self.old ≡ table_of handoff.now }
         requires place { place < places_of handoff.now }
@@ -260,17 +265,47 @@ impl<W: Work> Owner<W> {
     }
 }
 
+impl<W: Work> Owner<W> {
+    ghost use Rattle.sim_handoff.specs.Seats.{places_of, table_of, owner_table, owner_record};
+
+    /// Collects as `collect` does. The look for it began with what was seen of the bell of answers.
+    /// If it finds nothing, it returns what the owner needs to wait.
+    pub fn collect_or_miss(
+        &mut self,
+        handoff: &Handoff<W>,
+        place: usize,
+        seen: Seen,
+    ) -> Result<W::Done, Missed>
+        requires here { owner_table self.old ≡ table_of handoff.now }
+        requires place { place < places_of handoff.now }
+        ensures here { owner_table self.new ≡ owner_table self.old }
+        ensures answer { IfOk result
+            (AnswersLast W.does (place_record (owner_record self.old) place)) }
+        ensures collected { IfOk result
+            (λ _. owner_record self.new ≡ at place collected (owner_record self.old)) }
+        ensures empty { IfOk result (λ _. IsFree (owner_record self.new) place) }
+        ensures none { IfErr result (λ _. owner_record self.new ≡ owner_record self.old) }
+    {
+        match self.collect(handoff, place) {
+            Some(done) => Ok(done),
+            None => Err(seen.missed()),
+        }
+    }
+}
+
 impl<W: Work> Hand<W> {
     ghost use Rattle.sim_handoff.specs.Seats.{places_of, table_of, hand_table, hand_record, claimed_place};
 
-    /// Whether the owner has stopped; any hand of the hand-off may ask. True leaves in the hand's
-    /// record that it saw so, and false is answered only to a hand that has not seen it.
+    /// Whether the owner has stopped; any hand of the hand-off may ask. If it returns true, the
+    /// hand's record says that the hand saw so. It returns false only to a hand that has not seen
+    /// it.
     pub fn stopped(&mut self, handoff: &Handoff<W>) -> bool
         requires here { hand_table self.old ≡ table_of handoff.now }
         ensures here { hand_table self.new ≡ hand_table self.old }
         ensures seen { MatchBool result
             (hand_record self.new ≡ stopped (hand_record self.old))
-            ((hand_record self.new ≡ hand_record self.old) × ((hand_record self.old).stopped ≡ false)) }
+            ((hand_record self.new ≡ hand_record self.old)
+            × ((hand_record self.old).stopped ≡ false)) }
     {
         let flag = handoff
             .table
@@ -279,9 +314,10 @@ impl<W: Work> Hand<W> {
         flag != RUNNING
     }
 
-    /// Claims the piece that is offered at a place; any hand of the hand-off may try. The hand's
-    /// record says that it holds the piece. None, where the place was seen not offered, leaves in
-    /// it a number of first offers there that were all claimed, at least those that it knew of.
+    /// Claims the piece that is offered in a place; any hand of the hand-off may try. The hand's
+    /// record then says that it holds the piece. If the place was not seen offered, returns none.
+    /// The record then has a number of first offers there that were all claimed, at least those
+    /// that it had before.
     pub fn claim(&mut self, handoff: &Handoff<W>, place: usize) -> Option<(Claimed, W::Piece)>
         requires here { hand_table self.old ≡ table_of handoff.now }
         requires place { place < places_of handoff.now }
@@ -305,9 +341,60 @@ impl<W: Work> Hand<W> {
         }
     }
 
-    /// Gives back an answer to the piece that this hand claimed and holds. The hand's record says
-    /// that it holds nothing there any more; the place is done.
-    pub fn give_back(&mut self, handoff: &Handoff<W>, claimed: Claimed, done: W::Done)
+    // Claims the first piece that is offered in the places of a range.
+    fn claim_between(
+        &mut self,
+        handoff: &Handoff<W>,
+        from: usize,
+        to: usize,
+    ) -> Option<(Claimed, W::Piece)>
+        requires here { hand_table self.old ≡ table_of handoff.now }
+        requires idle { HoldsNothing (hand_record self.old) }
+        requires places { to ≤ places_of handoff.now }
+        ensures here { hand_table self.new ≡ hand_table self.old }
+        ensures held { IfSome result
+            (λ claim. HoldsOnly (claimed_place claim.0) claim.1 (hand_record self.new)) }
+        ensures none { IfNone result (HoldsNothing (hand_record self.new)) }
+    {
+        for place in from..to {
+            if let Some(claim) = self.claim(handoff, place) {
+                return Some(claim);
+            }
+        }
+        None
+    }
+
+    /// Claims the first piece that is offered, in the places from one on and then in those before
+    /// it. The look for it began with what was seen of the bell of offers. Any hand of the hand-off
+    /// that holds nothing may try. The hand then holds that piece alone. If no place was seen
+    /// offered, the hand still holds nothing, and the call returns what the hand needs to wait.
+    pub fn claim_or_miss(
+        &mut self,
+        handoff: &Handoff<W>,
+        from: usize,
+        seen: Seen,
+    ) -> Result<(Claimed, W::Piece), Missed>
+        requires here { hand_table self.old ≡ table_of handoff.now }
+        requires idle { HoldsNothing (hand_record self.old) }
+        ensures here { hand_table self.new ≡ hand_table self.old }
+        ensures held { IfOk result
+            (λ claim. HoldsOnly (claimed_place claim.0) claim.1 (hand_record self.new)) }
+        ensures none { IfErr result (λ _. HoldsNothing (hand_record self.new)) }
+    {
+        let places = handoff.places();
+        let from = from.min(places);
+        if let Some(claim) = self.claim_between(handoff, from, places) {
+            return Ok(claim);
+        }
+        match self.claim_between(handoff, 0, from) {
+            Some(claim) => Ok(claim),
+            None => Err(seen.missed()),
+        }
+    }
+
+    /// Gives back an answer to the piece that this hand claimed and holds, and wakes the owner. The
+    /// place is done, and the hand's record says that it holds nothing there any more.
+    pub fn give_back(&mut self, handoff: &Handoff<W>, claimed: Claimed, done: W::Done) -> Rung
         requires here { hand_table self.old ≡ table_of handoff.now }
         requires does { AnswersHeld W.does
             (place_record (hand_record self.old) (claimed_place claimed)) done }
@@ -323,5 +410,6 @@ impl<W: Work> Hand<W> {
             Slot::Piece(_) | Slot::Answer(_) => unreachable!(),
         }
         shared.store::<GiveBack>(&mut self.seat, place, DONE);
+        handoff.answers.ring()
     }
 }

@@ -1,4 +1,5 @@
-//! Owned values handed from an owner to many hands, and their answers handed back, with no lock.
+//! Owned values handed from an owner to many hands, and the hands' answers handed back, without a
+//! lock.
 #![tactic(auto)]
 
 mod bell;
@@ -8,7 +9,7 @@ mod records;
 mod rule;
 mod steps;
 
-pub use bell::Bell;
+pub use bell::{Bell, Missed, Rung, Seen};
 pub use ends::{Left, close};
 pub use handoff::{Claimed, Hand, Handoff, Owner};
 pub use rule::Work;

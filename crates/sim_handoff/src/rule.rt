@@ -1,4 +1,4 @@
-//! The work that is handed over, and the rule of the table.
+//! The work that is handed over, and the rule of its table.
 use crate::records::{PartyRecord, Slot};
 use atomic_table::TableRule;
 use std::marker::PhantomData;
@@ -11,11 +11,11 @@ pub trait Work {
     /// What a hand gives back for a piece.
     type Done: Drop + Send;
 
-    /// Whether this is a right answer to that piece.
+    /// Whether an answer is right for a piece.
     ghost does: { Self.Piece → Self.Done → Type 0 };
 }
 
-/// The rule of a hand-off: a clause for each place, and one for the flag. It stands in types
+/// The rule of a hand-off: a clause for each place, and one for the flag. It is used in types
 /// alone.
 pub struct HandoffRule<W> {
     work: PhantomData<W>,
@@ -36,7 +36,7 @@ pub const EMPTY: u64 = 0;
 /// The word of a place whose piece waits for a hand.
 pub const OFFERED: u64 = 1;
 
-/// The word of a place whose piece is with a hand.
+/// The word of a place whose piece a hand has.
 pub const CLAIMED: u64 = 2;
 
 /// The word of a place whose answer waits for the owner.

@@ -11,9 +11,3 @@ blank n i =
       | inl l ↦ get_or-replicate n i no_mark no_mark l
       | inr l ↦ get_or_past (replicate n no_mark) i no_mark (omega (arith, length-replicate n no_mark, l))
     ]
-
--- empty places behind marks tell nothing more
-pub with_blanks : (marks : List Mark) (n i : ℕ) → node (marks ++ replicate n no_mark) i ≡ node marks i
-with_blanks [] n i = blank n i
-with_blanks (m ∷ ms) n zero = refl
-with_blanks (m ∷ ms) n (suc i) = with_blanks ms n i

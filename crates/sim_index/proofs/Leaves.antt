@@ -32,8 +32,8 @@ module _ (n : ℕ) (leaves : List Mark) (h : HasLeaves n leaves) where
   pub least_taken : least_of (take n leaves) ≡ least_of leaves
   least_taken = same_least (take n leaves) leaves node_taken
 
-  pub any_taken : (hosts : ℕ) → list_any (meets hosts) (take n leaves) ≡ list_any (meets hosts) leaves
-  any_taken hosts = same_any hosts (take n leaves) leaves node_taken
+  pub any_taken : (flags : ℕ) → list_any (meets flags) (take n leaves) ≡ list_any (meets flags) leaves
+  any_taken flags = same_any flags (take n leaves) leaves node_taken
 
   place_taken : (place : ℕ) → IsPlaceOfLeast leaves place → IsPlaceOfLeast (take n leaves) place
   place_taken place is =

@@ -107,7 +107,7 @@ both_kept marks place mark a b n left right h =
       place =
           subst (λ (o : Option Key). IsFirstOf o (told_by (set marks place mark) b).due a.place b.place n.place) (sym (due_kept marks place mark a left))
           (subst (λ (o : Option Key). IsFirstOf (told_by marks a).due o a.place b.place n.place) (sym (due_kept marks place mark b right)) h.place);
-      hosts = h.hosts;
+      flags = h.flags;
     }
 
 -- the nodes from one on up are as they were, and those behind it are in order
@@ -165,7 +165,7 @@ pub begun : (marks : List Mark) (start : List Node) (place : ℕ) → IsTreeBut 
 begun marks start place was =
     let before : List Node = was.nodes_before in
     let leaf : ℕ = length marks + place in
-    let new : Node = record { place = place; hosts = was.mark.hosts } in
+    let new : Node = record { place = place; flags = was.mark.flags } in
     let many : length marks ≡ length was.marks_before = as_many marks start place was in
     let long : length before ≡ 2 * length marks = long_before marks start place was in
     let as_long : length start ≡ length before = ap length was.nodes_now ∙ length-set before leaf new in
@@ -196,12 +196,12 @@ begun marks start place was =
                   | inl e ↦
                       ap (λ (k : ℕ). node_in start (length marks + k)) e
                       ∙ own
-                      ∙ (λ j. record { place = sym e j; hosts = ap (λ (m : Mark). m.hosts) (sym (get_or-set_same was.marks_before place was.mark no_mark was.within) ∙ (λ h. node (sym was.marks_now h) (sym e h))) j })
+                      ∙ (λ j. record { place = sym e j; flags = ap (λ (m : Mark). m.flags) (sym (get_or-set_same was.marks_before place was.mark no_mark was.within) ∙ (λ h. node (sym was.marks_now h) (sym e h))) j })
                   | inr n ↦
                       others (length marks + i) (λ e. n (omega (arith, e)))
                       ∙ ap (λ (k : ℕ). node_in before (k + i)) many
                       ∙ was.tree.leaves.single i (omega (arith, l, many))
-                      ∙ ap (λ (m : Mark). record { place = i; hosts = m.hosts }) (sym (get_or-set_other was.marks_before place i was.mark no_mark n) ∙ ap (λ (ms : List Mark). node ms i) (sym was.marks_now))
+                      ∙ ap (λ (m : Mark). record { place = i; flags = m.flags }) (sym (get_or-set_other was.marks_before place i was.mark no_mark n) ∙ ap (λ (ms : List Mark). node ms i) (sym was.marks_now))
                 ];
           };
     }

@@ -19,11 +19,11 @@ shown marks nodes = map (told_by marks) nodes
 pub shown_at : (marks : List Mark) (nodes : List Node) (i : ℕ) → i < length nodes → node (shown marks nodes) i ≡ told_by marks (node_in nodes i)
 shown_at marks nodes i l = get_or-map (told_by marks) nodes i no_node no_mark l
 
--- of hosts they tell the same whatever is due
-pub tells_shown : (marks : List Mark) (nodes : List Node) (hosts i : ℕ) → tells (shown marks nodes) hosts i ≡ tells (bare nodes) hosts i
-tells_shown marks [] hosts i = refl
-tells_shown marks (n ∷ ns) hosts zero = refl
-tells_shown marks (n ∷ ns) hosts (suc i) = tells_shown marks ns hosts i
+-- of flags they tell the same whatever is due
+pub tells_shown : (marks : List Mark) (nodes : List Node) (flags i : ℕ) → tells (shown marks nodes) flags i ≡ tells (bare nodes) flags i
+tells_shown marks [] flags i = refl
+tells_shown marks (n ∷ ns) flags zero = refl
+tells_shown marks (n ∷ ns) flags (suc i) = tells_shown marks ns flags i
 
 pub long_bare : (nodes : List Node) → length (bare nodes) ≡ length nodes
 long_bare nodes = length-map nodes (told_by [])
@@ -37,10 +37,10 @@ due_of_both marks a b n h =
     ]
 
 both_joined : (marks : List Mark) (a b n : Node) → IsBoth marks a b n → told_by marks n ≡ joined (told_by marks a) (told_by marks b)
-both_joined marks a b n h = (λ j. record { due = due_of_both marks a b n h j; hosts = h.hosts j })
+both_joined marks a b n h = (λ j. record { due = due_of_both marks a b n h j; flags = h.flags j })
 
 both_bare : (marks : List Mark) (a b n : Node) → IsBoth marks a b n → told_by [] n ≡ joined (told_by [] a) (told_by [] b)
-both_bare marks a b n h = (λ j. record { due = None; hosts = h.hosts j })
+both_bare marks a b n h = (λ j. record { due = None; flags = h.flags j })
 
 module _ (marks : List Mark) (nodes : List Node) (tree : IsTree marks nodes) where
   pub long_shown : length (shown marks nodes) ≡ 2 * length marks
@@ -121,21 +121,21 @@ module _ (marks : List Mark) (nodes : List Node) (tree : IsTree marks nodes) whe
       (leaf_least (shown marks nodes) (length marks) (length marks + place) paired (omega arith) (omega (arith, there)) some_due leaf
       (first_leaf (shown marks nodes) (length marks) (length marks + place) (tree.power some) (omega arith) (omega (arith, there)) first)))
 
-  -- the first node tells of one of these hosts exactly where a place does
-  pub root_tells : (hosts : ℕ) → tells (bare nodes) hosts 1 ≡ list_any (meets hosts) marks
-  root_tells hosts = sym (tells_shown marks nodes hosts 1) ∙ root_any (shown marks nodes) (length marks) hosts paired ∙ ap (list_any (meets hosts)) places_shown
+  -- the first node has one of these flags exactly where a place does
+  pub root_tells : (flags : ℕ) → tells (bare nodes) flags 1 ≡ list_any (meets flags) marks
+  root_tells flags = sym (tells_shown marks nodes flags 1) ∙ root_any (shown marks nodes) (length marks) flags paired ∙ ap (list_any (meets flags)) places_shown
 
   -- what nodes tell from one on, the places do
-  bare_none : (hosts from end : ℕ) → NoneIn (bare nodes) hosts from end → NoneIn (shown marks nodes) hosts from end
-  bare_none hosts from end none i l u = tells_shown marks nodes hosts i ∙ none i l u
+  bare_none : (flags from end : ℕ) → NoneIn (bare nodes) flags from end → NoneIn (shown marks nodes) flags from end
+  bare_none flags from end none i l u = tells_shown marks nodes flags i ∙ none i l u
 
-  pub none_of_places : (hosts from : ℕ) → NoneIn (bare nodes) hosts (length marks + from) (2 * length marks) → NoneIn marks hosts from (length marks)
-  none_of_places hosts from none = none_of_leaves (shown marks nodes) marks (length marks) hosts paired places_shown from (bare_none hosts (length marks + from) (2 * length marks) none)
+  pub none_of_places : (flags from : ℕ) → NoneIn (bare nodes) flags (length marks + from) (2 * length marks) → NoneIn marks flags from (length marks)
+  none_of_places flags from none = none_of_leaves (shown marks nodes) marks (length marks) flags paired places_shown from (bare_none flags (length marks + from) (2 * length marks) none)
 
-  pub next_of_places : (hosts from n : ℕ) → IsNextIn (bare nodes) hosts (length marks + from) (2 * length marks) n → IsNextIn marks hosts from (length marks) (n - length marks)
-  next_of_places hosts from n next =
-      next_of_leaves (shown marks nodes) marks (length marks) hosts paired places_shown from n
-      (record { past = next.past; within = next.within; found = tells_shown marks nodes hosts n ∙ next.found; none_before = bare_none hosts (length marks + from) n next.none_before })
+  pub next_of_places : (flags from n : ℕ) → IsNextIn (bare nodes) flags (length marks + from) (2 * length marks) n → IsNextIn marks flags from (length marks) (n - length marks)
+  next_of_places flags from n next =
+      next_of_leaves (shown marks nodes) marks (length marks) flags paired places_shown from n
+      (record { past = next.past; within = next.within; found = tells_shown marks nodes flags n ∙ next.found; none_before = bare_none flags (length marks + from) n next.none_before })
 
   -- the first node, where it is found
   pub root_read : (seen : List Node) (root : Node) → seen ≡ nodes → (true ≡ nat_lt 1 (length seen)) × (root ≡ get_or seen 1 root) → (1 ≤ length marks) × (root ≡ node_in nodes 1) × (root.place < length marks)

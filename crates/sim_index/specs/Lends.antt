@@ -1,4 +1,4 @@
--- What a list of values with their marks ends as, where a `&mut` to one of them is returned.
+-- What a list of values with their marks becomes when a `&mut` to one of them is returned.
 use Rattle.std.specs.Prelude.{ℕ}
 use Rattle.std.specs.Borrow.{Fml, Lends, MutBor, RattleType}
 use Rattle.sim_index.specs.Marked.{Marked, with_value}

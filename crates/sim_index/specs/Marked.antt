@@ -10,11 +10,11 @@ pub record Marked (A : Type 0) : Type 0 where
   pub marks : List Mark
   pub ready : Bool
 
--- whether a list of so many values has room for one more, and a tree of so many leaves one for its mark
+-- whether a list of values has room for one more, and a tree has a leaf for its mark
 abbrev pub is_ready : ℕ → ℕ → ℕ → Bool
 is_ready values capacity leaves = nat_lt values capacity && nat_lt values leaves
 
--- a tree has a leaf for each of so many values, and leaves past them tell nothing
+-- a tree has a leaf for each of the values, and the leaves past them are empty
 pub record HasLeaves (values : ℕ) (leaves : List Mark) : Type 0 where
   pub room : values ≤ length leaves
   pub rest : (i : ℕ) → values ≤ i → node leaves i ≡ no_mark
@@ -27,7 +27,7 @@ AreMarked mark list = list.marks ≡ map mark list.values
 abbrev pub with_value : {A : Type 0} → Marked A → ℕ → A → Marked A
 with_value m place value = record m { values = set m.values place value }
 
--- what stays of values and their marks, where each value was asked about and those stay at which the answer was `true`
+-- the values, with their marks, for which a test that was asked about each value returned `true`
 pub record IsPicked {A : Type 0} (answers : A → Bool → Type 0) (old new : Marked A) : Type 0 where
   pub told : List Bool
   pub asked : AllZip answers old.values told

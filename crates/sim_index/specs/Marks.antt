@@ -7,24 +7,24 @@ use Rattle.sim_index.specs.declared.marks.Node.{Node}
 
 -- the mark of an empty place
 abbrev pub no_mark : Mark
-no_mark = record { due = None; hosts = 0 }
+no_mark = record { due = None; flags = 0 }
 
--- what two marks tell together
+-- the mark of what two marks stand for, together
 abbrev pub joined : Mark → Mark → Mark
-joined a b = record { due = lesser a.due b.due; hosts = bit_or a.hosts b.hosts }
+joined a b = record { due = lesser a.due b.due; flags = bit_or a.flags b.flags }
 
--- whether a mark tells of one of these hosts
+-- whether a mark has one of these flags
 abbrev pub meets : ℕ → Mark → Bool
-meets set m = not (bit_and m.hosts set == 0)
+meets set m = not (bit_and m.flags set == 0)
 
--- the mark of a node, and whether it tells of one of these hosts
+-- the mark of a node, and whether it has one of these flags
 abbrev pub node : List Mark → ℕ → Mark
 node nodes i = get_or nodes i no_mark
 
 abbrev pub tells : List Mark → ℕ → ℕ → Bool
 tells nodes set i = meets set (node nodes i)
 
--- whether a node's mark is what the two below it tell together
+-- whether a node's mark is that of its two children together
 abbrev pub IsPair : List Mark → ℕ → Type 0
 IsPair nodes i = node nodes i ≡ joined (node nodes (2 * i)) (node nodes (2 * i + 1))
 
@@ -36,11 +36,11 @@ ArePairs nodes = (i : ℕ) → 1 ≤ i → 2 * i + 1 < length nodes → IsPair n
 abbrev pub IsPower : ℕ → Type 0
 IsPower n = (k : ℕ) × (n ≡ 2 ^ k)
 
--- no node tells of one of these hosts from one on, before another
+-- no node has one of these flags from one on, before another
 abbrev pub NoneIn : List Mark → ℕ → ℕ → ℕ → Type 0
 NoneIn nodes set from end = (i : ℕ) → from ≤ i → i < end → tells nodes set i ≡ false
 
--- the first node from one on, before another, that tells of one of these hosts
+-- the first node from one on, before another, that has one of these flags
 pub record IsNextIn (nodes : List Mark) (set from end place : ℕ) : Type 0 where
   pub past : from ≤ place
   pub within : place < end
@@ -53,16 +53,16 @@ beyond i = 2 * (i / 2 + 1)
 
 -- the node of no places, and the node at a place of a list
 abbrev pub no_node : Node
-no_node = record { place = 0; hosts = 0 }
+no_node = record { place = 0; flags = 0 }
 
 abbrev pub node_in : List Node → ℕ → Node
 node_in nodes i = get_or nodes i no_node
 
--- what a node tells, by the marks of the places: what is due at its place, and its hosts
+-- the mark of a node, by the marks of the places: what is due at its place, and its flags
 abbrev pub told_by : List Mark → Node → Mark
-told_by marks n = record { due = (node marks n.place).due; hosts = n.hosts }
+told_by marks n = record { due = (node marks n.place).due; flags = n.flags }
 
--- what nodes tell of hosts alone
+-- the flags of nodes alone
 abbrev pub bare : List Node → List Mark
 bare nodes = map (told_by []) nodes
 
@@ -71,20 +71,20 @@ abbrev pub IsFirstOf : Option Key → Option Key → ℕ → ℕ → ℕ → Typ
 IsFirstOf first second a b place =
     ((lesser first second ≡ first) × (place ≡ a)) ⊎ ((lesser first second ≡ second) × (place ≡ b) × (first ≡ second → second ≡ None))
 
--- a node that tells what two others tell together
+-- the node of what two others stand for, together
 pub record IsBoth (marks : List Mark) (a b n : Node) : Type 0 where
   pub place : IsFirstOf (told_by marks a).due (told_by marks b).due a.place b.place n.place
-  pub hosts : n.hosts ≡ bit_or a.hosts b.hosts
+  pub flags : n.flags ≡ bit_or a.flags b.flags
 
 -- whether each node does of the two below it
 abbrev pub AreBoth : List Mark → List Node → Type 0
 AreBoth marks nodes = (i : ℕ) → 1 ≤ i → 2 * i + 1 < length nodes → IsBoth marks (node_in nodes (2 * i)) (node_in nodes (2 * i + 1)) (node_in nodes i)
 
--- nodes of which the second half are those of single places, and all tell of places that are there
+-- nodes of which the second half are those of single places, and all refer to places that exist
 pub record AreLeaves (marks : List Mark) (nodes : List Node) : Type 0 where
   pub long : length nodes ≡ 2 * length marks
   pub there : (i : ℕ) → i < length nodes → (node_in nodes i).place < length marks
-  pub single : (i : ℕ) → i < length marks → node_in nodes (length marks + i) ≡ record { place = i; hosts = (node marks i).hosts }
+  pub single : (i : ℕ) → i < length marks → node_in nodes (length marks + i) ≡ record { place = i; flags = (node marks i).flags }
 
 -- a tree over the marks of places, of which there are a power of two
 pub record IsTree (marks : List Mark) (nodes : List Node) : Type 0 where
@@ -100,9 +100,9 @@ pub record IsTreeBut (marks : List Mark) (nodes : List Node) (place : ℕ) : Typ
   pub tree : IsTree marks_before nodes_before
   pub within : place < length marks_before
   pub marks_now : marks ≡ set marks_before place mark
-  pub nodes_now : nodes ≡ set nodes_before (length marks + place) (record { place = place; hosts = mark.hosts })
+  pub nodes_now : nodes ≡ set nodes_before (length marks + place) (record { place = place; flags = mark.flags })
 
--- the least of what marks tell to be due
+-- the least key due in some marks
 abbrev pub least_of : List Mark → Option Key
 least_of [] = None
 least_of (m ∷ ms) = lesser m.due (least_of ms)

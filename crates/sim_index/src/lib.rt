@@ -1,5 +1,5 @@
-//! What is kept of the places of a list so that the list is not gone over: a tree of marks, by which
-//! the least of what is due, its place, and the next place with a message on a host are found.
+//! An index of a list, so that the list need not be scanned: a tree of marks. It gives the least
+//! entry due, its place in the list, and the next place with one of some flags.
 #![tactic(auto)]
 
 mod mark;

@@ -12,12 +12,13 @@ use sim_clock::Key;
 use std::alloc::{AllocError, Global};
 use std::marker::Model;
 
-// A tree of these marks, of no fewer places than so many, and of twice as many as there are marks.
+// A tree of these marks, with at least `width` places and twice as many as there are marks.
 fn tree_of(alloc: Global, width: usize, marks: &[Mark]) -> Result<Marks, AllocError>
     requires { length marks.now ≤ width }
     ensures marks { IfOk result (λ m. (i : ℕ) → node m i ≡ node marks.now i) }
     ensures more { IfOk result (λ m. length marks.now < length m) }
     ensures wide { IfOk result (λ m. width ≤ length m) }
+    ensures twice { IfOk result (λ m. 2 * length marks.now ≤ length m) }
 {
     if 1 << 60 <= width {
         return Err(AllocError);
@@ -26,7 +27,7 @@ fn tree_of(alloc: Global, width: usize, marks: &[Mark]) -> Result<Marks, AllocEr
     Marks::of(alloc, places, marks)
 }
 
-// A tree of these marks, of as few places as it may have. Takes no memory where there are none.
+// A tree of these marks with as few places as possible. It allocates nothing if there are no marks.
 fn close_tree_of(alloc: Global, marks: &[Mark]) -> Result<Marks, AllocError>
     ensures marks { IfOk result (λ m. (i : ℕ) → node m i ≡ node marks.now i) }
     ensures room { IfOk result (λ m. length marks.now ≤ length m) }
@@ -40,7 +41,7 @@ fn close_tree_of(alloc: Global, marks: &[Mark]) -> Result<Marks, AllocError>
     Marks::of(alloc, marks.len().next_power_of_two(), marks)
 }
 
-// What a closure answers about each value.
+// What a closure returns for each value.
 fn answers<T, A: Drop, F: Fn(&T) -> A>(
     alloc: Global,
     values: &[T],
@@ -57,7 +58,7 @@ fn answers<T, A: Drop, F: Fn(&T) -> A>(
     Ok(told)
 }
 
-// Keeps the values at which the answer is `true`.
+// Keeps the values for which the closure returned `true`.
 fn pick<T: Drop>(values: &mut Vec<T>, told: &[bool])
     requires { length told.now ≡ length values.old.items }
     ensures items { values.new.items ≡ items_where_true told.now values.old.items }
@@ -71,30 +72,33 @@ fn pick<T: Drop>(values: &mut Vec<T>, told: &[bool])
     });
 }
 
-// So many places there are at the least where values leave, so that the list is not gone over again
-// after each push.
-const FEW: usize = 8;
+// The least number of places after values leave, so that not every push makes the list be scanned
+// again.
+const LEAST_PLACES: usize = 8;
 
-// A tree of the marks at which the answer is `true`, for the list that has these leaves.
+// A tree of the marks for which the closure returned `true`, of the list that has these leaves.
 fn picked_tree(alloc: Global, leaves: &[Mark], told: &[bool]) -> Result<Marks, AllocError>
     requires { length told.now ≤ length leaves.now }
-    ensures marks { IfOk result (λ m. (i : ℕ) → node m i ≡ node (items_where_true told.now (take (length told.now) leaves.now)) i) }
-    ensures more { IfOk result (λ m. length (items_where_true told.now (take (length told.now) leaves.now)) < length m) }
+    ensures marks { IfOk result (λ m.
+        (i : ℕ)
+        → node m i ≡ node (items_where_true told.now (take (length told.now) leaves.now)) i) }
+    ensures more { IfOk result
+        (λ m. length (items_where_true told.now (take (length told.now) leaves.now)) < length m) }
     ensures wide { IfOk result (λ m. length leaves.now ≤ length m) }
 {
     let mut marks = Vec::from_slice(alloc, &leaves[..told.len()])?;
     pick(&mut marks, told);
     let width = if marks.len() < told.len() {
-        leaves.len().max(FEW)
+        leaves.len().max(LEAST_PLACES)
     } else {
         leaves.len()
     };
     tree_of(alloc, width, &marks)
 }
 
-/// Values at the places of a list, each with its mark, in a tree beside them: the least of what is
-/// due, its first place and the next place on a host are told without going over the values.
-/// Contracts see the values, the mark of each, and whether one more certainly finds room.
+/// Values at the places of a list, each with its mark in a tree beside them. The least entry due,
+/// its first place and the next place with a flag are returned without a scan of the values.
+/// Contracts see the values, the mark of each, and whether there is certainly room for one more.
 #[derive(Drop)]
 pub struct MarkedList<T> {
     values: Vec<T>,
@@ -116,7 +120,7 @@ impl<T> Model for MarkedList<T> {
 impl<T> MarkedList<T> {
     ghost use Rattle.sim_index.specs.Lends.{LendsValue};
 
-    /// An empty list. Takes no memory.
+    /// An empty list. It allocates nothing.
     pub fn new(alloc: Global) -> MarkedList<T>
         ensures { result ≡ record { values = []; marks = []; ready = false } }
     {
@@ -127,7 +131,11 @@ impl<T> MarkedList<T> {
         }
     }
 
-    /// These values, each with the mark that the closure tells of it. The error is want of memory.
+    /// These values, each with the mark that the closure returns for it.
+    ///
+    /// # Errors
+    ///
+    /// `AllocError` if memory runs out.
     pub fn of<F: Fn(&T) -> Mark>(
         alloc: Global,
         values: Vec<T>,
@@ -137,7 +145,8 @@ impl<T> MarkedList<T> {
         T: Drop,
         requires { F.IsAlwaysCallable mark_of }
         ensures values { IfOk result (λ list. list.values ≡ values.items) }
-        ensures marks { IfOk result (λ list. AllZip (FnReturnsAt F.Fn mark_of) values.items list.marks) }
+        ensures marks { IfOk result
+            (λ list. AllZip (FnReturnsAt F.Fn mark_of) values.items list.marks) }
     {
         let marks = answers(alloc, &values, mark_of)?;
         let tree = close_tree_of(alloc, &marks)?;
@@ -148,7 +157,7 @@ impl<T> MarkedList<T> {
         })
     }
 
-    /// The values, of each of which there is a mark.
+    /// The values, each of which has a mark.
     pub fn values(&self) -> &[T]
         ensures values { result.now ≡ self.now.values }
         ensures marks { length self.now.marks ≡ length self.now.values }
@@ -165,14 +174,14 @@ impl<T> MarkedList<T> {
         &mut self.values[place]
     }
 
-    /// The mark of the value at a place, or that of an empty place past the end.
+    /// The mark of the value at a place; past the end, that of an empty place.
     pub fn mark_at(&self, place: usize) -> Mark
         ensures { result ≡ node self.now.marks place }
     {
         mark_at(self.tree.leaves(), place)
     }
 
-    /// Marks the value at a place.
+    /// Sets the mark of the value at a place.
     pub fn set_mark(&mut self, place: usize, mark: Mark)
         requires { place < length self.old.values }
         ensures { self.new ≡ record self.old { marks = set self.old.marks place mark } }
@@ -180,38 +189,41 @@ impl<T> MarkedList<T> {
         self.tree.put(place, mark);
     }
 
-    /// The least of what is due.
+    /// The key of the least entry due.
     pub fn least(&self) -> Option<Key>
         ensures { result ≡ least_of self.now.marks }
     {
         self.tree.least()
     }
 
-    /// The first place at which the least is due; none where nothing is.
+    /// The first place at which the least entry is due; none if nothing is due.
     pub fn place_of_least(&self) -> Option<usize>
-        ensures first { MatchOption result (least_of self.now.marks ≡ None) (IsPlaceOfLeast self.now.marks) }
+        ensures first { MatchOption result (least_of self.now.marks ≡ None)
+            (IsPlaceOfLeast self.now.marks) }
         ensures there { IfSome result (λ place. place < length self.now.values) }
     {
         self.tree.place_of_least()
     }
 
-    /// Whether the mark of any value tells of one of these hosts.
-    pub fn has_on(&self, hosts: u32) -> bool
-        ensures { result ≡ list_any (meets hosts) self.now.marks }
+    /// Whether the mark of any value has one of these flags.
+    pub fn has_on(&self, flags: u32) -> bool
+        ensures { result ≡ list_any (meets flags) self.now.marks }
     {
-        self.tree.has_on(hosts)
+        self.tree.has_on(flags)
     }
 
-    /// The first place from one on whose mark tells of one of these hosts.
-    pub fn next(&self, from: usize, hosts: u32) -> Option<usize>
+    /// The first place at or after `from` whose mark has one of these flags.
+    pub fn next(&self, from: usize, flags: u32) -> Option<usize>
         requires { from ≤ length self.now.values }
-        ensures first { MatchOption result (NoneIn self.now.marks hosts from (length self.now.marks)) (IsNextIn self.now.marks hosts from (length self.now.marks)) }
+        ensures first { MatchOption result
+            (NoneIn self.now.marks flags from (length self.now.marks))
+            (IsNextIn self.now.marks flags from (length self.now.marks)) }
         ensures there { IfSome result (λ place. place < length self.now.values) }
     {
-        self.tree.next(from, hosts)
+        self.tree.next(from, flags)
     }
 
-    /// Whether one more certainly finds room.
+    /// Whether there is certainly room for one more value.
     pub fn is_ready(&self) -> bool
         ensures { result ≡ self.now.ready }
     {
@@ -219,7 +231,11 @@ impl<T> MarkedList<T> {
         count < self.values.capacity() && count < self.tree.leaves().len()
     }
 
-    /// Makes room for one value more, so that its push succeeds.
+    /// Makes room for one more value, so that its push succeeds.
+    ///
+    /// # Errors
+    ///
+    /// `AllocError` if memory runs out; nothing changes then.
     pub fn reserve(&mut self) -> Result<(), AllocError>
         ensures ready { OnOk result (self.new.ready ≡ true) }
         ensures values { self.new.values ≡ self.old.values }
@@ -237,7 +253,11 @@ impl<T> MarkedList<T> {
         Ok(())
     }
 
-    /// One more value with its mark. Succeeds where there is room.
+    /// Appends a value with its mark. It succeeds if there is room.
+    ///
+    /// # Errors
+    ///
+    /// `AllocError` if memory runs out; nothing changes then.
     pub fn push(&mut self, value: T, mark: Mark) -> Result<(), AllocError>
     where
         T: Drop,
@@ -253,9 +273,13 @@ impl<T> MarkedList<T> {
         Ok(())
     }
 
-    /// Keeps the values at which the closure answers `true`, in their order, with their marks, and
-    /// makes room for one more. There are then at least twice as many places as values, and no fewer
-    /// than there were. Nothing is changed where memory runs out.
+    /// Keeps the values for which the closure returns `true`, in their order, with their marks, and
+    /// makes room for one more. There are then at least twice as many places as values, and no
+    /// fewer than before.
+    ///
+    /// # Errors
+    ///
+    /// `AllocError` if memory runs out; nothing changes then.
     pub fn retain<F: Fn(&T) -> bool>(&mut self, keeps: F) -> Result<(), AllocError>
     where
         T: Drop,
@@ -273,7 +297,8 @@ impl<T> MarkedList<T> {
         Ok(())
     }
 
-    /// Lets all values go, where no mark tells anything. The places are not gone over.
+    /// Removes all values, none of whose marks may have a due key or a flag. It does not scan the
+    /// places.
     pub fn clear(&mut self)
     where
         T: Drop,

@@ -1,4 +1,4 @@
-//! The tree.
+//! The tree of marks.
 ghost use Rattle.std.specs.Prelude.{◌≡◌, ◌⊎◌, None, [], ◌*◌, ◌+◌, ◌/◌, ◌^◌, ℕ, ◌<◌, ◌≤◌, drop, false, true, IfOk, MatchOption, length, set, get_or, vec_len};
 ghost use Rattle.std.specs.List.{list_any};
 ghost use Rattle.sim_index.specs.Marks.{AreBoth, AreLeaves, ArePairs, IsBoth, IsNextIn, IsPlaceOfLeast, IsPower, IsTree, IsTreeBut, NoneIn, bare, beyond, least_of, meets, no_mark, no_node, node, tells};
@@ -8,18 +8,18 @@ use sim_clock::Key;
 use std::alloc::{AllocError, Global};
 use std::marker::Model;
 
-// What is kept of some places together: the place of the least of what is due there, the first of
-// several, and the hosts of all of them, as bits.
+// What the tree keeps of some places together: the first place of the least entry due there, and
+// the flags of all of them, as bits.
 #[derive(Clone, Copy, Debug, PartialEq, Eq)]
 struct Node {
     place: usize,
-    hosts: u32,
+    flags: u32,
 }
 
 // The node of no places.
-const NO_NODE: Node = Node { place: 0, hosts: 0 };
+const NO_NODE: Node = Node { place: 0, flags: 0 };
 
-// The node at a place, or that of no places past the end.
+// The node with an index; past the end, that of no places.
 fn node_at(nodes: &[Node], place: usize) -> Node
     ensures { result ≡ get_or nodes.now place no_node }
 {
@@ -30,14 +30,14 @@ fn node_at(nodes: &[Node], place: usize) -> Node
     }
 }
 
-// Whether a node tells of one of these hosts.
-fn reaches(nodes: &[Node], node: usize, hosts: u32) -> bool
-    ensures { result ≡ tells (bare nodes.now) hosts node }
+// Whether a node has one of these flags.
+fn reaches(nodes: &[Node], node: usize, flags: u32) -> bool
+    ensures { result ≡ tells (bare nodes.now) flags node }
 {
-    node_at(nodes, node).hosts & hosts != 0
+    node_at(nodes, node).flags & flags != 0
 }
 
-// What two nodes tell together.
+// The node of the places of two nodes together.
 fn both(marks: &[Mark], first: Node, second: Node) -> Node
     requires first { first.place < length marks.now }
     requires second { second.place < length marks.now }
@@ -46,77 +46,81 @@ fn both(marks: &[Mark], first: Node, second: Node) -> Node
     let is_second = is_second(&marks[first.place].due, &marks[second.place].due);
     Node {
         place: if is_second { second.place } else { first.place },
-        hosts: first.hosts | second.hosts,
+        flags: first.flags | second.flags,
     }
 }
 
-// The first node of a row from one on of the pair that has it, if it tells of one of these hosts.
-fn next_beside(nodes: &[Node], from: usize, hosts: u32) -> Option<usize>
+// The first node at or after `from` that has one of these flags, in the pair that `from` is in;
+// none if no such node has one.
+fn next_beside(nodes: &[Node], from: usize, flags: u32) -> Option<usize>
     requires { from + 1 < 2 ^ 64 }
-    ensures { MatchOption result (NoneIn (bare nodes.now) hosts from (beyond from)) (IsNextIn (bare nodes.now) hosts from (beyond from)) }
+    ensures { MatchOption result (NoneIn (bare nodes.now) flags from (beyond from))
+        (IsNextIn (bare nodes.now) flags from (beyond from)) }
 {
-    if reaches(nodes, from, hosts) {
+    if reaches(nodes, from, flags) {
         return Some(from);
     }
-    if from % 2 == 0 && reaches(nodes, from + 1, hosts) {
+    if from % 2 == 0 && reaches(nodes, from + 1, flags) {
         return Some(from + 1);
     }
     None
 }
 
-// The first of the two below a node that tells of one of these hosts, or else the second.
-fn first_below(nodes: &[Node], node: usize, hosts: u32) -> usize
+// The first of the two below a node that has one of these flags, or else the second.
+fn first_below(nodes: &[Node], node: usize, flags: u32) -> usize
     requires { 2 * node + 1 < 2 ^ 64 }
-    ensures { ((tells (bare nodes.now) hosts (2 * node) ≡ true) × (result ≡ 2 * node)) ⊎ ((tells (bare nodes.now) hosts (2 * node) ≡ false) × (result ≡ 2 * node + 1)) }
+    ensures { ((tells (bare nodes.now) flags (2 * node) ≡ true) × (result ≡ 2 * node))
+        ⊎ ((tells (bare nodes.now) flags (2 * node) ≡ false) × (result ≡ 2 * node + 1)) }
 {
-    if reaches(nodes, 2 * node, hosts) {
+    if reaches(nodes, 2 * node, flags) {
         2 * node
     } else {
         2 * node + 1
     }
 }
 
-// The first node of the row that begins at `row`, from one on, that tells of one of these
-// hosts, by the rows above.
-fn next_in(nodes: &[Node], row: usize, from: usize, hosts: u32) -> Option<usize>
+// The first node at or after `from`, in the row that begins at `row`, that has one of these flags.
+// The rows above it lead there.
+fn next_in(nodes: &[Node], row: usize, from: usize, flags: u32) -> Option<usize>
     requires power { IsPower row }
     requires within { 2 * row ≤ length nodes.now }
     requires pairs { ArePairs (bare nodes.now) }
     requires from { row ≤ from }
-    ensures { MatchOption result (NoneIn (bare nodes.now) hosts from (2 * row)) (IsNextIn (bare nodes.now) hosts from (2 * row)) }
+    ensures { MatchOption result (NoneIn (bare nodes.now) flags from (2 * row))
+        (IsNextIn (bare nodes.now) flags from (2 * row)) }
 {
     if 2 * row <= from {
         return None;
     }
-    if let Some(node) = next_beside(nodes, from, hosts) {
+    if let Some(node) = next_beside(nodes, from, flags) {
         return Some(node);
     }
     if row == 1 {
         return None;
     }
-    match next_in(nodes, row / 2, from / 2 + 1, hosts) {
+    match next_in(nodes, row / 2, from / 2 + 1, flags) {
         None => None,
-        Some(node) => Some(first_below(nodes, node, hosts)),
+        Some(node) => Some(first_below(nodes, node, flags)),
     }
 }
 
-// The first leaf that tells of one of these hosts, where the first node does.
-fn first_told(nodes: &[Node], width: usize, hosts: u32) -> usize
+// The first leaf that has one of these flags, if the first node has one.
+fn first_told(nodes: &[Node], width: usize, flags: u32) -> usize
     requires pairs { ArePairs (bare nodes.now) }
     requires power { IsPower width }
     requires within { 2 * width ≤ length nodes.now }
-    requires told { tells (bare nodes.now) hosts 1 ≡ true }
-    ensures { IsNextIn (bare nodes.now) hosts width (2 * width) result }
+    requires told { tells (bare nodes.now) flags 1 ≡ true }
+    ensures { IsNextIn (bare nodes.now) flags width (2 * width) result }
 {
     let mut node = 1;
     while node < width {
-        node = first_below(nodes, node, hosts);
+        node = first_below(nodes, node, flags);
     }
     node
 }
 
-// Brings the nodes above a place in order, whose mark is new, up to the first that stays as it was and
-// tells of another place.
+// Recomputes the nodes above a place whose mark is new. It stops at the first node that is
+// unchanged and refers to another place.
 fn mend(marks: &[Mark], nodes: &mut Vec<Node>, place: usize)
     requires { IsTreeBut marks.now nodes.old.items place }
     ensures { IsTree marks.now nodes.new.items }
@@ -153,13 +157,13 @@ fn leaves(alloc: Global, marks: &[Mark]) -> Result<Vec<Node>, AllocError>
     for (place, mark) in marks.iter().enumerate() {
         nodes[marks.len() + place] = Node {
             place,
-            hosts: mark.hosts,
+            flags: mark.flags,
         };
     }
     Ok(nodes)
 }
 
-/// The marks of places, of which there are a power of two. Contracts see them as a list.
+/// The marks of some places; their number is a power of two. Contracts see them as a list.
 #[derive(Drop)]
 pub struct Marks {
     marks: Vec<Mark>,
@@ -189,7 +193,11 @@ impl Marks {
         }
     }
 
-    /// The marks of so many places, the first of which have these.
+    /// The marks of `width` places, of which the first have these.
+    ///
+    /// # Errors
+    ///
+    /// `AllocError` if memory runs out.
     pub fn of(alloc: Global, width: usize, marks: &[Mark]) -> Result<Marks, AllocError>
         requires power { IsPower width }
         requires some { 1 ≤ width }
@@ -213,7 +221,7 @@ impl Marks {
         &self.marks
     }
 
-    /// Marks a place.
+    /// Sets the mark of a place.
     pub fn put(&mut self, place: usize, mark: Mark)
         requires { place < length self.old }
         ensures { self.new ≡ set self.old place mark }
@@ -223,43 +231,44 @@ impl Marks {
         }
         self.marks[place] = mark;
         let leaf = self.marks.len() + place;
-        self.nodes[leaf].hosts = mark.hosts;
+        self.nodes[leaf].flags = mark.flags;
         mend(&self.marks, &mut self.nodes, place);
     }
 
-    /// Whether the mark of any place tells of one of these hosts.
-    pub fn has_on(&self, hosts: u32) -> bool
-        ensures { result ≡ list_any (meets hosts) self.now }
+    /// Whether the mark of any place has one of these flags.
+    pub fn has_on(&self, flags: u32) -> bool
+        ensures { result ≡ list_any (meets flags) self.now }
     {
-        reaches(&self.nodes, 1, hosts)
+        reaches(&self.nodes, 1, flags)
     }
 
-    /// The first place from one on whose mark tells of one of these hosts.
-    pub fn next(&self, from: usize, hosts: u32) -> Option<usize>
+    /// The first place at or after `from` whose mark has one of these flags.
+    pub fn next(&self, from: usize, flags: u32) -> Option<usize>
         requires { from ≤ length self.now }
-        ensures { MatchOption result (NoneIn self.now hosts from (length self.now)) (IsNextIn self.now hosts from (length self.now)) }
+        ensures { MatchOption result (NoneIn self.now flags from (length self.now))
+            (IsNextIn self.now flags from (length self.now)) }
     {
-        if !self.has_on(hosts) {
+        if !self.has_on(flags) {
             return None;
         }
         let width = self.marks.len();
         if from == 0 {
-            return Some(first_told(&self.nodes, width, hosts) - width);
+            return Some(first_told(&self.nodes, width, flags) - width);
         }
-        match next_in(&self.nodes, width, width + from, hosts) {
+        match next_in(&self.nodes, width, width + from, flags) {
             None => None,
             Some(node) => Some(node - width),
         }
     }
 
-    /// The least of what is due.
+    /// The key of the least entry due.
     pub fn least(&self) -> Option<Key>
         ensures { result ≡ least_of self.now }
     {
         self.marks[self.nodes.get(1)?.place].due
     }
 
-    /// The first place at which the least is due; none where nothing is.
+    /// The first place at which the least entry is due; none if nothing is due.
     pub fn place_of_least(&self) -> Option<usize>
         ensures { MatchOption result (least_of self.now ≡ None) (IsPlaceOfLeast self.now) }
     {

@@ -8,8 +8,8 @@ use Rattle.sim_clock.specs.declared.key.Key.{Key}
 use Rattle.sim_clock.specs.Order.{lesser}
 use Rattle.sim_engine.specs.Engine.{Engine}
 use Rattle.sim_clock.specs.Places.{Stands, place_from_position}
+use Rattle.sim_clock.proofs.Orderings.{key_self}
 use Rattle.sim_engine.specs.World.{is_due, least_due, world_due}
-use Rattle.sim_engine.proofs.Keys.{key_self}
 use Rattle.sim_engine.proofs.WorldMoves.{is_due_least}
 use Rattle.sim_partition.specs.Sites.{is_due_there, mark_of}
 use Rattle.sim_index.specs.declared.mark.Mark.{Mark}

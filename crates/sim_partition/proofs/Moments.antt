@@ -5,6 +5,7 @@ use Rattle.std.proofs.lemmas.Bool.{cases_lt}
 use Rattle.std.proofs.lemmas.List.Elements.{All-weaker}
 use Rattle.sim_clock.specs.declared.key.Key.{Key}
 use Rattle.sim_engine.specs.World.{world_due, handled_among}
+use Rattle.sim_engine.proofs.Ends.{least_counts}
 use Rattle.sim_engine.proofs.Counts.{tick, tick_now, tick_past}
 use Rattle.sim_engine.proofs.WorldMoves.{FallsAmong, among_falls, tick_key, world_count, world_in, world_none}
 use Rattle.sim_partition.specs.Sites.{AreOfPast, IsFrom}
@@ -36,18 +37,13 @@ module _ {Site Row Transfer : Type 0} {engine : Engine Site Row Transfer} {condi
   none_before : (e : ℕ) (w : List Site) (k : Key) → world_due engine w ≡ Some k → e < k.at → world_count basics e w ≡ 0
   none_before e w k d l = world_none basics e w (ap (tick_key e) d ∙ tick_past e k.at l)
 
-  least_counts : (key : Key) (w : List Site) → All Sound w → world_due engine w ≡ Some key → 1 ≤ world_count basics key.at w
-  least_counts key w h d =
-      let f : FallsAmong basics key key.at w (handled_among engine key w) = falls key key.at w (omega arith) h d in
-      let n : world_count basics key.at (handled_among engine key w).sites + tick key.at key.at ≤ world_count basics key.at w = f.fewer in
-      omega (arith, tick_now key.at key.at (omega arith))
-
-  from_by : (moment : ℕ) (w : List Site) (o : Option Key) → world_due engine w ≡ o → All Sound w → ((e : ℕ) → e < moment → world_count basics e w ≡ 0) → IsFrom moment o
+  -- nothing is due before a moment before which the sites have nothing
+  pub from_by : (moment : ℕ) (w : List Site) (o : Option Key) → world_due engine w ≡ o → All Sound w → ((e : ℕ) → e < moment → world_count basics e w ≡ 0) → IsFrom moment o
   from_by moment w None d h z = tt
   from_by moment w (Some k) d h z =
       elim (cases_lt k.at moment) as (λ _. moment ≤ k.at) [
         | inl l ↦
-            let one : 1 ≤ world_count basics k.at w = least_counts k w h d in
+            let one : 1 ≤ world_count basics k.at w = least_counts basics k w h d in
             let none : world_count basics k.at w ≡ 0 = z k.at l in absurd (omega arith)
         | inr l ↦ l
       ]

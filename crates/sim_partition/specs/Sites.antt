@@ -1,4 +1,4 @@
--- Sites in the order of their numbers, until a refusal spends them.
+-- Sites in the order of their numbers, until an error spends them.
 use Rattle.std.specs.Prelude.{All, Bool, Err, List, None, Ok, Option, Result, Some, map, ℕ, ◌<◌, ◌≡◌, ◌≤◌}
 use Rattle.sim_clock.specs.declared.key.Key.{Key}
 use Rattle.sim_clock.specs.declared.refusal.Refusal.{Refusal}
@@ -20,12 +20,12 @@ abbrev pub IsFrom : ℕ → Option Key → Type 0
 IsFrom moment None = Unit {0}
 IsFrom moment (Some k) = moment ≤ k.at
 
--- what a partition holds, unless a refusal spent it
+-- what a partition holds, unless an error spent it
 abbrev pub spent_or : {A : Type 0} → Option Refusal → A → Result A Refusal
 spent_or None a = Ok a
 spent_or (Some e) a = Err e
 
--- the refusal that spent it, if one did
+-- the error that spent it, if one did
 abbrev pub refusal_in : {A : Type 0} → Result A Refusal → Option Refusal
 refusal_in (Ok a) = None
 refusal_in (Err e) = Some e
@@ -41,7 +41,7 @@ module _ {Site Transfer : Type 0} (conditions : Conditions Site Transfer) where
 module _ {Site Row Transfer : Type 0} (engine : Engine Site Row Transfer) where
   open engine use {number}
 
-  -- the numbers of a partition's sites, unless a refusal spent it
+  -- the numbers of a partition's sites, unless an error spent it
   abbrev pub AreNumbersUnless : Option Refusal → List ℕ → Marked Site → Type 0
   AreNumbersUnless None numbers sites = numbers ≡ map number sites.values
   AreNumbersUnless (Some e) numbers sites = Unit {0}
@@ -63,13 +63,14 @@ module _ {Site Row Transfer : Type 0} (engine : Engine Site Row Transfer) where
 
   -- what is kept of a site: what is due next
   abbrev pub mark_of : Site → Mark
-  mark_of s = record { due = least_due engine s; hosts = 0 }
+  mark_of s = record { due = least_due engine s; flags = 0 }
 
 module _ {Site Row Transfer : Type 0} (engine : Engine Site Row Transfer) (conditions : Conditions Site Transfer) where
   open engine use {number}
   open conditions use {Sound}
 
-  -- sites that make a partition: their numbers ascend, time moves on in them, and nothing is from after what is due next
+  -- sites that form a partition: their numbers ascend, time moves on in them, and nothing is from after the next entry
+  -- due
   pub record IsPart (sites : List Site) : Type 0 where
     pub ascends : Ascends number 0 sites
     pub sound : All Sound sites
@@ -80,7 +81,7 @@ module _ {Site Row Transfer : Type 0} (engine : Engine Site Row Transfer) (condi
     pub part : IsPart sites.values
     pub marked : AreMarked (mark_of engine) sites
 
-  -- the same, unless a refusal spent it
+  -- the same, unless an error spent it
   abbrev pub IsKeptUnless : Option Refusal → Marked Site → Type 0
   IsKeptUnless None sites = IsKept sites
   IsKeptUnless (Some e) sites = Unit {0}

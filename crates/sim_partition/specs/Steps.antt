@@ -1,4 +1,4 @@
--- How a partition goes on, handling by handling, and where it stops.
+-- How a partition goes on, handling by handling, and when it stops.
 use Rattle.std.specs.Prelude.{All, List, None, Ok, Option, Result, Some, max, suc, zero, ℕ, ◌<◌, ◌≡◌, ◌≤◌}
 use Rattle.sim_clock.specs.declared.key.Key.{Key}
 use Rattle.sim_clock.specs.declared.refusal.Refusal.{Refusal}
@@ -10,12 +10,12 @@ use Rattle.sim_engine.specs.Limits.{StopsWhere, most_count}
 use Rattle.sim_engine.specs.Rounds.{HasRunTo, PartRun, part_after, part_ran}
 use Rattle.sim_engine.specs.World.{Stepped}
 
--- the moment of a due, or a bound where there is none
+-- the moment of the next entry due, or a bound if there is none
 abbrev pub due_at : ℕ → Option Key → ℕ
 due_at bound None = bound
 due_at bound (Some key) = key.at
 
--- from a moment on, where nothing was from after a moment, nothing is
+-- from a moment on: if nothing was from after a moment, nothing is now
 module _ {Site Transfer : Type 0} (conditions : Conditions Site Transfer) where
   open conditions use {Past}
 
@@ -23,7 +23,7 @@ module _ {Site Transfer : Type 0} (conditions : Conditions Site Transfer) where
   StaysOfPast from before after = (moment : ℕ) → from ≤ moment → All (Past moment) before → All (Past moment) after
 
 module _ {Site Row Transfer : Type 0} (engine : Engine Site Row Transfer) where
-  -- the greatest count that a handling comes to: in a site, or of its rows
+  -- the greatest count that a handling reaches: in a site, or in its rows
   abbrev pub stepped_count : Stepped engine → ℕ
   stepped_count t = max (sites_count engine t.sites) (rows_count engine t.rows)
 
@@ -31,11 +31,11 @@ module _ {Site Row Transfer : Type 0} (engine : Engine Site Row Transfer) where
   abbrev pub ran_count : PartRun engine → ℕ
   ran_count r = max (sites_count engine r.sites) (rows_count engine r.rows)
 
-  -- why a handling stops: want of memory, or a count that it takes past the limit
+  -- why a handling stops: out of memory, or a count that it takes past the limit
   abbrev pub StopsStep : Stepped engine → Refusal → Type 0
   StopsStep t = StopsWhere (most_count < stepped_count t)
 
-  -- why a run to a bound stops: want of memory, or a count that it takes past the limit some handlings on
+  -- why a run to a bound stops: out of memory, or a count that it takes past the limit some handlings on
   abbrev pub StopsRun : ℕ → List Site → Refusal → Type 0
   StopsRun bound sites = StopsWhere ((n : ℕ) × (most_count < ran_count (part_after engine bound n sites)))
 
@@ -49,12 +49,12 @@ module _ {Site Row Transfer : Type 0} (engine : Engine Site Row Transfer) where
     pub lives : end ≡ Ok sites
     pub run : HasRunTo engine bound start (part_made sites made)
 
-  -- a partition after so many more handlings of what is due before a bound
+  -- a partition after n more handlings of what is due before a bound
   abbrev pub part_more : ℕ → ℕ → PartRun engine → PartRun engine
   part_more bound zero r = r
   part_more bound (suc n) r = part_ran engine bound (part_more bound n r)
 
-  -- a run that another has come to, after some more handlings
+  -- a run that another one becomes after some more handlings
   pub record Continues (bound : ℕ) (r x : PartRun engine) : Type 0 where
     pub steps : ℕ
     pub reached : part_more bound steps r ≡ x

@@ -14,8 +14,8 @@ use sim_clock::{Key, Refusal};
 use sim_engine::{Effects, Site};
 use sim_index::MarkedList;
 
-// The site at a place, the first at which a key is due next, handles it. What follows is added to
-// what was made before.
+// The site at a place, the first at which a key is due next, handles it. The effects are appended
+// to those made before.
 fn handle_at<S: Site>(
     sites: &mut MarkedList<S>,
     place: usize,
@@ -28,10 +28,13 @@ fn handle_at<S: Site>(
     requires moment { key.at ≤ most_count }
     ensures handled { OnOk result (
         part_made S.engine sites.new.values effects.new
-        ≡ part_on S.engine (part_made S.engine sites.old.values effects.old) (handled_among S.engine key sites.old.values)) }
+        ≡ part_on S.engine (part_made S.engine sites.old.values effects.old)
+        (handled_among S.engine key sites.old.values)) }
     ensures kept { OnOk result (IsKept S.engine S.conditions sites.new) }
-    ensures timely { All S.conditions.Timely effects.old.sent.items → OnOk result (All S.conditions.Timely effects.new.sent.items) }
-    ensures stops { IfErr result (StopsStep S.engine (handled_among S.engine key sites.old.values)) }
+    ensures timely { All S.conditions.Timely effects.old.sent.items
+        → OnOk result (All S.conditions.Timely effects.new.sent.items) }
+    ensures stops { IfErr result
+        (StopsStep S.engine (handled_among S.engine key sites.old.values)) }
 {
     sites.value_mut(place).handle_into(key, effects)?;
     let mark = mark_of(&sites.values()[place]);
@@ -39,7 +42,8 @@ fn handle_at<S: Site>(
     Ok(())
 }
 
-/// The first site at which the least is due handles it. What follows is added to what was made before.
+/// The first site at which the least entry is due handles it. The effects are appended to those
+/// made before.
 pub fn handle_least<S: Site>(
     sites: &mut MarkedList<S>,
     effects: &mut Effects<S::Row, S::Transfer>,
@@ -49,9 +53,11 @@ pub fn handle_least<S: Site>(
     ensures handled { (key : TheKey) → world_due S.engine sites.old.values ≡ Some key →
         OnOk result (
         part_made S.engine sites.new.values effects.new
-        ≡ part_on S.engine (part_made S.engine sites.old.values effects.old) (handled_among S.engine key sites.old.values)) }
+        ≡ part_on S.engine (part_made S.engine sites.old.values effects.old)
+        (handled_among S.engine key sites.old.values)) }
     ensures kept { OnOk result (IsKept S.engine S.conditions sites.new) }
-    ensures timely { All S.conditions.Timely effects.old.sent.items → OnOk result (All S.conditions.Timely effects.new.sent.items) }
+    ensures timely { All S.conditions.Timely effects.old.sent.items
+        → OnOk result (All S.conditions.Timely effects.new.sent.items) }
     ensures stops { (key : TheKey) → world_due S.engine sites.old.values ≡ Some key →
         IfErr result (StopsStep S.engine (handled_among S.engine key sites.old.values)) }
 {
@@ -80,7 +86,8 @@ fn run_moment<S: Site>(
     ensures done { OnOk result (IsLater moment (world_due S.engine sites.new.values)) }
     ensures kept { OnOk result (IsKept S.engine S.conditions sites.new) }
     ensures past { OnOk result (StaysOfPast S.conditions moment sites.old.values sites.new.values) }
-    ensures timely { All S.conditions.Timely effects.old.sent.items → OnOk result (All S.conditions.Timely effects.new.sent.items) }
+    ensures timely { All S.conditions.Timely effects.old.sent.items
+        → OnOk result (All S.conditions.Timely effects.new.sent.items) }
     ensures stops { IfErr result (λ refusal.
         (bound : ℕ) → moment < bound →
         StopsFrom S.engine bound (part_made S.engine sites.old.values effects.old) refusal) }
@@ -94,7 +101,8 @@ fn run_moment<S: Site>(
     Ok(())
 }
 
-/// Handles all that is due before a moment, and adds what follows to what was made before.
+/// Handles all that is due before a moment in milliseconds, and appends the effects to those made
+/// before.
 pub fn run_before<S: Site>(
     sites: &mut MarkedList<S>,
     end: u64,
@@ -108,8 +116,10 @@ pub fn run_before<S: Site>(
     ensures done { OnOk result (due_before end (world_due S.engine sites.new.values) ≡ None) }
     ensures kept { OnOk result (IsKept S.engine S.conditions sites.new) }
     ensures past { OnOk result (StaysOfPast S.conditions end sites.old.values sites.new.values) }
-    ensures timely { All S.conditions.Timely effects.old.sent.items → OnOk result (All S.conditions.Timely effects.new.sent.items) }
-    ensures stops { IfErr result (StopsFrom S.engine end (part_made S.engine sites.old.values effects.old)) }
+    ensures timely { All S.conditions.Timely effects.old.sent.items
+        → OnOk result (All S.conditions.Timely effects.new.sent.items) }
+    ensures stops { IfErr result
+        (StopsFrom S.engine end (part_made S.engine sites.old.values effects.old)) }
 {
     while let Some(key) = sites.least() {
         if key.at >= end {

@@ -1,4 +1,4 @@
-//! Sites with what each has due next.
+//! Sites, each marked with its next entry due.
 ghost use Rattle.std.specs.Prelude.{◌≡◌, IfOk, map};
 ghost use Rattle.sim_index.specs.Marked.{AreMarked};
 ghost use Rattle.sim_partition.specs.Sites.{mark_of};
@@ -7,17 +7,17 @@ use sim_engine::Site;
 use sim_index::{Mark, MarkedList};
 use std::alloc::{AllocError, Global};
 
-/// What is kept of a site: what is due next there.
+/// The mark of a site: the key of its next entry due.
 pub fn mark_of<S: Site>(site: &S) -> Mark
     ensures { result ≡ mark_of S.engine site.now }
 {
     Mark {
         due: site.least_due(),
-        hosts: 0,
+        flags: 0,
     }
 }
 
-/// Sites, each marked with what is due next there. The error is want of memory.
+/// Sites, each marked with its next entry due. It fails if memory runs out.
 pub fn marked<S: Site>(alloc: Global, sites: Vec<S>) -> Result<MarkedList<S>, AllocError>
     ensures sites { IfOk result (λ list. list.values ≡ sites.items) }
     ensures marked { IfOk result (AreMarked (mark_of S.engine)) }
@@ -25,7 +25,7 @@ pub fn marked<S: Site>(alloc: Global, sites: Vec<S>) -> Result<MarkedList<S>, Al
     MarkedList::of(alloc, sites, |site| mark_of(site))
 }
 
-/// The numbers of sites. The error is want of memory.
+/// The numbers of sites. It fails if memory runs out.
 pub fn numbers_of<S: Site>(alloc: Global, sites: &[S]) -> Result<Vec<u32>, AllocError>
     ensures { IfOk result (λ numbers. numbers.items ≡ map S.engine.number sites.now) }
 {

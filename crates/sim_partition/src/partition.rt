@@ -1,5 +1,5 @@
 //! Partitions.
-ghost use Rattle.std.specs.Prelude.{◌≡◌, ◌+◌, ◌≤◌, All, Err, List, None, Ok, Some, IfErr, IfOk, OnOk, ℕ};
+ghost use Rattle.std.specs.Prelude.{◌≡◌, ◌+◌, ◌++◌, ◌≤◌, All, Err, List, None, Ok, Some, IfErr, IfOk, OnOk, ℕ};
 ghost use Rattle.sim_clock.specs.Order.{due_before};
 ghost use Rattle.sim_clock.specs.declared.key.Key.{Key as TheKey};
 ghost use Rattle.sim_engine.specs.Limits.{most_count};
@@ -17,21 +17,22 @@ use sim_index::MarkedList;
 use std::alloc::{AllocError, Global};
 use std::marker::Model;
 
-/// Sites in the order of their numbers. Contracts see it as the sites while it lives; want of
-/// memory, or a count at its limit, spends it, and it is that refusal from then on. An entry costs
-/// the logarithm of the number of sites.
+/// Sites in the order of their numbers. An error, out of memory or a count at its limit, spends the
+/// partition. Contracts see it as the sites, and once it is spent, as the error. An entry takes
+/// time logarithmic in the number of sites.
 #[derive(Drop)]
 pub struct Partition<S: Site> {
     alloc: Global,
     sites: MarkedList<S>,
-    // The numbers of the sites. A site is found among them, which lie close together.
+    // The numbers of the sites, close together in memory: a site is found by them.
     numbers: Vec<u32>,
     spent: Option<Refusal>,
-    // How many rows its last run made: the next one asks for room for twice as many at once.
+    // The number of rows that its last run made. The next run asks for room for twice as many at
+    // once.
     made: usize,
 }
 
-// Handles all that is due before a moment. Room for so many rows is asked for at once.
+// Handles all that is due before a moment. It asks at once for room for `room` rows.
 fn made_before<S: Site>(
     alloc: Global,
     sites: &mut MarkedList<S>,
@@ -41,7 +42,8 @@ fn made_before<S: Site>(
     requires kept { IsKept S.engine S.conditions sites.old }
     requires end { end ≤ most_count + 1 }
     ensures goes_on { IfOk result (λ made.
-        Continues S.engine end (part_begun S.engine sites.old.values) (part_made S.engine sites.new.values made)) }
+        Continues S.engine end (part_begun S.engine sites.old.values)
+        (part_made S.engine sites.new.values made)) }
     ensures done { OnOk result (due_before end (world_due S.engine sites.new.values) ≡ None) }
     ensures kept { OnOk result (IsKept S.engine S.conditions sites.new) }
     ensures past { OnOk result (StaysOfPast S.conditions end sites.old.values sites.new.values) }
@@ -68,7 +70,11 @@ impl<S: Site> Model for Partition<S> {
 }
 
 impl<S: Site> Partition<S> {
-    /// A partition of these sites. The error is want of memory.
+    /// A partition of these sites.
+    ///
+    /// # Errors
+    ///
+    /// `AllocError` if memory runs out.
     pub fn new(alloc: Global, sites: Vec<S>) -> Result<Partition<S>, AllocError>
         requires { IsPart S.engine S.conditions sites.items }
         ensures { IfOk result (λ p. p ≡ Ok sites.items) }
@@ -84,8 +90,8 @@ impl<S: Site> Partition<S> {
         })
     }
 
-    /// The key of what is due next; none where the partition is spent. Time moves on in its sites,
-    /// and nothing there is from after what is due next.
+    /// The key of the next entry due; none if the partition is spent. The call also promises that
+    /// time moves on in its sites, and that nothing there is from after the next entry due.
     pub fn least_due(&self) -> Option<Key>
         ensures due { result ≡ due_in S.engine self.now }
         ensures moves_on { IfOk self.now (All S.conditions.Sound) }
@@ -97,16 +103,19 @@ impl<S: Site> Partition<S> {
         self.sites.least()
     }
 
-    /// The refusal that spent it, if one did.
+    /// The error that spent the partition, if one did.
     pub fn spent(&self) -> Option<Refusal>
         ensures { result ≡ refusal_in self.now }
     {
         self.spent
     }
 
-    /// Handles its least due: the rows that this makes, and the transfers that it sends.
-    /// `Memory`, or `CountLimit`, only where the handling takes a count past 2^62 - 1, spends it;
-    /// one that is spent answers what spent it.
+    /// Handles the least entry due. Returns the rows that this makes and the transfers that it
+    /// sends.
+    ///
+    /// # Errors
+    ///
+    /// Those of `step_into`.
     pub fn step(&mut self) -> Result<Effects<S::Row, S::Transfer>, Refusal>
         requires due { IfOk self.old (HasDue S.engine) }
         ensures handled { IfOk self.old (λ w.
@@ -122,26 +131,60 @@ impl<S: Site> Partition<S> {
             IfErr result (StopsStep S.engine (handled_among S.engine key w))) }
         ensures stays { IfErr self.old (λ refusal. result ≡ Err refusal) }
     {
-        if let Some(refusal) = self.spent {
-            return Err(refusal);
-        }
         let mut effects = Effects::new(self.alloc);
-        if let Err(refusal) = handle_least(&mut self.sites, &mut effects) {
-            self.spent = Some(refusal);
-            return Err(refusal);
-        }
+        self.step_into(&mut effects)?;
         Ok(effects)
     }
 
-    /// Handles all that is due before a moment in milliseconds, in the order of keys, and tells
-    /// what it did. Time moves on in its sites, and nothing there was from after what was due next.
-    /// `Memory`, or `CountLimit`, only where the run takes a count past 2^62 - 1, spends it; one that
-    /// is spent answers what spent it.
+    /// Handles the least entry due. Appends the rows that this makes and the transfers that it
+    /// sends to those made before.
+    ///
+    /// # Errors
+    ///
+    /// `Memory` if a growth is refused, and `CountLimit` only if the handling takes a count past
+    /// 2^62 - 1; either spends the partition. A spent partition returns the error that spent it.
+    pub fn step_into(&mut self, effects: &mut Effects<S::Row, S::Transfer>) -> Result<(), Refusal>
+        requires due { IfOk self.old (HasDue S.engine) }
+        ensures handled { IfOk self.old (λ w.
+            (key : TheKey) → world_due S.engine w ≡ Some key →
+            OnOk result (
+            (self.new ≡ Ok (handled_among S.engine key w).sites)
+            × (effects.new.rows.items
+            ≡ effects.old.rows.items ++ (handled_among S.engine key w).rows)
+            × (effects.new.sent.items
+            ≡ effects.old.sent.items ++ (handled_among S.engine key w).sent))) }
+        ensures timely { All S.conditions.Timely effects.old.sent.items
+            → OnOk result (All S.conditions.Timely effects.new.sent.items) }
+        ensures spent { IfErr result (λ refusal. self.new ≡ Err refusal) }
+        ensures stops { IfOk self.old (λ w.
+            (key : TheKey) → world_due S.engine w ≡ Some key →
+            IfErr result (StopsStep S.engine (handled_among S.engine key w))) }
+        ensures stays { IfErr self.old (λ refusal. result ≡ Err refusal) }
+    {
+        if let Some(refusal) = self.spent {
+            return Err(refusal);
+        }
+        if let Err(refusal) = handle_least(&mut self.sites, effects) {
+            self.spent = Some(refusal);
+            return Err(refusal);
+        }
+        Ok(())
+    }
+
+    /// Handles all that is due before a moment in milliseconds, in the order of keys. Returns the
+    /// rows and the transfers. The call also promises that time moves on in its sites, and that
+    /// nothing there was from after the entry that was due next.
+    ///
+    /// # Errors
+    ///
+    /// `Memory` if a growth is refused, and `CountLimit` only if the run takes a count past 2^62 -
+    /// 1; either spends the partition. A spent partition returns the error that spent it.
     pub fn run_to(&mut self, end: u64) -> Result<Effects<S::Row, S::Transfer>, Refusal>
         requires { end ≤ most_count + 1 }
         ensures moves_on { IfOk self.old (All S.conditions.Sound) }
         ensures none_later { IfOk self.old (λ w. AreOfPast S.conditions w (world_due S.engine w)) }
-        ensures ran { IfOk self.old (λ w. IfOk result (λ made. RanTo S.engine end w self.new made)) }
+        ensures ran { IfOk self.old
+            (λ w. IfOk result (λ made. RanTo S.engine end w self.new made)) }
         ensures timely { IfOk result (λ ran. All S.conditions.Timely ran.sent.items) }
         ensures past { IfOk self.old (λ w.
             (moment : ℕ) → end ≤ moment →
@@ -167,13 +210,18 @@ impl<S: Site> Partition<S> {
         }
     }
 
-    /// Transfers are on their way to its sites from now on; those to a site that is not there
-    /// change nothing. They arrive no sooner than what is there was made. `Memory`, which spends
-    /// it; one that is spent answers what spent it.
+    /// Puts transfers on their way to its sites. A transfer to a site that is not there changes
+    /// nothing. No transfer may arrive before the moment of anything that these sites have made.
+    ///
+    /// # Errors
+    ///
+    /// `Memory`, which spends the partition. A spent partition returns the error that spent it.
     pub fn deliver(&mut self, transfers: Vec<S::Transfer>) -> Result<(), Refusal>
-        requires past { IfOk self.old (λ w. All (λ o. All (S.conditions.Past (arrival S.engine o)) w) transfers.items) }
+        requires past { IfOk self.old
+            (λ w. All (λ o. All (S.conditions.Past (arrival S.engine o)) w) transfers.items) }
         requires timely { All S.conditions.Timely transfers.items }
-        ensures delivered { IfOk self.old (λ w. OnOk result (self.new ≡ Ok (delivered S.engine transfers.items w))) }
+        ensures delivered { IfOk self.old
+            (λ w. OnOk result (self.new ≡ Ok (delivered S.engine transfers.items w))) }
         ensures spent { IfErr result (λ refusal. self.new ≡ Err refusal) }
         ensures memory { IfOk self.old (λ w. IfErr result (λ refusal. refusal ≡ Refusal.Memory)) }
         ensures stays { IfErr self.old (λ refusal. result ≡ Err refusal) }
@@ -188,7 +236,7 @@ impl<S: Site> Partition<S> {
         Ok(())
     }
 
-    /// Its sites, by number.
+    /// The sites of the partition, by number.
     pub fn into_sites(self) -> Vec<S>
         ensures { IfOk self (λ w. result.items ≡ w) }
     {

@@ -7,6 +7,7 @@ use Rattle.std.proofs.lemmas.Grind.{common_steps}
 use Rattle.std.proofs.lemmas.List.{drop-append-le, drop-drop, drop-set, drop_at, length-append, length-drop, length-take-le}
 use Rattle.std.proofs.lemmas.List.Folds.{list_any-append}
 use Rattle.std.proofs.lemmas.Str.Parse.{digit_at}
+use Rattle.sim_clock.proofs.Booleans.{or_first, or_second}
 use borrow.Rule.Slice.PartMut.{put_mid}
 use Rattle.csv.specs.Writing.{comma, default_writer, field_text, needs_byte, needs_quotes, quoted}
 use Rattle.hex.specs.Hex.{encode_lower, encode_with, lower_digits}
@@ -43,20 +44,10 @@ plain_decimal n h =
 pub decimal_short : (n : ℕ) → n < 2 ^ 64 → length (decimal n) ≤ 20
 decimal_short n h = length-decimal-le 20 n (omega arith) (omega arith) h
 
--- digits in hex
-first_false : (a b : Bool) → (a || b) ≡ false → a ≡ false
-first_false false b h = refl
-first_false true b h = h
-
-second_false : (a b : Bool) → (a || b) ≡ false → b ≡ false
-second_false false b h = h
-second_false true false h = refl
-second_false true true h = h
-
 one_of : (xs : List ℕ) → IsPlain xs → (k : ℕ) → needs_byte default_writer (get_or xs k 0) ≡ false
 one_of [] h k = refl
-one_of (x ∷ xs) h zero = first_false (needs_byte default_writer x) (list_any (needs_byte default_writer) xs) h
-one_of (x ∷ xs) h (suc k) = one_of xs (second_false (needs_byte default_writer x) (list_any (needs_byte default_writer) xs) h) k
+one_of (x ∷ xs) h zero = or_first (needs_byte default_writer x) (list_any (needs_byte default_writer) xs) h
+one_of (x ∷ xs) h (suc k) = one_of xs (or_second (needs_byte default_writer x) (list_any (needs_byte default_writer) xs) h) k
 
 pub plain_hex : (xs : List ℕ) → IsPlain (encode_lower xs)
 unfolding encode_with
@@ -94,7 +85,7 @@ put_tail text put end len h l k long =
 put_long : (text put : List ℕ) (end : ℕ) → 16 ≤ end → end ≤ length text → length put ≡ 16 → end ≤ length (put_mid (end - 16) (end - (end - 16)) text put)
 put_long text put end h l long =
     let seam = ap length (put_seam text put end h l) in
-    let front = length-drop (end - 16) (put_mid (end - 16) (end - (end - 16)) text put) in
+    let prefix = length-drop (end - 16) (put_mid (end - 16) (end - (end - 16)) text put) in
     let back = length-append put (drop end text) in
     omega arith
 

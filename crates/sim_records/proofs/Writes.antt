@@ -8,31 +8,30 @@ use Rattle.std.specs.Io.KnownBytes.{Appends}
 use Rattle.csv.proofs.WriteFacts.{appends-none, appends-more}
 use Rattle.sim_clock.specs.declared.refusal.Refusal.{Refusal}
 use Rattle.sim_clock.specs.declared.refusal.Refusal.TheVariants as refusal
-use Rattle.sqs_message.specs.declared.row.Row.{Row}
-use Rattle.sqs_formats.specs.Rows.{line, lines, log_header, log_text, row_fields}
-use Rattle.sim_records.specs.Writes.{AppendsFront, Wrote, WroteSeveral}
+use Rattle.sqs_formats.specs.Rows.{line, lines}
+use Rattle.sim_records.specs.Writes.{AppendsPrefix, Wrote, WroteSeveral}
 
--- nothing is a front of anything
-pub front_none : (a : Option (List ℕ)) (xs : List ℕ) → AppendsFront a a xs
-front_none a xs = (0, omega arith, appends-none a)
+-- nothing is a prefix of anything
+pub prefix_none : (a : Option (List ℕ)) (xs : List ℕ) → AppendsPrefix a a xs
+prefix_none a xs = (0, omega arith, appends-none a)
 
--- a front of the first of two
-pub front_of_first : (a b : Option (List ℕ)) (xs ys : List ℕ) → AppendsFront a b xs → AppendsFront a b (xs ++ ys)
-front_of_first a b xs ys p =
+-- a prefix of the first of two
+pub prefix_of_first : (a b : Option (List ℕ)) (xs ys : List ℕ) → AppendsPrefix a b xs → AppendsPrefix a b (xs ++ ys)
+prefix_of_first a b xs ys p =
     let within : p.0 ≤ length xs = p.1 in
     let same : take p.0 (xs ++ ys) ≡ take p.0 xs = grind (arith, common_steps) in
     (p.0, grind (arith, common_steps), rw same p.2)
 
--- the first of two, and a front of the second
-pub front_of_second : (a b c : Option (List ℕ)) (xs ys : List ℕ) → Appends a b xs → AppendsFront b c ys → AppendsFront a c (xs ++ ys)
-front_of_second a b c xs ys p q =
+-- the first of two, and a prefix of the second
+pub prefix_of_second : (a b c : Option (List ℕ)) (xs ys : List ℕ) → Appends a b xs → AppendsPrefix b c ys → AppendsPrefix a c (xs ++ ys)
+prefix_of_second a b c xs ys p q =
     let within : q.0 ≤ length ys = q.1 in
     (length xs + q.0, grind (arith, common_steps), rw (take-append-add xs ys q.0) (appends-more a b c xs (take q.0 ys) p q.2))
 
 -- one record is several
 pub several-one : (a b : Option (List ℕ)) (f : Bool) (xs : List ℕ) (r : Result (Unit {0}) Refusal) → Wrote a b f xs r → WroteSeveral a b f xs r
 several-one a b f xs (Ok u) p = p
-several-one a b f xs (Err refusal.Memory) p = (rw p.0 (front_none a xs), p.1)
+several-one a b f xs (Err refusal.Memory) p = (rw p.0 (prefix_none a xs), p.1)
 several-one a b f xs (Err refusal.Write) p = p
 several-one a b f xs (Err r) p = absurd p
 
@@ -40,14 +39,14 @@ several-one a b f xs (Err r) p = absurd p
 pub several_after : (a b c : Option (List ℕ)) (f : Bool) (xs ys : List ℕ) (r : Result (Unit {0}) Refusal)
     → Appends a b xs → WroteSeveral b c f ys r → WroteSeveral a c f (xs ++ ys) r
 several_after a b c f xs ys (Ok u) p q = (appends-more a b c xs ys p q.0, q.1)
-several_after a b c f xs ys (Err refusal.Memory) p q = (front_of_second a b c xs ys p q.0, q.1)
-several_after a b c f xs ys (Err refusal.Write) p q = (front_of_second a b c xs ys p q.0, q.1)
+several_after a b c f xs ys (Err refusal.Memory) p q = (prefix_of_second a b c xs ys p q.0, q.1)
+several_after a b c f xs ys (Err refusal.Write) p q = (prefix_of_second a b c xs ys p q.0, q.1)
 several_after a b c f xs ys (Err r) p q = absurd q
 
 -- what stopped before the end stopped before the end of more
 pub several_stopped : (a b : Option (List ℕ)) (f : Bool) (xs ys : List ℕ) (e : Refusal) → WroteSeveral a b f xs (Err e) → WroteSeveral a b f (xs ++ ys) (Err e)
-several_stopped a b f xs ys refusal.Memory p = (front_of_first a b xs ys p.0, p.1)
-several_stopped a b f xs ys refusal.Write p = (front_of_first a b xs ys p.0, p.1)
+several_stopped a b f xs ys refusal.Memory p = (prefix_of_first a b xs ys p.0, p.1)
+several_stopped a b f xs ys refusal.Write p = (prefix_of_first a b xs ys p.0, p.1)
 several_stopped a b f xs ys e p = absurd p
 
 -- the lines of one more
@@ -69,10 +68,10 @@ several_handed_on a b f xs e (Err met) p q = rw p q
 pub next_stopped : {X : Type 0} (f : X → List (List ℕ)) (rest next others : List X) (a b c : Option (List ℕ)) (fl : Bool) (written all : List ℕ) (e : Refusal) (r : Result (Unit {0}) Refusal)
     → rest ≡ next ++ others → written ++ lines (map f rest) ≡ all → Appends a b written → Wrote b c fl (lines (map f next)) (Err e)
     → IsErrAnd r (λ met. met ≡ e) → WroteSeveral a c fl all r
-next_stopped {X} f rest next others a b c fl written all e r parts whole front q met =
+next_stopped {X} f rest next others a b c fl written all e r parts whole prefix q met =
     let both : lines (map f next) ++ lines (map f others) ≡ lines (map f rest) = sym (ap (λ (xs : List X). lines (map f xs)) parts ∙ lines-append f next others) in
     let more = several_stopped b c fl (lines (map f next)) (lines (map f others)) e (several-one b c fl (lines (map f next)) (Err e) q) in
-    let stopped = several_after a b c fl written (lines (map f next) ++ lines (map f others)) (Err e) front more in
+    let stopped = several_after a b c fl written (lines (map f next) ++ lines (map f others)) (Err e) prefix more in
     let is : written ++ (lines (map f next) ++ lines (map f others)) ≡ all = ap (λ (t : List ℕ). written ++ t) both ∙ whole in
     several_handed_on a c fl all e r met (subst (λ (t : List ℕ). WroteSeveral a c fl t (Err e)) is stopped)
 
@@ -80,10 +79,10 @@ next_stopped {X} f rest next others a b c fl written all e r parts whole front q
 pub next_written : {X : Type 0} (f : X → List (List ℕ)) (rest next others : List X) (a b c : Option (List ℕ)) (fl : Bool) (written all : List ℕ) (u : Unit {0})
     → rest ≡ next ++ others → written ++ lines (map f rest) ≡ all → Appends a b written → Wrote b c fl (lines (map f next)) (Ok u)
     → (more : List ℕ) × Appends a c more × (more ++ lines (map f others) ≡ all)
-next_written {X} f rest next others a b c fl written all u parts whole front q =
+next_written {X} f rest next others a b c fl written all u parts whole prefix q =
     let both : lines (map f next) ++ lines (map f others) ≡ lines (map f rest) = sym (ap (λ (xs : List X). lines (map f xs)) parts ∙ lines-append f next others) in
     let is : (written ++ lines (map f next)) ++ lines (map f others) ≡ all = append_assoc written (lines (map f next)) (lines (map f others)) ∙ ap (λ (t : List ℕ). written ++ t) both ∙ whole in
-    (written ++ lines (map f next), appends-more a b c written (lines (map f next)) front q.0, is)
+    (written ++ lines (map f next), appends-more a b c written (lines (map f next)) prefix q.0, is)
 
 -- a header is not written, so neither is what follows
 pub header_stopped : (a b : Option (List ℕ)) (f : Bool) (header : List (List ℕ)) (rows : List (List (List ℕ))) (e : Refusal) (r : Result (Unit {0}) Refusal)
@@ -109,7 +108,3 @@ pub part_and_more : (a b c : Option (List ℕ)) (f g : Bool) (first second : Lis
     → WroteSeveral a b f (lines first) (Ok u) → WroteSeveral b c g (lines second) r → WroteSeveral a c g (lines (first ++ second)) r
 part_and_more a b c f g first second u r p q =
     subst (λ (t : List ℕ). WroteSeveral a c g t r) (sym (flat_map-append line first second)) (several_after a b c g (lines first) (lines second) r p.0 q)
-
--- the log is its header, and then the lines of its rows
-pub log_text-parts : (names : List (List ℕ)) (rows : List Row) → log_text names rows ≡ line log_header ++ lines (map (row_fields names) rows)
-log_text-parts names rows = refl

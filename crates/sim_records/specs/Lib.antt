@@ -1,3 +1,4 @@
 pub mod Writes
+pub mod Answers
 pub mod Writers
 pub mod Lines

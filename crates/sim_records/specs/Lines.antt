@@ -20,7 +20,7 @@ IsPlainName names n w = (w ≡ name_at names n) × IsPlain w
 abbrev pub AreWordsOf : List (List ℕ) → List (Option (List ℕ)) → Type 0
 AreWordsOf names words = (n : ℕ) → IfSome (get_or words n None) (IsPlainName names n)
 
--- the end of a line with one more field before it, quoted where it has to be, and a comma before that
+-- the end of a line with one more field before it, in quotes if it needs them, and a comma before that
 abbrev pub with_field : List ℕ → List ℕ → List ℕ
 with_field rest f = comma ∷ (field_text default_writer f ++ rest)
 

@@ -1,4 +1,4 @@
-//! Text that is put before what stands in a buffer.
+//! Text that is put before the text in a buffer.
 ghost use Rattle.std.specs.Prelude.{◌≡◌, ◌≤◌, ◌<◌, ◌+◌, ◌++◌, ◌∷◌, IfOk, OnErr, drop, length};
 ghost use Rattle.std.specs.Fmt.{decimal};
 ghost use Rattle.std.specs.Vec.{vec_len};
@@ -7,14 +7,15 @@ ghost use Rattle.csv.specs.Writing.{comma};
 use itoa::write_digits;
 use std::alloc::AllocError;
 
-/// How long a number is at most, with a mark before it.
+/// The greatest length of a number with a mark before it.
 pub(crate) const NUMBER: usize = 21;
 
-// How many bytes a line has room for at first: most have fewer.
+// The room of a line at first, in bytes: most lines are shorter.
 const ROOM: usize = 256;
 
-// Moves what a text has to the end of one that is twice as long or more, with room before it for so many
-// bytes. It answers where that begins which began at `start`. Apart from `room_before`, since it comes seldom.
+// Moves the text in a buffer to the end of one that is at least twice as long, with room for
+// `bytes` bytes before it. Returns where the text that began at `start` begins then. It is apart
+// from `room_before` because it is rare.
 #[cold]
 #[inline(never)]
 fn grow_before(text: &mut Vec<u8>, start: usize, bytes: usize) -> Result<usize, AllocError>
@@ -31,7 +32,8 @@ fn grow_before(text: &mut Vec<u8>, start: usize, bytes: usize) -> Result<usize, 
     Ok(more + start)
 }
 
-/// Makes room for so many bytes before what a text has from `start` on, and answers where that begins then.
+/// Makes room for `bytes` bytes before the text that begins at `start`. Returns where that text
+/// begins then.
 #[inline(always)]
 pub(crate) fn room_before(
     text: &mut Vec<u8>,
@@ -51,7 +53,7 @@ pub(crate) fn room_before(
     }
 }
 
-/// Puts a field and a comma before it before what stands in a text from `end` on, and answers where they begin.
+/// Puts a comma and a field before the text that begins at `end`. Returns where they begin.
 #[inline(always)]
 pub(crate) fn put_field(text: &mut [u8], end: usize, field: &[u8]) -> usize
     requires room { length field.now < end }
@@ -65,7 +67,7 @@ pub(crate) fn put_field(text: &mut [u8], end: usize, field: &[u8]) -> usize
     start - 1
 }
 
-/// Puts a mark and a number in decimal before what stands in a text from `end` on, and answers where they
+/// Puts a mark and a number in decimal before the text that begins at `end`. Returns where they
 /// begin.
 #[inline(always)]
 pub(crate) fn put_before(text: &mut [u8], end: usize, mark: u8, number: u64) -> usize

@@ -10,7 +10,7 @@ use crate::word::Word;
 use sqs_message::{Detail, HandleForm, MessageId, RowAnswer, RowKind, RowReceipt};
 use std::alloc::AllocError;
 
-// The name of what a row tells of.
+// The name of a row's kind.
 fn kind_word(kind: RowKind) -> Word<'static>
     ensures name { result ≡ kind_text kind }
     ensures plain { IsPlain result }
@@ -34,7 +34,7 @@ fn kind_word(kind: RowKind) -> Word<'static>
     }
 }
 
-// The call column: the name of what a row tells of.
+// The call column: the name of the row's kind.
 #[inline(always)]
 pub(crate) fn add_kind(line: &mut Line, kind: RowKind) -> Result<(), AllocError>
     ensures { OnOk result (line.new ≡ with_field line.old (kind_text kind)) }
@@ -42,7 +42,7 @@ pub(crate) fn add_kind(line: &mut Line, kind: RowKind) -> Result<(), AllocError>
     line.word(kind_word(kind))
 }
 
-// The answer column: the name of how it went.
+// The answer column: the name of the outcome.
 pub(crate) fn add_answer(line: &mut Line, answer: RowAnswer) -> Result<(), AllocError>
     ensures { OnOk result (line.new ≡ with_field line.old (answer_text answer)) }
 {
@@ -65,7 +65,8 @@ pub(crate) fn add_answer(line: &mut Line, answer: RowAnswer) -> Result<(), Alloc
     line.word(name)
 }
 
-// The column of a name that is not kept as a word. Apart from `add_name`, since most names are.
+// The column of a name that is not kept as a word. It is apart from `add_name` because most names
+// are kept as words.
 #[inline(never)]
 #[tactic(auto, using(crate::proofs::Plain::name_plain))]
 fn add_other_name(line: &mut Line, names: &Names, number: u32) -> Result<(), AllocError>
@@ -79,7 +80,7 @@ fn add_other_name(line: &mut Line, names: &Names, number: u32) -> Result<(), All
     }
 }
 
-// The column of a name: that of an agent, empty where none has the number.
+// The column of an agent's name; empty if no agent has the number.
 #[inline(always)]
 pub(crate) fn add_name(line: &mut Line, names: &Names, number: u32) -> Result<(), AllocError>
     ensures { OnOk result (line.new ≡ with_field line.old (name_at names.now number)) }
@@ -90,7 +91,7 @@ pub(crate) fn add_name(line: &mut Line, names: &Names, number: u32) -> Result<()
     }
 }
 
-// The message column: its id, where there is one.
+// The message column: the message's id, if there is one.
 pub(crate) fn add_message(line: &mut Line, message: Option<MessageId>) -> Result<(), AllocError>
     ensures { OnOk result (line.new ≡ with_field line.old (text_if id_text message)) }
 {

@@ -1,11 +1,11 @@
-//! What is left at the end of a run: messages, transfers and tasks, each part under its header.
+//! The state at the end of a run: messages, transfers and tasks, each part under its header.
 ghost use Rattle.std.specs.Prelude.{◌≡◌, ◌∷◌, ◌++◌, [], false, OnOk, map};
 ghost use Rattle.std.specs.Fmt.{decimal};
 ghost use Rattle.sqs_message.specs.Ids.{origin_text};
 ghost use Rattle.sim_records.specs.Lines.{IsPlain, with_field};
-ghost use Rattle.sqs_formats.specs.Rows.{line, lines, text_if};
-ghost use Rattle.sqs_formats.specs.Finals.{finals_text, message_fields, message_header, place_text, status_text, task_fields, task_header, transfer_fields, transfer_header, transfer_kind_text};
-ghost use Rattle.sim_records.specs.Writes.{Wrote, WroteSeveral};
+ghost use Rattle.sqs_formats.specs.Rows.{lines, text_if};
+ghost use Rattle.sqs_formats.specs.Finals.{finals_text, place_text, status_text, transfer_kind_text};
+ghost use Rattle.sim_records.specs.Writes.{WroteSeveral};
 
 use crate::columns::add_name;
 use crate::line::Line;
@@ -19,7 +19,7 @@ use sqs_model::{FinalMessage, FinalTask, FinalTransfer, Finals, TransferKind};
 use sqs_redrive::TaskStatus;
 use std::alloc::{AllocError, Global};
 
-// The name of a place.
+// The name of a message's state.
 fn place_name(place: Place) -> &'static str
     ensures name { result.now ≡ place_text place }
     ensures plain { IsPlain result.now }
@@ -57,7 +57,7 @@ fn status_name(status: TaskStatus) -> &'static str
     }
 }
 
-// A number in decimal, where there is one.
+// A number in decimal, if there is one.
 fn add_number(line: &mut Line, number: Option<u64>) -> Result<(), AllocError>
     ensures { OnOk result (line.new ≡ with_field line.old (text_if decimal number)) }
 {
@@ -67,7 +67,7 @@ fn add_number(line: &mut Line, number: Option<u64>) -> Result<(), AllocError>
     }
 }
 
-// The text of an origin, where there is one.
+// The text of an origin, if there is one.
 fn add_origin(line: &mut Line, origin: Option<Origin>) -> Result<(), AllocError>
     ensures { OnOk result (line.new ≡ with_field line.old (text_if origin_text origin)) }
 {
@@ -77,7 +77,7 @@ fn add_origin(line: &mut Line, origin: Option<Origin>) -> Result<(), AllocError>
     }
 }
 
-// A group, where there is one.
+// A group, if there is one.
 fn add_group(line: &mut Line, group: &Option<Text>) -> Result<(), AllocError>
     ensures { OnOk result (line.new ≡ with_field line.old (text_if (λ g. g) group.now)) }
 {
@@ -87,25 +87,18 @@ fn add_group(line: &mut Line, group: &Option<Text>) -> Result<(), AllocError>
     }
 }
 
-// Writes the header of the messages.
-fn write_message_header<W: Out>(alloc: Global, out: &mut W) -> Result<(), Refusal>
-    requires { W.failed out.old ≡ false }
-    ensures { Wrote (W.held out.old) (W.held out.new) (W.failed out.new) (line message_header) result }
-{
-    let fields: [&[u8]; 10] = [
-        b"final",
-        b"queue",
-        b"message",
-        b"origin",
-        b"place",
-        b"due",
-        b"enqueued",
-        b"receives",
-        b"group",
-        b"md5",
-    ];
-    write_record(alloc, out, &fields)
-}
+const MESSAGE_HEADER: &[&[u8]] = &[
+    b"final",
+    b"queue",
+    b"message",
+    b"origin",
+    b"place",
+    b"due",
+    b"enqueued",
+    b"receives",
+    b"group",
+    b"md5",
+];
 
 impl Record for FinalMessage {
     ghost use Rattle.sqs_formats.specs.Finals.{message_fields};
@@ -126,24 +119,17 @@ impl Record for FinalMessage {
     }
 }
 
-// Writes the header of the transfers.
-fn write_transfer_header<W: Out>(alloc: Global, out: &mut W) -> Result<(), Refusal>
-    requires { W.failed out.old ≡ false }
-    ensures { Wrote (W.held out.old) (W.held out.new) (W.failed out.new) (line transfer_header) result }
-{
-    let fields: [&[u8]; 9] = [
-        b"transfer",
-        b"from",
-        b"to",
-        b"kind",
-        b"due",
-        b"number",
-        b"message",
-        b"origin",
-        b"md5",
-    ];
-    write_record(alloc, out, &fields)
-}
+const TRANSFER_HEADER: &[&[u8]] = &[
+    b"transfer",
+    b"from",
+    b"to",
+    b"kind",
+    b"due",
+    b"number",
+    b"message",
+    b"origin",
+    b"md5",
+];
 
 impl Record for FinalTransfer {
     ghost use Rattle.sqs_formats.specs.Finals.{transfer_fields};
@@ -163,14 +149,7 @@ impl Record for FinalTransfer {
     }
 }
 
-// Writes the header of the tasks.
-fn write_task_header<W: Out>(alloc: Global, out: &mut W) -> Result<(), Refusal>
-    requires { W.failed out.old ≡ false }
-    ensures { Wrote (W.held out.old) (W.held out.new) (W.failed out.new) (line task_header) result }
-{
-    let fields: [&[u8]; 4] = [b"task", b"name", b"status", b"moved"];
-    write_record(alloc, out, &fields)
-}
+const TASK_HEADER: &[&[u8]] = &[b"task", b"name", b"status", b"moved"];
 
 impl Record for FinalTask {
     ghost use Rattle.sqs_formats.specs.Finals.{task_fields};
@@ -185,54 +164,28 @@ impl Record for FinalTask {
     }
 }
 
-// Writes the messages under their header.
-fn write_message_part<W: Out>(
+// Writes a header, and the lines of records under it.
+fn write_part<W: Out, T: Record>(
     alloc: Global,
     out: &mut W,
-    messages: &[FinalMessage],
+    header: &[&[u8]],
+    records: &[T],
     names: &Names,
 ) -> Result<(), Refusal>
     requires { W.failed out.old ≡ false }
-    ensures { WroteSeveral (W.held out.old) (W.held out.new) (W.failed out.new) (lines (message_header ∷ map (message_fields names.now) messages.now)) result }
+    ensures { WroteSeveral (W.held out.old) (W.held out.new) (W.failed out.new)
+        (lines (map (λ f. f.now) header.now ∷ map (T.columns names.now) records.now)) result }
 {
-    write_message_header(alloc, out)?;
-    write_records(alloc, out, messages, names)
+    write_record(alloc, out, header)?;
+    write_records(alloc, out, records, names)
 }
 
-// Writes the transfers under their header.
-fn write_transfer_part<W: Out>(
-    alloc: Global,
-    out: &mut W,
-    transfers: &[FinalTransfer],
-    names: &Names,
-) -> Result<(), Refusal>
-    requires { W.failed out.old ≡ false }
-    ensures { WroteSeveral (W.held out.old) (W.held out.new) (W.failed out.new) (lines (transfer_header ∷ map (transfer_fields names.now) transfers.now)) result }
-{
-    write_transfer_header(alloc, out)?;
-    write_records(alloc, out, transfers, names)
-}
-
-// Writes the tasks under their header.
-fn write_task_part<W: Out>(
-    alloc: Global,
-    out: &mut W,
-    tasks: &[FinalTask],
-    names: &Names,
-) -> Result<(), Refusal>
-    requires { W.failed out.old ≡ false }
-    ensures { WroteSeveral (W.held out.old) (W.held out.new) (W.failed out.new) (lines (task_header ∷ map (task_fields names.now) tasks.now)) result }
-{
-    write_task_header(alloc, out)?;
-    write_records(alloc, out, tasks, names)
-}
-
-/// Writes what is left at the end of a run: the messages, the transfers and the tasks, each part
-/// under its header.
+/// Writes the state at the end of a run: the messages, the transfers and the tasks, each part under
+/// its header.
 ///
 /// # Errors
 ///
-/// `Memory` where a growth is refused, `Write` where the writer fails: a front of the lines is
+/// `Memory` if a growth is refused, `Write` if the writer fails. A prefix of the lines is then
 /// written.
 pub fn write_finals<W: Out>(
     alloc: Global,
@@ -241,9 +194,22 @@ pub fn write_finals<W: Out>(
     names: &Names,
 ) -> Result<(), Refusal>
     requires { W.failed out.old ≡ false }
-    ensures { WroteSeveral (W.held out.old) (W.held out.new) (W.failed out.new) (finals_text names.now finals.now) result }
+    ensures { WroteSeveral (W.held out.old) (W.held out.new) (W.failed out.new)
+        (finals_text names.now finals.now) result }
 {
-    write_message_part(alloc, out, finals.messages.as_slice(), names)?;
-    write_transfer_part(alloc, out, finals.transfers.as_slice(), names)?;
-    write_task_part(alloc, out, finals.tasks.as_slice(), names)
+    write_part(
+        alloc,
+        out,
+        MESSAGE_HEADER,
+        finals.messages.as_slice(),
+        names,
+    )?;
+    write_part(
+        alloc,
+        out,
+        TRANSFER_HEADER,
+        finals.transfers.as_slice(),
+        names,
+    )?;
+    write_part(alloc, out, TASK_HEADER, finals.tasks.as_slice(), names)
 }

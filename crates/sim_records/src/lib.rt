@@ -1,6 +1,8 @@
-//! The records of a run, as bytes to any writer: the lines of the log and of the finals.
+//! The records of a run, as bytes to any writer: the lines of the log and of the finals. The crate
+//! re-exports the reader of scripts, which are records too.
 #![tactic(auto)]
 
+mod answers;
 mod before;
 mod columns;
 mod finals;
@@ -18,6 +20,7 @@ pub use finals::write_finals;
 pub use lines::Lines;
 pub use names::Names;
 pub use rows::{write_header, write_row, write_rows};
+pub use sim_script::{ScriptError, read_script};
 pub use sink::{Failed, Out, write_all};
 pub use sqs_model::Finals;
 pub use to_writer::ToWriter;

@@ -1,4 +1,4 @@
-//! A line of CSV that is made from its end on.
+//! A line of CSV, made from its end backwards.
 ghost use Rattle.std.specs.Prelude.{◌≡◌, ◌≤◌, ◌<◌, ◌++◌, ◌∷◌, ◌-◌, List, [], ℕ, IfOk, OnOk, codes, drop, false, length};
 ghost use Rattle.std.specs.Fmt.{decimal};
 ghost use Rattle.csv.specs.Machine.{line_feed};
@@ -17,13 +17,13 @@ use sqs_message::{MessageId, Origin, Receipt};
 use std::alloc::{AllocError, Global};
 use std::marker::Model;
 
-// Room for three numbers with marks before them, a mark more and a comma.
+// Room for three numbers with marks before them, one more mark and a comma.
 const NUMBERS: usize = 3 * NUMBER + 2;
 
-// How long a number of 128 bits is at most, with a sign.
+// The greatest length of a number of 128 bits with a sign.
 const WIDE_NUMBER: usize = 40;
 
-// The text of a field as `csv` writes it, with quotes where it needs them.
+// The text of a field as `csv` writes it, in quotes if it needs them.
 fn text_by_csv(alloc: Global, field: &[u8]) -> Result<Vec<u8>, AllocError>
     ensures { IfOk result (λ v. v.items ≡ field_text default_writer field.now) }
 {
@@ -37,14 +37,14 @@ fn text_by_csv(alloc: Global, field: &[u8]) -> Result<Vec<u8>, AllocError>
     }
 }
 
-/// Lines of CSV that are made from their end on, the last line first and its last field first. Contracts see their
-/// bytes so far, with a comma before each field. A field that needs no quotes goes into the text as it is; `csv` writes
-/// the others.
+/// Lines of CSV, made from their end backwards: the last line first, and its last field first.
+/// Contracts see their bytes so far, with a comma before each field. A field that needs no quotes
+/// is copied as it is; `csv` writes the others.
 ///
-/// After a growth that was refused the line is not changed.
+/// If a growth is refused, the line stays as it was.
 #[derive(Drop)]
 pub(crate) struct Line {
-    // Its end is the lines, from `start` on. Before that is room.
+    // The lines are at its end, from `start` on. Before them is room.
     text: Vec<u8>,
     start: usize,
 }
@@ -71,7 +71,7 @@ impl Line {
         }
     }
 
-    /// Leaves no line.
+    /// Removes all lines.
     pub(crate) fn clear(&mut self)
         ensures { self.new ≡ [] }
     {
@@ -86,7 +86,7 @@ impl Line {
         &self.text[self.start..]
     }
 
-    /// How many bytes there are so far.
+    /// The number of bytes so far.
     #[inline(always)]
     pub(crate) fn len(&self) -> usize
         ensures { result ≡ length self.now }
@@ -94,7 +94,7 @@ impl Line {
         self.text.len() - self.start
     }
 
-    /// A line begins before the others, with no field.
+    /// Begins a line without fields before the others.
     #[inline(always)]
     pub(crate) fn begin(&mut self) -> Result<(), AllocError>
         ensures { OnOk result (self.new ≡ line_feed ∷ self.old) }
@@ -127,7 +127,7 @@ impl Line {
         Ok(())
     }
 
-    // The text of a field, and the comma before it.
+    // The text of a field with a comma before it.
     #[inline(always)]
     fn put(&mut self, text: &[u8]) -> Result<(), AllocError>
         ensures { OnOk result (self.new ≡ comma ∷ (text.now ++ self.old)) }
@@ -137,7 +137,8 @@ impl Line {
         Ok(())
     }
 
-    // A field of any bytes, as `csv` writes it. Apart from the others, which come a hundred times as often.
+    // A field of any bytes, as `csv` writes it. It is apart from the other fields, which are a
+    // hundred times as frequent.
     #[cold]
     #[inline(never)]
     fn quoted(&mut self, field: &[u8]) -> Result<(), AllocError>
@@ -168,7 +169,7 @@ impl Line {
         Ok(())
     }
 
-    // A number of any size in decimal. Apart from those of 64 bits, which nearly all are.
+    // A number of any size in decimal. It is apart from numbers of 64 bits, which nearly all are.
     #[cold]
     #[inline(never)]
     fn wide_number(&mut self, number: u128) -> Result<(), AllocError>
@@ -179,7 +180,7 @@ impl Line {
         self.bytes(&text[start..])
     }
 
-    /// A number in decimal; no bytes where there is none.
+    /// A number in decimal; no bytes if there is none.
     #[inline(always)]
     pub(crate) fn number_if(&mut self, number: Option<u128>) -> Result<(), AllocError>
         ensures { OnOk result (self.new ≡ with_field self.old (text_if decimal number)) }
@@ -193,11 +194,13 @@ impl Line {
         }
     }
 
-    // A mark and two numbers, as `m-0-12`.
+    // A mark and two numbers, for example `m-0-12`.
     #[inline(always)]
     fn numbered(&mut self, mark: u8, site: u32, number: u64) -> Result<(), AllocError>
         requires { needs_byte default_writer mark ≡ false }
-        ensures { OnOk result (self.new ≡ with_field self.old (mark ∷ (codes "-" ++ (decimal site ++ (codes "-" ++ decimal number))))) }
+        ensures { OnOk result (self.new
+            ≡ with_field self.old
+            (mark ∷ (codes "-" ++ (decimal site ++ (codes "-" ++ decimal number))))) }
     {
         let end = room_before(&mut self.text, self.start, NUMBERS)?;
         let text = self.text.as_mut_slice();
@@ -207,7 +210,7 @@ impl Line {
         Ok(())
     }
 
-    /// The id of a message, as `m-0-12`.
+    /// The id of a message, for example `m-0-12`.
     #[inline(always)]
     pub(crate) fn id(&mut self, id: MessageId) -> Result<(), AllocError>
         ensures { OnOk result (self.new ≡ with_field self.old (id_text id)) }
@@ -215,7 +218,7 @@ impl Line {
         self.numbered(b'm', id.site, id.number)
     }
 
-    /// The origin of a message, as `o-0-12`.
+    /// The origin of a message, for example `o-0-12`.
     #[inline(always)]
     pub(crate) fn origin(&mut self, origin: Origin) -> Result<(), AllocError>
         ensures { OnOk result (self.new ≡ with_field self.old (origin_text origin)) }
@@ -223,7 +226,7 @@ impl Line {
         self.numbered(b'o', origin.site, origin.number)
     }
 
-    /// A receipt handle, as `r-0-12-1`.
+    /// A receipt handle, for example `r-0-12-1`.
     #[inline(always)]
     pub(crate) fn receipt(&mut self, receipt: Receipt) -> Result<(), AllocError>
         ensures { OnOk result (self.new ≡ with_field self.old (receipt_text receipt)) }
@@ -247,9 +250,11 @@ impl Line {
         Ok(())
     }
 
-    /// Three numbers in decimal with slashes between them, as `2/1/0`.
+    /// Three numbers in decimal with slashes between them, for example `2/1/0`.
     pub(crate) fn counts(&mut self, first: u64, second: u64, third: u64) -> Result<(), AllocError>
-        ensures { OnOk result (self.new ≡ with_field self.old ((decimal first ++ (codes "/" ++ (decimal second ++ (codes "/" ++ decimal third)))))) }
+        ensures { OnOk result (self.new
+            ≡ with_field self.old ((decimal first
+            ++ (codes "/" ++ (decimal second ++ (codes "/" ++ decimal third)))))) }
     {
         let end = room_before(&mut self.text, self.start, NUMBERS)?;
         let text = self.text.as_mut_slice();
@@ -259,12 +264,14 @@ impl Line {
         Ok(())
     }
 
-    /// The line before so many bytes is whole: the comma before its first field goes. A record that shows no byte is
-    /// two quotes.
+    /// Ends the line before the last `behind` bytes: removes the comma before its first field. A
+    /// record without any bytes becomes two quotes.
     #[inline(always)]
     pub(crate) fn end(&mut self, behind: usize) -> Result<(), AllocError>
         requires { behind ≤ length self.old }
-        ensures { (rest : List ℕ) (fields : List (List ℕ)) → self.old ≡ with_fields (line_feed ∷ rest) fields → behind ≡ length rest → OnOk result (self.new ≡ line fields ++ rest) }
+        ensures { (rest : List ℕ) (fields : List (List ℕ))
+            → self.old ≡ with_fields (line_feed ∷ rest) fields → behind ≡ length rest
+            → OnOk result (self.new ≡ line fields ++ rest) }
     {
         if self.len() - behind < 3 {
             self.blank(behind)?;
@@ -273,12 +280,13 @@ impl Line {
         Ok(())
     }
 
-    // Two quotes are the line before so many bytes.
+    // Makes the line before the last `behind` bytes two quotes.
     #[cold]
     #[inline(never)]
     fn blank(&mut self, behind: usize) -> Result<(), AllocError>
         requires { behind ≤ length self.old }
-        ensures { OnOk result (self.new ≡ comma ∷ (codes "\"\"\n" ++ drop (length self.old - behind) self.old)) }
+        ensures { OnOk result
+            (self.new ≡ comma ∷ (codes "\"\"\n" ++ drop (length self.old - behind) self.old)) }
     {
         self.start = self.text.len() - behind;
         self.put(b"\"\"\n")

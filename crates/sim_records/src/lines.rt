@@ -11,9 +11,9 @@ use sim_clock::Refusal;
 use std::alloc::{AllocError, Global};
 use std::marker::Model;
 
-/// Lines of CSV that are being made, one after another. Contracts see it as their bytes.
+/// Lines of CSV, made one after another. Contracts see it as their bytes.
 ///
-/// After a growth that was refused it holds nothing and takes nothing.
+/// After a growth was refused it holds nothing and accepts nothing.
 #[derive(Drop)]
 pub struct Lines {
     text: Option<Vec<u8>>,
@@ -29,7 +29,7 @@ impl Model for Lines {
     ghost view = { λ l. unwrap_or (option_map (λ v. v.items) l.text) [] };
 }
 
-// Puts these fields before what a line has, the last one first.
+// Puts these fields before those of a line, the last one first.
 fn put_fields(text: &mut Line, fields: &[&[u8]]) -> Result<(), AllocError>
     ensures { OnOk result (text.new ≡ with_fields text.old (map (λ f. f.now) fields.now)) }
 {
@@ -41,7 +41,7 @@ fn put_fields(text: &mut Line, fields: &[&[u8]]) -> Result<(), AllocError>
     Ok(())
 }
 
-// Puts these numbers before what a line has, the last one first.
+// Puts these numbers before the fields of a line, the last one first.
 fn put_numbers(text: &mut Line, numbers: &[Option<u128>]) -> Result<(), AllocError>
     ensures { OnOk result (text.new ≡ with_fields text.old (map (text_if decimal) numbers.now)) }
 {
@@ -53,9 +53,10 @@ fn put_numbers(text: &mut Line, numbers: &[Option<u128>]) -> Result<(), AllocErr
     Ok(())
 }
 
-// Makes the line of these fields with these numbers behind them alone.
+// Makes a line that has these fields, followed by these numbers.
 fn make_line(text: &mut Line, fields: &[&[u8]], numbers: &[Option<u128>]) -> Result<(), AllocError>
-    ensures { OnOk result (text.new ≡ line (map (λ f. f.now) fields.now ++ map (text_if decimal) numbers.now)) }
+    ensures { OnOk result
+        (text.new ≡ line (map (λ f. f.now) fields.now ++ map (text_if decimal) numbers.now)) }
 {
     text.clear();
     text.begin()?;
@@ -75,29 +76,30 @@ impl Lines {
         }
     }
 
-    /// Adds the line of a record, with quotes where a field needs them.
+    /// Adds the line of a record, with quotes if a field needs them.
     ///
     /// # Errors
     ///
-    /// `AllocError` where a growth is refused, now or before.
+    /// `AllocError` if a growth is refused, now or before.
     pub fn add(&mut self, fields: &[&[u8]]) -> Result<(), AllocError>
         ensures { OnOk result (self.new ≡ self.old ++ line (map (λ f. f.now) fields.now)) }
     {
         self.add_numbers(fields, &[])
     }
 
-    /// Adds the line of a record of some fields, with quotes where one needs them, and of numbers behind them, in
-    /// decimal, each empty where there is none.
+    /// Adds the line of a record. It has these fields, with quotes if one needs them, followed by
+    /// these numbers in decimal, each empty if there is none.
     ///
     /// # Errors
     ///
-    /// `AllocError` where a growth is refused, now or before.
+    /// `AllocError` if a growth is refused, now or before.
     pub fn add_numbers(
         &mut self,
         fields: &[&[u8]],
         numbers: &[Option<u128>],
     ) -> Result<(), AllocError>
-        ensures { OnOk result (self.new ≡ self.old ++ line (map (λ f. f.now) fields.now ++ map (text_if decimal) numbers.now)) }
+        ensures { OnOk result (self.new
+            ≡ self.old ++ line (map (λ f. f.now) fields.now ++ map (text_if decimal) numbers.now)) }
     {
         let Some(mut text) = self.text.take() else {
             return Err(AllocError);
@@ -112,7 +114,7 @@ impl Lines {
     ///
     /// # Errors
     ///
-    /// `AllocError` where a growth is refused, now or before.
+    /// `AllocError` if a growth is refused, now or before.
     pub fn into_bytes(self) -> Result<Vec<u8>, AllocError>
         ensures { IfOk result (λ v. v.items ≡ self) }
     {
@@ -136,7 +138,8 @@ pub(crate) fn write_record<W: Out>(
     fields: &[&[u8]],
 ) -> Result<(), Refusal>
     requires { W.failed out.old ≡ false }
-    ensures { Wrote (W.held out.old) (W.held out.new) (W.failed out.new) (line (map (λ f. f.now) fields.now)) result }
+    ensures { Wrote (W.held out.old) (W.held out.new) (W.failed out.new)
+        (line (map (λ f. f.now) fields.now)) result }
 {
     let line = line_of(alloc, fields)?;
     write_all(out, line.as_slice())?;

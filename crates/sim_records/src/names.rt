@@ -9,14 +9,14 @@ use sqs_message::Text;
 use std::alloc::Global;
 use std::marker::Model;
 
-// Whether none of these needs quotes where it is a field.
+// Whether none of these needs quotes as a field.
 fn none_needs_quotes(texts: &[Text]) -> bool
     ensures { result ≡ none_quoted texts.now }
 {
     texts.iter().all(|text| !needs_quotes(text.as_bytes()))
 }
 
-// The words that names are, by number. Where memory for them is refused there are none.
+// The words of names, by number. If memory for them is refused, there are none.
 fn words_of(alloc: Global, texts: &[Text]) -> Vec<Option<KeptWord>>
     ensures { AreWordsOf texts.now result.items }
 {
@@ -31,9 +31,10 @@ fn words_of(alloc: Global, texts: &[Text]) -> Vec<Option<KeptWord>>
 #[derive(Drop)]
 pub struct Names {
     texts: Vec<Text>,
-    // The words that names are, by number, or none of them: a word goes into a line by a copy of a constant size.
+    // The words of names, by number, or none of them: a word is put into a line by a copy of
+    // constant size.
     words: Vec<Option<KeptWord>>,
-    // Whether none of them needs quotes where it is a field: looked for once, and not at each row.
+    // Whether none of them needs quotes as a field: determined once, and not at each row.
     are_plain: bool,
 }
 
@@ -49,7 +50,7 @@ impl Model for Names {
 }
 
 impl Names {
-    /// The names, the first of them number 0.
+    /// The names; the first has number 0.
     pub fn new(texts: Vec<Text>) -> Names
         ensures { result ≡ texts.items }
     {
@@ -62,21 +63,21 @@ impl Names {
         }
     }
 
-    /// All of them, by number.
+    /// All names, by number.
     pub fn as_slice(&self) -> &[Text]
         ensures { result.now ≡ self.now }
     {
         self.texts.as_slice()
     }
 
-    /// Whether none of them needs quotes where it is a field.
+    /// Whether none of them needs quotes as a field.
     pub(crate) fn are_plain(&self) -> bool
         ensures { result ≡ none_quoted self.now }
     {
         self.are_plain
     }
 
-    /// The name of an agent, where it is kept as a word. It needs no quotes.
+    /// The name of an agent, if it is kept as a word. It needs no quotes.
     #[inline(always)]
     pub(crate) fn word(&self, number: u32) -> Option<Word<'_>>
         ensures { IfSome result (IsPlainName self.now number) }
@@ -87,7 +88,7 @@ impl Names {
         }
     }
 
-    /// The name of an agent; empty where no agent has the number.
+    /// The name of an agent; empty if no agent has the number.
     pub fn name(&self, number: u32) -> &[u8]
         ensures { result.now ≡ name_at self.now number }
     {

@@ -2,7 +2,7 @@
 ghost use Rattle.std.specs.Prelude.{◌≡◌};
 ghost use Rattle.csv.specs.Writing.{default_writer, needs_byte, needs_quotes};
 
-// Whether a byte of a field calls for quotes.
+// Whether a byte makes a field need quotes.
 fn calls_for_quotes(byte: u8) -> bool
     ensures { result ≡ needs_byte default_writer byte }
 {

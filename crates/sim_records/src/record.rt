@@ -1,4 +1,4 @@
-//! What a line tells of, and the lines of several.
+//! Records that have lines, and the lines of several.
 ghost use Rattle.std.specs.Prelude.{◌≡◌, ℕ, List, [], false, IfOk, OnOk, map};
 ghost use Rattle.sqs_formats.specs.Rows.{lines};
 ghost use Rattle.sim_records.specs.Lines.{with_fields};
@@ -10,18 +10,18 @@ use crate::sink::{Out, write_all};
 use sim_clock::Refusal;
 use std::alloc::{AllocError, Global};
 
-/// How many lines are made before they are written.
+/// The number of lines that are made before they are written.
 const AT_ONCE: usize = 1024;
 
-/// How many bytes most lines have at most, so that their text seldom grows.
+/// The length that most lines do not exceed, in bytes, so that their text seldom grows.
 const LINE: usize = 96;
 
-/// How many lines are made in one text, which is kept from these to the next.
-const FEW: usize = 16;
+/// The number of lines that are made in one text, which is then used for the next ones.
+const LINES_A_TEXT: usize = 16;
 
-/// What a line tells of.
+/// A record that has a line.
 pub(crate) trait Record {
-    // The fields of its line, by the names of agents.
+    // The fields of its line, given the names of agents.
     ghost columns: { List (List ℕ) → Self → List (List ℕ) };
 
     /// Adds its fields to a line.
@@ -29,7 +29,7 @@ pub(crate) trait Record {
         ensures { OnOk result (line.new ≡ with_fields line.old (columns names.now self.now)) };
 }
 
-// Makes the lines of some in a text that has none. The last one is made first.
+// Makes the lines of some records in an empty text. The last one is made first.
 fn make_lines<T: Record>(text: &mut Line, records: &[T], names: &Names) -> Result<(), AllocError>
     requires { text.old ≡ [] }
     ensures { OnOk result (text.new ≡ lines (map (T.columns names.now) records.now)) }
@@ -45,7 +45,7 @@ fn make_lines<T: Record>(text: &mut Line, records: &[T], names: &Names) -> Resul
     Ok(())
 }
 
-// The lines of several, in order, some at a time.
+// The lines of several records, in order, some at a time.
 fn lines_of<T: Record>(alloc: Global, records: &[T], names: &Names) -> Result<Vec<u8>, AllocError>
     ensures { IfOk result (λ v. v.items ≡ lines (map (T.columns names.now) records.now)) }
 {
@@ -53,7 +53,7 @@ fn lines_of<T: Record>(alloc: Global, records: &[T], names: &Names) -> Result<Ve
     let mut some = Line::new(alloc);
     let mut rest = records;
     while !rest.is_empty() {
-        let (next, others) = rest.split_at(rest.len().min(FEW));
+        let (next, others) = rest.split_at(rest.len().min(LINES_A_TEXT));
         some.clear();
         make_lines(&mut some, next, names)?;
         text.extend_from_slice(some.as_slice())?;
@@ -62,7 +62,7 @@ fn lines_of<T: Record>(alloc: Global, records: &[T], names: &Names) -> Result<Ve
     Ok(text)
 }
 
-// Writes the lines of several at once.
+// Writes the lines of several records at once.
 pub(crate) fn write_at_once<W: Out, T: Record>(
     alloc: Global,
     out: &mut W,
@@ -70,14 +70,15 @@ pub(crate) fn write_at_once<W: Out, T: Record>(
     names: &Names,
 ) -> Result<(), Refusal>
     requires { W.failed out.old ≡ false }
-    ensures { Wrote (W.held out.old) (W.held out.new) (W.failed out.new) (lines (map (T.columns names.now) records.now)) result }
+    ensures { Wrote (W.held out.old) (W.held out.new) (W.failed out.new)
+        (lines (map (T.columns names.now) records.now)) result }
 {
     let text = lines_of(alloc, records, names)?;
     write_all(out, text.as_slice())?;
     Ok(())
 }
 
-// Writes the lines of all, in order, so many at once.
+// Writes the lines of all records, in order, `AT_ONCE` at a time.
 pub(crate) fn write_records<W: Out, T: Record>(
     alloc: Global,
     out: &mut W,
@@ -85,7 +86,8 @@ pub(crate) fn write_records<W: Out, T: Record>(
     names: &Names,
 ) -> Result<(), Refusal>
     requires { W.failed out.old ≡ false }
-    ensures { WroteSeveral (W.held out.old) (W.held out.new) (W.failed out.new) (lines (map (T.columns names.now) records.now)) result }
+    ensures { WroteSeveral (W.held out.old) (W.held out.new) (W.failed out.new)
+        (lines (map (T.columns names.now) records.now)) result }
 {
     let mut rest = records;
     while !rest.is_empty() {

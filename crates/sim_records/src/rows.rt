@@ -18,8 +18,8 @@ use std::slice::from_ref;
 ///
 /// # Errors
 ///
-/// `Memory` where a growth is refused: nothing is written. `Write` where the writer fails: a front
-/// of the line is written.
+/// `Memory` if a growth is refused: nothing is written. `Write` if the writer fails: a prefix of
+/// the line is written.
 pub fn write_header<W: Out>(alloc: Global, out: &mut W) -> Result<(), Refusal>
     requires { W.failed out.old ≡ false }
     ensures { Wrote (W.held out.old) (W.held out.new) (W.failed out.new) (line log_header) result }
@@ -51,8 +51,8 @@ impl Record for Row {
 ///
 /// # Errors
 ///
-/// `Memory` where a growth is refused: nothing is written. `Write` where the writer fails: a front
-/// of the line is written.
+/// `Memory` if a growth is refused: nothing is written. `Write` if the writer fails: a prefix of
+/// the line is written.
 pub fn write_row<W: Out>(
     alloc: Global,
     out: &mut W,
@@ -60,16 +60,17 @@ pub fn write_row<W: Out>(
     names: &Names,
 ) -> Result<(), Refusal>
     requires { W.failed out.old ≡ false }
-    ensures { Wrote (W.held out.old) (W.held out.new) (W.failed out.new) (line (row_fields names.now row.now)) result }
+    ensures { Wrote (W.held out.old) (W.held out.new) (W.failed out.new)
+        (line (row_fields names.now row.now)) result }
 {
     write_at_once(alloc, out, from_ref(row), names)
 }
 
-/// Writes the lines of several rows, in order. After `write_header` the two make the log.
+/// Writes the lines of several rows, in order. Together with `write_header` it makes the log.
 ///
 /// # Errors
 ///
-/// `Memory` where a growth is refused, `Write` where the writer fails: a front of the lines is
+/// `Memory` if a growth is refused, `Write` if the writer fails. A prefix of the lines is then
 /// written.
 pub fn write_rows<W: Out>(
     alloc: Global,
@@ -78,7 +79,8 @@ pub fn write_rows<W: Out>(
     names: &Names,
 ) -> Result<(), Refusal>
     requires { W.failed out.old ≡ false }
-    ensures { WroteSeveral (W.held out.old) (W.held out.new) (W.failed out.new) (lines (map (row_fields names.now) rows.now)) result }
+    ensures { WroteSeveral (W.held out.old) (W.held out.new) (W.failed out.new)
+        (lines (map (row_fields names.now) rows.now)) result }
 {
     write_records(alloc, out, rows, names)
 }

@@ -1,28 +1,29 @@
 //! Writers of std.
 ghost use Rattle.std.specs.Prelude.{◌≡◌, false};
 
+use crate::answers::Answers;
 use crate::sink::{Failed, Out};
 use std::io::Write;
 
-/// Any writer of std. It fails where that one answers an error, an interruption among them, or
-/// takes nothing of a piece that is not empty.
+/// Any writer of std. It fails if that writer returns an error (an interruption is one, too), or
+/// takes nothing of some bytes.
 #[derive(Drop)]
 pub struct ToWriter<W: Write> {
     inner: W,
-    has_failed: bool,
+    answers: Answers,
 }
 
 impl<W: Write> ToWriter<W> {
     ghost use Rattle.sim_records.specs.Writers.{inner_of, has_failed};
 
-    /// The writer round this one.
+    /// Wraps this writer.
     pub fn new(inner: W) -> ToWriter<W>
         ensures inner { inner_of result ≡ inner }
         ensures whole { has_failed result ≡ false }
     {
         ToWriter {
             inner,
-            has_failed: false,
+            answers: Answers::none(),
         }
     }
 
@@ -33,7 +34,7 @@ impl<W: Write> ToWriter<W> {
         &self.inner
     }
 
-    /// The writer of std, given back.
+    /// The writer of std, moved out.
     pub fn into_inner(self) -> W
         ensures { result ≡ inner_of self }
     {
@@ -42,29 +43,21 @@ impl<W: Write> ToWriter<W> {
 }
 
 impl<W: Write> Out for ToWriter<W> {
-    ghost use Rattle.sim_records.specs.Writers.{inner_of, has_failed};
+    ghost use Rattle.sim_records.specs.Writers.{inner_of, has_failed, is_flushed};
 
     ghost held = { λ w. W.contents (inner_of w) };
 
     ghost failed = { λ w. has_failed w };
 
+    ghost flushed = { λ w. is_flushed w };
+
     fn write(&mut self, bytes: &[u8]) -> Result<usize, Failed> {
-        match self.inner.write(bytes) {
-            Ok(taken) if taken > 0 || bytes.is_empty() => Ok(taken),
-            _ => {
-                self.has_failed = true;
-                Err(Failed)
-            }
-        }
+        let answer = self.inner.write(bytes);
+        self.answers.wrote(answer, bytes.len())
     }
 
     fn flush(&mut self) -> Result<(), Failed> {
-        match self.inner.flush() {
-            Ok(()) => Ok(()),
-            Err(_) => {
-                self.has_failed = true;
-                Err(Failed)
-            }
-        }
+        let answer = self.inner.flush();
+        self.answers.flushed(answer)
     }
 }

@@ -1,4 +1,4 @@
-//! Words and digests of the log, of which a constant number of bytes is put.
+//! Words and digests of the log, which are copied by a constant number of bytes.
 ghost use Rattle.std.specs.Option.{is_some};
 ghost use Rattle.std.specs.Prelude.{◌≡◌, ◌≤◌, ◌<◌, ◌&&◌, ◌++◌, ◌∷◌, ◌-◌, IfSome, drop, length, nat_le, not};
 ghost use Rattle.csv.specs.Writing.{comma, default_writer, needs_quotes};
@@ -8,13 +8,13 @@ ghost use Rattle.sim_records.specs.Lines.{IsPlain};
 use crate::quotes::needs_quotes;
 use std::marker::Model;
 
-/// How many bytes are put for a word, of which its own come last.
+/// The number of bytes that are copied for a word; its own bytes are the last of them.
 pub(crate) const WORD: usize = 16;
 
-/// How long the text of a digest is: two digits a byte.
+/// The length of the text of a digest: two digits a byte.
 pub(crate) const DIGEST: usize = 32;
 
-/// A word with bytes before it that are not its own. Contracts see its own.
+/// A word, with bytes before it that do not belong to it. Contracts see its own bytes.
 #[derive(Drop)]
 pub(crate) struct Word<'a> {
     bytes: &'a [u8; WORD],
@@ -32,7 +32,7 @@ impl<'a> Model for Word<'a> {
 }
 
 impl<'a> Word<'a> {
-    /// The word that so many bytes are, the last ones of these.
+    /// The word that the last `len` of these bytes are.
     #[inline(always)]
     pub(crate) fn new(bytes: &'a [u8; WORD], len: usize) -> Word<'a>
         requires { len ≤ WORD }
@@ -42,7 +42,7 @@ impl<'a> Word<'a> {
     }
 }
 
-/// A word that has its bytes, to be kept. Contracts see its own.
+/// A word that owns its bytes, to be kept. Contracts see its own bytes.
 #[derive(Drop)]
 pub(crate) struct KeptWord {
     bytes: [u8; WORD],
@@ -60,10 +60,11 @@ impl Model for KeptWord {
 }
 
 impl KeptWord {
-    /// The word that a text is; none where it is too long for one or needs quotes.
+    /// The word with a text; none if the text is too long for a word or needs quotes.
     pub(crate) fn plain(text: &[u8]) -> Option<KeptWord>
         ensures word { IfSome result (λ w. (w ≡ text.now) × IsPlain w) }
-        ensures told { is_some result ≡ nat_le (length text.now) 16 && not (needs_quotes default_writer text.now) }
+        ensures told { is_some result
+            ≡ nat_le (length text.now) 16 && not (needs_quotes default_writer text.now) }
     {
         if text.len() > WORD || needs_quotes(text) {
             return None;
@@ -83,7 +84,7 @@ impl KeptWord {
     }
 }
 
-/// Puts a word and a comma before it before what stands in a text from `end` on, and answers where they begin.
+/// Puts a comma and a word before the text that begins at `end`. Returns where they begin.
 #[inline(always)]
 pub(crate) fn put_word(text: &mut [u8], end: usize, word: Word) -> usize
     requires room { WORD < end }
@@ -98,8 +99,8 @@ pub(crate) fn put_word(text: &mut [u8], end: usize, word: Word) -> usize
     start
 }
 
-/// Puts a digest in lower-case hex and a comma before it before what stands in a text from `end` on, and answers where
-/// they begin.
+/// Puts a comma and a digest in lower-case hexadecimal before the text that begins at `end`.
+/// Returns where they begin.
 #[inline(always)]
 pub(crate) fn put_digest(text: &mut [u8], end: usize, md5: &[u8; 16]) -> usize
     requires room { DIGEST < end }

@@ -3,7 +3,7 @@ use Rattle.std.specs.Prelude.{ℕ, codes, List, [], ◌∷◌, cond}
 use Rattle.sqs_formats.specs.Report.{Column}
 use Rattle.sqs_formats.specs.Comparison.{is_new, only_in_b}
 
--- the line of a queue that stands in one report only: how often it stands in each, and the difference
+-- the line of a queue that is in one report only: how often it is in each, and the difference
 abbrev pub only_line : List ℕ → List (List ℕ) → List (List ℕ)
 only_line queue counts = codes "compare" ∷ queue ∷ codes "only" ∷ counts
 

@@ -7,7 +7,7 @@ use Rattle.sqs_model.specs.declared.finals.FinalMessage.{FinalMessage}
 use Rattle.sqs_formats.specs.Report.{is_delayed, is_in_flight, is_visible, left, messages_of}
 use Rattle.sim_report.specs.declared.left.Left.{Left}
 
--- how many of these messages are where
+-- the number of these messages in each state
 abbrev pub left_of : List FinalMessage → Left
 left_of messages = record { visible = left is_visible messages; in_flight = left is_in_flight messages; delayed = left is_delayed messages }
 

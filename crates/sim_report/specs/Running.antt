@@ -9,7 +9,7 @@ use Rattle.sim_report.specs.declared.queue.QueueCounts.{QueueCounts}
 use Rattle.sim_report.specs.Left.{left_of}
 use Rattle.sim_report.specs.Tally.{TallyState, tallied, tally_of}
 
--- one element of a list changed, where there is such a place
+-- a list with one element changed, if it has that index
 abbrev pub changed : {X : Type 0} → (X → X) → ℕ → List X → List X
 changed f n [] = []
 changed f zero (x ∷ xs) = f x ∷ xs

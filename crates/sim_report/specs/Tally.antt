@@ -15,7 +15,7 @@ abbrev pub tally_of : List Row → TallyState
 tally_of rows =
     record { counts = map (λ n. count n rows) (numbers 0 counted_columns); depth_max = depth_max rows; ages = ages rows }
 
--- the counts with one more row in a column, where the row has one of these columns
+-- the counts with one more row in a column, if the row has one of these columns
 abbrev pub counted : Option ℕ → List ℕ → List ℕ
 counted None counts = counts
 counted (Some c) counts = set counts c (get_or counts c 0 + 1)
@@ -29,7 +29,7 @@ depth_by counts =
 abbrev pub age_in : Option ℕ → Row → Option ℕ
 age_in c row = age_when (is_column 4 c) row.detail
 
--- the ages with one more, where there is one
+-- the ages with one more, if there is one
 abbrev pub with_age : Option ℕ → List ℕ → List ℕ
 with_age None ages = ages
 with_age (Some age) ages = ages ++ age ∷ []
@@ -47,6 +47,6 @@ tallied_in c row t =
 abbrev pub tallied : Row → TallyState → TallyState
 tallied row t = tallied_in (column row.kind row.answer) row t
 
--- the nearest rank of numbers in ascending order: the least with so many of 100 at or below it
+-- the nearest rank of numbers in ascending order: the least such that `percent` of 100 are at or below it
 abbrev pub rank_in : ℕ → List ℕ → Option ℕ
 rank_in percent sorted = slice_get sorted ((percent * length sorted + 99) / 100 - 1)

@@ -15,7 +15,7 @@ pub(crate) fn sorted(alloc: Global, ages: &[u64]) -> Result<Vec<u64>, AllocError
     Ok(sorted)
 }
 
-// The nearest rank: the least of these ages with so many of 100 at or below it.
+// The nearest rank: the least of these ages such that `percent` of 100 ages are at or below it.
 pub(crate) fn nearest_rank(sorted: &[u64], percent: u64) -> Option<u128>
     requires { percent ≤ 100 }
     ensures { result ≡ rank_in percent sorted.now }

@@ -4,10 +4,10 @@ ghost use Rattle.sqs_formats.specs.Report.{age_when, column, is_column};
 
 use sqs_message::{Detail, RowAnswer, RowKind};
 
-// The place of the column that counts rows of deletion.
+// The index of the column that counts deletions.
 const DELETES: usize = 4;
 
-// The column that counts a row, by its place; a refusal's own stands after the first nine.
+// The index of the column that counts a row. The columns of the errors follow the first nine.
 pub(crate) fn column_of(kind: RowKind, answer: RowAnswer) -> Option<usize>
     ensures { result ≡ column kind answer }
 {

@@ -11,7 +11,7 @@ use sqs_model::FinalMessage;
 use std::alloc::{AllocError, Global};
 use std::marker::Model;
 
-/// How many columns there are.
+/// The number of columns.
 pub(crate) const COLUMNS: usize = 27;
 
 /// A queue's name and its columns, of which some are empty.
@@ -64,7 +64,7 @@ pub(crate) fn column_names() -> [&'static [u8]; COLUMNS]
     ]
 }
 
-// The columns of queues, with what is left of each.
+// The columns of queues, given the messages that are left of each.
 pub(crate) fn columns_of<'a>(
     alloc: Global,
     queues: &'a [QueueCounts],
@@ -82,7 +82,7 @@ pub(crate) fn columns_of<'a>(
     Ok(all)
 }
 
-// The first of these queues that has a name.
+// The first of these queues with a name.
 pub(crate) fn named<'a, 'b>(
     name: &[u8],
     report: &'b [QueueColumns<'a>],

@@ -20,7 +20,8 @@ fn add_column(
     first: Option<u128>,
     second: Option<u128>,
 ) -> Result<(), AllocError>
-    ensures { OnOk result (text.new ≡ text.old ++ line (column_line queue.now (column.now, (first, second)))) }
+    ensures { OnOk result
+        (text.new ≡ text.old ++ line (column_line queue.now (column.now, (first, second)))) }
 {
     let before = NumberText::new(first);
     let after = NumberText::new(second);
@@ -36,10 +37,11 @@ fn add_column(
     text.add(&fields)
 }
 
-// Adds the line of a queue that stands in one report only: how often it stands in the first and
-// in the second, and the difference.
+// Adds the line of a queue that is in one report only: how often it is in the first and in the
+// second, and the difference.
 fn add_only(text: &mut Lines, queue: &[u8], counts: [&[u8]; 3]) -> Result<(), AllocError>
-    ensures { OnOk result (text.new ≡ text.old ++ line (only_line queue.now (map (λ n. n.now) counts.entry))) }
+    ensures { OnOk result
+        (text.new ≡ text.old ++ line (only_line queue.now (map (λ n. n.now) counts.entry))) }
 {
     let [first, second, difference] = counts;
     let fields = [
@@ -60,7 +62,9 @@ fn add_columns(
     first: &[Option<u128>],
     second: &[Option<u128>],
 ) -> Result<(), AllocError>
-    ensures { OnOk result (text.new ≡ text.old ++ lines (map (column_line queue.now) (zip columns (zip first.now second.now)))) }
+    ensures { OnOk result (text.new
+        ≡ text.old
+        ++ lines (map (column_line queue.now) (zip columns (zip first.now second.now)))) }
 {
     let names = column_names();
     let count = names.len().min(first.len()).min(second.len());
@@ -76,7 +80,8 @@ fn add_compared(
     first: &QueueColumns,
     second: Option<&QueueColumns>,
 ) -> Result<(), AllocError>
-    ensures { OnOk result (text.new ≡ text.old ++ lines (compared first.now (option_map (λ q. q.now) second.entry))) }
+    ensures { OnOk result
+        (text.new ≡ text.old ++ lines (compared first.now (option_map (λ q. q.now) second.entry))) }
 {
     match second {
         Some(second) => {
@@ -87,7 +92,7 @@ fn add_compared(
     }
 }
 
-// Adds the line of a queue of the second report, where the first one lacks it.
+// Adds the line of a queue of the second report, if the first one does not have it.
 fn add_new(
     text: &mut Lines,
     second: &QueueColumns,
@@ -107,7 +112,8 @@ fn add_first(
     first: &[QueueColumns],
     second: &[QueueColumns],
 ) -> Result<(), AllocError>
-    ensures { OnOk result (text.new ≡ text.old ++ lines (flat_map (λ q. compared q (named q.0 second.now)) first.now)) }
+    ensures { OnOk result (text.new
+        ≡ text.old ++ lines (flat_map (λ q. compared q (named q.0 second.now)) first.now)) }
 {
     for queue in first {
         add_compared(text, queue, named(queue.name, second))?;
@@ -115,13 +121,14 @@ fn add_first(
     Ok(())
 }
 
-// Adds the lines of the queues of the second report that the first one lacks, in order.
+// Adds the lines of the queues of the second report that the first one does not have, in order.
 fn add_second(
     text: &mut Lines,
     first: &[QueueColumns],
     second: &[QueueColumns],
 ) -> Result<(), AllocError>
-    ensures { OnOk result (text.new ≡ text.old ++ lines (flat_map (new_lines first.now) second.now)) }
+    ensures { OnOk result
+        (text.new ≡ text.old ++ lines (flat_map (new_lines first.now) second.now)) }
 {
     for queue in second {
         add_new(text, queue, first)?;

@@ -1,4 +1,4 @@
-//! What is left of the messages of each queue.
+//! The messages that are left in each queue.
 ghost use Rattle.std.specs.Prelude.{◌≡◌, ℕ, ◌+◌, ◌≤◌, ◌^◌, All, IfOk};
 ghost use Rattle.sim_report.specs.Left.{IsUpTo, left_with, lefts};
 ghost use Rattle.sim_report.specs.Running.{changed};
@@ -8,7 +8,7 @@ use sqs_message::Place;
 use sqs_model::FinalMessage;
 use std::alloc::{AllocError, Global};
 
-/// How many messages of a queue are where at the end.
+/// The number of messages of a queue in each state at the end.
 #[derive(Clone, Copy)]
 pub(crate) struct Left {
     pub(crate) visible: u64,
@@ -26,7 +26,7 @@ const NONE: Left = Left {
 impl Left {
     ghost use Rattle.sim_report.specs.Left.{IsUpTo, left_with};
 
-    // With one more message at a place.
+    // These, and one more message in a state.
     fn with(self, place: Place) -> Left
         requires { IsUpTo (2 ^ 63) self }
         ensures one_more { result ≡ left_with place self }
@@ -42,11 +42,12 @@ impl Left {
     }
 }
 
-// Counts a message that is left after so many, where its queue is one of these.
+// Counts a message that is left, after `seen` others, if its queue is one of these.
 fn count_message(left: &mut [Left], message: &FinalMessage, seen: usize)
     requires up_to { All (IsUpTo seen) left.old }
     requires room { seen ≤ 2 ^ 63 }
-    ensures counted { left.new ≡ changed (left_with message.now.place) message.now.id.site left.old }
+    ensures counted { left.new
+        ≡ changed (left_with message.now.place) message.now.id.site left.old }
     ensures up_to { All (IsUpTo (seen + 1)) left.new }
 {
     let site = message.id.site as usize;
@@ -55,7 +56,7 @@ fn count_message(left: &mut [Left], message: &FinalMessage, seen: usize)
     }
 }
 
-// What is left of each of these queues.
+// The messages that are left in each of these queues.
 pub(crate) fn left_by_queue(
     alloc: Global,
     queues: &[QueueCounts],

@@ -1,4 +1,4 @@
-//! The report of a run: running counts of each queue, which become its columns at the end.
+//! The report of a run: running counts of each queue, from which its columns are made at the end.
 #![tactic(auto)]
 
 mod ages;

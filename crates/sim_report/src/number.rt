@@ -7,13 +7,13 @@ ghost use Rattle.sqs_formats.specs.Comparison.{difference_if};
 use itoa::Integer;
 use std::marker::Model;
 
-// How long a number is at most, with a sign before it.
+// The greatest length of a number with a sign before it.
 const LONGEST: usize = 40;
 
-/// The text of a number, empty where there is none. Contracts see its bytes.
+/// The text of a number; empty if there is none. Contracts see its bytes.
 #[derive(Drop)]
 pub(crate) struct NumberText {
-    // Its end is the text, from `start` on.
+    // The text is at its end, from `start` on.
     bytes: [u8; LONGEST],
     start: usize,
 }
@@ -38,7 +38,7 @@ impl NumberText {
         NumberText { bytes, start }
     }
 
-    /// A number in decimal, where there is one.
+    /// A number in decimal, if there is one.
     pub(crate) fn new(number: Option<u128>) -> NumberText
         ensures { result ≡ text_if decimal number }
     {
@@ -51,7 +51,7 @@ impl NumberText {
         }
     }
 
-    /// The second number less the first, in decimal; empty where either is.
+    /// The second number minus the first, in decimal; empty if either is absent.
     pub(crate) fn difference(first: Option<u128>, second: Option<u128>) -> NumberText
         ensures { result ≡ difference_if first second }
     {

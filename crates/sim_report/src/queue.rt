@@ -13,7 +13,7 @@ pub(crate) struct QueueCounts {
     pub(crate) tally: Tally,
 }
 
-// The queues of these names, with no rows.
+// The queues with these names, without rows.
 pub(crate) fn fresh_queues(alloc: Global, names: Vec<Text>) -> Result<Vec<QueueCounts>, AllocError>
     ensures { IfOk result (λ v. v.items ≡ map fresh names.items) }
 {
@@ -25,7 +25,7 @@ pub(crate) fn fresh_queues(alloc: Global, names: Vec<Text>) -> Result<Vec<QueueC
     Ok(queues)
 }
 
-// Counts a row at its queue, where that is one of these.
+// Counts a row at its queue, if that is one of these.
 fn add_row(queues: &mut [QueueCounts], row: &Row) -> Result<(), AllocError>
     ensures { OnOk result (queues.new ≡ row_added queues.old row.now) }
 {

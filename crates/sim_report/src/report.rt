@@ -34,11 +34,11 @@ impl Model for Report {
 }
 
 impl Report {
-    /// The report of no rows, over the queues of these names, by number.
+    /// The report of no rows, of the queues with these names, by number.
     ///
     /// # Errors
     ///
-    /// `AllocError` where a growth is refused.
+    /// `AllocError` if a growth is refused.
     pub fn new(alloc: Global, names: Vec<Text>) -> Result<Report, AllocError>
         ensures { IfOk result (λ r. r ≡ running names.items []) }
     {
@@ -47,12 +47,12 @@ impl Report {
         })
     }
 
-    /// Adds rows to those before. A row of a queue whose number is past the last counts nowhere.
+    /// Adds rows to those before. A row of a queue whose number is past the last is not counted.
     ///
     /// # Errors
     ///
-    /// `AllocError` where a growth is refused. The report may then have some of the rows, and is not
-    /// to be used again.
+    /// `AllocError` if a growth is refused. The report may then have some of the rows, and must not
+    /// be used again.
     pub fn add(&mut self, rows: &[Row]) -> Result<(), AllocError>
         ensures { (names : List (List ℕ)) (before : List Row) → self.old ≡ running names before
             → OnOk result (self.new ≡ running names (before ++ rows.now)) }
@@ -60,12 +60,12 @@ impl Report {
         add_rows(self.queues.as_mut_slice(), rows)
     }
 
-    /// Writes the report, with what is left at the end of the run.
+    /// Writes the report, given what is left at the end of the run.
     ///
     /// # Errors
     ///
-    /// `Memory` where a growth is refused: nothing is written. `Write` where the writer fails: a
-    /// front of the lines is written.
+    /// `Memory` if a growth is refused: nothing is written. `Write` if the writer fails: a prefix
+    /// of the lines is written.
     pub fn write_report<W: Out>(
         &self,
         alloc: Global,
@@ -75,7 +75,8 @@ impl Report {
         requires { W.failed out.old ≡ false }
         ensures works { OnOk result (W.failed out.new ≡ false) }
         ensures written { (names : List (List ℕ)) (rows : List Row) → self.now ≡ running names rows
-            → Wrote (W.held out.old) (W.held out.new) (W.failed out.new) (report_text (report names rows finals.now)) result }
+            → Wrote (W.held out.old) (W.held out.new) (W.failed out.new)
+            (report_text (report names rows finals.now)) result }
     {
         let columns = self.columns(alloc, finals)?;
         let text = report_lines(alloc, columns.as_slice())?;
@@ -83,7 +84,7 @@ impl Report {
         Ok(())
     }
 
-    // The columns of its queues, with what is left at the end of the run.
+    // The columns of its queues, given what is left at the end of the run.
     pub(crate) fn columns<'a>(
         &'a self,
         alloc: Global,
@@ -96,13 +97,14 @@ impl Report {
     }
 }
 
-/// Writes the comparison of two runs, each by its report and what was left at its end: for each queue
-/// of the first a line for each column, and a line for each queue that stands in one only.
+/// Writes the comparison of two runs, each given by its report and by what was left at its end. It
+/// has a line for each column of each queue that is in both, and a line for each queue that is in
+/// one only.
 ///
 /// # Errors
 ///
-/// `Memory` where a growth is refused: nothing is written. `Write` where the writer fails: a front
-/// of the lines is written.
+/// `Memory` if a growth is refused: nothing is written. `Write` if the writer fails: a prefix of
+/// the lines is written.
 pub fn compare<W: Out>(
     alloc: Global,
     out: &mut W,
@@ -114,7 +116,8 @@ pub fn compare<W: Out>(
     ensures written { (names : List (List ℕ)) (rows : List Row) (others : List (List ℕ)) (other_rows : List Row)
         → first.entry.0.now ≡ running names rows → second.entry.0.now ≡ running others other_rows
         → Wrote (W.held out.old) (W.held out.new) (W.failed out.new)
-        (comparison (report names rows first.entry.1.now) (report others other_rows second.entry.1.now)) result }
+        (comparison (report names rows first.entry.1.now)
+        (report others other_rows second.entry.1.now)) result }
 {
     let before = first.0.columns(alloc, first.1)?;
     let after = second.0.columns(alloc, second.1)?;

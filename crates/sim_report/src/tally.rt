@@ -9,10 +9,10 @@ use sqs_message::Row;
 use std::alloc::{AllocError, Global};
 use std::marker::Model;
 
-/// How many columns count rows.
+/// The number of columns that count rows.
 pub(crate) const COUNTED: usize = 18;
 
-/// How many columns do not.
+/// The number of other columns.
 pub(crate) const OTHERS: usize = 9;
 
 /// The running counts of a queue: what its columns need of the rows so far, without the rows.
@@ -31,8 +31,8 @@ impl Model for Tally {
     ghost view = { λ t. record { counts = t.counts; depth_max = t.depth_max; ages = t.ages.items } };
 }
 
-// Counts one more row in a column, where it is one of these. A count that fills its word would
-// have to grow, and this is refused as any growth may be.
+// Counts one more row in a column, if it is one of these. A count that is at its greatest value
+// would have to grow, and this is refused like any growth.
 fn count_in(counts: &mut [u64; COUNTED], column: Option<usize>) -> Result<(), AllocError>
     ensures { OnOk result (counts.new ≡ counted column counts.old) }
 {
@@ -47,7 +47,7 @@ fn count_in(counts: &mut [u64; COUNTED], column: Option<usize>) -> Result<(), Al
     Ok(())
 }
 
-// How many messages came in by these counts, less those that went out.
+// The number of messages that came in by these counts, minus those that left.
 fn depth_of(counts: &[u64; COUNTED]) -> u128
     ensures { result ≡ depth_by counts.now }
 {
@@ -70,7 +70,7 @@ fn count_columns(alloc: Global, counts: &[u64; COUNTED]) -> Result<Vec<Option<u1
     Ok(columns)
 }
 
-// The columns that do not count rows.
+// The other columns.
 fn other_columns(
     depth_max: u128,
     left: Left,
@@ -78,7 +78,8 @@ fn other_columns(
     sorted: &[u64],
 ) -> [Option<u128>; OTHERS]
     ensures { result ≡ Some depth_max ∷ Some left.visible ∷ Some left.in_flight ∷ Some left.delayed ∷ Some age_sum
-        ∷ rank_in 100 sorted.now ∷ rank_in 50 sorted.now ∷ rank_in 95 sorted.now ∷ rank_in 99 sorted.now ∷ [] }
+        ∷ rank_in 100 sorted.now ∷ rank_in 50 sorted.now ∷ rank_in 95 sorted.now ∷ rank_in 99
+        sorted.now ∷ [] }
 {
     [
         Some(depth_max),
@@ -113,7 +114,7 @@ impl Tally {
     ///
     /// # Errors
     ///
-    /// `AllocError` where a count has outgrown its word, or an age could not be kept.
+    /// `AllocError` if a count is at its greatest value, or an age could not be kept.
     pub(crate) fn count_row(&mut self, row: &Row) -> Result<(), AllocError>
         ensures { OnOk result (self.new ≡ tallied row.now self.old) }
     {
@@ -126,7 +127,7 @@ impl Tally {
         Ok(())
     }
 
-    /// The columns of the queue, with what is left of it.
+    /// The columns of the queue, given the messages that are left in it.
     pub(crate) fn columns(&self, alloc: Global, left: Left) -> Result<Vec<Option<u128>>, AllocError>
         ensures { IfOk result (λ v. v.items ≡ columns_by self.now left) }
     {

@@ -9,7 +9,8 @@ use std::alloc::{AllocError, Global};
 
 // The fields of the header.
 fn header_fields(alloc: Global) -> Result<Vec<&'static [u8]>, AllocError>
-    ensures { IfOk result (λ v. map (λ f. f.now) v.items ≡ codes "report" ∷ codes "queue" ∷ columns) }
+    ensures { IfOk result
+        (λ v. map (λ f. f.now) v.items ≡ codes "report" ∷ codes "queue" ∷ columns) }
 {
     let mut fields: Vec<&'static [u8]> = Vec::new(alloc);
     fields.push(b"report")?;

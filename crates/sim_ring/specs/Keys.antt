@@ -6,9 +6,9 @@ use Rattle.sim_clock.specs.declared.key.Key.{Key}
 use Rattle.sim_clock.specs.Firsts.{without}
 use Rattle.sim_clock.specs.Order.{inserted, key_cmp, key_cmp_total, least, lesser, same_key}
 use Rattle.sim_clock.proofs.Least.{key_tied, lesser_swap}
+use Rattle.sim_clock.proofs.Orderings.{key_self}
 use Rattle.sim_engine.specs.Members.{In}
 use Rattle.sim_engine.proofs.Counts.{total}
-use Rattle.sim_engine.proofs.Keys.{key_self}
 
 -- keys with one more
 pub total_inserted : (f : Key → ℕ) (x : Key) (xs : List Key) → total f (inserted x xs) ≡ f x + total f xs

@@ -6,7 +6,7 @@ use Rattle.sim_engine.specs.Setting.{Setting}
 use Rattle.sim_engine.specs.declared.edge.Edge.{Edge}
 use Rattle.sim_ring.specs.declared.counter.Counter.{Counter}
 
--- the number of the counter behind another, in a ring of so many: behind the last comes the first
+-- the number of the next counter in a ring: after the last comes the first
 abbrev pub next_of : ℕ → ℕ → ℕ
 next_of counters number = (number + 1) % counters
 
@@ -21,11 +21,11 @@ opening_counter counters apart number =
       arriving = record { at = 0; agent = number; class = Arrival; number = 0 } ∷ [];
     }
 
--- the way from a counter to the one behind it
+-- the way from a counter to the next one
 abbrev pub way_from : ℕ → ℕ → ℕ → Edge
 way_from counters apart number = record { from = number; to = next_of counters number; least = apart }
 
--- a ring of so many counters, with ways of so many milliseconds
+-- a ring of counters, whose ways take `apart` milliseconds
 abbrev pub ring_setting : ℕ → ℕ → ℕ → Setting Counter
 ring_setting counters apart horizon =
     record {

@@ -17,7 +17,8 @@ pub record Core : Type 0 where
   pub way : ℕ
   pub count : ℕ
 
--- the token that a counter hands on when one reaches it: it arrives at the next counter once the way there has passed
+-- the token that a counter sends on when one reaches it: it arrives at the next counter when the time of the way has
+-- passed
 abbrev pub handed_on : Key → Counter → Token
 handed_on key c =
     record {
@@ -25,7 +26,7 @@ handed_on key c =
       to = c.next;
     }
 
--- a counter that a token reaches counts it, tells so, and hands it on
+-- a counter that a token reaches counts it, reports it, and sends it on
 abbrev pub counted : Key → Counter → Handled Counter Told Token
 counted key c =
     record {
@@ -52,8 +53,8 @@ ring =
       row_count = λ r. r.count;
     }
 
--- tokens on their way to a counter are kept in order, and those that it hands on take time
--- neither counters nor tokens hold anything else that has a moment, which could be from later
+-- tokens on their way to a counter are kept in order, and those that it sends on take time;
+-- counters and tokens have nothing else with a moment that could be later
 abbrev pub ring_conditions : Conditions Counter Token
 ring_conditions =
     record {

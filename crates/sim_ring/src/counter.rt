@@ -1,24 +1,25 @@
-//! Counters: a kind of sites.
+//! Counters: an example of a kind of sites.
 ghost use Rattle.std.specs.Prelude.{◌≡◌};
 
 use sim_clock::{Agenda, Class, Key, Refusal};
 use sim_engine::{Effects, Site};
 
-/// The most that a counter counts: the engine's limit of counts.
+/// The greatest count of a counter: the engine's limit of counts.
 const MOST: u64 = 4_611_686_018_427_387_903;
 
-/// A token on its way to a counter: what sites of this kind send to one another. A transfer has a key,
-/// which says when it arrives and tells it from all others, and the number of the site that it is for.
+/// A token on its way to a counter: the transfer of this kind of sites. A transfer has a key, which
+/// says when it arrives and distinguishes it from all others, and the number of the site that
+/// receives it.
 #[derive(Drop)]
 pub struct Token {
-    /// The key of its arrival. Its agent is the number of the counter that sent it, and its number
-    /// how many that one had sent before.
+    /// The key of its arrival. Its agent is the number of the counter that sent it. Its number is
+    /// how many that counter had sent before.
     pub key: Key,
-    /// The number of the counter that it is for.
+    /// The number of the counter that receives it.
     pub to: u32,
 }
 
-/// What a counter tells when it has counted a token: a row of sites of this kind. A row has the key of
+/// Reports that a counter has counted a token: the row of this kind of sites. A row has the key of
 /// the handling that made it, and the number of the site at which it was made.
 #[derive(Drop)]
 pub struct Told {
@@ -26,29 +27,30 @@ pub struct Told {
     pub key: Key,
     /// The number of the counter.
     pub number: u32,
-    /// How many tokens it has counted, with this one.
+    /// The number of tokens that it has counted, including this one.
     pub count: u64,
 }
 
-/// Counts the tokens that reach it, and hands each on to the next counter. What is due at it are the
-/// arrivals of the tokens on their way to it.
+/// Counts the tokens that reach it, and sends each on to the next counter. The entries due at a
+/// counter are the arrivals of the tokens on their way to it.
 #[derive(Drop)]
 pub struct Counter {
     /// Its number.
     pub number: u32,
-    /// The number of the counter that it hands tokens on to.
+    /// The number of the counter to which it sends tokens.
     pub next: u32,
-    /// How long a token takes to that one, in milliseconds.
+    /// How long a token takes to get there, in milliseconds.
     pub way: u32,
-    /// How many tokens it has counted so far.
+    /// The number of tokens that it has counted so far.
     pub count: u64,
     /// The keys of the tokens on their way to it.
     pub arriving: Agenda,
 }
 
-// A kind of sites has three ghost members. `engine` defines what its functions do, and they are proved
-// to do that. `conditions` are what its sites and transfers are like at every step of a run. `laws` are
-// the proof that handlings and deliveries keep to what the engine asks of every site.
+// A kind of sites has three ghost members. `engine` defines what its functions do, and they are
+// proved to do that. `conditions` says what its sites and transfers are like at every step of a
+// run. `laws` is the proof that handlings and deliveries keep what the engine requires of every
+// site.
 impl Site for Counter {
     ghost use Rattle.sim_ring.specs.Ring.{ring, ring_conditions};
     ghost use Rattle.sim_ring.specs.Laws.{ring_laws};
@@ -90,8 +92,8 @@ impl Site for Counter {
         self.arriving.push(transfer.key)
     }
 
-    // A token has arrived: it is counted, and handed on. What is handled is always the least due, so
-    // that is what leaves the agenda.
+    // A token has arrived: it is counted, and sent on. The entry handled is always the least due,
+    // and so it is the one that leaves the agenda.
     fn handle_into(&mut self, key: Key, effects: &mut Effects<Told, Token>) -> Result<(), Refusal> {
         if self.count >= MOST {
             return Err(Refusal::CountLimit);

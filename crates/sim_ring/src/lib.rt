@@ -1,5 +1,5 @@
-//! A ring of counters that hand tokens round: a small kind of sites, as an example for whoever brings
-//! sites of their own, and the world of such a ring, which may be run on one thread or in partitions.
+//! A ring of counters that send tokens round: a small kind of sites, as an example for those who
+//! bring sites of their own. The world of such a ring may be run on one thread or in partitions.
 #![tactic(auto)]
 
 mod counter;

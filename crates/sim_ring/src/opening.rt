@@ -33,10 +33,14 @@ fn open_counter(alloc: Global, counters: u32, apart: u32, number: u32) -> Result
     })
 }
 
-/// The world of a ring of so many counters, numbered 0, 1, 2, .., to be run to a horizon, all times in
-/// milliseconds. Each hands tokens on to the one behind it, the last to the first, and they are so far
-/// apart. A token reaches each of them at the beginning, as if it had sent that to itself. What it
-/// answers may be run on one thread or in partitions. The one error is `Memory`.
+/// The world of a ring of `counters` counters, numbered 0, 1, 2, .., to be run to a horizon, all
+/// times in milliseconds. Each sends tokens on to the next one, the last to the first, and a token
+/// takes `apart` to get there. At the beginning a token reaches each counter, as if the counter had
+/// sent it to itself. The result may be run on one thread or in partitions.
+///
+/// # Errors
+///
+/// `Memory` if memory runs out.
 pub fn open_ring(
     alloc: Global,
     counters: u32,
@@ -50,7 +54,8 @@ pub fn open_ring(
     ensures setting { IfOk result (λ world. world ≡ ring_setting counters apart horizon) }
     ensures simulated { IfOk result (λ world. IsSimulated ring ring_conditions world) }
     ensures horizon { IfOk result (λ world. world.horizon ≤ most_count) }
-    ensures ways { IfOk result (λ world. All (λ e. (1 ≤ e.least) × (e.least ≤ 900000)) world.edges) }
+    ensures ways { IfOk result
+        (λ world. All (λ e. (1 ≤ e.least) × (e.least ≤ 900000)) world.edges) }
     ensures memory { IfErr result (λ refusal. refusal ≡ Refusal.Memory) }
 {
     let mut sites = Vec::new(alloc);

@@ -14,10 +14,10 @@ use Rattle.toml.specs.declared.value.Value.{Value}
 use Rattle.sim_clock.specs.declared.refusal.Refusal.{Refusal}
 use Rattle.sim_clock.specs.declared.refusal.Refusal.TheVariants.{NotToml, TooMany}
 use Rattle.sqs_formats.specs.declared.faults.ScenarioFault.{ScenarioFault}
-use Rattle.sqs_formats.specs.Reading.{answer}
 use Rattle.sqs_formats.specs.Keys.{fault_at}
+use Rattle.sqs_formats.specs.Reading.{and_then, needs}
 use Rattle.sqs_formats.specs.Actors.{Files}
-use Rattle.sqs_formats.specs.Scenario.{actors_in, document, document_reads, document_when, is_small, names_when, scenario_in, scenario_of, scenario_when, script_name, script_names}
+use Rattle.sqs_formats.specs.Scenario.{actors_in, document, document_when, is_small, names_when, scenario_in, scenario_of, script_name, script_names}
 use Rattle.sqs_model.specs.Scenario.{Scenario}
 use Rattle.sim_scenario.specs.Drafts.{IsDraftOf, draft_of}
 use Rattle.sim_scenario.specs.declared.draft.Draft.{Draft}
@@ -39,14 +39,17 @@ no_draft text h n =
 
 -- the scenario of a draft with its script files, or its first fault
 abbrev drafted : Files → Result Members Refusal → Result Scenario ScenarioFault
-drafted files (Ok ms) = answer (scenario_in files ms)
+drafted files (Ok ms) = scenario_in files ms
 drafted files (Err refusal) = Err (fault_at refusal [])
 
-reads_drafted : (files : Files) (o : Option Members) → document_reads files o ≡ drafted files (ok_or o NotToml)
+reads_drafted : (files : Files) (o : Option Members) → and_then (ok_or o (fault_at NotToml [])) (scenario_in files) ≡ drafted files (ok_or o NotToml)
+unfolding and_then
 reads_drafted files None = refl
 reads_drafted files (Some ms) = refl
 
-sized : (b : Bool) (files : Files) (text : List ℕ) → scenario_when b files text ≡ drafted files (if b then ok_or (document text) NotToml else Err TooMany)
+sized : (b : Bool) (files : Files) (text : List ℕ)
+    → and_then (needs b (fault_at TooMany []) text) (λ small. and_then (ok_or (document text) (fault_at NotToml [])) (scenario_in files)) ≡ drafted files (if b then ok_or (document text) NotToml else Err TooMany)
+unfolding and_then
 sized true files text = reads_drafted files (document text)
 sized false files text = refl
 
@@ -55,7 +58,7 @@ unfolding scenario_of
 scenario_of_draft files text = sized (is_small text) files text
 
 pub scenario_of_table : (files : Files) (text : List ℕ) (draft : Draft) (table : BTreeMap (String Global) Value) → IsDraftOf text draft → draft.table ≡ Ok table
-    → scenario_of files text ≡ answer (scenario_in files (table_view table))
+    → scenario_of files text ≡ scenario_in files (table_view table)
 scenario_of_table files text draft table of is = rw (scenario_of_draft files text, ← of, is) refl
 
 pub scenario_refused : (files : Files) (text : List ℕ) (draft : Draft) (refusal : Refusal) → IsDraftOf text draft → draft.table ≡ Err refusal

@@ -1,18 +1,17 @@
 -- The home of a move task is the dead-letter queue of some queue.
-use Rattle.std.proofs.Common.{◌≡◌, ◌∙◌, ℕ, zero, ◌+◌, ◌||◌, Bool, true, false, codes, List, [], ◌∷◌, ◌++◌, Option, Some, None, Ok, refl, sym, ap, arith}
+use Rattle.std.proofs.Common.{◌≡◌, ◌∙◌, ℕ, zero, ◌+◌, ◌||◌, Bool, true, false, codes, List, [], ◌∷◌, Option, Some, None, Ok, refl, sym, ap, arith}
 use Rattle.std.specs.Prelude.{All, Contains, get_or, map, unwrap_or, ◌≢◌}
 use Rattle.std.specs.Str.{bytes_eq}
 use Rattle.std.proofs.lemmas.Bool.{true≢false}
 use Rattle.std.proofs.lemmas.List.Elements.{All-map}
 use Rattle.std.proofs.lemmas.List.Quantifiers.{position-Some}
 use Rattle.std.proofs.lemmas.Slice.Eq.{bytes_eq-Decides}
-use Rattle.toml.specs.Data.{Data, Members, as_table, get_member}
+use Rattle.toml.specs.Data.{Data, as_table}
 use Rattle.sqs_redrive.specs.declared.settings.Policy.{Policy}
 use Rattle.sqs_redrive.specs.declared.settings.QueueSettings.{QueueSettings}
 use Rattle.sqs_redrive.specs.declared.settings.TaskSettings.{TaskSettings}
 use Rattle.sqs_model.specs.declared.agents.ActorSettings.{ActorSettings}
-use Rattle.sqs_formats.specs.Reading.{answer, reads}
-use Rattle.sqs_formats.specs.Keys.{Table, at, each, is_among, is_there, item_place, item_when, members_or_none, text_in, text_when}
+use Rattle.sqs_formats.specs.Keys.{Table, at, each, is_among, is_there, item_place, item_table, text_in, text_when}
 use Rattle.sqs_formats.specs.Names.{is_queue_name}
 use Rattle.sqs_formats.specs.Outline.{Outline, place_among, queue_number}
 use Rattle.sqs_formats.specs.Queues.{policy, queue}
@@ -20,55 +19,55 @@ use Rattle.sqs_formats.specs.Actors.{Files}
 use Rattle.sqs_formats.specs.Tasks.{task}
 use Rattle.sqs_formats.specs.Scenario.{Top}
 use Rattle.sim_scenario.specs.Kinds.{TasksDrain, dead_letter_of}
-use Rattle.sim_scenario.specs.TopWalks.{whole}
-use Rattle.sim_scenario.proofs.ItemsRead.{each_named, text_read}
-use Rattle.sim_scenario.proofs.Listing.{contains_next}
-use Rattle.sim_scenario.proofs.KinRead.{queue_says, task_says}
+use Rattle.sqs_formats.specs.Scenario.{whole}
+use Rattle.sim_scenario.proofs.ItemsRead.{each_named, item_text}
+use Rattle.sim_script.proofs.Listing.{contains_next}
+use Rattle.sim_scenario.proofs.KinRead.{led_to, queue_says, task_says}
 use Rattle.sim_scenario.proofs.QueueRanges.{each_holds}
-use Rattle.sim_scenario.proofs.Sound.{is_read, parts}
+use Rattle.sqs_formats.proofs.Readings.{parts, same_ok}
 use Rattle.sim_scenario.proofs.WholeKin.{AreRead}
 
 -- a policy leads to the queue of the text that is given
 led_by : (o : Outline) (home : ℕ) (s : List ℕ) (x : Option Data) (t : Table) (p : Option Policy) → queue_number o s ≡ Some home → s ≢ [] → bytes_eq (text_when x) s ≡ true
-    → at t (codes "dead_letter") ≡ x → answer (policy o (is_there x) t) ≡ Ok p → dead_letter_of p ≡ Some home
+    → at t (codes "dead_letter") ≡ x → policy o (is_there x) t ≡ Ok p → dead_letter_of p ≡ Some home
+unfolding policy
 led_by o home s None t p found some same is e = absurd (some (sym ((bytes_eq-Decides [] s).0 same)))
 led_by o home s (Some d) t p found some same is e =
-    let name = parts _ _ _ e in
-    let most = parts _ _ _ name.2 in
+    let letter = parts _ _ _ e in
+    let most = parts _ _ _ letter.2 in
     let within = parts _ _ _ most.2 in
-    let text = is_read _ _ (text_read [] (λ place s. reads s) t (codes "dead_letter") name.0 name.1) in
-    let given : s ≡ name.0 = sym ((bytes_eq-Decides (text_when (Some d)) s).0 same) ∙ ap text_when (sym is) ∙ text in
-    let led : unwrap_or (queue_number o name.0) 0 ≡ home = rw (← given, found) refl in
-    rw (← is_read _ _ within.2) (ap (λ (n : ℕ). Some n) led)
+    let given : text_when (Some d) ≡ s = (bytes_eq-Decides (text_when (Some d)) s).0 same in
+    let led : letter.0 ≡ home = sym (led_to o t (Some d) letter.0 is letter.1) ∙ ap (λ (s : List ℕ). unwrap_or (queue_number o s) 0) given ∙ ap (λ (m : Option ℕ). unwrap_or m 0) found in
+    rw (← same_ok _ _ within.2) (ap (λ (n : ℕ). Some n) led)
 
-item_led : (o : Outline) (home n : ℕ) (s place : List ℕ) (x : Option Members) (q : List ℕ × QueueSettings) → queue_number o s ≡ Some home → s ≢ []
-    → bytes_eq (text_when (get_member (codes "dead_letter") (members_or_none x))) s ≡ true → answer (item_when place (queue o n) x) ≡ Ok q → dead_letter_of q.1.policy ≡ Some home
-unfolding answer
-item_led o home n s place None q found some same e = cc e
-item_led o home n s place (Some ms) q found some same e =
-    let t : Table = record { prefix = place ++ codes "."; members = ms } in
-    led_by o home s (at t (codes "dead_letter")) t q.1.policy found some same refl (queue_says o n t q e).policy
+item_led : (o : Outline) (home n : ℕ) (s place : List ℕ) (d : Data) (t : Table) (q : List ℕ × QueueSettings) → queue_number o s ≡ Some home → s ≢ []
+    → bytes_eq (text_in (codes "dead_letter") d) s ≡ true → item_table place (as_table d) ≡ Ok t → queue o n t ≡ Ok q → dead_letter_of q.1.policy ≡ Some home
+item_led o home n s place d t q found some same table e =
+    let text = item_text (codes "dead_letter") place d t table in
+    led_by o home s (at t (codes "dead_letter")) t q.1.policy found some (rw text same) refl (queue_says o n t q e).policy
 
 -- it is found among those of the queues
 either : (b c : Bool) → (b || c) ≡ true → b ≡ false → c ≡ true
 either true c e k = cc k
 either false c e k = e
 
-leads_by : (b : Bool) (o : Outline) (home n : ℕ) (s : List ℕ) (d : Data) (ds : List Data) (q : List ℕ × QueueSettings) (qs : List (List ℕ × QueueSettings)) → bytes_eq (text_in (codes "dead_letter") d) s ≡ b
-    → queue_number o s ≡ Some home → s ≢ [] → answer (item_when (item_place (codes "queue") n) (queue o n) (as_table d)) ≡ Ok q
+leads_by : (b : Bool) (o : Outline) (home n : ℕ) (s place : List ℕ) (d : Data) (ds : List Data) (t : Table) (q : List ℕ × QueueSettings) (qs : List (List ℕ × QueueSettings))
+    → bytes_eq (text_in (codes "dead_letter") d) s ≡ b → queue_number o s ≡ Some home → s ≢ [] → item_table place (as_table d) ≡ Ok t → queue o n t ≡ Ok q
     → (is_among (map (text_in (codes "dead_letter")) ds) s ≡ true → Contains (map (λ q. dead_letter_of q.policy) (map (λ q. q.1) qs)) (Some home))
     → is_among (map (text_in (codes "dead_letter")) (d ∷ ds)) s ≡ true → Contains (map (λ q. dead_letter_of q.policy) (map (λ q. q.1) (q ∷ qs))) (Some home)
-leads_by true o home n s d ds q qs is found some here more among = (zero, omega arith, item_led o home n s (item_place (codes "queue") n) (as_table d) q found some is here)
-leads_by false o home n s d ds q qs is found some here more among =
+leads_by true o home n s place d ds t q qs is found some table here more among = (zero, omega arith, item_led o home n s place d t q found some is table here)
+leads_by false o home n s place d ds t q qs is found some table here more among =
     contains_next (Some home) (dead_letter_of q.1.policy) (map (λ q. dead_letter_of q.policy) (map (λ q. q.1) qs)) (more (either _ _ among is))
 
-leads_among : (o : Outline) (home n : ℕ) (s : List ℕ) (ds : List Data) (qs : List (List ℕ × QueueSettings)) → queue_number o s ≡ Some home → s ≢ [] → answer (each (codes "queue") (queue o) n ds) ≡ Ok qs
+leads_among : (o : Outline) (home n : ℕ) (s : List ℕ) (ds : List Data) (qs : List (List ℕ × QueueSettings)) → queue_number o s ≡ Some home → s ≢ [] → each (codes "queue") (queue o) n ds ≡ Ok qs
     → is_among (map (text_in (codes "dead_letter")) ds) s ≡ true → Contains (map (λ q. dead_letter_of q.policy) (map (λ q. q.1) qs)) (Some home)
 leads_among o home n s [] qs found some e among = cc among
 leads_among o home n s (d ∷ ds) qs found some e among =
-    let q = parts _ _ _ e in
+    let t = parts _ _ _ e in
+    let q = parts _ _ _ t.2 in
     let rest = parts _ _ _ q.2 in
-    rw (← is_read _ _ rest.2) (leads_by (bytes_eq (text_in (codes "dead_letter") d) s) o home n s d ds q.0 rest.0 refl found some q.1 (λ k. leads_among o home (n + 1) s ds rest.0 found some rest.1 k) among)
+    rw (← same_ok _ _ rest.2)
+    (leads_by (bytes_eq (text_in (codes "dead_letter") d) s) o home n s (item_place (codes "queue") n) d ds t.0 q.0 rest.0 refl found some t.1 q.1 (λ k. leads_among o home (n + 1) s ds rest.0 found some rest.1 k) among)
 
 -- no queue has an empty name
 named_some : (names : List (List ℕ)) (s : List ℕ) (n : ℕ) → All (λ name. is_queue_name name ≡ true) names → place_among names s ≡ Some n → s ≢ []

@@ -6,7 +6,7 @@ use Rattle.std.proofs.Math.ListN.{drop_of_length-le}
 use Rattle.std.specs.List.{enumerate_from, zip}
 use Rattle.std.specs.Str.{bytes_eq}
 use Rattle.sqs_formats.specs.declared.home.HomeTask.{HomeTask}
-use Rattle.sim_scenario.specs.ActorWalks.{tasks_at}
+use Rattle.sqs_formats.specs.Actors.{tasks_at}
 
 -- the tasks from a place on
 abbrev pub Behind : List ℕ → ℕ → ℕ → List (List ℕ) → List (List ℕ) → List HomeTask

@@ -17,7 +17,7 @@ use Rattle.sqs_formats.specs.Outline.{Outline}
 use Rattle.sqs_formats.specs.Queues.{queue}
 use Rattle.sqs_formats.specs.Actors.{Files, actor}
 use Rattle.sqs_formats.specs.Tasks.{task}
-use Rattle.sqs_formats.specs.Scenario.{Top}
+use Rattle.sqs_formats.specs.Scenario.{Top, whole}
 use Rattle.std.proofs.lemmas.List.{length-map}
 use Rattle.sim_scenario.specs.Ranges.{ForwardsWithin, IsInRange, IsLinked, IsRoleInRange, RoleWithin}
 use Rattle.sim_scenario.proofs.Links.{below, each_length}
@@ -28,7 +28,7 @@ use Rattle.sim_scenario.proofs.Drained.{whole_drains}
 use Rattle.sim_scenario.proofs.WholeNames.{whole_named}
 use Rattle.sim_scenario.proofs.WholeHomes.{whole_fits}
 use Rattle.sim_scenario.proofs.WholeKin.{AreRead, whole_names_kin}
-use Rattle.sim_scenario.specs.TopWalks.{IsTop, whole}
+use Rattle.sim_scenario.specs.Tops.{IsTop}
 
 -- what is in range is sound
 policy_sound : (p : Option Policy) → MayBePolicy p → IsSoundPolicy p

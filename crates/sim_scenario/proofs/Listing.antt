@@ -1,6 +1,5 @@
 -- Lists, part by part.
-use Rattle.std.proofs.Common.{◌≡◌, ℕ, suc, ◌+◌, List, ◌∷◌, ◌++◌, append_assoc, drop, length, take, arith, ◌∙◌}
-use Rattle.std.specs.Prelude.{Contains}
+use Rattle.std.proofs.Common.{◌≡◌, ℕ, ◌+◌, List, ◌++◌, append_assoc, drop, length, take, ◌∙◌}
 use Rattle.std.proofs.lemmas.List.{take-append-drop, drop-drop}
 use Rattle.std.proofs.Math.Seq.{drop-append_seam, take-append_seam}
 
@@ -23,7 +22,3 @@ made_of_parts n m xs firsts nexts lasts is long wide =
       middle = rw (rest, ← wide) (take-append_seam nexts lasts);
       back = rw (← drop-drop m n xs, rest, ← wide) (drop-append_seam nexts lasts);
     }
-
--- what is among the later ones is among all
-pub contains_next : {X : Type 0} (x y : X) (xs : List X) → Contains xs x → Contains (y ∷ xs) x
-contains_next x y xs h = (suc h.0, omega (arith, h.1), h.2)

@@ -1,22 +1,16 @@
 -- The keys of a table, in their order.
-use Rattle.std.proofs.Common.{◌≡◌, ℕ, Bool, true, false, Bor, List, [], ◌∷◌, map, filter, flat_map, not, String, Global, string_bytes, refl, ap, sym, ◌∙◌, ◌||◌, ◌++◌, Err}
+use Rattle.std.proofs.Common.{◌≡◌, ℕ, Bool, true, false, Bor, List, [], ◌∷◌, map, filter, flat_map, not, String, Global, string_bytes, refl, ap, sym, ◌∙◌, ◌||◌}
 use Rattle.std.specs.List.{list_any}
 use Rattle.std.proofs.lemmas.List.Folds.{list_any-append}
 use Rattle.std.specs.Map.{keys_of}
 use Rattle.std.specs.Str.{bytes_eq}
 use Rattle.toml.specs.View.{members_view}
 use Rattle.toml.specs.declared.value.Value.{Value}
-use Rattle.sim_clock.specs.declared.refusal.Refusal.TheVariants.{UnknownKey}
-use Rattle.sqs_formats.specs.declared.faults.ScenarioFault.{ScenarioFault}
-use Rattle.sqs_formats.specs.Reading.{first}
-use Rattle.sqs_formats.specs.Keys.{fault_at, is_among, keys_in}
-use Rattle.sim_scenario.specs.Gives.{Names, Fails}
-use Rattle.sim_scenario.specs.declared.fault.ReadError.{ReadError}
-use Rattle.sim_scenario.specs.declared.fault.ReadError.TheVariants as errors
+use Rattle.sqs_formats.specs.Keys.{is_among, keys_in}
 
--- the faults of keys that a table should not have
-abbrev pub unknown_faults : List ℕ → List (List ℕ) → List (List ℕ) → List ScenarioFault
-unknown_faults place known keys = map (λ key. fault_at UnknownKey (place ++ key)) (filter (λ key. not (is_among known key)) keys)
+-- the keys that are not among these
+abbrev pub unknown : List (List ℕ) → List (List ℕ) → List (List ℕ)
+unknown known keys = filter (λ key. not (is_among known key)) keys
 
 pub any-map : {X Y : Type 0} (p : Y → Bool) (f : X → Y) (xs : List X) → list_any p (map f xs) ≡ list_any (λ x. p (f x)) xs
 any-map p f [] = refl
@@ -44,15 +38,8 @@ pub known_here : (known : List (Bor (List (Bor (List ℕ))))) (key shown : List 
 known_here known key shown b c same test is = any-names (λ k. bytes_eq k key) known ∙ rw same at (sym test) ∙ is
 
 -- a key that is known, and one that is not
-pub step_known : (place : List ℕ) (known : List (List ℕ)) (key : List ℕ) (keys : List (List ℕ)) → is_among known key ≡ true
-    → unknown_faults place known (key ∷ keys) ≡ unknown_faults place known keys
-step_known place known key keys e = rw e
+pub step_known : (known : List (List ℕ)) (key : List ℕ) (keys : List (List ℕ)) → is_among known key ≡ true → unknown known (key ∷ keys) ≡ unknown known keys
+step_known known key keys e = rw e
 
-pub step_unknown : (place : List ℕ) (known : List (List ℕ)) (key : List ℕ) (keys : List (List ℕ)) → is_among known key ≡ false
-    → unknown_faults place known (key ∷ keys) ≡ fault_at UnknownKey (place ++ key) ∷ unknown_faults place known keys
-step_unknown place known key keys e = rw e
-
--- an error that is named is the first fault
-pub named_fails : {Y : Type 0} (e : ReadError) (f : ScenarioFault) (fs : List ScenarioFault) (y : Y) → Names e f → Fails e (first (f ∷ fs) y)
-named_fails errors.Memory f fs y h = tt
-named_fails (errors.Fault g) f fs y h = ap Err (sym h)
+pub step_unknown : (known : List (List ℕ)) (key : List ℕ) (keys : List (List ℕ)) → is_among known key ≡ false → unknown known (key ∷ keys) ≡ key ∷ unknown known keys
+step_unknown known key keys e = rw e

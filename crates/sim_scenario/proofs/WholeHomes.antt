@@ -12,16 +12,16 @@ use Rattle.sqs_model.specs.declared.agents.ActorSettings.{ActorSettings}
 use Rattle.sqs_model.specs.declared.agents.Role.{Role}
 use Rattle.sqs_model.specs.declared.agents.Role.TheVariants.{Consumer, Producer, Script}
 use Rattle.sqs_model.specs.Scenario.{Scenario}
-use Rattle.sqs_formats.specs.Reading.{answer}
 use Rattle.sqs_formats.specs.Keys.{at, each, text_in, text_when}
 use Rattle.sqs_formats.specs.Outline.{Outline, kind_at, queue_number, queue_text}
 use Rattle.sqs_formats.specs.Queues.{queue}
 use Rattle.sqs_formats.specs.Actors.{Files, actor, home_of}
 use Rattle.sqs_formats.specs.Tasks.{task}
 use Rattle.sqs_formats.specs.Scenario.{Top}
-use Rattle.sim_scenario.specs.AtHome.{FitsHome, IsCallAt, IsSendingAt, tasks_of}
+use Rattle.sim_script.specs.Ranges.{IsCallAt}
+use Rattle.sim_scenario.specs.AtHome.{FitsHome, IsSendingAt, tasks_of}
 use Rattle.sim_scenario.specs.Kinds.{is_fifo_queue}
-use Rattle.sim_scenario.specs.TopWalks.{whole}
+use Rattle.sqs_formats.specs.Scenario.{whole}
 use Rattle.sim_scenario.proofs.ActorsRead.{RoleSays, actor_says}
 use Rattle.sim_scenario.proofs.Links.{each_length}
 use Rattle.sim_scenario.proofs.QueueRanges.{each_holds}
@@ -29,7 +29,7 @@ use Rattle.sim_scenario.proofs.TasksThere.{by_home, by_text, tasks_there}
 use Rattle.sim_scenario.proofs.WholeKin.{AreRead, whole_kinds}
 
 -- the tasks that an outline has at a home
-numbers_are : (o : Outline) (home m : ℕ) (name : List ℕ) (ds : List Data) (xs : List (List ℕ × TaskSettings)) → queue_number o name ≡ Some home → answer (each (codes "task") (task o) 0 ds) ≡ Ok xs
+numbers_are : (o : Outline) (home m : ℕ) (name : List ℕ) (ds : List Data) (xs : List (List ℕ × TaskSettings)) → queue_number o name ≡ Some home → each (codes "task") (task o) 0 ds ≡ Ok xs
     → o.tasks ≡ map (text_in (codes "name")) ds → o.task_homes ≡ map (text_in (codes "queue")) ds → m ≡ length o.queues + length o.actors
     → map (λ t. t.number) (home_of o home).tasks ≡ by_home home (enumerate_from m (map (λ x. x.1) xs))
 numbers_are o home m name ds xs here e names homes count =

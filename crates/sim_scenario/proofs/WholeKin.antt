@@ -10,7 +10,6 @@ use Rattle.sqs_model.specs.declared.agents.Forwarding.{Forwarding}
 use Rattle.sqs_model.specs.declared.agents.Role.{Role}
 use Rattle.sqs_model.specs.declared.agents.Role.TheVariants.{Consumer, Producer, Script}
 use Rattle.sqs_model.specs.Scenario.{Scenario}
-use Rattle.sqs_formats.specs.Reading.{answer}
 use Rattle.sqs_formats.specs.Keys.{each}
 use Rattle.sqs_formats.specs.Names.{is_fifo}
 use Rattle.sqs_formats.specs.Outline.{Outline, kind_at, outline_of}
@@ -19,7 +18,7 @@ use Rattle.sqs_formats.specs.Actors.{Files, actor}
 use Rattle.sqs_formats.specs.Tasks.{task}
 use Rattle.sqs_formats.specs.Scenario.{Top}
 use Rattle.sim_scenario.specs.Kinds.{ForwardsToKin, MayBeOtherKin, NamesKin, RoleNamesKin, dead_letter_of, is_fifo_queue}
-use Rattle.sim_scenario.specs.TopWalks.{whole}
+use Rattle.sqs_formats.specs.Scenario.{whole}
 use Rattle.sim_scenario.proofs.ItemsRead.{each_both, each_named}
 use Rattle.sim_scenario.proofs.KinRead.{IsOfNamedKind, IsOtherKin, kinds_are, queue_kin, queue_says, task_says}
 use Rattle.sim_scenario.proofs.ActorsRead.{ForwardKin, RoleSays, actor_says}
@@ -28,10 +27,10 @@ use Rattle.sim_scenario.proofs.QueueRanges.{each_holds}
 -- the agents of a text were read with its outline
 pub record AreRead (files : Files) (top : Top) (o : Outline) (queues : List (List ℕ × QueueSettings)) (judged : List (Option ℕ)) (actors : List (List ℕ × ActorSettings)) (tasks : List (List ℕ × TaskSettings)) : Type 0 where
   pub outlined : o ≡ outline_of top.version top.queues top.actors top.tasks
-  pub queues_are : answer (each (codes "queue") (queue o) 0 top.queues) ≡ Ok queues
-  pub judged_are : answer (each (codes "queue") (dead_letter o) 0 top.queues) ≡ Ok judged
-  pub actors_are : answer (each (codes "actor") (actor files o) 0 top.actors) ≡ Ok actors
-  pub tasks_are : answer (each (codes "task") (task o) 0 top.tasks) ≡ Ok tasks
+  pub queues_are : each (codes "queue") (queue o) 0 top.queues ≡ Ok queues
+  pub judged_are : each (codes "queue") (dead_letter o) 0 top.queues ≡ Ok judged
+  pub actors_are : each (codes "actor") (actor files o) 0 top.actors ≡ Ok actors
+  pub tasks_are : each (codes "task") (task o) 0 top.tasks ≡ Ok tasks
 
 -- a scenario's queues are of the kinds that the outline has
 abbrev pub AreOfKinds : Outline → Scenario → Type 0

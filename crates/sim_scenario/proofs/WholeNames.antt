@@ -13,7 +13,7 @@ use Rattle.sqs_formats.specs.Actors.{Files, actor}
 use Rattle.sqs_formats.specs.Tasks.{task}
 use Rattle.sqs_formats.specs.Scenario.{Top}
 use Rattle.sim_scenario.specs.Naming.{AreNamed, IsNameOf}
-use Rattle.sim_scenario.specs.TopWalks.{whole}
+use Rattle.sqs_formats.specs.Scenario.{whole}
 use Rattle.sim_scenario.proofs.ItemsRead.{each_named, each_numbered}
 use Rattle.sim_scenario.proofs.KinRead.{queue_says, task_says}
 use Rattle.sim_scenario.proofs.ActorsRead.{actor_says}

@@ -1,13 +1,12 @@
 -- What an actor does at its home.
-use Rattle.std.specs.Prelude.{All, Bool, Contains, List, None, Option, Some, false, filter, map, true, ℕ, ◌==◌, ◌≡◌, ◌≤◌}
-use Rattle.sqs_message.specs.declared.calls.Call.{Call}
-use Rattle.sqs_message.specs.declared.calls.Call.TheVariants.{Cancel, Change, Delete, Receive, Send, Start}
+use Rattle.std.specs.Prelude.{All, Bool, List, None, Option, Some, false, filter, map, true, ℕ, ◌==◌, ◌≡◌, ◌≤◌}
 use Rattle.sqs_model.specs.declared.agents.ProducerSettings.{ProducerSettings}
 use Rattle.sqs_model.specs.declared.agents.Role.{Role}
 use Rattle.sqs_model.specs.declared.agents.Role.TheVariants.{Consumer, Producer, Script}
 use Rattle.sqs_model.specs.Longest.{longest_delay}
 use Rattle.sqs_model.specs.Scenario.{Scenario, numbered_tasks}
 use Rattle.sqs_model.specs.Valid.{Between}
+use Rattle.sim_script.specs.Ranges.{IsCallAt}
 use Rattle.sim_scenario.specs.Kinds.{is_fifo_queue}
 
 -- 1 to 1,000 groups
@@ -24,20 +23,6 @@ MayDelay (Some seconds) = seconds ≤ longest_delay
 abbrev pub IsSendingAt : Bool → ProducerSettings → Type 0
 IsSendingAt true p = HasGroups p.groups × (p.delay ≡ None)
 IsSendingAt false p = (p.groups ≡ None) × (p.ids ≡ false) × MayDelay p.delay
-
--- a send at a standard home has no group and no id
-abbrev pub IsGroupedAt : Bool → Option (List ℕ) → Option (List ℕ) → Type 0
-IsGroupedAt true group id = Unit {0}
-IsGroupedAt false group id = (group ≡ None) × (id ≡ None)
-
--- a call at a home of a kind, which names no move task but those of the home
-abbrev pub IsCallAt : Bool → List ℕ → Call → Type 0
-IsCallAt fifo tasks (Send body delay group id) = IsGroupedAt fifo group id
-IsCallAt fifo tasks (Receive max wait timeout) = Unit {0}
-IsCallAt fifo tasks (Delete receipt) = Unit {0}
-IsCallAt fifo tasks (Change receipt timeout) = Unit {0}
-IsCallAt fifo tasks (Start task) = Contains tasks task
-IsCallAt fifo tasks (Cancel task) = Contains tasks task
 
 -- the numbers of the move tasks that take from a queue
 abbrev pub tasks_of : Scenario → ℕ → List ℕ

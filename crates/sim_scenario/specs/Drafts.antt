@@ -12,6 +12,6 @@ use Rattle.sim_scenario.specs.declared.draft.Draft.{Draft}
 abbrev pub draft_of : List ℕ → Result Members Refusal
 draft_of text = if is_small text then ok_or (document text) NotToml else Err TooMany
 
--- whether a draft is that of a text: it has the document's table, or that refusal
+-- whether a draft is that of a text: it has the document's table, or that error
 abbrev pub IsDraftOf : List ℕ → Draft → Type 0
 IsDraftOf text draft = result_map_both table_view (λ refusal. refusal) draft.table ≡ draft_of text

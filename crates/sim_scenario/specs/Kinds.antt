@@ -43,7 +43,8 @@ RoleNamesKin s home (Script calls) = Unit {0}
 RoleNamesKin s home (Producer p) = Unit {0}
 RoleNamesKin s home (Consumer c) = ForwardsToKin s home c.forward
 
--- messages stay among queues of one kind: a queue's dead letters and what a task moves go to another queue of the kind, and a consumer forwards to a queue of the kind
+-- messages stay among queues of one kind: the dead-letter queue of a queue, the queue to which a task moves and the
+-- queue to which a consumer forwards are other queues of the same kind
 pub record NamesKin (s : Scenario) : Type 0 where
   pub policies : All (λ x. MayBeOtherKin s x.0 (dead_letter_of x.1.policy)) (enumerate_from 0 s.queues)
   pub forwards : All (λ a. RoleNamesKin s a.home a.role) s.actors

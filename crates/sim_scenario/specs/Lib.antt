@@ -1,10 +1,7 @@
 pub mod Place
 pub mod Gives
-pub mod Walk
-pub mod Walks
-pub mod ScriptGives
-pub mod ActorWalks
-pub mod TopWalks
+pub mod Tops
+pub mod Sections
 pub mod Kinds
 pub mod AtHome
 pub mod Naming

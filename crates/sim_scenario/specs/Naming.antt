@@ -6,7 +6,7 @@ use Rattle.sqs_model.specs.Scenario.{Scenario}
 use Rattle.sqs_redrive.specs.declared.settings.QueueSettings.{QueueSettings}
 use Rattle.sim_scenario.specs.Kinds.{is_fifo_kind}
 
--- a queue's name is well-formed, and ends in `.fifo` exactly where the queue is FIFO
+-- a queue's name is well-formed, and ends in `.fifo` exactly if the queue is FIFO
 pub record IsNameOf (q : QueueSettings) (name : List ℕ) : Type 0 where
   pub form : is_queue_name name ≡ true
   pub suffix : is_fifo name ≡ is_fifo_kind q.kind

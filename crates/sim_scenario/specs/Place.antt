@@ -1,4 +1,4 @@
--- What stands before a key in its place.
+-- The text before a key in its place.
 use Rattle.std.specs.Prelude.{ℕ, ◌++◌, codes, List, [], Option, Some, None}
 use Rattle.std.specs.Borrow.{Bor}
 use Rattle.sqs_formats.specs.Keys.{item_place}

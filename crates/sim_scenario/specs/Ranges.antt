@@ -1,22 +1,15 @@
 -- The ranges that a scenario keeps to which was read from a text.
-use Rattle.std.specs.Prelude.{All, List, None, Option, Some, ℕ, ◌+◌, ◌<◌, ◌≡◌, ◌≤◌, length}
-use Rattle.sqs_message.specs.declared.calls.ScriptCall.{ScriptCall}
-use Rattle.sqs_formats.specs.Script.{waits}
+use Rattle.std.specs.Prelude.{All, None, Option, Some, ℕ, ◌+◌, ◌<◌, ◌≡◌, ◌≤◌, length}
 use Rattle.sqs_model.specs.declared.agents.Forwarding.{Forwarding}
 use Rattle.sqs_model.specs.declared.agents.Role.{Role}
 use Rattle.sqs_model.specs.declared.agents.Role.TheVariants.{Consumer, Producer, Script}
-use Rattle.sqs_model.specs.Progress.{Ascends, IsSoundScenario}
+use Rattle.sqs_model.specs.Progress.{IsSoundScenario}
 use Rattle.sqs_model.specs.Scenario.{LeadsWithin, MayBeWithin, Scenario}
+use Rattle.sim_script.specs.Ranges.{IsScript}
 use Rattle.sim_scenario.specs.AtHome.{FitsHome}
 use Rattle.sim_scenario.specs.Kinds.{NamesKin, TasksDrain}
 use Rattle.sim_scenario.specs.Naming.{AreNamed}
 use Rattle.sqs_model.specs.Valid.{Between, IsConsumer, IsProducer, IsQueueSettings, IsTaskSettings}
-
--- at most 100,000 calls, each later than the one before it; a receive waits for at most 20 seconds
-pub record IsScript (calls : List ScriptCall) : Type 0 where
-  pub few : length calls ≤ 100000
-  pub ascending : Ascends (λ c. c.at) 0 calls
-  pub waiting : All (λ c. waits c.call ≤ 20) calls
 
 -- a role in range
 abbrev pub IsRoleInRange : Role → Type 0
@@ -24,7 +17,7 @@ IsRoleInRange (Script calls) = IsScript calls
 IsRoleInRange (Producer p) = IsProducer p
 IsRoleInRange (Consumer c) = IsConsumer c
 
--- the queue that a consumer forwards to, if there is one, is one of so many
+-- the queue to which a consumer forwards, if there is one, is among the queues
 abbrev pub ForwardsWithin : ℕ → Option Forwarding → Type 0
 ForwardsWithin queues None = Unit {0}
 ForwardsWithin queues (Some f) = f.to < queues

@@ -1,134 +1,106 @@
 //! The actors of a scenario's text.
-ghost use Rattle.std.specs.Prelude.{◌<◌, ◌≤◌, codes, length, map};
-ghost use Rattle.toml.specs.View.{table_view, view};
-ghost use Rattle.sqs_formats.specs.Reading.{answer};
-ghost use Rattle.sqs_formats.specs.Keys.{each, one_of, required};
-ghost use Rattle.sqs_formats.specs.Actors.{Unread, actor as the_actor, kinds_named};
-ghost use Rattle.sim_scenario.specs.Gives.{Gives, table as the_table};
-ghost use Rattle.sim_scenario.specs.Walks.{item_walk};
-ghost use Rattle.sim_scenario.specs.ActorWalks.{actor_walk, kind_view, role_by};
+ghost use Rattle.sqs_formats.specs.Actors.{role as the_role};
+ghost use Rattle.sim_scenario.specs.Gives.{Gives};
+ghost use Rattle.sim_scenario.specs.Sections.{table_of};
 
 use crate::consumers::consumer;
-use crate::fault::{ReadError, blame};
-use crate::items::item_table;
-use crate::keys::member;
-use crate::kin::queue_named;
+use crate::fault::ReadError;
+use crate::items::ItemType;
+use crate::key_type::KeyType;
+use crate::named::{AgentName, NamedQueue};
 use crate::outline::Outline;
-use crate::place::Place;
 use crate::producers::producer;
-use crate::queues::agent_name;
 use crate::scripted::{Scripts, scripted};
+use crate::section::Section;
 use sim_clock::Refusal;
+use sqs_formats::ActorKind;
 use sqs_message::Text;
 use sqs_model::{ActorSettings, Role};
-use std::alloc::Global;
-use toml::{Table, Value};
+use toml::Value;
 
-/// The kinds of actor.
-#[derive(Clone, Copy)]
-pub(crate) enum ActorKind {
-    Script,
-    Producer,
-    Consumer,
-}
+/// The name of a kind of actor.
+#[derive(Drop)]
+struct KindName;
 
-/// The kind of an actor.
-#[tactic(auto, unfolding(sqs_formats::specs::Reading::answer))]
-fn actor_kind(alloc: Global, table: &Table, place: &Place) -> Result<ActorKind, ReadError>
-    ensures { Gives kind_view result (answer (required (one_of Unread kinds_named) (the_table place.now (table_view table.now)) (codes "kind"))) }
-{
-    match member(table, "kind") {
-        None => Err(blame(alloc, Refusal::MissingKey, place, "kind")),
-        Some(value) => match value.as_str() {
-            None => Err(blame(alloc, Refusal::WrongType, place, "kind")),
-            Some(name) => {
-                if name == "script" {
-                    Ok(ActorKind::Script)
-                } else if name == "producer" {
-                    Ok(ActorKind::Producer)
-                } else if name == "consumer" {
-                    Ok(ActorKind::Consumer)
-                } else {
-                    Err(blame(alloc, Refusal::OutOfRange, place, "kind"))
-                }
-            }
-        },
+impl KeyType for KindName {
+    type Value = ActorKind;
+
+    ghost use Rattle.sqs_formats.specs.Actors.{kinds_named};
+    ghost use Rattle.sqs_formats.specs.Keys.{one_of};
+
+    ghost says = { λ k. one_of kinds_named };
+
+    #[tactic(auto, unfolding(sqs_formats::specs::Keys::one_of, sqs_formats::specs::Reading::and_then))]
+    fn read(
+        &self,
+        section: &Section<'_>,
+        value: &Value,
+        key: &str,
+    ) -> Result<ActorKind, ReadError> {
+        let name = section.text(value, key)?;
+        if name == "script" {
+            Ok(ActorKind::Script)
+        } else if name == "producer" {
+            Ok(ActorKind::Producer)
+        } else if name == "consumer" {
+            Ok(ActorKind::Consumer)
+        } else {
+            Err(section.blame(Refusal::OutOfRange, key))
+        }
     }
 }
 
 /// What an actor of a kind does.
 fn role(
-    alloc: Global,
     kind: ActorKind,
     scripts: &Scripts,
     outline: &Outline,
     home: u32,
-    table: &Table,
-    place: &Place,
+    section: &Section<'_>,
 ) -> Result<Role, ReadError>
-    ensures { Gives (λ r. r) result (role_by (kind_view kind) scripts.now outline.now home (the_table place.now (table_view table.now))) }
+    ensures { Gives (λ r. r) result
+        (the_role kind scripts.now outline.now home (table_of section.now)) }
 {
     match kind {
-        ActorKind::Script => scripted(alloc, scripts, outline, home, table, place),
-        ActorKind::Producer => producer(alloc, outline.is_fifo_at(home), table, place),
-        ActorKind::Consumer => consumer(alloc, outline, home, table, place),
+        ActorKind::Script => scripted(scripts, outline, home, section),
+        ActorKind::Producer => producer(outline.is_fifo_at(home), section),
+        ActorKind::Consumer => consumer(outline, home, section),
     }
 }
 
-/// An actor of a text: its name and its settings.
-#[tactic(auto, unfolding(crate::specs::ActorWalks::actor_walk, crate::specs::Walk::and_then))]
-fn actor(
-    alloc: Global,
-    scripts: &Scripts,
-    outline: &Outline,
-    index: usize,
-    table: &Table,
-    place: &Place,
-) -> Result<(Text, ActorSettings), ReadError>
-    requires { index < 11000 }
-    ensures { Gives (λ a. a) result (actor_walk scripts.now outline.now index (the_table place.now (table_view table.now))) }
-{
-    let number = outline.queue_count() + index;
-    let name = agent_name(alloc, outline, number, table, place)?;
-    let kind = actor_kind(alloc, table, place)?;
-    let home = queue_named(alloc, outline, table, place, "queue")?;
-    let role = role(alloc, kind, scripts, outline, home, table, place)?;
-    Ok((name, ActorSettings { home, role }))
+/// The actors of a text, each with its name.
+#[derive(Drop)]
+pub(crate) struct Actors<'o> {
+    pub(crate) scripts: &'o Scripts,
+    pub(crate) outline: &'o Outline,
 }
 
-/// The actor of an item.
-#[tactic(auto, unfolding(crate::specs::Walks::item_walk, crate::specs::Walk::and_then))]
-fn actor_item(
-    alloc: Global,
-    scripts: &Scripts,
-    outline: &Outline,
-    i: usize,
-    value: &Value,
-) -> Result<(Text, ActorSettings), ReadError>
-    requires { i < 11000 }
-    ensures { Gives (λ x. x) result (item_walk (codes "actor") (actor_walk scripts.now outline.now i) i (view value.now)) }
-{
-    let (table, place) = item_table(alloc, value, "actor", i)?;
-    actor(alloc, scripts, outline, i, table, &place)
-}
+impl ItemType for Actors<'_> {
+    type Item = (Text, ActorSettings);
 
-/// All actors of a text.
-pub(crate) fn actors(
-    alloc: Global,
-    scripts: &Scripts,
-    outline: &Outline,
-    values: &[Value],
-) -> Result<Vec<(Text, ActorSettings)>, ReadError>
-    requires { length values.now ≤ 11000 }
-    ensures { Gives (λ v. v.items) result (answer (each (codes "actor") (the_actor scripts.now outline.now) 0 (map view values.now))) }
-{
-    let mut actors = Vec::with_capacity(alloc, values.len())?;
-    for (i, value) in values.iter().enumerate() {
-        let item = match actor_item(alloc, scripts, outline, i, value) {
-            Ok(item) => item,
-            Err(e) => return Err(e),
-        };
-        actors.push(item)?;
+    ghost use Rattle.sqs_formats.specs.Actors.{actor};
+
+    ghost says = { λ a. actor a.scripts.now a.outline.now };
+
+    #[tactic(auto, unfolding(sqs_formats::specs::Actors::actor, sqs_formats::specs::Reading::and_then))]
+    fn read(
+        &self,
+        number: usize,
+        section: &Section<'_>,
+    ) -> Result<(Text, ActorSettings), ReadError> {
+        let outline = self.outline;
+        let number = outline.queue_count() + number;
+        let name = section.required(
+            "name",
+            &AgentName {
+                outline,
+                number,
+                is_queue: false,
+            },
+        )?;
+        let kind = section.required("kind", &KindName)?;
+        let home = section.required("queue", &NamedQueue { outline })?;
+        let role = role(kind, self.scripts, outline, home, section)?;
+        Ok((name, ActorSettings { home, role }))
     }
-    Ok(actors)
 }

@@ -1,4 +1,4 @@
-//! A scenario's text, parsed: what it says before its script files are known.
+//! A scenario's text, parsed, before its script files are known.
 ghost use Rattle.std.specs.Prelude.{◌≡◌, IfOk, List, ℕ};
 ghost use Rattle.sqs_formats.specs.Scenario.{scenario_of, script_names as the_script_names};
 ghost use Rattle.sim_scenario.specs.Drafts.{IsDraftOf};
@@ -16,16 +16,20 @@ use sqs_message::Text;
 use std::alloc::{AllocError, Global};
 use toml::Table;
 
-/// A scenario's text, parsed once: first for the names of its script files, then, with these, for the
-/// scenario. A text that is too long or no TOML has a draft too, whose fault `read` tells. Contracts
-/// say by `IsDraftOf` of which text it is the draft.
+/// A scenario's text, parsed once: first for the names of its script files, and then, with these
+/// files, for the scenario. A text that is too long or not TOML has a draft, too; `read` returns
+/// its fault. In contracts `IsDraftOf` says of which text it is the draft.
 #[derive(Drop)]
 pub struct Draft {
     table: Result<Table, Refusal>,
 }
 
 impl Draft {
-    /// The draft of a text. The one error is want of memory.
+    /// The draft of a text.
+    ///
+    /// # Errors
+    ///
+    /// `AllocError` if memory runs out.
     pub fn parse(alloc: Global, text: &[u8]) -> Result<Draft, AllocError>
         ensures { IfOk result (IsDraftOf text.now) }
     {
@@ -47,10 +51,15 @@ impl Draft {
         }
     }
 
-    /// The names of the script files that the actors of the text ask for, in their order; none where
-    /// the text is no document. The one error is want of memory.
+    /// The names of the script files that the actors of the text name, in their order; none if the
+    /// text is no TOML document.
+    ///
+    /// # Errors
+    ///
+    /// `AllocError` if memory runs out.
     pub fn script_names(&self, alloc: Global) -> Result<Vec<Text>, AllocError>
-        ensures { (text : List ℕ) → IsDraftOf text self.now → IfOk result (λ v. v.items ≡ the_script_names text) }
+        ensures { (text : List ℕ) → IsDraftOf text self.now
+            → IfOk result (λ v. v.items ≡ the_script_names text) }
     {
         match &self.table {
             Ok(table) => names_in(alloc, actor_items(table)),
@@ -58,13 +67,18 @@ impl Draft {
         }
     }
 
-    /// The scenario that the text states with its script files, or the first fault in it: `TooMany`
-    /// at no place where it has more than 16 MiB, `NotToml` where it is no document in UTF-8, else
-    /// the fault at the first place in the order of the walk. `Memory` tells that a growth was
-    /// refused. The draft is used up, so that its table is let go before the scenario is run.
+    /// The scenario that the text states with its script files. The draft is used up, so that its
+    /// table is dropped before the scenario is run.
+    ///
+    /// # Errors
+    ///
+    /// The first fault of the text. It is `TooMany` without a place if the text has more than 16
+    /// MiB, and `NotToml` if it is no TOML document in UTF-8. Else it is the fault at the first
+    /// place in the order of reading. `Memory` if a growth is refused.
     pub fn read(self, alloc: Global, scripts: &Scripts) -> Result<Scenario, ReadError>
         ensures range { IfOk result IsInRange }
-        ensures value { (text : List ℕ) → IsDraftOf text self → Gives (λ s. s) result (scenario_of scripts.now text) }
+        ensures value { (text : List ℕ) → IsDraftOf text self
+            → Gives (λ s. s) result (scenario_of scripts.now text) }
     {
         match self.table {
             Ok(table) => document(alloc, scripts, &table),
@@ -73,8 +87,8 @@ impl Draft {
     }
 }
 
-/// The scenario that a text in TOML states with its script files, or the first fault in it, as
-/// `Draft::read` tells them.
+/// The scenario that a text in TOML states with its script files. The errors are those of
+/// `Draft::read`.
 pub fn read(alloc: Global, text: &[u8], scripts: &Scripts) -> Result<Scenario, ReadError>
     ensures range { IfOk result IsInRange }
     ensures value { Gives (λ s. s) result (scenario_of scripts.now text.now) }

@@ -1,4 +1,4 @@
-//! What stops a reader.
+//! Why a reader stops.
 ghost use Rattle.std.specs.Prelude.{◌++◌, ◌≡◌};
 ghost use Rattle.sqs_formats.specs.Keys.{fault_at};
 ghost use Rattle.sim_scenario.specs.Gives.{Names};
@@ -35,7 +35,7 @@ impl<T: Drop> From<AllocFailed<T>> for ReadError {
     }
 }
 
-/// The fault at a key of a table, or want of memory.
+/// The fault at a key of a table, or out of memory.
 pub(crate) fn blame(alloc: Global, refusal: Refusal, place: &Place, key: &str) -> ReadError
     ensures { Names result (fault_at refusal (place.now ++ key.now)) }
 {

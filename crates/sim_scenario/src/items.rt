@@ -1,30 +1,49 @@
 //! The items of a list, each a table.
-ghost use Rattle.toml.specs.Data.{as_table};
-ghost use Rattle.toml.specs.View.{table_view, view};
-ghost use Rattle.sqs_formats.specs.Keys.{item_place};
-ghost use Rattle.sim_scenario.specs.Gives.{Gives, table as the_table};
-ghost use Rattle.sim_scenario.specs.Walks.{table_walk};
+ghost use Rattle.std.specs.Prelude.{◌≤◌, length, map};
+ghost use Rattle.toml.specs.View.{view};
+ghost use Rattle.sqs_formats.specs.Keys.{each};
+ghost use Rattle.sim_scenario.specs.Gives.{Gives};
+ghost use Rattle.sim_scenario.specs.Sections.{table_of};
 
-use crate::fault::{ReadError, blame};
-use crate::place::{Place, item_place};
-use sim_clock::Refusal;
+use crate::fault::ReadError;
+use crate::section::Section;
 use std::alloc::Global;
-use toml::{Table, Value};
+use toml::Value;
 
-/// The table that an item of a list is, and the place of its keys.
-pub(crate) fn item_table<'a>(
+/// What the items of a list are.
+pub(crate) trait ItemType {
+    ghost use Rattle.std.specs.Prelude.{ℕ, ◌<◌};
+    ghost use Rattle.sqs_formats.specs.Keys.{Says, Table};
+    ghost use Rattle.sim_scenario.specs.Gives.{Gives};
+    ghost use Rattle.sim_scenario.specs.Sections.{table_of};
+
+    /// What an item says.
+    type Item: Drop;
+
+    // What the definitions read in the item of a number.
+    ghost says: { Self → ℕ → Table → Says Self.Item };
+
+    /// Reads the item of a number.
+    fn read(&self, number: usize, section: &Section<'_>) -> Result<Self::Item, ReadError>
+        requires { number < 11000 }
+        ensures { Gives (λ x. x) result (says self.now number (table_of section.now)) };
+}
+
+/// Reads all items of a list.
+pub(crate) fn each<T: ItemType>(
     alloc: Global,
-    value: &'a Value,
     list: &'static str,
-    i: usize,
-) -> Result<(&'a Table, Place), ReadError>
-    ensures { Gives (λ p. the_table p.1 (table_view p.0.now)) result (table_walk (item_place list.now i) (as_table (view value.now))) }
+    values: &[Value],
+    of: &T,
+) -> Result<Vec<T::Item>, ReadError>
+    requires { length values.now ≤ 11000 }
+    ensures { Gives (λ v. v.items) result
+        (each list.now (T.says of.now) 0 (map view values.now)) }
 {
-    match value.as_table() {
-        Some(table) => Ok((table, Place::item(list, i))),
-        None => {
-            let item = item_place(alloc, list, i)?;
-            Err(blame(alloc, Refusal::WrongType, &Place::top(), item.as_str()))
-        }
+    let mut items = Vec::with_capacity(alloc, values.len())?;
+    for (i, value) in values.iter().enumerate() {
+        let section = Section::item(alloc, list, i, value)?;
+        items.push(of.read(i, &section)?)?;
     }
+    Ok(items)
 }

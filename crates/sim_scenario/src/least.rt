@@ -24,7 +24,7 @@ fn lowered(least: Option<u64>, latency: u64) -> Option<u64>
     }
 }
 
-/// The least so far, with the way to a dead-letter queue, if there is one.
+/// The least so far, together with the way to a dead-letter queue, if there is one.
 fn with_policy(least: Option<u64>, policy: Option<Policy>) -> Option<u64>
     ensures { (n : ℕ) → result ≡ lowest least (policy_edges n policy) }
 {
@@ -36,7 +36,8 @@ fn with_policy(least: Option<u64>, policy: Option<Policy>) -> Option<u64>
 
 /// The least latency of the ways to dead-letter queues.
 fn of_queues(queues: &[QueueSettings]) -> Option<u64>
-    ensures { result ≡ lowest None (flat_map (λ x. policy_edges x.0 x.1.policy) (enumerate_from 0 queues.now)) }
+    ensures { result
+        ≡ lowest None (flat_map (λ x. policy_edges x.0 x.1.policy) (enumerate_from 0 queues.now)) }
 {
     let mut least = None;
     for queue in queues {
@@ -45,7 +46,7 @@ fn of_queues(queues: &[QueueSettings]) -> Option<u64>
     least
 }
 
-/// The least so far, with the way of an actor's forwards, if it has one.
+/// The least so far, together with the way of an actor's forwards, if it has one.
 fn with_role(least: Option<u64>, role: &Role) -> Option<u64>
     ensures { (n : ℕ) → result ≡ lowest least (role_edges n role.now) }
 {
@@ -59,7 +60,7 @@ fn with_role(least: Option<u64>, role: &Role) -> Option<u64>
     }
 }
 
-/// The least so far, with the ways of forwards.
+/// The least so far, together with the ways of forwards.
 fn with_actors(before: Option<u64>, actors: &[ActorSettings]) -> Option<u64>
     ensures { result ≡ lowest before (flat_map (λ a. role_edges a.home a.role) actors.now) }
 {
@@ -70,7 +71,7 @@ fn with_actors(before: Option<u64>, actors: &[ActorSettings]) -> Option<u64>
     least
 }
 
-/// Whether a policy leads to a queue.
+/// Whether a redrive policy names a queue.
 pub(crate) fn leads_to(policy: Option<Policy>, queue: u32) -> bool
     ensures { result ≡ leads_to queue policy }
 {
@@ -80,16 +81,17 @@ pub(crate) fn leads_to(policy: Option<Policy>, queue: u32) -> bool
     }
 }
 
-/// Whether a queue is the dead-letter queue of any.
+/// Whether a queue is the dead-letter queue of any queue.
 fn is_led_to(queues: &[QueueSettings], queue: u32) -> bool
     ensures { result ≡ list_any (λ q. leads_to queue q.policy) queues.now }
 {
     queues.iter().any(|q| leads_to(q.policy, queue))
 }
 
-/// The least so far, with the ways of a move task.
+/// The least so far, together with the ways of a move task.
 fn with_task(least: Option<u64>, task: &TaskSettings, queues: &[QueueSettings]) -> Option<u64>
-    ensures { (s : TheScenario) → s.queues ≡ queues.now → result ≡ lowest least (task_edges s task.now) }
+    ensures { (s : TheScenario) → s.queues ≡ queues.now
+        → result ≡ lowest least (task_edges s task.now) }
 {
     match task.to {
         Some(_) => lowered(least, task.latency.least),
@@ -103,9 +105,10 @@ fn with_task(least: Option<u64>, task: &TaskSettings, queues: &[QueueSettings]) 
     }
 }
 
-/// The least so far, with the ways of move tasks.
+/// The least so far, together with the ways of move tasks.
 fn with_tasks(before: Option<u64>, tasks: &[TaskSettings], queues: &[QueueSettings]) -> Option<u64>
-    ensures { (s : TheScenario) → s.queues ≡ queues.now → result ≡ lowest before (flat_map (task_edges s) tasks.now) }
+    ensures { (s : TheScenario) → s.queues ≡ queues.now
+        → result ≡ lowest before (flat_map (task_edges s) tasks.now) }
 {
     let mut least = before;
     for task in tasks {
@@ -115,7 +118,7 @@ fn with_tasks(before: Option<u64>, tasks: &[TaskSettings], queues: &[QueueSettin
 }
 
 /// The least time that a transfer of a scenario takes, in milliseconds, which no window of a
-/// partitioned run may pass; past the horizon where no transfer can be.
+/// partitioned run may exceed; past the horizon if there can be no transfer.
 pub fn least_latency(scenario: &Scenario) -> u64
     ensures { result ≡ the_least_latency scenario.now }
 {

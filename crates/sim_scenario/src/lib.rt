@@ -1,5 +1,5 @@
-//! The reader of scenarios: a text in TOML and its script files in, a sound scenario or the first
-//! fault out.
+//! The reader of scenarios: from a text in TOML and its script files it makes a sound scenario, or
+//! returns the first fault.
 #![tactic(auto)]
 
 mod actors;
@@ -7,22 +7,21 @@ mod consumers;
 mod draft;
 mod fault;
 mod items;
-mod keys;
-mod kin;
+mod key_type;
 mod least;
-mod lists;
+mod named;
 mod names;
 mod outline;
 mod place;
 mod producers;
 mod queues;
 mod reader;
-mod records;
 mod roster;
 mod scenario;
-mod script;
 mod script_files;
 mod scripted;
+mod section;
+mod tasks;
 mod top;
 mod ways;
 
@@ -30,7 +29,7 @@ pub use draft::{Draft, read};
 pub use fault::ReadError;
 pub use least::least_latency;
 pub use scenario::{Scenario, ScenarioParts};
-pub use script::{ScriptError, read_script};
 pub use scripted::Scripts;
+pub use sim_script::{ScriptError, read_script};
 pub use sqs_formats::{ScenarioFault, ScriptFault};
 pub use ways::edges;

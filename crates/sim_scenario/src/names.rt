@@ -3,14 +3,14 @@ ghost use Rattle.std.specs.Prelude.{◌≡◌, IfSome, false, is_some};
 ghost use Rattle.std.specs.List.{list_all};
 ghost use Rattle.sqs_formats.specs.Names.{begins_with_dot, is_agent_name, is_fifo, is_name_byte, is_queue_name, is_script_byte, is_script_name, stem};
 
-/// Whether a byte may stand in the name of an agent.
+/// Whether a byte may be in the name of an agent.
 fn is_name_byte(byte: u8) -> bool
     ensures { result ≡ is_name_byte byte }
 {
     byte.is_ascii_alphanumeric() || byte == b'-' || byte == b'_'
 }
 
-/// Whether all bytes may stand in the name of an agent.
+/// Whether all bytes may be in the name of an agent.
 fn are_name_bytes(bytes: &[u8]) -> bool
     ensures { result ≡ list_all is_name_byte bytes.now }
 {
@@ -25,14 +25,14 @@ pub(crate) fn is_agent_name(name: &[u8]) -> bool
     1 <= length && length <= 80 && are_name_bytes(name)
 }
 
-/// Whether a byte may stand in the name of a script file.
+/// Whether a byte may be in the name of a script file.
 fn is_script_byte(byte: u8) -> bool
     ensures { result ≡ is_script_byte byte }
 {
     is_name_byte(byte) || byte == b'.'
 }
 
-/// Whether all bytes may stand in the name of a script file.
+/// Whether all bytes may be in the name of a script file.
 fn are_script_bytes(bytes: &[u8]) -> bool
     ensures { result ≡ list_all is_script_byte bytes.now }
 {
@@ -57,7 +57,7 @@ pub(crate) fn is_script_name(name: &[u8]) -> bool
     1 <= length && length <= 80 && are_script_bytes(name) && !begins_with_dot(name)
 }
 
-/// What stands before the suffix of a FIFO queue's name.
+/// The part of a FIFO queue's name before its suffix.
 fn before_suffix(name: &[u8]) -> Option<&[u8]>
     ensures fifo { is_some result ≡ is_fifo name.now }
     ensures front { IfSome result (λ s. s.now ≡ stem name.now) }

@@ -1,22 +1,22 @@
-//! What every part of a scenario's text may refer to: the names of all agents, and who they are.
+//! What every part of a scenario's text may refer to: the names of all agents, and their kinds.
 ghost use Rattle.std.specs.Prelude.{◌≡◌, ◌+◌, ◌≤◌, ◌++◌, IfOk, OnOk, map, length};
 ghost use Rattle.std.specs.List.{enumerate_from, zip};
 ghost use Rattle.std.specs.Str.{bytes_eq};
 ghost use Rattle.toml.specs.View.{view};
 ghost use Rattle.sqs_formats.specs.Keys.{text_in};
-ghost use Rattle.sim_scenario.specs.ActorWalks.{tasks_at};
+ghost use Rattle.sqs_formats.specs.Actors.{tasks_at};
 
-use crate::keys::member;
 use crate::names::is_fifo;
 use crate::roster::Roster;
+use crate::section::member;
 use sqs_formats::{Home, HomeTask, HomeTasks};
 use sqs_message::Text;
 use std::alloc::{AllocError, Global};
 use std::marker::Model;
 use toml::Value;
 
-/// The texts that stand there as names, well-formed or not. Agents are numbered: queues, then
-/// actors, then tasks.
+/// The texts that are given as names, well-formed or not. Agents are numbered: queues, then actors,
+/// then tasks.
 #[derive(Drop)]
 pub(crate) struct Outline {
     version: u64,
@@ -54,14 +54,15 @@ pub(crate) fn text_in<'a>(item: &'a Value, key: &str) -> &'a str
     }
 }
 
-/// Puts the texts at a key of some items behind others.
+/// Appends the texts at a key of some items to other texts.
 fn push_texts(
     alloc: Global,
     texts: &mut Vec<Text>,
     items: &[Value],
     key: &str,
 ) -> Result<(), AllocError>
-    ensures { OnOk result (texts.new.items ≡ texts.old.items ++ map (text_in key.now) (map view items.now)) }
+    ensures { OnOk result
+        (texts.new.items ≡ texts.old.items ++ map (text_in key.now) (map view items.now)) }
 {
     for item in items {
         let bytes = text_in(item, key).as_bytes().to_vec(alloc)?;
@@ -77,7 +78,8 @@ fn has_bytes(text: &Text, bytes: &[u8]) -> bool
     text.as_bytes() == bytes
 }
 
-/// The move tasks that name a queue as theirs, with their agent numbers from the first one's on.
+/// The move tasks that name a queue as theirs, with their agent numbers, which begin at that of the
+/// first task.
 fn tasks_at(
     alloc: Global,
     names: &[Text],
@@ -86,7 +88,8 @@ fn tasks_at(
     home: &[u8],
 ) -> Result<Vec<HomeTask>, AllocError>
     requires { first + length names.now ≤ 11000 }
-    ensures { IfOk result (λ v. v.items ≡ tasks_at home.now (enumerate_from first (zip names.now homes.now))) }
+    ensures { IfOk result
+        (λ v. v.items ≡ tasks_at home.now (enumerate_from first (zip names.now homes.now))) }
 {
     let mut tasks = Vec::new(alloc);
     let count = names.len().min(homes.len());
@@ -117,7 +120,10 @@ impl Outline {
         tasks: &[Value],
     ) -> Result<Outline, AllocError>
         requires { length queues.now + length actors.now + length tasks.now ≤ 11000 }
-        ensures { IfOk result (λ o. o ≡ outline_of version (map view queues.now) (map view actors.now) (map view tasks.now)) }
+        ensures { IfOk result (λ o.
+            o
+            ≡ outline_of version (map view queues.now) (map view actors.now)
+            (map view tasks.now)) }
     {
         let mut names = Vec::new(alloc);
         push_texts(alloc, &mut names, queues, "name")?;
@@ -146,7 +152,7 @@ impl Outline {
         self.version
     }
 
-    /// How many queues there are.
+    /// The number of queues.
     pub(crate) fn queue_count(&self) -> usize
         ensures count { result ≡ length self.now.queues }
         ensures few { result ≤ 11000 }
@@ -154,7 +160,7 @@ impl Outline {
         self.queue_count
     }
 
-    /// How many actors there are.
+    /// The number of actors.
     pub(crate) fn actor_count(&self) -> usize
         ensures count { result ≡ length self.now.actors }
         ensures few { result ≤ 11000 }
@@ -172,7 +178,7 @@ impl Outline {
         }
     }
 
-    /// The number of the queue of a name.
+    /// The number of the queue with a name.
     pub(crate) fn queue_number(&self, name: &[u8]) -> Option<u32>
         ensures { result ≡ queue_number self.now name.now }
     {
@@ -194,14 +200,14 @@ impl Outline {
         }
     }
 
-    /// Whether a text stands there as the name of a dead-letter queue.
+    /// Whether a text is given as the name of a dead-letter queue.
     pub(crate) fn is_dead_letter(&self, name: &[u8]) -> bool
         ensures { result ≡ is_among self.now.dead_letters name.now }
     {
         self.dead_letters.has(name)
     }
 
-    /// The name of a queue, empty where there is none.
+    /// The name of a queue; empty if there is none.
     fn queue_text(&self, number: u32) -> &[u8]
         ensures { result.now ≡ queue_text self.now number }
     {
@@ -211,7 +217,8 @@ impl Outline {
         }
     }
 
-    /// The home of an actor: its kind, and the move tasks that name it as their queue.
+    /// What a script's reader needs of a queue: its kind, and the move tasks that name it as
+    /// theirs.
     pub(crate) fn home(&self, alloc: Global, number: u32) -> Result<Home, AllocError>
         ensures { IfOk result (λ h. h ≡ home_of self.now number) }
     {

@@ -1,4 +1,4 @@
-//! Where a key stands.
+//! The place of a key.
 ghost use Rattle.std.specs.Prelude.{◌≡◌, ◌++◌, [], IfOk, codes, string_bytes};
 ghost use Rattle.sqs_formats.specs.Keys.{item_place};
 
@@ -9,8 +9,9 @@ use std::marker::Model;
 /// Room for most places.
 const ROOM: usize = 40;
 
-/// Which table a key is of. Contracts see the text that stands before the key in its place, which is made only where
-/// there is a fault to tell: nothing at the top table, and as `queue[12].` at the table of an item.
+/// The table of a key. Contracts see the text that comes before the key in its place: nothing at
+/// the top table, and for example `queue[12].` at the table of an item. This text is made only if
+/// there is a fault to report.
 #[derive(Drop)]
 pub(crate) struct Place {
     // The list of the item and its number; none for the top table.
@@ -26,7 +27,7 @@ impl Model for Place {
     ghost view = { λ p. before_key p.item };
 }
 
-/// The place of an item of a list, as `queue[12]`.
+/// The place of an item of a list, for example `queue[12]`.
 pub(crate) fn item_place(alloc: Global, list: &str, number: usize) -> Result<String, AllocError>
     ensures { IfOk result (λ s. string_bytes s ≡ item_place list.now number) }
 {

@@ -1,30 +1,24 @@
 //! A producer of a scenario's text.
-ghost use Rattle.std.specs.Prelude.{◌≡◌, ◌++◌, IfOk, codes, length, map, nat_le};
-ghost use Rattle.toml.specs.View.{table_view};
-ghost use Rattle.sim_clock.specs.declared.refusal.Refusal.TheVariants.{OutOfRange};
-ghost use Rattle.sqs_formats.specs.Reading.{answer, needs};
-ghost use Rattle.sqs_formats.specs.Keys.{fault_at, only};
-ghost use Rattle.sqs_formats.specs.Actors.{actor_keys, is_producer_body, producer_keys, sending_keys};
+ghost use Rattle.std.specs.Prelude.{◌≡◌, ◌++◌, IfOk, length, map, nat_le};
+ghost use Rattle.sqs_formats.specs.Actors.{actor_keys, is_producer_body, producer_keys, producing, sending as the_sending, sending_keys};
+ghost use Rattle.sqs_formats.specs.Keys.{only};
 ghost use Rattle.sqs_model.specs.Actor.{filled};
-ghost use Rattle.sim_scenario.specs.Gives.{Gives, table as the_table};
-ghost use Rattle.sqs_model.specs.Marks.{has_mark};
-ghost use Rattle.sim_scenario.specs.ActorWalks.{body_walk, fifo_sending_walk, producer_walk, sending_by, standard_sending_walk};
+ghost use Rattle.sim_scenario.specs.Gives.{Gives};
+ghost use Rattle.sim_scenario.specs.Sections.{table_of};
 
-use crate::fault::{ReadError, blame};
-use crate::keys::{
-    ACTOR_KEYS, boolean_or, integer_or, known_keys, maybe_integer, required_integer, required_text,
-};
-use crate::place::Place;
+use crate::fault::ReadError;
+use crate::key_type::{Boolean, Integer, KeyType};
+use crate::section::{ACTOR_KEYS, Section};
 use sim_clock::Refusal;
 use sqs_message::Text;
 use sqs_model::{ProducerSettings, Role, has_mark};
 use std::alloc::{AllocError, Global};
-use toml::Table;
+use toml::Value;
 
 /// The keys of every producer.
 const PRODUCER_KEYS: &[&str] = &["count", "start_ms", "gap_min_ms", "gap_max_ms", "body"];
 
-/// The keys that only a producer at a home of this kind has.
+/// The keys that only a producer of a queue of this kind has.
 fn sending_keys(is_fifo: bool) -> &'static [&'static str]
     ensures { map (λ k. k.now) result.now ≡ sending_keys is_fifo }
 {
@@ -35,63 +29,33 @@ fn sending_keys(is_fifo: bool) -> &'static [&'static str]
     }
 }
 
-/// Finds the first key that a producer should not have.
-fn known_producer_keys(
-    alloc: Global,
-    is_fifo: bool,
-    table: &Table,
-    place: &Place,
-) -> Result<(), ReadError>
-    ensures { Gives (λ u. u) result (answer (only (actor_keys ++ (producer_keys ++ sending_keys is_fifo)) (the_table place.now (table_view table.now)))) }
+/// Checks that a producer has known keys alone.
+fn known_producer_keys(is_fifo: bool, section: &Section<'_>) -> Result<(), ReadError>
+    ensures { Gives (λ u. u) result
+        (only (actor_keys ++ (producer_keys ++ sending_keys is_fifo)) (table_of section.now)) }
 {
-    let own = sending_keys(is_fifo);
-    known_keys(alloc, table, place, &[ACTOR_KEYS, PRODUCER_KEYS, own])
+    section.only(&[ACTOR_KEYS, PRODUCER_KEYS, sending_keys(is_fifo)])
 }
 
-/// What a producer has at a FIFO home alone.
-#[tactic(auto, unfolding(crate::specs::ActorWalks::fifo_sending_walk, crate::specs::Walk::and_then))]
-fn fifo_sending(
-    alloc: Global,
-    table: &Table,
-    place: &Place,
-) -> Result<(Option<u64>, bool, Option<u64>), ReadError>
-    ensures { Gives (λ s. s) result (fifo_sending_walk (the_table place.now (table_view table.now))) }
-{
-    let groups = required_integer(alloc, table, place, "groups", 1, 1000)?;
-    let ids = boolean_or(alloc, table, place, "ids", true)?;
-    Ok((Some(groups), ids, None))
-}
-
-/// What a producer has at a standard home alone.
-#[tactic(auto, unfolding(crate::specs::ActorWalks::standard_sending_walk, crate::specs::Walk::and_then))]
-fn standard_sending(
-    alloc: Global,
-    table: &Table,
-    place: &Place,
-) -> Result<(Option<u64>, bool, Option<u64>), ReadError>
-    ensures { Gives (λ s. s) result (standard_sending_walk (the_table place.now (table_view table.now))) }
-{
-    let delay = maybe_integer(alloc, table, place, "delay_s", 0, 900)?;
-    Ok((None, false, delay))
-}
-
-/// The groups, the ids and the delay of a producer, by the kind of its home.
+/// The groups, the ids and the delay of a producer, by the kind of its queue.
+#[tactic(auto, unfolding(sqs_formats::specs::Actors::sending, sqs_formats::specs::Reading::and_then))]
 fn sending(
-    alloc: Global,
     is_fifo: bool,
-    table: &Table,
-    place: &Place,
+    section: &Section<'_>,
 ) -> Result<(Option<u64>, bool, Option<u64>), ReadError>
-    ensures { Gives (λ s. s) result (sending_by is_fifo (the_table place.now (table_view table.now))) }
+    ensures { Gives (λ s. s) result (the_sending is_fifo (table_of section.now)) }
 {
     if is_fifo {
-        fifo_sending(alloc, table, place)
+        let groups = section.required("groups", &Integer(1, 1000))?;
+        let ids = section.optional("ids", &Boolean, true)?;
+        Ok((Some(groups), ids, None))
     } else {
-        standard_sending(alloc, table, place)
+        let delay = section.maybe("delay_s", &Integer(0, 900))?;
+        Ok((None, false, delay))
     }
 }
 
-/// Whether a body has at most so many bytes where these digits stand for each `{n}`.
+/// Whether a body has at most `most` bytes if these digits replace each `{n}`.
 fn fits(body: &[u8], digits: &[u8], most: usize) -> bool
     ensures { result ≡ nat_le (length (filled digits.now body.now)) most }
 {
@@ -115,7 +79,7 @@ fn fits(body: &[u8], digits: &[u8], most: usize) -> bool
     true
 }
 
-/// Whether a body has 1 to 1,024 bytes for the first of so many messages and for the last.
+/// Whether a body has 1 to 1,024 bytes for the first and the last of `count` messages.
 #[tactic(auto, using(crate::proofs::ProducerBody::body_none, crate::proofs::ProducerBody::body_some))]
 fn is_producer_body(alloc: Global, count: u64, body: &[u8]) -> Result<bool, AllocError>
     ensures { IfOk result (λ b. b ≡ is_producer_body count body.now) }
@@ -127,43 +91,40 @@ fn is_producer_body(alloc: Global, count: u64, body: &[u8]) -> Result<bool, Allo
     Ok(fits(body, last.as_bytes(), 1024))
 }
 
-/// A text as the body of so many messages.
-#[tactic(auto, unfolding(sqs_formats::specs::Reading::answer))]
-fn body_of_text(alloc: Global, count: u64, text: &str, place: &Place) -> Result<Text, ReadError>
-    ensures { Gives (λ b. b) result (answer (needs (is_producer_body count text.now) (fault_at OutOfRange (place.now ++ codes "body")) text.now)) }
-{
-    if !is_producer_body(alloc, count, text.as_bytes())? {
-        return Err(blame(alloc, Refusal::OutOfRange, place, "body"));
+/// The body of `count` messages.
+#[derive(Drop)]
+struct Body {
+    count: u64,
+}
+
+impl KeyType for Body {
+    type Value = Text;
+
+    ghost use Rattle.sqs_formats.specs.Actors.{producer_body};
+
+    ghost says = { λ k. producer_body k.count };
+
+    #[tactic(auto, unfolding(sqs_formats::specs::Actors::producer_body, sqs_formats::specs::Reading::and_then))]
+    fn read(&self, section: &Section<'_>, value: &Value, key: &str) -> Result<Text, ReadError> {
+        let text = section.text(value, key)?;
+        if !is_producer_body(section.alloc, self.count, text.as_bytes())? {
+            return Err(section.blame(Refusal::OutOfRange, key));
+        }
+        Ok(Text::new(text.as_bytes().to_vec(section.alloc)?))
     }
-    Ok(Text::new(text.as_bytes().to_vec(alloc)?))
 }
 
-/// The body of so many messages.
-#[tactic(auto, unfolding(crate::specs::ActorWalks::body_walk, crate::specs::Walk::and_then))]
-fn body(alloc: Global, count: u64, table: &Table, place: &Place) -> Result<Text, ReadError>
-    ensures { Gives (λ b. b) result (body_walk count (the_table place.now (table_view table.now))) }
+/// A producer of a queue of a kind.
+#[tactic(auto, unfolding(sqs_formats::specs::Reading::and_then))]
+pub(crate) fn producer(is_fifo: bool, section: &Section<'_>) -> Result<Role, ReadError>
+    ensures { Gives (λ p. p) result (producing is_fifo (table_of section.now)) }
 {
-    let text = required_text(alloc, table, place, "body")?;
-    body_of_text(alloc, count, text, place)
-}
-
-/// A producer at a home of a kind.
-#[tactic(auto, unfolding(crate::specs::ActorWalks::producer_walk, crate::specs::Walk::and_then))]
-pub(crate) fn producer(
-    alloc: Global,
-    is_fifo: bool,
-    table: &Table,
-    place: &Place,
-) -> Result<Role, ReadError>
-    ensures { Gives (λ p. p) result (producer_walk is_fifo (the_table place.now (table_view table.now))) }
-{
-    known_producer_keys(alloc, is_fifo, table, place)?;
-    let count = required_integer(alloc, table, place, "count", 1, 1_000_000)?;
-    let start = integer_or(alloc, table, place, "start_ms", 0, 2_592_000_000, 0)?;
-    let gap_min = required_integer(alloc, table, place, "gap_min_ms", 1, 86_400_000)?;
-    let gap_max = required_integer(alloc, table, place, "gap_max_ms", gap_min, 86_400_000)?;
-    let body = body(alloc, count, table, place)?;
-    let (groups, ids, delay) = sending(alloc, is_fifo, table, place)?;
+    known_producer_keys(is_fifo, section)?;
+    let count = section.required("count", &Integer(1, 1_000_000))?;
+    let start = section.optional("start_ms", &Integer(0, 2_592_000_000), 0)?;
+    let (gap_min, gap_max) = section.bounds("gap_min_ms", "gap_max_ms", 86_400_000)?;
+    let body = section.required("body", &Body { count })?;
+    let (groups, ids, delay) = sending(is_fifo, section)?;
     Ok(Role::Producer(ProducerSettings {
         count,
         start,

@@ -1,248 +1,102 @@
-//! A queue of a scenario's text.
-ghost use Rattle.std.specs.Prelude.{◌≡◌, ◌++◌, ◌==◌, [], codes, map};
-ghost use Rattle.toml.specs.View.{table_view};
-ghost use Rattle.sqs_formats.specs.Reading.{answer};
-ghost use Rattle.sqs_formats.specs.Keys.{has, one_of, optional, only};
-ghost use Rattle.sqs_formats.specs.Names.{is_agent_name, is_queue_name};
-ghost use Rattle.sqs_formats.specs.Queues.{kind_keys, latency_keys, policy_keys, queue_keys, scopes_named};
-ghost use Rattle.sqs_redrive.specs.declared.settings.Scope.TheVariants as scopes;
-ghost use Rattle.sim_scenario.specs.Gives.{Gives, table as the_table};
-ghost use Rattle.sim_scenario.specs.Walks.{fifo_walk, fresh_walk, kind_by, latency_by, leading_walk, name_walk, one_latency_walk, policy_by, queue_walk, settings_walk, standard_walk, two_bounds_walk};
+//! The queues of a scenario's text.
+ghost use Rattle.std.specs.Prelude.{◌≡◌, codes, map};
+ghost use Rattle.sqs_formats.specs.Keys.{has, only};
+ghost use Rattle.sqs_formats.specs.Queues.{kind as the_kind, kind_keys, latency as the_latency, latency_keys, policy as the_policy, policy_keys, queue_keys};
+ghost use Rattle.sim_scenario.specs.Gives.{Gives};
+ghost use Rattle.sim_scenario.specs.Sections.{table_of};
 
-use crate::fault::{ReadError, blame};
-use crate::keys::{
-    boolean_or, integer_or, known_keys, member, required_integer, required_text, text,
-};
-use crate::names::{is_agent_name, is_fifo, is_queue_name};
+use crate::fault::ReadError;
+use crate::items::ItemType;
+use crate::key_type::{Boolean, Integer, KeyType, Seconds};
+use crate::named::{AgentName, DeadLetterName, OtherKinQueue};
+use crate::names::is_fifo;
 use crate::outline::Outline;
-use crate::place::Place;
+use crate::section::Section;
 use sim_clock::Refusal;
 use sqs_message::Text;
 use sqs_redrive::{Kind, Latency, Policy, QueueSettings, Scope};
-use std::alloc::Global;
-use toml::Table;
+use toml::Value;
 
-/// A name that stands nowhere before.
-#[tactic(auto, unfolding(crate::specs::Walks::fresh_walk, crate::specs::Walk::and_then, sqs_formats::specs::Reading::answer))]
-fn fresh_name(
-    alloc: Global,
-    outline: &Outline,
-    number: usize,
-    name: &str,
-    is_well_formed: bool,
-    place: &Place,
-) -> Result<Text, ReadError>
-    ensures { Gives (λ t. t) result (fresh_walk is_well_formed outline.now number (place.now ++ codes "name") name.now) }
+/// The latency of a version: one number in version 1, which is both bounds, and else two.
+#[tactic(auto, unfolding(sqs_formats::specs::Queues::latency, sqs_formats::specs::Reading::and_then))]
+pub(crate) fn latency(version: u64, section: &Section<'_>) -> Result<Latency, ReadError>
+    ensures { Gives (λ l. l) result (the_latency version (table_of section.now)) }
 {
-    if !is_well_formed {
-        return Err(blame(alloc, Refusal::BadName, place, "name"));
+    if version == 2 {
+        let (least, greatest) = section.bounds("latency_min_ms", "latency_max_ms", 900_000)?;
+        return Ok(Latency { least, greatest });
     }
-    if !outline.is_first(number, name.as_bytes()) {
-        return Err(blame(alloc, Refusal::NameTwice, place, "name"));
-    }
-    Ok(Text::new(name.as_bytes().to_vec(alloc)?))
-}
-
-/// The name of an actor or a task.
-#[tactic(auto, unfolding(crate::specs::Walks::name_walk, crate::specs::Walk::and_then))]
-pub(crate) fn agent_name(
-    alloc: Global,
-    outline: &Outline,
-    number: usize,
-    table: &Table,
-    place: &Place,
-) -> Result<Text, ReadError>
-    ensures { Gives (λ t. t) result (name_walk is_agent_name outline.now number (the_table place.now (table_view table.now))) }
-{
-    let name = required_text(alloc, table, place, "name")?;
-    let is_well_formed = is_agent_name(name.as_bytes());
-    fresh_name(alloc, outline, number, name, is_well_formed, place)
-}
-
-/// The name of a queue.
-#[tactic(auto, unfolding(crate::specs::Walks::name_walk, crate::specs::Walk::and_then))]
-fn queue_name(
-    alloc: Global,
-    outline: &Outline,
-    number: usize,
-    table: &Table,
-    place: &Place,
-) -> Result<Text, ReadError>
-    ensures { Gives (λ t. t) result (name_walk is_queue_name outline.now number (the_table place.now (table_view table.now))) }
-{
-    let name = required_text(alloc, table, place, "name")?;
-    let is_well_formed = is_queue_name(name.as_bytes());
-    fresh_name(alloc, outline, number, name, is_well_formed, place)
-}
-
-/// The one latency of version 1, which is both bounds.
-#[tactic(auto, unfolding(crate::specs::Walks::one_latency_walk, crate::specs::Walk::and_then))]
-fn one_latency(alloc: Global, table: &Table, place: &Place) -> Result<Latency, ReadError>
-    ensures { Gives (λ l. l) result (one_latency_walk (the_table place.now (table_view table.now))) }
-{
-    let both = required_integer(alloc, table, place, "latency_ms", 1, 900_000)?;
+    let both = section.required("latency_ms", &Integer(1, 900_000))?;
     Ok(Latency {
         least: both,
         greatest: both,
     })
 }
 
-/// The two bounds of version 2.
-#[tactic(auto, unfolding(crate::specs::Walks::two_bounds_walk, crate::specs::Walk::and_then))]
-fn two_bounds(alloc: Global, table: &Table, place: &Place) -> Result<Latency, ReadError>
-    ensures { Gives (λ l. l) result (two_bounds_walk (the_table place.now (table_view table.now))) }
-{
-    let least = required_integer(alloc, table, place, "latency_min_ms", 1, 900_000)?;
-    let greatest = required_integer(alloc, table, place, "latency_max_ms", least, 900_000)?;
-    Ok(Latency { least, greatest })
-}
+/// The scope of deduplication ids.
+#[derive(Drop)]
+struct ScopeName;
 
-/// The latency of a version.
-pub(crate) fn latency(
-    alloc: Global,
-    version: u64,
-    table: &Table,
-    place: &Place,
-) -> Result<Latency, ReadError>
-    ensures { Gives (λ l. l) result (latency_by (version == 2) (the_table place.now (table_view table.now))) }
-{
-    if version == 2 {
-        two_bounds(alloc, table, place)
-    } else {
-        one_latency(alloc, table, place)
+impl KeyType for ScopeName {
+    type Value = Scope;
+
+    ghost use Rattle.sqs_formats.specs.Keys.{one_of};
+    ghost use Rattle.sqs_formats.specs.Queues.{scopes_named};
+
+    ghost says = { λ k. one_of scopes_named };
+
+    #[tactic(auto, unfolding(sqs_formats::specs::Keys::one_of, sqs_formats::specs::Reading::and_then))]
+    fn read(&self, section: &Section<'_>, value: &Value, key: &str) -> Result<Scope, ReadError> {
+        let name = section.text(value, key)?;
+        if name == "queue" {
+            Ok(Scope::Queue)
+        } else if name == "group" {
+            Ok(Scope::Group)
+        } else {
+            Err(section.blame(Refusal::OutOfRange, key))
+        }
     }
 }
 
-/// Where ids are compared; in the whole queue where the key is left out.
-#[tactic(auto, unfolding(sqs_formats::specs::Reading::answer))]
-fn scope(alloc: Global, table: &Table, place: &Place) -> Result<Scope, ReadError>
-    ensures { Gives (λ s. s) result (answer (optional scopes.Queue (one_of scopes.Queue scopes_named) (the_table place.now (table_view table.now)) (codes "dedup_scope"))) }
-{
-    match member(table, "dedup_scope") {
-        None => Ok(Scope::Queue),
-        Some(value) => match value.as_str() {
-            None => Err(blame(alloc, Refusal::WrongType, place, "dedup_scope")),
-            Some(name) => {
-                if name == "queue" {
-                    Ok(Scope::Queue)
-                } else if name == "group" {
-                    Ok(Scope::Group)
-                } else {
-                    Err(blame(alloc, Refusal::OutOfRange, place, "dedup_scope"))
-                }
-            }
-        },
-    }
-}
-
-/// What only a FIFO queue has.
-#[tactic(auto, unfolding(crate::specs::Walks::fifo_walk, crate::specs::Walk::and_then))]
-fn fifo(alloc: Global, table: &Table, place: &Place) -> Result<Kind, ReadError>
-    ensures { Gives (λ k. k) result (fifo_walk (the_table place.now (table_view table.now))) }
-{
-    let content_dedup = boolean_or(alloc, table, place, "content_dedup", false)?;
-    let scope = scope(alloc, table, place)?;
-    Ok(Kind::Fifo {
-        content_dedup,
-        scope,
-    })
-}
-
-/// What only a standard queue has.
-#[tactic(auto, unfolding(crate::specs::Walks::standard_walk, crate::specs::Walk::and_then))]
-fn standard(alloc: Global, table: &Table, place: &Place) -> Result<Kind, ReadError>
-    ensures { Gives (λ k. k) result (standard_walk (the_table place.now (table_view table.now))) }
-{
-    let hosts = integer_or(alloc, table, place, "hosts", 1, 16, 1)?;
-    let sampled = integer_or(alloc, table, place, "sampled", 1, hosts, hosts)?;
-    Ok(Kind::Standard { hosts, sampled })
-}
-
-/// What only a queue of this kind has.
-fn kind(alloc: Global, is_fifo: bool, table: &Table, place: &Place) -> Result<Kind, ReadError>
-    ensures { Gives (λ k. k) result (kind_by is_fifo (the_table place.now (table_view table.now))) }
+/// The settings that only a queue of this kind has.
+#[tactic(auto, unfolding(sqs_formats::specs::Queues::kind, sqs_formats::specs::Reading::and_then))]
+fn kind(is_fifo: bool, section: &Section<'_>) -> Result<Kind, ReadError>
+    ensures { Gives (λ k. k) result (the_kind is_fifo (table_of section.now)) }
 {
     if is_fifo {
-        fifo(alloc, table, place)
+        let content_dedup = section.optional("content_dedup", &Boolean, false)?;
+        let scope = section.optional("dedup_scope", &ScopeName, Scope::Queue)?;
+        Ok(Kind::Fifo {
+            content_dedup,
+            scope,
+        })
     } else {
-        standard(alloc, table, place)
+        let hosts = section.optional("hosts", &Integer(1, 16), 1)?;
+        let sampled = section.optional("sampled", &Integer(1, hosts), hosts)?;
+        Ok(Kind::Standard { hosts, sampled })
     }
 }
 
-/// The policy of a queue that has a dead-letter queue.
-#[tactic(auto, unfolding(crate::specs::Walks::leading_walk, crate::specs::Walk::and_then))]
-fn leading(
-    alloc: Global,
+/// The redrive policy of a queue, if it has a dead-letter queue.
+#[tactic(auto, unfolding(sqs_formats::specs::Queues::policy, sqs_formats::specs::Reading::and_then))]
+fn policy(
     outline: &Outline,
-    table: &Table,
-    place: &Place,
+    leads: bool,
+    section: &Section<'_>,
 ) -> Result<Option<Policy>, ReadError>
-    ensures { Gives (λ p. p) result (leading_walk outline.now (the_table place.now (table_view table.now))) }
+    ensures { Gives (λ p. p) result (the_policy outline.now leads (table_of section.now)) }
 {
-    let name = required_text(alloc, table, place, "dead_letter")?;
-    let max_receives = required_integer(alloc, table, place, "max_receives", 1, 1000)?;
-    let latency = latency(alloc, outline.version(), table, place)?;
-    let dead_letter = match outline.queue_number(name.as_bytes()) {
-        Some(number) => number,
-        None => 0,
-    };
+    if !leads {
+        return Ok(None);
+    }
+    let dead_letter = section.required("dead_letter", &DeadLetterName { outline })?;
+    let max_receives = section.required("max_receives", &Integer(1, 1000))?;
+    let latency = latency(outline.version(), section)?;
     Ok(Some(Policy {
         dead_letter,
         max_receives,
         latency,
     }))
-}
-
-/// Whether a table has a key.
-pub(crate) fn has(table: &Table, key: &str) -> bool
-    ensures { result ≡ has (the_table [] (table_view table.now)) key.now }
-{
-    member(table, key).is_some()
-}
-
-/// The policy of a queue, if it has one.
-fn policy(
-    alloc: Global,
-    leads: bool,
-    outline: &Outline,
-    table: &Table,
-    place: &Place,
-) -> Result<Option<Policy>, ReadError>
-    ensures { Gives (λ p. p) result (policy_by leads outline.now (the_table place.now (table_view table.now))) }
-{
-    if leads {
-        leading(alloc, outline, table, place)
-    } else {
-        Ok(None)
-    }
-}
-
-/// The settings of a queue, with its name.
-#[tactic(auto, unfolding(crate::specs::Walks::settings_walk, crate::specs::Walk::and_then))]
-fn settings(
-    alloc: Global,
-    outline: &Outline,
-    name: Text,
-    table: &Table,
-    place: &Place,
-) -> Result<(Text, QueueSettings), ReadError>
-    ensures { Gives (λ q. q) result (settings_walk outline.now name (the_table place.now (table_view table.now))) }
-{
-    let visibility = integer_or(alloc, table, place, "visibility_s", 0, 43_200, 30)?;
-    let delay = integer_or(alloc, table, place, "delay_s", 0, 900, 0)?;
-    let retention = integer_or(alloc, table, place, "retention_s", 60, 1_209_600, 345_600)?;
-    let in_flight_limit = integer_or(alloc, table, place, "in_flight", 1, 120_000, 120_000)?;
-    let kind = kind(alloc, is_fifo(name.as_bytes()), table, place)?;
-    let policy = policy(alloc, has(table, "dead_letter"), outline, table, place)?;
-    let settings = QueueSettings {
-        kind,
-        visibility: 1000 * visibility,
-        delay: 1000 * delay,
-        retention: 1000 * retention,
-        in_flight_limit,
-        policy,
-    };
-    Ok((name, settings))
 }
 
 /// The keys of every queue.
@@ -277,7 +131,7 @@ pub(crate) fn latency_keys(version: u64) -> &'static [&'static str]
     }
 }
 
-/// The keys that a queue has with its dead-letter queue.
+/// The keys that a queue with a dead-letter queue has, too.
 fn policy_keys(version: u64, leads: bool) -> &'static [&'static str]
     ensures { map (λ k. k.now) result.now ≡ policy_keys version leads }
 {
@@ -290,38 +144,81 @@ fn policy_keys(version: u64, leads: bool) -> &'static [&'static str]
     }
 }
 
-/// Finds the first key that a queue should not have.
-fn known_queue_keys(
-    alloc: Global,
-    version: u64,
-    is_fifo: bool,
-    table: &Table,
-    place: &Place,
-) -> Result<(), ReadError>
-    ensures { Gives (λ u. u) result (answer (only (queue_keys version is_fifo (has (the_table place.now (table_view table.now)) (codes "dead_letter"))) (the_table place.now (table_view table.now)))) }
+/// Checks that a queue has known keys alone.
+fn known_queue_keys(version: u64, is_fifo: bool, section: &Section<'_>) -> Result<(), ReadError>
+    ensures { Gives (λ u. u) result (only
+        (queue_keys version is_fifo (has (table_of section.now) (codes "dead_letter")))
+        (table_of section.now)) }
 {
-    let policy = policy_keys(version, has(table, "dead_letter"));
-    known_keys(
-        alloc,
-        table,
-        place,
-        &[QUEUE_KEYS, kind_keys(is_fifo), policy],
-    )
+    let policy = policy_keys(version, section.has("dead_letter"));
+    section.only(&[QUEUE_KEYS, kind_keys(is_fifo), policy])
 }
 
-/// A queue of a text: its name and its settings.
-#[tactic(auto, unfolding(crate::specs::Walks::queue_walk, crate::specs::Walk::and_then))]
-pub(crate) fn queue(
-    alloc: Global,
-    outline: &Outline,
-    number: usize,
-    table: &Table,
-    place: &Place,
-) -> Result<(Text, QueueSettings), ReadError>
-    ensures { Gives (λ q. q) result (queue_walk outline.now number (the_table place.now (table_view table.now))) }
-{
-    let name = queue_name(alloc, outline, number, table, place)?;
-    let is_fifo = is_fifo(name.as_bytes());
-    known_queue_keys(alloc, outline.version(), is_fifo, table, place)?;
-    settings(alloc, outline, name, table, place)
+/// The queues of a text, each with its name.
+#[derive(Drop)]
+pub(crate) struct Queues<'o> {
+    pub(crate) outline: &'o Outline,
+}
+
+impl ItemType for Queues<'_> {
+    type Item = (Text, QueueSettings);
+
+    ghost use Rattle.sqs_formats.specs.Queues.{queue};
+
+    ghost says = { λ q. queue q.outline.now };
+
+    #[tactic(auto, unfolding(sqs_formats::specs::Queues::queue, sqs_formats::specs::Reading::and_then))]
+    fn read(
+        &self,
+        number: usize,
+        section: &Section<'_>,
+    ) -> Result<(Text, QueueSettings), ReadError> {
+        let outline = self.outline;
+        let name = section.required(
+            "name",
+            &AgentName {
+                outline,
+                number,
+                is_queue: true,
+            },
+        )?;
+        let is_fifo = is_fifo(name.as_bytes());
+        known_queue_keys(outline.version(), is_fifo, section)?;
+        let visibility = section.optional("visibility_s", &Seconds(0, 43_200), 30_000)?;
+        let delay = section.optional("delay_s", &Seconds(0, 900), 0)?;
+        let retention = section.optional("retention_s", &Seconds(60, 1_209_600), 345_600_000)?;
+        let in_flight_limit = section.optional("in_flight", &Integer(1, 120_000), 120_000)?;
+        let kind = kind(is_fifo, section)?;
+        let policy = policy(outline, section.has("dead_letter"), section)?;
+        let settings = QueueSettings {
+            kind,
+            visibility,
+            delay,
+            retention,
+            in_flight_limit,
+            policy,
+        };
+        Ok((name, settings))
+    }
+}
+
+/// The dead-letter queues of the queues of a text, which are checked once all queues are read.
+#[derive(Drop)]
+pub(crate) struct DeadLetters<'o> {
+    pub(crate) outline: &'o Outline,
+}
+
+impl ItemType for DeadLetters<'_> {
+    type Item = Option<u32>;
+
+    ghost use Rattle.sqs_formats.specs.Queues.{dead_letter};
+
+    ghost says = { λ q. dead_letter q.outline.now };
+
+    #[tactic(auto, unfolding(sqs_formats::specs::Queues::dead_letter))]
+    fn read(&self, number: usize, section: &Section<'_>) -> Result<Option<u32>, ReadError> {
+        let outline = self.outline;
+        let home = number as u32;
+        section.maybe("dead_letter", &OtherKinQueue { outline, home })
+    }
 }

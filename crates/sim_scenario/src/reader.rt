@@ -1,19 +1,21 @@
-//! The reader of a scenario: a document in, what it says or the first fault in it out.
+//! The reader of a scenario: from a TOML document it makes a scenario, or returns the first fault.
 ghost use Rattle.std.specs.Prelude.{◌≡◌, ◌≤◌, ◌+◌, ◌++◌, IfOk, OnOk, length, map};
 ghost use Rattle.toml.specs.View.{table_view, view};
-ghost use Rattle.sqs_formats.specs.Reading.{answer};
 ghost use Rattle.sqs_formats.specs.Outline.{outline_of};
-ghost use Rattle.sqs_formats.specs.Scenario.{scenario_in};
+ghost use Rattle.sqs_formats.specs.Scenario.{agents as the_agents, scenario_in, whole};
 ghost use Rattle.sim_scenario.specs.Gives.{Gives};
 ghost use Rattle.sim_scenario.specs.Ranges.{IsInRange};
-ghost use Rattle.sim_scenario.specs.TopWalks.{IsTop, agents_walk, top_view, whole};
+ghost use Rattle.sim_scenario.specs.Tops.{IsTop, top_view};
 
-use crate::actors::actors;
+use crate::actors::Actors;
 use crate::fault::ReadError;
-use crate::lists::{dead_letters, queues, tasks};
+use crate::items::each;
 use crate::outline::Outline;
+use crate::queues::{DeadLetters, Queues};
 use crate::scenario::Scenario;
 use crate::scripted::Scripts;
+use crate::section::Section;
+use crate::tasks::Tasks;
 use crate::top::{Top, top_table};
 use sqs_message::Text;
 use sqs_model::ActorSettings;
@@ -21,7 +23,7 @@ use sqs_redrive::{QueueSettings, TaskSettings};
 use std::alloc::{AllocError, Global};
 use toml::Table;
 
-/// Parts settings from their names, which go behind other names.
+/// Splits settings from their names, which are appended to other names.
 fn part<T: Drop>(
     alloc: Global,
     items: Vec<(Text, T)>,
@@ -48,7 +50,8 @@ fn assembled(
     tasks: Vec<(Text, TaskSettings)>,
 ) -> Result<Scenario, AllocError>
     requires { IsInRange (whole (top_view top.now) queues.items actors.items tasks.items) }
-    ensures value { IfOk result (λ s. s ≡ whole (top_view top.now) queues.items actors.items tasks.items) }
+    ensures value { IfOk result
+        (λ s. s ≡ whole (top_view top.now) queues.items actors.items tasks.items) }
     ensures range { IfOk result IsInRange }
 {
     let mut names = Vec::new(alloc);
@@ -66,41 +69,43 @@ fn assembled(
     ))
 }
 
-/// What the lists of queues, actors and move tasks say.
-#[tactic(auto, unfolding(crate::specs::TopWalks::agents_walk, crate::specs::Walk::and_then))]
+/// The agents in the lists of queues, actors and move tasks.
+#[tactic(auto, unfolding(sqs_formats::specs::Scenario::agents, sqs_formats::specs::Reading::and_then))]
 fn agents(
     alloc: Global,
     scripts: &Scripts,
     top: &Top<'_>,
     outline: &Outline,
 ) -> Result<Scenario, ReadError>
-    requires few { length top.now.queues.now + length top.now.actors.now + length top.now.tasks.now ≤ 11000 }
+    requires few { length top.now.queues.now + length top.now.actors.now + length top.now.tasks.now
+        ≤ 11000 }
     requires numbers { IsTop (top_view top.now) }
-    requires outlined { outline.now ≡ outline_of top.now.version (map view top.now.queues.now) (map view top.now.actors.now) (map view top.now.tasks.now) }
+    requires outlined { outline.now
+        ≡ outline_of top.now.version (map view top.now.queues.now) (map view top.now.actors.now)
+        (map view top.now.tasks.now) }
     ensures range { IfOk result IsInRange }
-    ensures value { Gives (λ s. s) result (agents_walk scripts.now (top_view top.now) outline.now) }
+    ensures value { Gives (λ s. s) result (the_agents scripts.now (top_view top.now) outline.now) }
 {
-    let queues = queues(alloc, outline, top.queues)?;
-    dead_letters(alloc, outline, top.queues)?;
-    let actors = actors(alloc, scripts, outline, top.actors)?;
-    let tasks = tasks(alloc, outline, top.tasks)?;
+    let queues = each(alloc, "queue", top.queues, &Queues { outline })?;
+    each(alloc, "queue", top.queues, &DeadLetters { outline })?;
+    let actors = each(alloc, "actor", top.actors, &Actors { scripts, outline })?;
+    let tasks = each(alloc, "task", top.tasks, &Tasks { outline })?;
     let scenario = assembled(alloc, top, queues, actors, tasks)?;
     Ok(scenario)
 }
 
-/// What a document says.
+/// The scenario in a document.
+#[tactic(auto, unfolding(sqs_formats::specs::Scenario::scenario_in, sqs_formats::specs::Reading::and_then))]
 pub(crate) fn document(
     alloc: Global,
     scripts: &Scripts,
     table: &Table,
 ) -> Result<Scenario, ReadError>
     ensures range { IfOk result IsInRange }
-    ensures value { Gives (λ s. s) result (answer (scenario_in scripts.now (table_view table.now))) }
+    ensures value { Gives (λ s. s) result (scenario_in scripts.now (table_view table.now)) }
 {
-    let top = match top_table(alloc, table) {
-        Ok(top) => top,
-        Err(e) => return Err(e),
-    };
+    let section = Section::top(alloc, table);
+    let top = top_table(&section)?;
     let outline = Outline::new(alloc, top.version, top.queues, top.actors, top.tasks)?;
     agents(alloc, scripts, &top, &outline)
 }

@@ -9,12 +9,12 @@ use sqs_message::Text;
 use std::alloc::{AllocError, Global};
 use std::marker::Model;
 
-/// Texts in order, of which some may stand more than once. Contracts see it as their list. To find
-/// one by its bytes takes no longer where there are more.
+/// Texts in order, of which some may be equal. Contracts see it as their list. To find one by its
+/// bytes takes no longer if there are more.
 #[derive(Drop)]
 pub(crate) struct Roster {
     texts: Vec<Text>,
-    // The first place of each text, by its bytes.
+    // The index of the first of equal texts, by their bytes.
     firsts: IndexMap<Vec<u8>, usize>,
 }
 
@@ -29,7 +29,7 @@ impl Model for Roster {
     ghost invariant = { λ r. AreFirsts r.firsts.entries r.texts.items };
 }
 
-/// Where each of some texts stands first.
+/// The first index of each of some texts.
 fn firsts_of(alloc: Global, texts: &[Text]) -> Result<IndexMap<Vec<u8>, usize>, AllocError>
     ensures { IfOk result (λ m. AreFirsts m.entries texts.now) }
 {
@@ -46,7 +46,7 @@ fn firsts_of(alloc: Global, texts: &[Text]) -> Result<IndexMap<Vec<u8>, usize>, 
 }
 
 impl Roster {
-    /// The roster of these texts. The one error is want of memory.
+    /// The roster of these texts. It fails only if memory runs out.
     pub(crate) fn new(alloc: Global, texts: Vec<Text>) -> Result<Roster, AllocError>
         ensures { IfOk result (λ r. r ≡ texts.items) }
     {
@@ -61,14 +61,14 @@ impl Roster {
         self.texts.as_slice()
     }
 
-    /// The first place of a text.
+    /// The first index of a text.
     pub(crate) fn place(&self, bytes: &[u8]) -> Option<usize>
         ensures { result ≡ place_among self.now bytes.now }
     {
         self.firsts.get(bytes).copied()
     }
 
-    /// Whether a text stands there.
+    /// Whether a text is among them.
     pub(crate) fn has(&self, bytes: &[u8]) -> bool
         ensures { result ≡ is_among self.now bytes.now }
     {

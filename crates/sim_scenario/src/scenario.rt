@@ -1,13 +1,13 @@
-//! A scenario: what is simulated, as its text says.
+//! A scenario: what its text says is to be simulated.
 use sqs_message::Text;
 use sqs_model::ActorSettings;
 use sqs_redrive::{QueueSettings, TaskSettings};
 use std::marker::Model;
 
 /// A scenario that was read from a text without a fault. Agents are numbered: queues first, then
-/// actors, then move tasks. Contracts see it as the model's scenario, and its invariant `IsInRange`
-/// says all that reading made sure of: ranges, distinct names, queues of the right kind, and roles
-/// that fit their homes.
+/// actors, then move tasks. Contracts see it as the model's scenario. Its invariant `IsInRange`
+/// says all that reading checked: ranges, distinct names, queues of the right kind, and roles that
+/// fit their queues.
 #[derive(Drop)]
 pub struct Scenario {
     horizon: u64,
@@ -47,8 +47,8 @@ impl Scenario {
     ghost use Rattle.std.specs.Prelude.{◌≡◌};
     ghost use Rattle.sim_scenario.specs.Ranges.{IsInRange};
 
-    /// The scenario of these parts; the names are those of the queues, then of the actors, then of
-    /// the move tasks.
+    /// The scenario with these parts; the names are those of the queues, then of the actors, then
+    /// of the move tasks.
     pub(crate) fn new(
         horizon: u64,
         seed: u64,
@@ -58,8 +58,25 @@ impl Scenario {
         tasks: Vec<TaskSettings>,
         names: Vec<Text>,
     ) -> Scenario
-        requires { IsInRange (record { horizon = horizon; seed = seed; sample = sample; queues = queues.items; actors = actors.items; tasks = tasks.items; names = names.items }) }
-        ensures { result ≡ record { horizon = horizon; seed = seed; sample = sample; queues = queues.items; actors = actors.items; tasks = tasks.items; names = names.items } }
+        requires { IsInRange (record {
+          horizon = horizon;
+          seed = seed;
+          sample = sample;
+          queues = queues.items;
+          actors = actors.items;
+          tasks = tasks.items;
+          names = names.items;
+        }) }
+        ensures { result
+            ≡ record {
+              horizon = horizon;
+              seed = seed;
+              sample = sample;
+              queues = queues.items;
+              actors = actors.items;
+              tasks = tasks.items;
+              names = names.items;
+            } }
     {
         Scenario {
             horizon,
@@ -87,7 +104,7 @@ impl Scenario {
         self.seed
     }
 
-    /// The time from one sample of the queues to the next, in milliseconds; 0 where none is taken.
+    /// The time from one sample of the queues to the next, in milliseconds; 0 if none is taken.
     pub fn sample(&self) -> u64
         ensures { result ≡ self.now.sample }
     {
@@ -125,9 +142,17 @@ impl Scenario {
         self.names.as_slice()
     }
 
-    /// All parts, given back.
+    /// All parts, moved out.
     pub fn into_parts(self) -> ScenarioParts
-        ensures value { record { horizon = result.horizon; seed = result.seed; sample = result.sample; queues = result.queues.items; actors = result.actors.items; tasks = result.tasks.items; names = result.names.items } ≡ self }
+        ensures value { record {
+          horizon = result.horizon;
+          seed = result.seed;
+          sample = result.sample;
+          queues = result.queues.items;
+          actors = result.actors.items;
+          tasks = result.tasks.items;
+          names = result.names.items;
+        } ≡ self }
         ensures range { IsInRange self }
     {
         ScenarioParts {

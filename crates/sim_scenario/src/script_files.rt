@@ -1,17 +1,17 @@
-//! The script files that a scenario's text asks for.
+//! The script files that a scenario's text names.
 ghost use Rattle.std.specs.Prelude.{◌≡◌, ◌++◌, ◌∷◌, [], IfOk, OnOk, codes, filter_map, map, option_map};
 ghost use Rattle.toml.specs.Data.{get_member};
 ghost use Rattle.toml.specs.View.{table_view, view};
 ghost use Rattle.sqs_formats.specs.Scenario.{actors_in, script_name as the_script_name};
 
-use crate::keys::member;
 use crate::names::is_script_name;
 use crate::outline::text_in;
+use crate::section::member;
 use sqs_message::Text;
 use std::alloc::{AllocError, Global};
 use toml::{Table, Value};
 
-/// The name of the script file that an item asks for, if it is well-formed.
+/// The name of the script file in an item, if it is well-formed.
 fn script_name(item: &Value) -> Option<&str>
     ensures { option_map (λ s. s.now) result ≡ the_script_name (view item.now) }
 {
@@ -24,7 +24,7 @@ fn script_name(item: &Value) -> Option<&str>
 }
 
 /// The items at `actor`.
-#[tactic(auto, using(crate::proofs::TopParts::in_order_is))]
+#[tactic(auto, using(crate::proofs::ListItems::in_order_is))]
 pub(crate) fn actor_items<'a>(table: &'a Table) -> &'a [Value]
     ensures { map view result.now ≡ actors_in (get_member (codes "actor") (table_view table.now)) }
 {
@@ -37,9 +37,10 @@ pub(crate) fn actor_items<'a>(table: &'a Table) -> &'a [Value]
     }
 }
 
-/// Puts the name that an item asks for behind others.
+/// Appends the name in an item to other names.
 fn push_name(alloc: Global, names: &mut Vec<Text>, item: &Value) -> Result<(), AllocError>
-    ensures { OnOk result (names.new.items ≡ names.old.items ++ filter_map the_script_name (view item.now ∷ [])) }
+    ensures { OnOk result
+        (names.new.items ≡ names.old.items ++ filter_map the_script_name (view item.now ∷ [])) }
 {
     match script_name(item) {
         None => Ok(()),
@@ -51,7 +52,7 @@ fn push_name(alloc: Global, names: &mut Vec<Text>, item: &Value) -> Result<(), A
     }
 }
 
-/// The names that items ask for.
+/// The names in items.
 pub(crate) fn names_in(alloc: Global, items: &[Value]) -> Result<Vec<Text>, AllocError>
     ensures { IfOk result (λ v. v.items ≡ filter_map the_script_name (map view items.now)) }
 {

@@ -1,30 +1,27 @@
 //! An actor of a scenario's text that follows a script.
-ghost use Rattle.std.specs.Prelude.{◌≡◌, ◌++◌, codes, find, map, option_map};
+ghost use Rattle.std.specs.Prelude.{◌≡◌, ◌++◌, codes, find, map, ok_or, option_map};
 ghost use Rattle.std.specs.Str.{bytes_eq};
-ghost use Rattle.toml.specs.View.{table_view};
-ghost use Rattle.sqs_formats.specs.Reading.{answer};
-ghost use Rattle.sqs_formats.specs.Keys.{has, only};
-ghost use Rattle.sqs_formats.specs.Actors.{actor_keys, calls_in, file_when, script_fault, script_keys};
-ghost use Rattle.sim_scenario.specs.Gives.{Gives, Names, table as the_table};
-ghost use Rattle.sim_scenario.specs.ActorWalks.{calls_either, file_calls_walk, own_calls_walk, scripted_walk};
+ghost use Rattle.sim_clock.specs.declared.refusal.Refusal.TheVariants.{BadScript};
+ghost use Rattle.sqs_formats.specs.Actors.{actor_keys, calls_by, calls_in, script_fault, script_keys, scripted as the_scripted};
+ghost use Rattle.sqs_formats.specs.Keys.{fault_at, has, only, place_of};
+ghost use Rattle.sim_scenario.specs.Gives.{Gives, Names};
+ghost use Rattle.sim_scenario.specs.Sections.{table_of};
 
-use crate::fault::{ReadError, blame};
-use crate::keys::{ACTOR_KEYS, known_keys, required_text};
+use crate::fault::ReadError;
+use crate::key_type::KeyType;
 use crate::names::is_script_name;
 use crate::outline::Outline;
-use crate::place::Place;
-use crate::queues::has;
-use crate::script::{ScriptError, read_script};
+use crate::section::{ACTOR_KEYS, Section};
 use sim_clock::Refusal;
+use sim_script::{ScriptError, read_script};
 use sqs_formats::{Home, ScriptFault};
 use sqs_message::{Script, Text};
 use sqs_model::Role;
-use std::alloc::Global;
 use std::marker::Model;
-use toml::Table;
+use toml::Value;
 
 /// The script files that a scenario may name: the name and the bytes of each. Contracts see the
-/// list of these pairs. Of two files of one name the first one holds.
+/// list of these pairs. If two files have one name, the first is used.
 #[derive(Drop)]
 pub struct Scripts {
     files: Vec<(Text, Text)>,
@@ -41,113 +38,125 @@ impl Model for Scripts {
 impl Scripts {
     ghost use Rattle.std.specs.Prelude.{◌≡◌, find, option_map};
     ghost use Rattle.std.specs.Str.{bytes_eq};
+    ghost use Rattle.sim_clock.specs.declared.refusal.Refusal.TheVariants.{BadScript};
 
-    /// The script files of these names and bytes.
+    /// The script files with these names and bytes.
     pub fn new(files: Vec<(Text, Text)>) -> Scripts
         ensures { result ≡ files.items }
     {
         Scripts { files }
     }
 
-    /// The first file of a name.
+    /// The first file with a name.
     fn file(&self, name: &[u8]) -> Option<&(Text, Text)>
-        ensures { option_map (λ f. f.now) result ≡ find (λ file. bytes_eq file.0 name.now) self.now }
+        ensures { option_map (λ f. f.now) result
+            ≡ find (λ file. bytes_eq file.0 name.now) self.now }
     {
         self.files.iter().find(|file| file.0.as_bytes() == name)
     }
 }
 
-/// A fault of a script as the scenario's: at the script's place, behind it the number of the record.
-fn script_blame(alloc: Global, fault: ScriptFault, place: &Place, key: &str) -> ReadError
-    ensures { Names result (script_fault (place.now ++ key.now) fault) }
+/// The fault of the scenario that a script's fault is: at the script's place, followed by the
+/// number of the record.
+fn script_blame(section: &Section<'_>, fault: ScriptFault, key: &str) -> ReadError
+    ensures { Names result (script_fault (place_of (table_of section.now) key.now) fault) }
 {
     match fault.number {
-        None => blame(alloc, fault.refusal, place, key),
-        Some(number) => match format!(in alloc; "{key}:{number}") {
-            Ok(key) => blame(alloc, fault.refusal, place, key.as_str()),
+        None => section.blame(fault.refusal, key),
+        Some(number) => match format!(in section.alloc; "{key}:{number}") {
+            Ok(key) => section.blame(fault.refusal, key.as_str()),
             Err(_) => ReadError::Memory,
         },
     }
 }
 
-/// The calls of a script at a home, its faults told at a place.
-#[tactic(auto, using(crate::proofs::ActorParts::retold_ok))]
-fn told_calls(
-    alloc: Global,
-    home: &Home,
-    text: &[u8],
-    place: &Place,
-    key: &str,
-) -> Result<Script, ReadError>
-    ensures { Gives (λ s. s) result (answer (calls_in home.now (place.now ++ key.now) text.now)) }
+/// The calls of a script for an actor's queue; its faults get a place.
+fn calls_of(section: &Section<'_>, home: &Home, text: &[u8], key: &str) -> Result<Script, ReadError>
+    ensures { Gives (λ s. s) result (calls_in home.now (place_of (table_of section.now) key.now) text.now) }
 {
-    match read_script(alloc, text, home) {
+    match read_script(section.alloc, text, home) {
         Ok(calls) => Ok(Script::new(calls)),
         Err(ScriptError::Memory) => Err(ReadError::Memory),
-        Err(ScriptError::Fault(fault)) => Err(script_blame(alloc, fault, place, key)),
+        Err(ScriptError::Fault(fault)) => Err(script_blame(section, fault, key)),
     }
 }
 
-/// The calls in an actor's own table.
-#[tactic(auto, unfolding(crate::specs::ActorWalks::own_calls_walk, crate::specs::Walk::and_then))]
-fn own_calls(alloc: Global, home: &Home, table: &Table, place: &Place) -> Result<Script, ReadError>
-    ensures { Gives (λ s. s) result (own_calls_walk home.now (the_table place.now (table_view table.now))) }
-{
-    let text = required_text(alloc, table, place, "calls")?;
-    told_calls(alloc, home, text.as_bytes(), place, "calls")
+/// A script in the actor's own table.
+#[derive(Drop)]
+struct OwnScript<'h> {
+    home: &'h Home,
 }
 
-/// The calls in the script file of a name, which has to be there.
-#[tactic(auto, unfolding(sqs_formats::specs::Reading::answer))]
-fn named_calls(
-    alloc: Global,
-    scripts: &Scripts,
-    home: &Home,
+impl KeyType for OwnScript<'_> {
+    type Value = Script;
+
+    ghost use Rattle.sqs_formats.specs.Actors.{calls};
+
+    ghost says = { λ k. calls k.home.now };
+
+    #[tactic(auto, unfolding(sqs_formats::specs::Actors::calls, sqs_formats::specs::Reading::and_then))]
+    fn read(&self, section: &Section<'_>, value: &Value, key: &str) -> Result<Script, ReadError> {
+        let text = section.text(value, key)?;
+        calls_of(section, self.home, text.as_bytes(), key)
+    }
+}
+
+/// The script file with a name, which must exist.
+fn file_named<'s>(
+    section: &Section<'_>,
+    scripts: &'s Scripts,
     name: &str,
-    place: &Place,
     key: &str,
-) -> Result<Script, ReadError>
-    ensures { Gives (λ s. s) result (answer (file_when home.now (place.now ++ key.now) (find (λ file. bytes_eq file.0 name.now) scripts.now))) }
+) -> Result<&'s (Text, Text), ReadError>
+    ensures { Gives (λ file. file.now) result
+        (ok_or (find (λ file. bytes_eq file.0 name.now) scripts.now)
+        (fault_at BadScript (place_of (table_of section.now) key.now))) }
 {
     match scripts.file(name.as_bytes()) {
-        None => Err(blame(alloc, Refusal::BadScript, place, key)),
-        Some(file) => told_calls(alloc, home, file.1.as_bytes(), place, key),
+        Some(file) => Ok(file),
+        None => Err(section.blame(Refusal::BadScript, key)),
     }
 }
 
-/// The calls in the script file that an actor's table names.
-#[tactic(auto, unfolding(crate::specs::ActorWalks::file_calls_walk, crate::specs::Walk::and_then, sqs_formats::specs::Reading::answer))]
-fn file_calls(
-    alloc: Global,
-    scripts: &Scripts,
-    home: &Home,
-    table: &Table,
-    place: &Place,
-) -> Result<Script, ReadError>
-    ensures { Gives (λ s. s) result (file_calls_walk scripts.now home.now (the_table place.now (table_view table.now))) }
-{
-    let name = required_text(alloc, table, place, "script")?;
-    if !is_script_name(name.as_bytes()) {
-        return Err(blame(alloc, Refusal::OutOfRange, place, "script"));
+/// The name of a script file.
+#[derive(Drop)]
+struct ScriptFile<'h> {
+    scripts: &'h Scripts,
+    home: &'h Home,
+}
+
+impl KeyType for ScriptFile<'_> {
+    type Value = Script;
+
+    ghost use Rattle.sqs_formats.specs.Actors.{script_file};
+
+    ghost says = { λ k. script_file k.scripts.now k.home.now };
+
+    #[tactic(auto, unfolding(sqs_formats::specs::Actors::script_file, sqs_formats::specs::Reading::and_then))]
+    fn read(&self, section: &Section<'_>, value: &Value, key: &str) -> Result<Script, ReadError> {
+        let name = section.text(value, key)?;
+        if !is_script_name(name.as_bytes()) {
+            return Err(section.blame(Refusal::OutOfRange, key));
+        }
+        let file = file_named(section, self.scripts, name, key)?;
+        calls_of(section, self.home, file.1.as_bytes(), key)
     }
-    named_calls(alloc, scripts, home, name, place, "script")
 }
 
 /// The calls in the actor's own table or in a script file.
+#[tactic(auto, unfolding(sqs_formats::specs::Actors::calls_by))]
 fn calls(
-    alloc: Global,
     is_file: bool,
     scripts: &Scripts,
     home: &Home,
-    table: &Table,
-    place: &Place,
+    section: &Section<'_>,
 ) -> Result<Script, ReadError>
-    ensures { Gives (λ s. s) result (calls_either is_file scripts.now home.now (the_table place.now (table_view table.now))) }
+    ensures { Gives (λ s. s) result (calls_by is_file scripts.now home.now (table_of section.now)) }
 {
     if is_file {
-        file_calls(alloc, scripts, home, table, place)
+        section.required("script", &ScriptFile { scripts, home })
     } else {
-        own_calls(alloc, home, table, place)
+        section.required("calls", &OwnScript { home })
     }
 }
 
@@ -162,29 +171,27 @@ fn script_keys(has_calls: bool) -> &'static [&'static str]
     }
 }
 
-/// Finds the first key that an actor should not have that follows a script.
-fn known_script_keys(alloc: Global, table: &Table, place: &Place) -> Result<(), ReadError>
-    ensures { Gives (λ u. u) result (answer (only (actor_keys ++ script_keys (has (the_table place.now (table_view table.now)) (codes "calls"))) (the_table place.now (table_view table.now)))) }
+/// Checks that an actor that follows a script has known keys alone.
+fn known_script_keys(section: &Section<'_>) -> Result<(), ReadError>
+    ensures { Gives (λ u. u) result
+        (only (actor_keys ++ script_keys (has (table_of section.now) (codes "calls"))) (table_of section.now)) }
 {
-    let own = script_keys(has(table, "calls"));
-    known_keys(alloc, table, place, &[ACTOR_KEYS, own])
+    let own = script_keys(section.has("calls"));
+    section.only(&[ACTOR_KEYS, own])
 }
 
 /// An actor that follows a script.
-#[tactic(auto, unfolding(crate::specs::ActorWalks::scripted_walk, crate::specs::Walk::and_then))]
+#[tactic(auto, unfolding(sqs_formats::specs::Reading::and_then))]
 pub(crate) fn scripted(
-    alloc: Global,
     scripts: &Scripts,
     outline: &Outline,
     home: u32,
-    table: &Table,
-    place: &Place,
+    section: &Section<'_>,
 ) -> Result<Role, ReadError>
-    ensures { Gives (λ r. r) result (scripted_walk scripts.now outline.now home (the_table place.now (table_view table.now))) }
+    ensures { Gives (λ r. r) result (the_scripted scripts.now outline.now home (table_of section.now)) }
 {
-    known_script_keys(alloc, table, place)?;
-    let home = outline.home(alloc, home)?;
-    let is_file = has(table, "script");
-    let calls = calls(alloc, is_file, scripts, &home, table, place)?;
+    known_script_keys(section)?;
+    let home = outline.home(section.alloc, home)?;
+    let calls = calls(section.has("script"), scripts, &home, section)?;
     Ok(Role::Script(calls))
 }

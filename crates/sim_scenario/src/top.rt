@@ -1,19 +1,18 @@
 //! The top table of a scenario's text.
-ghost use Rattle.std.specs.Prelude.{◌+◌, ◌≤◌, IfOk, [], length, map};
-ghost use Rattle.toml.specs.View.{table_view, view};
-ghost use Rattle.sqs_formats.specs.Reading.{answer};
-ghost use Rattle.sqs_formats.specs.Keys.{required};
-ghost use Rattle.sim_scenario.specs.Gives.{Gives, table as the_table};
-ghost use Rattle.sim_scenario.specs.TopWalks.{agent_list_walk, plain_list, queue_list_walk, top_view, top_walk};
+ghost use Rattle.std.specs.Prelude.{◌+◌, ◌≤◌, IfOk, length, map};
+ghost use Rattle.toml.specs.View.{view};
+ghost use Rattle.sqs_formats.specs.Scenario.{agent_list, queue_list, top as the_top};
+ghost use Rattle.sim_scenario.specs.Gives.{Gives};
+ghost use Rattle.sim_scenario.specs.Sections.{table_of};
+ghost use Rattle.sim_scenario.specs.Tops.{top_view};
 
-use crate::fault::{ReadError, blame};
-use crate::keys::{integer_or, known_keys, member, required_integer};
-use crate::place::Place;
+use crate::fault::ReadError;
+use crate::key_type::Integer;
+use crate::section::Section;
 use sim_clock::Refusal;
-use std::alloc::Global;
-use toml::{Table, Value};
+use toml::Value;
 
-/// The top table: its numbers, and the items of its lists.
+/// The top table: its numbers, and the items in its lists.
 #[derive(Drop)]
 pub(crate) struct Top<'a> {
     pub(crate) version: u64,
@@ -25,69 +24,35 @@ pub(crate) struct Top<'a> {
     pub(crate) tasks: &'a [Value],
 }
 
-/// A list that has to be there.
-#[tactic(auto, using(crate::proofs::TopParts::in_order_is), unfolding(sqs_formats::specs::Reading::answer))]
-fn required_list<'a>(alloc: Global, table: &'a Table, key: &str) -> Result<&'a [Value], ReadError>
-    ensures { Gives (λ vs. map view vs.now) result (answer (required plain_list (the_table [] (table_view table.now)) key.now)) }
-{
-    match member(table, key) {
-        None => Err(blame(alloc, Refusal::MissingKey, &Place::top(), key)),
-        Some(value) => match value.as_array() {
-            None => Err(blame(alloc, Refusal::WrongType, &Place::top(), key)),
-            Some(values) => Ok(values.as_slice()),
-        },
-    }
-}
-
-/// The list of queues, which has 1 to 1,000.
-#[tactic(auto, unfolding(crate::specs::TopWalks::queue_list_walk, crate::specs::Walk::and_then, sqs_formats::specs::Reading::answer))]
-fn queue_list<'a>(alloc: Global, table: &'a Table) -> Result<&'a [Value], ReadError>
-    ensures value { Gives (λ vs. map view vs.now) result (queue_list_walk (the_table [] (table_view table.now))) }
+/// The list of queues, which has 1 to 1,000 items.
+#[tactic(auto, unfolding(sqs_formats::specs::Scenario::queue_list, sqs_formats::specs::Reading::and_then))]
+fn queue_list<'a>(section: &Section<'a>) -> Result<&'a [Value], ReadError>
+    ensures value { Gives (λ vs. map view vs.now) result (queue_list (table_of section.now)) }
     ensures few { IfOk result (λ vs. length vs.now ≤ 1000) }
 {
-    let values = required_list(alloc, table, "queue")?;
+    let values = section.required_list("queue")?;
     if values.len() < 1 {
-        return Err(blame(alloc, Refusal::OutOfRange, &Place::top(), "queue"));
+        return Err(section.blame(Refusal::OutOfRange, "queue"));
     }
     if values.len() > 1000 {
-        return Err(blame(alloc, Refusal::TooMany, &Place::top(), "queue"));
+        return Err(section.blame(Refusal::TooMany, "queue"));
     }
     Ok(values)
 }
 
-/// The list that a value is.
-#[tactic(auto, using(crate::proofs::TopParts::in_order_is), unfolding(sqs_formats::specs::Reading::answer))]
-fn list<'a>(alloc: Global, value: &'a Value, key: &str) -> Result<&'a [Value], ReadError>
-    ensures { Gives (λ vs. map view vs.now) result (answer (plain_list.read key.now (view value.now))) }
-{
-    match value.as_array() {
-        None => Err(blame(alloc, Refusal::WrongType, &Place::top(), key)),
-        Some(values) => Ok(values.as_slice()),
-    }
-}
-
-/// The list of actors or of tasks, which are at most 10,000 together: those behind so many.
-#[tactic(auto, unfolding(crate::specs::TopWalks::agent_list_walk, crate::specs::Walk::and_then, sqs_formats::specs::Reading::answer))]
-fn agent_list<'a>(
-    alloc: Global,
-    before: usize,
-    table: &'a Table,
-    key: &str,
-) -> Result<&'a [Value], ReadError>
+/// The list of actors or of tasks. Together they are at most 10,000; `before` of them come before
+/// this list.
+#[tactic(auto, unfolding(sqs_formats::specs::Scenario::agent_list, sqs_formats::specs::Reading::and_then))]
+fn agent_list<'a>(before: usize, section: &Section<'a>, key: &str) -> Result<&'a [Value], ReadError>
     requires { before ≤ 10000 }
-    ensures value { Gives (λ vs. map view vs.now) result (agent_list_walk before (the_table [] (table_view table.now)) key.now) }
+    ensures value { Gives (λ vs. map view vs.now) result (agent_list before (table_of section.now) key.now) }
     ensures few { IfOk result (λ vs. before + length vs.now ≤ 10000) }
 {
-    match member(table, key) {
-        None => Ok(&[]),
-        Some(value) => {
-            let values = list(alloc, value, key)?;
-            if values.len() > 10_000 - before {
-                return Err(blame(alloc, Refusal::TooMany, &Place::top(), key));
-            }
-            Ok(values)
-        }
+    let values = section.optional_list(key)?;
+    if values.len() > 10_000 - before {
+        return Err(section.blame(Refusal::TooMany, key));
     }
+    Ok(values)
 }
 
 /// The keys of the top table.
@@ -95,29 +60,21 @@ const TOP_KEYS: &[&str] = &[
     "version", "horizon", "seed", "sample", "queue", "actor", "task",
 ];
 
-/// What the top table says.
-#[tactic(auto, unfolding(crate::specs::TopWalks::top_walk, crate::specs::Walk::and_then))]
-pub(crate) fn top_table<'a>(alloc: Global, table: &'a Table) -> Result<Top<'a>, ReadError>
-    ensures value { Gives top_view result (top_walk (the_table [] (table_view table.now))) }
-    ensures few { IfOk result (λ t. length t.queues.now + length t.actors.now + length t.tasks.now ≤ 11000) }
+/// The contents of the top table.
+#[tactic(auto, unfolding(sqs_formats::specs::Scenario::top, sqs_formats::specs::Reading::and_then))]
+pub(crate) fn top_table<'a>(section: &Section<'a>) -> Result<Top<'a>, ReadError>
+    ensures value { Gives top_view result (the_top (table_of section.now)) }
+    ensures few { IfOk result
+        (λ t. length t.queues.now + length t.actors.now + length t.tasks.now ≤ 11000) }
 {
-    let place = Place::top();
-    known_keys(alloc, table, &place, &[TOP_KEYS])?;
-    let version = required_integer(alloc, table, &place, "version", 1, 2)?;
-    let horizon = required_integer(alloc, table, &place, "horizon", 1, 2_592_000_000)?;
-    let seed = integer_or(
-        alloc,
-        table,
-        &place,
-        "seed",
-        0,
-        9_223_372_036_854_775_807,
-        0,
-    )?;
-    let sample = integer_or(alloc, table, &place, "sample", 0, 2_592_000_000, 0)?;
-    let queues = queue_list(alloc, table)?;
-    let actors = agent_list(alloc, 0, table, "actor")?;
-    let tasks = agent_list(alloc, actors.len(), table, "task")?;
+    section.only(&[TOP_KEYS])?;
+    let version = section.required("version", &Integer(1, 2))?;
+    let horizon = section.required("horizon", &Integer(1, 2_592_000_000))?;
+    let seed = section.optional("seed", &Integer(0, 9_223_372_036_854_775_807), 0)?;
+    let sample = section.optional("sample", &Integer(0, 2_592_000_000), 0)?;
+    let queues = queue_list(section)?;
+    let actors = agent_list(0, section, "actor")?;
+    let tasks = agent_list(actors.len(), section, "task")?;
     Ok(Top {
         version,
         horizon,

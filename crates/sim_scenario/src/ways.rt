@@ -32,7 +32,9 @@ fn add_policy(ways: &mut Vec<Edge>, from: u32, policy: Option<Policy>) -> Result
 /// Adds the ways to dead-letter queues.
 fn add_queues(ways: &mut Vec<Edge>, queues: &[QueueSettings]) -> Result<(), AllocError>
     requires { length queues.now ≤ 1000 }
-    ensures { OnOk result (ways.new.items ≡ ways.old.items ++ flat_map (λ x. policy_edges x.0 x.1.policy) (enumerate_from 0 queues.now)) }
+    ensures { OnOk result (ways.new.items
+        ≡ ways.old.items
+        ++ flat_map (λ x. policy_edges x.0 x.1.policy) (enumerate_from 0 queues.now)) }
 {
     for (number, queue) in queues.iter().enumerate() {
         add_policy(ways, number as u32, queue.policy)?;
@@ -56,7 +58,8 @@ fn add_role(ways: &mut Vec<Edge>, home: u32, role: &Role) -> Result<(), AllocErr
 
 /// Adds the ways of forwards.
 fn add_actors(ways: &mut Vec<Edge>, actors: &[ActorSettings]) -> Result<(), AllocError>
-    ensures { OnOk result (ways.new.items ≡ ways.old.items ++ flat_map (λ a. role_edges a.home a.role) actors.now) }
+    ensures { OnOk result
+        (ways.new.items ≡ ways.old.items ++ flat_map (λ a. role_edges a.home a.role) actors.now) }
 {
     for actor in actors {
         add_role(ways, actor.home, &actor.role)?;
@@ -72,7 +75,8 @@ fn add_sources(
     queues: &[QueueSettings],
 ) -> Result<(), AllocError>
     requires { length queues.now ≤ 1000 }
-    ensures { OnOk result ((s : TheScenario) → s.queues ≡ queues.now → ways.new.items ≡ ways.old.items ++ map (λ to. edge from to latency) (sources s from)) }
+    ensures { OnOk result ((s : TheScenario) → s.queues ≡ queues.now
+        → ways.new.items ≡ ways.old.items ++ map (λ to. edge from to latency) (sources s from)) }
 {
     for (number, queue) in queues.iter().enumerate() {
         if leads_to(queue.policy, from) {
@@ -89,7 +93,8 @@ fn add_task(
     queues: &[QueueSettings],
 ) -> Result<(), AllocError>
     requires { length queues.now ≤ 1000 }
-    ensures { OnOk result ((s : TheScenario) → s.queues ≡ queues.now → ways.new.items ≡ ways.old.items ++ task_edges s task.now) }
+    ensures { OnOk result ((s : TheScenario) → s.queues ≡ queues.now
+        → ways.new.items ≡ ways.old.items ++ task_edges s task.now) }
 {
     match task.to {
         Some(to) => add(ways, task.home, to, task.latency),
@@ -104,7 +109,8 @@ fn add_tasks(
     queues: &[QueueSettings],
 ) -> Result<(), AllocError>
     requires { length queues.now ≤ 1000 }
-    ensures { OnOk result ((s : TheScenario) → s.queues ≡ queues.now → ways.new.items ≡ ways.old.items ++ flat_map (task_edges s) tasks.now) }
+    ensures { OnOk result ((s : TheScenario) → s.queues ≡ queues.now
+        → ways.new.items ≡ ways.old.items ++ flat_map (task_edges s) tasks.now) }
 {
     for task in tasks {
         add_task(ways, task, queues)?;
@@ -112,11 +118,18 @@ fn add_tasks(
     Ok(())
 }
 
-/// All ways of a scenario over which messages may go from one queue to another, each with the least
-/// time in milliseconds that it takes: from queues to their dead-letter queues, from the homes of
-/// consumers to where they forward, and from the queues of move tasks to where they move messages
-/// (a task without a destination may move to each queue whose dead-letter queue is its own). The
-/// error is want of memory.
+/// All ways of a scenario along which messages may go from one queue to another, each with the
+/// least time in milliseconds that it takes. They lead:
+///
+/// - from queues to their dead-letter queues,
+/// - from the queues of consumers to those to which they forward,
+/// - from the queues of move tasks to those to which they move messages.
+///
+/// A task without a destination may move to each queue whose dead-letter queue is its own.
+///
+/// # Errors
+///
+/// `AllocError` if memory runs out.
 pub fn edges(alloc: Global, scenario: &Scenario) -> Result<Vec<Edge>, AllocError>
     ensures ways { IfOk result (λ ways. ways.items ≡ edges scenario.now) }
     ensures range { IfOk result (λ ways. All (λ e. (1 ≤ e.least) × (e.least ≤ 900000)) ways.items) }

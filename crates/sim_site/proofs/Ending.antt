@@ -14,10 +14,10 @@ use Rattle.sim_index.specs.Marks.{IsNextIn, IsPlaceOfLeast, NoneIn, least_of, no
 use Rattle.sim_index.specs.Marked.{AreMarked, Marked}
 use Rattle.sim_index.proofs.Kept.{node_kept}
 use Rattle.sqs_model.proofs.Counts.{find_picked}
-use Rattle.sqs_model.proofs.StepMoves.{key_self}
 use Rattle.sqs_model.proofs.WorldMoves.{is_due_least}
 use Rattle.sqs_model.specs.Dues.{poll_key}
 use Rattle.sim_clock.specs.Places.{IsAbsent, Stands, place_from_position}
+use Rattle.sim_clock.proofs.Orderings.{key_self}
 use Rattle.sqs_model.specs.World.{is_due}
 use Rattle.sqs_model.specs.Site.{Poll}
 use Rattle.sqs_model.specs.Step.{ends_at}

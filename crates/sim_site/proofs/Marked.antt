@@ -1,17 +1,15 @@
 -- The wakes of a site's actors, as their marks tell them.
-use Rattle.std.specs.Prelude.{IfSome, List, None, Option, Some, flat_map, get_or, length, map, set, ℕ, ◌<◌, ◌≡◌}
+use Rattle.std.specs.Prelude.{List, None, Option, Some, flat_map, get_or, length, map, set, ℕ, ◌<◌, ◌≡◌}
 use Rattle.std.proofs.Common.{ap, arith, refl, sym, ◌∙◌}
-use Rattle.std.proofs.lemmas.List.{get_or-set_same, length-map, map-set, set-get_or, set-set}
+use Rattle.std.proofs.lemmas.List.{get_or-set_same, length-map, map-set, set-set}
 use Rattle.sim_clock.specs.Order.{least}
 use Rattle.sim_index.specs.declared.mark.Mark.{Mark}
 use Rattle.sim_index.specs.Marked.{AreMarked, Marked, with_value}
 use Rattle.sim_index.specs.Marks.{least_of, no_mark}
 use Rattle.sqs_model.specs.Actor.{Actor}
 use Rattle.sqs_model.specs.Dues.{actor_dues}
-use Rattle.sim_site.specs.Marked.{IsFirst, brought_up, wake_mark}
+use Rattle.sim_site.specs.Marked.{brought_up, wake_mark}
 use Rattle.sim_index.proofs.Kept.{least_kept}
-use Rattle.sim_site.proofs.Firsts.{first_within}
-use Rattle.sim_site.proofs.Ordered.{number}
 
 -- the least of the marks of actors is their least wake
 pub marked_wakes : (list : Marked Actor) → AreMarked wake_mark list → least_of list.marks ≡ least (flat_map actor_dues list.values)
@@ -21,15 +19,6 @@ marked_wakes list h = ap least_of h ∙ least_kept wake_mark actor_dues (λ _. r
 pub brought_values : (told : Option ℕ) (list : Marked Actor) → (brought_up told list).values ≡ list.values
 brought_values None list = refl
 brought_values (Some place) list = refl
-
--- the place of the one told last is one of the list
-pub told_within : (told : Option ℕ) (xs : List Actor) → IfSome told (IsFirst (map number xs)) → IfSome told (λ place. place < length xs)
-told_within None xs h = tt
-told_within (Some place) xs h = first_within xs place h
-
--- where all are marked, one of them may be told something
-pub marked_but : (list : Marked Actor) (place : ℕ) → AreMarked wake_mark list → AreMarked wake_mark (brought_up (Some place) list)
-marked_but list place h = ap (λ (ms : List Mark). set ms place (get_or (map wake_mark list.values) place no_mark)) h ∙ set-get_or (map wake_mark list.values) place no_mark
 
 -- actors with the same marks and wakes
 pub marked_alike : (told : Option ℕ) (list news : Marked Actor) → news.marks ≡ list.marks → map wake_mark news.values ≡ map wake_mark list.values → AreMarked wake_mark (brought_up told list) → AreMarked wake_mark (brought_up told news)

@@ -6,27 +6,18 @@ use Rattle.std.specs.BTreeMap.{insert_entry}
 use Rattle.std.specs.Map.{keys_of, values_of}
 use Rattle.std.specs.Ordering.{is_lt, match_ordering, nat_cmp, on, ordering_reverse, ordering_then}
 use Rattle.std.specs.declared.cmp.Ordering.{Ordering}
-use Rattle.std.proofs.Common.{Equal, Greater, Less, ap, arith, if◌then◌else◌, refl, rules, subst, sym, ◌∙◌}
+use Rattle.std.proofs.Common.{Equal, Greater, Less, ap, arith, if◌then◌else◌, refl, subst, sym, ◌∙◌}
 use Rattle.sim_clock.specs.declared.key.Key.{Key}
-use Rattle.sim_clock.specs.declared.key.Class.{Class}
-use Rattle.sim_clock.specs.contracts.key.ClassOrd.TheImpl.{ghosts as of_classes}
 use Rattle.sim_clock.specs.contracts.key.KeyOrd.TheImpl.{ghosts as of_keys}
-use Rattle.sim_clock.specs.Order.{IsInOrder, class_rank, inserted_by, key_cmp, key_cmp_total, least}
+use Rattle.sim_clock.specs.Order.{IsInOrder, inserted_by, key_cmp, key_cmp_total, least}
 use Rattle.sim_clock.proofs.Places.{least_in_order}
+use Rattle.sim_clock.proofs.HeapOrder.{keys_compare}
 use Rattle.sqs_redrive.specs.declared.transfers.Outbound.{Outbound}
 use Rattle.sqs_redrive.specs.Transfers.{transfer_key}
 use Rattle.sim_site.specs.Arrivals.{AreArriving, IsArriving, arriving_cmp}
 
 abbrev Entry : Type 0
 Entry = (Key × ℕ) × Outbound
-
-classes_compare : (a b : Class) → of_classes.cmp a b ≡ nat_cmp (class_rank a) (class_rank b)
-classes_compare a b = search rules
-
-keys_compare : (a b : Key) → of_keys.cmp a b ≡ key_cmp a b
-keys_compare a b =
-    ap (λ class. ordering_then (nat_cmp a.at b.at) (ordering_then (nat_cmp a.agent b.agent) (ordering_then class (nat_cmp a.number b.number))))
-    (classes_compare a.class b.class)
 
 -- the order of the entries, as the tree computes it
 abbrev pub computed : Key × ℕ → Key × ℕ → Ordering

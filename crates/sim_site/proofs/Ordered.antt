@@ -30,7 +30,7 @@ other_number n a h = grind (arith, nat_tests)
 past_number : (n : ℕ) (a : Actor) → n < a.number → is_actor n a ≡ false
 past_number n a h = grind (arith, nat_tests)
 
-its_number : (n : ℕ) (a : Actor) → a.number ≡ n → is_actor n a ≡ true
+pub its_number : (n : ℕ) (a : Actor) → a.number ≡ n → is_actor n a ≡ true
 its_number n a h = grind (arith, nat_tests)
 
 -- the first actor with a number, by the place before which the numbers are less

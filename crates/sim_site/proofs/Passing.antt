@@ -1,5 +1,5 @@
 -- Where a part of an effect takes a count past the limit, the whole does.
-use Rattle.std.specs.Prelude.{Bool, Err, IfErr, IsErrAnd, IsOkUnless, List, Ok, Result, Some, [], cond, false, find, map, max, true, ℕ, ◌++◌, ◌<◌, ◌∷◌, ◌≡◌, ◌≤◌}
+use Rattle.std.specs.Prelude.{Bool, Err, IfErr, IsErrAnd, List, Ok, Result, Some, [], cond, false, find, map, max, true, ℕ, ◌++◌, ◌<◌, ◌∷◌, ◌≡◌, ◌≤◌}
 use Rattle.std.proofs.Common.{arith, subst, sym}
 use Rattle.std.proofs.Math.Nat.{le-max_left, le-max_right, max-le}
 use Rattle.sim_clock.specs.declared.refusal.Refusal.{Refusal}
@@ -56,13 +56,6 @@ rows_pass e p = let m = le-max_right (site_count e.core) (rows_count e.rows) in 
 
 -- the counts of a site
 module _ (c : Core) where
-  pub arrivals_within : c.queue.arrivals ≤ site_count c
-  arrivals_within = le-max_left _ _
-
-  pub sent_within : c.sent ≤ site_count c
-  sent_within = let a : c.sent ≤ greatest (c.sent ∷ c.draws.taken ∷ c.samples ∷ greatest (map actor_count c.actors) ∷ greatest (map task_count c.tasks) ∷ []) = le-max_left _ _ in
-      let b : greatest (c.sent ∷ c.draws.taken ∷ c.samples ∷ greatest (map actor_count c.actors) ∷ greatest (map task_count c.tasks) ∷ []) ≤ site_count c = le-max_right _ _ in omega (arith, a, b)
-
   pub words_within : c.draws.taken ≤ site_count c
   words_within = let a : c.draws.taken ≤ greatest (c.draws.taken ∷ c.samples ∷ greatest (map actor_count c.actors) ∷ greatest (map task_count c.tasks) ∷ []) = le-max_left _ _ in
       let d : greatest (c.draws.taken ∷ c.samples ∷ greatest (map actor_count c.actors) ∷ greatest (map task_count c.tasks) ∷ []) ≤ greatest (c.sent ∷ c.draws.taken ∷ c.samples ∷ greatest (map actor_count c.actors) ∷ greatest (map task_count c.tasks) ∷ []) = le-max_right _ _ in
@@ -112,19 +105,11 @@ pub stops_if : {A : Type 0} (L M : Type 0) (r : Result A Refusal) → (L → M) 
 stops_if L M (Ok a) f h = tt
 stops_if L M (Err x) f h = stops_for L M x f h
 
-pub stops_memory : {A : Type 0} (L : Type 0) (r : Result A Refusal) → IsOkUnless r refusals.Memory → IfErr r (StopsWhere L)
-stops_memory L (Ok a) h = tt
-stops_memory L (Err x) h = subst (StopsWhere L) (sym h) tt
-
 -- what comes after an effect that was carried out
 pub stops_then : {A : Type 0} (r : Result A Refusal) (a b : Effects) (c : Core) (e : Effect) (f : Core → Effect) → Did a b c e → IfErr r (Stops (f c)) → IfErr r (Stops (and_then e f))
 stops_then r a b c e f did h =
     let k : IfErr r (Stops (f e.core)) = subst (λ x. IfErr r (Stops (f x))) did.core h in
     stops_if (PassesCount (f e.core)) (PassesCount (and_then e f)) r (passes_after e f) k
-
--- an effect before another
-pub stops_first : {A : Type 0} (r : Result A Refusal) (e : Effect) (f : Core → Effect) → Grows e.core (f e.core).core → IfErr r (Stops e) → IfErr r (Stops (and_then e f))
-stops_first r e f g h = stops_if (PassesCount e) (PassesCount (and_then e f)) r (passes_before e f g) h
 
 -- `?` passes a refusal up as it is
 pub stops_up : {A : Type 0} (L M : Type 0) (r : Result A Refusal) (x : Refusal) → IsErrAnd r (λ y. y ≡ x) → (L → M) → StopsWhere L x → IfErr r (StopsWhere M)

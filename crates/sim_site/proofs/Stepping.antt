@@ -1,6 +1,6 @@
 -- The step of a move task, message by message.
 use Rattle.std.specs.Prelude.{Err, List, Ok, OnOk, Result, Some, find, get_or, length, set, ℕ}
-use Rattle.std.proofs.Common.{Global, Vec, ◌≡◌, [], ◌∷◌, ◌++◌, append_assoc, append-nil, refl, ap, arith, sym, ◌∙◌}
+use Rattle.std.proofs.Common.{Global, Vec, ◌≡◌, [], ◌∷◌, ◌++◌, append_assoc, append-nil, refl, ap, sym, ◌∙◌}
 use Rattle.sim_clock.specs.declared.key.Key.{Key}
 use Rattle.sim_clock.specs.declared.refusal.Refusal.{Refusal}
 use Rattle.sim_site.specs.Effects.{Effects}
@@ -65,11 +65,6 @@ move_remains_none a b key c t whole m =
       rows = sym (append-nil b.rows.items) ∙ m.rows;
       sent = sym (append-nil b.sent.items) ∙ m.sent;
     }
-
--- a list of no length
-pub none_left : {A : Type 0} (xs : List A) → length xs ≡ 0 → xs ≡ []
-none_left [] h = refl
-none_left (x ∷ xs) h = absurd (omega arith)
 
 -- a whole step
 pub did_step :

@@ -10,11 +10,12 @@ use Rattle.sqs_model.specs.declared.acts.Answer.{Answer}
 use Rattle.sqs_model.specs.declared.agents.ActorSettings.{ActorSettings}
 use Rattle.sqs_model.specs.Actor.{Actor, next}
 use Rattle.sim_clock.specs.Places.{Stands}
+use Rattle.sim_site.proofs.Ordered.{its_number}
 use Rattle.sqs_model.specs.Site.{is_actor}
 use Rattle.sqs_model.proofs.Counts.{find_changed, find_picked}
 use Rattle.sim_actor.specs.Lives.{IsFramed, Meets}
-use Rattle.sim_site.specs.Kept.{HasShortWaits}
-use Rattle.sim_site.specs.Turns.{Polled, Turned, WaitsShortly}
+use Rattle.sim_site.specs.Kept.{HasShortWaits, WaitsShortly}
+use Rattle.sim_site.specs.Turns.{Polled, Turned}
 use Rattle.sim_site.proofs.Waits.{next_waits}
 
 module _ {A B : Type 0} (p : A → Bool) (f : A → B) where
@@ -38,9 +39,6 @@ module _ {A B : Type 0} (p : A → Bool) (f : A → B) where
 
 pub is_its_number : (n : ℕ) (a : Actor) → is_actor n a ≡ true → a.number ≡ n
 is_its_number n a h = grind (arith, nat_tests)
-
-has_its_number : (n : ℕ) (a : Actor) → a.number ≡ n → is_actor n a ≡ true
-has_its_number n a h = grind (arith, nat_tests)
 
 pub found_number : (n : ℕ) (xs : List Actor) (a : Actor) → find (is_actor n) xs ≡ Some a → a.number ≡ n
 found_number n xs a e = is_its_number n a (find_picked (is_actor n) xs a e)
@@ -68,7 +66,7 @@ module _ (n : ℕ) (xs : List Actor) (i : ℕ) (s : Stands (is_actor n) xs i) (a
         decides = d;
         number = number;
         list = set_at b;
-        there = rw (set_at b) (find_changed (is_actor n) (λ _. b) xs a found_at (has_its_number n b number));
+        there = rw (set_at b) (find_changed (is_actor n) (λ _. b) xs a found_at (its_number n b number));
       }
 
   pub turned_if : (now : ℕ) (told : Answer) (r : Result Act Refusal) (b : Actor) → Meets r a b (next a now told) → IsFramed a b → IfOk r (λ act. Turned n now told act xs (set xs i b))

@@ -2,8 +2,6 @@
 use Rattle.std.proofs.Common.{ℕ, Bool, true, false, List, [], ◌∷◌, Option, Some, None}
 use Rattle.std.specs.Prelude.{All, drop, nat_lt}
 use Rattle.std.proofs.lemmas.List.Elements.{All-head, All-drop}
-use Rattle.sqs_message.specs.declared.calls.Call.{Call}
-use Rattle.sqs_message.specs.declared.calls.Call.TheVariants as calls
 use Rattle.sqs_message.specs.declared.calls.ScriptCall.{ScriptCall}
 use Rattle.sqs_model.specs.declared.acts.Act.{Act}
 use Rattle.sqs_model.specs.declared.acts.Act.TheVariants as acts
@@ -15,23 +13,14 @@ use Rattle.sqs_model.specs.declared.agents.ProducerSettings.{ProducerSettings}
 use Rattle.sqs_model.specs.declared.agents.Role.{Role}
 use Rattle.sqs_model.specs.declared.agents.Role.TheVariants.{Consumer, Producer, Script}
 use Rattle.sqs_redrive.specs.declared.answers.Got.{Got}
-use Rattle.sqs_model.specs.Actor.{Actor, Asked, Ended, Served, Stage, act_of, consumer_got, consumer_told, consumer_wake, ends_service, next, next_as, producer_sent, script_wake, serves, wakes_after, woken}
+use Rattle.sqs_model.specs.Actor.{Actor, Asked, Ended, Served, LastAct, consumer_got, consumer_told, consumer_wake, ends_service, next, next_as, producer_sent, script_wake, serves, wakes_after, woken}
 use Rattle.sqs_model.specs.Draw.{Draws, drawn_chance, drawn_uniform}
 use Rattle.sqs_model.proofs.Branches.{either}
-use Rattle.sim_site.specs.Kept.{HasShortWaits, WaitsWithin}
-use Rattle.sim_site.specs.Turns.{WaitsShortly}
-
-call_waits : (c : Call) → WaitsWithin c → WaitsShortly (act_of c)
-call_waits (calls.Send body delay group id) h = tt
-call_waits (calls.Receive max wait timeout) h = h
-call_waits (calls.Delete receipt) h = tt
-call_waits (calls.Change receipt timeout) h = tt
-call_waits (calls.Start task) h = tt
-call_waits (calls.Cancel task) h = tt
+use Rattle.sim_site.specs.Kept.{HasShortWaits, WaitsShortly, WaitsWithin}
 
 script_waits : (a : Actor) (cs : List ScriptCall) → All (λ c. WaitsWithin c.call) cs → WaitsShortly (script_wake a cs).0
 script_waits a [] h = tt
-script_waits a (c ∷ cs) h = call_waits c.call (All-head (λ (x : ScriptCall). WaitsWithin x.call) c cs h)
+script_waits a (c ∷ cs) h = All-head (λ (x : ScriptCall). WaitsWithin x.call) c cs h
 
 producer_waits : (a : Actor) (p : ProducerSettings) (now : ℕ) → WaitsShortly (producer_sent a p now).0
 producer_waits a p now =
@@ -43,7 +32,7 @@ serves_waits a now g (Some f) = tt
 
 ends_waits : (a : Actor) (c : ConsumerSettings) (now : ℕ) (g : Got) (x : Bool × Draws) → WaitsShortly (ends_service a c now g x).0
 ends_waits a c now g (true, draws) = tt
-ends_waits a c now g (false, draws) = serves_waits (record a { stage = Served g.receipt; draws = draws }) now g c.forward
+ends_waits a c now g (false, draws) = serves_waits (record a { last_act = Served g.receipt; draws = draws }) now g c.forward
 
 wake_waits : (a : Actor) (c : ConsumerSettings) (now : ℕ) (gs : List Got) → HasShortWaits (Consumer c) → WaitsShortly (consumer_wake a c now gs).0
 wake_waits a c now [] h = h
@@ -53,24 +42,20 @@ got_waits : (a : Actor) (c : ConsumerSettings) (now : ℕ) (gs : List Got) → W
 got_waits a c now [] = tt
 got_waits a c now (g ∷ gs) = tt
 
-told_waits : (a : Actor) (c : ConsumerSettings) (now : ℕ) (stage : Stage) → WaitsShortly (consumer_told a c now stage).0
+told_waits : (a : Actor) (c : ConsumerSettings) (now : ℕ) (last_act : LastAct) → WaitsShortly (consumer_told a c now last_act).0
 told_waits a c now Asked = tt
 told_waits a c now (Served receipt) = tt
 told_waits a c now Ended = tt
 
 role_waits : (r : Role) (a : Actor) (now : ℕ) (answer : Answer) → HasShortWaits r → WaitsShortly (next_as r a now answer).0
 role_waits (Script script) a now told_by.Wake h = script_waits a (drop a.wakes script) (All-drop (λ (x : ScriptCall). WaitsWithin x.call) a.wakes script h)
-role_waits (Script script) a now (told_by.Got gots) h = tt
-role_waits (Script script) a now told_by.Waiting h = tt
-role_waits (Script script) a now told_by.Other h = tt
-role_waits (Producer p) a now told_by.Wake h = tt
-role_waits (Producer p) a now (told_by.Got gots) h = tt
-role_waits (Producer p) a now told_by.Waiting h = tt
+role_waits (Script script) a now answer h = tt
 role_waits (Producer p) a now told_by.Other h = producer_waits a p now
+role_waits (Producer p) a now answer h = tt
 role_waits (Consumer c) a now told_by.Wake h = wake_waits (woken a) c now a.held h
 role_waits (Consumer c) a now (told_by.Got gots) h = got_waits a c now gots
 role_waits (Consumer c) a now told_by.Waiting h = tt
-role_waits (Consumer c) a now told_by.Other h = told_waits a c now a.stage
+role_waits (Consumer c) a now told_by.Other h = told_waits a c now a.last_act
 
 pub next_waits : (a : Actor) (now : ℕ) (answer : Answer) → HasShortWaits a.settings.role → WaitsShortly (next a now answer).0
 unfolding next

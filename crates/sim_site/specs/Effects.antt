@@ -1,4 +1,5 @@
--- How the methods of a site carry out the effects of the definitions: rows and transfers are added to those made before.
+-- How the methods of a site carry out the effects of the definitions: rows and transfers are appended to those made
+-- before.
 use Rattle.std.specs.Prelude.{◌++◌, ◌≡◌, ◌≤◌}
 use Rattle.sim_clock.specs.declared.refusal.Refusal.{Refusal}
 use Rattle.sim_engine.specs.declared.effects.Effects.{Effects as EffectsOf}
@@ -27,7 +28,7 @@ pub record DidHandle (before after : Effects) (s : Site) (h : Handled) : Type 0 
   pub rows : after.rows.items ≡ before.rows.items ++ h.rows
   pub sent : after.sent.items ≡ before.sent.items ++ h.sent
 
--- the same of an act, with what its actor is told
+-- the same of an act, with the answer that its actor gets
 pub record DidMake (before after : Effects) (c : Core) (told : Answer) (m : Made) : Type 0 where
   pub effect : Did before after c m.effect
   pub answer : told ≡ m.answer
@@ -39,6 +40,6 @@ pub record Remains (before after : Effects) (rest whole : Effect) : Type 0 where
   pub sent : after.sent.items ++ rest.sent ≡ before.sent.items ++ whole.sent
   pub told : rows_count rest.rows ≤ rows_count whole.rows
 
--- why an effect is not carried out: want of memory, or a count that it takes past the limit
+-- why an effect is not carried out: out of memory, or a count that it takes past the limit
 abbrev pub Stops : Effect → Refusal → Type 0
 Stops e = StopsWhere (PassesCount e)

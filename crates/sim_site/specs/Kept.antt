@@ -1,12 +1,14 @@
 -- What every state of a site keeps, so that no moment that it works out is too great.
 use Rattle.std.specs.Prelude.{All, List, ℕ, ◌*◌, ◌+◌, ◌<◌, ◌^◌, ◌≤◌}
 use Rattle.sqs_message.specs.declared.calls.Call.{Call}
-use Rattle.sqs_message.specs.declared.calls.Call.TheVariants as calls
+use Rattle.sqs_model.specs.declared.acts.Act.{Act}
+use Rattle.sqs_model.specs.declared.acts.Act.TheVariants as acts
 use Rattle.sqs_model.specs.declared.agents.ActorSettings.{ActorSettings}
 use Rattle.sqs_model.specs.declared.agents.Role.{Role}
 use Rattle.sqs_model.specs.declared.agents.Role.TheVariants.{Consumer, Producer, Script}
 use Rattle.sqs_redrive.specs.declared.settings.QueueSettings.{QueueSettings}
 use Rattle.sqs_redrive.specs.declared.settings.TaskSettings.{TaskSettings}
+use Rattle.sqs_model.specs.Actor.{act_of}
 use Rattle.sqs_model.specs.Answers.{most_count}
 use Rattle.sqs_model.specs.Progress.{Ascends}
 use Rattle.sqs_model.specs.Task.{Task}
@@ -17,14 +19,20 @@ use Rattle.sqs_model.specs.Valid.{IsLatency, IsQueueSettings, MayBeTimeout}
 abbrev pub most_wait : ℕ
 most_wait = 2 ^ 32
 
--- a call of a script that waits for no longer than that
+-- an act that waits for no longer than that
+abbrev pub WaitsShortly : Act → Type 0
+WaitsShortly (acts.Send body delay group id) = Unit {0}
+WaitsShortly (acts.Receive max wait timeout) = wait ≤ most_wait
+WaitsShortly (acts.Delete receipt) = Unit {0}
+WaitsShortly (acts.Change receipt timeout) = Unit {0}
+WaitsShortly (acts.Start task) = Unit {0}
+WaitsShortly (acts.Cancel task) = Unit {0}
+WaitsShortly (acts.Serve id receipt failed forward) = Unit {0}
+WaitsShortly acts.Nothing = Unit {0}
+
+-- the same of a script's call
 abbrev pub WaitsWithin : Call → Type 0
-WaitsWithin (calls.Send body delay group id) = Unit {0}
-WaitsWithin (calls.Receive max wait timeout) = wait ≤ most_wait
-WaitsWithin (calls.Delete receipt) = Unit {0}
-WaitsWithin (calls.Change receipt timeout) = Unit {0}
-WaitsWithin (calls.Start task) = Unit {0}
-WaitsWithin (calls.Cancel task) = Unit {0}
+WaitsWithin call = WaitsShortly (act_of call)
 
 -- a role whose receives wait for no longer than that
 abbrev pub HasShortWaits : Role → Type 0
@@ -36,7 +44,8 @@ HasShortWaits (Consumer c) = c.wait ≤ most_wait
 abbrev pub numbered_settings : Task → ℕ × TaskSettings
 numbered_settings t = (t.number, t.move.settings)
 
--- settings of a site that never change: its queue's are in range, its actors' waits are short, its tasks' latencies are in range, and each task has a number of its own
+-- settings of a site that never change: its queue's are in range, its actors' waits are short, its tasks' latencies are
+-- in range, and each task has its own number
 pub record IsSetUp (settings : QueueSettings) (actors : List ActorSettings) (tasks : List (ℕ × TaskSettings)) : Type 0 where
   pub queue : IsQueueSettings settings
   pub waits : All (λ a. HasShortWaits a.role) actors
@@ -47,7 +56,7 @@ pub record IsSetUp (settings : QueueSettings) (actors : List ActorSettings) (tas
 abbrev pub AreAllowed : List Poll → Type 0
 AreAllowed polls = All (λ p. MayBeTimeout p.timeout) polls
 
--- samples every so often, of which so many were taken: the next is at a moment of 64 bits
+-- samples at an interval, of which some were taken: the next is at a moment of 64 bits
 pub record IsSampled (sample samples : ℕ) : Type 0 where
   pub interval : sample ≤ most_count
   pub taken : samples ≤ most_count

@@ -1,4 +1,4 @@
--- Actors with their wakes, and places where polls may wait with their ends.
+-- Actors with their wakes, and places at which polls may wait, with their ends.
 use Rattle.std.specs.Prelude.{Bool, false, true, IfSome, List, None, Option, Some, [], get_or, length, map, position, set, suc, ℕ, ◌<◌, ◌==◌, ◌∷◌, ◌≡◌}
 use Rattle.std.specs.List.Sorted.{IsNonDecreasingBy}
 use Rattle.sim_clock.specs.declared.key.Key.{Key}
@@ -13,7 +13,7 @@ use Rattle.sqs_model.specs.Step.{ends_at}
 
 -- what is kept of an actor: its wake
 abbrev pub wake_mark : Actor → Mark
-wake_mark a = record { due = least (actor_dues a); hosts = 0 }
+wake_mark a = record { due = least (actor_dues a); flags = 0 }
 
 -- actors after the mark of the one at a place is brought up, if there is a place
 abbrev pub brought_up : Option ℕ → Marked Actor → Marked Actor
@@ -24,18 +24,19 @@ brought_up (Some place) actors = record actors { marks = set actors.marks place 
 abbrev pub IsFirst : List ℕ → ℕ → Type 0
 IsFirst numbers place = position (λ n. n == get_or numbers place 0) numbers ≡ Some place
 
--- actors with the marks of their wakes, but for that of the one told last; one is found by its number where these are said not to fall, and at once if it was told last
+-- actors with the marks of their wakes, except that of the one called last; one is found by its number if the numbers
+-- are known not to fall, and at once if it was called last
 pub record AreFound (actors : Marked Actor) (is_in_order : Bool) (told : Option ℕ) : Type 0 where
   pub order : is_in_order ≡ true → IsNonDecreasingBy (λ (a : Actor). a.number) actors.values
   pub first : IfSome told (IsFirst (map (λ (a : Actor). a.number) actors.values))
   pub marked : AreMarked wake_mark (brought_up told actors)
 
--- what is kept of a place where a poll may wait: its end
+-- what is kept of a place at which a poll may wait: its end
 abbrev pub end_mark : Option Poll → Mark
 end_mark None = no_mark
-end_mark (Some p) = record { due = Some (poll_key p); hosts = 1 }
+end_mark (Some p) = record { due = Some (poll_key p); flags = 1 }
 
--- the polls of places, where one waits
+-- the polls that wait at these places
 abbrev pub waiting : List (Option Poll) → List Poll
 waiting [] = []
 waiting (None ∷ places) = waiting places
@@ -46,12 +47,12 @@ abbrev pub place_ends_at : Key → Option Poll → Bool
 place_ends_at key None = false
 place_ends_at key (Some p) = ends_at key p
 
--- places with the marks of their polls, which are so many
+-- places with the marks of their polls, and the number of these polls
 pub record AreWaiting (places : Marked (Option Poll)) (count : ℕ) : Type 0 where
   pub marked : AreMarked end_mark places
   pub counted : count ≡ length (waiting places.values)
 
--- the first place where a poll waits
+-- the first place at which a poll waits
 pub record IsFirstAt (places : List (Option Poll)) (place : ℕ) : Type 0 where
   pub poll : Poll
   pub within : place < length places

@@ -47,7 +47,7 @@ stepped_moves key c t loads rest =
     let after : Task = task_after key.at (length loads) rest m.task in
     record { rows = m.rows ++ end_row key c after rest; sent = m.sent; task = after }
 
--- the task of a number takes a step, and stands in its place after it
+-- the task with a number takes a step, and takes its own place afterwards
 pub record Stepped (n : ℕ) (key : Key) (site : ℕ) (loads : List (ℕ × Load)) (rest : Rest) (a b : Effects) (old new : List Task) : Type 0 where
   pub before : Task
   pub after : Task

@@ -1,5 +1,5 @@
--- One turn of an actor at its site: it is told something, decides, and acts.
-use Rattle.std.specs.Prelude.{List, None, Option, Some, find, ℕ, ◌+◌, ◌≡◌, ◌≤◌}
+-- One turn of an actor at its site: it gets an answer, decides, and acts.
+use Rattle.std.specs.Prelude.{List, None, Option, Some, find, ℕ, ◌+◌, ◌≡◌}
 use Rattle.sim_clock.specs.declared.key.Key.{Key}
 use Rattle.sqs_model.specs.declared.acts.Act.{Act}
 use Rattle.sqs_model.specs.declared.acts.Answer.{Answer}
@@ -9,9 +9,8 @@ use Rattle.sqs_model.specs.Actor.{Actor, next}
 use Rattle.sqs_model.specs.Acts.{Made, act_made}
 use Rattle.sqs_model.specs.Site.{Core, Effect, is_actor, no_effect, with_actor}
 use Rattle.sim_site.specs.Effects.{Did, Effects}
-use Rattle.sim_site.specs.Kept.{most_wait}
 
--- the actor of a number decides on what it is told, and stands in its place after it
+-- the actor with a number decides on the answer that it gets, and takes its own place afterwards
 pub record Turned (n now : ℕ) (told : Answer) (act : Act) (old new : List Actor) : Type 0 where
   pub before : Actor
   pub after : Actor
@@ -28,18 +27,7 @@ pub record Polled (n polls : ℕ) (old new : List Actor) : Type 0 where
   pub count : before.polls ≡ polls
   pub list : new ≡ changed (is_actor n) (λ _. record before { polls = before.polls + 1 }) old
 
--- an act that waits for no longer than may be
-abbrev pub WaitsShortly : Act → Type 0
-WaitsShortly (acts.Send body delay group id) = Unit {0}
-WaitsShortly (acts.Receive max wait timeout) = wait ≤ most_wait
-WaitsShortly (acts.Delete receipt) = Unit {0}
-WaitsShortly (acts.Change receipt timeout) = Unit {0}
-WaitsShortly (acts.Start task) = Unit {0}
-WaitsShortly (acts.Cancel task) = Unit {0}
-WaitsShortly (acts.Serve id receipt failed forward) = Unit {0}
-WaitsShortly acts.Nothing = Unit {0}
-
--- what a turn made, and what the actor is told of it, if it did anything
+-- what a turn made, and the answer that the actor gets, if it did anything
 pub record Turn : Type 0 where
   pub effect : Effect
   pub answer : Option Answer

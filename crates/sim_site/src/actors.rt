@@ -1,4 +1,4 @@
-//! The actors of a site, with a tree of their wakes where there are many.
+//! The actors of a site; if there are many, with a tree of their wakes.
 ghost use Rattle.std.specs.Prelude.{All, IfErr, IfOk, IfSome, MatchOption, Some, find, flat_map, length, map, position, true, ◌<◌, ◌≡◌, ◌≤◌};
 ghost use Rattle.std.specs.List.Sorted.{IsNonDecreasingBy};
 ghost use Rattle.sim_actor.specs.Lives.{greatest_count};
@@ -10,10 +10,10 @@ ghost use Rattle.sqs_model.specs.Dues.{actor_dues};
 ghost use Rattle.sim_clock.specs.Places.{IsAbsent, Stands};
 ghost use Rattle.sqs_model.specs.Site.{is_actor};
 ghost use Rattle.sim_engine.specs.Limits.{StopsWhere};
-ghost use Rattle.sim_site.specs.Kept.{HasShortWaits};
+ghost use Rattle.sim_site.specs.Kept.{HasShortWaits, WaitsShortly};
 ghost use Rattle.sim_index.specs.Marked.{AreMarked};
 ghost use Rattle.sim_site.specs.Marked.{brought_up, wake_mark};
-ghost use Rattle.sim_site.specs.Turns.{Polled, Turned, WaitsShortly};
+ghost use Rattle.sim_site.specs.Turns.{Polled, Turned};
 
 use crate::agents::wake_of;
 use sim_actor::Actor;
@@ -23,17 +23,17 @@ use sqs_model::{Act, Answer};
 use std::alloc::{AllocError, Global};
 use std::marker::Model;
 
-// What is kept of an actor: its wake.
+// The mark of an actor: the key of its wake.
 fn mark_of(actor: &Actor) -> Mark
     ensures { result ≡ wake_mark actor.now }
 {
     Mark {
         due: wake_of(actor),
-        hosts: 0,
+        flags: 0,
     }
 }
 
-// Actors, each marked with its wake. The error is want of memory.
+// Actors, each marked with its wake. It fails if memory runs out.
 fn marked(alloc: Global, actors: Vec<Actor>) -> Result<MarkedList<Actor>, AllocError>
     ensures actors { IfOk result (λ list. list.values ≡ actors.items) }
     ensures marked { IfOk result (AreMarked wake_mark) }
@@ -41,7 +41,7 @@ fn marked(alloc: Global, actors: Vec<Actor>) -> Result<MarkedList<Actor>, AllocE
     MarkedList::of(alloc, actors, |actor| mark_of(actor))
 }
 
-// Whether the numbers of actors do not fall from one to the next.
+// Whether the numbers of actors never fall from one to the next.
 fn are_in_order(actors: &[Actor]) -> bool
     ensures { result ≡ true → IsNonDecreasingBy (λ a. a.number) actors.now }
 {
@@ -53,14 +53,14 @@ fn are_in_order(actors: &[Actor]) -> bool
     true
 }
 
-// Where the first actor with a number stands, by going over them.
+// The index of the first actor with a number, found by a scan.
 fn first_actor(actors: &[Actor], number: u32) -> Option<usize>
     ensures { result ≡ position (is_actor number) actors.now }
 {
     actors.iter().position(|a| a.number() == number)
 }
 
-// The same, among actors whose numbers do not fall.
+// The same, among actors whose numbers never fall.
 fn first_in_order(actors: &[Actor], number: u32) -> Option<usize>
     requires { IsNonDecreasingBy (λ a. a.number) actors.now }
     ensures { result ≡ position (is_actor number) actors.now }
@@ -74,7 +74,7 @@ fn first_in_order(actors: &[Actor], number: u32) -> Option<usize>
     }
 }
 
-// The mark of the actor that was told something is brought up, if there is one.
+// Updates the mark of the actor that was called last, if there is one.
 fn bring_up(actors: &mut MarkedList<Actor>, told: Option<usize>)
     requires { IfSome told (λ place. place < length actors.old.values) }
     ensures { actors.new ≡ brought_up told actors.old }
@@ -85,7 +85,7 @@ fn bring_up(actors: &mut MarkedList<Actor>, told: Option<usize>)
     }
 }
 
-// All marks are brought up but for that of the actor at a place, which is told something.
+// Updates all marks but that of the actor at `place`, which is called next.
 fn turn_to(actors: &mut MarkedList<Actor>, told: Option<usize>, place: usize)
     requires told { IfSome told (λ place. place < length actors.old.values) }
     requires marked { AreMarked wake_mark (brought_up told actors.old) }
@@ -97,7 +97,8 @@ fn turn_to(actors: &mut MarkedList<Actor>, told: Option<usize>, place: usize)
     }
 }
 
-// The actor at a place is told something and decides what it does; its mark is not brought up.
+// Calls the actor at `place` with an answer, on which it decides what it does. Its mark is not
+// updated.
 fn told_at(
     actors: &mut MarkedList<Actor>,
     place: usize,
@@ -108,25 +109,36 @@ fn told_at(
     requires place { Stands (is_actor number) actors.old.values place }
     requires moment { now ≤ most_count }
     requires marked { AreMarked wake_mark (brought_up (Some place) actors.old) }
-    ensures turned { IfOk result (λ act. Turned number now answer act actors.old.values actors.new.values) }
-    ensures settings { map (λ a. a.settings) actors.new.values ≡ map (λ a. a.settings) actors.old.values }
-    ensures waits { All (λ a. HasShortWaits a.role) (map (λ a. a.settings) actors.old.values) → IfOk result WaitsShortly }
-    ensures stops { IfErr result (StopsWhere ((a : TheActor) → find (is_actor number) actors.old.values ≡ Some a → most_count < greatest_count (next a now answer).1)) }
+    ensures turned { IfOk result
+        (λ act. Turned number now answer act actors.old.values actors.new.values) }
+    ensures settings { map (λ a. a.settings) actors.new.values
+        ≡ map (λ a. a.settings) actors.old.values }
+    ensures waits { All (λ a. HasShortWaits a.role) (map (λ a. a.settings) actors.old.values)
+        → IfOk result WaitsShortly }
+    ensures stops { IfErr result (StopsWhere ((a : TheActor)
+        → find (is_actor number) actors.old.values ≡ Some a
+        → most_count < greatest_count (next a now answer).1)) }
     ensures marked { AreMarked wake_mark (brought_up (Some place) actors.new) }
-    ensures numbers { map (λ a. a.number) actors.new.values ≡ map (λ a. a.number) actors.old.values }
+    ensures numbers { map (λ a. a.number) actors.new.values
+        ≡ map (λ a. a.number) actors.old.values }
 {
     actors.value_mut(place).next(now, answer)
 }
 
-// The actor at a place waits for one more poll, and answers how many it had before. Its wake stays.
+// Counts one more waiting poll of the actor at `place`. Returns how many it had before. Its wake
+// stays.
 fn counted_at(actors: &mut MarkedList<Actor>, place: usize, number: u32) -> Result<u64, Refusal>
     requires place { Stands (is_actor number) actors.old.values place }
-    ensures polled { IfOk result (λ polls. Polled number polls actors.old.values actors.new.values) }
-    ensures settings { map (λ a. a.settings) actors.new.values ≡ map (λ a. a.settings) actors.old.values }
-    ensures stops { IfErr result (StopsWhere ((a : TheActor) → find (is_actor number) actors.old.values ≡ Some a → a.polls ≡ most_count)) }
+    ensures polled { IfOk result
+        (λ polls. Polled number polls actors.old.values actors.new.values) }
+    ensures settings { map (λ a. a.settings) actors.new.values
+        ≡ map (λ a. a.settings) actors.old.values }
+    ensures stops { IfErr result (StopsWhere ((a : TheActor)
+        → find (is_actor number) actors.old.values ≡ Some a → a.polls ≡ most_count)) }
     ensures marks { actors.new.marks ≡ actors.old.marks }
     ensures wakes { map wake_mark actors.new.values ≡ map wake_mark actors.old.values }
-    ensures numbers { map (λ a. a.number) actors.new.values ≡ map (λ a. a.number) actors.old.values }
+    ensures numbers { map (λ a. a.number) actors.new.values
+        ≡ map (λ a. a.number) actors.old.values }
 {
     let actor = actors.value_mut(place);
     let polls = actor.polls();
@@ -146,16 +158,14 @@ fn greatest_of(actors: &[Actor]) -> u64
     most
 }
 
-/// The actors at home at a site. What wakes next among them is told at once, a change of one costs
-/// the logarithm of their number, and so does the search for one by its number where the numbers do
-/// not fall. One that is told several things in turn is searched for and marked once. Contracts see
-/// them as a list.
+/// The actors of a site. The next wake is at hand. A change of one actor takes time logarithmic in
+/// their number, and so does a search by number if the numbers never fall. An actor that is called
+/// several times in a row is searched for and marked once. Contracts see the actors as a list.
 #[derive(Drop)]
 pub struct Actors {
     list: MarkedList<Actor>,
     is_in_order: bool,
-    // Where the actor stands whose mark is not brought up, if there is one: the last that was told
-    // something.
+    // The index of the actor that was called last, whose mark is not updated yet, if there is one.
     told: Option<usize>,
 }
 
@@ -172,7 +182,7 @@ impl Model for Actors {
 }
 
 impl Actors {
-    /// These actors. The error is want of memory.
+    /// These actors. It fails if memory runs out.
     pub fn of(alloc: Global, list: Vec<Actor>) -> Result<Actors, AllocError>
         ensures { IfOk result (λ actors. actors ≡ list.items) }
     {
@@ -185,7 +195,7 @@ impl Actors {
         })
     }
 
-    /// The greatest count of them.
+    /// The greatest count of any of them.
     pub fn greatest_count(&self) -> u64
         ensures count { result ≡ greatest (map actor_count self.now) }
         ensures limit { result ≤ most_count }
@@ -193,9 +203,10 @@ impl Actors {
         greatest_of(self.list.values())
     }
 
-    /// Where the first actor with a number stands, with what it says of the list.
+    /// The index of the first actor with a number; the contract says the same of the list.
     pub fn place_of(&self, number: u32) -> Option<usize>
-        ensures { MatchOption result (IsAbsent (is_actor number) self.now) (Stands (is_actor number) self.now) }
+        ensures { MatchOption result (IsAbsent (is_actor number) self.now)
+            (Stands (is_actor number) self.now) }
     {
         if let Some(place) = self.told {
             if self.list.values()[place].number() == number {
@@ -209,8 +220,12 @@ impl Actors {
         }
     }
 
-    /// The actor at a place is told something, and decides what it does. `Memory`; `CountLimit`
-    /// where it would count past the limit.
+    /// Calls the actor at `place` with an answer, and returns what it decides to do. `now` is in
+    /// milliseconds.
+    ///
+    /// # Errors
+    ///
+    /// `Memory`. `CountLimit` if the actor would count past the limit.
     pub fn next_at(
         &mut self,
         place: usize,
@@ -222,26 +237,30 @@ impl Actors {
         requires moment { now ≤ most_count }
         ensures turned { IfOk result (λ act. Turned number now answer act self.old self.new) }
         ensures settings { map (λ a. a.settings) self.new ≡ map (λ a. a.settings) self.old }
-        ensures waits { All (λ a. HasShortWaits a.role) (map (λ a. a.settings) self.old) → IfOk result WaitsShortly }
-        ensures stops { IfErr result (StopsWhere ((a : TheActor) → find (is_actor number) self.old ≡ Some a → most_count < greatest_count (next a now answer).1)) }
+        ensures waits { All (λ a. HasShortWaits a.role) (map (λ a. a.settings) self.old)
+            → IfOk result WaitsShortly }
+        ensures stops { IfErr result (StopsWhere ((a : TheActor)
+            → find (is_actor number) self.old ≡ Some a
+            → most_count < greatest_count (next a now answer).1)) }
     {
         turn_to(&mut self.list, self.told, place);
         self.told = Some(place);
         told_at(&mut self.list, place, number, now, answer)
     }
 
-    /// The actor at a place waits for one more poll, and answers how many it had before.
-    /// `CountLimit` where they are as many as may be counted.
+    /// Counts one more waiting poll of the actor at `place`. Returns how many it had before.
+    /// `CountLimit` if that is the limit of counts.
     pub fn polled_at(&mut self, place: usize, number: u32) -> Result<u64, Refusal>
         requires place { Stands (is_actor number) self.old place }
         ensures polled { IfOk result (λ polls. Polled number polls self.old self.new) }
         ensures settings { map (λ a. a.settings) self.new ≡ map (λ a. a.settings) self.old }
-        ensures stops { IfErr result (StopsWhere ((a : TheActor) → find (is_actor number) self.old ≡ Some a → a.polls ≡ most_count)) }
+        ensures stops { IfErr result (StopsWhere
+            ((a : TheActor) → find (is_actor number) self.old ≡ Some a → a.polls ≡ most_count)) }
     {
         counted_at(&mut self.list, place, number)
     }
 
-    /// The least wake.
+    /// The key of the least wake.
     pub fn least_wake(&mut self) -> Option<Key>
         ensures wake { result ≡ least (flat_map actor_dues self.old) }
         ensures same { self.new ≡ self.old }

@@ -13,7 +13,7 @@ use sim_draw::Draws;
 use sqs_redrive::{MoveTask, TaskSettings, TaskStatus};
 use std::marker::Model;
 
-/// A receive that waits. Times are milliseconds but for the timeout, which is seconds.
+/// A receive that waits. Times are milliseconds, but the timeout is in seconds.
 #[derive(Clone, Copy)]
 pub struct Poll {
     pub actor: u32,
@@ -47,9 +47,9 @@ impl Poll {
     }
 }
 
-/// A move task as an agent: its number, its state, how many transfers it ever sent, which are no
-/// fewer than those since its last start, and its draws. Contracts see it as the definitions'
-/// record of these.
+/// A move task as an agent: its number, its state, its draws, and how many transfers it ever sent,
+/// which are no fewer than those since its last start. Contracts see it as the definitions' record
+/// of these.
 #[derive(Drop)]
 pub struct Task {
     pub(crate) number: u32,
@@ -106,7 +106,7 @@ impl Task {
         self.movement.status()
     }
 
-    /// How many messages it moved since its last start.
+    /// The number of messages that it moved since its last start.
     pub fn moved(&self) -> u64
         ensures { result ≡ moved_of self.now }
     {
@@ -129,7 +129,7 @@ impl Task {
         self.movement.steps().max(self.sent.max(words))
     }
 
-    /// Starts it, or starts it again; it does not run.
+    /// Starts it, also if it ran before; it must not be running.
     pub(crate) fn start(&mut self, now: u64)
         requires idle { runs self.old ≡ false }
         requires moment { now ≤ most_count }
@@ -138,7 +138,7 @@ impl Task {
         let _ = self.movement.start(now);
     }
 
-    /// Stops it; it runs.
+    /// Stops it; it must be running.
     pub(crate) fn cancel(&mut self)
         requires { runs self.old ≡ true }
         ensures { self.new ≡ cancelled_task self.old }

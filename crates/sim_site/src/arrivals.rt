@@ -13,9 +13,9 @@ use std::collections::BTreeMap;
 use std::collections::btree_map::Values;
 use std::marker::Model;
 
-/// The transfers on their way to a site, in the order of their keys, each also by the number of its
-/// insertion, so that of two with one key the earlier comes first. The first is told and taken, and
-/// one is added, in the logarithm of their number. Contracts see them as a list.
+/// The transfers on their way to a site, in the order of their keys. Each also has the number of
+/// its insertion, so that of two with one key the earlier comes first. To find or take the first,
+/// or to add one, takes time logarithmic in their number. Contracts see them as a list.
 #[derive(Drop)]
 pub struct Arrivals {
     map: BTreeMap<(Key, u64), Outbound>,
@@ -49,7 +49,7 @@ impl Arrivals {
         }
     }
 
-    /// The least arrival.
+    /// The key of the least arrival.
     pub fn least(&self) -> Option<Key>
         ensures { result ≡ least (map transfer_key self.now) }
     {
@@ -59,17 +59,20 @@ impl Arrivals {
 
     /// Takes out the first transfer, if there is one.
     pub fn take_first(&mut self) -> Option<Outbound>
-        ensures taken { MatchOption result ((self.old ≡ []) × (self.new ≡ [])) (λ first. self.old ≡ first ∷ self.new) }
-        ensures least { IfSome result (λ first. least (map transfer_key self.old) ≡ Some (transfer_key first)) }
+        ensures taken { MatchOption result ((self.old ≡ []) × (self.new ≡ []))
+            (λ first. self.old ≡ first ∷ self.new) }
+        ensures least { IfSome result
+            (λ first. least (map transfer_key self.old) ≡ Some (transfer_key first)) }
     {
         let (_, first) = self.map.pop_first()?;
         Some(first)
     }
 
-    /// Adds a transfer at its place. The error is want of memory, after which they are as they were;
-    /// an insertion after 2^64 - 1 others, which no run reaches, is that error too.
+    /// Adds a transfer in the order of keys. It fails if memory runs out, and then they are as they
+    /// were. An insertion after 2^64 - 1 others, which no run reaches, is the same error.
     pub fn insert(&mut self, transfer: Outbound) -> Result<(), AllocError>
-        ensures added { OnOk result (self.new ≡ inserted_by (on transfer_key key_cmp) transfer self.old) }
+        ensures added { OnOk result
+            (self.new ≡ inserted_by (on transfer_key key_cmp) transfer self.old) }
         ensures same { OnErr result (self.new ≡ self.old) }
     {
         let Some(next) = self.next.checked_add(1) else {

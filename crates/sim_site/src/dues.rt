@@ -1,4 +1,4 @@
-//! The lesser of two keys, and the least due of the tasks of a site.
+//! The lesser of two keys, and the next step of a site's tasks.
 ghost use Rattle.std.specs.Prelude.{◌≡◌, flat_map};
 ghost use Rattle.sim_clock.specs.Order.{least, lesser as the_lesser};
 ghost use Rattle.sqs_model.specs.Dues.{actor_dues, task_dues};
@@ -7,7 +7,7 @@ use crate::agents::{Task, wake_of};
 use sim_actor::Actor;
 use sim_clock::{Key, lesser};
 
-/// A key takes the place of a later one, or of none; of two equal keys the first stays.
+/// Replaces a key, or none, by another key that is less; of two equal keys the first stays.
 pub fn take_lesser(best: &mut Option<Key>, other: Option<Key>)
     ensures { best.new ≡ the_lesser best.old other }
 {
@@ -22,7 +22,7 @@ pub fn take_lesser(best: &mut Option<Key>, other: Option<Key>)
     *best = other;
 }
 
-/// The least step of tasks that run.
+/// The key of the least step of the running tasks.
 pub fn least_step(tasks: &[Task]) -> Option<Key>
     ensures { result ≡ least (flat_map task_dues tasks.now) }
 {

@@ -1,5 +1,5 @@
-//! A site: a queue with the actors and tasks at home there and the transfers on their way to it,
-//! and the handling of what is due there.
+//! A site: a queue with its actors and tasks and the transfers on their way to it, and the handling
+//! of what is due there.
 #![tactic(auto)]
 
 mod actors;

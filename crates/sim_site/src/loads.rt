@@ -5,7 +5,7 @@ use sqs_message::Text;
 use sqs_redrive::Load;
 use std::alloc::{AllocError, Global};
 
-// Another load with the same values.
+// A load with the same values.
 fn copied_load(alloc: Global, load: &Load) -> Result<Load, AllocError>
     ensures { IfOk result (λ copy. copy ≡ load.now) }
 {
@@ -42,7 +42,7 @@ fn copied_load(alloc: Global, load: &Load) -> Result<Load, AllocError>
     })
 }
 
-/// Another load with the same values, if there is one. The one error is want of memory.
+/// A load with the same values, if there is one. It fails only if memory runs out.
 pub fn copied(alloc: Global, load: &Option<Load>) -> Result<Option<Load>, AllocError>
     ensures { IfOk result (λ copy. copy ≡ load.now) }
 {

@@ -1,4 +1,4 @@
-//! The actors and tasks that a site opens with.
+//! The actors and tasks with which a site opens.
 ghost use Rattle.std.specs.Prelude.{◌≡◌, All, IfOk, map};
 ghost use Rattle.sim_actor.specs.Lives.{IsRole};
 ghost use Rattle.sqs_model.specs.Scenario.{opening_actor, opening_task};
@@ -10,7 +10,7 @@ use sqs_model::ActorSettings;
 use sqs_redrive::TaskSettings;
 use std::alloc::{AllocError, Global};
 
-/// The actors of these numbers and settings, which have done nothing.
+/// Actors with these numbers and settings, which have done nothing.
 pub fn open_actors(
     alloc: Global,
     actors: Vec<(u32, ActorSettings)>,
@@ -26,7 +26,7 @@ pub fn open_actors(
     Actors::of(alloc, opened)
 }
 
-/// The tasks of these numbers and settings, none of them started.
+/// Tasks with these numbers and settings, none of them started.
 pub fn open_tasks(
     alloc: Global,
     tasks: &[(u32, TaskSettings)],

@@ -1,20 +1,21 @@
-//! Tasks by their numbers and by their places in their lists.
+//! Tasks by their numbers and by their indices.
 ghost use Rattle.std.specs.Prelude.{MatchOption, position, ◌≡◌};
 ghost use Rattle.sim_clock.specs.Places.{IsAbsent, Stands};
 ghost use Rattle.sqs_model.specs.Site.{is_task};
 
 use crate::agents::Task;
 
-// Where the first task with a number stands.
+// The index of the first task with a number.
 fn first_task(tasks: &[Task], number: u32) -> Option<usize>
     ensures { result ≡ position (is_task number) tasks.now }
 {
     tasks.iter().position(|t| t.number() == number)
 }
 
-/// The same, with what it says of the list.
+/// The same; the contract says more of the list.
 pub fn place_of_task(tasks: &[Task], number: u32) -> Option<usize>
-    ensures { MatchOption result (IsAbsent (is_task number) tasks.now) (Stands (is_task number) tasks.now) }
+    ensures { MatchOption result (IsAbsent (is_task number) tasks.now)
+        (Stands (is_task number) tasks.now) }
 {
     first_task(tasks, number)
 }

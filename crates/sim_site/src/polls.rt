@@ -15,7 +15,7 @@ use sim_index::{Mark, MarkedList, NO_MARK};
 use std::alloc::{AllocError, Global};
 use std::marker::Model;
 
-// What is kept of a place where a poll may wait: its end.
+// The mark of a place where a poll may wait: the key of its end.
 fn mark_of(place: &Option<Poll>) -> Mark
     ensures { result ≡ end_mark place.now }
 {
@@ -23,12 +23,12 @@ fn mark_of(place: &Option<Poll>) -> Mark
         None => NO_MARK,
         Some(poll) => Mark {
             due: Some(poll.key()),
-            hosts: 1,
+            flags: 1,
         },
     }
 }
 
-// Whether the poll of a place ends by a key.
+// Whether the poll at a place ends by this key.
 fn is_ended_by(place: &Option<Poll>, key: Key) -> bool
     ensures { result ≡ place_ends_at key place.now }
 {
@@ -38,7 +38,7 @@ fn is_ended_by(place: &Option<Poll>, key: Key) -> bool
     }
 }
 
-// Sees that there is room for one more poll: where there is none, empty places are dropped.
+// Makes room for one more poll. If there is none, it drops empty places.
 fn make_room(places: &mut MarkedList<Option<Poll>>) -> Result<(), AllocError>
     requires { AreMarked end_mark places.old }
     ensures marked { AreMarked end_mark places.new }
@@ -62,7 +62,7 @@ fn leave(places: &mut MarkedList<Option<Poll>>, place: usize)
     places.set_mark(place, NO_MARK);
 }
 
-// Where no poll waits, no place is kept.
+// If no poll waits, drops all places.
 fn forget_empty(places: &mut MarkedList<Option<Poll>>, count: usize)
     requires { AreWaiting places.old count }
     ensures waiting { AreWaiting places.new count }
@@ -73,7 +73,7 @@ fn forget_empty(places: &mut MarkedList<Option<Poll>>, count: usize)
     }
 }
 
-// Where the first poll waits.
+// The place of the first waiting poll.
 fn place_of_first(places: &MarkedList<Option<Poll>>) -> Option<usize>
     requires { AreMarked end_mark places.now }
     ensures { MatchOption result (waiting places.now.values ≡ []) (IsFirstAt places.now.values) }
@@ -81,7 +81,7 @@ fn place_of_first(places: &MarkedList<Option<Poll>>) -> Option<usize>
     places.next(0, 1)
 }
 
-// Whether the least end is by a key.
+// Whether the least end has this key.
 fn is_least(places: &MarkedList<Option<Poll>>, key: Key) -> bool
     ensures { result ≡ true → least_of places.now.marks ≡ Some key }
 {
@@ -91,17 +91,18 @@ fn is_least(places: &MarkedList<Option<Poll>>, key: Key) -> bool
     }
 }
 
-// Where the first poll stands that ends by a key, by going over all.
+// The place of the first poll that ends by this key, found by a scan.
 fn first_ending(places: &[Option<Poll>], key: Key) -> Option<usize>
     ensures { result ≡ position (place_ends_at key) places.now }
 {
     places.iter().position(|place| is_ended_by(place, key))
 }
 
-// The same, at once where no poll ends before.
+// The same, at once if no poll ends before.
 fn place_of_end(places: &MarkedList<Option<Poll>>, key: Key) -> Option<usize>
     requires { AreMarked end_mark places.now }
-    ensures { MatchOption result (IsAbsent (place_ends_at key) places.now.values) (Stands (place_ends_at key) places.now.values) }
+    ensures { MatchOption result (IsAbsent (place_ends_at key) places.now.values)
+        (Stands (place_ends_at key) places.now.values) }
 {
     if is_least(places, key) {
         return places.place_of_least();
@@ -110,8 +111,8 @@ fn place_of_end(places: &MarkedList<Option<Poll>>, key: Key) -> Option<usize>
 }
 
 /// The polls that wait at a site, oldest first. The first of them and the least of their ends are
-/// told at once, and one that comes or leaves costs the logarithm of their number. Contracts see
-/// them as a list.
+/// at hand. Adding or removing one takes time logarithmic in their number. Contracts see them as a
+/// list.
 #[derive(Drop)]
 pub struct Polls {
     places: MarkedList<Option<Poll>>,
@@ -141,21 +142,21 @@ impl Polls {
         }
     }
 
-    /// How many there are.
+    /// The number of polls.
     pub fn len(&self) -> usize
         ensures { result ≡ length self.now }
     {
         self.count
     }
 
-    /// Whether there is none.
+    /// Whether there are none.
     pub fn is_empty(&self) -> bool
         ensures { result ≡ (length self.now == 0) }
     {
         self.count == 0
     }
 
-    /// The first, if there is one.
+    /// The first poll, if there is one.
     pub fn first(&self) -> Option<Poll>
         ensures { MatchOption result (self.now ≡ []) (λ poll. self.now ≡ poll ∷ drop 1 self.now) }
     {
@@ -163,14 +164,14 @@ impl Polls {
         self.places.values()[place]
     }
 
-    /// The least end.
+    /// The key of the least end.
     pub fn least_end(&self) -> Option<Key>
         ensures { result ≡ least (map poll_key self.now) }
     {
         self.places.least()
     }
 
-    /// The first leaves, if there is one.
+    /// Removes the first poll, if there is one.
     pub fn drop_first(&mut self)
         ensures { self.new ≡ drop 1 self.old }
     {
@@ -182,7 +183,7 @@ impl Polls {
         forget_empty(&mut self.places, self.count);
     }
 
-    /// The first that ends by a key leaves, if there is one.
+    /// Removes the first poll that ends by this key, if there is one.
     pub fn end(&mut self, key: Key)
         ensures { self.new ≡ without (ends_at key) self.old }
     {
@@ -194,7 +195,7 @@ impl Polls {
         forget_empty(&mut self.places, self.count);
     }
 
-    /// One more waits, after the others. The error is want of memory.
+    /// Adds a poll after the others. It fails if memory runs out.
     pub fn push(&mut self, poll: Poll) -> Result<(), AllocError>
         ensures added { OnOk result (self.new ≡ self.old ++ poll ∷ []) }
         ensures same { OnErr result (self.new ≡ self.old) }

@@ -15,7 +15,17 @@ pub fn row(
     message: Option<MessageId>,
     detail: Detail,
 ) -> Row
-    ensures { result ≡ record { key = key; queue = queue; agent = agent; kind = kind; answer = answer; message = message; receipt = receipts.Absent; detail = detail } }
+    ensures { result
+        ≡ record {
+          key = key;
+          queue = queue;
+          agent = agent;
+          kind = kind;
+          answer = answer;
+          message = message;
+          receipt = receipts.Absent;
+          detail = detail;
+        } }
 {
     Row {
         key,
@@ -27,4 +37,35 @@ pub fn row(
         receipt: RowReceipt::Absent,
         detail,
     }
+}
+
+/// A row that a site makes itself, of one of its messages.
+pub fn site_row(
+    key: Key,
+    site: u32,
+    kind: RowKind,
+    answer: RowAnswer,
+    id: MessageId,
+    detail: Detail,
+) -> Row
+    ensures { result
+        ≡ record {
+          key = key;
+          queue = site;
+          agent = site;
+          kind = kind;
+          answer = answer;
+          message = Some id;
+          receipt = receipts.Absent;
+          detail = detail;
+        } }
+{
+    row(key, site, site, kind, answer, Some(id), detail)
+}
+
+/// The row with this receipt.
+pub fn with_receipt(row: Row, receipt: RowReceipt) -> Row
+    ensures { result ≡ record row { receipt = receipt } }
+{
+    Row { receipt, ..row }
 }

@@ -27,8 +27,8 @@ use sqs_redrive::{Outbound, QueueSettings, TaskSettings};
 use std::alloc::{AllocError, Global};
 use std::marker::Model;
 
-/// A queue with the actors and tasks at home there, and the transfers on their way to it. Contracts
-/// see it as the definitions' `Site`. What is due next is kept, so that telling it costs nothing.
+/// A queue with its actors and tasks, and the transfers on their way to it. Contracts see it as the
+/// definitions' `Site`. It keeps the key of the next entry due.
 #[derive(Drop)]
 pub struct Site {
     core: Core,
@@ -48,7 +48,7 @@ impl Model for Site {
     ghost invariant = { λ s. s.due ≡ least_due (record { core = s.core; arriving = s.arriving }) };
 }
 
-// The key of what is due next.
+// The key of the next entry due.
 fn least_of(core: &mut Core, arriving: &Arrivals) -> Option<Key>
     ensures due { result ≡ least_due (record { core = core.old; arriving = arriving.now }) }
     ensures same { core.new ≡ core.old }
@@ -58,7 +58,7 @@ fn least_of(core: &mut Core, arriving: &Arrivals) -> Option<Key>
     lesser(arrival, other)
 }
 
-// Handles what is due next.
+// Handles the next entry due.
 #[tactic(auto, unfolding(sqs_model::specs::Step::handled))]
 fn handle_due(
     core: &mut Core,
@@ -70,8 +70,11 @@ fn handle_due(
     requires moment { key.at ≤ most_count }
     requires recent { IsRecent key.at core.old.queue }
     requires timely { AreTimely arriving.old }
-    ensures done { OnOk result (DidHandle effects.old effects.new (record { core = core.new; arriving = arriving.new }) (handled key (record { core = core.old; arriving = arriving.old }))) }
-    ensures stops { IfErr result (Stops (effect_of (handled key (record { core = core.old; arriving = arriving.old })))) }
+    ensures done { OnOk result (DidHandle effects.old effects.new
+        (record { core = core.new; arriving = arriving.new })
+        (handled key (record { core = core.old; arriving = arriving.old }))) }
+    ensures stops { IfErr result
+        (Stops (effect_of (handled key (record { core = core.old; arriving = arriving.old })))) }
 {
     if key.class == Class::Arrival {
         let transfer = arriving.take_first();
@@ -82,9 +85,13 @@ fn handle_due(
 }
 
 impl Site {
-    /// A site of a queue of this number, of the kind that its settings say, with the actors and
-    /// tasks at home there, each under its own number; samples are taken every so many
-    /// milliseconds, or never where that is 0. The error is want of memory.
+    /// A site of the queue with this number, of the kind that its settings say, with its actors and
+    /// tasks, each under its own number. A sample is taken every `sample` milliseconds, or never if
+    /// that is 0.
+    ///
+    /// # Errors
+    ///
+    /// `AllocError` if memory runs out.
     pub fn new(
         alloc: Global,
         number: u32,
@@ -97,7 +104,12 @@ impl Site {
         requires roles { All (λ x. IsRole x.1.role) actors.items }
         requires set_up { IsSetUp settings (map (λ x. x.1) actors.items) tasks.items }
         requires sample { sample ≤ most_count }
-        ensures { IfOk result (λ site. site ≡ record { core = fresh_core number settings actors.items tasks.items seed sample; arriving = [] }) }
+        ensures { IfOk result (λ site.
+            site
+            ≡ record {
+              core = fresh_core number settings actors.items tasks.items seed sample;
+              arriving = [];
+            }) }
     {
         let actors = open_actors(alloc, actors, seed)?;
         let tasks = open_tasks(alloc, tasks.as_slice(), seed)?;
@@ -120,8 +132,8 @@ impl Site {
         self.core.queue()
     }
 
-    /// The greatest count that it has come to: of its queue's arrivals, of its samples, transfers and
-    /// words, and of those of its actors and tasks.
+    /// The greatest count that it has reached: of its queue's arrivals, of its samples, transfers
+    /// and words, and of those of its actors and tasks.
     pub fn greatest_count(&self) -> u64
         ensures count { result ≡ site_count self.now.core }
         ensures limit { result ≤ most_count }
@@ -129,7 +141,7 @@ impl Site {
         self.core.greatest_count()
     }
 
-    /// The tasks at home there.
+    /// The move tasks of the site.
     pub fn tasks(&self) -> &[Task]
         ensures { result.now ≡ self.now.core.tasks }
     {

@@ -1,4 +1,4 @@
-//! A site but for what is on its way to it.
+//! A site without the transfers on their way to it.
 ghost use Rattle.std.specs.Prelude.{◌≡◌, ◌≤◌, [], map};
 ghost use Rattle.sim_site.specs.Kept.{IsSetUp, numbered_settings};
 ghost use Rattle.sqs_model.specs.Answers.{most_count};
@@ -29,8 +29,8 @@ use sqs_queue::Queue;
 use std::alloc::Global;
 use std::marker::Model;
 
-/// A queue with the actors and tasks at home there, the polls that wait at it, the words drawn and
-/// the transfers sent by it, and how many samples were taken of it. Contracts see it as the
+/// A queue with its actors and tasks, and the polls that wait at it. Also the words that it drew,
+/// the transfers that it sent, and how many samples of it were taken. Contracts see it as the
 /// definitions' record of these.
 #[derive(Drop)]
 pub struct Core {
@@ -58,7 +58,7 @@ impl Model for Core {
     ghost invariant = { λ c. IsSetUp c.queue.settings (map (λ a. a.settings) c.actors) (map numbered_settings c.tasks.items) × IsSampled c.sample c.samples × AreAllowed c.polls × (c.sent ≤ most_count) × (c.draws.taken ≤ most_count) };
 }
 
-// The greatest count of some tasks.
+// The greatest count of any of some tasks.
 fn greatest_of_tasks(tasks: &[Task]) -> u64
     ensures count { result ≡ greatest (map task_count tasks.now) }
     ensures limit { result ≤ most_count }
@@ -80,10 +80,21 @@ impl Core {
         draws: Draws,
         sample: u64,
     ) -> Core
-        requires set_up { IsSetUp queue.settings (map (λ a. a.settings) actors) (map numbered_settings tasks.items) }
+        requires set_up { IsSetUp queue.settings (map (λ a. a.settings) actors)
+            (map numbered_settings tasks.items) }
         requires sample { sample ≤ most_count }
         requires words { draws.taken ≤ most_count }
-        ensures { result ≡ record { queue = queue; actors = actors; tasks = tasks.items; polls = []; sent = 0; draws = draws; sample = sample; samples = 0 } }
+        ensures { result
+            ≡ record {
+              queue = queue;
+              actors = actors;
+              tasks = tasks.items;
+              polls = [];
+              sent = 0;
+              draws = draws;
+              sample = sample;
+              samples = 0;
+            } }
     {
         Core {
             alloc,
@@ -105,15 +116,15 @@ impl Core {
         &self.queue
     }
 
-    /// The tasks at home there.
+    /// The move tasks of the site.
     pub fn tasks(&self) -> &[Task]
         ensures { result.now ≡ self.now.tasks }
     {
         self.tasks.as_slice()
     }
 
-    /// The greatest of its counts: of its queue's arrivals, its transfers, words and samples, and of
-    /// those of its actors and tasks.
+    /// The greatest of its counts: of its queue's arrivals, its transfers, words and samples, and
+    /// of those of its actors and tasks.
     pub fn greatest_count(&self) -> u64
         ensures count { result ≡ site_count self.now }
         ensures limit { result ≤ most_count }
@@ -127,7 +138,7 @@ impl Core {
         self.queue.arrivals().max(own)
     }
 
-    /// The next sample, if samples are taken.
+    /// The key of the next sample, if samples are taken.
     fn sample_due(&self) -> Option<Key>
         ensures { result ≡ least (sample_dues self.now) }
     {
@@ -142,7 +153,7 @@ impl Core {
         })
     }
 
-    /// The key of what is due next but for arrivals.
+    /// The key of the next entry due, without arrivals.
     pub fn least_due(&mut self) -> Option<Key>
         ensures due { result ≡ least (core_dues self.old) }
         ensures same { self.new ≡ self.old }

@@ -37,13 +37,8 @@ module _ {Site Row Transfer : Type 0} {engine : Engine Site Row Transfer} {condi
   -- as many came as there are
   pub many_back : (bs : List ℕ) (ps : List (Result (List Site) Refusal)) (cs : List (Came Site Row Transfer)) → HaveCome engine conditions bs ps cs → length cs ≡ length ps
   many_back [] [] [] h = refl
-  many_back [] [] (c ∷ cs) h = absurd h
-  many_back [] (p ∷ ps) [] h = absurd h
-  many_back [] (p ∷ ps) (c ∷ cs) h = absurd h
-  many_back (b ∷ bs) [] [] h = absurd h
-  many_back (b ∷ bs) [] (c ∷ cs) h = absurd h
-  many_back (b ∷ bs) (p ∷ ps) [] h = absurd h
   many_back (b ∷ bs) (p ∷ ps) (c ∷ cs) h = ap suc (many_back bs ps cs h.1)
+  many_back _ _ _ h = absurd h
 
 -- some that came back, and the others as they were
 module _ {Site : Type 0} (xs ps : List (Result (List Site) Refusal)) (place : ℕ) (d : Result (List Site) Refusal) (at : length xs ≡ place) (l : place < length ps) where

@@ -1,7 +1,7 @@
 -- A machine at which nothing was done.
 use Rattle.std.specs.List.{range_with_len}
 use Rattle.std.specs.Prelude.{All, Bool, List, None, Ok, Option, Result, Some, [], cond, false, filter, length, map, true, ℕ, ◌∷◌, ◌≡◌, ◌≤◌}
-use Rattle.std.proofs.Common.{ap, arith, refl, ◌∙◌}
+use Rattle.std.proofs.Common.{ap, arith, inl, inr, refl, subst, ◌∙◌}
 use Rattle.std.proofs.lemmas.Bool.{le-ltb}
 use Rattle.std.proofs.lemmas.List.Elements.{All-cons, All-head, All-nil, All-tail}
 use Rattle.std.proofs.lemmas.List.FromFn.{length-map-range_with_len}
@@ -9,6 +9,7 @@ use Rattle.sim_clock.specs.declared.key.Key.{Key}
 use Rattle.sim_clock.specs.declared.refusal.Refusal.{Refusal}
 use Rattle.sim_clock.specs.Order.{due_before}
 use Rattle.sim_engine.specs.Bounds.{AreDistances, own_bound}
+use Rattle.sim_engine.specs.declared.edge.Edge.{Edge}
 use Rattle.sim_engine.specs.Engine.{Engine}
 use Rattle.sim_engine.specs.Laws.{Conditions, SiteLaws}
 use Rattle.sim_engine.specs.Limits.{most_count}
@@ -19,7 +20,7 @@ use Rattle.sim_engine.specs.Simulated.{IsSimulated}
 use Rattle.sim_exchange.specs.Layout.{IsLayout, Layout, owner_of}
 use Rattle.sim_exchange.specs.Table.{Table, distance_in}
 use Rattle.sim_partition.proofs.Moments.{all_later}
-use Rattle.sim_windows.specs.Stages.{IsForward, Shows, Standing, Stands, bounds_by, machine_in, opened}
+use Rattle.sim_windows.specs.Stages.{IsForward, Shows, Standing, Stands, TakeTime, bounds_by, machine_in, opened}
 use Rattle.sim_windows.proofs.Meetings.{bounds_set}
 
 none_at_zero : (d : Option Key) → due_before 0 d ≡ None
@@ -34,6 +35,12 @@ all_picked P f (x ∷ xs) h =
       | false ↦ all_picked P f xs (All-tail P x xs h)
     ]
 
+-- ways within their range take time
+pub take_time : (edges : List Edge) → All (λ e. (1 ≤ e.least) × (e.least ≤ 900000)) edges → TakeTime edges
+take_time [] h e i = absurd i
+take_time (x ∷ xs) h e (inl same) = subst (λ (y : Edge). 1 ≤ y.least) same (All-head (λ (y : Edge). (1 ≤ y.least) × (y.least ≤ 900000)) x xs h).0
+take_time (x ∷ xs) h e (inr i) = take_time xs (All-tail (λ (y : Edge). (1 ≤ y.least) × (y.least ≤ 900000)) x xs h) e i
+
 module _ {Site Row Transfer : Type 0} {engine : Engine Site Row Transfer} {conditions : Conditions Site Transfer} (basics : SiteLaws engine conditions) where
   open engine use {row_key}
   open conditions use {Past, Timely}
@@ -47,9 +54,9 @@ module _ {Site Row Transfer : Type 0} {engine : Engine Site Row Transfer} {condi
   -- it stands as the definitions' machine at which nothing was picked
   pub opens :
       (s : Setting Site) → IsSimulated engine conditions s → (layout : Layout) → IsLayout layout → (table : Table) → table.parts ≡ layout.parts → AreDistances (owner_of layout) s.edges (distance_in table)
-      → s.horizon ≤ most_count → (parts : List (Result (List Site) Refusal)) → parts ≡ map (λ p. Ok (part_of engine (owner_of layout) p s.opening)) (range_with_len 0 layout.parts)
+      → TakeTime s.edges → s.horizon ≤ most_count → (parts : List (Result (List Site) Refusal)) → parts ≡ map (λ p. Ok (part_of engine (owner_of layout) p s.opening)) (range_with_len 0 layout.parts)
       → Stands engine conditions s [] (opened engine layout table s.horizon parts)
-  opens s sound layout ok table same distances range parts is =
+  opens s sound layout ok table same distances ways range parts is =
       let n : ℕ = layout.parts in
       let rule : List Site → ℕ → ℕ = own_bound engine (owner_of layout) (distance_in table) n s.horizon in
       let at : Standing Site Row Transfer = opened engine layout table s.horizon parts in
@@ -69,12 +76,7 @@ module _ {Site Row Transfer : Type 0} {engine : Engine Site Row Transfer} {condi
         none = λ p. none_at_zero (part_due engine (owner_of layout) p s.opening);
       } in
       record {
-        sound = sound;
-        layout = ok;
-        horizon = refl;
-        range = range;
-        parts = same;
-        distances = distances;
+        split = record { sound = sound; layout = ok; horizon = refl; range = range; parts = same; distances = distances; ways = ways };
         shows = shows;
         forward = forward;
       }

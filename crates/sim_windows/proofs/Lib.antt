@@ -10,7 +10,7 @@ pub mod Beginning
 pub mod Divided
 pub mod Joined
 pub mod Ending
-pub mod Fronts
+pub mod LowerBounds
 pub mod Rounds
 pub mod Runs
 pub mod Stopping
@@ -21,4 +21,6 @@ pub mod Reading
 pub mod Back
 pub mod Returned
 pub mod Ranges
+pub mod Advancing
 pub mod Stepped
+pub mod Gathering

@@ -25,7 +25,7 @@ use Rattle.sim_windows.specs.Meeting.{AreReached, delivered_each, due_moments}
 use Rattle.sim_windows.specs.Stages.{IsForward, Shows, Standing, Stands, Took, bounded_by, delivered_by, machine_in}
 use Rattle.sim_windows.proofs.Least.{same_bounds}
 use Rattle.sim_windows.proofs.Places.{at_place, delivered_places, over, reached_places, same_from}
-use Rattle.sim_windows.proofs.Standing.{keeps, more_picks, stands_on}
+use Rattle.sim_windows.proofs.Standing.{keeps, more_picks, shown_in, stands_on}
 use Rattle.sim_engine.specs.World.{delivered}
 use Rattle.sim_engine.specs.Setting.{Setting}
 use Rattle.sim_engine.specs.Engine.{Engine}
@@ -85,17 +85,10 @@ module _ {Site Row Transfer : Type 0} {engine : Engine Site Row Transfer} {condi
       (λ p l k. same_bounds (distance_in table) horizon (λ q. get_or dues q None) (λ q. moment_of (part_due engine owner q sites)) p n at)
 
   module _ (s : Setting Site) (done : List Pick) (g : Standing Site Row Transfer) (st : Stands engine conditions s done g) where
-    abbrev o : ℕ → ℕ
-    o = owner_of g.layout
+    open shown_in engine s done g use {owner as o, rule, machine as m}
 
     abbrev n : ℕ
     n = g.layout.parts
-
-    abbrev rule : List Site → ℕ → ℕ
-    rule = own_bound engine (owner_of g.layout) (distance_in g.distances) g.layout.parts s.horizon
-
-    abbrev m : Machine engine
-    m = machine_in engine g.layout g.distances s done
 
     -- the sites of the partitions
     abbrev pub parts_in : List (List Site)
@@ -143,7 +136,7 @@ module _ {Site Row Transfer : Type 0} {engine : Engine Site Row Transfer} {condi
     bounds_in = bounds_set o g.distances s.horizon n (flushed engine m) (delivered_by engine g parts_in).parts delivered_in
 
     module _ (stopped : has_ready engine (owner_of g.layout) (machine_in engine g.layout g.distances s done) ≡ false) (going : is_finished engine s.horizon (machine_in engine g.layout g.distances s done) ≡ false) where
-      at_barrier : machine_in engine g.layout g.distances s (done ++ Barrier ∷ []) ≡ with_barrier engine rule m
+      pub at_barrier : machine_in engine g.layout g.distances s (done ++ Barrier ∷ []) ≡ with_barrier engine rule m
       at_barrier =
           more_picks basics s done g st (Barrier ∷ [])
           ∙ ap (λ b. if b || is_finished engine s.horizon m then m else with_barrier engine rule m) stopped
@@ -168,12 +161,7 @@ module _ {Site Row Transfer : Type 0} {engine : Engine Site Row Transfer} {condi
             none = st.forward.none;
           } in
           record {
-            sound = st.sound;
-            layout = st.layout;
-            horizon = st.horizon;
-            range = st.range;
-            parts = st.parts;
-            distances = st.distances;
+            split = st.split;
             shows = subst (Shows engine g') (sym at_barrier) shows;
             forward = subst (IsForward engine conditions g.layout s.horizon g.settled) (sym at_barrier) forward;
           }

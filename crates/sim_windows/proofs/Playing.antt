@@ -5,9 +5,9 @@ use Rattle.sim_clock.specs.declared.refusal.Refusal.{Refusal}
 use Rattle.sim_exchange.specs.Layout.{Layout, owner_of}
 use Rattle.sim_exchange.specs.Table.{Table, distance_in}
 use Rattle.sim_engine.specs.Bounds.{own_bound}
-use Rattle.sim_engine.specs.Machine.{Machine, effects, played, played_all, takes_effect}
+use Rattle.sim_engine.specs.Machine.{Machine, effective_picks, played, played_all, takes_effect}
 use Rattle.sim_engine.specs.declared.picks.Pick.{Pick}
-use Rattle.sim_windows.specs.Stages.{Played, Plays, Standing, Stands, StopsAt, Takes, Tells, Took, ended_after, ended_by, machine_in}
+use Rattle.sim_windows.specs.Stages.{BeginWith, Played, Plays, Standing, Stands, StopsAt, Takes, Tells, Took, ended_after, ended_by, machine_in}
 use Rattle.sim_windows.proofs.Standing.{more_picks}
 use Rattle.sim_engine.specs.Setting.{Setting}
 use Rattle.sim_engine.specs.Engine.{Engine}
@@ -23,16 +23,20 @@ swapped_counts true false n = refl
 swapped_counts false true n = refl
 swapped_counts false false n = refl
 
+-- rows that begin with others begin with what those begin with
+pub begin_with : {Row : Type 0} (a b c : List Row) → BeginWith a b → BeginWith b c → BeginWith a c
+begin_with a b c (more, first) (rest, second) = (more ++ rest, second ∙ ap (λ z. z ++ rest) first ∙ append_assoc a more rest)
+
 module _ {Site Row Transfer : Type 0} {engine : Engine Site Row Transfer} {conditions : Conditions Site Transfer} (basics : SiteLaws engine conditions) where
   -- how many take effect, with one more
   effects_push :
       (owner : ℕ → ℕ) (horizon : ℕ) (rule : List Site → ℕ → ℕ) (xs : List Pick) (x : Pick) (m : Machine engine)
-      → effects engine owner horizon rule (xs ++ x ∷ []) m ≡ one_more (takes_effect engine owner horizon (played_all engine owner horizon rule xs m) x) (effects engine owner horizon rule xs m)
+      → effective_picks engine owner horizon rule (xs ++ x ∷ []) m ≡ one_more (takes_effect engine owner horizon (played_all engine owner horizon rule xs m) x) (effective_picks engine owner horizon rule xs m)
   effects_push owner horizon rule [] x m = refl
   effects_push owner horizon rule (y ∷ ys) x m =
       let n : Machine engine = played engine owner horizon rule m y in
       let t : Bool = takes_effect engine owner horizon m y in
-      ap (one_more t) (effects_push owner horizon rule ys x n) ∙ swapped_counts t (takes_effect engine owner horizon (played_all engine owner horizon rule ys n) x) (effects engine owner horizon rule ys n)
+      ap (one_more t) (effects_push owner horizon rule ys x n) ∙ swapped_counts t (takes_effect engine owner horizon (played_all engine owner horizon rule ys n) x) (effective_picks engine owner horizon rule ys n)
 
   -- some picks, and then others, end what the others end where the first came to
   pub ended_append :
@@ -42,10 +46,6 @@ module _ {Site Row Transfer : Type 0} {engine : Engine Site Row Transfer} {condi
   ended_append layout horizon rule [] ys m before = refl
   ended_append layout horizon rule (x ∷ xs) ys m before =
       ended_append layout horizon rule xs ys (played engine (owner_of layout) horizon rule m x) (ended_by engine layout horizon m x before)
-
-  -- nothing yet
-  pub played_none : (s : Setting Site) (done : List Pick) (g : Standing Site Row Transfer) → Stands engine conditions s done g → Stands engine conditions s (done ++ []) g → Played engine conditions g g s done [] 0
-  played_none s done g st on = record { stands = on; same = record { layout = refl; distances = refl }; effects = refl; settled = refl }
 
   -- a pick more
   pub played_on :

@@ -18,9 +18,9 @@ use Rattle.sim_engine.specs.World.{arrival, due_by, next_due}
 use Rattle.sim_engine.specs.declared.picks.Pick.{Pick}
 use Rattle.sim_exchange.specs.Layout.{owner_of}
 use Rattle.sim_partition.specs.Sites.{due_in}
-use Rattle.sim_windows.specs.Stages.{Standing, Stands, end_in, front_in, is_finished_in, machine_at, next_in, next_of, ready_in, up_to}
-use Rattle.sim_windows.proofs.Fronts.{front, going_is, next_ready}
-use Rattle.sim_windows.proofs.Standing.{due_at, least_then, many_parts, none_due_is, none_past, one_due_is, ready_at}
+use Rattle.sim_windows.specs.Stages.{Standing, Stands, end_in, lower_bound_in, is_finished_in, machine_at, next_in, next_of, ready_in, up_to}
+use Rattle.sim_windows.proofs.LowerBounds.{lower_bound, going_is, next_ready}
+use Rattle.sim_windows.proofs.Standing.{due_at, least_then, many_parts, none_due_is, none_past, one_due_is, ready_at, shown_in}
 
 -- a test that all numbers pass
 all_in_range : (h : ℕ → Bool) → ((p : ℕ) → h p ≡ true) → (a n : ℕ) → list_all h (range_with_len a n) ≡ true
@@ -50,11 +50,7 @@ module _ {Site Row Transfer : Type 0} {engine : Engine Site Row Transfer} {condi
   past_parts g p l = let none : Result (List Site) Refusal = Ok [] in ap (λ x. due_before (get_or g.bounds p 0) (due_in engine x)) (get_or_past g.parts p none l)
 
   module _ (s : Setting Site) (done : List Pick) (g : Standing Site Row Transfer) (st : Stands engine conditions s done g) where
-    abbrev o : ℕ → ℕ
-    o = owner_of g.layout
-
-    abbrev m : Machine engine
-    m = machine_at engine g s done
+    open shown_in engine s done g use {owner as o, machine as m}
 
     -- what a partition may handle
     pub ready_is : (p : ℕ) → ready_in engine g p ≡ ready engine (owner_of g.layout) p (machine_at engine g s done)
@@ -82,8 +78,8 @@ module _ {Site Row Transfer : Type 0} {engine : Engine Site Row Transfer} {condi
     end_is = least_then basics s done g st (end_in g) g.bounds refl refl
 
     -- the moment that nothing may come before any more
-    pub front_is : front_in engine g ≡ front engine (owner_of g.layout) g.layout.parts s.horizon (machine_at engine g s done)
-    front_is = ap (λ x. up_to x (next_in engine g)) end_is ∙ ap (up_to (least_bound s.horizon m.bounds g.layout.parts)) next_is
+    pub lower_bound_is : lower_bound_in engine g ≡ lower_bound engine (owner_of g.layout) g.layout.parts s.horizon (machine_at engine g s done)
+    lower_bound_is = ap (λ x. up_to x (next_in engine g)) end_is ∙ ap (up_to (least_bound s.horizon m.bounds g.layout.parts)) next_is
 
     -- whether a partition has nothing by the horizon
     abbrev is_over : Result (List Site) Refusal → Bool

@@ -8,35 +8,23 @@ use Rattle.sim_clock.specs.declared.key.Key.{Key}
 use Rattle.sim_engine.specs.Engine.{Engine}
 use Rattle.sim_engine.specs.Laws.{Conditions, SiteLaws}
 use Rattle.sim_engine.specs.World.{Run, Stepped, after, delivered, handled_among, next_due, run_on, stepped, stepped_at, world_due}
+use Rattle.sim_engine.proofs.Ends.{Stepping, next_is, step_falls}
 use Rattle.sim_engine.proofs.Counts.{tick, tick_now, tick_past}
 use Rattle.sim_engine.proofs.WorldMoves.{FallsAmong, among_falls, delivered_count, delivered_sound, tick_key, world_count, world_in, world_none}
 use Rattle.sim_partition.specs.Sites.{IsFrom, IsLater}
+use Rattle.sim_partition.proofs.Moments.{from_by}
 use Rattle.sim_windows.specs.Worlds.{due_at, sites_after}
 
 module _ {Site Row Transfer : Type 0} {engine : Engine Site Row Transfer} {conditions : Conditions Site Transfer} (basics : SiteLaws engine conditions) where
   open engine use {transfer_key}
   open conditions use {Sound}
 
-  -- a world whose least due is handled, by a moment
-  record Falls (key : Key) (e : ℕ) (sites later : List Site) : Type 0 where
-    pub sound : All Sound later
-    pub fewer : world_count basics e later + tick e key.at ≤ world_count basics e sites
-
-  falls : (key : Key) (e : ℕ) (w : List Site) → e ≤ key.at → All Sound w → world_due engine w ≡ Some key → Falls key e w (sites_after engine key w)
-  falls key e w l h d =
-      let t : Stepped engine = handled_among engine key w in
-      let f : FallsAmong basics key e w t = among_falls basics key e w l h (world_in basics key w d) in
-      let later : All (λ (o : Transfer). e < (transfer_key o).at) t.sent = All-weaker (λ (o : Transfer). key.at < (transfer_key o).at) (λ (o : Transfer). e < (transfer_key o).at) (λ o k. omega arith) t.sent f.later in
-      let n : world_count basics e (delivered engine t.sent t.sites) ≤ world_count basics e t.sites = delivered_count basics e t.sent t.sites later in
-      let m : world_count basics e t.sites + tick e key.at ≤ world_count basics e w = f.fewer in
-      record { sound = delivered_sound basics t.sent t.sites f.sound; fewer = omega arith }
-
   -- where something is due by its moment, less is afterwards
   pub smaller :
       (key : Key) (moment : ℕ) (w x : List Site) → moment ≤ key.at → key.at ≤ moment → All Sound w → world_due engine w ≡ Some key
       → x ≡ sites_after engine key w → world_count basics moment x < world_count basics moment w
   smaller key moment w x l m h d e =
-      let f : Falls key moment w (sites_after engine key w) = falls key moment w l h d in
+      let f : Stepping basics key moment w (sites_after engine key w) = step_falls basics key moment w l h d in
       let n : world_count basics moment (sites_after engine key w) + tick moment key.at ≤ world_count basics moment w = f.fewer in
       let t : tick moment key.at ≡ 1 = tick_now moment key.at m in
       rw e (omega arith)
@@ -46,38 +34,21 @@ module _ {Site Row Transfer : Type 0} {engine : Engine Site Row Transfer} {condi
   none_before moment e sites None d f l = world_none basics e sites (ap (tick_key e) d)
   none_before moment e sites (Some k) d f l = world_none basics e sites (ap (tick_key e) d ∙ tick_past e k.at (omega (arith, f)))
 
-  least_counts : (key : Key) (w : List Site) → All Sound w → world_due engine w ≡ Some key → 1 ≤ world_count basics key.at w
-  least_counts key w h d =
-      let f : Falls key key.at w (sites_after engine key w) = falls key key.at w (omega arith) h d in
-      let n : world_count basics key.at (sites_after engine key w) + tick key.at key.at ≤ world_count basics key.at w = f.fewer in
-      omega (arith, tick_now key.at key.at (omega arith))
-
-  from_by : (moment : ℕ) (w : List Site) (o : Option Key) → world_due engine w ≡ o → All Sound w → ((e : ℕ) → e < moment → world_count basics e w ≡ 0) → IsFrom moment o
-  from_by moment w None d h z = tt
-  from_by moment w (Some k) d h z =
-      elim (cases_lt k.at moment) as (λ _. moment ≤ k.at) [
-        | inl l ↦
-            let one : 1 ≤ world_count basics k.at w = least_counts k w h d in
-            let none : world_count basics k.at w ≡ 0 = z k.at l in absurd (omega arith)
-        | inr l ↦ l
-      ]
-
   pub from_after :
       (key : Key) (moment : ℕ) (w x : List Site) → moment ≤ key.at → All Sound w → world_due engine w ≡ Some key → IsFrom moment (world_due engine w)
       → x ≡ sites_after engine key w → IsFrom moment (world_due engine x)
   from_after key moment w x l h d f e =
       let y : List Site = sites_after engine key w in
-      let s : Falls key 0 w y = falls key 0 w (omega arith) h d in
-      rw e (from_by moment y (world_due engine y) refl s.sound
+      let s : Stepping basics key 0 w y = step_falls basics key 0 w (omega arith) h d in
+      rw e (from_by basics moment y (world_due engine y) refl s.sound
       (λ i k.
       let z : world_count basics i w ≡ 0 = none_before moment i w (world_due engine w) refl f k in
-      let g : Falls key i w y = falls key i w (omega arith) h d in
+      let g : Stepping basics key i w y = step_falls basics key i w (omega arith) h d in
       let n : world_count basics i y + tick i key.at ≤ world_count basics i w = g.fewer in omega arith))
 
   -- the run of one handling
   pub one_after : (horizon : ℕ) (key : Key) (w : List Site) → world_due engine w ≡ Some key → key.at ≤ horizon → after engine horizon (suc zero) w ≡ run_on engine [] (handled_among engine key w)
-  one_after horizon key w d l =
-      let n : next_due engine horizon w ≡ Some key = rw (d, le-leb key.at horizon l) refl in ap (stepped_at engine (after engine horizon zero w)) n
+  one_after horizon key w d l = next_is basics horizon w key (after engine horizon zero w) d l
 
   -- a run with rows before its own
   abbrev pub behind : List Row → Run engine → Run engine

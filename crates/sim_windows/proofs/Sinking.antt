@@ -8,7 +8,7 @@ use Rattle.sim_engine.specs.Laws.{Conditions, SiteLaws}
 use Rattle.sim_engine.specs.Setting.{Setting}
 use Rattle.sim_engine.specs.World.{Run, after, handled_among, next_due, run_on, world_due}
 use Rattle.sim_partition.specs.Steps.{StopsStep}
-use Rattle.sim_windows.specs.Sinks.{HasHalted, HasRun, HasStopped, HasTaken, IsFront, StopsAt, StopsRun}
+use Rattle.sim_windows.specs.Sinks.{HasHalted, HasRun, HasStopped, HasTaken, IsPrefixOfRun, StopsAt, StopsRun}
 use Rattle.sim_windows.specs.Worlds.{sites_after}
 use Rattle.sim_windows.proofs.Runs.{joined, one_after, stays}
 use Rattle.sim_windows.proofs.Stopping.{stops_at, stops_later}
@@ -21,8 +21,8 @@ module _ {Site Row Transfer : Type 0} {engine : Engine Site Row Transfer} {condi
       ap (λ (sites : List Site). x.rows ++ (after engine horizon m sites).rows) (sym e) ∙ ap (λ (r : Run engine). r.rows) (sym (joined basics horizon m n start))
 
   -- a scenario's run begins with the rows of its first handlings
-  pub front_after : (s : Setting Site) (n : ℕ) → IsFront engine s (after engine s.horizon n s.opening).rows
-  front_after s n r is =
+  pub prefix_after : (s : Setting Site) (n : ℕ) → IsPrefixOfRun engine s (after engine s.horizon n s.opening).rows
+  prefix_after s n r is =
       let start : List Site = s.opening in
       let x : Run engine = after engine s.horizon n start in
       let k : ℕ = is.steps in
@@ -89,10 +89,3 @@ module _ {Site Row Transfer : Type 0} {engine : Engine Site Row Transfer} {condi
           taken = here.taken;
           sites_are = sym here.reached;
         }
-
-    module _ (broke : K → List Row → Refusal → K → Type 0) where
-      -- one that stops on its way
-      pub stops_whole : (horizon : ℕ) (a b : K) (e : Refusal) → horizon ≡ s.horizon → HasHalted engine took broke horizon s.opening a e b → HasStopped engine took broke s a e b
-      stops_whole horizon a b e h halted =
-          let here : HasHalted engine took broke s.horizon s.opening a e b = subst (λ n. HasHalted engine took broke n s.opening a e b) h halted in
-          record { rows = (after engine s.horizon here.steps s.opening).rows; front = front_after s here.steps; at_rows = here.at_rows }

@@ -16,15 +16,29 @@ use Rattle.sim_engine.specs.declared.picks.Pick.{Pick}
 use Rattle.sim_engine.proofs.EarlyRows.{part_empty}
 use Rattle.sim_engine.proofs.Keeping.{played_more}
 use Rattle.sim_engine.proofs.OneList.{part_none}
-use Rattle.sim_engine.proofs.ReadByParts.{machines_are_read_by_parts}
+use Rattle.sim_engine.proofs.ReadByParts.{by_past, machines_are_read_by_parts, past_by}
 use Rattle.sim_partition.specs.Sites.{due_in}
 use Rattle.sim_windows.specs.Stages.{IsForward, Shows, Standing, Stands, machine_in}
-use Rattle.sim_windows.proofs.Least.{by_past, past_by, same_least}
+use Rattle.sim_windows.proofs.Least.{same_least}
 use Rattle.sim_windows.proofs.Places.{at_place, below_all}
 use Rattle.sim_engine.specs.World.{world_due, due_by, next_due}
 use Rattle.sim_engine.specs.Setting.{Setting}
 use Rattle.sim_engine.specs.Engine.{Engine}
 use Rattle.sim_engine.specs.Laws.{Conditions, SiteLaws}
+
+-- what is shown of the definitions' machine: the partition of each site, how bounds are set, and its state
+pub record Shown {Site Row Transfer : Type 0} (engine : Engine Site Row Transfer) : Type 0 where
+  pub owner : ℕ → ℕ
+  pub rule : List Site → ℕ → ℕ
+  pub machine : Machine engine
+
+abbrev pub shown_in : {Site Row Transfer : Type 0} (engine : Engine Site Row Transfer) → Setting Site → List Pick → Standing Site Row Transfer → Shown engine
+shown_in engine s done g =
+    record {
+      owner = owner_of g.layout;
+      rule = own_bound engine (owner_of g.layout) (distance_in g.distances) g.layout.parts s.horizon;
+      machine = machine_in engine g.layout g.distances s done;
+    }
 
 module _ {Site Row Transfer : Type 0} {engine : Engine Site Row Transfer} {conditions : Conditions Site Transfer} (basics : SiteLaws engine conditions) where
   module _ (s : Setting Site) (done : List Pick) (g : Standing Site Row Transfer) (st : Stands engine conditions s done g) where
@@ -74,30 +88,11 @@ module _ {Site Row Transfer : Type 0} {engine : Engine Site Row Transfer} {condi
     -- picks that change nothing
     pub stands_on : (xs : List Pick) → machine_in engine g.layout g.distances s done ≡ machine_in engine g.layout g.distances s (done ++ xs) → Stands engine conditions s (done ++ xs) g
     stands_on xs e =
-        record {
-          sound = st.sound;
-          layout = st.layout;
-          horizon = st.horizon;
-          range = st.range;
-          parts = st.parts;
-          distances = st.distances;
-          shows = subst (Shows engine g) e st.shows;
-          forward = subst (IsForward engine conditions g.layout s.horizon g.settled) e st.forward;
-        }
+        record { split = st.split; shows = subst (Shows engine g) e st.shows; forward = subst (IsForward engine conditions g.layout s.horizon g.settled) e st.forward }
 
     -- where none of the partitions may handle anything, none may at all, and where one may, one may
     pub none_ready_is : ((p : ℕ) → p < g.layout.parts → ready engine (owner_of g.layout) p (machine_in engine g.layout g.distances s done) ≡ None) → has_ready engine (owner_of g.layout) (machine_in engine g.layout g.distances s done) ≡ false
     none_ready_is h = (machines_are_read_by_parts basics (owner_of g.layout) g.layout.parts s.horizon (machine_in engine g.layout g.distances s done) below).stops h
-
-    pub one_ready_is : (p : ℕ) → is_some (ready engine (owner_of g.layout) p (machine_in engine g.layout g.distances s done)) ≡ true → has_ready engine (owner_of g.layout) (machine_in engine g.layout g.distances s done) ≡ true
-    one_ready_is p e =
-        let m : Machine engine = machine_in engine g.layout g.distances s done in
-        elim (has_ready engine (owner_of g.layout) m) as (λ b. has_ready engine (owner_of g.layout) m ≡ b → b ≡ true) [
-          | true ↦ λ f. refl
-          | false ↦ λ f.
-              let none : ready engine (owner_of g.layout) p m ≡ None = (machines_are_read_by_parts basics (owner_of g.layout) g.layout.parts s.horizon m below).stopped f p in
-              absurd (true≢false (sym e ∙ ap is_some none))
-        ] refl
 
     -- what a partition has due by the horizon
     pub due_at : (p : ℕ) (d : Result (List Site) Refusal) → p < g.layout.parts → due_by s.horizon (due_in engine (get_or g.parts p d)) ≡ next_due engine s.horizon (part_of engine (owner_of g.layout) p (machine_in engine g.layout g.distances s done).sites)

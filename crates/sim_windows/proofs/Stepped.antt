@@ -6,6 +6,7 @@ use Rattle.std.proofs.lemmas.Bool.{cases_lt}
 use Rattle.std.proofs.lemmas.List.{append-nil, get_or-map, length-map, map-set}
 use Rattle.sim_clock.specs.declared.key.Key.{Key}
 use Rattle.sim_clock.specs.declared.refusal.Refusal.{Refusal}
+use Rattle.sim_engine.proofs.Progress.{some_of}
 use Rattle.sim_engine.specs.Bounds.{least_bound}
 use Rattle.sim_engine.specs.Engine.{Engine}
 use Rattle.sim_engine.specs.Laws.{Conditions, SiteLaws}
@@ -21,13 +22,14 @@ use Rattle.sim_engine.specs.declared.picks.Pick.TheVariants.{Barrier, Part}
 use Rattle.sim_exchange.specs.Layout.{owner_of}
 use Rattle.sim_partition.specs.Sites.{AreOfPast, HasDue}
 use Rattle.sim_partition.specs.Steps.{StopsStep}
-use Rattle.sim_windows.specs.Stages.{Follows, IsStanding, Settles, Standing, Stands, Takes, Tells, Took, bounded_by, bounds_by, delivered_by, end_in, front_in, is_finished_in, machine_at, next_in, ready_in, settled_by, standing_of, takes_effect_in, up_to}
+use Rattle.sim_windows.specs.Stages.{Follows, IsStanding, Settles, Standing, Stands, Takes, Tells, Took, bounded_by, bounds_by, delivered_by, end_in, lower_bound_in, is_finished_in, left_in, machine_at, next_in, ready_in, settled_by, standing_of, takes_effect_in, up_to}
 use Rattle.sim_windows.specs.declared.kept.Kept.{Kept}
-use Rattle.sim_windows.proofs.Fronts.{next_in as next_rows, settles}
+use Rattle.sim_windows.proofs.Advancing.{barrier_less}
+use Rattle.sim_windows.proofs.LowerBounds.{next_in as next_rows, settles}
 use Rattle.sim_windows.proofs.Meetings.{barrier_none, bounds_in, live, many_delivered, meets, parts_in}
-use Rattle.sim_windows.proofs.Reading.{end_is, finished_is, front_is, has_next, past_parts, ready_is}
+use Rattle.sim_windows.proofs.Reading.{end_is, finished_is, lower_bound_is, has_next, past_parts, ready_is}
 use Rattle.sim_windows.proofs.Standing.{many_parts, many_rows, part_at}
-use Rattle.sim_windows.proofs.Stepping.{due_is, has_due, some_key, stepped_by, steps, stops_over, took_none}
+use Rattle.sim_windows.proofs.Stepping.{due_is, has_due, stepped_by, steps, stops_over, took_none}
 
 module _ {Site Row Transfer : Type 0} {engine : Engine Site Row Transfer} {conditions : Conditions Site Transfer} (basics : SiteLaws engine conditions) where
   open conditions use {Past}
@@ -48,7 +50,7 @@ module _ {Site Row Transfer : Type 0} {engine : Engine Site Row Transfer} {condi
 
   pub here : (s : Setting Site) (done : List Pick) (g : Standing Site Row Transfer) → Stands engine conditions s done g → (p : ℕ) → is_some (ready_in engine g p) ≡ true → Here s done g p
   here s done g st p some =
-      let k = some_key (ready engine (owner_of g.layout) p (machine_at engine g s done)) (ap is_some (sym (ready_is basics s done g st p)) ∙ some) in
+      let k = some_of (ready engine (owner_of g.layout) p (machine_at engine g s done)) (ap is_some (sym (ready_is basics s done g st p)) ∙ some) in
       record { within = omega (arith, within g p some, many_parts basics s done g st); key = k.0; ready_is = k.1 }
 
   -- the handling of a partition's least due
@@ -114,18 +116,18 @@ module _ {Site Row Transfer : Type 0} {engine : Engine Site Row Transfer} {condi
   stays g p none s done st = took_none basics s done g st p (sym (ready_is basics s done g st p) ∙ none)
 
   -- the least of the rows that are settled
-  pub settled : (g h : Standing Site Row Transfer) (moment : ℕ) (rows : List Row) → moment ≡ front_in engine g → h ≡ settled_by engine g moment → rows ≡ merged_all (row_cmp engine) (map (filter (is_before engine moment)) g.rows) → Settles engine conditions g h rows
+  pub settled : (g h : Standing Site Row Transfer) (moment : ℕ) (rows : List Row) → moment ≡ lower_bound_in engine g → h ≡ settled_by engine g moment → rows ≡ merged_all (row_cmp engine) (map (filter (is_before engine moment)) g.rows) → Settles engine conditions g h rows
   settled g h moment rows at is told =
       record {
         follows = record {
-          stands = λ s done st. subst (Stands engine conditions s (done ++ [])) (sym is) (subst (λ ps. Stands engine conditions s ps (settled_by engine g moment)) (sym (append-nil done)) (settles basics s done g st moment (at ∙ front_is basics s done g st)));
+          stands = λ s done st. subst (Stands engine conditions s (done ++ [])) (sym is) (subst (λ ps. Stands engine conditions s ps (settled_by engine g moment)) (sym (append-nil done)) (settles basics s done g st moment (at ∙ lower_bound_is basics s done g st)));
           same = record { layout = ap (λ (x : Standing Site Row Transfer). x.layout) is; distances = ap (λ (x : Standing Site Row Transfer). x.distances) is };
           count = ap (λ (x : Standing Site Row Transfer). length x.parts) is;
         };
         is = is ∙ ap (settled_by engine g) at;
         next = λ s on r whole.
             ap (λ z. filter (is_before engine g.settled) r.rows ++ z) told
-            ∙ next_rows basics s on.picks g on.stands moment (at ∙ front_is basics s on.picks g on.stands) r whole
+            ∙ next_rows basics s on.picks g on.stands moment (at ∙ lower_bound_is basics s on.picks g on.stands) r whole
             ∙ ap (λ n. filter (is_before engine n) r.rows) (sym (ap (λ (x : Standing Site Row Transfer). x.settled) is));
       }
 
@@ -212,9 +214,17 @@ module _ {Site Row Transfer : Type 0} {engine : Engine Site Row Transfer} {condi
           (meets basics s done g st (sym (has_next basics s done g st) ∙ ap is_some rests) (sym (finished_is basics s done g st) ∙ left) bounds
           (bounds_in basics s done g st g.distances.parts st.parts bounds (ap (λ n. bounds_by engine g.distances n k.parts) st.horizon)))
 
+    less_there : (s : Setting Site) (done : List Pick) (st : Stands engine conditions s done g) (h : Standing Site Row Transfer) → h ≡ bounded_by d (bounds_by engine d.distances d.horizon d.parts) → next_in engine g ≡ None → is_finished_in engine g ≡ false → left_in engine h < left_in engine g
+    less_there s done st h is rests left =
+        let k : Standing Site Row Transfer = delivered_by engine g (parts_in basics s done g st) in
+        let bounds : List ℕ = bounds_by engine g.distances g.horizon k.parts in
+        let whole : h ≡ bounded_by k bounds = is ∙ ap (λ (x : Standing Site Row Transfer). bounded_by x (bounds_by engine x.distances x.horizon x.parts)) (delivers s done st) in
+        subst (λ (x : Standing Site Row Transfer). left_in engine x < left_in engine g) (sym whole)
+        (barrier_less basics s done g st rests left bounds (bounds_in basics s done g st g.distances.parts st.parts bounds (ap (λ n. bounds_by engine g.distances n k.parts) st.horizon)))
+
     pub met :
         (h : Standing Site Row Transfer) → h ≡ bounded_by d (bounds_by engine d.distances d.horizon d.parts) → next_in engine g ≡ None → is_finished_in engine g ≡ false → IsStanding engine conditions g
-        → Follows engine conditions g h (Barrier ∷ []) × (h.settled ≡ g.settled)
+        → Follows engine conditions g h (Barrier ∷ []) × (h.settled ≡ g.settled) × (left_in engine h < left_in engine g)
     met h is rests left st =
         let e : d ≡ delivered_by engine g (parts_in basics st.setting st.picks g st.stands) = delivers st.setting st.picks st.stands in (
           record {
@@ -228,16 +238,18 @@ module _ {Site Row Transfer : Type 0} {engine : Engine Site Row Transfer} {condi
                 ∙ many_delivered basics st.setting st.picks g st.stands ∙ sym (many_parts basics st.setting st.picks g st.stands);
           },
           ap (λ (x : Standing Site Row Transfer). x.settled) is ∙ ap (λ (x : Standing Site Row Transfer). x.settled) e,
+          less_there st.setting st.picks st.stands h is rests left,
         )
 
   -- the same, where the one is seen as another
   pub meets_so :
       (g k d h : Standing Site Row Transfer) → k ≡ g → ((ws : List (List Site)) → k.parts ≡ map (λ w. Ok w) ws → d ≡ delivered_by engine k ws) → h ≡ bounded_by d (bounds_by engine d.distances d.horizon d.parts)
       → next_in engine g ≡ None → is_finished_in engine g ≡ false → IsStanding engine conditions k
-      → IsStanding engine conditions h × Follows engine conditions g h (Barrier ∷ []) × (h.settled ≡ g.settled)
+      → IsStanding engine conditions h × Follows engine conditions g h (Barrier ∷ []) × (h.settled ≡ g.settled) × (left_in engine h < left_in engine g)
   meets_so g k d h e reached is rests left st =
       let m = met k d reached h is (ap (next_in engine) e ∙ rests) (ap (is_finished_in engine) e ∙ left) st in (
         on k h (Barrier ∷ []) m.0 st,
         subst (λ (x : Standing Site Row Transfer). Follows engine conditions x h (Barrier ∷ [])) e m.0,
         m.1 ∙ ap (λ (x : Standing Site Row Transfer). x.settled) e,
+        subst (λ (x : Standing Site Row Transfer). left_in engine h < left_in engine x) e m.2,
       )

@@ -7,6 +7,7 @@ use Rattle.std.proofs.lemmas.Bool.{eqb-true}
 use Rattle.std.proofs.lemmas.List.Elements.{All-append, filter-append}
 use Rattle.sim_clock.specs.declared.key.Key.{Key}
 use Rattle.sim_clock.specs.declared.refusal.Refusal.{Refusal}
+use Rattle.sim_engine.proofs.Progress.{some_of}
 use Rattle.sim_exchange.specs.Layout.{owner_of}
 use Rattle.sim_exchange.specs.Table.{distance_in}
 use Rattle.sim_engine.specs.Bounds.{own_bound}
@@ -31,17 +32,12 @@ use Rattle.sim_partition.proofs.Moments.{all_later}
 use Rattle.sim_windows.specs.Stages.{Standing, Stands, Took, is_from, machine_in}
 use Rattle.sim_windows.proofs.Picked.{all_from}
 use Rattle.sim_windows.proofs.Places.{at_place, set_from}
-use Rattle.sim_windows.proofs.Standing.{below, keeps, more_picks, stands_on}
+use Rattle.sim_windows.proofs.Standing.{below, keeps, more_picks, shown_in, stands_on}
 use Rattle.sim_engine.specs.World.{world_due, Stepped, after, handled_among}
 use Rattle.sim_engine.specs.Counts.{rows_count, run_count, sites_count}
 use Rattle.sim_engine.specs.Setting.{Setting}
 use Rattle.sim_engine.specs.Engine.{Engine}
 use Rattle.sim_engine.specs.Laws.{Conditions, SiteLaws}
-
--- something that is there
-pub some_key : (d : Option Key) → is_some d ≡ true → (key : Key) × (d ≡ Some key)
-some_key None h = absurd (true≢false (sym h))
-some_key (Some k) h = (k, refl)
 
 module _ {Site Row Transfer : Type 0} {engine : Engine Site Row Transfer} {conditions : Conditions Site Transfer} (basics : SiteLaws engine conditions) where
   open conditions use {Past, Timely}
@@ -51,14 +47,7 @@ module _ {Site Row Transfer : Type 0} {engine : Engine Site Row Transfer} {condi
   stepped_by g p t = record g { parts = set g.parts p (Ok t.sites); rows = set g.rows p (get_or g.rows p [] ++ t.rows); waiting = g.waiting ++ t.sent }
 
   module _ (s : Setting Site) (done : List Pick) (g : Standing Site Row Transfer) (st : Stands engine conditions s done g) (p : ℕ) (l : p < g.layout.parts) (key : Key) (ready_is : ready engine (owner_of g.layout) p (machine_in engine g.layout g.distances s done) ≡ Some key) where
-    abbrev o : ℕ → ℕ
-    o = owner_of g.layout
-
-    abbrev rule : List Site → ℕ → ℕ
-    rule = own_bound engine (owner_of g.layout) (distance_in g.distances) g.layout.parts s.horizon
-
-    abbrev m : Machine engine
-    m = machine_in engine g.layout g.distances s done
+    open shown_in engine s done g use {owner as o, rule, machine as m}
 
     abbrev x : Machine engine
     x = machine_in engine g.layout g.distances s (done ++ Part p ∷ [])
@@ -110,12 +99,7 @@ module _ {Site Row Transfer : Type 0} {engine : Engine Site Row Transfer} {condi
     pub steps : All (Past key.at) w → Stands engine conditions s (done ++ Part p ∷ []) (stepped_by g p t)
     steps h =
         record {
-          sound = st.sound;
-          layout = st.layout;
-          horizon = st.horizon;
-          range = st.range;
-          parts = st.parts;
-          distances = st.distances;
+          split = st.split;
           shows = record {
             parts =
                 ap (λ z. set z p (Ok t.sites)) st.shows.parts

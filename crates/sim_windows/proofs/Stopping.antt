@@ -8,7 +8,8 @@ use Rattle.sim_engine.specs.Laws.{Conditions, SiteLaws}
 use Rattle.sim_engine.specs.Counts.{rows_count, run_count, sites_count}
 use Rattle.sim_engine.specs.Limits.{most_count}
 use Rattle.sim_engine.specs.World.{Run, Stepped, after, delivered, delivered_one, handled_among, world_due}
-use Rattle.sim_engine.proofs.Branches.{either}
+use Rattle.sim_engine.proofs.Prefixes.{delivered_cores}
+use Rattle.sim_engine.proofs.RunCounts.{cores_count, sites_cores}
 use Rattle.sim_partition.specs.Steps.{StopsStep}
 use Rattle.sim_partition.proofs.Passing.{more_passes, rows_after, stops_for}
 use Rattle.sim_windows.specs.Sinks.{StopsRun}
@@ -19,15 +20,9 @@ module _ {Site Row Transfer : Type 0} {engine : Engine Site Row Transfer} {condi
   open basics use {kept_core}
 
   -- what is delivered counts nothing
-  one_counts : (o : Transfer) (w : List Site) → sites_count engine (map (delivered_one engine o) w) ≡ sites_count engine w
-  one_counts o [] = refl
-  one_counts o (s ∷ ss) =
-      let same : site_count (core (delivered_one engine o s)) ≡ site_count (core s) = either (λ (x : Site). site_count (core x) ≡ site_count (core s)) (to o == number s) (accepted o s) s (ap site_count (kept_core o s)) refl in
-      λ j. max (same j) (one_counts o ss j)
-
   delivered_counts : (os : List Transfer) (w : List Site) → sites_count engine (delivered engine os w) ≡ sites_count engine w
-  delivered_counts [] w = refl
-  delivered_counts (o ∷ os) w = delivered_counts os (map (delivered_one engine o) w) ∙ one_counts o w
+  delivered_counts os w =
+      sites_cores basics (delivered engine os w) ∙ ap (cores_count basics) (delivered_cores basics os w) ∙ sym (sites_cores basics w)
 
   -- a handling that stops its partition stops the run
   pub stops_at : (horizon : ℕ) (key : Key) (w : List Site) (e : Refusal) → world_due engine w ≡ Some key → key.at ≤ horizon → StopsStep engine (handled_among engine key w) e → StopsRun engine horizon w e

@@ -6,3 +6,4 @@ pub mod Laws
 pub mod Worlds
 pub mod Rounds
 pub mod Sinks
+pub mod Gathered

@@ -1,10 +1,10 @@
--- What a sink that takes so many rows took, or broke at.
+-- What a sink that takes a limited number of rows took, or at which rows it broke.
 use Rattle.std.specs.Prelude.{List, length, ◌+◌, ◌<◌, ◌≡◌}
 use Rattle.sim_clock.specs.declared.refusal.Refusal.{Refusal}
 use Rattle.sim_clock.specs.declared.refusal.Refusal.TheVariants as refusals
 use Rattle.sim_windows.specs.declared.limit.Limit.{Limit}
 
--- it takes so many fewer
+-- it takes that many rows fewer
 abbrev pub Took : {R : Type 0} → Limit → List R → Limit → Type 0
 Took before rows after = after.left + length rows ≡ before.left
 

@@ -10,7 +10,7 @@ use Rattle.sim_engine.specs.declared.picks.Pick.{Pick}
 use Rattle.sim_exchange.specs.Layout.{Layout}
 use Rattle.sim_windows.specs.Stages.{AreSettled, Standing, Stands, ended_in, machine_at}
 
--- how a machine stands, or the refusal that spent it; the rows that were settled, and the least of its bounds
+-- the state of a machine, or the error that spent it; the rows that were settled, and the least of its bounds
 pub record Seen (Site Row Transfer : Type 0) : Type 0 where
   pub state : Result (Standing Site Row Transfer) Refusal
   pub rows : List Row
@@ -25,7 +25,8 @@ module _ {Site Row Transfer : Type 0} (engine : Engine Site Row Transfer) where
     pub sites_are : sites ≡ run.sites
 
 module _ {Site Row Transfer : Type 0} (engine : Engine Site Row Transfer) (conditions : Conditions Site Transfer) where
-  -- it lives, split so, and stands as the definitions' machine of a setting does after some picks; its rows are those of the one-list run from before the least bound of the round that the last barrier ended
+  -- it is not spent, is split so, and is in the state of the definitions' machine of a setting after some picks; its
+  -- rows are those of the one-list run from before the least bound of the last round that ended at a barrier
   pub record IsMachineOf (layout : Layout) (s : Setting Site) (picks : List Pick) (x : Seen Site Row Transfer) : Type 0 where
     pub standing : Standing Site Row Transfer
     pub lives : x.state ≡ Ok standing
@@ -42,7 +43,7 @@ module _ {Site Row Transfer : Type 0} (engine : Engine Site Row Transfer) (condi
     pub picks : List Pick
     pub is : IsMachineOf layout setting picks x
 
-  -- unless a refusal spent it
+  -- unless an error spent it
   abbrev pub IsMachineUnless : Result (Standing Site Row Transfer) Refusal → Seen Site Row Transfer → Type 0
   IsMachineUnless (Ok g) x = IsMachine x
   IsMachineUnless (Err e) x = Unit {0}

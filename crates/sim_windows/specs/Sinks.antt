@@ -9,15 +9,16 @@ use Rattle.sim_engine.specs.World.{Run, after}
 
 module _ {Site Row Transfer : Type 0} (engine : Engine Site Row Transfer) where
   -- rows that a setting's run begins with
-  abbrev pub IsFront : Setting Site → List Row → Type 0
-  IsFront s rows = (r : Run engine) → IsRunOf engine s r → (rest : List Row) × (rows ++ rest ≡ r.rows)
+  abbrev pub IsPrefixOfRun : Setting Site → List Row → Type 0
+  IsPrefixOfRun s rows = (r : Run engine) → IsRunOf engine s r → (rest : List Row) × (rows ++ rest ≡ r.rows)
 
-  -- why the run from some sites by a horizon stops: want of memory, or a count that it takes past the limit some handlings on
+  -- why the run from some sites by a horizon stops: out of memory, or a count that some more handlings take past the
+  -- limit
   abbrev pub StopsRun : ℕ → List Site → Refusal → Type 0
   StopsRun horizon start = StopsWhere ((n : ℕ) × (most_count < run_count engine (after engine horizon n start)))
 
   module _ {K : Type 0} (took : K → List Row → K → Type 0) where
-    -- the run from some sites by a horizon has come to others, and a sink took its rows
+    -- the run from some sites by a horizon has reached others, and a sink took its rows
     pub record HasRun (horizon : ℕ) (start : List Site) (before : K) (sites : List Site) (now : K) : Type 0 where
       pub steps : ℕ
       pub reached : (after engine horizon steps start).sites ≡ sites
@@ -40,8 +41,9 @@ module _ {Site Row Transfer : Type 0} (engine : Engine Site Row Transfer) where
         pub steps : ℕ
         pub at_rows : StopsAt (StopsRun horizon start) (after engine horizon steps start).rows before refusal now
 
-      -- a setting's run stops on its way: for want of memory, for a count that it takes past the limit, or since the sink broke
+      -- a setting's run stops on its way: because memory ran out, because it takes a count past the limit, or because
+      -- the sink broke
       pub record HasStopped (s : Setting Site) (before : K) (refusal : Refusal) (now : K) : Type 0 where
         pub rows : List Row
-        pub front : IsFront s rows
+        pub prefix : IsPrefixOfRun s rows
         pub at_rows : StopsAt (StopsWhere (IsOver engine s)) rows before refusal now

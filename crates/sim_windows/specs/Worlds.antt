@@ -5,12 +5,12 @@ use Rattle.sim_clock.specs.declared.refusal.Refusal.{Refusal}
 use Rattle.sim_engine.specs.Engine.{Engine}
 use Rattle.sim_engine.specs.World.{handled_among, run_on}
 
--- the sites of a partition, none where it is spent
+-- the sites of a partition; none if it is spent
 abbrev pub sites_in : {Site : Type 0} → Result (List Site) Refusal → List Site
 sites_in (Ok sites) = sites
 sites_in (Err e) = []
 
--- the moment of a due; past the horizon where there is none
+-- the moment of the next entry due; past the horizon if there is none
 abbrev pub due_at : ℕ → Option Key → ℕ
 due_at horizon None = horizon + 1
 due_at horizon (Some k) = k.at

@@ -1,4 +1,4 @@
-//! The sites of partitions, in one list again.
+//! Joins the sites of partitions in one list.
 ghost use Rattle.std.specs.List.{range_with_len};
 ghost use Rattle.std.specs.Prelude.{◌≡◌, ◌∷◌, [], IfOk, List, Ok, map, reverse};
 ghost use Rattle.sim_exchange.specs.Layout.{owner_of};
@@ -24,7 +24,7 @@ fn turned_sites<S: Site>(alloc: Global, parts: Vec<Partition<S>>) -> Result<Vec<
     Ok(lists)
 }
 
-// The sites of the one partition that there is.
+// The sites of the only partition.
 fn sites_alone<S: Site>(alloc: Global, parts: Vec<Partition<S>>) -> Result<Vec<S>, AllocError>
     ensures { (w : List S) → parts.items ≡ Ok w ∷ [] → IfOk result (λ sites. sites.items ≡ w) }
 {
@@ -35,14 +35,16 @@ fn sites_alone<S: Site>(alloc: Global, parts: Vec<Partition<S>>) -> Result<Vec<S
     }
 }
 
-/// The sites of all partitions, by number. The error is want of memory.
+/// The sites of all partitions, by number. It fails if memory runs out.
 pub fn join_sites<S: Site>(
     alloc: Global,
     parts: Vec<Partition<S>>,
     layout: &PartMap,
 ) -> Result<Vec<S>, AllocError>
     ensures { (w : List S) → IsNumbered S.engine 0 w →
-        parts.items ≡ map (λ p. Ok (part_of S.engine (owner_of layout.now) p w)) (range_with_len 0 layout.now.parts) →
+        parts.items
+        ≡ map (λ p. Ok (part_of S.engine (owner_of layout.now) p w))
+        (range_with_len 0 layout.now.parts) →
         IfOk result (λ sites. sites.items ≡ w) }
 {
     if layout.parts() == 1 {
@@ -53,7 +55,7 @@ pub fn join_sites<S: Site>(
         .iter()
         .fold(0usize, |count, list| count.saturating_add(list.len()));
     let mut sites = Vec::with_capacity(alloc, count)?;
-    // These are not the partitions of the layout.
+    // The partitions do not belong to this layout.
     if lists.len() != layout.parts() as usize {
         return Ok(sites);
     }
@@ -64,6 +66,6 @@ pub fn join_sites<S: Site>(
             None => return Ok(sites),
         }
     }
-    // No world has so many sites that their numbers go past 32 bits.
+    // No world has so many sites that their numbers exceed 32 bits.
     Err(AllocError)
 }

@@ -1,4 +1,4 @@
-//! What a stage keeps beside its partitions, and what is done to both at once.
+//! What a stage keeps beside its partitions, and the steps that change both.
 ghost use Rattle.std.specs.Prelude.{◌≡◌, ◌+◌, ◌<◌, ◌^◌, [], IfErr, IfOk, List, Ok, OnOk, Result, filter, length, map};
 ghost use Rattle.std.specs.List.{range_with_len};
 ghost use Rattle.sim_clock.specs.declared.refusal.Refusal.{Refusal as TheRefusal};
@@ -17,9 +17,9 @@ use sim_partition::Partition;
 use std::alloc::{AllocError, Global};
 use std::mem;
 
-/// Whose sites are whose, the distances between partitions and the last moment of the run; the bound of
-/// each partition, the rows that each made and that are not settled yet, and the transfers that wait for
-/// a barrier; and the moment up to which all is settled.
+/// The partition of each site, the distances between partitions and the last moment of the run.
+/// Also, for each partition, its bound and the rows that it made and that are not settled yet. Also
+/// the transfers that wait for a barrier, and the moment before which all rows are settled.
 #[derive(Drop)]
 pub struct Kept<S: Site> {
     pub alloc: Global,
@@ -32,9 +32,10 @@ pub struct Kept<S: Site> {
     pub settled: u64,
 }
 
-// So many lists of rows, none of which has any.
+// As many empty lists of rows as there are partitions.
 fn no_rows<S: Site>(alloc: Global, parts: usize) -> Result<Vec<Vec<S::Row>>, AllocError>
-    ensures { IfOk result (λ lists. map (λ l. l.items) lists.items ≡ map (λ p. []) (range_with_len 0 parts)) }
+    ensures { IfOk result
+        (λ lists. map (λ l. l.items) lists.items ≡ map (λ p. []) (range_with_len 0 parts)) }
 {
     let mut lists = Vec::with_capacity(alloc, parts)?;
     for _ in 0..parts {
@@ -44,8 +45,8 @@ fn no_rows<S: Site>(alloc: Global, parts: usize) -> Result<Vec<Vec<S::Row>>, All
 }
 
 impl<S: Site> Kept<S> {
-    /// What is kept beside partitions at which nothing was done: their bounds are set by what is due in
-    /// them, no rows were made, and nothing waits. The error is want of memory.
+    /// What is kept beside new partitions. Their bounds are set by what is due in them; no rows
+    /// were made, and nothing waits. It fails if memory runs out.
     pub fn opened(
         alloc: Global,
         layout: PartMap,
@@ -74,13 +75,15 @@ impl<S: Site> Kept<S> {
         })
     }
 
-    /// Each partition gets what waits for it.
+    /// Delivers to each partition the transfers that wait for it.
     pub fn deliver(&mut self, parts: &mut Vec<Partition<S>>) -> Result<(), Refusal>
         requires reached { AreReached S.engine S.conditions parts.old.items
-            (exchanged S.engine (owner_of self.old.layout) self.old.layout.parts self.old.waiting.items) }
+            (exchanged S.engine (owner_of self.old.layout) self.old.layout.parts
+            self.old.waiting.items) }
         ensures delivered { (ws : List (List S)) → parts.old.items ≡ map (λ w. Ok w) ws →
             OnOk result (
-            standing_of self.new parts.new.items ≡ delivered_by S.engine (standing_of self.old parts.old.items) ws) }
+            standing_of self.new parts.new.items
+            ≡ delivered_by S.engine (standing_of self.old parts.old.items) ws) }
         ensures memory { (ws : List (List S)) → parts.old.items ≡ map (λ w. Ok w) ws →
             IfErr result (λ refusal. refusal ≡ Refusal.Memory) }
     {
@@ -91,22 +94,25 @@ impl<S: Site> Kept<S> {
         deliver_each(parts, lists)
     }
 
-    /// The rows from before a moment are settled. Answers those of each partition.
+    /// Settles the rows from before a moment in milliseconds. Returns those of each partition.
     pub fn settle_before(&mut self, moment: u64) -> Result<Vec<Vec<S::Row>>, AllocError>
         ensures settled { (parts : List (Result (List S) TheRefusal)) →
-            IfOk result (λ _. standing_of self.new parts ≡ settled_by S.engine (standing_of self.old parts) moment) }
+            IfOk result (λ _.
+            standing_of self.new parts
+            ≡ settled_by S.engine (standing_of self.old parts) moment) }
         ensures rows { IfOk result (λ rows.
             map (λ l. l.items) rows.items
-            ≡ map (filter (is_row_before S.engine moment)) (map (λ l. l.items) self.old.rows.items)) }
+            ≡ map (filter (is_row_before S.engine moment))
+            (map (λ l. l.items) self.old.rows.items)) }
     {
         let rows = mem::replace(&mut self.rows, Vec::new(self.alloc));
         let settled = settle::<S>(self.alloc, rows, moment)?;
         self.rows = settled.kept;
         self.settled = moment;
-        Ok(settled.fronts)
+        Ok(settled.prefixes)
     }
 
-    /// The bounds are set anew, by what is due in the partitions.
+    /// Sets the bounds anew, by what is due in the partitions.
     pub fn set_bounds(&mut self, parts: &[Partition<S>]) -> Result<(), AllocError>
         requires parts { length parts.now ≡ self.old.distances.parts }
         requires range { self.old.distances.parts < 2 ^ 32 }

@@ -1,10 +1,10 @@
-//! Partitions that are lent by their stage, and come back.
+//! A stage that has lent its partitions, and takes them back.
 ghost use Rattle.std.specs.Prelude.{◌≡◌, ◌++◌, [], IfOk, List, OnOk, Result, filter, map, ℕ};
 ghost use Rattle.sim_clock.specs.declared.refusal.Refusal.{Refusal as TheRefusal};
 ghost use Rattle.sim_engine.specs.Merge.{merged_all, row_cmp};
 ghost use Rattle.sim_engine.specs.Prefixes.{is_before};
 ghost use Rattle.sim_windows.specs.Rounds.{AreWithin, CanComeBack, HaveCome};
-ghost use Rattle.sim_windows.specs.Stages.{GoesOn, Settles, front_in, settled_by, standing_of, with_parts};
+ghost use Rattle.sim_windows.specs.Stages.{GoesOn, Settles, lower_bound_in, settled_by, standing_of, with_parts};
 
 use crate::kept::Kept;
 use crate::stage::{Stage, stage_of};
@@ -13,14 +13,14 @@ use sim_partition::Partition;
 use std::alloc::AllocError;
 use std::marker::Model;
 
-/// A partition that ran, with what it did.
+/// A partition that ran, with the rows and transfers that it made.
 #[derive(Drop)]
 pub struct Came<S: Site> {
     pub part: Partition<S>,
     pub made: Effects<S::Row, S::Transfer>,
 }
 
-/// A stage whose partitions are lent.
+/// A stage that has lent its partitions.
 #[derive(Drop)]
 pub struct Lent<S: Site> {
     kept: Kept<S>,
@@ -35,7 +35,7 @@ impl<S: Site> Model for Lent<S> {
     ghost view = { λ l. standing_of l.kept [] };
 }
 
-// Adds rows to a list. A list with nothing in it takes their own.
+// Appends rows to a list. An empty list takes over their memory.
 fn add_rows<R: Drop>(rows: &mut Vec<R>, mut more: Vec<R>) -> Result<(), AllocError>
     ensures { OnOk result (rows.new.items ≡ rows.old.items ++ more.items) }
 {
@@ -55,29 +55,39 @@ impl<S: Site> Lent<S> {
         Lent { kept }
     }
 
-    /// Meanwhile the rows from before a moment are settled, before which nothing might come when the
-    /// partitions were lent. Answers those of each partition too: merged they follow the rows that were
-    /// settled before. The error is want of memory.
+    /// Settles the rows from before a moment while the partitions are lent. When they were lent,
+    /// nothing more might come before that moment. Returns these rows, too, those of each
+    /// partition; merged they follow the rows that were settled before.
+    ///
+    /// # Errors
+    ///
+    /// `AllocError` if memory runs out.
     pub fn settle(self, moment: u64) -> Result<(Lent<S>, Vec<Vec<S::Row>>), AllocError>
         ensures settled { IfOk result (λ r. r.0 ≡ settled_by S.engine self moment) }
-        ensures rows { IfOk result (λ r. map (λ l. l.items) r.1.items ≡ map (filter (is_before S.engine moment)) self.rows) }
+        ensures rows { IfOk result (λ r.
+            map (λ l. l.items) r.1.items ≡ map (filter (is_before S.engine moment)) self.rows) }
         ensures next { (parts : List (Result (List S) TheRefusal)) →
-            moment ≡ front_in S.engine (with_parts parts self) →
+            moment ≡ lower_bound_in S.engine (with_parts parts self) →
             IfOk result (λ r. Settles S.engine S.conditions (with_parts parts self) (with_parts parts r.0)
             (merged_all (row_cmp S.engine) (map (λ l. l.items) r.1.items))) }
     {
         let Lent { mut kept } = self;
-        let fronts = kept.settle_before(moment)?;
-        Ok((Lent { kept }, fronts))
+        let prefixes = kept.settle_before(moment)?;
+        Ok((Lent { kept }, prefixes))
     }
 
-    /// Takes the partitions back, each run to an end that is not past its bound, with what they did. The
-    /// error is want of memory.
+    /// Takes the partitions back with what they made. Each has run to an end that is not past its
+    /// bound.
+    ///
+    /// # Errors
+    ///
+    /// `AllocError` if memory runs out.
     pub fn come_back(self, came: Vec<Came<S>>) -> Result<Stage<S>, AllocError>
         requires came { CanComeBack S.engine S.conditions self came.items }
         ensures back { (parts : List (Result (List S) TheRefusal)) (ends : List ℕ) →
             AreWithin ends self.bounds → HaveCome S.engine S.conditions ends parts came.items →
             IfOk result (GoesOn S.engine S.conditions (with_parts parts self)) }
+        ensures parts { IfOk result (λ g. g.parts ≡ map (λ one. one.part) came.items) }
     {
         let Lent { mut kept } = self;
         let mut parts = Vec::with_capacity(kept.alloc, came.len())?;

@@ -1,7 +1,7 @@
-//! The run of a world, on one thread entry by entry or in partitions. Each partition handles what it
-//! has due before its bound; at a barrier it gets what was sent to it, in the order of keys, and the
-//! bounds are set anew; the rows that nothing can come before any more are settled. Whatever is picked,
-//! a world in partitions comes to the run on one list.
+//! The run of a world, on one thread entry by entry or in partitions. A partition handles what it
+//! has due before its bound. At a barrier it gets what was sent to it, in the order of keys, and
+//! the bounds are set anew. Rows before which no other row can come are settled. Whatever is
+//! picked, a run in partitions gives the result of the run on one list.
 #![tactic(auto)]
 
 mod alone;
@@ -17,7 +17,7 @@ mod sink;
 mod stage;
 mod world;
 
-pub use alone::run_alone;
+pub use alone::{run_alone, run_gathered};
 pub use lent::{Came, Lent};
 pub use limit::Limit;
 pub use machine::Machine;

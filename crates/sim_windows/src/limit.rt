@@ -1,16 +1,16 @@
-//! A sink that takes so many rows.
-ghost use Rattle.std.specs.Prelude.{◌≡◌, ◌+◌, ◌<◌, length};
+//! A sink that takes a limited number of rows.
+ghost use Rattle.std.specs.Prelude.{◌≡◌, ◌+◌, ◌<◌, length, IfErr, OnErr, OnOk};
 ghost use Rattle.sim_clock.specs.declared.refusal.Refusal.TheVariants.{Write};
 
 use crate::sink::RowSink;
 use sim_clock::Refusal;
 
-/// Takes so many rows and no more, as a writer does that comes to be full, and keeps none of them: for
-/// trying what a run leaves whose sink fails. It refuses with `Write` rows that are more than it still
-/// takes, and takes none of them.
+/// Takes up to `left` rows and keeps none of them, like a writer that becomes full. It is for tests
+/// of what a run leaves if its sink fails. If it gets more rows than `left`, it takes none of them
+/// and returns `Write`.
 #[derive(Drop)]
 pub struct Limit {
-    /// How many rows it still takes.
+    /// The number of rows that it still takes.
     pub left: u64,
 }
 
@@ -24,7 +24,12 @@ impl<R> RowSink<R> for Limit {
 
     ghost broke = { λ before rows refusal _. Broke before rows refusal };
 
-    fn take(&mut self, rows: &[R]) -> Result<(), Refusal> {
+    fn take(&mut self, rows: &[R]) -> Result<(), Refusal>
+        ensures ready { OnOk result (Unit {0}) }
+        ensures took { OnOk result (Took self.old rows.now self.new) }
+        ensures broke { IfErr result (λ refusal. Broke self.old rows.now refusal) }
+        ensures none { OnErr result (self.new.left ≡ self.old.left) }
+    {
         let count = rows.len() as u64;
         if count > self.left {
             return Err(Refusal::Write);

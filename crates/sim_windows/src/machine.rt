@@ -1,5 +1,5 @@
-//! Machines of partitions: a run of a world in which partitions handle what is due each by its own
-//! order, in whatever order they are picked.
+//! Machines of partitions: a run of a world in which each partition handles its entries in the
+//! order of their keys, and partitions are picked in any order.
 ghost use Rattle.std.specs.Prelude.{◌≡◌, ◌++◌, ◌≤◌, [], All, Err, IfErr, IfOk, List, None, false, true};
 ghost use Rattle.sim_clock.specs.declared.refusal.Refusal.{Refusal as TheRefusal};
 ghost use Rattle.sim_engine.specs.Limits.{IsOver, StopsWhere, most_count};
@@ -10,7 +10,7 @@ ghost use Rattle.sim_engine.specs.declared.picks.Pick.{Pick as ThePick};
 ghost use Rattle.sim_exchange.specs.Layout.{Layout as TheLayout};
 ghost use Rattle.sim_partition.specs.Sites.{refusal_in};
 ghost use Rattle.sim_windows.specs.Machines.{HasRun, IsMachineOf};
-ghost use Rattle.sim_windows.specs.Stages.{effects_in, machine_at};
+ghost use Rattle.sim_windows.specs.Stages.{BeginWith, effective_picks_in, machine_at};
 
 use crate::stage::{Ended, Stage};
 use crate::world::World;
@@ -21,10 +21,11 @@ use std::alloc::{AllocError, Global};
 use std::marker::Model;
 use std::mem;
 
-/// A run of a world in partitions. Each handles what it has due before its bound, picked in any
-/// order; at a barrier each gets what was sent to it, and the bounds are set anew, by what is due and
-/// the distances between partitions. Whatever is picked, it comes to the run of the whole world on
-/// one list. Want of memory, or a count at its limit, spends it.
+/// A run of a world in partitions. A partition handles what it has due before its bound; partitions
+/// are picked in any order. At a barrier each partition gets what was sent to it, and the bounds
+/// are set anew, by what is due and by the distances between partitions. Whatever is picked, the
+/// result is that of the run of the whole world on one list. An error, out of memory or a count at
+/// its limit, spends the machine.
 #[derive(Drop)]
 pub struct Machine<S: Site> {
     state: Result<Stage<S>, Refusal>,
@@ -44,9 +45,13 @@ impl<S: Site> Model for Machine<S> {
 }
 
 impl<S: Site> Machine<S> {
-    /// The machine of a world, with its sites in partitions by a map, at which nothing was done. Each way
-    /// takes 1 to 900,000 milliseconds. The error is want of memory, as which as many sites as there are
-    /// numbers are refused too.
+    /// The machine of a world before any pick; `layout` gives the partition of each site. Each way
+    /// takes 1 to 900,000 milliseconds.
+    ///
+    /// # Errors
+    ///
+    /// `AllocError` if memory runs out, or if the world has 2^32 sites, as many as there are
+    /// numbers of sites.
     pub fn new(alloc: Global, world: World<S>, layout: PartMap) -> Result<Machine<S>, AllocError>
         requires simulated { IsSimulated S.engine S.conditions world }
         requires horizon { world.horizon ≤ most_count }
@@ -62,26 +67,29 @@ impl<S: Site> Machine<S> {
         })
     }
 
-    /// Does some things, one after another, each if it may be done: a partition's least due is handled
-    /// if it comes before the partition's bound; a barrier is one if no partition has such a due and
-    /// something is left by the horizon. Answers how many took effect.
+    /// Does the picked steps one after another, each if it may be done. A partition handles its
+    /// least entry due if that comes before its bound. A barrier takes place if no partition has
+    /// such an entry and something is left by the horizon. Returns the number of picks that took
+    /// effect.
     ///
     /// # Errors
     ///
-    /// `Memory` where a growth is refused, and `CountLimit`, only where the world's run takes a
-    /// count past 2^62 - 1, spend it; one that is spent answers what spent it.
+    /// `Memory` if a growth is refused, and `CountLimit` only if the world's run takes a count past
+    /// 2^62 - 1; either spends the machine. A spent machine returns the error that spent it.
     pub fn play(&mut self, picks: &[Pick]) -> Result<u64, Refusal>
         ensures played { (layout : TheLayout) (s : Setting S) (done : List ThePick) →
             (was : IsMachineOf S.engine S.conditions layout s done self.old) →
             IfOk result (λ count.
             IsMachineOf S.engine S.conditions layout s (done ++ picks.now) self.new
-            × (count ≡ effects_in S.engine was.standing s done picks.now)) }
+            × (count ≡ effective_picks_in S.engine was.standing s done picks.now)) }
         ensures spent { IfErr result (λ refusal. self.new.state ≡ Err refusal) }
+        ensures rows { BeginWith self.old.rows self.new.rows }
         ensures end { IfErr result (λ _. self.new.end ≡ self.old.end) }
         ensures stops { (layout : TheLayout) (s : Setting S) (done : List ThePick) →
             IsMachineOf S.engine S.conditions layout s done self.old →
             IfErr result (StopsWhere (IsOver S.engine s)) }
-        ensures stays { (refusal : TheRefusal) → self.old.state ≡ Err refusal → result ≡ Err refusal }
+        ensures stays { (refusal : TheRefusal) → self.old.state ≡ Err refusal
+            → result ≡ Err refusal }
     {
         if let Err(refusal) = &self.state {
             return Err(*refusal);
@@ -100,8 +108,9 @@ impl<S: Site> Machine<S> {
         }
     }
 
-    /// The least of the partitions' bounds, in milliseconds: nothing that is still done comes before
-    /// it, once no partition has anything due before its own. A spent machine keeps what it was.
+    /// The least of the partitions' bounds, in milliseconds. Once no partition has anything due
+    /// before its own bound, nothing that is still done comes before the least. A spent machine
+    /// keeps its value.
     pub fn window_end(&self) -> u64
         ensures { result ≡ self.now.end }
     {
@@ -121,7 +130,7 @@ impl<S: Site> Machine<S> {
         }
     }
 
-    /// The refusal that spent it, if one did.
+    /// The error that spent the machine, if one did.
     pub fn spent(&self) -> Option<Refusal>
         ensures { result ≡ refusal_in self.now.state }
     {
@@ -132,26 +141,27 @@ impl<S: Site> Machine<S> {
     }
 
     /// The rows that were settled at barriers, in the order of keys: all that come before the least
-    /// bound of the round that ended last.
+    /// bound of the last round that ended. A spent machine keeps those that it had.
     pub fn rows(&self) -> &[S::Row]
         ensures { result.now ≡ self.now.rows }
     {
         self.rows.as_slice()
     }
 
-    /// All rows, in the order of keys, and the sites of the last world, by number, with what is on its
-    /// way to them: of a finished machine those of the world's run on one list. Of another nothing
-    /// is promised.
+    /// All rows in the order of keys, and the sites by number, with the transfers on their way to
+    /// them. If the machine is finished, they are those of the world's run on one list. If not,
+    /// nothing is promised of them.
     ///
     /// # Errors
     ///
-    /// `Memory` where a growth is refused; a spent machine answers what spent it.
+    /// `Memory` if a growth is refused. A spent machine returns the error that spent it.
     pub fn into_run(self) -> Result<Ended<S>, Refusal>
         ensures ended { (layout : TheLayout) (s : Setting S) (done : List ThePick) →
             (is : IsMachineOf S.engine S.conditions layout s done self) →
             is_finished S.engine s.horizon (machine_at S.engine is.standing s done) ≡ true →
             IfOk result (λ ended. HasRun S.engine s ended.rows.items ended.sites.items) }
-        ensures memory { refusal_in self.state ≡ None → IfErr result (λ refusal. refusal ≡ Refusal.Memory) }
+        ensures memory { refusal_in self.state ≡ None
+            → IfErr result (λ refusal. refusal ≡ Refusal.Memory) }
         ensures spent { (refusal : TheRefusal) → self.state ≡ Err refusal → result ≡ Err refusal }
     {
         let Machine {

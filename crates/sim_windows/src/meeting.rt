@@ -1,4 +1,4 @@
-//! What is done where partitions meet: what each gets, and how far each may run.
+//! What is done at a barrier: what each partition gets, and how far each may run.
 ghost use Rattle.std.specs.List.{range_with_len};
 ghost use Rattle.std.specs.Prelude.{◌≡◌, ◌≤◌, ◌<◌, ◌+◌, ◌^◌, All, IfErr, IfOk, List, None, Ok, OnOk, [], get_or, length, map};
 ghost use Rattle.sim_exchange.specs.Table.{distance_in};
@@ -12,7 +12,7 @@ use sim_exchange::Distances;
 use sim_partition::Partition;
 use std::alloc::{AllocError, Global};
 
-// The moment of what is due next.
+// The moment of the next entry due.
 fn moment_of(due: Option<Key>) -> Option<u64>
     ensures { result ≡ moment_of due }
 {
@@ -22,7 +22,7 @@ fn moment_of(due: Option<Key>) -> Option<u64>
     }
 }
 
-/// The moment of what is due next in each partition.
+/// The moment of the next entry due in each partition, in milliseconds.
 pub fn dues_of<S: Site>(
     alloc: Global,
     parts: &[Partition<S>],
@@ -36,7 +36,7 @@ pub fn dues_of<S: Site>(
     Ok(dues)
 }
 
-/// How far each partition may run, by what is due next in each.
+/// The bound of each partition, in milliseconds, by the moments of the next entries due.
 pub fn bounds_of(
     alloc: Global,
     distances: &Distances,
@@ -48,7 +48,9 @@ pub fn bounds_of(
     requires horizon { horizon + 1 < 2 ^ 64 }
     ensures { IfOk result (λ bounds.
         bounds.items
-        ≡ map (λ p. bound_by (distance_in distances.now) horizon (λ q. get_or dues.now q None) p distances.now.parts)
+        ≡ map (λ p.
+        bound_by (distance_in distances.now) horizon (λ q. get_or dues.now q None) p
+        distances.now.parts)
         (range_with_len 0 distances.now.parts)) }
 {
     let mut bounds = Vec::with_capacity(alloc, dues.len())?;
@@ -58,15 +60,18 @@ pub fn bounds_of(
     Ok(bounds)
 }
 
-/// Hands each partition what is sent to it.
+/// Delivers to each partition what was sent to it.
 pub fn deliver_each<S: Site>(
     parts: &mut Vec<Partition<S>>,
     lists: Vec<Vec<S::Transfer>>,
 ) -> Result<(), Refusal>
-    requires past { AreReached S.engine S.conditions parts.old.items (map (λ l. l.items) lists.items) }
+    requires past { AreReached S.engine S.conditions parts.old.items
+        (map (λ l. l.items) lists.items) }
     ensures delivered { (ws : List (List S)) → parts.old.items ≡ map Ok ws →
-        OnOk result (parts.new.items ≡ map Ok (delivered_each S.engine (map (λ l. l.items) lists.items) ws)) }
-    ensures memory { (ws : List (List S)) → parts.old.items ≡ map Ok ws → IfErr result (λ refusal. refusal ≡ Refusal.Memory) }
+        OnOk result (parts.new.items
+        ≡ map Ok (delivered_each S.engine (map (λ l. l.items) lists.items) ws)) }
+    ensures memory { (ws : List (List S)) → parts.old.items ≡ map Ok ws
+        → IfErr result (λ refusal. refusal ≡ Refusal.Memory) }
 {
     let mut place = 0;
     for transfers in lists {

@@ -11,9 +11,10 @@ use sim_exchange::PartMap;
 use sim_partition::Partition;
 use std::alloc::{AllocError, Global};
 
-// So many lists of sites, none of which has any, but room for so many.
+// As many empty lists of sites as there are partitions, each with room for `room` sites.
 fn no_sites<S: Site>(alloc: Global, parts: u32, room: usize) -> Result<Vec<Vec<S>>, AllocError>
-    ensures { IfOk result (λ lists. map (λ l. l.items) lists.items ≡ map (λ p. []) (range_with_len 0 parts)) }
+    ensures { IfOk result
+        (λ lists. map (λ l. l.items) lists.items ≡ map (λ p. []) (range_with_len 0 parts)) }
 {
     let mut lists = Vec::with_capacity(alloc, parts as usize)?;
     for _ in 0..parts {
@@ -23,7 +24,7 @@ fn no_sites<S: Site>(alloc: Global, parts: u32, room: usize) -> Result<Vec<Vec<S
     Ok(lists)
 }
 
-// A list of one list.
+// A list with one list in it.
 fn list_alone<S: Site>(alloc: Global, sites: Vec<S>) -> Result<Vec<Vec<S>>, AllocError>
     ensures { IfOk result (λ lists. map (λ l. l.items) lists.items ≡ sites.items ∷ []) }
 {
@@ -32,7 +33,7 @@ fn list_alone<S: Site>(alloc: Global, sites: Vec<S>) -> Result<Vec<Vec<S>>, Allo
     Ok(lists)
 }
 
-/// The sites of a world, by number, each in the list of its partition. The error is want of memory.
+/// The sites of a world by number, each in the list of its partition. It fails if memory runs out.
 pub fn split_sites<S: Site>(
     alloc: Global,
     sites: Vec<S>,
@@ -42,12 +43,13 @@ pub fn split_sites<S: Site>(
     ensures { IsNumbered S.engine 0 sites.items →
         IfOk result (λ lists.
         map (λ l. l.items) lists.items
-        ≡ map (λ p. part_of S.engine (owner_of layout.now) p sites.items) (range_with_len 0 layout.now.parts)) }
+        ≡ map (λ p. part_of S.engine (owner_of layout.now) p sites.items)
+        (range_with_len 0 layout.now.parts)) }
 {
     if layout.parts() == 1 {
         return list_alone(alloc, sites);
     }
-    // As many each, as most maps have it.
+    // Most maps give all partitions equally many sites.
     let room = sites.len().div_ceil(layout.parts() as usize);
     let mut lists = no_sites(alloc, layout.parts(), room)?;
     let mut number = 0;
@@ -59,7 +61,7 @@ pub fn split_sites<S: Site>(
     Ok(lists)
 }
 
-/// The partitions of some lists of sites. The error is want of memory.
+/// Makes a partition of each list of sites. It fails if memory runs out.
 pub fn open_parts<S: Site>(
     alloc: Global,
     lists: Vec<Vec<S>>,

@@ -1,4 +1,4 @@
-//! Rows of the log, partition by partition, that are settled: nothing may come before them any more.
+//! Settles rows of the log, partition by partition: no other row can come before them.
 ghost use Rattle.std.specs.List.{list_all};
 ghost use Rattle.std.specs.Prelude.{◌≡◌, ◌++◌, IfOk, filter, map, not};
 ghost use Rattle.sim_engine.specs.Prefixes.{is_before};
@@ -6,35 +6,37 @@ ghost use Rattle.sim_engine.specs.Prefixes.{is_before};
 use sim_engine::Site;
 use std::alloc::{AllocError, Global};
 
-/// Some rows in two: those from before a moment, and the others.
+/// Rows in two lists: those from before a moment, and the others.
 #[derive(Drop)]
 pub struct Parted<R> {
     pub before: Vec<R>,
     pub others: Vec<R>,
 }
 
-// Whether rows are all from before a moment.
+// Whether all rows are from before a moment.
 fn are_before<S: Site>(rows: &[S::Row], moment: u64) -> bool
     ensures { result ≡ list_all (is_before S.engine moment) rows.now }
 {
     rows.iter().all(|row| S::row_key(row).at < moment)
 }
 
-// Whether none is.
+// Whether no row is from before a moment.
 fn none_before<S: Site>(rows: &[S::Row], moment: u64) -> bool
     ensures { result ≡ list_all (λ r. not (is_before S.engine moment r)) rows.now }
 {
     rows.iter().all(|row| !(S::row_key(row).at < moment))
 }
 
-// Parts rows at a moment, one by one.
+// Splits rows at a moment, one by one.
 fn part_each<S: Site>(
     alloc: Global,
     rows: Vec<S::Row>,
     moment: u64,
 ) -> Result<Parted<S::Row>, AllocError>
-    ensures before { IfOk result (λ parted. parted.before.items ≡ filter (is_before S.engine moment) rows.items) }
-    ensures others { IfOk result (λ parted. parted.others.items ≡ filter (λ r. not (is_before S.engine moment r)) rows.items) }
+    ensures before { IfOk result
+        (λ parted. parted.before.items ≡ filter (is_before S.engine moment) rows.items) }
+    ensures others { IfOk result (λ parted.
+        parted.others.items ≡ filter (λ r. not (is_before S.engine moment r)) rows.items) }
 {
     let mut before = Vec::new(alloc);
     let mut others = Vec::new(alloc);
@@ -48,14 +50,16 @@ fn part_each<S: Site>(
     Ok(Parted { before, others })
 }
 
-// Parts rows at a moment. Where those from before it come first, they stay in their list.
+// Splits rows at a moment. If those from before it come first, they stay in their list.
 fn part_rows<S: Site>(
     alloc: Global,
     mut rows: Vec<S::Row>,
     moment: u64,
 ) -> Result<Parted<S::Row>, AllocError>
-    ensures before { IfOk result (λ parted. parted.before.items ≡ filter (is_before S.engine moment) rows.items) }
-    ensures others { IfOk result (λ parted. parted.others.items ≡ filter (λ r. not (is_before S.engine moment r)) rows.items) }
+    ensures before { IfOk result
+        (λ parted. parted.before.items ≡ filter (is_before S.engine moment) rows.items) }
+    ensures others { IfOk result (λ parted.
+        parted.others.items ≡ filter (λ r. not (is_before S.engine moment r)) rows.items) }
 {
     let place = rows.partition_point(|row| S::row_key(row).at < moment);
     let (first, rest) = rows.split_at(place);
@@ -69,32 +73,32 @@ fn part_rows<S: Site>(
     })
 }
 
-/// The rows of each partition in two, those from before a moment and the others.
+/// The rows of each partition in two lists: those from before a moment, and the others.
 #[derive(Drop)]
 pub struct Settled<R> {
-    pub fronts: Vec<Vec<R>>,
+    pub prefixes: Vec<Vec<R>>,
     pub kept: Vec<Vec<R>>,
 }
 
-/// Parts the rows of each partition at a moment.
+/// Splits the rows of each partition at a moment in milliseconds.
 pub fn settle<S: Site>(
     alloc: Global,
     lists: Vec<Vec<S::Row>>,
     moment: u64,
 ) -> Result<Settled<S::Row>, AllocError>
-    ensures fronts { IfOk result (λ settled.
-        map (λ l. l.items) settled.fronts.items
+    ensures prefixes { IfOk result (λ settled.
+        map (λ l. l.items) settled.prefixes.items
         ≡ map (λ l. filter (is_before S.engine moment) l.items) lists.items) }
     ensures kept { IfOk result (λ settled.
         map (λ l. l.items) settled.kept.items
         ≡ map (λ l. filter (λ r. not (is_before S.engine moment r)) l.items) lists.items) }
 {
-    let mut fronts = Vec::with_capacity(alloc, lists.len())?;
+    let mut prefixes = Vec::with_capacity(alloc, lists.len())?;
     let mut kept = Vec::with_capacity(alloc, lists.len())?;
     for rows in lists {
         let parted = part_rows::<S>(alloc, rows, moment)?;
-        fronts.push(parted.before)?;
+        prefixes.push(parted.before)?;
         kept.push(parted.others)?;
     }
-    Ok(Settled { fronts, kept })
+    Ok(Settled { prefixes, kept })
 }

@@ -1,4 +1,4 @@
-//! A machine of partitions while it lives, and what it does pick by pick.
+//! A machine of partitions that is not spent, and its steps.
 ghost use Rattle.std.specs.Prelude.{◌≡◌, ◌≤◌, ◌+◌, ◌<◌, ◌^◌, ◌∷◌, [], All, IfErr, IfOk, false, get_or, length, map, true};
 ghost use Rattle.std.specs.List.{list_all, range_with_len};
 ghost use Rattle.std.specs.Option.{is_some};
@@ -10,7 +10,7 @@ ghost use Rattle.sim_engine.specs.Simulated.{IsSimulated};
 ghost use Rattle.sim_engine.specs.World.{arrival, due_by, world_due};
 ghost use Rattle.sim_engine.specs.declared.picks.Pick.TheVariants.{Barrier, Part};
 ghost use Rattle.sim_partition.specs.Sites.{AreOfPast};
-ghost use Rattle.sim_windows.specs.Stages.{EndsAs, Follows, IsLent, IsStanding, Plays, Settles, Stands, StopsAt, Takes, Tells, end_in, front_in, is_finished_in, next_in, ready_in, standing_of};
+ghost use Rattle.sim_windows.specs.Stages.{BeginWith, EndsAs, Follows, IsLent, IsStanding, Plays, Settles, Stands, StopsAt, Takes, Tells, end_in, lower_bound_in, is_finished_in, left_in, next_in, ready_in, standing_of};
 
 use crate::joining::join_sites;
 use crate::kept::Kept;
@@ -24,11 +24,11 @@ use sim_partition::Partition;
 use std::alloc::{AllocError, Global};
 use std::marker::Model;
 
-/// As many sites as there are numbers of sites, which have 32 bits.
+/// The number of sites that their 32-bit numbers can tell apart.
 const MOST_SITES: usize = 4_294_967_296;
 
-/// The partitions of a world, which stand as the definitions' machine of that world does after some
-/// picks. What is done takes the stage and gives it back; a refusal leaves none.
+/// The partitions of a world, in the state of the definitions' machine of that world after some
+/// picks. A step takes the stage and returns it; after an error there is none.
 #[derive(Drop)]
 pub struct Stage<S: Site> {
     kept: Kept<S>,
@@ -45,15 +45,15 @@ impl<S: Site> Model for Stage<S> {
     ghost invariant = { λ g. IsStanding S.engine S.conditions (standing_of g.kept g.parts.items) };
 }
 
-/// What a machine comes to: its rows, in the order of keys, and the sites, by number.
+/// The result of a machine: its rows in the order of keys, and the sites by number.
 #[derive(Drop)]
 pub struct Ended<S: Site> {
     pub rows: Vec<S::Row>,
     pub sites: Vec<S>,
 }
 
-/// A stage whose partitions are lent; the partitions; and the moment to which each is to run, in
-/// milliseconds.
+/// A stage that has lent its partitions, these partitions, and the moment to which each is to run,
+/// in milliseconds.
 #[derive(Drop)]
 pub struct Loan<S: Site> {
     pub lent: Lent<S>,
@@ -61,7 +61,7 @@ pub struct Loan<S: Site> {
     pub ends: Vec<u64>,
 }
 
-// What is due, if it comes before a bound.
+// The key of what is due, if it comes before a bound.
 fn before(due: Option<Key>, bound: u64) -> Option<Key>
     ensures { result ≡ due_before bound due }
 {
@@ -91,7 +91,7 @@ fn least_of(bounds: &[u64], horizon: u64) -> u64
     least
 }
 
-// Whether each transfer comes after the horizon.
+// Whether all transfers arrive after the horizon.
 fn are_past<S: Site>(waiting: &[S::Transfer], horizon: u64) -> bool
     ensures { result ≡ list_all (λ o. not (nat_le (arrival S.engine o) horizon)) waiting.now }
 {
@@ -101,9 +101,13 @@ fn are_past<S: Site>(waiting: &[S::Transfer], horizon: u64) -> bool
 }
 
 impl<S: Site> Stage<S> {
-    /// The stage of a world, its sites in partitions by a map, at which nothing was done. Each way takes 1
-    /// to 900,000 milliseconds. The error is want of memory, as which as many sites as there are numbers
-    /// are refused too.
+    /// The stage of a world before any pick; `layout` gives the partition of each site. Each way
+    /// takes 1 to 900,000 milliseconds.
+    ///
+    /// # Errors
+    ///
+    /// `AllocError` if memory runs out, or if the world has 2^32 sites, as many as there are
+    /// numbers of sites.
     pub fn open(alloc: Global, world: World<S>, layout: PartMap) -> Result<Stage<S>, AllocError>
         requires simulated { IsSimulated S.engine S.conditions world }
         requires horizon { world.horizon ≤ most_count }
@@ -127,19 +131,19 @@ impl<S: Site> Stage<S> {
         Ok(Stage { kept, parts })
     }
 
-    /// Where it takes its memory.
+    /// The allocator of the stage.
     pub fn alloc(&self) -> Global {
         self.kept.alloc
     }
 
-    /// How many partitions there are.
+    /// The number of partitions.
     pub fn part_count(&self) -> usize
         ensures { result ≡ length self.now.parts }
     {
         self.parts.len()
     }
 
-    // What a partition, by its place, has due before its bound.
+    // What the partition with an index has due before its bound.
     fn ready_at(&self, place: usize) -> Option<Key>
         ensures ready { result ≡ ready_in S.engine self.now place }
         ensures past { IfOk (get_or self.now.parts place (Ok [])) (λ w.
@@ -151,7 +155,7 @@ impl<S: Site> Stage<S> {
         before(self.parts[place].least_due(), self.kept.bounds[place])
     }
 
-    /// The least of what the partitions may handle now; none where no partition may go on.
+    /// The least of what the partitions may handle now; none if no partition may go on.
     pub fn next_ready(&self) -> Option<Key>
         ensures { result ≡ next_in S.engine self.now }
     {
@@ -182,10 +186,11 @@ impl<S: Site> Stage<S> {
         least_of(&self.kept.bounds, self.kept.horizon)
     }
 
-    /// The moment that nothing may come before any more, in milliseconds: that of what a partition may
-    /// handle next, or the least bound.
-    pub fn front(&self) -> u64
-        ensures { result ≡ front_in S.engine self.now }
+    /// The lower bound on the moments of all that is still handled, in milliseconds. It is the
+    /// moment of the least entry that a partition may handle next, or the least bound, whichever
+    /// is earlier.
+    pub fn lower_bound(&self) -> u64
+        ensures { result ≡ lower_bound_in S.engine self.now }
     {
         let end = self.window_end();
         match self.next_ready() {
@@ -194,8 +199,8 @@ impl<S: Site> Stage<S> {
         }
     }
 
-    // The least due of a partition is handled, if it comes before the partition's bound. Answers
-    // whether it did.
+    // A partition handles its least entry due, if that comes before its bound. Returns whether it
+    // did.
     fn step(self, part: u32) -> Result<(Stage<S>, bool), Refusal>
         ensures took { IfOk result (λ r. Takes S.engine S.conditions self r.0 (Part part) r.1) }
         ensures settled { IfOk result (λ r. r.0.settled ≡ self.settled) }
@@ -215,25 +220,30 @@ impl<S: Site> Stage<S> {
         Ok((Stage { kept, parts }, true))
     }
 
-    // The rows that nothing may come before any more are settled. Answers them too, in the order of keys;
-    // they follow those that were settled before. The error is want of memory.
+    // Settles the rows before which nothing can come any more. Returns them, too, in the order of
+    // keys; they follow the rows that were settled before. It fails if memory runs out.
     fn settle(self) -> Result<(Stage<S>, Vec<S::Row>), AllocError>
         ensures { IfOk result (λ r. Settles S.engine S.conditions self r.0 r.1.items) }
     {
-        let moment = self.front();
+        let moment = self.lower_bound();
         let Stage { mut kept, parts } = self;
-        let fronts = kept.settle_before(moment)?;
-        let rows = merge_rows::<S>(kept.alloc, fronts)?;
+        let prefixes = kept.settle_before(moment)?;
+        let rows = merge_rows::<S>(kept.alloc, prefixes)?;
         Ok((Stage { kept, parts }, rows))
     }
 
-    /// What waits is delivered, and the bounds are set anew. No partition may go on, and something is
-    /// left. The error is want of memory.
+    /// Delivers the waiting transfers and sets the bounds anew. No partition may go on, and
+    /// something is left.
+    ///
+    /// # Errors
+    ///
+    /// `Memory` if memory runs out.
     pub fn meet(self) -> Result<Stage<S>, Refusal>
         requires rests { next_in S.engine self ≡ None }
         requires left { is_finished_in S.engine self ≡ false }
         ensures met { IfOk result (λ g. Follows S.engine S.conditions self g (Barrier ∷ [])) }
         ensures settled { IfOk result (λ g. g.settled ≡ self.settled) }
+        ensures further { IfOk result (λ g. left_in S.engine g < left_in S.engine self) }
         ensures memory { IfErr result (λ refusal. refusal ≡ Refusal.Memory) }
     {
         let Stage {
@@ -245,11 +255,14 @@ impl<S: Site> Stage<S> {
         Ok(Stage { kept, parts })
     }
 
-    // A barrier, if no partition may go on and something is left; the rows from before the least bound of
-    // the round that it ends are settled, and added to those before. Answers whether it was one.
+    // A barrier, if no partition may go on and something is left. It settles the rows from before
+    // the least bound of the round that it ends, and appends them to those before. Returns whether
+    // it took place.
     fn barrier(self, told: &mut Vec<S::Row>) -> Result<(Stage<S>, bool), Refusal>
         ensures took { IfOk result (λ r. Takes S.engine S.conditions self r.0 Barrier r.1) }
-        ensures tells { IfOk result (λ r. Tells S.engine S.conditions self told.old.items r.0 told.new.items) }
+        ensures tells { IfOk result
+            (λ r. Tells S.engine S.conditions self told.old.items r.0 told.new.items) }
+        ensures keeps { BeginWith told.old.items told.new.items }
         ensures memory { IfErr result (λ refusal. refusal ≡ Refusal.Memory) }
     {
         if self.next_ready().is_some() || self.is_finished() {
@@ -261,10 +274,12 @@ impl<S: Site> Stage<S> {
         Ok((stage, true))
     }
 
-    // Does one thing more. Answers whether it took effect.
+    // Does one picked step. Returns whether it took effect.
     fn take(self, pick: Pick, told: &mut Vec<S::Row>) -> Result<(Stage<S>, bool), Refusal>
         ensures took { IfOk result (λ r. Takes S.engine S.conditions self r.0 pick r.1) }
-        ensures tells { IfOk result (λ r. Tells S.engine S.conditions self told.old.items r.0 told.new.items) }
+        ensures tells { IfOk result
+            (λ r. Tells S.engine S.conditions self told.old.items r.0 told.new.items) }
+        ensures keeps { BeginWith told.old.items told.new.items }
         ensures stops { IfErr result (StopsAt S.engine S.conditions self) }
     {
         match pick {
@@ -273,11 +288,13 @@ impl<S: Site> Stage<S> {
         }
     }
 
-    /// Does some things more, one after another; the rows that are settled are added to those
-    /// before. Answers how many took effect.
+    /// Does the picked steps one after another, and appends the rows that they settle to those
+    /// before. Returns the number of picks that took effect.
     pub fn play(self, picks: &[Pick], told: &mut Vec<S::Row>) -> Result<(Stage<S>, u64), Refusal>
         ensures played { IfOk result (λ r. Plays S.engine S.conditions self r.0 picks.now r.1) }
-        ensures tells { IfOk result (λ r. Tells S.engine S.conditions self told.old.items r.0 told.new.items) }
+        ensures tells { IfOk result
+            (λ r. Tells S.engine S.conditions self told.old.items r.0 told.new.items) }
+        ensures keeps { BeginWith told.old.items told.new.items }
         ensures stops { IfErr result (StopsAt S.engine S.conditions self) }
     {
         let mut stage = self;
@@ -292,8 +309,12 @@ impl<S: Site> Stage<S> {
         Ok((stage, effects))
     }
 
-    /// Lends the partitions, each to run to its bound, or to a moment in milliseconds if that is sooner.
-    /// The error is want of memory.
+    /// Lends the partitions, each to run to its bound, or to `cut` if that is sooner, in
+    /// milliseconds.
+    ///
+    /// # Errors
+    ///
+    /// `AllocError` if memory runs out.
     pub fn lend(self, cut: u64) -> Result<Loan<S>, AllocError>
         ensures { IfOk result (λ loan.
             IsLent S.engine S.conditions self cut loan.lent loan.parts.items loan.ends.items) }
@@ -310,11 +331,16 @@ impl<S: Site> Stage<S> {
         })
     }
 
-    /// The rows that are not settled, in the order of keys, and all sites by number, with what waits on
-    /// its way to them. The error is want of memory.
+    /// The rows that are not settled, in the order of keys, and all sites by number, with the
+    /// transfers on their way to them.
+    ///
+    /// # Errors
+    ///
+    /// `Memory` if memory runs out.
     pub fn into_run(self) -> Result<Ended<S>, Refusal>
         ensures ended { is_finished_in S.engine self ≡ true →
-            IfOk result (λ ended. EndsAs S.engine S.conditions self ended.rows.items ended.sites.items) }
+            IfOk result
+            (λ ended. EndsAs S.engine S.conditions self ended.rows.items ended.sites.items) }
         ensures memory { IfErr result (λ refusal. refusal ≡ Refusal.Memory) }
     {
         let Stage {
@@ -328,7 +354,7 @@ impl<S: Site> Stage<S> {
     }
 }
 
-/// Makes a stage of what it keeps and its partitions.
+/// Makes a stage of what it keeps and of its partitions.
 pub fn stage_of<S: Site>(kept: Kept<S>, parts: Vec<Partition<S>>) -> Stage<S>
     requires { IsStanding S.engine S.conditions (standing_of kept parts.items) }
     ensures { result ≡ standing_of kept parts.items }

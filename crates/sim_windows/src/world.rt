@@ -3,7 +3,7 @@ use sim_engine::{Edge, Site};
 use std::marker::Model;
 
 /// What a run begins with: the last moment in milliseconds, the sites numbered 0, 1, 2, .., and the
-/// ways between them. Contracts see it as the definitions' setting.
+/// ways between them. Contracts see it as the setting of the definitions.
 #[derive(Drop)]
 pub struct World<S: Site> {
     pub horizon: u64,

@@ -1,6 +1,6 @@
 -- Rows that are settled while partitions are lent follow those that were settled before.
-use Rattle.std.specs.Prelude.{List, None, Option, Result, Some, [], filter, get_or, length, map, ℕ, ◌++◌, ◌∷◌, ◌≡◌}
-use Rattle.std.proofs.Common.{ap, append_assoc, arith, inl, inr, refl, subst, sym, ◌∙◌}
+use Rattle.std.specs.Prelude.{List, None, Option, Result, Some, [], filter, get_or, length, map, ℕ, ◌++◌, ◌+◌, ◌∷◌, ◌≡◌}
+use Rattle.std.proofs.Common.{ap, append_assoc, arith, inl, inr, length-append, refl, subst, sym, ◌∙◌}
 use Rattle.std.proofs.lemmas.List.{append-nil}
 use Rattle.sim_clock.specs.declared.refusal.Refusal.{Refusal}
 use Rattle.sim_engine.specs.Engine.{Engine}
@@ -12,8 +12,9 @@ use Rattle.sim_engine.specs.Prefixes.{is_before}
 use Rattle.sim_exchange.proofs.Merging.{merged_single}
 use Rattle.sim_engine.specs.Setting.{Setting}
 use Rattle.sim_windows.specs.Sinks.{StopsAt}
-use Rattle.sim_windows.specs.Stages.{AreNext, Follows, Settles, Standing, Stands, StandsOn, front_in, with_parts}
+use Rattle.sim_windows.specs.Stages.{AreNext, Follows, Settles, Standing, Stands, StandsOn, lower_bound_in, with_parts}
 use Rattle.sim_windows.proofs.Stepped.{on}
+use Rattle.sim_workers.specs.Paces.{word_of}
 use Rattle.sim_workers.specs.Runs.{AreHanded, HandsOn, StopsAmong, StopsHanding, StopsNext, TellsNext}
 
 -- one list by itself is merged
@@ -28,6 +29,23 @@ pub record IsHanding {Row K : Type 0} (took : K → List Row → K → Type 0) (
   pub told : List Row
   pub parts : told ++ left ≡ all
   pub taken : took before told now
+
+-- so many of some rows were handed on, as far as a word counts, and these are left
+pub record IsCounted {Row : Type 0} (all : List Row) (count : ℕ) (left : List Row) : Type 0 where
+  pub first : ℕ
+  pub whole : first + length left ≡ length all
+  pub word : count ≡ word_of first
+
+-- the same with so many more
+pub counted_more : {Row : Type 0} (all rows left : List Row) (count : ℕ) → IsCounted all count (rows ++ left) → IsCounted all (word_of (count + length rows)) left
+counted_more all rows left count i =
+    record { first = i.first + length rows; whole = omega (arith, length-append rows left, i.whole); word = ap (λ n. word_of (n + length rows)) i.word ∙ omega arith }
+
+-- and with all
+pub counted_all : {Row : Type 0} (all rows : List Row) (count : ℕ) → IsCounted all count (rows ++ []) → word_of (count + length rows) ≡ word_of (length all)
+counted_all all rows count i =
+    let same : i.first + length rows ≡ length all = omega (arith, length-append rows [], i.whole) in
+    ap (λ n. word_of (n + length rows)) i.word ∙ subst (λ n. word_of (word_of i.first + length rows) ≡ word_of n) same (omega arith)
 
 module _ {Site Row Transfer : Type 0} (engine : Engine Site Row Transfer) {K : Type 0} (took : K → List Row → K → Type 0) (all : List Row) (before now : K) where
   pub same_left : (left more : List Row) → left ≡ more → IsHanding took all before now left → IsHanding took all before now more
@@ -63,6 +81,7 @@ module _ {Site Row Transfer : Type 0} {engine : Engine Site Row Transfer} {condi
   pub record Passed (g h : Standing Site Row Transfer) (rows : List Row) : Type 0 where
     pub follows : Follows engine conditions g h []
     pub bounds : h.bounds ≡ g.bounds
+    pub horizon : h.horizon ≡ g.horizon
     pub next : (s : Setting Site) → StandsOn engine conditions s g → AreNext engine s g.settled h.settled rows
 
   none_passed : (g : Standing Site Row Transfer) → Passed g g []
@@ -74,17 +93,18 @@ module _ {Site Row Transfer : Type 0} {engine : Engine Site Row Transfer} {condi
           count = refl;
         };
         bounds = refl;
+        horizon = refl;
         next = λ s on r w. append-nil _;
       }
 
   some_passed : (g h : Standing Site Row Transfer) (rows : List Row) → Settles engine conditions g h rows → Passed g h rows
   some_passed g h rows settles =
-      record { follows = settles.follows; bounds = ap (λ (x : Standing Site Row Transfer). x.bounds) settles.is; next = settles.next }
+      record { follows = settles.follows; bounds = ap (λ (x : Standing Site Row Transfer). x.bounds) settles.is; horizon = ap (λ (x : Standing Site Row Transfer). x.horizon) settles.is; next = settles.next }
 
   -- what is handed on
   passed :
       (moment : Option ℕ) (parts : List (Result (List Site) Refusal)) (lent now : Standing Site Row Transfer) (rows : List Row)
-      → ((m : ℕ) → moment ≡ Some m → m ≡ front_in engine (with_parts parts lent)) → AreHanded engine conditions moment lent now rows
+      → ((m : ℕ) → moment ≡ Some m → m ≡ lower_bound_in engine (with_parts parts lent)) → AreHanded engine conditions moment lent now rows
       → Passed (with_parts parts lent) (with_parts parts now) rows
   passed None parts lent now rows at (same, none) =
       subst (λ xs. Passed (with_parts parts lent) (with_parts parts now) xs) (sym none)
@@ -94,10 +114,10 @@ module _ {Site Row Transfer : Type 0} {engine : Engine Site Row Transfer} {condi
   -- the same of a stage that lent its partitions
   pub went_on :
       (g : Standing Site Row Transfer) (moment : Option ℕ) (lent now : Standing Site Row Transfer) (rows : List Row) → lent ≡ with_parts [] g
-      → ((m : ℕ) → moment ≡ Some m → m ≡ front_in engine g) → AreHanded engine conditions moment lent now rows → Passed g (with_parts g.parts now) rows
+      → ((m : ℕ) → moment ≡ Some m → m ≡ lower_bound_in engine g) → AreHanded engine conditions moment lent now rows → Passed g (with_parts g.parts now) rows
   went_on g moment lent now rows is at handed =
       subst (λ (x : Standing Site Row Transfer). Passed (with_parts g.parts x) (with_parts g.parts now) rows) is
-      (passed moment g.parts lent now rows (λ m some. at m some ∙ sym (ap (λ (x : Standing Site Row Transfer). front_in engine (with_parts g.parts x)) is)) handed)
+      (passed moment g.parts lent now rows (λ m some. at m some ∙ sym (ap (λ (x : Standing Site Row Transfer). lower_bound_in engine (with_parts g.parts x)) is)) handed)
 
   -- where no more is settled a sink takes nothing
   pub tells_none :
@@ -133,7 +153,7 @@ module _ {Site Row Transfer : Type 0} {engine : Engine Site Row Transfer} {condi
       -- or it stops while rows are
       pub stops_handing :
           (Stops : Refusal → Type 0) (moment : Option ℕ) (lent : Standing Site Row Transfer) → lent ≡ with_parts [] g
-          → ((m : ℕ) → moment ≡ Some m → m ≡ front_in engine g) → ((s : Setting Site) → StandsOn engine conditions s g → Stops e → StopsWhere (IsOver engine s) e)
+          → ((m : ℕ) → moment ≡ Some m → m ≡ lower_bound_in engine g) → ((s : Setting Site) → StandsOn engine conditions s g → Stops e → StopsWhere (IsOver engine s) e)
           → StopsHanding engine conditions took broke Stops moment lent before e now → StopsNext engine conditions took broke g before e now
       stops_handing Stops moment lent is at over (inl (h, none)) = stops_before none (λ s on. over s on h)
       stops_handing Stops moment lent is at over (inr (after, (rows, (handed, stops)))) = λ s on.
@@ -142,9 +162,9 @@ module _ {Site Row Transfer : Type 0} {engine : Engine Site Row Transfer} {condi
 
       -- or once they are
       pub stops_handed :
-          (moment : Option ℕ) (lent after : Standing Site Row Transfer) → lent ≡ with_parts [] g
-          → ((m : ℕ) → moment ≡ Some m → m ≡ front_in engine g) → ((s : Setting Site) → StandsOn engine conditions s g → StopsWhere (IsOver engine s) e)
-          → HandsOn engine conditions took moment lent before after now → StopsNext engine conditions took broke g before e now
-      stops_handed moment lent after is at over handed = λ s on.
+          (moment : Option ℕ) (lent after : Standing Site Row Transfer) (count : ℕ) → lent ≡ with_parts [] g
+          → ((m : ℕ) → moment ≡ Some m → m ≡ lower_bound_in engine g) → ((s : Setting Site) → StandsOn engine conditions s g → StopsWhere (IsOver engine s) e)
+          → HandsOn engine conditions took moment lent before after now count → StopsNext engine conditions took broke g before e now
+      stops_handed moment lent after count is at over handed = λ s on.
           let went : Passed g (with_parts g.parts after) handed.rows = went_on g moment lent after handed.rows is at handed.are in
           (after.settled, (handed.rows, (went.next s on, stops_after (StopsWhere (IsOver engine s)) handed.rows handed.taken (over s on))))

@@ -1,5 +1,5 @@
 pub mod Sendings
-pub mod Fronts
+pub mod Prefixes
 pub mod Handing
 pub mod Refused
-pub mod Ran
+pub mod Ended

@@ -1,4 +1,4 @@
--- Why a round is refused: want of memory, or a count that the scenario's run takes past the limit.
+-- Why a round is refused: out of memory, or a count that the scenario's run takes past the limit.
 use Rattle.std.specs.Prelude.{Err, List, None, Ok, Option, Result, Some, [], get_or, length, suc, ℕ, ◌++◌, ◌<◌, ◌∷◌, ◌≡◌, ◌≤◌, ◌⊎◌}
 use Rattle.std.proofs.Common.{ap, arith, inl, inr, refl, subst, sym, ◌∙◌}
 use Rattle.sim_clock.specs.declared.refusal.Refusal.{Refusal}
@@ -17,7 +17,7 @@ use Rattle.sim_partition.specs.Steps.{StopsRun, ran_count}
 use Rattle.sim_engine.specs.Limits.{IsOver, StopsWhere, most_count}
 use Rattle.sim_partition.proofs.Passing.{more_passes, rows_after, stops_for}
 use Rattle.sim_windows.specs.Stages.{Standing, Stands, machine_in}
-use Rattle.sim_windows.proofs.Standing.{below, bound_at, many_bounds, many_parts, more_picks, part_at}
+use Rattle.sim_windows.proofs.Standing.{below, bound_at, many_bounds, many_parts, more_picks, part_at, shown_in}
 use Rattle.sim_windows.specs.Rounds.{AllCome, AreWithin, Comes}
 use Rattle.sim_workers.specs.Rounds.{IsRefusedRound, graver, gravest_from, gravest_of}
 use Rattle.sim_windows.specs.declared.lent.Came.{Came}
@@ -53,12 +53,6 @@ module _ {Site Row Transfer : Type 0} {engine : Engine Site Row Transfer} {condi
       (bs : List ℕ) (ps : List (Result (List Site) Refusal)) (os : List (Result (Came Site Row Transfer) Refusal)) (d : Result (List Site) Refusal) (before : Option Refusal) (e : Refusal)
       → AllCome engine conditions bs ps os → gravest_from before os ≡ Some e → (before ≡ Some e) ⊎ IsSpent bs ps d e
   spent_among [] [] [] d before e h g = inl g
-  spent_among [] [] (o ∷ os) d before e h g = absurd h
-  spent_among [] (p ∷ ps) [] d before e h g = absurd h
-  spent_among [] (p ∷ ps) (o ∷ os) d before e h g = absurd h
-  spent_among (b ∷ bs) [] [] d before e h g = absurd h
-  spent_among (b ∷ bs) [] (o ∷ os) d before e h g = absurd h
-  spent_among (b ∷ bs) (p ∷ ps) [] d before e h g = absurd h
   spent_among (b ∷ bs) (p ∷ ps) (Ok c ∷ os) d before e h g =
       elim (spent_among bs ps os d before e h.1 g) as (λ _. (before ≡ Some e) ⊎ IsSpent (b ∷ bs) (p ∷ ps) d e) [ inl k ↦ inl k | inr k ↦ inr (further b bs p ps d e k) ]
   spent_among (b ∷ bs) (p ∷ ps) (Err x ∷ os) d before e h g =
@@ -70,19 +64,13 @@ module _ {Site Row Transfer : Type 0} {engine : Engine Site Row Transfer} {condi
             ]
         | inr k ↦ inr (further b bs p ps d e k)
       ]
+  spent_among _ _ _ d before e h g = absurd h
 
   no_refusal : (e : Refusal) → (let o : Option Refusal = None in o) ≡ Some e → ⊥
   no_refusal e h = cc
 
   module _ (s : Setting Site) (done : List Pick) (g : Standing Site Row Transfer) (st : Stands engine conditions s done g) where
-    abbrev o : ℕ → ℕ
-    o = owner_of g.layout
-
-    abbrev rule : List Site → ℕ → ℕ
-    rule = own_bound engine (owner_of g.layout) (distance_in g.distances) g.layout.parts s.horizon
-
-    abbrev m : Machine engine
-    m = machine_in engine g.layout g.distances s done
+    open shown_in engine s done g use {owner as o, rule, machine as m}
 
     -- where a partition's run passes a count, the scenario's does
     part_over : (p bound : ℕ) (e : Refusal) → bound ≤ m.bounds p → StopsRun engine bound (part_of engine o p m.sites) e → StopsWhere (IsOver engine s) e

@@ -3,3 +3,4 @@ pub mod Rounds
 pub mod Owners
 pub mod Paces
 pub mod Runs
+pub mod Teams

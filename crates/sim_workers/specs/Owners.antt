@@ -19,7 +19,7 @@ abbrev pub Home : Type 0 → Type 0 → Type 0 → Type 0
 Home Site Row Transfer = Option (Result (Came Site Row Transfer) Refusal)
 
 module _ {P Site Row Transfer : Type 0} where
-  -- a place is free where nothing is offered there
+  -- a place is free if nothing is offered there
   abbrev pub IsResting : PartyRecord P → ℕ → Home Site Row Transfer → Type 0
   IsResting owner place None = Unit {0}
   IsResting owner place (Some outcome) = IsFree owner place
@@ -32,7 +32,7 @@ module _ {P Site Row Transfer : Type 0} where
 module _
     {P Site Row Transfer : Type 0} (engine : Engine Site Row Transfer) (conditions : Conditions Site Transfer)
     (packed : P → Result (List Site) Refusal × ℕ) where
-  -- a partition is offered with its bound, where something is due before that; else what comes of it is at home
+  -- if something is due before the bound, a partition is offered with its bound; if not, its outcome is here already
   abbrev pub IsSentOut : PartyRecord P → ℕ → ℕ → Result (List Site) Refusal → Home Site Row Transfer → Type 0
   IsSentOut owner place bound part None =
       (due_before bound (due_in engine part) ≢ None)
@@ -50,7 +50,7 @@ module _
   AreSentOut owner place bounds (part ∷ parts) (home ∷ homes) =
       IsSentOut owner place (slice_index bounds place) part home × AreSentOut owner (place + 1) bounds parts homes
 
-  -- what came of the piece that was offered last, or what is at home
+  -- the outcome of the piece that was offered last, or the outcome that is here already
   abbrev pub IsCollected : PartyRecord P
       → ℕ → Home Site Row Transfer → Result (Came Site Row Transfer) Refusal → Type 0
   IsCollected owner place None outcome =

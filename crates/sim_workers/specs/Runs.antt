@@ -11,7 +11,7 @@ use Rattle.sim_engine.specs.Prefixes.{is_before}
 use Rattle.sim_engine.specs.Setting.{IsRunOf, Setting}
 use Rattle.sim_engine.specs.World.{Run}
 use Rattle.sim_windows.specs.Sinks.{HasStopped, HasTaken, StopsAt}
-use Rattle.sim_windows.specs.Stages.{AreNext, LeadsTo, Settles, Standing, StandsOn, front_in, with_parts}
+use Rattle.sim_windows.specs.Stages.{AreNext, LeadsTo, Settles, Standing, StandsOn, lower_bound_in, with_parts}
 use Rattle.sim_windows.specs.declared.lent.Came.{Came}
 use Rattle.sim_workers.specs.Paces.{word_of}
 
@@ -26,7 +26,7 @@ module _ {Site Row Transfer : Type 0} (engine : Engine Site Row Transfer) where
   HasTold took s moment before now = (r : Run engine) → IsRunOf engine s r → took before (filter (is_before engine moment) r.rows) now
 
   module _ {K : Type 0} (ready : K → Type 0) (took : K → List Row → K → Type 0) (broke : K → List Row → Refusal → K → Type 0) where
-    -- why a run is not come to its end: it stops on its way, or no worker could be started, and the sink took nothing
+    -- why a run does not reach its end: it stops on its way, or a worker could not be started and the sink took nothing
     abbrev pub StopsAnyhow : Setting Site → K → Refusal → K → Type 0
     StopsAnyhow s before refusal now = HasStopped engine took broke s before refusal now ⊎ ((refusal ≡ refusals.NoWorker) × took before [] now)
 
@@ -42,31 +42,33 @@ module _ {Site Row Transfer : Type 0} (engine : Engine Site Row Transfer) {K : T
       (rows : List Row) × ((rest : List Row) × ((rows ++ rest ≡ all) × StopsAt engine took broke Stops rows before refusal now))
 
 module _ {Site Row Transfer : Type 0} (engine : Engine Site Row Transfer) (conditions : Conditions Site Transfer) where
-  -- rows that are settled while partitions are lent: none, or those from before a moment before which nothing might come when they were
+  -- rows that are settled while partitions are lent: none, or those from before a moment before which nothing might
+  -- come when they were lent
   abbrev pub AreHanded : Option ℕ → Standing Site Row Transfer → Standing Site Row Transfer → List Row → Type 0
   AreHanded None lent now rows = (now ≡ lent) × (rows ≡ [])
   AreHanded (Some moment) lent now rows =
-      (parts : List (Result (List Site) Refusal)) → moment ≡ front_in engine (with_parts parts lent)
+      (parts : List (Result (List Site) Refusal)) → moment ≡ lower_bound_in engine (with_parts parts lent)
       → Settles engine conditions (with_parts parts lent) (with_parts parts now) rows
 
-  -- it stands some picks on, with as many partitions
+  -- it is some picks further, with as many partitions
   pub record GoesFurther (g h : Standing Site Row Transfer) : Type 0 where
     pub on : LeadsTo engine conditions g h
     pub count : length h.parts ≡ length g.parts
 
   module _ {K : Type 0} (took : K → List Row → K → Type 0) where
-    -- a sink takes what is settled while partitions are lent
-    pub record HandsOn (moment : Option ℕ) (lent : Standing Site Row Transfer) (before : K) (after : Standing Site Row Transfer) (now : K) : Type 0 where
+    -- a sink takes what is settled while partitions are lent, and its rows are counted
+    pub record HandsOn (moment : Option ℕ) (lent : Standing Site Row Transfer) (before : K) (after : Standing Site Row Transfer) (now : K) (count : ℕ) : Type 0 where
       pub rows : List Row
       pub are : AreHanded moment lent after rows
       pub taken : took before rows now
+      pub counted : count ≡ word_of (length rows)
 
     -- a sink takes what is settled at the other and was not at the one
     abbrev pub TellsNext : Standing Site Row Transfer → K → Standing Site Row Transfer → K → Type 0
     TellsNext g before h now =
         (s : Setting Site) → StandsOn engine conditions s g → (rows : List Row) × (AreNext engine s g.settled h.settled rows × took before rows now)
 
-    -- a sink takes what is settled at the other, of whatever setting the one stands on
+    -- a sink takes what is settled in the second state, for every setting of the first
     abbrev pub Told : Standing Site Row Transfer → K → Standing Site Row Transfer → K → Type 0
     Told g before h now = (s : Setting Site) → StandsOn engine conditions s g → HasTold engine took s h.settled before now
 
@@ -83,6 +85,6 @@ module _ {Site Row Transfer : Type 0} (engine : Engine Site Row Transfer) (condi
           (s : Setting Site) → StandsOn engine conditions s g
           → (to : ℕ) × ((rows : List Row) × (AreNext engine s g.settled to rows × StopsAmong engine took broke (StopsWhere (IsOver engine s)) rows before refusal now))
 
-      -- the run stops so, of whatever setting it stands on
+      -- the run stops so, for every setting of the state
       abbrev pub Stopped : Standing Site Row Transfer → K → Refusal → K → Type 0
       Stopped g before refusal now = (s : Setting Site) → StandsOn engine conditions s g → HasStopped engine took broke s before refusal now

@@ -1,21 +1,28 @@
-//! What carries out a piece.
+//! Gates, which carry out pieces.
 use crate::piece::{Done, Piece, Running};
 use sim_engine::Site;
 use sim_handoff::Work;
 use std::sync::Wait;
 
-/// What a worker hands each piece to that it claimed, with the number of its partition. It may wait,
-/// and must give a right answer.
+/// A worker passes each piece that it claimed to the gate, with the number of its partition. The
+/// gate may wait, and must return a right answer.
 pub trait Gate<W: Work> {
     /// Carries out the piece of a partition.
     fn run<R: Wait>(&self, rt: &R, part: usize, piece: W::Piece) -> W::Done
         ensures { W.does piece result };
 }
 
-/// A gate that only runs the piece.
-pub struct Open;
+/// What a worker does before and after each piece of work, beside running it.
+pub trait Pause {
+    /// Before the piece is run.
+    fn before(&self);
 
-impl<S: Site + Send> Gate<Running<S>> for Open
+    /// After the piece was run, and made this number of rows.
+    fn after(&self, rows: u64);
+}
+
+// What pauses is a gate of partitions: it runs the piece, and changes nothing in the answer.
+impl<S: Site + Send, P: Pause> Gate<Running<S>> for P
 where
     S::Row: Send,
     S::Transfer: Send,
@@ -25,6 +32,18 @@ where
     fn run<R: Wait>(&self, _rt: &R, _part: usize, piece: Piece<S>) -> Done<S>
         ensures { Comes S.engine S.conditions piece.bound piece.part result.outcome }
     {
-        piece.run()
+        self.before();
+        let done = piece.run();
+        self.after(done.rows());
+        done
     }
+}
+
+/// A gate that only runs the piece.
+pub struct Open;
+
+impl Pause for Open {
+    fn before(&self) {}
+
+    fn after(&self, _rows: u64) {}
 }

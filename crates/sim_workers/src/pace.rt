@@ -1,32 +1,32 @@
-//! Where rounds are cut, so that the rows that wait stay few, and when those that wait are settled.
-ghost use Rattle.std.specs.Prelude.{◌≡◌, ◌+◌};
+//! When rounds are cut, so that few rows wait, and when the waiting rows are settled.
+ghost use Rattle.std.specs.Prelude.{◌≡◌, ◌≤◌, ◌<◌, ◌+◌, ◌-◌, ◌^◌};
 ghost use Rattle.sim_workers.specs.Paces.{added, is_full, next_stretch, settled_after, span_after, word_of};
 
 // A stretch of fewer rows is too short.
-const FEW: u64 = 16_384;
+const ROWS_TO_LENGTHEN: u64 = 16_384;
 // A stretch of more rows is too long.
-const MANY: u64 = 65_536;
+const ROWS_TO_SHORTEN: u64 = 65_536;
 // The longest stretch, in milliseconds.
 const LONGEST: u64 = 60_000;
-// Rows are settled once so many are new for each partition,
+// Rows are settled once there are this many new ones for each partition,
 const FULL: u64 = 64;
-// as far as there are no more partitions than these.
+// counting at most this many partitions.
 const SEVERAL: u64 = 16;
 
-/// How far rounds go. Time is cut into stretches: one of few rows is followed by one twice as long, and one
-/// of many by one half as long. A round goes no further than a stretch is long. It counts the rows that
-/// wait, too.
+/// How far rounds run. Time is cut into stretches. A stretch of few rows is followed by one twice
+/// as long, and one of many rows by one half as long. A round runs no further than a stretch is
+/// long. The pace also counts the rows that wait.
 #[derive(Drop)]
 pub struct Pace {
     /// The length of a stretch, in milliseconds.
     pub span: u64,
     /// The end of this stretch, in milliseconds. A round may go past it.
     pub cut: u64,
-    /// How many rows this stretch made.
+    /// The number of rows that this stretch made.
     pub made: u64,
-    /// How many rows were made since rows were settled last.
+    /// The number of rows made since rows were last settled.
     pub fresh: u64,
-    /// How many could not be settled then.
+    /// The number of rows that could not be settled then.
     pub kept: u64,
 }
 
@@ -46,23 +46,27 @@ impl Pace {
 
     // The length of the stretch that follows this one.
     fn next_span(&self) -> u64
-        ensures { result ≡ span_after self.now }
+        ensures length { result ≡ span_after self.now }
+        ensures some { 1 ≤ self.now.span → 1 ≤ result }
     {
-        if self.made < FEW {
+        if self.made < ROWS_TO_LENGTHEN {
             self.span.saturating_mul(2).min(LONGEST)
-        } else if self.made > MANY {
+        } else if self.made > ROWS_TO_SHORTEN {
             (self.span / 2).max(1)
         } else {
             self.span
         }
     }
 
-    /// How far a round goes that begins at a moment: as far as the stretch is long, this one, or the next where
-    /// the moment is not before its end, or a whole stretch and more before it. So a round is not cut short
-    /// where a stretch ends.
+    /// The moment to which a round runs that begins at `at`, both in milliseconds: one length of
+    /// the stretch later. A new stretch begins if the end of this one has been reached, or is more
+    /// than its length away. A round that began before the end of its stretch runs past it, so that
+    /// no round is cut short there.
     pub fn cut_at(&mut self, at: u64) -> u64
         ensures paced { self.new ≡ next_stretch self.old at }
         ensures cut { result ≡ word_of (at + self.new.span) }
+        ensures some { 1 ≤ self.old.span → 1 ≤ self.new.span }
+        ensures later { 1 ≤ self.old.span → at < 2 ^ 64 - 1 → at < result }
     {
         if self.cut <= at || at.saturating_add(self.span) < self.cut {
             self.span = self.next_span();
@@ -80,9 +84,9 @@ impl Pace {
         self.fresh = self.fresh.saturating_add(rows);
     }
 
-    /// Whether enough rows of so many partitions wait: so many are new, and no fewer than could not be
-    /// settled before. So the work of settling goes by the rows that are made, however many have to wait,
-    /// and one partition's rows are handed on as it made them.
+    /// Whether enough rows of `parts` partitions wait: enough are new, and no fewer than could not
+    /// be settled before. So the work of settling depends on the rows that are made, however many
+    /// have to wait. A single partition's rows are handed on as it made them.
     pub fn is_full(&self, parts: usize) -> bool
         ensures { result ≡ is_full self.now parts }
     {

@@ -1,4 +1,4 @@
-//! What is handed to a worker, and what comes back.
+//! What a worker gets, and what it gives back.
 ghost use Rattle.std.specs.Prelude.{◌≡◌, ◌≤◌, ◌+◌, ℕ};
 ghost use Rattle.sim_engine.specs.Limits.{most_count};
 ghost use Rattle.sim_windows.specs.Rounds.{Comes};
@@ -55,14 +55,14 @@ impl<S: Site> Piece<S> {
     }
 }
 
-/// What came of a piece: the partition with what it did, or the refusal that spent it.
+/// The result of a piece: the partition with what it made, or the error that spent it.
 #[derive(Drop)]
 pub struct Done<S: Site> {
     pub outcome: Result<Came<S>, Refusal>,
 }
 
 impl<S: Site> Done<S> {
-    /// How many rows were made; 0 for a refusal.
+    /// The number of rows made; 0 for an error.
     pub fn rows(&self) -> u64
         ensures { result ≡ row_count self.now }
     {
@@ -73,12 +73,12 @@ impl<S: Site> Done<S> {
     }
 }
 
-/// A work whose pieces are made of a part and a bound, and whose answers tell what came of it.
+/// A work whose pieces are made of a part and a bound, and whose answers contain the outcome.
 pub trait Packs<P, O>: Work {
     // The part of a piece, and its bound.
     ghost packed: { Self.Piece → P × ℕ };
 
-    // What an answer tells.
+    // The outcome in an answer.
     ghost told: { Self.Done → O };
 
     /// Makes a piece of a part and its bound.
@@ -86,20 +86,20 @@ pub trait Packs<P, O>: Work {
         requires { bound ≤ most_count + 1 }
         ensures { packed result ≡ (part, bound) };
 
-    /// What an answer tells.
+    /// The outcome in an answer.
     fn unpack(done: Self::Done) -> O
         ensures { result ≡ told done };
 }
 
-/// A work of running partitions, each to its bound. Rounds ask no more of a work, and name no other, so
-/// that what starts threads can leave open which work it is.
+/// A work of running partitions, each to its bound. Rounds require no more of a work, and name no
+/// other, so the code that starts threads need not fix the work.
 pub trait PartWork<S: Site>: Packs<Partition<S>, Result<Came<S>, Refusal>> {
-    // A right answer tells what may come of the partition.
+    // A right answer contains an outcome that the partition may have.
     ghost comes: { (piece : Self.Piece) (done : Self.Done) → Self.does piece done
         → Comes S.engine S.conditions (Self.packed piece).1 (Self.packed piece).0 (Self.told done) };
 }
 
-/// The running of partitions, as a work that is handed over. It stands in types alone.
+/// The running of partitions, as a work that is handed over. It is used in types alone.
 pub struct Running<S> {
     of: PhantomData<S>,
 }

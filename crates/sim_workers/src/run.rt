@@ -1,9 +1,9 @@
 //! A whole run: its threads, started once, and its rounds.
-ghost use Rattle.std.specs.Prelude.{◌≡◌, ◌≤◌, ◌<◌, All, Err, IfErr, IfOk, OnOk, length, vec_capacity, vec_len};
+ghost use Rattle.std.specs.Prelude.{◌≡◌, ◌≤◌, ◌<◌, ◌-◌, All, Err, IfErr, IfOk, OnOk, length, min, vec_capacity, vec_len};
 ghost use Rattle.sim_handoff.specs.Seats.{owner_record, owner_table, places_of, table_of};
 ghost use Rattle.sim_windows.specs.Stages.{StandsOn};
 ghost use Rattle.sim_windows.specs.Sinks.{HasStopped, HasTaken};
-ghost use Rattle.sim_workers.specs.Runs.{RanOn, StopsAnyhow};
+ghost use Rattle.sim_workers.specs.Runs.{RanOn, Stopped, StopsAnyhow};
 ghost use Rattle.sim_workers.specs.Owners.{IsAllFree};
 ghost use Rattle.sim_engine.specs.Limits.{most_count};
 ghost use Rattle.sim_engine.specs.Setting.{Setting};
@@ -13,18 +13,19 @@ use crate::gate::Gate;
 use crate::piece::{PartWork, Running};
 use crate::rounds::run_stage;
 use crate::scope::{join_all, start_all};
+use crate::together::Together;
 use sim_clock::Refusal;
 use sim_engine::Site;
 use sim_exchange::PartMap;
 use sim_handoff::{Handoff, Owner};
-use sim_windows::{RowSink, Stage, World};
+use sim_windows::{RowSink, Stage, World, run_gathered};
 use std::alloc::Global;
 use std::sync::Wait;
 use std::thread;
 use std::thread::{JoinHandle, Threads};
 
-// Starts the threads, runs, and joins all threads that were started. Where the start of one is
-// refused, it does not run. Gives the two references back.
+// Starts the threads, runs, and joins all threads that were started. If the start of one is
+// refused, it does not run. Returns the two references.
 fn run_in_scope<
     'a,
     'b,
@@ -55,8 +56,6 @@ fn run_in_scope<
     ensures same_outcome { result.1.ghost_name ≡ outcome.entry.ghost_name }
     ensures ran { (s : Setting S) → StandsOn S.engine S.conditions s stage
         → RanOn S.engine K.ready K.took K.broke s sink.entry.now result.1.now result.0.now }
-    ensures alone { threads ≡ 0 → (s : Setting S) → StandsOn S.engine S.conditions s stage
-        → IfErr result.1.now (λ refusal. HasStopped S.engine K.took K.broke s sink.entry.now refusal result.0.now) }
 {
     thread::scope(
         thread::scope_env(),
@@ -73,22 +72,28 @@ fn run_in_scope<
             ensures same_outcome { result.1.ghost_name ≡ outcome.entry.ghost_name }
             ensures ran { (s : Setting S) → StandsOn S.engine S.conditions s stage
                 → RanOn S.engine K.ready K.took K.broke s sink.entry.now result.1.now result.0.now }
-            ensures alone { threads ≡ 0 → (s : Setting S) → StandsOn S.engine S.conditions s stage
-                → IfErr result.1.now (λ refusal. HasStopped S.engine K.took K.broke s sink.entry.now refusal result.0.now) }
         {
-            let mut hand = owner.hand(handoff);
+            let hand = owner.hand(handoff);
             let ready = start_all(scope, rt, handoff, &mut owner, gate, &mut handles, threads);
+            let mut team = Together {
+                rt,
+                handoff,
+                owner,
+                hand,
+                gate,
+            };
             if ready {
-                *outcome = run_stage(rt, handoff, &mut owner, &mut hand, gate, stage, sink);
+                *outcome = run_stage(&mut team, stage, sink);
             }
-            owner.stop(handoff);
+            team.stop();
             join_all(rt, handles);
             (sink, outcome)
         },
     )
 }
 
-// Runs a stage with these threads to be. Where the start of one is refused, the sink takes nothing.
+// Runs a stage with these threads, which are not yet started. If the start of one is refused, the
+// sink takes nothing.
 fn run_threads<
     S: Site,
     W: PartWork<S> + Sync,
@@ -113,8 +118,6 @@ fn run_threads<
     requires room { (vec_len handles ≡ 0) × (threads ≤ vec_capacity handles) }
     ensures ran { (s : Setting S) → StandsOn S.engine S.conditions s stage
         → RanOn S.engine K.ready K.took K.broke s sink.old result sink.new }
-    ensures alone { threads ≡ 0 → (s : Setting S) → StandsOn S.engine S.conditions s stage
-        → IfErr result (λ refusal. HasStopped S.engine K.took K.broke s sink.old refusal sink.new) }
 {
     let mut outcome = Err(Refusal::NoWorker);
     run_in_scope(
@@ -131,18 +134,35 @@ fn run_threads<
     outcome
 }
 
-/// Runs a world to its horizon, its sites in partitions by a map, with so many workers: one on the
-/// caller's thread, the others each on a thread of its own, started once, though no more threads than there
-/// are partitions. Each partition runs to a bound
-/// of its own, set anew at each barrier, or to where a round is cut if that is sooner; the rows that
-/// nothing can come before any more go to the sink some thousand at a time. Answers the sites of the last
-/// world, by number. All threads are joined by then.
+// The number of rows that a single worker hands on at once: few enough that they, and the text of
+// their lines, stay in the cache.
+const ROWS_AT_ONCE: usize = 64;
+
+// The number of threads that workers need beside the caller's, which is one of them. More threads
+// than partitions would find nothing to run.
+fn threads_of(workers: usize, parts: usize) -> usize
+    ensures { result ≡ min (workers - 1) parts }
+{
+    workers.saturating_sub(1).min(parts)
+}
+
+/// Runs a world to its horizon with `workers` workers; `layout` gives the partition of each site.
+/// One worker runs on the caller's thread, the others each on a thread of its own, started once.
+/// There are no more such threads than partitions. A single worker starts no thread, does not wait
+/// for other threads, and runs all sites on one list: which partitions there are changes nothing.
+///
+/// With several workers each partition runs to a bound of its own, set anew at each barrier, or to
+/// where a round is cut if that is sooner. The rows before which nothing can come any more go to
+/// the sink. Those of several partitions are merged and go 256 at a time; those of a single
+/// partition go as they are. The rows that are left at the end follow together. Returns the sites
+/// of the last world, by number. All threads are joined by then.
 ///
 /// # Errors
 ///
-/// `NoWorker` where the start of a thread is refused: the sink took nothing; one worker needs no thread.
-/// `Memory` where a growth is refused, and `CountLimit`, only where the run takes a count past 2^62 - 1:
-/// the sink took rows that the run's begin with. Else the sink's refusal, at such rows.
+/// `NoWorker` if the start of a thread is refused: the sink took nothing. A single worker needs no
+/// thread. `Memory` if a growth is refused, and `CountLimit` only if the run takes a count past
+/// 2^62 - 1. Else the sink's error. In each of these cases the sink took a prefix of the run's
+/// rows.
 pub fn run_workers<
     S: Site + Send + Sync,
     G: Gate<Running<S>> + Sync,
@@ -165,14 +185,20 @@ where
     requires ways { All (λ e. (1 ≤ e.least) × (e.least ≤ 900000)) world.edges }
     requires ready { K.ready sink.old }
     ensures ready { OnOk result (K.ready sink.new) }
-    ensures whole { IfOk result (λ sites. HasTaken S.engine K.took world sink.old sink.new sites.items) }
-    ensures stops { IfErr result (λ refusal. StopsAnyhow S.engine K.ready K.took K.broke world sink.old refusal sink.new) }
-    ensures alone { workers ≤ 1 → IfErr result (λ refusal. HasStopped S.engine K.took K.broke world sink.old refusal sink.new) }
+    ensures whole { IfOk result
+        (λ sites. HasTaken S.engine K.took world sink.old sink.new sites.items) }
+    ensures stops { IfErr result
+        (λ refusal. StopsAnyhow S.engine K.ready K.took K.broke world sink.old refusal sink.new) }
+    ensures alone { workers ≤ 1
+        → IfErr result
+        (λ refusal. HasStopped S.engine K.took K.broke world sink.old refusal sink.new) }
 {
+    if workers <= 1 {
+        return run_gathered(alloc, world, ROWS_AT_ONCE, sink);
+    }
     let stage = Stage::open(alloc, world, layout)?;
+    let threads = threads_of(workers, stage.part_count());
     let (handoff, owner) = Handoff::make(alloc, stage.part_count())?;
-    // More threads than there are partitions would find nothing to run.
-    let threads = workers.saturating_sub(1).min(stage.part_count());
     let handles = Vec::with_capacity(alloc, threads)?;
     run_threads(rt, &handoff, owner, gate, handles, threads, stage, sink)
 }

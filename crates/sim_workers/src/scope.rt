@@ -9,9 +9,9 @@ use sim_handoff::{Handoff, Owner, Work};
 use std::sync::Wait;
 use std::thread::{JoinHandle, Scope, Threads};
 
-/// Starts so many threads, each of which works with a hand of its own. The hands begin at places
-/// that lie evenly apart, past the first, where the owner begins. Answers whether all were started; that
-/// is so wherever none is asked for.
+/// Starts these threads, each of which works with a hand of its own. The hands begin at places
+/// spaced evenly after the first, at which the owner begins. Returns whether all were started, and
+/// so true if there are none to start.
 pub fn start_all<'s, 'e: 's, W: Work + Sync, G: Gate<W> + Sync, R: Wait + Sync>(
     scope: &'s Scope<'s, &'e ()>,
     rt: &'e R,
@@ -27,6 +27,7 @@ pub fn start_all<'s, 'e: 's, W: Work + Sync, G: Gate<W> + Sync, R: Wait + Sync>(
     ensures here { owner_table owner.new ≡ table_of handoff.now }
     ensures free { IsAllFree (owner_record owner.new) }
     ensures alone { threads ≡ 0 → result ≡ true }
+    ensures count { result ≡ true → vec_len handles.new ≡ threads }
 {
     let apart = handoff.places() / threads.saturating_add(1);
     let mut own = 0usize;

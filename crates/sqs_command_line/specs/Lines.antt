@@ -16,16 +16,16 @@ use Rattle.sqs_command_line.specs.Programs.{program}
 abbrev pub told : Option (Bor Text) → Option Text
 told o = option_map (λ s. s.now) o
 
--- the number that a decimal text tells, where there is one
+-- the number in a decimal text, if there is one
 abbrev pub number_of : Option Text → Option ℕ
 number_of o = option_map (λ t. digits_value 10 (without_leading_plus t)) o
 
--- where there is a text, it is a decimal number of k bits
+-- if there is a text, it is a decimal number of k bits
 abbrev pub IsNumber : ℕ → Option Text → Type 0
 IsNumber k None = ⊤
 IsNumber k (Some t) = IsNumeral 10 (without_leading_plus t) × (digits_value 10 (without_leading_plus t) < 2 ^ k)
 
--- the number of k bits that a text tells, or that it tells none
+-- the number of k bits in a text, or that the text has none
 abbrev pub TellsNumber : {E : Type 0} → ℕ → Option Text → Result (Option ℕ) E → Type 0
 TellsNumber k text (Ok number) = number ≡ number_of text
 TellsNumber k text (Err unread) = ¬ IsNumber k text
@@ -81,6 +81,6 @@ abbrev pub IsReadableOf : Option (Text × List Row) → Type 0
 IsReadableOf None = ⊥
 IsReadableOf (Some p) = IsReadable p
 
--- why words are no line: a fault that `clap`'s rules find in them, or want of memory
+-- why words are no line: a fault that `clap`'s rules find in them, or out of memory
 abbrev pub IsFaultOf : List Text → LineFault → Type 0
 IsFaultOf words (faults.Words error) = HasKind (fault_of program words) error

@@ -6,7 +6,7 @@ use clap::Error;
 pub struct RunLine<'a> {
     /// The window, in milliseconds.
     pub window: Option<u64>,
-    /// How many partitions there are.
+    /// The number of partitions.
     pub parts: Option<u32>,
     /// The partition of each queue, in the form `0,1,0`.
     pub map: Option<&'a str>,
@@ -15,13 +15,13 @@ pub struct RunLine<'a> {
     pub log: Option<&'a str>,
     /// The folder of the scripts.
     pub scripts: Option<&'a str>,
-    /// Whether nothing is told of how far it has come.
+    /// Whether no progress is shown.
     pub quiet: bool,
     /// The file of the scenario.
     pub scenario: Option<&'a str>,
 }
 
-/// A reading of a scenario.
+/// A check of a scenario.
 #[derive(Clone, Copy)]
 pub struct CheckLine<'a> {
     /// The folder of the scripts.
@@ -48,10 +48,10 @@ pub enum Line<'a> {
     Compare(CompareLine<'a>),
 }
 
-/// Why words are no line.
+/// Why words are no command line.
 #[derive(Drop)]
 pub enum LineFault {
-    /// A usage fault, help that was asked for, or want of memory; `clap` has the text of it.
+    /// A usage fault, help that was asked for, or out of memory; `clap` has the text.
     Words(Error),
 }
 

@@ -7,13 +7,13 @@ ghost use Rattle.sqs_command_line.specs.Programs.{check_app, compare_app, flag_r
 use clap::{Arg, ArgAction, Command};
 use std::alloc::{AllocError, Global};
 
-/// What help says of the scripts' folder.
+/// The help of the scripts' folder.
 const SCRIPTS_HELP: &str = "The folder of the scripts [default: .]";
 
-/// What help says of the scenario.
+/// The help of the scenario.
 const SCENARIO_HELP: &str = "The scenario's file [default: standard input]";
 
-/// What stands below the help of a rehearsal.
+/// The text below the help of `run`.
 const RUN_HELP: &str =
     "Reads a scenario (TOML) and the scripts that it names (CSV). Writes the log, the final queues and
 the report (CSV), in this order, to standard output. A fault is one line on standard error.
@@ -21,14 +21,14 @@ the report (CSV), in this order, to standard output. A fault is one line on stan
 Status:
   0  done
   1  the scenario is refused, or a file can't be read
-  2  the words are not understood
-  3  the run is refused: map, window, workers, a count at its limit, want of memory
+  2  the command line is not understood
+  3  the run is refused: map, window, workers, a count at its limit, out of memory
   4  a write failed
 
 Example:
   sqs_rehearse run --log log.csv scenario.toml > report.csv";
 
-/// What stands below the help of a reading.
+/// The text below the help of `check`.
 const CHECK_HELP: &str =
     "Reads a scenario (TOML) and the scripts that it names (CSV). Writes one line to standard output:
 how many queues, actors and tasks there are, and the longest window. The first fault of a text that is
@@ -37,14 +37,14 @@ no scenario is one line on standard error, with its place.
 Status:
   0  a scenario
   1  the scenario is refused, or a file can't be read
-  2  the words are not understood
-  3  want of memory
+  2  the command line is not understood
+  3  out of memory
   4  a write failed
 
 Example:
   sqs_rehearse check --scripts calls scenario.toml";
 
-/// What stands below the help of a comparison.
+/// The text below the help of `compare`.
 const COMPARE_HELP: &str =
     "Rehearses both scenarios. Writes a line (CSV) to standard output for each queue and column of the
 report: compare, queue, column, the first's value, the second's, the difference. A fault is one line on
@@ -53,8 +53,8 @@ standard error.
 Status:
   0  done
   1  a scenario is refused, or a file can't be read
-  2  the words are not understood
-  3  a run is refused: a count at its limit, want of memory
+  2  the command line is not understood
+  3  a run is refused: a count at its limit, out of memory
   4  a write failed
 
 Example:
@@ -83,7 +83,7 @@ fn number<'a>(alloc: Global, name: &'a str, help: &'a str) -> Arg<'a>
         .help(help)
 }
 
-// An option with a time of 1 ms at least.
+// An option with a time of at least 1 ms.
 fn time<'a>(alloc: Global, name: &'a str, help: &'a str) -> Arg<'a>
     ensures rule { rule_of result ≡ time_rule name.entry.now }
     ensures local { result.global ≡ false }
@@ -106,7 +106,7 @@ fn flag<'a>(alloc: Global, name: &'a str, help: &'a str) -> Arg<'a>
         .help(help)
 }
 
-// A word by its place.
+// A positional word.
 fn place<'a>(alloc: Global, name: &'a str, required: bool, help: &'a str) -> Arg<'a>
     ensures rule { rule_of result ≡ place_rule required name.entry.now }
     ensures local { result.global ≡ false }
@@ -117,7 +117,7 @@ fn place<'a>(alloc: Global, name: &'a str, required: bool, help: &'a str) -> Arg
         .help(help)
 }
 
-// A command that help tells something of, above and below its words.
+// A command with texts for its help, above and below its words.
 fn named<'a>(alloc: Global, name: &'a str, about: &'a str, more: &'a str) -> Command<'a>
     ensures app { app_of result ≡ new_app name.entry.now }
     ensures local { (fields_of result).has_globals ≡ false }
@@ -125,7 +125,7 @@ fn named<'a>(alloc: Global, name: &'a str, about: &'a str, more: &'a str) -> Com
     Command::new(alloc, name).about(about).after_help(more)
 }
 
-// The command of a rehearsal, with the options of how it runs.
+// The command `run`, with the options of how it runs.
 fn run_options<'a>(alloc: Global) -> Result<Command<'a>, AllocError>
     ensures app { IfOk result (λ c. app_of c ≡ run_options) }
     ensures local { IfOk result (λ c. (fields_of c).has_globals ≡ false) }
@@ -141,21 +141,17 @@ fn run_options<'a>(alloc: Global) -> Result<Command<'a>, AllocError>
         "window",
         "The window in milliseconds [default: the least latency]",
     ))?;
-    let command = command.arg(number(
+    let command = command.arg(number(alloc, "parts", "The number of partitions [default: 1]"))?;
+    let command = command.arg(option(
         alloc,
-        "parts",
-        "How many partitions there are [default: 1]",
+        "map",
+        "The partition of each queue, for example 0,1,0",
     ))?;
-    let command = command.arg(option(alloc, "map", "The partition of each queue, as 0,1,0"))?;
-    let command = command.arg(number(
-        alloc,
-        "workers",
-        "How many workers run partitions [default: 1]",
-    ))?;
+    let command = command.arg(number(alloc, "workers", "The number of workers [default: 1]"))?;
     Ok(command)
 }
 
-// The command of a rehearsal, with the options of what it reads and writes too.
+// The command `run`, also with the options of what it reads and writes.
 fn run_files<'a>(alloc: Global) -> Result<Command<'a>, AllocError>
     ensures app { IfOk result (λ c. app_of c ≡ run_files) }
     ensures local { IfOk result (λ c. (fields_of c).has_globals ≡ false) }
@@ -170,22 +166,18 @@ fn run_files<'a>(alloc: Global) -> Result<Command<'a>, AllocError>
     Ok(command)
 }
 
-// The command of a rehearsal.
+// The command `run`.
 fn run_command<'a>(alloc: Global) -> Result<Command<'a>, AllocError>
     ensures app { IfOk result (λ c. app_of c ≡ run_app) }
     ensures local { IfOk result (λ c. (fields_of c).has_globals ≡ false) }
 {
     let command = run_files(alloc)?;
-    let command = command.arg(flag(
-        alloc,
-        "quiet",
-        "Tell no progress, also where standard error is a terminal",
-    ))?;
+    let command = command.arg(flag(alloc, "quiet", "Show no progress, even on a terminal"))?;
     let command = command.arg(place(alloc, "scenario", false, SCENARIO_HELP))?;
     Ok(command)
 }
 
-// The command of a reading.
+// The command `check`.
 fn check_command<'a>(alloc: Global) -> Result<Command<'a>, AllocError>
     ensures app { IfOk result (λ c. app_of c ≡ check_app) }
     ensures local { IfOk result (λ c. (fields_of c).has_globals ≡ false) }
@@ -193,7 +185,7 @@ fn check_command<'a>(alloc: Global) -> Result<Command<'a>, AllocError>
     let command = named(
         alloc,
         "check",
-        "Tells whether a text is a scenario, or its first fault",
+        "Checks a scenario, and prints its first fault",
         CHECK_HELP,
     );
     let command = command.arg(option(alloc, "scripts", SCRIPTS_HELP))?;
@@ -201,7 +193,7 @@ fn check_command<'a>(alloc: Global) -> Result<Command<'a>, AllocError>
     Ok(command)
 }
 
-// The command of a comparison.
+// The command `compare`.
 fn compare_command<'a>(alloc: Global) -> Result<Command<'a>, AllocError>
     ensures app { IfOk result (λ c. app_of c ≡ compare_app) }
     ensures local { IfOk result (λ c. (fields_of c).has_globals ≡ false) }

@@ -1,4 +1,4 @@
-//! The line that some words are.
+//! Reads the command line from its words.
 ghost use Rattle.std.specs.Prelude.{◌≡◌, [], IfErr, IfOk, MatchResult, map};
 ghost use Rattle.clap.specs.Words.{fault_of, found_of, one_of, rows_of, subcommand_of, subcommand_rows_of};
 ghost use Rattle.sqs_command_line.specs.Lines.{HasNumbers, IsCheck, IsCompare, IsFaultOf, IsLine, IsLineOf, IsReadable, IsReadableOf, IsRun, TellsNumber};
@@ -13,7 +13,7 @@ use std::alloc::Global;
 #[derive(Clone, Copy)]
 struct Unread;
 
-// The time that an option tells, where it was given.
+// The time of an option, if it was given.
 fn time(matches: &ArgMatches, id: &str) -> Result<Option<u64>, Unread>
     ensures { TellsNumber 64 (one_of id.now (rows_of (found_of matches.now))) result }
 {
@@ -23,7 +23,7 @@ fn time(matches: &ArgMatches, id: &str) -> Result<Option<u64>, Unread>
     }
 }
 
-// The number that an option tells, where it was given.
+// The number of an option, if it was given.
 fn number(matches: &ArgMatches, id: &str) -> Result<Option<u32>, Unread>
     ensures { TellsNumber 32 (one_of id.now (rows_of (found_of matches.now))) result }
 {
@@ -35,7 +35,8 @@ fn number(matches: &ArgMatches, id: &str) -> Result<Option<u32>, Unread>
 
 // What `run` asks for.
 fn run_line<'a>(matches: &ArgMatches<'a>) -> Result<RunLine<'a>, Unread>
-    ensures { MatchResult result (IsRun (rows_of (found_of matches.now))) (λ u. ¬ HasNumbers (rows_of (found_of matches.now))) }
+    ensures { MatchResult result (IsRun (rows_of (found_of matches.now)))
+        (λ u. ¬ HasNumbers (rows_of (found_of matches.now))) }
 {
     let window = time(matches, "window")?;
     let parts = number(matches, "parts")?;
@@ -75,7 +76,8 @@ fn compare_line<'a>(matches: &ArgMatches<'a>) -> CompareLine<'a>
 
 // The line of a subcommand's name and matches.
 fn line_of_subcommand<'a>(name: &str, matches: &ArgMatches<'a>) -> Result<Line<'a>, Unread>
-    ensures { MatchResult result (IsLine name.now (rows_of (found_of matches.now))) (λ u. ¬ IsReadable (name.now, rows_of (found_of matches.now))) }
+    ensures { MatchResult result (IsLine name.now (rows_of (found_of matches.now)))
+        (λ u. ¬ IsReadable (name.now, rows_of (found_of matches.now))) }
 {
     if name == "run" {
         return Ok(Line::Run(run_line(matches)?));
@@ -89,9 +91,10 @@ fn line_of_subcommand<'a>(name: &str, matches: &ArgMatches<'a>) -> Result<Line<'
     Err(Unread)
 }
 
-// The line that the matches are.
+// The line of the matches.
 fn line_of<'a>(matches: &ArgMatches<'a>) -> Result<Line<'a>, Unread>
-    ensures { MatchResult result (IsLineOf (subcommand_rows_of matches.now)) (λ u. ¬ IsReadableOf (subcommand_rows_of matches.now)) }
+    ensures { MatchResult result (IsLineOf (subcommand_rows_of matches.now))
+        (λ u. ¬ IsReadableOf (subcommand_rows_of matches.now)) }
 {
     match matches.subcommand() {
         Some((name, found)) => line_of_subcommand(name, found),
@@ -99,14 +102,16 @@ fn line_of<'a>(matches: &ArgMatches<'a>) -> Result<Line<'a>, Unread>
     }
 }
 
-/// The line that some words are, the program's name first. Times are milliseconds.
+/// The command line that some words are; the program's name is the first. Times are milliseconds.
 ///
 /// # Errors
 ///
-/// `Words` where `clap`'s rules find a fault in the words, which has its kind, or they ask for help,
-/// or memory was refused. Where the rules find none, only memory can be wanting.
+/// `Words` if the words have a fault by `clap`'s rules, whose kind it has, if they ask for help, or
+/// if memory was refused. If the rules find no fault, only memory can have run out.
 pub fn line<'a>(alloc: Global, words: &'a [&'a str]) -> Result<Line<'a>, LineFault>
-    ensures line { IfOk result (λ l. (fault_of program (map (λ w. w.now) words.entry.now) ≡ []) × IsLineOf (subcommand_of program (map (λ w. w.now) words.entry.now)) l) }
+    ensures line { IfOk result (λ l.
+        (fault_of program (map (λ w. w.now) words.entry.now) ≡ [])
+        × IsLineOf (subcommand_of program (map (λ w. w.now) words.entry.now)) l) }
     ensures fault { IfErr result (IsFaultOf (map (λ w. w.now) words.entry.now)) }
 {
     let command = match command(alloc) {

@@ -36,7 +36,8 @@ abbrev pub number_at : ℕ → Option Held → Option ℕ
 number_at now None = None
 number_at now (Some h) = if nat_lt now h.end then Some h.number else None
 
--- what every window keeps: each map's keys are distinct, earlier entries came up to a moment and recent ones from then on, and by a moment after which no entry shown came the last one has come
+-- what every window keeps: each map's keys are distinct; earlier entries came up to a moment and recent ones from then
+-- on; and the last entry came by a moment after which none of those shown came
 pub record IsWindow (earlier recent : List (ScopedId × Held)) (began last : ℕ) : Type 0 where
   pub earlier_keys : IsDistinct same_key (keys_of earlier)
   pub recent_keys : IsDistinct same_key (keys_of recent)

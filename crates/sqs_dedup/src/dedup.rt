@@ -19,13 +19,13 @@ use std::mem;
 /// which they came. Times are milliseconds.
 ///
 /// Entries go to a map of recent ones. Once the first of these has ended, all earlier ones have,
-/// and the recent ones become the earlier ones: so no entry is taken out by itself, and at most
-/// about ten minutes of entries are held.
+/// and the recent ones become the earlier ones. So entries are never removed one by one, and at
+/// most about ten minutes of entries are held.
 #[derive(Drop)]
 pub struct Dedup {
     earlier: IndexMap<ScopedId, Held>,
     recent: IndexMap<ScopedId, Held>,
-    // The moment from which on entries went to the recent ones.
+    // The moment at which the map of recent entries began.
     began: u64,
     // The moment of the last entry.
     last: u64,
@@ -45,7 +45,7 @@ impl Model for Dedup {
 }
 
 impl Dedup {
-    /// A window with no entry.
+    /// A window without entries.
     pub fn new(alloc: Global) -> Dedup
         ensures { result ≡ [] }
     {
@@ -58,11 +58,12 @@ impl Dedup {
         }
     }
 
-    /// The number of the message that was accepted with this id in its scope, if its entry lives: a
-    /// send with these is then a duplicate of it (`SendMessage`: `MessageDeduplicationId`). Takes no
-    /// memory.
+    /// The number of the message that was accepted with this id in its scope, if its entry is still
+    /// alive. A send with this id is then a duplicate of that message (`SendMessage`:
+    /// `MessageDeduplicationId`). It allocates nothing.
     pub fn living(&self, now: u64, key: &ScopedId) -> Option<u64>
-        ensures { result ≡ option_map (λ e. e.number) (living_among now key.now.scope key.now.id self.now) }
+        ensures { result
+            ≡ option_map (λ e. e.number) (living_among now key.now.scope key.now.id self.now) }
     {
         let moment = now.max(self.last);
         match number_at(&self.earlier, moment, key) {
@@ -71,13 +72,24 @@ impl Dedup {
         }
     }
 
-    /// Enters the message with this number, accepted with this id in its scope. The entry lives for 5
-    /// minutes; those that have ended go. `Memory` where a growth is refused; then nothing changes.
+    /// Enters the message with this number, accepted with this id in its scope. The entry lives for
+    /// 5 minutes; entries that have ended go.
+    ///
+    /// # Errors
+    ///
+    /// `AllocError` if memory runs out; nothing changes then.
     pub fn enter(&mut self, now: u64, key: ScopedId, number: u64) -> Result<(), AllocError>
         requires moment { now ≤ most_count }
         requires no_earlier { All (λ e. e.end ≤ now + deduplication_interval) self.old }
         requires none_living { living_among now key.scope key.id self.old ≡ None }
-        ensures entered { OnOk result (self.new ≡ living_entries now self.old ++ record { scope = key.scope; id = key.id; end = now + deduplication_interval; number = number } ∷ []) }
+        ensures entered { OnOk result (self.new
+            ≡ living_entries now self.old
+            ++ record {
+              scope = key.scope;
+              id = key.id;
+              end = now + deduplication_interval;
+              number = number;
+            } ∷ []) }
         ensures unchanged { OnErr result (self.new ≡ self.old) }
     {
         let held = Held {

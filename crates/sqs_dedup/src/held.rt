@@ -1,4 +1,4 @@
-//! What is held of keys: how it is looked up and added.
+//! The entries by key: how one is looked up and added.
 ghost use Rattle.std.specs.Prelude.{IfOk, None, OnErr, OnOk, [], ◌++◌, ◌∷◌, ◌≡◌};
 ghost use Rattle.indexmap.specs.IndexMap.{IsUnique, get};
 ghost use Rattle.sqs_dedup.specs.Window.{number_at, same_key};
@@ -7,15 +7,15 @@ use crate::key::ScopedId;
 use indexmap::IndexMap;
 use std::alloc::{AllocError, Global};
 
-/// When an entry ends and which message it stands for.
+/// When an entry ends, and the message that it is for.
 #[derive(Clone, Copy, Drop)]
 pub struct Held {
     pub end: u64,
     pub number: u64,
 }
 
-// The number of the entry of a key, if it lives at a moment. Where there are no entries the key is not
-// hashed.
+// The number in the entry of a key, if the entry lives at a moment. If there are no entries, the
+// key is not hashed.
 pub fn number_at(entries: &IndexMap<ScopedId, Held>, now: u64, key: &ScopedId) -> Option<u64>
     ensures { result ≡ number_at now (get same_key entries.now key.now) }
 {
@@ -30,7 +30,7 @@ pub fn number_at(entries: &IndexMap<ScopedId, Held>, now: u64, key: &ScopedId) -
     }
 }
 
-// Adds the entry of a new key, which goes last.
+// Adds the entry of a new key after the others.
 pub fn add(
     entries: &mut IndexMap<ScopedId, Held>,
     key: ScopedId,
@@ -45,7 +45,7 @@ pub fn add(
     Ok(())
 }
 
-// The entry of one key.
+// A map with the entry of one key.
 pub fn only(
     alloc: Global,
     key: ScopedId,

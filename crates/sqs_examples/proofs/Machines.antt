@@ -16,16 +16,15 @@ use Rattle.sqs_model.specs.Draw.{word}
 use Rattle.sqs_model.specs.Dues.{core_dues, dues, least_due}
 use Rattle.sqs_model.specs.Scenario.{Scenario}
 use Rattle.sqs_model.specs.Step.{handle_class, handled}
-use Rattle.sqs_model.specs.Bounds.{own_bound}
 use Rattle.sim_engine.specs.declared.picks.Pick.{Pick}
 use Rattle.sim_engine.specs.declared.picks.Pick.TheVariants.{Barrier, Part}
-use Rattle.sqs_model.specs.Machine.{Machine, effects, has_ready, is_finished, ready}
-use Rattle.sqs_model.specs.Bounds.{AreDistances, IsWalk, latency_of, least_bound, moment_of}
-use Rattle.sqs_model.specs.Exchange.{exchanged}
-use Rattle.sqs_model.specs.Parts.{handled_in, part_of}
-use Rattle.sqs_model.specs.Prefixes.{part_count, rows_between, rows_from, told_after}
-use Rattle.sqs_model.specs.Rounds.{part_after}
-use Rattle.sqs_model.specs.Theorems.{begun, machine_of, rows_by, whole_of}
+use Rattle.sim_engine.specs.Machine.{Machine, effective_picks, has_ready, is_finished, ready}
+use Rattle.sim_engine.specs.Bounds.{AreDistances, IsWalk, latency_of, least_bound, moment_of, own_bound}
+use Rattle.sim_engine.specs.Exchange.{exchanged}
+use Rattle.sim_engine.specs.Parts.{handled_in, part_of}
+use Rattle.sim_engine.specs.Prefixes.{part_count, rows_between, rows_from, told_after}
+use Rattle.sim_engine.specs.Rounds.{part_after}
+use Rattle.sim_engine.specs.Theorems.{begun, machine_of, rows_by, whole_of}
 use Rattle.sqs_model.specs.Members.{In}
 use Rattle.sqs_model.specs.Scenario.{edges, fresh_core, opening}
 use Rattle.sqs_model.specs.Site.{Site}
@@ -38,6 +37,8 @@ use Rattle.sqs_message.specs.declared.row.Detail.TheVariants as details
 use Rattle.sqs_message.specs.declared.row.RowAnswer.TheVariants as answers
 use Rattle.sqs_message.specs.declared.row.RowKind.TheVariants as kinds
 use Rattle.sqs_message.specs.declared.row.RowReceipt.TheVariants as receipts
+use Rattle.sqs_model.specs.Run.{setting_of}
+use Rattle.sqs_model.specs.Sqs.{sqs}
 
 plain : QueueSettings
 plain = record { kind = Standard 1 1; visibility = 30000; delay = 0; retention = 345600000; in_flight_limit = 120000; policy = None }
@@ -82,8 +83,8 @@ own_part n = n
 distance : ℕ → ℕ → Option ℕ
 distance q p = if q == p then Some 20 else Some 10
 
-machine : List Pick → Machine
-machine picks = machine_of own_part (own_bound own_part distance 2 100) there_and_back picks
+machine : List Pick → Machine sqs
+machine picks = machine_of sqs own_part (own_bound sqs own_part distance 2 100) (setting_of there_and_back) picks
 
 first_picks : List Pick
 first_picks = Part 0 ∷ Part 0 ∷ Part 0 ∷ Part 0 ∷ Part 0 ∷ Part 1 ∷ Barrier ∷ []
@@ -98,7 +99,7 @@ unfolding machine own_part distance there_and_back plain consumer next dues core
 opens_1 = refl
 
 -- the first queue's four entries and the barrier
-counts : effects own_part 100 (own_bound own_part distance 2 100) first_picks (begun (own_bound own_part distance 2 100) (opening there_and_back)) ≡ 5
+counts : effective_picks sqs own_part 100 (own_bound sqs own_part distance 2 100) first_picks (begun sqs (own_bound sqs own_part distance 2 100) (opening there_and_back)) ≡ 5
 unfolding first_picks own_part distance there_and_back plain consumer digits block_word double_rounds column_round diagonal_round quarter_round u32_at word next dues core_dues act_made handle_class handled
 counts = refl
 
@@ -130,8 +131,8 @@ worn_out =
 one_way : ℕ → ℕ → Option ℕ
 one_way q p = if q == 0 then if p == 1 then Some 500 else None else None
 
-worn_machine : List Pick → Machine
-worn_machine picks = machine_of own_part (own_bound own_part one_way 2 2000) worn_out picks
+worn_machine : List Pick → Machine sqs
+worn_machine picks = machine_of sqs own_part (own_bound sqs own_part one_way 2 2000) (setting_of worn_out) picks
 
 list_1 : List Pick
 list_1 = Part 0 ∷ Part 0 ∷ Barrier ∷ []
@@ -150,15 +151,15 @@ worn_opens_1 : (worn_machine []).bounds 1 ≡ 500
 unfolding worn_machine own_part one_way worn_out plain next dues core_dues
 worn_opens_1 = refl
 
-worn_counts_1 : effects own_part 2000 (own_bound own_part one_way 2 2000) list_1 (worn_machine []) ≡ 3
+worn_counts_1 : effective_picks sqs own_part 2000 (own_bound sqs own_part one_way 2 2000) list_1 (worn_machine []) ≡ 3
 unfolding list_1 worn_machine own_part one_way worn_out plain digits block_word double_rounds column_round diagonal_round quarter_round u32_at word next dues core_dues act_made handle_class handled
 worn_counts_1 = refl
 
-worn_counts_2 : effects own_part 2000 (own_bound own_part one_way 2 2000) list_2 (worn_machine list_1) ≡ 1
+worn_counts_2 : effective_picks sqs own_part 2000 (own_bound sqs own_part one_way 2 2000) list_2 (worn_machine list_1) ≡ 1
 unfolding list_1 list_2 worn_machine own_part one_way worn_out plain digits block_word double_rounds column_round diagonal_round quarter_round u32_at word next dues core_dues act_made handle_class handled
 worn_counts_2 = refl
 
-worn_counts_3 : effects own_part 2000 (own_bound own_part one_way 2 2000) list_3 (worn_machine (list_1 ++ list_2)) ≡ 0
+worn_counts_3 : effective_picks sqs own_part 2000 (own_bound sqs own_part one_way 2 2000) list_3 (worn_machine (list_1 ++ list_2)) ≡ 0
 unfolding list_1 list_2 list_3 worn_machine own_part one_way worn_out plain digits block_word double_rounds column_round diagonal_round quarter_round u32_at word next dues core_dues act_made handle_class handled
 worn_counts_3 = refl
 
@@ -166,7 +167,7 @@ worn_then_1 : (worn_machine list_1).bounds 1 ≡ 2001
 unfolding list_1 worn_machine own_part one_way worn_out plain digits block_word double_rounds column_round diagonal_round quarter_round u32_at word next dues core_dues act_made handle_class handled
 worn_then_1 = refl
 
-worn_ends : is_finished 2000 (worn_machine (list_1 ++ list_2)) ≡ true
+worn_ends : is_finished sqs 2000 (worn_machine (list_1 ++ list_2)) ≡ true
 unfolding list_1 list_2 worn_machine own_part one_way worn_out plain digits block_word double_rounds column_round diagonal_round quarter_round u32_at word next dues core_dues act_made handle_class handled
 worn_ends = refl
 
@@ -325,15 +326,15 @@ no_distances : AreDistances own_part row_ways by_one_hop → ⊥
 unfolding by_one_hop
 no_distances h = h 0 2 (way 0 1 ∷ way 1 2 ∷ []) over_second
 
-row_machine : (ℕ → ℕ → Option ℕ) → List Pick → Machine
-row_machine far picks = machine_of own_part (own_bound own_part far 3 6000) in_a_row picks
+row_machine : (ℕ → ℕ → Option ℕ) → List Pick → Machine sqs
+row_machine far picks = machine_of sqs own_part (own_bound sqs own_part far 3 6000) (setting_of in_a_row) picks
 
-three_bounds : Machine → List ℕ
+three_bounds : Machine sqs → List ℕ
 three_bounds m = m.bounds 0 ∷ m.bounds 1 ∷ m.bounds 2 ∷ []
 
 -- how many of some picks take effect after others
-row_effects : List Pick → List Pick → ℕ
-row_effects before picks = effects own_part 6000 (own_bound own_part by_walks 3 6000) picks (row_machine by_walks before)
+row_effective : List Pick → List Pick → ℕ
+row_effective before picks = effective_picks sqs own_part 6000 (own_bound sqs own_part by_walks 3 6000) picks (row_machine by_walks before)
 
 -- the first queue by itself, the others in one partition
 first_apart : ℕ → ℕ
@@ -373,27 +374,27 @@ row_barrier_waits : (row_machine by_walks (Part 0 ∷ Barrier ∷ [])).bounds 1 
 unfolding row_machine own_part by_walks in_a_row plain relay from_first from_second digits block_word double_rounds column_round diagonal_round quarter_round u32_at word next dues core_dues act_made handle_class handled
 row_barrier_waits = refl
 
-row_barrier_counts : row_effects (Part 0 ∷ []) (Barrier ∷ []) ≡ 0
-unfolding row_effects row_machine own_part by_walks in_a_row plain relay from_first from_second digits block_word double_rounds column_round diagonal_round quarter_round u32_at word next dues core_dues act_made handle_class handled
+row_barrier_counts : row_effective (Part 0 ∷ []) (Barrier ∷ []) ≡ 0
+unfolding row_effective row_machine own_part by_walks in_a_row plain relay from_first from_second digits block_word double_rounds column_round diagonal_round quarter_round u32_at word next dues core_dues act_made handle_class handled
 row_barrier_counts = refl
 
 -- a site is ready by the bound of its owner, whatever its own number
-row_ready_by_owner : has_ready first_apart (record (row_machine by_walks []) { bounds = λ p. if p == 2 then 1 else 0 }) ≡ true
+row_ready_by_owner : has_ready sqs first_apart (record (row_machine by_walks []) { bounds = λ p. if p == 2 then 1 else 0 }) ≡ true
 unfolding first_apart row_machine own_part by_walks in_a_row plain relay from_first from_second next dues core_dues
 row_ready_by_owner = refl
 
 -- the one-list run handles first for the first queue's owner, and then for the second's
-row_turns : map (λ x. x.0) (told_after first_apart 6000 2 (opening in_a_row)) ≡ 2 ∷ 0 ∷ []
+row_turns : map (λ x. x.0) (told_after sqs first_apart 6000 2 (opening in_a_row)) ≡ 2 ∷ 0 ∷ []
 unfolding first_apart in_a_row plain relay digits block_word double_rounds column_round diagonal_round quarter_round u32_at word next dues core_dues act_made handle_class handled
 row_turns = refl
 
 -- a partition by itself leaves what is due at its bound
-row_runs_to_bound : map (λ r. r.key.at) (part_after 100 3 (part_of own_part 0 (opening in_a_row))).rows ≡ 0 ∷ []
+row_runs_to_bound : map (λ r. r.key.at) (part_after sqs 100 3 (part_of sqs own_part 0 (opening in_a_row))).rows ≡ 0 ∷ []
 unfolding own_part in_a_row plain relay digits block_word double_rounds column_round diagonal_round quarter_round u32_at word next dues core_dues act_made handle_class handled
 row_runs_to_bound = refl
 
-row_counts_1 : row_effects [] round_1 ≡ 3
-unfolding round_1 row_effects row_machine own_part by_walks in_a_row plain relay from_first from_second digits block_word double_rounds column_round diagonal_round quarter_round u32_at word next dues core_dues act_made handle_class handled
+row_counts_1 : row_effective [] round_1 ≡ 3
+unfolding round_1 row_effective row_machine own_part by_walks in_a_row plain relay from_first from_second digits block_word double_rounds column_round diagonal_round quarter_round u32_at word next dues core_dues act_made handle_class handled
 row_counts_1 = refl
 
 -- the first queue's receive at 100 bounds all, the third over the second
@@ -407,12 +408,12 @@ unfolding round_1 row_machine own_part by_one_hop in_a_row plain relay digits bl
 row_1_hop = refl
 
 -- so that its script would receive nothing
-row_hop_misses : rows_by (row_machine by_one_hop (round_1 ++ Part 2 ∷ [])).told 2 ≡ record { key = record { at = 5000; agent = 6; class = classes.Wake; number = 0 }; queue = 2; agent = 6; kind = kinds.Receive; answer = answers.Empty; message = None; receipt = receipts.Absent; detail = details.Absent } ∷ []
+row_hop_misses : rows_by sqs (row_machine by_one_hop (round_1 ++ Part 2 ∷ [])).told 2 ≡ record { key = record { at = 5000; agent = 6; class = classes.Wake; number = 0 }; queue = 2; agent = 6; kind = kinds.Receive; answer = answers.Empty; message = None; receipt = receipts.Absent; detail = details.Absent } ∷ []
 unfolding round_1 row_machine own_part by_one_hop in_a_row plain relay digits block_word double_rounds column_round diagonal_round quarter_round u32_at word next dues core_dues act_made handle_class handled
 row_hop_misses = refl
 
-row_counts_2 : row_effects round_1 round_2 ≡ 2
-unfolding round_1 round_2 row_effects row_machine own_part by_walks in_a_row plain relay from_first from_second digits block_word double_rounds column_round diagonal_round quarter_round u32_at word next dues core_dues act_made handle_class handled
+row_counts_2 : row_effective round_1 round_2 ≡ 2
+unfolding round_1 round_2 row_effective row_machine own_part by_walks in_a_row plain relay from_first from_second digits block_word double_rounds column_round diagonal_round quarter_round u32_at word next dues core_dues act_made handle_class handled
 row_counts_2 = refl
 
 -- then the end of its service at 200
@@ -425,8 +426,8 @@ row_least : least_bound 6000 (row_machine by_walks (round_1 ++ round_2)).bounds 
 unfolding round_1 round_2 row_machine own_part by_walks in_a_row plain relay from_first from_second digits block_word double_rounds column_round diagonal_round quarter_round u32_at word next dues core_dues act_made handle_class handled
 row_least = refl
 
-row_counts_3 : row_effects (round_1 ++ round_2) round_3 ≡ 3
-unfolding round_1 round_2 round_3 row_effects row_machine own_part by_walks in_a_row plain relay from_first from_second digits block_word double_rounds column_round diagonal_round quarter_round u32_at word next dues core_dues act_made handle_class handled
+row_counts_3 : row_effective (round_1 ++ round_2) round_3 ≡ 3
+unfolding round_1 round_2 round_3 row_effective row_machine own_part by_walks in_a_row plain relay from_first from_second digits block_word double_rounds column_round diagonal_round quarter_round u32_at word next dues core_dues act_made handle_class handled
 row_counts_3 = refl
 
 -- the arrival at 210 bounds the first by the dead letters' way, and the second by its own cycle
@@ -439,8 +440,8 @@ row_waits : length (row_machine by_walks (round_1 ++ round_2 ++ Part 0 ∷ [])).
 unfolding round_1 round_2 row_machine own_part by_walks in_a_row plain relay from_first from_second digits block_word double_rounds column_round diagonal_round quarter_round u32_at word next dues core_dues act_made handle_class handled
 row_waits = refl
 
-row_counts_4 : row_effects (round_1 ++ round_2 ++ round_3) round_4 ≡ 2
-unfolding round_1 round_2 round_3 round_4 row_effects row_machine own_part by_walks in_a_row plain relay from_first from_second digits block_word double_rounds column_round diagonal_round quarter_round u32_at word next dues core_dues act_made handle_class handled
+row_counts_4 : row_effective (round_1 ++ round_2 ++ round_3) round_4 ≡ 2
+unfolding round_1 round_2 round_3 round_4 row_effective row_machine own_part by_walks in_a_row plain relay from_first from_second digits block_word double_rounds column_round diagonal_round quarter_round u32_at word next dues core_dues act_made handle_class handled
 row_counts_4 = refl
 
 -- then the end of the second's service at 310
@@ -448,8 +449,8 @@ row_bounds_4 : three_bounds (row_machine by_walks (round_1 ++ round_2 ++ round_3
 unfolding round_1 round_2 round_3 round_4 three_bounds row_machine own_part by_walks in_a_row plain relay from_first from_second digits block_word double_rounds column_round diagonal_round quarter_round u32_at word next dues core_dues act_made handle_class handled
 row_bounds_4 = refl
 
-row_counts_5 : row_effects (round_1 ++ round_2 ++ round_3 ++ round_4) round_5 ≡ 3
-unfolding round_1 round_2 round_3 round_4 round_5 row_effects row_machine own_part by_walks in_a_row plain relay from_first from_second digits block_word double_rounds column_round diagonal_round quarter_round u32_at word next dues core_dues act_made handle_class handled
+row_counts_5 : row_effective (round_1 ++ round_2 ++ round_3 ++ round_4) round_5 ≡ 3
+unfolding round_1 round_2 round_3 round_4 round_5 row_effective row_machine own_part by_walks in_a_row plain relay from_first from_second digits block_word double_rounds column_round diagonal_round quarter_round u32_at word next dues core_dues act_made handle_class handled
 row_counts_5 = refl
 
 -- in the end nothing sets a bound by the horizon
@@ -457,31 +458,31 @@ row_bounds_5 : three_bounds (row_machine by_walks (round_1 ++ round_2 ++ round_3
 unfolding round_1 round_2 round_3 round_4 round_5 three_bounds row_machine own_part by_walks in_a_row plain relay from_first from_second digits block_word double_rounds column_round diagonal_round quarter_round u32_at word next dues core_dues act_made handle_class handled
 row_bounds_5 = refl
 
-row_counts_6 : row_effects (round_1 ++ round_2 ++ round_3 ++ round_4 ++ round_5) round_6 ≡ 2
-unfolding round_1 round_2 round_3 round_4 round_5 round_6 row_effects row_machine own_part by_walks in_a_row plain relay from_first from_second digits block_word double_rounds column_round diagonal_round quarter_round u32_at word next dues core_dues act_made handle_class handled
+row_counts_6 : row_effective (round_1 ++ round_2 ++ round_3 ++ round_4 ++ round_5) round_6 ≡ 2
+unfolding round_1 round_2 round_3 round_4 round_5 round_6 row_effective row_machine own_part by_walks in_a_row plain relay from_first from_second digits block_word double_rounds column_round diagonal_round quarter_round u32_at word next dues core_dues act_made handle_class handled
 row_counts_6 = refl
 
 -- the moments and queues of all rows, merged
-row_order : map {B = ℕ × ℕ} (λ r. (r.key.at, r.queue)) (whole_of 3 (row_machine by_walks (round_1 ++ round_2 ++ round_3 ++ round_4 ++ round_5 ++ round_6))).rows ≡ (0, 0) ∷ (0, 1) ∷ (100, 0) ∷ (200, 0) ∷ (200, 0) ∷ (201, 0) ∷ (210, 1) ∷ (210, 1) ∷ (310, 1) ∷ (310, 1) ∷ (311, 1) ∷ (320, 2) ∷ (5000, 2) ∷ []
+row_order : map {B = ℕ × ℕ} (λ r. (r.key.at, r.queue)) (whole_of sqs 3 (row_machine by_walks (round_1 ++ round_2 ++ round_3 ++ round_4 ++ round_5 ++ round_6))).rows ≡ (0, 0) ∷ (0, 1) ∷ (100, 0) ∷ (200, 0) ∷ (200, 0) ∷ (201, 0) ∷ (210, 1) ∷ (210, 1) ∷ (310, 1) ∷ (310, 1) ∷ (311, 1) ∷ (320, 2) ∷ (5000, 2) ∷ []
 unfolding round_1 round_2 round_3 round_4 round_5 round_6 row_machine own_part by_walks in_a_row plain relay from_first from_second digits block_word double_rounds column_round diagonal_round quarter_round u32_at word next dues core_dues act_made handle_class handled
 row_order = refl
 
 -- those from 100 on and before 201
-row_between : map (λ r. r.key.at) (rows_between 3 100 201 (row_machine by_walks (round_1 ++ round_2 ++ round_3 ++ round_4 ++ round_5 ++ round_6))) ≡ 100 ∷ 200 ∷ 200 ∷ []
+row_between : map (λ r. r.key.at) (rows_between sqs 3 100 201 (row_machine by_walks (round_1 ++ round_2 ++ round_3 ++ round_4 ++ round_5 ++ round_6))) ≡ 100 ∷ 200 ∷ 200 ∷ []
 unfolding round_1 round_2 round_3 round_4 round_5 round_6 row_machine own_part by_walks in_a_row plain relay from_first from_second digits block_word double_rounds column_round diagonal_round quarter_round u32_at word next dues core_dues act_made handle_class handled
 row_between = refl
 
 -- those from 311 on
-row_from : map (λ r. r.key.at) (rows_from 3 311 (row_machine by_walks (round_1 ++ round_2 ++ round_3 ++ round_4 ++ round_5 ++ round_6))) ≡ 311 ∷ 320 ∷ 5000 ∷ []
+row_from : map (λ r. r.key.at) (rows_from sqs 3 311 (row_machine by_walks (round_1 ++ round_2 ++ round_3 ++ round_4 ++ round_5 ++ round_6))) ≡ 311 ∷ 320 ∷ 5000 ∷ []
 unfolding round_1 round_2 round_3 round_4 round_5 round_6 row_machine own_part by_walks in_a_row plain relay from_first from_second digits block_word double_rounds column_round diagonal_round quarter_round u32_at word next dues core_dues act_made handle_class handled
 row_from = refl
 
 -- the third queue had one arrival, and gave it once
-row_count : part_count own_part 2 (row_machine by_walks (round_1 ++ round_2 ++ round_3 ++ round_4 ++ round_5 ++ round_6)) ≡ 1
+row_count : part_count sqs own_part 2 (row_machine by_walks (round_1 ++ round_2 ++ round_3 ++ round_4 ++ round_5 ++ round_6)) ≡ 1
 unfolding round_1 round_2 round_3 round_4 round_5 round_6 row_machine own_part by_walks in_a_row plain relay from_first from_second digits block_word double_rounds column_round diagonal_round quarter_round u32_at word next dues core_dues act_made handle_class handled
 row_count = refl
 
-row_ends : is_finished 6000 (row_machine by_walks (round_1 ++ round_2 ++ round_3 ++ round_4 ++ round_5 ++ round_6)) ≡ true
+row_ends : is_finished sqs 6000 (row_machine by_walks (round_1 ++ round_2 ++ round_3 ++ round_4 ++ round_5 ++ round_6)) ≡ true
 unfolding round_1 round_2 round_3 round_4 round_5 round_6 row_machine own_part by_walks in_a_row plain relay from_first from_second digits block_word double_rounds column_round diagonal_round quarter_round u32_at word next dues core_dues act_made handle_class handled
 row_ends = refl
 
@@ -510,13 +511,13 @@ last_rows =
     }
     ∷ []
 
-row_tells : rows_by (row_machine by_walks (round_1 ++ round_2 ++ round_3 ++ round_4 ++ round_5 ++ round_6)).told 2 ≡ last_rows
+row_tells : rows_by sqs (row_machine by_walks (round_1 ++ round_2 ++ round_3 ++ round_4 ++ round_5 ++ round_6)).told 2 ≡ last_rows
 unfolding last_rows round_1 round_2 round_3 round_4 round_5 round_6 row_machine own_part by_walks in_a_row plain relay from_first from_second digits block_word double_rounds column_round diagonal_round quarter_round u32_at word next dues core_dues act_made handle_class handled
 row_tells = refl
 
 -- the way there and back with another horizon
-there_until : ℕ → List Pick → Machine
-there_until horizon picks = machine_of own_part (own_bound own_part distance 2 horizon) (record there_and_back { horizon = horizon }) picks
+there_until : ℕ → List Pick → Machine sqs
+there_until horizon picks = machine_of sqs own_part (own_bound sqs own_part distance 2 horizon) (setting_of (record there_and_back { horizon = horizon })) picks
 
 -- the send, the receive, the end of the service, and the next receive
 four_picks : List Pick
@@ -528,21 +529,21 @@ unfolding there_until own_part distance there_and_back plain consumer next dues 
 there_capped = refl
 
 -- what is due at 0 is ready with a bound of 1, and not with a bound of 0
-there_before_bound : is_some (ready own_part 0 (record (there_until 100 []) { bounds = λ p. 1 })) ≡ true
+there_before_bound : is_some (ready sqs own_part 0 (record (there_until 100 []) { bounds = λ p. 1 })) ≡ true
 unfolding there_until own_part distance there_and_back plain consumer next dues core_dues
 there_before_bound = refl
 
-there_at_bound : ready own_part 0 (record (there_until 100 []) { bounds = λ p. 0 }) ≡ None
+there_at_bound : ready sqs own_part 0 (record (there_until 100 []) { bounds = λ p. 0 }) ≡ None
 unfolding there_until own_part distance there_and_back plain consumer next dues core_dues
 there_at_bound = refl
 
 -- the forward arrives at 25: by a horizon of 25 it is still to come
-there_not_ended : is_finished 25 (there_until 25 four_picks) ≡ false
+there_not_ended : is_finished sqs 25 (there_until 25 four_picks) ≡ false
 unfolding four_picks there_until own_part distance there_and_back plain consumer digits block_word double_rounds column_round diagonal_round quarter_round u32_at word next dues core_dues act_made handle_class handled
 there_not_ended = refl
 
 -- past a horizon of 24 it waits in the end, whatever is picked, and stands in the last world
-there_ended : is_finished 24 (there_until 24 four_picks) ≡ true
+there_ended : is_finished sqs 24 (there_until 24 four_picks) ≡ true
 unfolding four_picks there_until own_part distance there_and_back plain consumer digits block_word double_rounds column_round diagonal_round quarter_round u32_at word next dues core_dues act_made handle_class handled
 there_ended = refl
 
@@ -550,7 +551,7 @@ there_stays : length (there_until 24 (four_picks ++ Barrier ∷ [])).waiting ≡
 unfolding four_picks there_until own_part distance there_and_back plain consumer digits block_word double_rounds column_round diagonal_round quarter_round u32_at word next dues core_dues act_made handle_class handled
 there_stays = refl
 
-there_stands : map (λ s. length s.arriving) (whole_of 2 (there_until 24 four_picks)).sites ≡ 0 ∷ 1 ∷ []
+there_stands : map (λ s. length s.arriving) (whole_of sqs 2 (there_until 24 four_picks)).sites ≡ 0 ∷ 1 ∷ []
 unfolding four_picks there_until own_part distance there_and_back plain consumer digits block_word double_rounds column_round diagonal_round quarter_round u32_at word next dues core_dues act_made handle_class handled
 there_stands = refl
 
@@ -562,7 +563,7 @@ twins =
     ∷ []
 
 -- the second partition handles its own, and the first's is left
-twins_apart : map (λ s. moment_of (least_due s)) (handled_in own_part 1 (record { at = 1; agent = 5; class = classes.Wake; number = 0 }) twins).sites ≡ Some 1 ∷ Some 86400001 ∷ []
+twins_apart : map (λ s. moment_of (least_due s)) (handled_in sqs own_part 1 (record { at = 1; agent = 5; class = classes.Wake; number = 0 }) twins).sites ≡ Some 1 ∷ Some 86400001 ∷ []
 unfolding own_part twins plain consumer digits block_word double_rounds column_round diagonal_round quarter_round u32_at word next dues core_dues act_made handle_class handled
 twins_apart = refl
 
@@ -573,7 +574,7 @@ sent at sender to =
 
 -- each partition gets what goes to it, in the order of keys
 gets_sorted :
-    exchanged own_part 3 (sent 30 5 1 ∷ sent 20 4 2 ∷ sent 20 5 1 ∷ sent 20 3 1 ∷ [])
+    exchanged sqs own_part 3 (sent 30 5 1 ∷ sent 20 4 2 ∷ sent 20 5 1 ∷ sent 20 3 1 ∷ [])
     ≡ [] ∷ (sent 20 3 1 ∷ sent 20 5 1 ∷ sent 30 5 1 ∷ []) ∷ (sent 20 4 2 ∷ []) ∷ []
 unfolding own_part sent
 gets_sorted = refl

@@ -1,3 +1,3 @@
-//! Worked examples: scenarios with their right output, computed by the checker over the
-//! definitions. They stand in `proofs/`; there is no code here.
+//! Worked examples: scenarios with their right output, computed by the checker from the
+//! definitions. They are in `proofs/`; there is no code here.
 #![tactic(auto)]

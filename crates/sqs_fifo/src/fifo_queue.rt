@@ -1,22 +1,8 @@
-//! A FIFO queue by itself: its messages in order, their groups and deduplication, and the calls of
+//! A FIFO queue on its own: its messages in order, their groups and deduplication, and the calls of
 //! Amazon SQS on it.
 ghost use Rattle.std.specs.Prelude.{◌≡◌, ◌⊎◌, ◌*◌, ◌<◌, ◌≤◌, [], All, Any, Err, IfOk, IsOkUnless, OnErr, OnOk, count_by, false, length, not};
 ghost use Rattle.std.specs.Result.{result_map_both};
-ghost use Rattle.sim_clock.specs.Firsts.{is_empty};
-ghost use Rattle.sim_clock.specs.Order.{least};
-ghost use Rattle.sqs_model.specs.Acts.{sends};
-ghost use Rattle.sqs_model.specs.Answers.{Meets, most_count};
-ghost use Rattle.sqs_model.specs.Arrive.{arrived, expired};
-ghost use Rattle.sqs_model.specs.Available.{all_available};
-ghost use Rattle.sqs_model.specs.Calls.{change, delete_fifo, returned};
-ghost use Rattle.sqs_model.specs.Dues.{queue_dues};
-ghost use Rattle.sqs_model.specs.Progress.{IsRecent};
-ghost use Rattle.sqs_model.specs.Queue.{IsFramed, is_delayed, is_in_flight, is_visible};
-ghost use Rattle.sqs_model.specs.Receive.{receive, to_give};
-ghost use Rattle.sqs_model.specs.Return.{released};
-ghost use Rattle.sqs_model.specs.Task.{take_movable};
-ghost use Rattle.sqs_queue.specs.Calls.{never_refused};
-ghost use Rattle.sqs_queue.specs.Kinds.{IsFifoSettings};
+ghost use Rattle.sqs_queue.specs.Words.{IsFifoSettings, IsFramed, IsRecent, Meets, all_available, arrived, change, delete_fifo, expired, is_delayed, is_empty, is_in_flight, is_visible, least, most_count, never_refused, queue_dues, receive, released, returned, sends, take_movable, to_give};
 
 use sim_clock::{Key, Refusal};
 use sqs_message::{Receipt, Text};
@@ -25,8 +11,8 @@ use sqs_redrive::{Deleted, Got, Load, QueueSettings, Rest, Sent};
 use std::alloc::Global;
 use std::marker::Model;
 
-/// A FIFO queue. Contracts see it as the definitions' `Queue`, with how many messages its newest
-/// receive read. Times are milliseconds.
+/// A FIFO queue. Contracts see it as the definitions' `Queue`, with the number of messages that its
+/// newest receive read. Times are milliseconds unless said otherwise.
 #[derive(Drop)]
 pub struct FifoQueue {
     queue: Queue,
@@ -48,17 +34,25 @@ impl FifoQueue {
     /// An empty queue with this number.
     pub fn new(alloc: Global, site: u32, settings: QueueSettings) -> FifoQueue
         requires { IsFifoSettings settings }
-        ensures { result ≡ record { queue = record { site = site; settings = settings; records = []; entries = []; arrivals = 0 }; looked = 0 } }
+        ensures { result
+            ≡ record {
+              queue = record { site = site; settings = settings; records = []; entries = []; arrivals = 0 };
+              looked = 0;
+            } }
     {
         FifoQueue::opened_at(alloc, site, settings, 0)
     }
 
-    /// An empty queue with this number, to which so many messages came before: the next gets that
-    /// count as its number.
+    /// An empty queue with this number, to which `arrivals` messages came before: the next message
+    /// gets that count as its number.
     pub fn opened_at(alloc: Global, site: u32, settings: QueueSettings, arrivals: u64) -> FifoQueue
         requires settings { IsFifoSettings settings }
         requires arrivals { arrivals ≤ most_count }
-        ensures { result ≡ record { queue = record { site = site; settings = settings; records = []; entries = []; arrivals = arrivals }; looked = 0 } }
+        ensures { result
+            ≡ record {
+              queue = record { site = site; settings = settings; records = []; entries = []; arrivals = arrivals };
+              looked = 0;
+            } }
     {
         FifoQueue {
             queue: Queue::opened_at(alloc, site, settings, arrivals),
@@ -66,29 +60,33 @@ impl FifoQueue {
         }
     }
 
-    /// Its number.
+    /// The number of the queue.
     pub fn site(&self) -> u32
         ensures { result ≡ self.now.queue.site }
     {
         self.queue.site()
     }
 
-    /// Its settings.
+    /// The settings of the queue.
     pub fn settings(&self) -> &QueueSettings
         ensures { result.now ≡ self.now.queue.settings }
     {
         self.queue.settings()
     }
 
-    /// Its messages, in the order of their arrival.
+    /// The messages, in the order of their arrival.
     pub fn view(&self) -> Messages<'_>
         ensures { result ≡ self.now.queue.records }
     {
         self.queue.view()
     }
 
-    /// `DeleteMessage`: a message in flight leaves by its newest receipt, at its age.
-    /// `ReceiptHandleIsInvalid` by any other receipt, and where the message is not in flight.
+    /// `DeleteMessage`: a message in flight leaves by its newest receipt; returns its age in
+    /// milliseconds.
+    ///
+    /// # Errors
+    ///
+    /// `ReceiptHandleIsInvalid` for any other receipt, and if the message is not in flight.
     pub fn delete(&mut self, now: u64, receipt: &Receipt) -> Result<Deleted, Refusal>
         ensures answer { delete_fifo self.old.queue now receipt.now ≡ (result, self.new.queue) }
         ensures kept { self.new.queue.entries ≡ self.old.queue.entries }
@@ -98,20 +96,20 @@ impl FifoQueue {
         self.queue.delete_fifo(now, receipt)
     }
 
-    /// The end of the delay or visibility timeout of a message: it is visible again, or leaves for
-    /// the dead-letter queue, which gives its load. The moment, in milliseconds, decides nothing. No error
-    /// comes.
+    /// Ends the delay or visibility timeout of a message. It is visible again, or leaves for the
+    /// dead-letter queue; then its load is returned. The moment has no effect. The call returns no
+    /// error.
     pub fn release(&mut self, _now: u64, number: u64) -> Result<Option<Load>, Refusal>
         ensures answer { returned (released self.old.queue number) ≡ (result, self.new.queue) }
         ensures kept { self.new.queue.entries ≡ self.old.queue.entries }
         ensures looked { self.new.looked ≡ self.old.looked }
         ensures framed { IsFramed self.old.queue self.new.queue }
     {
-        self.queue.release(number)
+        Ok(self.queue.release(number))
     }
 
-    /// The end of the retention period of a message, which leaves. Answers its age, 0 where it is
-    /// not there.
+    /// Ends the retention period of a message, which leaves. Returns its age in milliseconds, 0 if
+    /// it is not there.
     pub fn expire(&mut self, now: u64, number: u64) -> u64
         ensures answer { expired self.old.queue now number ≡ (result, self.new.queue) }
         ensures kept { self.new.queue.entries ≡ self.old.queue.entries }
@@ -121,11 +119,15 @@ impl FifoQueue {
         self.queue.expire(now, number)
     }
 
-    /// `ChangeMessageVisibility`: a message in flight is so until `now` and so many seconds; by 0
-    /// seconds it is visible again, or leaves for the dead-letter queue, which gives its load.
-    /// `BadTimeout` over 43,200 seconds, or past 12 hours from the receive;
-    /// `ReceiptHandleIsInvalid` where the receipt is none of this queue's; `MessageNotInflight`
-    /// where the message is not in flight by this receipt.
+    /// `ChangeMessageVisibility`: a message in flight stays so until `timeout` seconds after `now`.
+    /// With 0 seconds it is visible again, or leaves for the dead-letter queue; then its load is
+    /// returned.
+    ///
+    /// # Errors
+    ///
+    /// `BadTimeout` over 43,200 seconds, or past 12 hours from the receive.
+    /// `ReceiptHandleIsInvalid` if the receipt is not this queue's. `MessageNotInflight` if the
+    /// message is not in flight by this receipt.
     pub fn change(
         &mut self,
         now: u64,
@@ -141,14 +143,14 @@ impl FifoQueue {
         self.queue.change(now, receipt, timeout)
     }
 
-    /// The key of what is due next: the least expiry or end of a delay or visibility timeout.
+    /// The key of the next entry due: the least expiry or end of a delay or visibility timeout.
     pub fn least_due(&self) -> Option<Key>
         ensures { result ≡ least (queue_dues self.now.queue) }
     {
         self.queue.least_due()
     }
 
-    /// How many messages are where.
+    /// The number of messages in each state.
     pub fn counts(&self) -> Counts
         ensures visible { result.visible ≡ count_by is_visible self.now.queue.records }
         ensures in_flight { result.in_flight ≡ count_by is_in_flight self.now.queue.records }
@@ -157,20 +159,24 @@ impl FifoQueue {
         self.queue.counts()
     }
 
-    /// Whether there is a message that it may give. Goes over no messages.
+    /// Whether the queue may give a message. It does not scan the messages.
     pub fn has_available(&self) -> bool
         ensures { result ≡ not (is_empty (all_available self.now.queue)) }
     {
         self.queue.has_available()
     }
 
-    /// `SendMessage`: a message of this body in a message group (`MessageGroupId`), delayed as the
-    /// queue says, and its deduplication entry. A send with the deduplication id of one in the last
-    /// 5 minutes, in the queue or in the group, is a repeat of that one and makes nothing; where
-    /// none is given and the queue compares bodies, the body's SHA-256 is the id
-    /// (`MessageDeduplicationId`, `ContentBasedDeduplication`, `DeduplicationScope`). `BadDelay`
-    /// with a delay of its own over 0 seconds; `MissingGroup`; `MissingDeduplication`; `CountLimit`
-    /// where a new message is to come and the queue's numbers are used up; `Memory`.
+    /// `SendMessage`: sends a message with this body in a message group (`MessageGroupId`), with
+    /// the queue's delay, and adds its deduplication entry. If its deduplication id was accepted in
+    /// the last 5 minutes, in the queue or in the group, the send is a repeat of that message and
+    /// adds nothing. If no id is given and the queue compares bodies, the body's SHA-256 is the id
+    /// (`MessageDeduplicationId`, `ContentBasedDeduplication`, `DeduplicationScope`).
+    ///
+    /// # Errors
+    ///
+    /// `BadDelay` if it has a delay of its own over 0 seconds. `MissingGroup`.
+    /// `MissingDeduplication`. `CountLimit` if a new message is to come and the queue's numbers are
+    /// used up. `Memory`.
     pub fn send(
         &mut self,
         now: u64,
@@ -181,9 +187,13 @@ impl FifoQueue {
     ) -> Result<Sent, Refusal>
         requires moment { now ≤ most_count }
         requires recent { IsRecent now self.old.queue }
-        ensures answer { Meets (self.old.queue.arrivals ≡ most_count) result self.new.queue (sends self.old.queue.settings.kind self.old.queue now body delay group id) }
-        ensures at_limit { result ≡ Err Refusal.CountLimit → most_count < (sends self.old.queue.settings.kind self.old.queue now body delay group id).1.arrivals }
-        ensures counted { OnOk result ((self.old.queue.arrivals < most_count) ⊎ (self.new.queue ≡ self.old.queue)) }
+        ensures answer { Meets (self.old.queue.arrivals ≡ most_count) result self.new.queue
+            (sends self.old.queue.settings.kind self.old.queue now body delay group id) }
+        ensures at_limit { result ≡ Err Refusal.CountLimit
+            → most_count
+            < (sends self.old.queue.settings.kind self.old.queue now body delay group id).1.arrivals }
+        ensures counted { OnOk result
+            ((self.old.queue.arrivals < most_count) ⊎ (self.new.queue ≡ self.old.queue)) }
         ensures unchanged { OnErr result (self.new ≡ self.old) }
         ensures recent { IsRecent now self.new.queue }
         ensures looked { self.new.looked ≡ self.old.looked }
@@ -192,17 +202,23 @@ impl FifoQueue {
         self.queue.send_fifo(now, body, group, id, delay)
     }
 
-    /// A transfer arrives: a message of a move task or of another queue's redrive is visible at
-    /// once, enqueued now (`StartMessageMoveTask`, a redrive policy); the second part of the answer
-    /// tells whether it expires within its arrival. A forward is a `SendMessage` in the group of
-    /// the message that was served, with its id text as deduplication id, and may be a repeat.
-    /// `CountLimit` where a new message is to come and the queue's numbers are used up; `Memory`.
+    /// A transfer arrives. A message of a move task or of another queue's redrive is visible at
+    /// once, enqueued now (`StartMessageMoveTask`, a redrive policy). The second part of the result
+    /// says whether it expires on arrival. A forward is a `SendMessage` in the group of the message
+    /// that was served, with that message's id text as deduplication id, and may be a repeat.
+    ///
+    /// # Errors
+    ///
+    /// `CountLimit` if a new message is to come and the queue's numbers are used up; `Memory`.
     pub fn arrive(&mut self, now: u64, load: Load) -> Result<(Sent, bool), Refusal>
         requires moment { now ≤ most_count }
         requires recent { IsRecent now self.old.queue }
-        ensures answer { Meets (self.old.queue.arrivals ≡ most_count) result self.new.queue (never_refused (arrived self.old.queue now load)) }
-        ensures at_limit { result ≡ Err Refusal.CountLimit → most_count < (arrived self.old.queue now load).1.arrivals }
-        ensures counted { OnOk result ((self.old.queue.arrivals < most_count) ⊎ (self.new.queue ≡ self.old.queue)) }
+        ensures answer { Meets (self.old.queue.arrivals ≡ most_count) result self.new.queue
+            (never_refused (arrived self.old.queue now load)) }
+        ensures at_limit { result ≡ Err Refusal.CountLimit
+            → most_count < (arrived self.old.queue now load).1.arrivals }
+        ensures counted { OnOk result
+            ((self.old.queue.arrivals < most_count) ⊎ (self.new.queue ≡ self.old.queue)) }
         ensures unchanged { OnErr result (self.new ≡ self.old) }
         ensures recent { IsRecent now self.new.queue }
         ensures looked { self.new.looked ≡ self.old.looked }
@@ -211,19 +227,28 @@ impl FifoQueue {
         self.queue.arrive_fifo(now, load)
     }
 
-    /// `ReceiveMessage`: at most so many messages of those that the queue may give, group by group
-    /// and in order within each, and no more than the in-flight limit leaves room for. A group with
-    /// a message in flight gives none. Each is in flight for so many seconds or else as the queue
-    /// says; with 0 seconds it comes back at once. `BadTimeout` over 43,200 seconds; `CountLimit`
-    /// where one of them can be received no more; `Memory`. `looked` tells then how many messages
-    /// it read to choose these: at least as many as it gives, and at most twice as many as were
-    /// asked for, whatever the length of the queue; after an error, what it told before.
+    /// `ReceiveMessage`: gives at most `max` of the messages that the queue may give, and no more
+    /// than the in-flight limit leaves room for. It gives group by group, and in order within each
+    /// group. A group with a message in flight gives none. Each message is in flight for `timeout`
+    /// seconds or else for the queue's visibility timeout; with 0 seconds it comes back at once.
+    ///
+    /// `looked` then returns how many messages it read to choose these: at least as many as it
+    /// gives, and at most twice `max`, whatever the length of the queue. After an error `looked`
+    /// stays as it was.
+    ///
+    /// # Errors
+    ///
+    /// `BadTimeout` over 43,200 seconds. `CountLimit` if the receive count of one of them is at its
+    /// limit. `Memory`.
     pub fn receive(&mut self, now: u64, max: u64, timeout: Option<u64>) -> Result<Vec<Got>, Refusal>
         requires { now ≤ most_count }
-        ensures answer { Meets (Any (λ m. m.receives ≡ most_count) (to_give self.old.queue max 1)) (result_map_both (λ batch. batch.items) (λ refusal. refusal) result) self.new.queue (receive self.old.queue now max timeout 1 false) }
+        ensures answer { Meets (Any (λ m. m.receives ≡ most_count) (to_give self.old.queue max 1))
+            (result_map_both (λ batch. batch.items) (λ refusal. refusal) result) self.new.queue
+            (receive self.old.queue now max timeout 1 false) }
         ensures looked { OnOk result (self.new.looked ≤ 2 * max) }
         ensures read { IfOk result (λ batch. length batch.items ≤ self.new.looked) }
-        ensures counted { OnOk result (All (λ m. m.receives < most_count) (to_give self.old.queue max 1)) }
+        ensures counted { OnOk result
+            (All (λ m. m.receives < most_count) (to_give self.old.queue max 1)) }
         ensures unchanged { OnErr result (self.new ≡ self.old) }
         ensures kept { self.new.queue.entries ≡ self.old.queue.entries }
         ensures framed { IsFramed self.old.queue self.new.queue }
@@ -233,25 +258,29 @@ impl FifoQueue {
         Ok(received.messages)
     }
 
-    /// How many messages the newest receive that answered `Ok` read to choose what it gave: counted as
-    /// each is read; 0 before one. Takes no memory.
+    /// The number of messages that the newest receive without an error read to choose what it gave,
+    /// counted as each is read; 0 before the first. It allocates nothing.
     pub fn looked(&self) -> u64
         ensures { result ≡ self.now.looked }
     {
         self.looked
     }
 
-    /// A step of a move task (`StartMessageMoveTask`) takes at most so many of the messages that
-    /// the queue may give out, in the order in which it gives them, each for the task's queue or
-    /// else for the one that it came from as a dead letter, up to the first that has nowhere to go.
-    /// Answers where each goes and its load, and what is left. The one error is `Memory`, which
-    /// leaves the queue as it was.
+    /// A step of a move task (`StartMessageMoveTask`). It takes out at most `max` of the messages
+    /// that the queue may give, in the order in which it gives them, up to the first without a
+    /// destination. Each goes to the task's queue, or else to the queue from which it came as a
+    /// dead letter. Returns each destination and load, and what is left.
+    ///
+    /// # Errors
+    ///
+    /// Only `Memory`, if memory runs out; the queue is then as it was.
     pub fn take_movable(
         &mut self,
         max: u64,
         to: Option<u32>,
     ) -> Result<(Vec<(u32, Load)>, Rest), Refusal>
-        ensures taken { IfOk result (λ answer. take_movable self.old.queue max to ≡ ((answer.0.items, answer.1), self.new.queue)) }
+        ensures taken { IfOk result (λ answer.
+            take_movable self.old.queue max to ≡ ((answer.0.items, answer.1), self.new.queue)) }
         ensures unchanged { OnErr result (self.new ≡ self.old) }
         ensures memory_only { IsOkUnless result Refusal.Memory }
         ensures kept { self.new.queue.entries ≡ self.old.queue.entries }

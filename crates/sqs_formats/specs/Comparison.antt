@@ -9,7 +9,7 @@ use Rattle.sqs_formats.specs.Report.{Column, columns}
 abbrev pub difference : ℕ → ℕ → List ℕ
 difference a b = if nat_le a b then decimal (b - a) else codes "-" ++ decimal (a - b)
 
--- the same, empty where either is
+-- the same, empty if either is absent
 abbrev pub difference_if : Option ℕ → Option ℕ → List ℕ
 difference_if (Some a) (Some b) = difference a b
 difference_if _ _ = []

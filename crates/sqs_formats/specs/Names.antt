@@ -11,7 +11,7 @@ is_letter_or_digit b = (nat_le 48 b && nat_le b 57) || (nat_le 65 b && nat_le b 
 abbrev pub is_name_byte : ℕ → Bool
 is_name_byte b = is_letter_or_digit b || nat_eq b 45 || nat_eq b 95
 
--- whether a text has so many bytes
+-- whether the length of a text is in a range
 abbrev pub has_length : ℕ → ℕ → List ℕ → Bool
 has_length low high s = nat_le low (length s) && nat_le (length s) high
 
@@ -19,12 +19,12 @@ has_length low high s = nat_le low (length s) && nat_le (length s) high
 abbrev pub is_agent_name : List ℕ → Bool
 is_agent_name s = has_length 1 80 s && list_all is_name_byte s
 
--- a queue is FIFO where its name ends so; the stem is what stands before it
+-- a queue is FIFO if its name ends so; the stem is what comes before that
 abbrev pub is_fifo : List ℕ → Bool
 is_fifo [] = false
 is_fifo (b ∷ bs) = bytes_eq (b ∷ bs) (codes ".fifo") || is_fifo bs
 
--- what stands before a queue's suffix
+-- the part of a queue's name before its suffix
 abbrev pub stem : List ℕ → List ℕ
 stem [] = []
 stem (b ∷ bs) = if bytes_eq (b ∷ bs) (codes ".fifo") then [] else b ∷ stem bs

@@ -1,4 +1,4 @@
--- What a rehearsal writes: the log, then finals and report; or the line of a refusal.
+-- What a rehearsal writes: the log, then finals and report; or the line of an error.
 use Rattle.std.specs.Prelude.{ℕ, List, [], ◌∷◌, ◌++◌, codes, take, length}
 use Rattle.std.specs.Fmt.{decimal}
 use Rattle.sim_clock.specs.Refusals.{refusal_code, refusal_name}
@@ -30,12 +30,12 @@ ending_of s r = finals_text s.names (finals_of r.sites) ++ report_text (report_o
 abbrev pub output_records : Scenario → Run → List (List (List ℕ))
 output_records s r = log_records s.names r.rows ++ (final_records s.names (finals_of r.sites) ++ report_records (report_of s r))
 
--- the place of a fault, where it has one
+-- the place of a fault, if it has one
 abbrev pub at_place : List ℕ → List ℕ
 at_place [] = []
 at_place (b ∷ bs) = codes " at " ++ (b ∷ bs)
 
--- the line of a scenario's fault, as in: refused 14 OutOfRange at queue[0].delay_s
+-- the line of a scenario's fault, for example: refused 14 OutOfRange at queue[0].delay_s
 abbrev pub fault_line : ScenarioFault → List ℕ
 fault_line f =
     codes "refused " ++ (decimal (refusal_code f.refusal) ++ (codes " " ++ (refusal_name f.refusal ++ (at_place f.place ++ codes "\n"))))

@@ -30,7 +30,7 @@ columns =
     ++ (codes "depth_max" ∷ codes "visible" ∷ codes "in_flight" ∷ codes "delayed" ∷ codes "age_sum" ∷ codes "age_max" ∷ codes "age_p50"
     ∷ codes "age_p95" ∷ codes "age_p99" ∷ [])
 
--- the column that counts a row, by its place: a refusal from 1 to 9 by its own, after the first nine
+-- the index of the column that counts a row; the columns of the errors 1 to 9 follow the first nine
 abbrev pub column : RowKind → RowAnswer → Option ℕ
 column kinds.Send answers.New = Some 0
 column kinds.Send answers.Repeat = Some 1
@@ -75,7 +75,7 @@ greatest ns = fold max 0 ns
 abbrev pub depth_max : List Row → ℕ
 depth_max rows = greatest (map depth (prefixes rows))
 
--- the age that a row tells, where it is one that counts
+-- the age in a row, if it is one that counts
 abbrev pub age_when : Bool → Detail → Option ℕ
 age_when true (details.Age ms) = Some ms
 age_when _ _ = None

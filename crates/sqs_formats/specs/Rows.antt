@@ -15,7 +15,7 @@ use Rattle.sqs_message.specs.declared.row.Detail.{Detail}
 use Rattle.sqs_message.specs.declared.row.Detail.TheVariants as details
 use Rattle.sqs_message.specs.Ids.{id_text, origin_text, receipt_text}
 
--- a record as a line of CSV, quoted where it has to be
+-- a record as a line of CSV, in quotes if it needs them
 abbrev pub line : List (List ℕ) → List ℕ
 line fields = row_text default_writer fields
 
@@ -31,12 +31,12 @@ Names = List (List ℕ)
 abbrev pub name_at : Names → ℕ → List ℕ
 name_at names n = get_or names n []
 
--- a text where there is something
+-- the text of something, if there is something
 abbrev pub text_if : {X : Type 0} → (X → List ℕ) → Option X → List ℕ
 text_if text None = []
 text_if text (Some x) = text x
 
--- the name of what a row tells of
+-- the name of a row's kind
 abbrev pub kind_text : RowKind → List ℕ
 kind_text kinds.Send = codes "send"
 kind_text kinds.Receive = codes "receive"

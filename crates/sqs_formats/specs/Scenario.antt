@@ -1,13 +1,16 @@
 -- The scenario of a text, or the first fault in it.
-use Rattle.std.specs.Prelude.{map, ◌++◌, ℕ, ◌+◌, ◌==◌, ◌||◌, nat_le, Bool, true, false, codes, if◌then◌else◌, List, [], ◌∷◌, length, filter_map, Option, Some, None, Result, Err}
+use Rattle.std.specs.Prelude.{map, ◌++◌, ℕ, ◌+◌, nat_le, Bool, true, false, codes, if◌then◌else◌, List, [], ◌∷◌, length, filter_map, Option, Some, None, Result, Ok, ok_or}
 use Rattle.std.specs.Str.{is_utf8}
 use Rattle.toml.specs.Data.{Data, Items, Members, get_member, as_array}
 use Rattle.toml.specs.Parse.{parse_document}
 use Rattle.sim_clock.specs.declared.refusal.Refusal.TheVariants.{NotToml, OutOfRange, TooMany}
 use Rattle.sqs_formats.specs.declared.faults.ScenarioFault.{ScenarioFault}
+use Rattle.sqs_model.specs.declared.agents.ActorSettings.{ActorSettings}
 use Rattle.sqs_model.specs.Scenario.{Scenario}
-use Rattle.sqs_formats.specs.Reading.{reads, needs, answer, ◌>>=◌}
-use Rattle.sqs_formats.specs.Keys.{Says, Table, KeyType, fault_at, only, integer, list_of, in_order, required, optional, each, text_in}
+use Rattle.sqs_redrive.specs.declared.settings.QueueSettings.{QueueSettings}
+use Rattle.sqs_redrive.specs.declared.settings.TaskSettings.{TaskSettings}
+use Rattle.sqs_formats.specs.Reading.{needs, ◌>>=◌}
+use Rattle.sqs_formats.specs.Keys.{Says, Table, fault_at, place_of, only, integer, list, in_order, required, optional, each, text_in}
 use Rattle.sqs_formats.specs.Names.{is_script_name}
 use Rattle.sqs_formats.specs.Outline.{Outline, outline_of}
 use Rattle.sqs_formats.specs.Queues.{queue, dead_letter}
@@ -28,29 +31,44 @@ pub record Top : Type 0 where
 abbrev pub top_keys : List (List ℕ)
 top_keys = codes "version" ∷ codes "horizon" ∷ codes "seed" ∷ codes "sample" ∷ codes "queue" ∷ codes "actor" ∷ codes "task" ∷ []
 
--- queues are 1 to 1,000; actors and tasks together, so many that stand before the list, are at most 10,000
-abbrev pub queue_list : KeyType (List Data)
-queue_list =
-    list_of (λ place ds. needs (nat_le 1 (length ds)) (fault_at OutOfRange place) ds
-    >>= (λ ds. needs (nat_le (length ds) 1000) (fault_at TooMany place) ds))
+-- there are 1 to 1,000 queues
+unfoldable pub queue_list : Table → Says (List Data)
+queue_list t = do
+  ds ← required list t (codes "queue")
+  some ← needs (nat_le 1 (length ds)) (fault_at OutOfRange (place_of t (codes "queue"))) ds
+  needs (nat_le (length ds) 1000) (fault_at TooMany (place_of t (codes "queue"))) ds
 
--- the list of actors, and that of tasks after so many actors
-abbrev pub agent_list : ℕ → KeyType (List Data)
-agent_list before = list_of (λ place ds. needs (nat_le (before + length ds) 10000) (fault_at TooMany place) ds)
+-- actors and tasks together, with those before the list, are at most 10,000
+unfoldable pub agent_list : ℕ → Table → List ℕ → Says (List Data)
+agent_list before t key = do
+  ds ← optional [] list t key
+  needs (nat_le (before + length ds) 10000) (fault_at TooMany (place_of t key)) ds
 
 -- what the top table says
-unfoldable pub top : Members → Says Top
-top ms = do
-  let t : Table = record { prefix = []; members = ms }
+unfoldable pub top : Table → Says Top
+top t = do
   known ← only top_keys t
   version ← required (integer 1 2) t (codes "version")
   horizon ← required (integer 1 2592000000) t (codes "horizon")
   seed ← optional 0 (integer 0 9223372036854775807) t (codes "seed")
   sample ← optional 0 (integer 0 2592000000) t (codes "sample")
-  queues ← required queue_list t (codes "queue")
-  actors ← optional [] (agent_list 0) t (codes "actor")
-  tasks ← optional [] (agent_list (length actors)) t (codes "task")
-  reads (record { version = version; horizon = horizon; seed = seed; sample = sample; queues = queues; actors = actors; tasks = tasks })
+  queues ← queue_list t
+  actors ← agent_list 0 t (codes "actor")
+  tasks ← agent_list (length actors) t (codes "task")
+  Ok (record { version = version; horizon = horizon; seed = seed; sample = sample; queues = queues; actors = actors; tasks = tasks })
+
+-- the scenario of a top table with its agents, each with its name
+abbrev pub whole : Top → List (List ℕ × QueueSettings) → List (List ℕ × ActorSettings) → List (List ℕ × TaskSettings) → Scenario
+whole top queues actors tasks =
+    record {
+      horizon = top.horizon;
+      seed = top.seed;
+      sample = top.sample;
+      queues = map (λ x. x.1) queues;
+      actors = map (λ x. x.1) actors;
+      tasks = map (λ x. x.1) tasks;
+      names = map (λ x. x.0) queues ++ (map (λ x. x.0) actors ++ map (λ x. x.0) tasks);
+    }
 
 -- all queues, then their dead-letter queues, then all actors, then all tasks
 unfoldable pub agents : Files → Top → Outline → Says Scenario
@@ -59,24 +77,13 @@ agents files top o = do
   judged ← each (codes "queue") (dead_letter o) 0 top.queues
   actors ← each (codes "actor") (actor files o) 0 top.actors
   tasks ← each (codes "task") (task o) 0 top.tasks
-  reads (record {
-    horizon = top.horizon;
-    seed = top.seed;
-    sample = top.sample;
-    queues = map (λ x. x.1) queues;
-    actors = map (λ x. x.1) actors;
-    tasks = map (λ x. x.1) tasks;
-    names = map (λ x. x.0) queues ++ (map (λ x. x.0) actors ++ map (λ x. x.0) tasks);
-  })
-
--- of a version that can't be read nothing more is asked
-abbrev pub by_version : Bool → Files → Top → Says Scenario
-by_version true files top = agents files top (outline_of top.version top.queues top.actors top.tasks)
-by_version false files top = reads (record { horizon = top.horizon; seed = top.seed; sample = top.sample; queues = []; actors = []; tasks = []; names = [] })
+  Ok (whole top queues actors tasks)
 
 -- what the whole document says
 unfoldable pub scenario_in : Files → Members → Says Scenario
-scenario_in files ms = top ms >>= (λ t. by_version (t.version == 1 || t.version == 2) files t)
+scenario_in files ms = do
+  top ← top (record { prefix = []; members = ms })
+  agents files top (outline_of top.version top.queues top.actors top.tasks)
 
 -- the document of a text that isn't too long
 abbrev pub document_when : Bool → List ℕ → Option Members
@@ -91,19 +98,12 @@ document text = document_when (is_utf8 text) text
 abbrev pub is_small : List ℕ → Bool
 is_small text = nat_le (length text) 16777216
 
--- the scenario of a document, or its first fault
-abbrev pub document_reads : Files → Option Members → Result Scenario ScenarioFault
-document_reads files None = Err (fault_at NotToml [])
-document_reads files (Some ms) = answer (scenario_in files ms)
-
--- the same of a text, where it is not too long
-abbrev pub scenario_when : Bool → Files → List ℕ → Result Scenario ScenarioFault
-scenario_when false files text = Err (fault_at TooMany [])
-scenario_when true files text = document_reads files (document text)
-
 -- the scenario of a text with its script files, or its first fault
 unfoldable pub scenario_of : Files → List ℕ → Result Scenario ScenarioFault
-scenario_of files text = scenario_when (is_small text) files text
+scenario_of files text = do
+  small ← needs (is_small text) (fault_at TooMany []) text
+  ms ← ok_or (document text) (fault_at NotToml [])
+  scenario_in files ms
 
 -- the names of script files that a text asks for
 abbrev pub list_or_none : Option Items → List Data

@@ -1,5 +1,5 @@
 -- A script: the calls of its records, or what is wrong with it.
-use Rattle.std.specs.Prelude.{ℕ, ◌+◌, ◌-◌, ◌*◌, ◌&&◌, nat_le, Bool, true, false, codes, if◌then◌else◌, List, [], ◌∷◌, ◌++◌, length, fold, find, Option, Some, None, is_some, unwrap_or}
+use Rattle.std.specs.Prelude.{ℕ, ◌+◌, ◌-◌, ◌*◌, ◌&&◌, nat_le, Bool, true, false, codes, if◌then◌else◌, List, [], ◌∷◌, length, fold, find, Option, Some, None, Result, Ok, Err, is_some, unwrap_or}
 use Rattle.std.specs.List.{list_all}
 use Rattle.std.specs.Fmt.{decimal}
 use Rattle.std.specs.Str.{bytes_eq, is_utf8}
@@ -12,10 +12,10 @@ use Rattle.sqs_message.specs.declared.calls.ScriptCall.{ScriptCall}
 use Rattle.sqs_formats.specs.declared.faults.ScriptFault.{ScriptFault}
 use Rattle.sqs_formats.specs.declared.home.Home.{Home}
 use Rattle.sqs_formats.specs.declared.home.HomeTask.{HomeTask}
-use Rattle.sqs_formats.specs.Reading.{Reading, reads, faulty, needs, ◌>>=◌}
+use Rattle.sqs_formats.specs.Reading.{needs, ◌>>=◌}
 use Rattle.sqs_formats.specs.Names.{has_length}
 
--- something, where a test holds
+-- something, if a test holds
 abbrev pub only_if : {X : Type 0} → Bool → X → Option X
 only_if true x = Some x
 only_if false x = None
@@ -32,7 +32,7 @@ number s = let n = digits_value s in only_if (bytes_eq (decimal n) s && nat_le n
 abbrev pub is_number : List ℕ → Bool
 is_number s = is_some (number s)
 
--- whether a number lies between two
+-- whether a number is from the one to the other
 abbrev pub is_between : ℕ → ℕ → Option ℕ → Bool
 is_between low high None = false
 is_between low high (Some n) = nat_le low n && nat_le n high
@@ -164,7 +164,7 @@ call_when home (Some f) = timed (number f.at) (call_in home f)
 unfoldable pub call_of : Home → List (List ℕ) → Option ScriptCall
 call_of home fields = call_when home (fields_of fields)
 
--- the first moment that the call after this one may have
+-- the seconds that the call after this one has to wait
 abbrev pub waits : Call → ℕ
 waits (Send body delay group id) = 0
 waits (Receive max wait timeout) = wait
@@ -173,10 +173,9 @@ waits (Change receipt timeout) = 0
 waits (Start task) = 0
 waits (Cancel task) = 0
 
--- the first moment that the call after this record may have
-abbrev pub free_after : ℕ → Option ScriptCall → ℕ
-free_after free None = free
-free_after free (Some c) = c.at + 1000 * waits c.call + 1
+-- the first moment that the call after this one may have
+abbrev pub free_after : ScriptCall → ℕ
+free_after c = c.at + 1000 * waits c.call + 1
 
 -- a fault of a record
 abbrev pub at_record : Refusal → ℕ → ScriptFault
@@ -186,18 +185,18 @@ at_record r n = record { refusal = r; number = Some n }
 abbrev pub whole : Refusal → ScriptFault
 whole r = record { refusal = r; number = None }
 
--- the calls of the records from number n on, none of them before the moment free
-abbrev pub call_at : ℕ → ℕ → Option ScriptCall → Reading ScriptFault (List ScriptCall)
-call_at n free None = faulty (at_record BadScript n) []
-call_at n free (Some c) = needs (nat_le free c.at) (at_record BadScript n) (c ∷ [])
+-- the call of a record, which may not be before the moment that is free
+abbrev pub call_at : ℕ → ℕ → Option ScriptCall → Result ScriptCall ScriptFault
+call_at n free None = Err (at_record BadScript n)
+call_at n free (Some c) = needs (nat_le free c.at) (at_record BadScript n) c
 
 -- the calls of the records from a number on, none before the moment that is free
-abbrev pub calls_from : Home → ℕ → ℕ → List (List (List ℕ)) → Reading ScriptFault (List ScriptCall)
-calls_from home n free [] = reads []
+abbrev pub calls_from : Home → ℕ → ℕ → List (List (List ℕ)) → Result (List ScriptCall) ScriptFault
+calls_from home n free [] = Ok []
 calls_from home n free (fields ∷ rows) = do
   call ← call_at n free (call_of home fields)
-  calls ← calls_from home (n + 1) (free_after free (call_of home fields)) rows
-  reads (call ++ calls)
+  calls ← calls_from home (n + 1) (free_after call) rows
+  Ok (call ∷ calls)
 
 -- the first record is the header
 abbrev pub same_fields : List (List ℕ) → List (List ℕ) → Bool
@@ -205,15 +204,22 @@ same_fields [] [] = true
 same_fields (x ∷ xs) (y ∷ ys) = bytes_eq x y && same_fields xs ys
 same_fields _ _ = false
 
--- the calls behind the header
-abbrev pub after_header : Home → List (List (List ℕ)) → Reading ScriptFault (List ScriptCall)
-after_header home [] = faulty (at_record BadScript 1) []
-after_header home (names ∷ rows) = needs (same_fields names header) (at_record BadScript 1) rows >>= calls_from home 2 0
+-- the calls after the header
+abbrev pub after_header : Home → List (List (List ℕ)) → Result (List ScriptCall) ScriptFault
+after_header home [] = Err (at_record BadScript 1)
+after_header home (names ∷ rows) = do
+  named ← needs (same_fields names header) (at_record BadScript 1) names
+  calls_from home 2 0 rows
 
--- the calls of a script's text
-unfoldable pub script : Home → List ℕ → Reading ScriptFault (List ScriptCall)
-script home text = do
-  small ← needs (nat_le (length text) 16777216) (whole TooMany) text
-  rows ← needs (nat_le (length (records default_config (strip_bom text))) 100001) (whole TooMany) (records default_config (strip_bom text))
+-- the calls of a script's records
+abbrev pub calls_of : Home → List ℕ → List (List (List ℕ)) → Result (List ScriptCall) ScriptFault
+calls_of home text rows = do
+  few ← needs (nat_le (length rows) 100001) (whole TooMany) rows
   utf8 ← needs (is_utf8 text) (whole BadScript) text
   after_header home rows
+
+-- the calls of a script's text
+unfoldable pub script : Home → List ℕ → Result (List ScriptCall) ScriptFault
+script home text = do
+  small ← needs (nat_le (length text) 16777216) (whole TooMany) text
+  calls_of home text (records default_config (strip_bom text))

@@ -1,7 +1,7 @@
 -- A move task of a scenario's text.
-use Rattle.std.specs.Prelude.{ℕ, ◌+◌, codes, List, ◌∷◌, length}
+use Rattle.std.specs.Prelude.{ℕ, ◌+◌, codes, List, ◌∷◌, length, Ok}
 use Rattle.sqs_redrive.specs.declared.settings.TaskSettings.{TaskSettings}
-use Rattle.sqs_formats.specs.Reading.{reads, ◌>>=◌}
+use Rattle.sqs_formats.specs.Reading.{◌>>=◌}
 use Rattle.sqs_formats.specs.Keys.{Says, Table, only, integer, required, optional, maybe}
 use Rattle.sqs_formats.specs.Names.{is_agent_name}
 use Rattle.sqs_formats.specs.Outline.{Outline, name_of, source_named, other_kin_named}
@@ -20,4 +20,4 @@ task o index t = do
   to ← maybe (other_kin_named o home) t (codes "to")
   per_second ← optional 500 (integer 1 500) t (codes "per_second")
   within ← latency o.version t
-  reads (name, record { home = home; to = to; per_second = per_second; latency = within })
+  Ok (name, record { home = home; to = to; per_second = per_second; latency = within })

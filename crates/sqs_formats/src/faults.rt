@@ -1,17 +1,17 @@
-//! What is wrong with a scenario or a script.
+//! The faults of a scenario or a script.
 use sim_clock::Refusal;
 use sqs_message::Text;
 
-/// A refusal from 10 to 20, and the place in the scenario that it is about, as in
-/// `queue[2].delay_s`; the place is empty where it is about the whole text.
+/// An error from 10 to 20, and the place in the scenario that it is about, as in
+/// `queue[2].delay_s`. The place is empty if the error is about the whole text.
 #[derive(Drop)]
 pub struct ScenarioFault {
     pub refusal: Refusal,
     pub place: Text,
 }
 
-/// A refusal of a script, and the number of the CSV record that it is about, the header being 1;
-/// none where it is about the whole script.
+/// An error of a script, and the number of the CSV record that it is about; the header is record 1.
+/// There is no number if the error is about the whole script.
 #[derive(Clone, Copy, Debug, PartialEq, Eq)]
 pub struct ScriptFault {
     pub refusal: Refusal,

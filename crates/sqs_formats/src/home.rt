@@ -1,4 +1,4 @@
-//! What the reader of a script has to know of the queue that it calls.
+//! What the reader of a script needs to know of the queue that the script calls.
 use sqs_message::{Listed, Text};
 
 /// A move task that a script may start or cancel.
@@ -12,7 +12,7 @@ pub struct HomeTask {
 /// The move tasks of one queue.
 pub type HomeTasks = Listed<HomeTask>;
 
-/// The home of a script's actor.
+/// The queue of a script's actor.
 #[derive(Drop)]
 pub struct Home {
     /// Whether the queue is FIFO.

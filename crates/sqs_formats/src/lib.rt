@@ -1,11 +1,14 @@
-//! The definitions of the texts: scenario and scripts in; log, finals, report and comparison out.
-//! They stand in `specs/`; here are the types of what is wrong with a text, and a law.
+//! The definitions of the texts. Scenario and scripts are read; log, finals, report and comparison
+//! are written. The definitions are in `specs/`. The code has the types of the faults of a text,
+//! and a law.
 #![tactic(auto)]
 
+mod actor_kind;
 mod faults;
 mod home;
 mod laws;
 
+pub use actor_kind::ActorKind;
 pub use faults::{ScenarioFault, ScriptFault};
 pub use home::{Home, HomeTask, HomeTasks};
 pub use laws::lines_join;

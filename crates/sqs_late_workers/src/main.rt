@@ -1,10 +1,10 @@
-//! A rehearsal whose workers are late: after each piece of work a worker gives way a thousand times
-//! before it hands the piece back. A test of the gate: what the program writes must not depend on
-//! how long workers take, and want of memory must end it with all workers joined.
+//! A rehearsal whose workers are late: after each piece of work a worker yields a thousand times
+//! before it hands the piece back. It tests the gate: what the program writes must not depend on
+//! how long workers take, and running out of memory must end it with all workers joined.
 //!
-//! Reads the scenario of three queues from standard input, rehearses it with three workers, each queue
-//! in a partition of its own, and writes log and ending to standard output. The status is 0, or
-//! the number of the refusal.
+//! It reads the scenario of three queues from standard input and rehearses it with three workers,
+//! each queue in a partition of its own. It writes log and ending to standard output. The status is
+//! 0, or the number of the error.
 #![tactic(auto)]
 
 ghost use Rattle.std.specs.Process.{exit_status};
@@ -12,10 +12,9 @@ ghost use Rattle.std.specs.Prelude.{◌≡◌};
 ghost use Rattle.sqs_late_workers.specs.Statuses.{status_of};
 
 use sim_clock::Refusal;
-use sim_engine::Site;
 use sim_records::ToWriter;
 use sim_scenario::Scripts;
-use sim_workers::{Done, Gate, Piece, Running};
+use sim_workers::Pause;
 use sqs_rehearsal::{Fault, Options, rehearse};
 use std::alloc::{AllocError, Global};
 use std::io::Read;
@@ -23,34 +22,26 @@ use std::process::ExitCode;
 use std::sync::Wait;
 use std::thread::{Threads, yield_now};
 
-// The most bytes of a scenario.
+// The greatest length of a scenario, in bytes.
 const MOST_BYTES: usize = 4096;
 
-// How often a worker gives way after a piece.
+// How often a worker yields after a piece.
 const TURNS: u32 = 1000;
 
 // A gate that is late.
 struct Late;
 
-impl<S: Site + Send> Gate<Running<S>> for Late
-where
-    S::Row: Send,
-    S::Transfer: Send,
-{
-    ghost use Rattle.sim_windows.specs.Rounds.{Comes};
+impl Pause for Late {
+    fn before(&self) {}
 
-    fn run<R: Wait>(&self, _rt: &R, _part: usize, piece: Piece<S>) -> Done<S>
-        ensures { Comes S.engine S.conditions piece.bound piece.part result.outcome }
-    {
-        let done = piece.run();
+    fn after(&self, _rows: u64) {
         for _ in 0..TURNS {
             yield_now();
         }
-        done
     }
 }
 
-// How the three queues are split: each in a partition of its own, over three workers.
+// The split of the three queues: each in a partition of its own, with three workers.
 fn apart(alloc: Global) -> Result<Options, AllocError> {
     Ok(Options {
         window: None,
@@ -60,7 +51,7 @@ fn apart(alloc: Global) -> Result<Options, AllocError> {
     })
 }
 
-// The status of a fault: the number of its refusal.
+// The status of a fault: the number of its error.
 fn status(fault: &Fault) -> u8
     ensures { result ≡ status_of fault.now }
 {

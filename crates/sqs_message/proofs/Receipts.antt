@@ -6,7 +6,7 @@ use Rattle.std.specs.List.{before_first, after_first}
 use Rattle.std.specs.Fmt.{decimal}
 use Rattle.std.specs.Str.Parse.{digits_value}
 use Rattle.std.proofs.lemmas.Fmt.{IsAscii-decimal, decimal_is_IsNumeral}
-use Rattle.std.proofs.lemmas.Bool.{false≢true, ltb-true, lt-ltb}
+use Rattle.std.proofs.lemmas.Bool.{and_parts, false≢true, lt-ltb, ltb-true}
 use Rattle.std.proofs.lemmas.Bool.Decides.{nat_tests}
 use Rattle.std.proofs.lemmas.Slice.Eq.{bytes_eq-Decides}
 use Rattle.std.proofs.lemmas.Str.{IsAscii-append, IsUtf8-from_ascii}
@@ -53,18 +53,14 @@ fits_true : (r : Receipt) → Fits r → fits r ≡ true
 fits_true r f =
     all_true _ _ _ _ (lt-ltb r.site (2 ^ 32) f.site) (lt-ltb r.number (2 ^ 62) f.number) (lt-ltb r.count (2 ^ 62) f.count) (grind (arith, nat_tests, f.first))
 
-both : (a b : Bool) → (a && b) ≡ true → (a ≡ true) × (b ≡ true)
-both true b h = (refl, h)
-both false b h = absurd (false≢true h)
-
 le_true : (b : ℕ) → nat_le 1 b ≡ true → 1 ≤ b
 le_true b h = grind (arith, nat_tests, h)
 
 true_fits : (r : Receipt) → fits r ≡ true → Fits r
 true_fits r h =
-    let first = both (nat_lt r.site (2 ^ 32) && nat_lt r.number (2 ^ 62) && nat_lt r.count (2 ^ 62)) (nat_le 1 r.count) h in
-    let count = both (nat_lt r.site (2 ^ 32) && nat_lt r.number (2 ^ 62)) (nat_lt r.count (2 ^ 62)) first.0 in
-    let number = both (nat_lt r.site (2 ^ 32)) (nat_lt r.number (2 ^ 62)) count.0 in
+    let first = and_parts (nat_lt r.site (2 ^ 32) && nat_lt r.number (2 ^ 62) && nat_lt r.count (2 ^ 62)) (nat_le 1 r.count) h in
+    let count = and_parts (nat_lt r.site (2 ^ 32) && nat_lt r.number (2 ^ 62)) (nat_lt r.count (2 ^ 62)) first.0 in
+    let number = and_parts (nat_lt r.site (2 ^ 32)) (nat_lt r.number (2 ^ 62)) count.0 in
     record { site = ltb-true _ _ number.0; number = ltb-true _ _ number.1; count = ltb-true _ _ count.1; first = le_true r.count first.1 }
 
 two_true : (a b : Bool) → a ≡ true → b ≡ true → (a && b) ≡ true
@@ -89,7 +85,7 @@ pub text_read : (text : List ℕ) (r : Receipt) → read_receipt text ≡ Some r
 text_read text r e =
     let q : Receipt = numbers_in (drop 2 text) in
     let h = chosen_back (fits (numbers_in (drop 2 text)) && bytes_eq (receipt_text (numbers_in (drop 2 text))) text) (numbers_in (drop 2 text)) r e in
-    let k = both (fits (numbers_in (drop 2 text))) (bytes_eq (receipt_text (numbers_in (drop 2 text))) text) h.0 in
+    let k = and_parts (fits (numbers_in (drop 2 text))) (bytes_eq (receipt_text (numbers_in (drop 2 text))) text) h.0 in
     let f : Fits r = subst Fits h.1 (true_fits (numbers_in (drop 2 text)) k.0) in
     let t : receipt_text (numbers_in (drop 2 text)) ≡ text = (bytes_eq-Decides (receipt_text (numbers_in (drop 2 text))) text).0 k.1 in
     (f, sym t ∙ ap receipt_text h.1)

@@ -35,7 +35,7 @@ fits r = nat_lt r.site (2 ^ 32) && nat_lt r.number (2 ^ 62) && nat_lt r.count (2
 abbrev pub is_dash : ℕ → Bool
 is_dash b = b == 45
 
--- the numbers that stand in a text and in what follows its first dash
+-- the number in a text, and those in what follows its first dash
 abbrev pub numbers_between : List ℕ → List ℕ → Receipt
 numbers_between text rest =
     record {
@@ -44,7 +44,7 @@ numbers_between text rest =
       count = digits_value 10 (after_first is_dash rest);
     }
 
--- the three numbers that stand in a text between its dashes
+-- the three numbers in a text between its dashes
 abbrev pub numbers_in : List ℕ → Receipt
 numbers_in text = numbers_between text (after_first is_dash text)
 

@@ -12,7 +12,7 @@ pub enum Call {
         group: Option<Text>,
         id: Option<Text>,
     },
-    /// `ReceiveMessage`. A wait of 0 is a short poll; without a timeout the queue's holds.
+    /// `ReceiveMessage`. A wait of 0 is a short poll. Without a timeout, the queue's is used.
     Receive {
         max: u64,
         wait: u64,
@@ -27,17 +27,17 @@ pub enum Call {
         receipt: Text,
         timeout: u64,
     },
-    /// `StartMessageMoveTask`, by the task's agent number.
+    /// `StartMessageMoveTask`; the task is given by its agent number.
     Start {
         task: u32,
     },
-    /// `CancelMessageMoveTask`, by the task's agent number.
+    /// `CancelMessageMoveTask`; the task is given by its agent number.
     Cancel {
         task: u32,
     },
 }
 
-/// A call of a script and when it is made, in milliseconds.
+/// A call of a script, and when it is made, in milliseconds.
 #[derive(Drop)]
 pub struct ScriptCall {
     pub at: u64,

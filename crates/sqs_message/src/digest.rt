@@ -6,7 +6,7 @@ ghost use Rattle.sha2.specs.Sha256.{sha256 as sha256_of};
 use md5::{Digest as Md5Digest, Md5};
 use sha2::{Digest as Sha2Digest, Sha256};
 
-/// The MD5 of a body (RFC 1321), as SQS answers it in `MD5OfMessageBody`.
+/// The MD5 of a body (RFC 1321), which SQS returns in `MD5OfMessageBody`.
 pub fn body_md5(body: &[u8]) -> [u8; 16]
     ensures { result ≡ md5_of body.now }
 {

@@ -1,10 +1,10 @@
-//! Receipt handles as calls give them.
+//! Receipt handles in calls.
 use crate::ids::Receipt;
 use crate::text::Text;
 use std::marker::Model;
 use std::str;
 
-/// What a receipt handle was made of.
+/// The source of a receipt handle.
 #[derive(Drop)]
 pub enum HandleForm {
     /// A receipt that a receive made.
@@ -13,8 +13,7 @@ pub enum HandleForm {
     Text(Text),
 }
 
-/// A receipt handle as a call gives it: one that a receive made, or any text. Contracts see its
-/// text.
+/// A receipt handle in a call: one that a receive made, or any text. Contracts see its text.
 #[derive(Drop)]
 pub struct ReceiptHandle {
     form: HandleForm,
@@ -34,14 +33,14 @@ impl ReceiptHandle {
     ghost use Rattle.sqs_message.specs.Handles.{handle_text};
     ghost use Rattle.sqs_message.specs.Ids.{read_receipt};
 
-    /// What it was made of.
+    /// The source of the handle.
     pub fn form(&self) -> &HandleForm
         ensures { handle_text result.now ≡ self.now }
     {
         &self.form
     }
 
-    /// The receipt that its text is, if it is one.
+    /// The receipt that the handle's text stands for, if it is one.
     pub fn receipt(&self) -> Option<Receipt>
         ensures { result ≡ read_receipt self.now }
     {

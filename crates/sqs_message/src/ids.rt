@@ -1,4 +1,4 @@
-//! Ids of messages, their origins and receipts, and how each is written.
+//! Ids of messages, their origins and receipts, and their texts.
 ghost use Rattle.std.specs.Prelude.{◌≡◌, ◌<◌, ◌^◌, ℕ, List, ◌++◌, ◌∷◌, IfOk, IfSome, IsSomeAnd, Some, codes, string_bytes};
 ghost use Rattle.std.specs.Fmt.{decimal};
 ghost use Rattle.sqs_message.specs.Ids.{HasNoDash, is_plain};
@@ -17,7 +17,11 @@ pub struct MessageId {
 impl MessageId {
     ghost use Rattle.sqs_message.specs.Ids.{id_text};
 
-    /// Its text, as in `m-0-12`. The one error is want of memory.
+    /// Its text, as in `m-0-12`.
+    ///
+    /// # Errors
+    ///
+    /// `AllocError` if memory runs out.
     pub fn text(&self, alloc: Global) -> Result<String, AllocError>
         ensures { IfOk result (λ s. string_bytes s ≡ id_text self.now) }
     {
@@ -25,8 +29,8 @@ impl MessageId {
     }
 }
 
-/// Where a message was first accepted, which it keeps over redrives and moves:
-/// `o-SITE-NUMBER`.
+/// Where a message was first accepted: `o-SITE-NUMBER`. The message keeps it over redrives and
+/// moves.
 #[derive(Clone, Copy, Debug, PartialEq, Eq)]
 pub struct Origin {
     /// The number of the queue that accepted it.
@@ -38,7 +42,11 @@ pub struct Origin {
 impl Origin {
     ghost use Rattle.sqs_message.specs.Ids.{origin_text};
 
-    /// Its text, as in `o-0-12`. The one error is want of memory.
+    /// Its text, as in `o-0-12`.
+    ///
+    /// # Errors
+    ///
+    /// `AllocError` if memory runs out.
     pub fn text(&self, alloc: Global) -> Result<String, AllocError>
         ensures { IfOk result (λ s. string_bytes s ≡ origin_text self.now) }
     {
@@ -61,15 +69,19 @@ impl Receipt {
     ghost use Rattle.sqs_message.specs.Ids.{Fits, receipt_text, read_receipt};
     ghost use Rattle.sqs_message.specs.declared.ids.Receipt.{Receipt};
 
-    /// Its text, as in `r-0-12-1`. The one error is want of memory.
+    /// Its text, as in `r-0-12-1`.
+    ///
+    /// # Errors
+    ///
+    /// `AllocError` if memory runs out.
     pub fn text(&self, alloc: Global) -> Result<String, AllocError>
         ensures { IfOk result (λ s. string_bytes s ≡ receipt_text self.now) }
     {
         format!(in alloc; "r-{}-{}-{}", self.site, self.number, self.count)
     }
 
-    /// The receipt that a text is: numbers in decimal without leading zeros, the site below 2^32,
-    /// the others below 2^62, the count at least 1. No other text is one.
+    /// The receipt with a text: numbers in decimal without leading zeros, the site below 2^32, the
+    /// others below 2^62, the count at least 1. No other text is a receipt.
     pub fn read(text: &str) -> Option<Receipt>
         ensures sound { IfSome result (λ r. Fits r × (text.now ≡ receipt_text r)) }
         ensures complete { (r : Receipt) → Fits r → text.now ≡ receipt_text r → result ≡ Some r }
@@ -78,7 +90,7 @@ impl Receipt {
         Receipt::read_numbers(text)
     }
 
-    // The receipt that its text is: itself, where `read` knows its numbers.
+    // The receipt with its text: itself, if its numbers are in the ranges of `read`.
     pub(crate) fn fitting(self) -> Option<Receipt>
         ensures { result ≡ read_receipt (receipt_text self) }
     {
@@ -105,10 +117,12 @@ impl Receipt {
         }
     }
 
-    // The receipt of three numbers, where they fit.
+    // The receipt with three numbers, if they are in range.
     fn within(site: u64, number: u64, count: u64) -> Option<Receipt>
-        ensures sound { IfSome result (λ r. Fits r × (r.site ≡ site) × (r.number ≡ number) × (r.count ≡ count)) }
-        ensures complete { (r : Receipt) → Fits r → r.site ≡ site → r.number ≡ number → r.count ≡ count → result ≡ Some r }
+        ensures sound { IfSome result
+            (λ r. Fits r × (r.site ≡ site) × (r.number ≡ number) × (r.count ≡ count)) }
+        ensures complete { (r : Receipt) → Fits r → r.site ≡ site → r.number ≡ number
+            → r.count ≡ count → result ≡ Some r }
     {
         if site < 1 << 32 && number < 1 << 62 && 1 <= count && count < 1 << 62 {
             Some(Receipt {
@@ -122,7 +136,7 @@ impl Receipt {
     }
 }
 
-// Whether a text begins as a decimal number does: no sign, and no zero before other digits.
+// Whether a text begins like a decimal number: no sign, and no zero before other digits.
 fn is_plain(text: &[u8]) -> bool
     ensures { result ≡ is_plain text.now }
 {
@@ -130,7 +144,7 @@ fn is_plain(text: &[u8]) -> bool
     0 < length && (b'0' < text[0] || (text[0] == b'0' && length == 1))
 }
 
-// The number that a text is in decimal, without a leading zero.
+// The number with a decimal text, which has no leading zero.
 fn number(text: &str) -> Option<u64>
     ensures sound { IfSome result (λ n. text.now ≡ decimal n) }
     ensures complete { (n : ℕ) → n < 2 ^ 64 → text.now ≡ decimal n → result ≡ Some n }
@@ -144,10 +158,11 @@ fn number(text: &str) -> Option<u64>
     }
 }
 
-// The two parts of a text round its first dash.
+// The parts of a text before and after its first dash.
 fn parts(text: &str) -> Option<(&str, &str)>
     ensures sound { IfSome result (λ p. text.now ≡ p.0.now ++ 45 ∷ p.1.now) }
-    ensures complete { (front back : List ℕ) → HasNoDash front → text.now ≡ front ++ 45 ∷ back → IsSomeAnd result (λ p. (p.0.now ≡ front) × (p.1.now ≡ back)) }
+    ensures complete { (front back : List ℕ) → HasNoDash front → text.now ≡ front ++ 45 ∷ back
+        → IsSomeAnd result (λ p. (p.0.now ≡ front) × (p.1.now ≡ back)) }
 {
     text.split_once('-')
 }
@@ -156,7 +171,8 @@ fn parts(text: &str) -> Option<(&str, &str)>
 #[tactic(auto, using(crate::proofs::Dashes::decimal_no_dash))]
 fn numbered(text: &str) -> Option<(u64, &str)>
     ensures sound { IfSome result (λ p. text.now ≡ decimal p.0 ++ 45 ∷ p.1.now) }
-    ensures complete { (n : ℕ) (rest : List ℕ) → n < 2 ^ 64 → text.now ≡ decimal n ++ 45 ∷ rest → IsSomeAnd result (λ p. (p.0 ≡ n) × (p.1.now ≡ rest)) }
+    ensures complete { (n : ℕ) (rest : List ℕ) → n < 2 ^ 64 → text.now ≡ decimal n ++ 45 ∷ rest
+        → IsSomeAnd result (λ p. (p.0 ≡ n) × (p.1.now ≡ rest)) }
 {
     match parts(text) {
         None => None,
@@ -167,10 +183,11 @@ fn numbered(text: &str) -> Option<(u64, &str)>
     }
 }
 
-// What follows `r-`.
+// The text after `r-`.
 fn after_mark(text: &str) -> Option<&str>
     ensures sound { IfSome result (λ s. text.now ≡ codes "r-" ++ s.now) }
-    ensures complete { (rest : List ℕ) → text.now ≡ codes "r-" ++ rest → IsSomeAnd result (λ s. s.now ≡ rest) }
+    ensures complete { (rest : List ℕ) → text.now ≡ codes "r-" ++ rest
+        → IsSomeAnd result (λ s. s.now ≡ rest) }
 {
     text.strip_prefix("r-")
 }

@@ -1,7 +1,7 @@
 //! Lists of items.
 use std::marker::Model;
 
-/// Some items in order. Contracts see it as the list of them, whatever memory holds it.
+/// Items in order. Contracts see the list of them, whatever memory holds it.
 #[derive(Drop)]
 pub struct Listed<T> {
     items: Vec<T>,
@@ -18,21 +18,21 @@ impl<T> Model for Listed<T> {
 impl<T: Drop> Listed<T> {
     ghost use Rattle.std.specs.Prelude.{◌≡◌};
 
-    /// The list of these.
+    /// A list of these items.
     pub fn new(items: Vec<T>) -> Listed<T>
         ensures { result ≡ items.items }
     {
         Listed { items }
     }
 
-    /// All of them, in order.
+    /// All items, in order.
     pub fn as_slice(&self) -> &[T]
         ensures { result.now ≡ self.now }
     {
         self.items.as_slice()
     }
 
-    /// All of them, given back.
+    /// All items, as the `Vec` that holds them.
     pub fn into_vec(self) -> Vec<T>
         ensures { result.items ≡ self }
     {

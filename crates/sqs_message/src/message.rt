@@ -1,8 +1,8 @@
-//! Messages as they stand in a queue.
+//! Messages in a queue.
 use crate::ids::Origin;
 use crate::text::Text;
 
-/// Where in its queue a message stands.
+/// The state of a message in its queue.
 #[derive(Clone, Copy, Debug, PartialEq, Eq)]
 pub enum Place {
     /// Not yet visible for the first time (Developer Guide: delay queues, message timers).
@@ -20,13 +20,13 @@ pub struct Message {
     pub number: u64,
     /// Where it was first accepted.
     pub origin: Origin,
-    /// What was sent.
+    /// The body that was sent.
     pub body: Text,
     /// Its message group, on a FIFO queue.
     pub group: Option<Text>,
     /// Its enqueue time, from which its retention counts.
     pub enqueued: u64,
-    /// Where in the queue it stands.
+    /// Whether it is delayed, visible or in flight.
     pub place: Place,
     /// When its delay or visibility timeout ends; none while it is visible.
     pub release: Option<u64>,

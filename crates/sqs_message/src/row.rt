@@ -3,7 +3,7 @@ use crate::handle::ReceiptHandle;
 use crate::ids::{MessageId, Origin, Receipt};
 use sim_clock::{Key, Refusal};
 
-/// What a row tells of: a call of an actor, or what a queue or task did by itself.
+/// What a row reports: a call of an actor, or an event of a queue or task.
 #[derive(Clone, Copy, Debug, PartialEq, Eq)]
 pub enum RowKind {
     Send,
@@ -12,7 +12,7 @@ pub enum RowKind {
     Change,
     /// A consumer failed to serve a message.
     Fail,
-    /// A consumer sent a served message on.
+    /// A consumer forwarded a message that it had served.
     Forward,
     Start,
     Cancel,
@@ -30,7 +30,7 @@ pub enum RowKind {
     Sample,
 }
 
-/// How it went.
+/// The outcome that a row reports.
 #[derive(Clone, Copy, Debug, PartialEq, Eq)]
 pub enum RowAnswer {
     /// A message was accepted.
@@ -53,7 +53,7 @@ pub enum RowAnswer {
     Expired,
     Completed,
     Failed,
-    /// One of the refusals 1 to 9.
+    /// One of the errors 1 to 9.
     Refused(Refusal),
 }
 
@@ -83,9 +83,9 @@ pub enum Detail {
     Queue(u32),
     /// The task's agent number.
     Task(u32),
-    /// How many messages a task moved.
+    /// The number of messages that a task moved.
     Moved(u64),
-    /// How many messages of a queue are where.
+    /// The number of a queue's messages in each state.
     Counts {
         visible: u64,
         in_flight: u64,
@@ -96,11 +96,11 @@ pub enum Detail {
 /// A row of the log.
 #[derive(Drop)]
 pub struct Row {
-    /// The key of the entry whose handling made the row; its moment stands in the log.
+    /// The key of the entry whose handling made the row. The log has its moment.
     pub key: Key,
-    /// The number of the queue where it happened.
+    /// The number of the queue of the row.
     pub queue: u32,
-    /// The number of the agent that did it.
+    /// The number of the agent that acted.
     pub agent: u32,
     pub kind: RowKind,
     pub answer: RowAnswer,

@@ -11,8 +11,8 @@ use std::alloc::{AllocError, Global};
 use std::hash::{Hash, Hasher};
 use std::marker::Model;
 
-/// The bytes of a text, which contracts see as a list. It is made from a `Vec` and given back as
-/// one without taking memory.
+/// The bytes of a text, which contracts see as a list. It is made from a `Vec` and converted back
+/// to one without an allocation.
 #[derive(Drop)]
 pub struct Text {
     bytes: Vec<u8>,
@@ -27,7 +27,7 @@ impl Model for Text {
 }
 
 impl Text {
-    /// The text of these bytes.
+    /// The text with these bytes.
     pub fn new(bytes: Vec<u8>) -> Text
         ensures { result ≡ bytes.items }
     {
@@ -41,14 +41,18 @@ impl Text {
         self.bytes.as_slice()
     }
 
-    /// Its bytes, given back.
+    /// Its bytes, as the `Vec` that holds them.
     pub fn into_bytes(self) -> Vec<u8>
         ensures { result.items ≡ self }
     {
         self.bytes
     }
 
-    /// Another text of the same bytes. The one error is want of memory.
+    /// A text with the same bytes.
+    ///
+    /// # Errors
+    ///
+    /// `AllocError` if memory runs out.
     pub fn copy(&self, alloc: Global) -> Result<Text, AllocError>
         ensures { IfOk result (λ t. t ≡ self.now) }
     {
@@ -57,7 +61,11 @@ impl Text {
         })
     }
 
-    /// Another text of the same bytes as this one, if there is one. The one error is want of memory.
+    /// A text with the same bytes as this one, if there is one.
+    ///
+    /// # Errors
+    ///
+    /// `AllocError` if memory runs out.
     pub fn copy_of(alloc: Global, text: Option<&Text>) -> Result<Option<Text>, AllocError>
         ensures { IfOk result (λ copy. copy ≡ option_copied text.entry) }
     {

@@ -7,6 +7,7 @@ use Rattle.std.proofs.lemmas.List.Elements.{All-cons, All-head, All-nil, All-tai
 use Rattle.sim_clock.specs.Firsts.{changed, without}
 use Rattle.sim_clock.specs.Order.{least}
 use Rattle.sim_clock.specs.declared.key.Key.{Key}
+use Rattle.sim_clock.proofs.Lists.{absent_without}
 use Rattle.sim_index.specs.declared.mark.Mark.{Mark}
 use Rattle.sim_index.specs.Marks.{meets}
 use Rattle.sqs_message.specs.declared.message.Message.{Message}
@@ -104,14 +105,6 @@ some_read None None e = refl
 some_read None (Some s) e = cc
 some_read (Some m) None e = cc
 some_read (Some m) (Some s) e = refl
-
-pub absent_without : {A : Type 0} (p : A → Bool) (xs : List A) → find p xs ≡ None → without p xs ≡ xs
-absent_without p [] e = refl
-absent_without p (y ∷ ys) e = by (absent_without p ys) (p y) refl
-  where
-    by : (find p ys ≡ None → without p ys ≡ ys) → (b : Bool) → p y ≡ b → (if p y then ys else y ∷ without p ys) ≡ y ∷ ys
-    by ih true t = let no : Some y ≡ None = sym (ap (λ b. cond b (Some y) (find p ys)) t) ∙ e in cc
-    by ih false t = ap (λ b. if b then ys else y ∷ without p ys) t ∙ ap (λ zs. y ∷ zs) (ih (sym (ap (λ b. cond b (Some y) (find p ys)) t) ∙ e))
 
 pub filter_few : (p : Message → Bool) (ms : List Message) → length (filter p ms) ≤ length ms
 filter_few p [] = omega arith

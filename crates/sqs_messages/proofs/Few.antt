@@ -3,7 +3,7 @@ use Rattle.std.proofs.Common.{◌≡◌, ℕ, ◌+◌, ◌<◌, ◌≤◌, inl, 
 use Rattle.std.specs.Prelude.{All, count_by, min, not, ◌≢◌}
 use Rattle.std.specs.List.{AllByRecursion, IsDistinct, list_any}
 use Rattle.std.proofs.Math.Nat.{min-eq_left, min-eq_right}
-use Rattle.std.proofs.lemmas.Bool.{cases_lt}
+use Rattle.std.proofs.lemmas.Bool.{cases_lt, or_right}
 use Rattle.std.proofs.lemmas.Bool.Decides.{nat_tests}
 use Rattle.std.proofs.lemmas.Cmp.{nat_eq_equiv}
 use Rattle.std.proofs.lemmas.List.{length-map, take_all}
@@ -45,16 +45,12 @@ unfolding IsDistinct
 distinct [] h = tt
 distinct (m ∷ ms) h = (other_numbers m.number ms h.0, distinct ms h.1)
 
-or_true : (a b : Bool) → b ≡ true → (a || b) ≡ true
-or_true true b e = refl
-or_true false b e = e
-
 own_numbers : (ms : List Message) → All (λ m. IsAmong (numbers ms) m.number) ms
 own_numbers [] = All-nil (λ (m : Message). IsAmong [] m.number)
 own_numbers (m ∷ ms) =
     let first : nat_eq m.number m.number ≡ true = grind (arith, nat_tests) in
     All-cons (λ (x : Message). IsAmong (numbers (m ∷ ms)) x.number) m ms (ap (λ b. b || list_any (nat_eq m.number) (numbers ms)) first)
-    (All-weaker (λ (x : Message). IsAmong (numbers ms) x.number) (λ (x : Message). IsAmong (numbers (m ∷ ms)) x.number) (λ x e. or_true (nat_eq x.number m.number) (list_any (nat_eq x.number) (numbers ms)) e) ms (own_numbers ms))
+    (All-weaker (λ (x : Message). IsAmong (numbers ms) x.number) (λ (x : Message). IsAmong (numbers (m ∷ ms)) x.number) (λ x e. or_right (nat_eq x.number m.number) (list_any (nat_eq x.number) (numbers ms)) e) ms (own_numbers ms))
 
 among : (q : ℕ) (ns : List ℕ) (ms : List Message) → All (λ m. IsAmong ns m.number) ms → IsAmong (numbers ms) q → IsAmong ns q
 among q ns [] h e = cc

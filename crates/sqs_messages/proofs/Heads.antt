@@ -3,6 +3,8 @@ use Rattle.std.proofs.Common.{◌≡◌, ℕ, Bool, true, false, List, [], ◌�
 use Rattle.std.specs.Prelude.{All}
 use Rattle.std.proofs.lemmas.List.Elements.{All-head, All-tail}
 use Rattle.sim_clock.specs.Firsts.{kept_when}
+use Rattle.std.proofs.lemmas.Bool.{or_right}
+use Rattle.sim_clock.proofs.Booleans.{or_first, or_second}
 use Rattle.sqs_message.specs.declared.message.Message.{Message}
 use Rattle.sqs_message.specs.declared.message.Place.{Place}
 use Rattle.sqs_message.specs.declared.message.Place.TheVariants as places
@@ -14,23 +16,11 @@ use Rattle.sqs_messages.specs.Heads.{any_delayed, any_in, any_out, heads_from, i
 Group : Type 0
 Group = Option (List ℕ)
 
-or_right : (a b : Bool) → a ≡ false → (a || b) ≡ b
-or_right a b e = ap (λ c. c || b) e
+or_rest : (a b : Bool) → a ≡ false → (a || b) ≡ b
+or_rest a b e = ap (λ c. c || b) e
 
 or_left : (a b : Bool) → a ≡ true → (a || b) ≡ true
 or_left a b e = ap (λ c. c || b) e
-
-or_last : (a b : Bool) → b ≡ true → (a || b) ≡ true
-or_last true b e = refl
-or_last false b e = e
-
-none_left : (a b : Bool) → (a || b) ≡ false → a ≡ false
-none_left true b e = e
-none_left false b e = refl
-
-none_right : (a b : Bool) → (a || b) ≡ false → b ≡ false
-none_right true b e = cc
-none_right false b e = e
 
 -- what each message in flight has: its group has one in flight
 abbrev pub Told : List Message → List Message → Type 0
@@ -50,7 +40,7 @@ delayed_in g (m ∷ ms) e = by (delayed_in g ms) (in_group g m) refl
     by ih true k = or_left (in_group g m) (any_in g ms) k
     by ih false k =
         let rest : any_delayed g ms ≡ true = sym (ap (λ c. (c && is_delayed m) || any_delayed g ms) k) ∙ e in
-        or_last (in_group g m) (any_in g ms) (ih rest)
+        or_right (in_group g m) (any_in g ms) (ih rest)
 
 seen_open : (all earlier seen : List Message) (m : Message) → IsSeen all earlier seen → IsSeen all (m ∷ earlier) (m ∷ seen)
 seen_open all earlier seen m h =
@@ -61,13 +51,13 @@ seen_open all earlier seen m h =
   where
     by_was : (g : Option (List ℕ)) (b : Bool) → in_group g m ≡ b → (in_group g m || any_in g seen) ≡ true → (in_group g m || any_in g earlier) ≡ true
     by_was g true k e = or_left (in_group g m) (any_in g earlier) k
-    by_was g false k e = or_last (in_group g m) (any_in g earlier) (h.was g (sym (or_right (in_group g m) (any_in g seen) k) ∙ e))
+    by_was g false k e = or_right (in_group g m) (any_in g earlier) (h.was g (sym (or_rest (in_group g m) (any_in g seen) k) ∙ e))
 
     by_shows : (g : Option (List ℕ)) (b : Bool) → in_group g m ≡ b → (in_group g m || any_in g earlier) ≡ true → any_out g all ≡ false → ((in_group g m && is_delayed m) || any_delayed g earlier) ≡ false → (in_group g m || any_in g seen) ≡ true
     by_shows g true k e o d = or_left (in_group g m) (any_in g seen) k
     by_shows g false k e o d =
-        or_last (in_group g m) (any_in g seen)
-        (h.shows g (sym (or_right (in_group g m) (any_in g earlier) k) ∙ e) o (none_right (in_group g m && is_delayed m) (any_delayed g earlier) d))
+        or_right (in_group g m) (any_in g seen)
+        (h.shows g (sym (or_rest (in_group g m) (any_in g earlier) k) ∙ e) o (or_second (in_group g m && is_delayed m) (any_delayed g earlier) d))
 
 -- a message that is neither in flight nor delayed is visible
 visible_by : (m : Message) → is_in_flight m ≡ false → is_delayed m ≡ false → is_visible m ≡ true
@@ -97,7 +87,7 @@ and_three a b c p q r = λ j. p j && not (q j) && not (r j)
 seen_closed : (all earlier seen : List Message) (m : Message) → (is_in_flight m ≡ true → any_out m.group all ≡ true) → is_open all earlier m ≡ false → IsSeen all earlier seen → IsSeen all (m ∷ earlier) seen
 seen_closed all earlier seen m told closed h =
     record {
-      was = λ g e. or_last (in_group g m) (any_in g earlier) (h.was g e);
+      was = λ g e. or_right (in_group g m) (any_in g earlier) (h.was g e);
       shows = λ g e o d. by g (in_group g m) refl e o d;
     }
   where
@@ -106,12 +96,12 @@ seen_closed all earlier seen m told closed h =
     flight false k o = k
 
     by : (g : Option (List ℕ)) (b : Bool) → in_group g m ≡ b → (in_group g m || any_in g earlier) ≡ true → any_out g all ≡ false → ((in_group g m && is_delayed m) || any_delayed g earlier) ≡ false → any_in g seen ≡ true
-    by g false k e o d = h.shows g (sym (or_right (in_group g m) (any_in g earlier) k) ∙ e) o (none_right (in_group g m && is_delayed m) (any_delayed g earlier) d)
+    by g false k e o d = h.shows g (sym (or_rest (in_group g m) (any_in g earlier) k) ∙ e) o (or_second (in_group g m && is_delayed m) (any_delayed g earlier) d)
     by g true k e o d =
         let same : g ≡ m.group = (same_text_decides g m.group).0 k in
         let out : any_out m.group all ≡ false = subst (λ (x : Option (List ℕ)). any_out x all ≡ false) same o in
-        let late : any_delayed m.group earlier ≡ false = subst (λ (x : Option (List ℕ)). any_delayed x earlier ≡ false) same (none_right (in_group g m && is_delayed m) (any_delayed g earlier) d) in
-        let here : is_delayed m ≡ false = sym (ap (λ c. c && is_delayed m) k) ∙ none_left (in_group g m && is_delayed m) (any_delayed g earlier) d in
+        let late : any_delayed m.group earlier ≡ false = subst (λ (x : Option (List ℕ)). any_delayed x earlier ≡ false) same (or_second (in_group g m && is_delayed m) (any_delayed g earlier) d) in
+        let here : is_delayed m ≡ false = sym (ap (λ c. c && is_delayed m) k) ∙ or_first (in_group g m && is_delayed m) (any_delayed g earlier) d in
         let opens : is_open all earlier m ≡ true = and_three (is_visible m) (any_out m.group all) (any_delayed m.group earlier) (visible_by m (flight (is_in_flight m) refl out) here) out late in
         cc
 
@@ -168,7 +158,7 @@ kept_other p false m ms e = refl
 given_none : (all earlier ms : List Message) (g : Option (List ℕ)) → any_delayed g earlier ≡ true → filter (in_group g) (open_from all earlier ms) ≡ []
 given_none all earlier [] g late = refl
 given_none all earlier (m ∷ ms) g late =
-    by (given_none all (m ∷ earlier) ms g (or_last (in_group g m && is_delayed m) (any_delayed g earlier) late)) (in_group g m) refl
+    by (given_none all (m ∷ earlier) ms g (or_right (in_group g m && is_delayed m) (any_delayed g earlier) late)) (in_group g m) refl
   where
     by : filter (in_group g) (open_from all (m ∷ earlier) ms) ≡ [] → (b : Bool) → in_group g m ≡ b → filter (in_group g) (kept_when (is_open all earlier m) m (open_from all (m ∷ earlier) ms)) ≡ []
     by ih true k = ap (λ b. filter (in_group g) (kept_when b m (open_from all (m ∷ earlier) ms))) (shut all earlier g m late k) ∙ ih

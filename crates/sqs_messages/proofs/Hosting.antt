@@ -98,7 +98,7 @@ any_seen hosts set items h =
     ∙ ap (λ (ms : List Message). not (is_empty ms)) (seen_filter hosts set items h)
 
 -- a message that takes another state is marked with its host
-pub put_hosted : (hosts n : ℕ) (state : State) (mark : Mark) (items : List Shelved) → mark.hosts ≡ host_mark hosts n state.place → All (IsHosted hosts) items
+pub put_hosted : (hosts n : ℕ) (state : State) (mark : Mark) (items : List Shelved) → mark.flags ≡ host_mark hosts n state.place → All (IsHosted hosts) items
     → All (IsHosted hosts) (changed (is_numbered n) (λ (s : Shelved). let t : Shelved = record s { message = restated state s.message; mark = mark } in t) items)
 put_hosted hosts n state mark [] e h = h
 put_hosted hosts n state mark (s ∷ items) e h = by (put_hosted hosts n state mark items e) (is_numbered n s) refl

@@ -41,13 +41,13 @@ restamped_told n state due items after e = told_kept (changed (is_numbered n) (r
 -- one more message, with what is due of it
 pub added_told : (items after : List Shelved) (m : Message) (due : Option Key) (place : ℕ) → map unhosted after ≡ map unhosted items ++ (m, due, place) ∷ [] → told after ≡ told items ++ m ∷ []
 added_told items after m due place e =
-    let s : Shelved = item_of (record { due = due; hosts = 0 }) place m in
+    let s : Shelved = item_of (record { due = due; flags = 0 }) place m in
     told_kept (items ++ s ∷ []) after (e ∙ sym (map-append unhosted items (s ∷ []))) ∙ map-append (λ (x : Shelved). x.message) items (s ∷ [])
 
 pub added_dues : (site retention : ℕ) (items after : List Shelved) (m : Message) (due : Option Key) (place : ℕ) → map unhosted after ≡ map unhosted items ++ (m, due, place) ∷ []
     → ((s : Shelved) → s.message ≡ m → s.mark.due ≡ due → IsDue site retention s) → All (IsDue site retention) items → All (IsDue site retention) after
 added_dues site retention items after m due place e is h =
-    let s : Shelved = item_of (record { due = due; hosts = 0 }) place m in
+    let s : Shelved = item_of (record { due = due; flags = 0 }) place m in
     dues_kept site retention (items ++ s ∷ []) after (e ∙ sym (map-append unhosted items (s ∷ []))) (All-push (IsDue site retention) items s h (is s refl refl))
 
 -- a table whose messages changed

@@ -3,6 +3,7 @@ use Rattle.std.proofs.Common.{◌≡◌, ℕ, zero, suc, ◌+◌, ◌<◌, ◌�
 use Rattle.std.specs.Prelude.{find, is_some, nat_le, ◌==◌}
 use Rattle.std.proofs.lemmas.Bool.Decides.{nat_tests}
 use Rattle.sim_clock.specs.Firsts.{is_empty}
+use Rattle.sim_clock.proofs.Booleans.{and_first, and_second}
 use Rattle.sim_index.specs.Marks.{meets}
 use Rattle.sqs_message.specs.declared.message.Message.{Message}
 use Rattle.sqs_message.specs.declared.message.Place.{Place}
@@ -21,14 +22,6 @@ use Rattle.sqs_model.specs.Valid.{IsFifo}
 use Rattle.sqs_messages.proofs.Fronts.{found_here}
 use Rattle.sqs_messages.proofs.Grouped.{told_ascends}
 use Rattle.sqs_messages.proofs.Leaders.{led_filter}
-
-and_first : (a b : Bool) → (a && b) ≡ true → a ≡ true
-and_first true b e = refl
-and_first false b e = e
-
-and_second : (a b : Bool) → (a && b) ≡ true → b ≡ true
-and_second true b e = e
-and_second false b e = cc
 
 -- the one that a test picks first is found by its number, and passes
 pub found_number : (p : Shelved → Bool) (low : ℕ) (items : List Shelved) (s : Shelved) → Ascends number_of low items → find p items ≡ Some s → (find (is_numbered (number_of s)) items ≡ Some s) × (p s ≡ true) × (low ≤ number_of s)
@@ -138,11 +131,6 @@ any_given items (Some s) a led e =
     sym (ap (λ (ms : List Message). not (is_empty ms)) (given_in_turn items a led)
     ∙ ap (λ (xs : List Shelved). not (is_empty (flat_map (given_by (told items)) (told xs)))) (filter_next 0 1 0 items s a e)
     ∙ ap not (not_empty (given_by (told items) s.message) (flat_map (given_by (told items)) (told (filter (wanted (number_of s + 1) 1) items))) (leader_gives 0 items s a led e)))
-
--- what a queue of FIFO kind may give
-pub fifo_gives : (k : Kind) (set : ℕ) (ms : List Message) → IsFifo k → available_at k set ms ≡ by_group (open_from ms [] ms)
-fifo_gives (Standard hosts sampled) set ms f = absurd f
-fifo_gives (Fifo content_dedup scope) set ms f = refl
 
 -- so many of a list are no more, and more than those in front where there is room and more
 pub take_short : (n : ℕ) (xs : List ℕ) → length (take n xs) ≤ n

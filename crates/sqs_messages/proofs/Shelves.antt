@@ -208,7 +208,7 @@ module _ {list news : Marked Slot} {next n i : ℕ} {slots : List Slot} (m : Mar
   pub marked_shelf : AreShelf news next
   marked_shelf = changed_shelf h on told read m refl refl put (λ o. o) (λ o. refl) (same_message (get_or list.values i nothing).message)
 
-  pub marked_items : (hosts : ℕ) → m ≡ record { due = (node list.marks i).due; hosts = hosts } → shelved news.values news.marks ≡ changed (is_numbered n) (with_hosts hosts) (shelved list.values list.marks)
+  pub marked_items : (hosts : ℕ) → m ≡ record { due = (node list.marks i).due; flags = hosts } → shelved news.values news.marks ≡ changed (is_numbered n) (with_hosts hosts) (shelved list.values list.marks)
   marked_items hosts e =
       changed_items h on told read m refl refl put (λ o. o) (with_hosts hosts) (λ o. ap (λ (k : Mark). item_of k (get_or list.values i nothing).group o) (sym e)) (same_message (get_or list.values i nothing).message)
 

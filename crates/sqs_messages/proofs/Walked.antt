@@ -15,27 +15,9 @@ pub record IsWalk (items : List Shelved) (most : ℕ) (whole : List ℕ) (number
 rest : (items : List Shelved) (numbers : List ℕ) (i n : ℕ) → i < length numbers → n ≡ get_or numbers i 0 → held items (drop i numbers) ≡ cons_option (message_of items n) (held items (drop (i + 1) numbers))
 rest items numbers i n l e = ap (held items) (drop_more numbers i 0 l) ∙ ap (λ k. cons_option (message_of items k) (held items (drop (i + 1) numbers))) (sym e)
 
-pub walk_full : (items : List Shelved) (most : ℕ) (whole numbers : List ℕ) (i : ℕ) (chosen : List ℕ) → IsWalk items most whole numbers i chosen → length chosen ≡ most → chosen ≡ whole
-walk_full items most whole numbers i chosen h e = sym (take_at chosen (map (λ m. m.number) (until_delayed (held items (drop i numbers)))) most e) ∙ h.so_far
-
 done : (most : ℕ) (chosen whole : List ℕ) (ms : List Message) → length chosen ≤ most → ms ≡ [] → take most (chosen ++ map (λ m. m.number) ms) ≡ whole → chosen ≡ whole
 done most chosen whole ms l e h =
     sym (take_all most chosen l) ∙ ap (take most) (sym (append-nil chosen)) ∙ sym (ap (λ (ys : List Message). take most (chosen ++ map (λ m. m.number) ys)) e) ∙ h
-
-pub walk_late : (items : List Shelved) (most : ℕ) (whole numbers : List ℕ) (i n : ℕ) (chosen : List ℕ) (m : Message) → IsWalk items most whole numbers i chosen → i < length numbers → n ≡ get_or numbers i 0 → Some m ≡ message_of items n → is_delayed m ≡ true → chosen ≡ whole
-walk_late items most whole numbers i n chosen m h l at e d =
-    let none : until_delayed (held items (drop i numbers)) ≡ [] =
-    ap until_delayed (rest items numbers i n l at ∙ ap (λ o. cons_option o (held items (drop (i + 1) numbers))) (sym e)) ∙ ap (λ b. kept_until b m (until_delayed (held items (drop (i + 1) numbers)))) d in
-    done most chosen whole (until_delayed (held items (drop i numbers))) h.short none h.so_far
-
-pub walk_gone : (items : List Shelved) (most : ℕ) (whole numbers : List ℕ) (i n : ℕ) (chosen : List ℕ) → IsWalk items most whole numbers i chosen → i < length numbers → n ≡ get_or numbers i 0 → None ≡ message_of items n → IsWalk items most whole numbers (i + 1) chosen
-walk_gone items most whole numbers i n chosen h l at e =
-    record {
-      so_far =
-          sym (ap (λ (ms : List Message). take most (chosen ++ map (λ m. m.number) (until_delayed ms))) (rest items numbers i n l at ∙ ap (λ o. cons_option o (held items (drop (i + 1) numbers))) (sym e)))
-          ∙ h.so_far;
-      short = h.short;
-    }
 
 pub walk_more : (items : List Shelved) (most : ℕ) (whole numbers : List ℕ) (i n : ℕ) (chosen after : List ℕ) (m : Message) → IsWalk items most whole numbers i chosen → i < length numbers → n ≡ get_or numbers i 0 → Some m ≡ message_of items n → is_delayed m ≡ false
     → length chosen < most → after ≡ chosen ++ m.number ∷ [] → IsWalk items most whole numbers (i + 1) after
@@ -51,7 +33,3 @@ walk_more items most whole numbers i n chosen after m h l at e d few is =
           ∙ h.so_far;
       short = subst (λ (c : List ℕ). length c ≤ most) (sym is) (omega (arith, few, length-append chosen (m.number ∷ [])));
     }
-
-pub walk_end : (items : List Shelved) (most : ℕ) (whole numbers : List ℕ) (i : ℕ) (chosen : List ℕ) → IsWalk items most whole numbers i chosen → length numbers ≤ i → chosen ≡ whole
-walk_end items most whole numbers i chosen h l =
-    done most chosen whole (until_delayed (held items (drop i numbers))) h.short (ap (λ ns. until_delayed (held items ns)) (drop_all i numbers l)) h.so_far

@@ -123,15 +123,6 @@ any_wanted hosts (s ∷ xs) =
 abbrev pub IsChosen : List Shelved → ℕ → ℕ → ℕ → ℕ → List ℕ → Type 0
 IsChosen items hosts most i from numbers = numbers ++ map number_of (take (most - i) (filter (wanted from hosts) items)) ≡ map number_of (take most (filter (λ s. meets hosts s.mark) items))
 
-pub chosen_none : (items : List Shelved) (hosts most : ℕ) (numbers : List ℕ) → numbers ≡ [] → IsChosen items hosts most 0 0 numbers
-chosen_none items hosts most numbers e =
-    ap (λ (ns : List ℕ). ns ++ map number_of (take (most - 0) (filter (wanted 0 hosts) items))) e
-    ∙ ap (λ k. map number_of (take k (filter (wanted 0 hosts) items))) (zero_less most)
-    ∙ ap (λ ys. map number_of (take most ys)) (filter_all hosts items)
-  where
-    zero_less : (n : ℕ) → n - 0 ≡ n
-    zero_less n = omega arith
-
 pub chosen_more : (items : List Shelved) (hosts most i from : ℕ) (numbers : List ℕ) (number group : ℕ) → Ascends number_of 0 items → i < most → Some (number, group) ≡ option_map number_and_group (find (wanted from hosts) items)
     → IsChosen items hosts most i from numbers → IsChosen items hosts most (i + 1) (number + 1) (numbers ++ number ∷ [])
 chosen_more items hosts most i from numbers number group a l e h =
@@ -156,8 +147,3 @@ chosen_end items hosts most i from numbers e h =
     take_nil : (n : ℕ) → take {A = Shelved} n [] ≡ []
     take_nil zero = refl
     take_nil (suc n) = refl
-
-pub chosen_all : (items : List Shelved) (hosts most i from : ℕ) (numbers : List ℕ) → most ≤ i → IsChosen items hosts most i from numbers → numbers ≡ map number_of (take most (filter (λ s. meets hosts s.mark) items))
-chosen_all items hosts most i from numbers l h =
-    let none : most - i ≡ 0 = omega arith in
-    sym (append-nil numbers) ∙ ap (λ k. numbers ++ map number_of (take k (filter (wanted from hosts) items))) (sym none) ∙ h

@@ -1,4 +1,4 @@
--- How many messages are where.
+-- The number of messages in each state.
 use Rattle.std.specs.Prelude.{List, count_by, ℕ, ◌+◌}
 use Rattle.sqs_message.specs.declared.message.Message.{Message}
 use Rattle.sqs_message.specs.declared.message.Place.{Place}
@@ -6,7 +6,7 @@ use Rattle.sqs_message.specs.declared.message.Place.TheVariants as places
 use Rattle.sqs_model.specs.Queue.{is_delayed, is_in_flight, is_visible}
 use Rattle.sqs_messages.specs.declared.counts.Counts.{Counts}
 
--- how many messages stand at a place
+-- the number of messages in a state
 abbrev pub count_at : Place → Counts → ℕ
 count_at places.Delayed c = c.delayed
 count_at places.Visible c = c.visible

@@ -1,4 +1,4 @@
--- A table of groups, and what it tells of the messages on a shelf.
+-- A table of groups, and what it keeps of the messages on a shelf.
 use Rattle.std.specs.List.{position_or_len}
 use Rattle.std.specs.VecDeque.{deque_capacity, deque_len}
 use Rattle.std.specs.Prelude.{◌≡◌, All, Bool, List, None, Option, Some, [], ◌∷◌, cond, false, true, filter, get_or, length, map, ℕ, ◌&&◌, ◌<◌}
@@ -38,7 +38,7 @@ group_by names groups g = group_at groups (place_by names g)
 abbrev pub is_out : Option (List ℕ) → Message → Bool
 is_out g m = in_group g m && is_in_flight m
 
--- 1 where a fact holds
+-- 1 if a fact holds
 abbrev pub bit : Bool → ℕ
 bit b = cond b 1 0
 
@@ -56,12 +56,13 @@ pub record IsGrouped (items : List Shelved) (next : ℕ) (g : Option (List ℕ))
 abbrev pub AreGrouped : List Shelved → ℕ → List (Option (List ℕ)) → List Members → Type 0
 AreGrouped items next names groups = (g : Option (List ℕ)) → IsGrouped items next g (group_by names groups g)
 
--- the place at which a group's name stands
+-- the index of a group's name
 pub record IsPlaceOf (names : List (Option (List ℕ))) (g : Option (List ℕ)) (i : ℕ) : Type 0 where
   pub at : i ≡ place_by names g
   pub within : i < length names
 
--- each first message that leads is marked, each message stands with the place of its group, and the table tells of each group
+-- each first message that leads is marked, each message has the index of its group, and the table is right for each
+-- group
 pub record AreInGroups (items : List Shelved) (next : ℕ) (names : List (Option (List ℕ))) (groups : List Members) : Type 0 where
   pub led : AreLed items
   pub placed : All (λ s. IsPlaceOf names s.message.group s.group) items

@@ -1,4 +1,4 @@
--- Which messages head their groups: the first of a group, where it may be given.
+-- Which messages lead their groups: the first of a group, if it may be given.
 use Rattle.std.specs.List.{list_any}
 use Rattle.std.specs.Prelude.{◌≡◌, All, map, Bool, None, Some, false, filter, find, true, List, Option, [], not, ℕ, ◌&&◌, ◌==◌, ◌∷◌}
 use Rattle.sim_index.specs.Marks.{meets}
@@ -61,7 +61,7 @@ abbrev pub begins : List Message → Message → Bool
 begins [] m = false
 begins (x ∷ xs) m = x.number == m.number
 
--- whether a message heads its group, told of the group's messages alone
+-- whether a message leads its group, by the group's messages alone
 abbrev pub leads_in : List Message → Message → Bool
 leads_in ms m = is_visible m && not (list_any is_in_flight ms) && begins ms m
 
@@ -69,7 +69,7 @@ leads_in ms m = is_visible m && not (list_any is_in_flight ms) && begins ms m
 abbrev pub told : List Shelved → List Message
 told items = map (λ s. s.message) items
 
--- whether each message on a shelf is marked where it leads
+-- whether each message on a shelf is marked if it leads
 abbrev pub AreLed : List Shelved → Type 0
 AreLed items = All (λ s. meets 1 s.mark ≡ leads (told items) s.message) items
 

@@ -1,4 +1,4 @@
--- What the marks of messages tell: what is due of them, and the host on which they lie.
+-- What the marks of messages have: what is due of them, and the host on which they are.
 use Rattle.std.specs.Prelude.{◌≡◌, Option, ℕ, ◌%◌, ◌^◌}
 use Rattle.sim_clock.specs.Order.{least}
 use Rattle.sim_clock.specs.declared.key.Key.{Key}
@@ -16,11 +16,11 @@ host_mark hosts number places.Delayed = 0
 host_mark hosts number places.Visible = 2 ^ (number % hosts)
 host_mark hosts number places.InFlight = 0
 
--- whether a message is marked with its host, of so many, where it may be received
+-- whether a message is marked with its host if it may be received
 abbrev pub IsHosted : ℕ → Shelved → Type 0
-IsHosted hosts s = s.mark.hosts ≡ host_mark hosts s.message.number s.message.place
+IsHosted hosts s = s.mark.flags ≡ host_mark hosts s.message.number s.message.place
 
--- a message within the limits, whose mark tells what is due of it
+-- a message within the limits, whose mark has what is due of it
 pub record IsDue (site retention : ℕ) (s : Shelved) : Type 0 where
   pub due : s.mark.due ≡ least (message_dues site retention s.message)
   pub counted : IsCounted s.message
@@ -31,4 +31,4 @@ unhosted s = (s.message, s.mark.due, s.group)
 
 -- a message with another state, and what is due of it then, on no host
 abbrev pub restamped : State → Option Key → Shelved → Shelved
-restamped state due s = record s { message = restated state s.message; mark = record { due = due; hosts = 0 } }
+restamped state due s = record s { message = restated state s.message; mark = record { due = due; flags = 0 } }

@@ -17,7 +17,7 @@ IsOrderOf (kinds.Standard count sampled) (orders.Groups groups) = ⊥
 IsOrderOf (kinds.Fifo content_dedup scope) (orders.Hosts hosts) = ⊥
 IsOrderOf (kinds.Fifo content_dedup scope) (orders.Groups groups) = Unit {0}
 
--- messages that lie on so many hosts, each marked with its own
+-- messages on hosts, each marked with its own
 pub record AreOnHosts (hosts : ℕ) (items : List Shelved) : Type 0 where
   pub some : 1 ≤ hosts
   pub few : hosts ≤ 16

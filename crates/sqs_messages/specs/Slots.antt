@@ -1,4 +1,4 @@
--- The places of a shelf, and what stands in them.
+-- The slots of a shelf, and what is in them.
 use Rattle.std.specs.Prelude.{[], ◌∷◌, ◌≡◌, ◌≢◌, ◌==◌, All, Bool, IsSome, find, IfSome, List, None, Option, get_or, length, ℕ, ◌<◌}
 use Rattle.std.specs.List.{cons_option, filter_map}
 use Rattle.std.specs.Option.{option_map}
@@ -10,7 +10,7 @@ use Rattle.sqs_message.specs.declared.message.Place.{Place}
 use Rattle.sqs_messages.specs.declared.slot.Slot.{Slot}
 use Rattle.sqs_messages.specs.declared.slot.State.{State}
 
--- a message with its mark, and the place of its group where the queue goes by groups
+-- a message with its mark, and the index of its group if the queue goes by groups
 pub record Shelved : Type 0 where
   pub message : Message
   pub mark : Mark
@@ -20,17 +20,17 @@ pub record Shelved : Type 0 where
 abbrev pub item_of : Mark → ℕ → Message → Shelved
 item_of mark group m = record { message = m; mark = mark; group = group }
 
--- what stands in a place that has this mark
+-- what is in a slot that has this mark
 abbrev pub shown : Mark → Slot → Option Shelved
 shown mark s = option_map (item_of mark s.group) s.message
 
--- what stands in places, each with its mark
+-- what is in slots, each with its mark
 abbrev pub shelved : List Slot → List Mark → List Shelved
 shelved [] marks = []
 shelved (s ∷ slots) [] = []
 shelved (s ∷ slots) (mark ∷ marks) = cons_option (shown mark s) (shelved slots marks)
 
--- the messages that stand in places
+-- the messages in slots
 abbrev pub standing : List Slot → List Message
 standing slots = filter_map (λ s. s.message) slots
 
@@ -38,7 +38,7 @@ standing slots = filter_map (λ s. s.message) slots
 abbrev pub AreOrdered : List Slot → Type 0
 AreOrdered slots = Ascends (λ s. s.number) 0 slots
 
--- a message stands in the place of its number, and an empty place has no mark
+-- a message has the number of its slot, and an empty slot has no mark
 pub record IsNamed (s : Slot) (mark : Mark) : Type 0 where
   pub number : IfSome s.message (λ m. m.number ≡ s.number)
   pub empty : s.message ≡ None → mark ≡ no_mark
@@ -47,7 +47,8 @@ pub record IsNamed (s : Slot) (mark : Mark) : Type 0 where
 abbrev pub restated : State → Message → Message
 restated s m = record m { place = s.place; release = s.release; receives = s.receives; received = s.received }
 
--- messages with their marks, in the order of their numbers, the number that comes next, and whether one more message certainly finds room
+-- messages with their marks, in the order of their numbers, the next number, and whether there is certainly room for
+-- one more message
 pub record Holding : Type 0 where
   pub items : List Shelved
   pub next : ℕ
@@ -57,11 +58,11 @@ pub record Holding : Type 0 where
 abbrev pub is_numbered : ℕ → Shelved → Bool
 is_numbered n s = s.message.number == n
 
--- no message stands in a place of this number
+-- no message is in a slot with this number
 abbrev pub IsOff : List Slot → ℕ → Type 0
 IsOff slots n = All (λ s. s.number ≡ n → s.message ≡ None) slots
 
--- a message stands in the first place of this number
+-- a message is in the first slot with this number
 pub record IsOn (slots : List Slot) (n i : ℕ) : Type 0 where
   pub within : i < length slots
   pub number : (d : Slot) → (get_or slots i d).number ≡ n
@@ -72,7 +73,7 @@ pub record IsOn (slots : List Slot) (n i : ℕ) : Type 0 where
 abbrev pub number_of : Shelved → ℕ
 number_of s = s.message.number
 
--- what is told of a message with the place of its group: its number, where it stands, or all of it
+-- parts of a message with the index of its group: its number, its state, or all of it
 abbrev pub number_and_group : Shelved → ℕ × ℕ
 number_and_group s = (s.message.number, s.group)
 
@@ -82,9 +83,9 @@ place_and_group s = (s.message.place, s.group)
 abbrev pub message_and_group : Shelved → Message × ℕ
 message_and_group s = (s.message, s.group)
 
--- a message whose mark tells of other hosts
+-- a message whose mark has other flags
 abbrev pub with_hosts : ℕ → Shelved → Shelved
-with_hosts hosts s = record s { mark = record s.mark { hosts = hosts } }
+with_hosts hosts s = record s { mark = record s.mark { flags = hosts } }
 
 -- the message of a number, if it is there
 abbrev pub message_of : List Shelved → ℕ → Option Message

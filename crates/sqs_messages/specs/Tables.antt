@@ -11,7 +11,7 @@ use Rattle.sqs_messages.specs.Slots.{Shelved}
 use Rattle.sqs_messages.specs.declared.order.Order.{Order}
 use Rattle.sqs_messages.specs.declared.table.MessageTable.TheInside.{Inside}
 
--- settings in range, and messages within the limits, whose marks tell what is due of them and in which order the
+-- settings in range, and messages within the limits, whose marks have what is due of them and the order in which the
 -- queue gives them
 pub record AreKept (site : ℕ) (settings : QueueSettings) (items : List Shelved) (next : ℕ) (order : Order) : Type 0 where
   pub settings_in_range : IsQueueSettings settings

@@ -1,4 +1,4 @@
-//! What is chosen of a queue's messages.
+//! The messages that a receive may give.
 
 use smallvec::SmallVec;
 
@@ -7,7 +7,7 @@ use smallvec::SmallVec;
 pub struct Choice {
     /// The numbers.
     pub numbers: SmallVec<u64, 10>,
-    /// How many messages were read: those that are chosen, and of each group at most one delayed one
-    /// after them. Where the numbers of messages that have left are passed over, none is read.
+    /// The number of messages that were read: those that are chosen, and of each group at most one
+    /// delayed message after them. Skipping the number of a message that has left reads none.
     pub looked: u64,
 }

@@ -1,17 +1,17 @@
-//! How many messages are where.
+//! The number of messages in each state.
 ghost use Rattle.std.specs.Prelude.{◌≡◌, ◌+◌, ◌<◌, ◌≤◌, ◌^◌};
 ghost use Rattle.sqs_messages.specs.Counted.{count_at, with_one};
 
 use sqs_message::Place;
 
-/// How many messages of a queue are where.
+/// The number of messages of a queue in each state.
 #[derive(Clone, Copy, Debug, PartialEq, Eq)]
 pub struct Counts {
-    /// May be received (`ApproximateNumberOfMessages`).
+    /// Messages that may be received (`ApproximateNumberOfMessages`).
     pub visible: u64,
-    /// Received and not yet back (`ApproximateNumberOfMessagesNotVisible`).
+    /// Messages that were received and are not back yet (`ApproximateNumberOfMessagesNotVisible`).
     pub in_flight: u64,
-    /// Not yet visible for the first time (`ApproximateNumberOfMessagesDelayed`).
+    /// Messages that are not yet visible for the first time (`ApproximateNumberOfMessagesDelayed`).
     pub delayed: u64,
 }
 
@@ -22,7 +22,7 @@ pub const NO_COUNTS: Counts = Counts {
     delayed: 0,
 };
 
-// One more message stands at a place.
+// Counts one more message in a state.
 pub fn count_in(counts: &mut Counts, place: Place)
     requires { count_at place counts.old + 1 < 2 ^ 64 }
     ensures { counts.new ≡ with_one place counts.old }
@@ -34,7 +34,7 @@ pub fn count_in(counts: &mut Counts, place: Place)
     }
 }
 
-// One message less stands at a place.
+// Counts one message fewer in a state.
 pub fn count_out(counts: &mut Counts, place: Place)
     requires { 1 ≤ count_at place counts.old }
     ensures { with_one place counts.new ≡ counts.old }

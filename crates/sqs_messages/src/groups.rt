@@ -1,8 +1,8 @@
-//! A FIFO queue's messages by their groups.
+//! A FIFO queue's messages by their message groups.
 //!
-//! A group gives its messages in the order of their arrival, and none while one of them is in flight
-//! (Developer Guide: FIFO delivery logic). The first message of a group is marked where the group may
-//! give it. Messages without a group are of one group.
+//! A group gives its messages in the order of their arrival, and none while one of them is in
+//! flight (Developer Guide: FIFO delivery logic). The first message of a group is marked if the
+//! group may give it. Messages without a group form one group.
 ghost use Rattle.std.specs.Prelude.{◌≡◌, [], map};
 ghost use Rattle.sim_clock.specs.Firsts.{changed, without};
 ghost use Rattle.sqs_messages.specs.Groups.{AreInGroups};
@@ -24,16 +24,16 @@ pub mod front;
 pub mod members;
 pub mod room;
 
-/// The groups of a queue's messages. The name of a group stays once a message of it came.
+/// The groups of a queue's messages. Once a message of a group came, the group's name stays.
 #[derive(Drop)]
 pub struct Groups {
-    // The groups' names, each at the place of its members.
+    // The groups' names; each has the index of its members.
     pub names: IndexSet<Option<Text>>,
     pub members: Vec<Members>,
 }
 
 impl Groups {
-    /// No groups. Takes no memory.
+    /// No groups. It allocates nothing.
     pub fn new(alloc: Global) -> Groups
         ensures names { result.names.keys ≡ [] }
         ensures members { result.members.items ≡ [] }
@@ -44,12 +44,15 @@ impl Groups {
         }
     }
 
-    /// Takes out the message of a number, if it is there. Takes no memory.
+    /// Removes the message with a number, if it is there. It allocates nothing.
     pub fn remove(&mut self, shelf: &mut Shelf, number: u64) -> Option<Message>
-        requires { AreInGroups shelf.old.items shelf.old.next self.old.names.keys self.old.members.items }
-        ensures grouped { AreInGroups shelf.new.items shelf.new.next self.new.names.keys self.new.members.items }
+        requires { AreInGroups shelf.old.items shelf.old.next self.old.names.keys
+            self.old.members.items }
+        ensures grouped { AreInGroups shelf.new.items shelf.new.next self.new.names.keys
+            self.new.members.items }
         ensures found { result ≡ message_of shelf.old.items number }
-        ensures rest { map unhosted shelf.new.items ≡ map unhosted (without (is_numbered number) shelf.old.items) }
+        ensures rest { map unhosted shelf.new.items
+            ≡ map unhosted (without (is_numbered number) shelf.old.items) }
         ensures next { shelf.new.next ≡ shelf.old.next }
     {
         let _next = shelf.number();
@@ -59,16 +62,19 @@ impl Groups {
         Some(message)
     }
 
-    /// The message of a number, if it is there, takes another state, with what is due of it then.
-    /// Takes no memory.
+    /// Sets the state of the message with a number, if it is there, and what is due of it then. It
+    /// allocates nothing.
     pub fn put(&mut self, shelf: &mut Shelf, number: u64, state: State, due: Option<Key>)
-        requires { AreInGroups shelf.old.items shelf.old.next self.old.names.keys self.old.members.items }
-        ensures grouped { AreInGroups shelf.new.items shelf.new.next self.new.names.keys self.new.members.items }
-        ensures changed { map unhosted shelf.new.items ≡ map unhosted (changed (is_numbered number) (restamped state due) shelf.old.items) }
+        requires { AreInGroups shelf.old.items shelf.old.next self.old.names.keys
+            self.old.members.items }
+        ensures grouped { AreInGroups shelf.new.items shelf.new.next self.new.names.keys
+            self.new.members.items }
+        ensures changed { map unhosted shelf.new.items
+            ≡ map unhosted (changed (is_numbered number) (restamped state due) shelf.old.items) }
         ensures next { shelf.new.next ≡ shelf.old.next }
     {
         let _next = shelf.number();
-        let Some((was, place)) = shelf.put(number, state, Mark { due, hosts: 0 }) else {
+        let Some((was, place)) = shelf.put(number, state, Mark { due, flags: 0 }) else {
             return;
         };
         let groups = self.members.as_mut_slice();

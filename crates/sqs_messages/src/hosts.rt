@@ -1,8 +1,8 @@
 //! A standard queue's messages by their hosts.
 //!
-//! A message lies on one of the queue's hosts, and a receive sees some of these (Developer Guide:
-//! short and long polling); message n lies on host n modulo their number. A set of hosts is given by
-//! its bits.
+//! A message is on one of the queue's hosts, and a receive sees some of these (Developer Guide:
+//! short and long polling). Message n is on host n modulo the number of hosts. A set of hosts is
+//! given by its bits.
 ghost use Rattle.std.specs.Prelude.{◌≡◌, ◌+◌, ◌*◌, ◌++◌, ◌∷◌, ◌<◌, ◌≤◌, ◌^◌, [], IfOk, filter, length, map, take, true};
 ghost use Rattle.sim_clock.specs.Firsts.{changed};
 ghost use Rattle.sim_index.specs.Marks.{meets};
@@ -31,39 +31,43 @@ fn host_bit(hosts: u64, number: u64, place: Place) -> u32
     }
 }
 
-/// One more message, for which there is room, with what is due of it, marked with its host of so many.
-/// The place of its group is kept with it.
+/// Adds a message, for which there is room, with what is due of it, and marks it with its host;
+/// there are `hosts` of them. The index of its group is kept with it.
 pub fn add(hosts: u64, shelf: &mut Shelf, place: usize, message: Message, due: Option<Key>)
     requires hosted { AreOnHosts hosts shelf.old.items }
     requires ready { shelf.old.ready ≡ true }
     requires number { message.number ≡ shelf.old.next }
     requires range { shelf.old.next + 1 < 2 ^ 64 }
     ensures hosted { AreOnHosts hosts shelf.new.items }
-    ensures added { map unhosted shelf.new.items ≡ map unhosted shelf.old.items ++ (message, due, place) ∷ [] }
+    ensures added { map unhosted shelf.new.items
+        ≡ map unhosted shelf.old.items ++ (message, due, place) ∷ [] }
     ensures next { shelf.new.next ≡ shelf.old.next + 1 }
 {
     let host = host_bit(hosts, message.number, message.place);
-    let Ok(()) = shelf.push(message, place, Mark { due, hosts: host }) else {
+    let Ok(()) = shelf.push(message, place, Mark { due, flags: host }) else {
         unreachable!();
     };
 }
 
-/// The message of a number takes another state, if it is there, with what is due of it then, and is
-/// marked with its host.
+/// Sets the state of the message with a number, if it is there, and what is due of it then, and
+/// marks it with its host.
 pub fn put(hosts: u64, shelf: &mut Shelf, number: u64, state: State, due: Option<Key>)
     requires hosted { AreOnHosts hosts shelf.old.items }
     ensures hosted { AreOnHosts hosts shelf.new.items }
-    ensures changed { map unhosted shelf.new.items ≡ map unhosted (changed (is_numbered number) (restamped state due) shelf.old.items) }
+    ensures changed { map unhosted shelf.new.items
+        ≡ map unhosted (changed (is_numbered number) (restamped state due) shelf.old.items) }
     ensures next { shelf.new.next ≡ shelf.old.next }
 {
     let host = host_bit(hosts, number, state.place);
-    let _found = shelf.put(number, state, Mark { due, hosts: host });
+    let _found = shelf.put(number, state, Mark { due, flags: host });
 }
 
-/// The numbers of the first messages, at most so many, that may be received and lie on one of some
-/// hosts. Reads no other messages.
+/// The numbers of the first messages, at most `most`, that may be received and are on one of the
+/// hosts in `set`. It reads no other messages.
 pub fn choose(alloc: Global, shelf: &Shelf, set: u32, most: u64) -> Result<Choice, AllocError>
-    ensures numbers { IfOk result (λ choice. choice.numbers.items ≡ map number_of (take most (filter (λ s. meets set s.mark) shelf.now.items))) }
+    ensures numbers { IfOk result (λ choice.
+        choice.numbers.items
+        ≡ map number_of (take most (filter (λ s. meets set s.mark) shelf.now.items))) }
     ensures looked { IfOk result (λ choice. choice.looked ≤ 2 * most) }
     ensures read { IfOk result (λ choice. length choice.numbers.items ≤ choice.looked) }
 {

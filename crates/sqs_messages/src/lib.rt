@@ -1,5 +1,5 @@
-//! The messages of a queue of either kind: found by number, by what is due and by what a receive may give
-//! without going over them, and counted by where they are.
+//! The messages of a queue of either kind. They are found by number, by what is due and by what a
+//! receive may give, without a scan, and counted by state.
 #![tactic(auto)]
 
 mod choose;

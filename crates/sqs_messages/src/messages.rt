@@ -7,7 +7,7 @@ use crate::slot::Slot;
 use sqs_message::Message;
 use std::marker::Model;
 
-/// A shelf's messages in the order of their numbers. Contracts see the list of those to come.
+/// A shelf's messages in the order of their numbers. Contracts see the list of those still to come.
 #[derive(Drop)]
 pub struct Messages<'a> {
     slots: &'a [Slot],
@@ -23,7 +23,7 @@ impl<'a> Model for Messages<'a> {
     ghost view = { λ messages. standing messages.slots.now };
 }
 
-// The messages that stand in places.
+// The messages that are in slots.
 pub fn messages_in(slots: &[Slot]) -> Messages<'_>
     ensures { result ≡ standing slots.now }
 {

@@ -1,4 +1,4 @@
-//! In which order a queue gives its messages.
+//! The order in which a queue gives its messages.
 ghost use Rattle.std.specs.Prelude.{◌≡◌, ◌+◌, ◌++◌, ◌∷◌, ◌<◌, ◌^◌, [], IfOk, List, OnOk, map, true, ℕ};
 ghost use Rattle.sim_clock.specs.Firsts.{changed, without};
 ghost use Rattle.sqs_model.specs.Valid.{IsQueueSettings};
@@ -19,21 +19,22 @@ use sqs_message::{Message, Text};
 use sqs_redrive::{Kind, QueueSettings};
 use std::alloc::{AllocError, Global};
 
-/// In which order a queue gives its messages: a standard queue by their hosts, a FIFO queue by their
-/// groups.
+/// The order in which a queue gives its messages: a standard queue by their hosts, a FIFO queue by
+/// their groups.
 #[derive(Drop)]
 pub enum Order {
-    /// By the number of hosts on which its messages lie.
+    /// By hosts, with the number of hosts on which the queue's messages are.
     Hosts(u64),
     Groups(Groups),
 }
 
 impl Order {
-    /// That of an empty queue. Takes no memory.
+    /// The order of an empty queue. It allocates nothing.
     pub fn opened(alloc: Global, settings: &QueueSettings) -> Order
         requires { IsQueueSettings settings.now }
         ensures kind { IsOrderOf settings.now.kind result }
-        ensures empty { (items : List Shelved) (next : ℕ) → items ≡ [] → AreInOrder items next result }
+        ensures empty { (items : List Shelved) (next : ℕ) → items ≡ []
+            → AreInOrder items next result }
     {
         match settings.kind {
             Kind::Standard { hosts, .. } => Order::Hosts(hosts),
@@ -41,8 +42,8 @@ impl Order {
         }
     }
 
-    /// Makes room for one more message of a group, on the shelf and in the list of its group, and tells
-    /// the place of the group, if it goes by groups. No message changes.
+    /// Makes room for one more message of a group, on the shelf and in the list of its group.
+    /// Returns the index of the group, if the order is by groups. No message changes.
     pub fn room_for(
         &mut self,
         alloc: Global,
@@ -70,7 +71,7 @@ impl Order {
         }
     }
 
-    /// One more message, for which there is room, with what is due of it. Its group has this place.
+    /// Adds a message, for which there is room, with what is due of it. Its group has this index.
     pub fn add(&mut self, shelf: &mut Shelf, place: usize, message: Message, due: Option<Key>)
         requires ordered { AreInOrder shelf.old.items shelf.old.next self.old }
         requires ready { shelf.old.ready ≡ true }
@@ -79,7 +80,8 @@ impl Order {
         requires room { IsRoomed self.old message.group place }
         ensures ordered { AreInOrder shelf.new.items shelf.new.next self.new }
         ensures kind { (kind : Kind) → IsOrderOf kind self.old → IsOrderOf kind self.new }
-        ensures added { map unhosted shelf.new.items ≡ map unhosted shelf.old.items ++ (message, due, place) ∷ [] }
+        ensures added { map unhosted shelf.new.items
+            ≡ map unhosted shelf.old.items ++ (message, due, place) ∷ [] }
         ensures next { shelf.new.next ≡ shelf.old.next + 1 }
     {
         match self {
@@ -95,12 +97,13 @@ impl Order {
         }
     }
 
-    /// The message of a number takes another state, if it is there, with what is due of it then.
+    /// Sets the state of the message with a number, if it is there, and what is due of it then.
     pub fn put(&mut self, shelf: &mut Shelf, number: u64, state: State, due: Option<Key>)
         requires { AreInOrder shelf.old.items shelf.old.next self.old }
         ensures ordered { AreInOrder shelf.new.items shelf.new.next self.new }
         ensures kind { (kind : Kind) → IsOrderOf kind self.old → IsOrderOf kind self.new }
-        ensures changed { map unhosted shelf.new.items ≡ map unhosted (changed (is_numbered number) (restamped state due) shelf.old.items) }
+        ensures changed { map unhosted shelf.new.items
+            ≡ map unhosted (changed (is_numbered number) (restamped state due) shelf.old.items) }
         ensures next { shelf.new.next ≡ shelf.old.next }
     {
         match self {
@@ -109,13 +112,14 @@ impl Order {
         }
     }
 
-    /// Takes out the message of a number, if it is there.
+    /// Removes the message with a number, if it is there.
     pub fn remove(&mut self, shelf: &mut Shelf, number: u64) -> Option<Message>
         requires { AreInOrder shelf.old.items shelf.old.next self.old }
         ensures ordered { AreInOrder shelf.new.items shelf.new.next self.new }
         ensures kind { (kind : Kind) → IsOrderOf kind self.old → IsOrderOf kind self.new }
         ensures found { result ≡ message_of shelf.old.items number }
-        ensures rest { map unhosted shelf.new.items ≡ map unhosted (without (is_numbered number) shelf.old.items) }
+        ensures rest { map unhosted shelf.new.items
+            ≡ map unhosted (without (is_numbered number) shelf.old.items) }
         ensures next { shelf.new.next ≡ shelf.old.next }
     {
         match self {
@@ -124,7 +128,7 @@ impl Order {
         }
     }
 
-    /// The hosts in the marks of the messages with which a receive begins that sees these hosts.
+    /// The flags by which a receive that sees these hosts finds the messages with which it begins.
     pub fn hosts(&self, set: u32) -> u32
         ensures { result ≡ hosts_by self.now set }
     {

@@ -18,10 +18,10 @@ use sqs_message::{Message, Place};
 use std::alloc::{AllocError, Global};
 use std::marker::Model;
 
-/// Messages in the order of their numbers, each with a mark and the place of its group, and the number
-/// that comes next. A call on one of so many messages takes the time of their number's logarithm.
-/// Contracts see the messages with their marks and the places of their groups, the number that comes
-/// next, and whether there is room for one message more.
+/// Messages in the order of their numbers, each with a mark and the index of its group, and the
+/// next number. A call on one of n messages takes time logarithmic in n. Contracts see the messages
+/// with their marks and the indices of their groups, the next number, and whether there is room for
+/// one more message.
 #[derive(Drop)]
 pub struct Shelf {
     slots: MarkedList<Slot>,
@@ -42,7 +42,7 @@ impl Model for Shelf {
 }
 
 impl Shelf {
-    /// An empty one, whose first message gets this number. Takes no memory.
+    /// An empty shelf, whose first message gets this number. It allocates nothing.
     pub fn opened_at(alloc: Global, next: u64) -> Shelf
         ensures { result ≡ record { items = []; next = next; ready = false } }
     {
@@ -53,7 +53,7 @@ impl Shelf {
         }
     }
 
-    /// The number that comes next. Numbers go up, and all are below it.
+    /// The next number. Numbers ascend, and all are below it.
     pub fn number(&self) -> u64
         ensures value { result ≡ self.now.next }
         ensures ordered { Ascends number_of 0 self.now.items }
@@ -62,7 +62,7 @@ impl Shelf {
         self.next
     }
 
-    /// How many messages are where, without going over them.
+    /// The number of messages in each state, without a scan.
     pub fn counts(&self) -> Counts
         ensures visible { result.visible ≡ count_by is_visible (told self.now.items) }
         ensures in_flight { result.in_flight ≡ count_by is_in_flight (told self.now.items) }
@@ -78,19 +78,23 @@ impl Shelf {
         messages_in(self.slots.values())
     }
 
-    /// The message of a number.
+    /// The message with a number.
     pub fn get(&self, number: u64) -> Option<&Message>
-        ensures { option_copied result ≡ option_map (λ s. s.message) (find (is_numbered number) self.now.items) }
+        ensures { option_copied result
+            ≡ option_map (λ s. s.message) (find (is_numbered number) self.now.items) }
     {
         let slots = self.slots.values();
         slots[place_of(slots, number)?].message.as_ref()
     }
 
-    /// Changes the message of a number, and its mark; nothing where it is not there. Answers where the
-    /// message stood, and the place of its group.
+    /// Sets the state and the mark of the message with a number, if it is there. Returns the state
+    /// that the message was in, and the index of its group.
     pub fn put(&mut self, number: u64, state: State, mark: Mark) -> Option<(Place, usize)>
-        ensures found { result ≡ option_map place_and_group (find (is_numbered number) self.old.items) }
-        ensures items { self.new.items ≡ changed (is_numbered number) (λ s. record s { message = restated state s.message; mark = mark }) self.old.items }
+        ensures found { result
+            ≡ option_map place_and_group (find (is_numbered number) self.old.items) }
+        ensures items { self.new.items
+            ≡ changed (is_numbered number)
+            (λ s. record s { message = restated state s.message; mark = mark }) self.old.items }
         ensures next { self.new.next ≡ self.old.next }
     {
         let place = place_of(self.slots.values(), number)?;
@@ -105,22 +109,29 @@ impl Shelf {
         Some((was, group))
     }
 
-    /// Changes the hosts in the mark of a number's message; nothing where it is not there.
+    /// Sets the flags in the mark of the message with a number, if it is there.
     pub fn mark(&mut self, number: u64, hosts: u32)
-        ensures items { self.new.items ≡ changed (is_numbered number) (with_hosts hosts) self.old.items }
+        ensures items { self.new.items
+            ≡ changed (is_numbered number) (with_hosts hosts) self.old.items }
         ensures next { self.new.next ≡ self.old.next }
     {
         let Some(place) = place_of(self.slots.values(), number) else {
             return;
         };
         let mark = self.slots.mark_at(place);
-        if mark.hosts == hosts {
+        if mark.flags == hosts {
             return;
         }
-        self.slots.set_mark(place, Mark { hosts, ..mark });
+        self.slots.set_mark(
+            place,
+            Mark {
+                flags: hosts,
+                ..mark
+            },
+        );
     }
 
-    // Where no message is left, no place is kept.
+    // If no message is left, drops all slots.
     fn forget_empty(&mut self)
         ensures items { self.new.items ≡ self.old.items }
         ensures next { self.new.next ≡ self.old.next }
@@ -130,9 +141,10 @@ impl Shelf {
         }
     }
 
-    /// Takes out the message of a number, if it is there, and tells the place of its group.
+    /// Removes the message with a number, if it is there. Returns it with the index of its group.
     pub fn remove(&mut self, number: u64) -> Option<(Message, usize)>
-        ensures found { result ≡ option_map message_and_group (find (is_numbered number) self.old.items) }
+        ensures found { result
+            ≡ option_map message_and_group (find (is_numbered number) self.old.items) }
         ensures items { self.new.items ≡ without (is_numbered number) self.old.items }
         ensures next { self.new.next ≡ self.old.next }
     {
@@ -148,14 +160,14 @@ impl Shelf {
         Some((message, group))
     }
 
-    /// The least of what is due.
+    /// The key of the least entry due.
     pub fn least(&self) -> Option<Key>
         ensures { result ≡ least_of (map (λ s. s.mark) self.now.items) }
     {
         self.slots.least()
     }
 
-    /// Whether the mark of any message tells of one of these hosts.
+    /// Whether the mark of any message has one of these flags.
     pub fn has_on(&self, hosts: u32) -> bool
         ensures told { result ≡ list_any (λ s. meets hosts s.mark) self.now.items }
         ensures ordered { Ascends number_of 0 self.now.items }
@@ -163,10 +175,12 @@ impl Shelf {
         self.slots.has_on(hosts)
     }
 
-    /// The number of the first message of a number from one on whose mark tells of one of these hosts,
-    /// and the place of its group.
+    /// The first message at or after a number whose mark has one of these flags. Returns its number
+    /// and the index of its group.
     pub fn next(&self, from: u64, hosts: u32) -> Option<(u64, usize)>
-        ensures found { result ≡ option_map number_and_group (find (λ s. nat_le from s.message.number && meets hosts s.mark) self.now.items) }
+        ensures found { result
+            ≡ option_map number_and_group
+            (find (λ s. nat_le from s.message.number && meets hosts s.mark) self.now.items) }
         ensures bound { IfSome result (λ first. first.0 < self.now.next) }
         ensures range { self.now.next < 2 ^ 64 }
         ensures ordered { Ascends number_of 0 self.now.items }
@@ -177,7 +191,7 @@ impl Shelf {
         Some((slot.number, slot.group))
     }
 
-    // Drops the places whose messages left, and makes room for one message more.
+    // Drops the slots whose messages have left, and makes room for one more message.
     #[cold]
     #[inline(never)]
     fn drop_gone(&mut self) -> Result<(), AllocError>
@@ -189,8 +203,8 @@ impl Shelf {
         self.slots.retain(|slot| slot.message.is_some())
     }
 
-    /// Makes room for one message more, so that its push succeeds: where there is none, the places
-    /// are dropped whose messages left.
+    /// Makes room for one more message, so that its push succeeds. If there is none, it drops the
+    /// slots whose messages have left.
     pub fn reserve(&mut self) -> Result<(), AllocError>
         ensures ready { OnOk result (self.new.ready ≡ true) }
         ensures items { self.new.items ≡ self.old.items }
@@ -204,11 +218,13 @@ impl Shelf {
         self.drop_gone()
     }
 
-    /// One more message, with the next number and the place of its group. Succeeds where there is room.
+    /// Adds a message with the next number and the index of its group. It succeeds if there is
+    /// room.
     pub fn push(&mut self, message: Message, group: usize, mark: Mark) -> Result<(), AllocError>
         requires number { message.number ≡ self.old.next }
         requires range { self.old.next + 1 < 2 ^ 64 }
-        ensures pushed { OnOk result (self.new.items ≡ self.old.items ++ record { message = message; mark = mark; group = group } ∷ []) }
+        ensures pushed { OnOk result (self.new.items
+            ≡ self.old.items ++ record { message = message; mark = mark; group = group } ∷ []) }
         ensures next { OnOk result (self.new.next ≡ self.old.next + 1) }
         ensures unchanged { OnErr result (self.new ≡ self.old) }
         ensures succeeds { self.old.ready ≡ true → IsOk result }
@@ -225,7 +241,7 @@ impl Shelf {
         Ok(())
     }
 
-    /// The next number goes to no message.
+    /// Uses up the next number without a message.
     pub fn skip(&mut self)
         requires { self.old.next + 1 < 2 ^ 64 }
         ensures items { self.new.items ≡ self.old.items }

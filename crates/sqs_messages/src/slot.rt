@@ -1,4 +1,4 @@
-//! The places of a shelf.
+//! The slots of a shelf.
 ghost use Rattle.std.specs.Prelude.{◌≡◌, ◌<◌, ◌≤◌, ℕ, IfSome, MatchOption, get_or, length};
 ghost use Rattle.std.specs.Option.{option_map};
 ghost use Rattle.sqs_messages.specs.Slots.{AreOrdered, IsOff, IsOn, restated};
@@ -6,11 +6,11 @@ ghost use Rattle.sqs_messages.specs.declared.slot.Slot.{Slot};
 
 use sqs_message::{Message, Place};
 
-/// What of a message changes while it stands in a queue. Times are milliseconds from the start of the
-/// run.
+/// The part of a message that changes while the message is in a queue. Times are milliseconds from
+/// the start of the run.
 #[derive(Clone, Copy, Debug)]
 pub struct State {
-    /// Where it stands.
+    /// Whether it is delayed, visible or in flight.
     pub place: Place,
     /// When its delay or visibility timeout ends; none while it is visible.
     pub release: Option<u64>,
@@ -20,7 +20,7 @@ pub struct State {
     pub received: u64,
 }
 
-// A place: the number of the message that came there, the place of its group where the queue goes by
+// A slot: the number of the message that came there, the index of its group if the queue goes by
 // groups, and the message while it is there.
 #[derive(Drop)]
 pub struct Slot {
@@ -29,10 +29,11 @@ pub struct Slot {
     pub message: Option<Message>,
 }
 
-// The place of a number, where it is there and no number is missing behind it.
+// The index of the slot with a number, if it is there and no later number is missing.
 fn place_from_last(slots: &[Slot], number: u64) -> Option<usize>
     ensures within { IfSome result (λ place. place < length slots.now) }
-    ensures number { IfSome result (λ place. (d : Slot) → (get_or slots.now place d).number ≡ number) }
+    ensures number { IfSome result
+        (λ place. (d : Slot) → (get_or slots.now place d).number ≡ number) }
 {
     let behind = slots.last()?.number.checked_sub(number)? as usize;
     let place = (slots.len() - 1).checked_sub(behind)?;
@@ -43,13 +44,14 @@ fn place_from_last(slots: &[Slot], number: u64) -> Option<usize>
     }
 }
 
-// The first place whose number is not below this one. It is known at once where all numbers behind
-// it have their places, and of 0.
+// The index of the first slot whose number is not below this one. It is found at once for 0, and if
+// no later number is missing.
 pub fn first_from(slots: &[Slot], number: u64) -> usize
     requires { AreOrdered slots.now }
     ensures bound { result ≤ length slots.now }
     ensures below { (k : ℕ) (d : Slot) → k < result → (get_or slots.now k d).number < number }
-    ensures from { (k : ℕ) (d : Slot) → result ≤ k → k < length slots.now → number ≤ (get_or slots.now k d).number }
+    ensures from { (k : ℕ) (d : Slot) → result ≤ k → k < length slots.now
+        → number ≤ (get_or slots.now k d).number }
 {
     if number == 0 {
         return 0;
@@ -60,7 +62,7 @@ pub fn first_from(slots: &[Slot], number: u64) -> usize
     slots.partition_point(|slot| slot.number < number)
 }
 
-// The place where the message of a number stands.
+// The index of the slot of the message with a number.
 pub fn place_of(slots: &[Slot], number: u64) -> Option<usize>
     requires { AreOrdered slots.now }
     ensures { MatchOption result (IsOff slots.now number) (IsOn slots.now number) }
@@ -74,7 +76,7 @@ pub fn place_of(slots: &[Slot], number: u64) -> Option<usize>
     }
 }
 
-// A message changes. Answers where it stood.
+// Sets the state of a message. Returns the state that it was in.
 pub fn write(slot: &mut Slot, state: State) -> Option<Place>
     ensures number { slot.new.number ≡ slot.old.number }
     ensures group { slot.new.group ≡ slot.old.group }

@@ -33,10 +33,11 @@ use sqs_redrive::QueueSettings;
 use std::alloc::{AllocError, Global};
 use std::marker::Model;
 
-/// A queue's number and settings, its messages in the order of their arrival, and how many ever came.
-/// Contracts see it as the definitions' `Queue` without deduplication entries. Times are milliseconds.
+/// A queue's number and settings, its messages in the order of their arrival, and how many ever
+/// came. Contracts see it as the definitions' `Queue` without deduplication entries. Times are
+/// milliseconds.
 ///
-/// A call on one message takes the time of the logarithm of how many there are.
+/// A call on one message takes time logarithmic in the number of messages.
 #[derive(Drop)]
 pub struct MessageTable {
     site: u32,
@@ -59,7 +60,8 @@ impl Model for MessageTable {
 }
 
 impl MessageTable {
-    /// No messages of a queue of this number, to which so many came before. Takes no memory.
+    /// An empty table of the queue with this number, to which `arrivals` messages came before. It
+    /// allocates nothing.
     pub fn opened_at(
         alloc: Global,
         site: u32,
@@ -68,7 +70,14 @@ impl MessageTable {
     ) -> MessageTable
         requires settings { IsQueueSettings settings }
         requires arrivals { arrivals ≤ most_count }
-        ensures { result ≡ record { site = site; settings = settings; records = []; entries = []; arrivals = arrivals } }
+        ensures { result
+            ≡ record {
+              site = site;
+              settings = settings;
+              records = [];
+              entries = [];
+              arrivals = arrivals;
+            } }
     {
         MessageTable {
             site,
@@ -103,7 +112,7 @@ impl MessageTable {
         self.shelf.number()
     }
 
-    /// The message of a number, if it is there.
+    /// The message with a number, if it is there.
     pub fn find(&self, number: u64) -> Option<&Message>
         ensures found { option_copied result ≡ numbered number self.now.records }
         ensures counted { IfSome result (λ m. IsCounted m.now) }
@@ -120,7 +129,11 @@ impl MessageTable {
         self.shelf.iter()
     }
 
-    /// One more message, with the next number. Where there is no memory nothing changes.
+    /// Adds a message with the next number.
+    ///
+    /// # Errors
+    ///
+    /// `AllocError` if memory runs out; nothing changes then.
     pub fn push(&mut self, message: Message) -> Result<(), AllocError>
         requires numbered { message.number ≡ self.old.arrivals }
         requires counted { IsCounted message }
@@ -136,8 +149,12 @@ impl MessageTable {
         Ok(())
     }
 
-    /// One more message, with the next number, and its deduplication entry, which lives for 5 minutes
-    /// (Developer Guide: exactly-once processing). Where there is no memory nothing changes.
+    /// Adds a message with the next number, and its deduplication entry, which lives for 5 minutes
+    /// (Developer Guide: exactly-once processing).
+    ///
+    /// # Errors
+    ///
+    /// `AllocError` if memory runs out; nothing changes then.
     pub fn push_once(
         &mut self,
         message: Message,
@@ -152,7 +169,14 @@ impl MessageTable {
         requires no_earlier { All (λ e. e.end ≤ now + deduplication_interval) entries.old }
         requires none_living { living_among now key.scope key.id entries.old ≡ None }
         ensures added { OnOk result (self.new ≡ with_message self.old message) }
-        ensures entered { OnOk result (entries.new ≡ living_entries now entries.old ++ record { scope = key.scope; id = key.id; end = now + deduplication_interval; number = self.old.arrivals } ∷ []) }
+        ensures entered { OnOk result (entries.new
+            ≡ living_entries now entries.old
+            ++ record {
+              scope = key.scope;
+              id = key.id;
+              end = now + deduplication_interval;
+              number = self.old.arrivals;
+            } ∷ []) }
         ensures unchanged { OnErr result (self.new ≡ self.old) }
         ensures same_entries { OnErr result (entries.new ≡ entries.old) }
     {
@@ -165,7 +189,7 @@ impl MessageTable {
         Ok(())
     }
 
-    /// The next number goes to a message that does not stay.
+    /// Gives the next number to a message that does not stay.
     pub fn skip(&mut self)
         requires { self.old.arrivals < most_count }
         ensures { self.new ≡ record self.old { arrivals = self.old.arrivals + 1 } }
@@ -173,7 +197,7 @@ impl MessageTable {
         self.shelf.skip();
     }
 
-    /// The message of a number takes another state, if it is there. Takes no memory.
+    /// Sets the state of the message with a number, if it is there. It allocates nothing.
     pub fn put(&mut self, number: u64, state: State)
         requires receives { state.receives ≤ most_count }
         requires received { state.received ≤ most_count }
@@ -186,7 +210,7 @@ impl MessageTable {
         self.order.put(&mut self.shelf, number, state, due);
     }
 
-    /// Takes out the message of a number, if it is there. Takes no memory.
+    /// Removes the message with a number, if it is there. It allocates nothing.
     pub fn remove(&mut self, number: u64) -> Option<Message>
         ensures found { result ≡ numbered number self.old.records }
         ensures rest { self.new ≡ taken_out self.old number }
@@ -194,15 +218,15 @@ impl MessageTable {
         self.order.remove(&mut self.shelf, number)
     }
 
-    /// The key of what is due next: the least expiry or end of a delay or visibility timeout. Goes
-    /// over no messages.
+    /// The key of the next entry due: the least expiry or end of a delay or visibility timeout. It
+    /// does not scan the messages.
     pub fn least_due(&self) -> Option<Key>
         ensures { result ≡ least (queue_dues self.now) }
     {
         self.shelf.least()
     }
 
-    /// How many messages are where. Goes over no messages.
+    /// The number of messages in each state. It does not scan the messages.
     pub fn counts(&self) -> Counts
         ensures visible { result.visible ≡ count_by is_visible self.now.records }
         ensures in_flight { result.in_flight ≡ count_by is_in_flight self.now.records }
@@ -211,17 +235,22 @@ impl MessageTable {
         self.shelf.counts()
     }
 
-    /// The numbers of the first messages, at most so many, that a receive may give which sees these
-    /// hosts, in the order in which the queue gives them, and how many messages were read to choose
-    /// them.
+    /// The numbers of the first messages, at most `most`, that a receive may give if it sees these
+    /// hosts, in the order in which the queue gives them. Also how many messages were read to
+    /// choose them.
+    ///
+    /// # Errors
+    ///
+    /// `AllocError` if memory runs out.
     pub fn first_numbers(&self, hosts: u32, most: u64) -> Result<Choice, AllocError>
-        ensures numbers { IfOk result (λ choice. choice.numbers.items ≡ map (λ m. m.number) (take most (available self.now hosts))) }
+        ensures numbers { IfOk result (λ choice.
+            choice.numbers.items ≡ map (λ m. m.number) (take most (available self.now hosts))) }
         ensures looked { IfOk result (λ choice. choice.looked ≤ 2 * most) }
         ensures read { IfOk result (λ choice. length choice.numbers.items ≤ choice.looked) }
         ensures ordered { Ascends (λ m. m.number) 0 self.now.records }
     {
         let _next = self.shelf.number();
-        // No more are given than are visible, so that none is looked for after the last of these.
+        // No more are given than are visible, so the search ends with the last of these.
         let most = most.min(self.shelf.counts().visible);
         match &self.order {
             Order::Hosts(_) => hosts::choose(self.alloc, &self.shelf, hosts, most),
@@ -229,8 +258,8 @@ impl MessageTable {
         }
     }
 
-    /// Whether a receive that sees these hosts may give a message. Takes no memory, and reads no
-    /// message.
+    /// Whether a receive that sees these hosts may give a message. It allocates nothing, and reads
+    /// no message.
     pub fn has_available(&self, hosts: u32) -> bool
         ensures { result ≡ not (is_empty (available self.now hosts)) }
     {

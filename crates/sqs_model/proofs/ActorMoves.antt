@@ -1,8 +1,6 @@
 -- What an actor does next leaves it sound, makes it wake later or as before, and sends only what arrives later.
 use Rattle.std.specs.Prelude.{Bool, List, None, Option, Some, [], drop, false, nat_lt, suc, true, zero, ℕ, ◌+◌, ◌<◌, ◌∷◌, ◌≡◌, ◌≤◌, ◌⊎◌}
 use Rattle.std.proofs.Common.{add-one, ap, arith, inl, inr, refl, subst, sym, ◌∙◌}
-use Rattle.sqs_message.specs.declared.calls.Call.{Call}
-use Rattle.sqs_message.specs.declared.calls.Call.TheVariants as calls
 use Rattle.sqs_message.specs.declared.calls.ScriptCall.{ScriptCall}
 use Rattle.sqs_model.specs.declared.acts.Act.{Act}
 use Rattle.sqs_model.specs.declared.acts.Act.TheVariants as acts
@@ -16,12 +14,13 @@ use Rattle.sqs_model.specs.declared.agents.Role.{Role}
 use Rattle.sqs_model.specs.declared.agents.Role.TheVariants.{Consumer, Producer, Script}
 use Rattle.sqs_redrive.specs.declared.answers.Got.{Got}
 use Rattle.sqs_redrive.specs.declared.transfers.Outbound.{Outbound}
-use Rattle.sqs_model.specs.Actor.{Actor, Asked, Ended, Served, Stage, act_of, consumer_got, consumer_told, consumer_wake, ends_service, first_at, idle, next, next_as, producer_sent, producer_wake, script_wake, serves, serving, wakes_after, woken}
+use Rattle.sqs_model.specs.Actor.{Actor, Asked, Ended, Served, LastAct, consumer_got, consumer_told, consumer_wake, ends_service, first_at, idle, next, next_as, producer_sent, producer_wake, script_wake, serves, serving, wakes_after, woken}
 use Rattle.sqs_model.specs.Draw.{Draws, drawn_chance, drawn_latency, drawn_uniform}
 use Rattle.sqs_model.specs.Progress.{Ascends, IsSoundActor, IsSoundForward, IsSoundRole, WakesFor}
 use Rattle.sqs_model.proofs.Counts.{ascends_lower, tick, tick_if, tick_less, tick_past}
 use Rattle.sqs_model.proofs.Effects.{latency_least, uniform_least}
 use Rattle.sqs_model.proofs.Branches.{either}
+use Rattle.sqs_model.proofs.Sending.{Sends, call_sends}
 
 -- the rest of a list in order is in order
 pub drop_ascends : (n k : ℕ) (xs : List ScriptCall) → Ascends (λ c. c.at) n xs → Ascends (λ c. c.at) 0 (drop k xs)
@@ -45,14 +44,7 @@ IsLater now (Some o) = now < o.at
 
 -- whether what an act sends arrives later
 abbrev pub SendsLater : ℕ → Act → Type 0
-SendsLater now (acts.Send body delay group id) = Unit {0}
-SendsLater now (acts.Receive max wait timeout) = Unit {0}
-SendsLater now (acts.Delete text) = Unit {0}
-SendsLater now (acts.Change text timeout) = Unit {0}
-SendsLater now (acts.Start task) = Unit {0}
-SendsLater now (acts.Cancel task) = Unit {0}
-SendsLater now (acts.Serve id receipt failed forward) = IsLater now forward
-SendsLater now acts.Nothing = Unit {0}
+SendsLater now act = Sends (IsLater now) act
 
 -- an act of an actor of a role, and the actor after it, with so many dues gone
 pub record Steps (now e gone : ℕ) (r : Role) (a : Actor) (x : Act × Actor) : Type 0 where
@@ -85,14 +77,6 @@ module _ (now e : ℕ) (l : e ≤ now) where
   gone_at_most gone a (inl z) = omega arith
   gone_at_most gone a (inr h) = let t : tick_if e a.wake ≡ tick e now = ap (tick_if e) h.0 in let u : gone ≡ tick e now = h.1 in omega arith
 
-  call_sends : (c : Call) → SendsLater now (act_of c)
-  call_sends (calls.Send body delay group id) = tt
-  call_sends (calls.Receive max wait timeout) = tt
-  call_sends (calls.Delete receipt) = tt
-  call_sends (calls.Change receipt timeout) = tt
-  call_sends (calls.Start task) = tt
-  call_sends (calls.Cancel task) = tt
-
   -- scripts
   script_later : (gone at : ℕ) (a : Actor) (cs : List ScriptCall) → a.wake ≡ Some at → Ascends (λ c. c.at) (at + 1) cs → IsGone now e gone a → tick_if e (first_at cs) + gone ≤ tick_if e a.wake
   script_later gone at a [] w h g = omega (arith, gone_at_most gone a g)
@@ -119,7 +103,7 @@ module _ (now e : ℕ) (l : e ≤ now) where
         settings = refl;
         wakes = rw (drop_next a.wakes script c cs h) refl;
         wake = script_later gone c.at a cs w s.1 g;
-        sends = call_sends c.call;
+        sends = call_sends (IsLater now) c.call;
       }
 
   -- an actor as it was
@@ -161,7 +145,7 @@ module _ (now e : ℕ) (l : e ≤ now) where
       let u : tick_if e b.wake ≡ 0 = ap (tick_if e) w in
       record { number = n; settings = t; wakes = tt; wake = omega arith; sends = tt }
   ends_steps gone c a b g (false, draws) s n t w m =
-      serves_steps gone c a (record b { stage = Served g.receipt; draws = draws }) g c.forward s n t w m
+      serves_steps gone c a (record b { last_act = Served g.receipt; draws = draws }) g c.forward s n t w m
 
   consumer_wake_steps :
       (gone : ℕ) (c : ConsumerSettings) (a : Actor) (gs : List Got) → IsSoundForward c.forward → IsGone now e gone a
@@ -189,7 +173,7 @@ module _ (now e : ℕ) (l : e ≤ now) where
   consumer_got_steps c a [] s = idle_steps c a s.1
   consumer_got_steps c a (g ∷ gs) s = serving_steps c a (g ∷ gs) s.0
 
-  consumer_told_steps : (c : ConsumerSettings) (a : Actor) (stage : Stage) → IsSoundRole (Consumer c) → Steps now e 0 (Consumer c) a (consumer_told a c now stage)
+  consumer_told_steps : (c : ConsumerSettings) (a : Actor) (last_act : LastAct) → IsSoundRole (Consumer c) → Steps now e 0 (Consumer c) a (consumer_told a c now last_act)
   consumer_told_steps c a Asked s = idle_steps c a s.1
   consumer_told_steps c a (Served receipt) s = record { number = refl; settings = refl; wakes = tt; wake = omega arith; sends = tt }
   consumer_told_steps c a Ended s = serving_steps c a a.held s.0
@@ -206,7 +190,7 @@ module _ (now e : ℕ) (l : e ≤ now) where
   role_steps gone (Consumer c) a told_by.Wake s w g = consumer_wake_steps gone c a a.held s.2 g
   role_steps gone (Consumer c) a (told_by.Got gots) s w g = rw g (consumer_got_steps c a gots s)
   role_steps gone (Consumer c) a told_by.Waiting s w g = rw g (same_steps (Consumer c) a w)
-  role_steps gone (Consumer c) a told_by.Other s w g = rw g (consumer_told_steps c a a.stage s)
+  role_steps gone (Consumer c) a told_by.Other s w g = rw g (consumer_told_steps c a a.last_act s)
 
   acts_from : (gone : ℕ) (a : Actor) (x : Act × Actor) → IsSoundActor a → Steps now e gone a.settings.role a x → Acts now e gone a x
   acts_from gone a x s h =

@@ -2,8 +2,8 @@
 use Rattle.std.specs.List.{list_any}
 use Rattle.std.specs.Prelude.{All, Bool, List, Option, Some, [], false, if◌then◌else◌, true, ℕ, ◌&&◌, ◌+◌, ◌++◌, ◌<◌, ◌==◌, ◌∷◌, ◌≡◌, ◌≢◌, ◌≤◌, ◌||◌}
 use Rattle.std.proofs.Common.{ap, arith, refl, subst, sym, ◌∙◌}
-use Rattle.std.proofs.Math.Bool.{or-false}
-use Rattle.std.proofs.lemmas.Bool.{eq-eqb, eqb-true, ne_eqb, or_parts}
+use Rattle.std.proofs.Math.Bool.{and-true, or-false}
+use Rattle.std.proofs.lemmas.Bool.{and_parts, eq-eqb, eqb-true, ne_eqb, or_parts}
 use Rattle.std.proofs.lemmas.List.Folds.{list_any-append, list_any_none}
 use Rattle.std.proofs.lemmas.List.Elements.{All-push, All-weaker}
 use Rattle.sim_clock.specs.Firsts.{changed}
@@ -21,15 +21,6 @@ use Rattle.sqs_model.proofs.Ledger.{IsEnd, IsNews, IsPast, bit, end_of, ended, e
 and_false : (b : Bool) → (b && false) ≡ false
 and_false true = refl
 and_false false = refl
-
-and_true : (b : Bool) → (b && true) ≡ b
-and_true true = refl
-and_true false = refl
-
-and_parts : (a b : Bool) → (a && b) ≡ true → (a ≡ true) × (b ≡ true)
-and_parts true true h = (refl, refl)
-and_parts true false h = cc
-and_parts false b h = cc
 
 -- ids of one site with different numbers, and of different sites
 past_id : (site n k : ℕ) → n < k → same_id (id_at site n) (id_at site k) ≡ false
@@ -188,7 +179,7 @@ module _ (o : Origin) (top : ℕ) (base : List Row) where
   pub told_new : (rows : List Row) (r : Row) (p : Origin) (site n : ℕ) → IsNews o r site n p → All (IsPast o site n) rows → given_by o (rows ++ r ∷ []) (id_at site n) ≡ same_origin o p
   told_new rows r p site n d h =
       let one : (tells o r && same_id r.message (id_at site n)) ≡ same_origin o p =
-      ap (λ i. tells o r && same_id i (id_at site n)) d.message ∙ ap (λ b. tells o r && b) (own_id site n) ∙ and_true (tells o r) ∙ d.told in
+      ap (λ i. tells o r && same_id i (id_at site n)) d.message ∙ ap (λ b. tells o r && b) (own_id site n) ∙ and-true (tells o r) ∙ d.told in
       list_any-append (λ x. tells o x && same_id x.message (id_at site n)) rows (r ∷ [])
       ∙ ap (λ b. b || ((tells o r && same_id r.message (id_at site n)) || false)) (fresh rows site n h)
       ∙ or-false (tells o r && same_id r.message (id_at site n)) ∙ one

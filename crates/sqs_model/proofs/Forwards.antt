@@ -1,7 +1,5 @@
 -- What an actor sends carries no message that was accepted: it is a forward.
 use Rattle.std.specs.Prelude.{Bool, List, None, Option, Some, [], drop, false, nat_lt, true, ℕ, ◌∷◌}
-use Rattle.sqs_message.specs.declared.calls.Call.{Call}
-use Rattle.sqs_message.specs.declared.calls.Call.TheVariants as calls
 use Rattle.sqs_message.specs.declared.calls.ScriptCall.{ScriptCall}
 use Rattle.sqs_model.specs.declared.acts.Act.{Act}
 use Rattle.sqs_model.specs.declared.acts.Act.TheVariants as acts
@@ -15,9 +13,10 @@ use Rattle.sqs_redrive.specs.declared.answers.Got.{Got}
 use Rattle.sqs_redrive.specs.declared.transfers.Load.{Load}
 use Rattle.sqs_redrive.specs.declared.transfers.Load.TheVariants.{Forward, Move, Redrive}
 use Rattle.sqs_redrive.specs.declared.transfers.Outbound.{Outbound}
-use Rattle.sqs_model.specs.Actor.{Actor, Asked, Ended, Served, Stage, act_of, consumer_got, consumer_told, consumer_wake, ends_service, next, next_as, script_wake, serves, wakes_after, woken}
+use Rattle.sqs_model.specs.Actor.{Actor, Asked, Ended, Served, LastAct, consumer_got, consumer_told, consumer_wake, ends_service, next, next_as, script_wake, serves, wakes_after, woken}
 use Rattle.sqs_model.specs.Draw.{Draws, drawn_chance, drawn_uniform}
 use Rattle.sqs_model.proofs.Branches.{either}
+use Rattle.sqs_model.proofs.Sending.{Sends, call_sends}
 
 -- whether a load is a forward
 abbrev pub IsForward : Load → Type 0
@@ -32,26 +31,11 @@ MayForward (Some x) = IsForward x.load
 
 -- what an act sends, if anything
 abbrev pub SendsForwards : Act → Type 0
-SendsForwards (acts.Send body delay group id) = Unit {0}
-SendsForwards (acts.Receive max wait timeout) = Unit {0}
-SendsForwards (acts.Delete text) = Unit {0}
-SendsForwards (acts.Change text timeout) = Unit {0}
-SendsForwards (acts.Start task) = Unit {0}
-SendsForwards (acts.Cancel task) = Unit {0}
-SendsForwards (acts.Serve id receipt failed forward) = MayForward forward
-SendsForwards acts.Nothing = Unit {0}
-
-call_forwards : (c : Call) → SendsForwards (act_of c)
-call_forwards (calls.Send body delay group id) = tt
-call_forwards (calls.Receive max wait timeout) = tt
-call_forwards (calls.Delete receipt) = tt
-call_forwards (calls.Change receipt timeout) = tt
-call_forwards (calls.Start task) = tt
-call_forwards (calls.Cancel task) = tt
+SendsForwards act = Sends MayForward act
 
 script_forwards : (a : Actor) (cs : List ScriptCall) → SendsForwards (script_wake a cs).0
 script_forwards a [] = tt
-script_forwards a (c ∷ cs) = call_forwards c.call
+script_forwards a (c ∷ cs) = call_sends MayForward c.call
 
 serve_forwards : (a : Actor) (now : ℕ) (g : Got) (o : Option Forwarding) → SendsForwards (serves a now g o).0
 serve_forwards a now g None = tt
@@ -70,25 +54,21 @@ got_forwards : (a : Actor) (c : ConsumerSettings) (now : ℕ) (gs : List Got) �
 got_forwards a c now [] = tt
 got_forwards a c now (g ∷ gs) = tt
 
-told_forwards : (a : Actor) (c : ConsumerSettings) (now : ℕ) (s : Stage) → SendsForwards (consumer_told a c now s).0
+told_forwards : (a : Actor) (c : ConsumerSettings) (now : ℕ) (s : LastAct) → SendsForwards (consumer_told a c now s).0
 told_forwards a c now Asked = tt
 told_forwards a c now (Served r) = tt
 told_forwards a c now Ended = tt
 
 as_forwards : (r : Role) (a : Actor) (now : ℕ) (w : Answer) → SendsForwards (next_as r a now w).0
 as_forwards (Script script) a now told_by.Wake = script_forwards a (drop a.wakes script)
-as_forwards (Script script) a now (told_by.Got gots) = tt
-as_forwards (Script script) a now told_by.Waiting = tt
-as_forwards (Script script) a now told_by.Other = tt
-as_forwards (Producer p) a now told_by.Wake = tt
-as_forwards (Producer p) a now (told_by.Got gots) = tt
-as_forwards (Producer p) a now told_by.Waiting = tt
+as_forwards (Script script) a now w = tt
 as_forwards (Producer p) a now told_by.Other =
     either (λ (x : Act × Actor). SendsForwards x.0) (nat_lt a.wakes p.count) (acts.Nothing, wakes_after a now (drawn_uniform p.gap_min p.gap_max a.draws)) (acts.Nothing, a) tt tt
+as_forwards (Producer p) a now w = tt
 as_forwards (Consumer c) a now told_by.Wake = woke_forwards (woken a) c now a.held
 as_forwards (Consumer c) a now (told_by.Got gots) = got_forwards a c now gots
 as_forwards (Consumer c) a now told_by.Waiting = tt
-as_forwards (Consumer c) a now told_by.Other = told_forwards a c now a.stage
+as_forwards (Consumer c) a now told_by.Other = told_forwards a c now a.last_act
 
 pub next_forwards : (a : Actor) (now : ℕ) (w : Answer) → SendsForwards (next a now w).0
 unfolding next

@@ -1,10 +1,11 @@
 -- No message is given twice: groups have no message in common, and numbers go up.
 use Rattle.std.proofs.Common.{◌≡◌, ℕ, ◌+◌, ◌≤◌, Bool, true, false, List, [], ◌∷◌, Some, filter, flat_map, get_or, arith, refl, sym, ap, ◌∙◌}
 use Rattle.std.specs.List.{list_any}
-use Rattle.std.specs.Prelude.{All, ◌||◌, ◌≢◌, not}
+use Rattle.std.specs.Prelude.{All, ◌≢◌, not}
 use Rattle.std.proofs.lemmas.Bool.{false≢true}
 use Rattle.std.proofs.lemmas.List.Elements.{All-append, All-cons, All-filter, All-head, All-nil, All-tail, All-weaker, filter_passes}
 use Rattle.sim_clock.specs.Firsts.{kept_when}
+use Rattle.sim_clock.proofs.Booleans.{or_first, or_second}
 use Rattle.sqs_message.specs.declared.message.Message.{Message}
 use Rattle.sqs_model.specs.Available.{by_group, firsts, is_open, open_from}
 use Rattle.sqs_model.specs.Queue.{numbered, same_group, same_text}
@@ -38,14 +39,6 @@ Leaders (l ∷ ls) = All (λ k. same_group k l ≡ false) ls × Leaders ls
 -- whether none of these is of a message's group
 abbrev pub IsNew : List Message → Message → Type 0
 IsNew earlier k = list_any (same_group k) earlier ≡ false
-
-pub or_first : (a b : Bool) → (a || b) ≡ false → a ≡ false
-or_first true b e = e
-or_first false b e = refl
-
-or_second : (a b : Bool) → (a || b) ≡ false → b ≡ false
-or_second true b e = absurd (false≢true (sym e))
-or_second false b e = e
 
 pub record IsLed (earlier ls : List Message) : Type 0 where
   pub fresh : All (IsNew earlier) ls

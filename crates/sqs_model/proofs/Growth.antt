@@ -1,7 +1,6 @@
 -- The counts of a site only grow, whatever is handled there.
 use Rattle.std.specs.Prelude.{Bool, Err, List, None, Ok, Option, Result, Some, [], cond, drop, false, find, length, map, max, min, nat_lt, suc, take, true, zero, ℕ, ◌+◌, ◌-◌, ◌==◌, ◌∷◌, ◌≡◌, ◌≤◌}
 use Rattle.std.proofs.Common.{ap, arith, refl, sym, ◌∙◌}
-use Rattle.std.proofs.Math.Nat.{le-max_left, le-max_right, max-le}
 use Rattle.std.proofs.lemmas.Bool.{eq-eqb, eqb-true}
 use Rattle.sim_clock.specs.declared.key.Class.{Class}
 use Rattle.sim_clock.specs.declared.key.Class.TheVariants as classes
@@ -16,6 +15,7 @@ use Rattle.sqs_message.specs.declared.row.RowAnswer.TheVariants as answers
 use Rattle.sqs_message.specs.declared.row.RowKind.TheVariants as kinds
 use Rattle.sim_clock.specs.declared.refusal.Refusal.TheVariants as refusals
 use Rattle.std.specs.List.{list_any}
+use Rattle.sim_engine.proofs.Counted.{max_up}
 use Rattle.sqs_model.specs.declared.acts.Act.{Act}
 use Rattle.sqs_model.specs.declared.acts.Act.TheVariants as acts
 use Rattle.sqs_model.specs.declared.acts.Answer.{Answer}
@@ -35,7 +35,7 @@ use Rattle.sqs_redrive.specs.declared.settings.Policy.{Policy}
 use Rattle.sqs_redrive.specs.declared.transfers.Load.{Load}
 use Rattle.sqs_redrive.specs.declared.transfers.Outbound.{Outbound}
 use Rattle.sqs_redrive.specs.MoveTasks.{MoveTask, task_started, task_stepped}
-use Rattle.sqs_model.specs.Actor.{Actor, Asked, Ended, Served, Stage, consumer_got, consumer_told, consumer_wake, ends_service, next, next_as, producer_sent, script_wake, serves, serving, woken}
+use Rattle.sqs_model.specs.Actor.{Actor, Asked, Ended, Served, LastAct, consumer_got, consumer_told, consumer_wake, ends_service, next, next_as, producer_sent, script_wake, serves, serving, woken}
 use Rattle.sqs_model.specs.Acts.{Made, act_made, made, runs, receive_row, task_row, with_poll, all_came_back, came_back, cancel_done, cancel_made, change_answered, change_made, delete_made, given, long_poll, receive_as, receive_made, receive_none, receive_some, redrive_by, serve_made, short_poll, start_made}
 use Rattle.sqs_model.specs.Available.{all_available, all_hosts, available}
 use Rattle.sqs_model.specs.Draw.{Draws, drawn_chance, drawn_latency, drawn_uniform}
@@ -51,10 +51,6 @@ use Rattle.sqs_model.specs.Task.{Task, take_movable}
 use Rattle.sqs_model.proofs.Branches.{either}
 use Rattle.sqs_model.proofs.Counts.{find_picked}
 use Rattle.sqs_model.proofs.Kept.{arrived_up, change_up, delete_up, expired_up, give_up, receive_up, released_up, sends_up, taken_up}
-
--- the greater of greater numbers is greater
-max_up : (a b c d : ℕ) → a ≤ b → c ≤ d → max a c ≤ max b d
-max_up a b c d h k = max-le (omega (arith, h, le-max_left b d)) (omega (arith, k, le-max_right b d))
 
 -- the greatest number of a list, where one of it is changed into something no less
 changed_up : {A : Type 0} (f : A → ℕ) (p : A → Bool) (y : A) (xs : List A) → ((x : A) → find p xs ≡ Some x → f x ≤ f y) → greatest (map f xs) ≤ greatest (map f (changed p (λ _. y) xs))
@@ -131,7 +127,7 @@ serves_up a b now g (Some f) t =
 ends_up : (a b : Actor) (c : ConsumerSettings) (now : ℕ) (g : Got) (fails : Bool) (d : Draws) → Turns a b → a.draws.taken ≤ d.taken → Turns a (ends_service b c now g (fails, d)).1
 ends_up a b c now g true d t w = record { number = t.number; wakes = t.wakes; polls = t.polls; sent = t.sent; words = w }
 ends_up a b c now g false d t w =
-    serves_up a (record b { stage = Served g.receipt; draws = d }) now g c.forward
+    serves_up a (record b { last_act = Served g.receipt; draws = d }) now g c.forward
     (record { number = t.number; wakes = t.wakes; polls = t.polls; sent = t.sent; words = w })
 
 woke_up : (a b : Actor) (c : ConsumerSettings) (now : ℕ) (gs : List Got) → Turns a b → Turns a (consumer_wake b c now gs).1
@@ -149,7 +145,7 @@ got_up : (a : Actor) (c : ConsumerSettings) (now : ℕ) (gs : List Got) → Turn
 got_up a c now [] = turns a _ refl (omega arith) refl (omega arith) (omega arith)
 got_up a c now (g ∷ gs) = serving_up a c now (g ∷ gs)
 
-told_up : (a : Actor) (c : ConsumerSettings) (now : ℕ) (s : Stage) → Turns a (consumer_told a c now s).1
+told_up : (a : Actor) (c : ConsumerSettings) (now : ℕ) (s : LastAct) → Turns a (consumer_told a c now s).1
 told_up a c now Asked = turns a _ refl (omega arith) refl (omega arith) (omega arith)
 told_up a c now (Served r) = turns a _ refl (omega arith) refl (omega arith) (omega arith)
 told_up a c now Ended = serving_up a c now a.held
@@ -166,7 +162,7 @@ as_up (Producer p) a now told_by.Other = sent_up a p now
 as_up (Consumer c) a now told_by.Wake = woke_up a (woken a) c now a.held (turns a (woken a) refl (omega arith) refl (omega arith) (omega arith))
 as_up (Consumer c) a now (told_by.Got gots) = got_up a c now gots
 as_up (Consumer c) a now told_by.Waiting = turns a a refl (omega arith) refl (omega arith) (omega arith)
-as_up (Consumer c) a now told_by.Other = told_up a c now a.stage
+as_up (Consumer c) a now told_by.Other = told_up a c now a.last_act
 
 pub next_up : (a : Actor) (now : ℕ) (w : Answer) → Turns a (next a now w).1
 unfolding next

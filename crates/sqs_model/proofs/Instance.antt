@@ -1,11 +1,12 @@
 -- The laws of every site, of those of SQS.
 use Rattle.std.specs.Ordering.{is_lt, on}
-use Rattle.std.specs.Prelude.{All, List, [], false, if◌then◌else◌, map, true, ℕ, ◌+◌, ◌++◌, ◌<◌, ◌∷◌, ◌≡◌, ◌≤◌, ◌⊎◌}
+use Rattle.std.specs.Prelude.{List, [], false, if◌then◌else◌, map, true, ℕ, ◌+◌, ◌++◌, ◌<◌, ◌∷◌, ◌≡◌, ◌≤◌, ◌⊎◌}
 use Rattle.std.specs.declared.cmp.Ordering.{Ordering}
 use Rattle.std.proofs.Common.{ap, arith, inl, inr, refl, subst, ◌∙◌}
-use Rattle.std.proofs.lemmas.List.Elements.{All-cons, All-head, All-nil, All-tail, All-weaker}
+use Rattle.std.proofs.lemmas.List.Elements.{All-weaker}
 use Rattle.sim_clock.specs.declared.key.Key.{Key}
 use Rattle.sim_clock.specs.Order.{inserted_by, key_cmp}
+use Rattle.sim_clock.proofs.Lists.{all_inserted}
 use Rattle.sim_engine.specs.Laws.{SiteLaws}
 use Rattle.sqs_message.specs.declared.message.Message.{Message}
 use Rattle.sqs_redrive.specs.declared.transfers.Outbound.{Outbound}
@@ -73,14 +74,6 @@ later_site a b l s p =
       filled = All-weaker (λ (m : Message). m.enqueued ≤ a) (λ m. m.enqueued ≤ b) (λ m n. omega arith) s.core.queue.records p.filled;
       arriving = p.arriving;
     }
-
-all_inserted : {A : Type 0} (P : A → Type 0) (R : A → A → Ordering) (x : A) (xs : List A) → P x → All P xs → All P (inserted_by R x xs)
-all_inserted P R x [] p h = All-cons P x [] p (All-nil P)
-all_inserted P R x (y ∷ ys) p h =
-    elim (is_lt (R x y)) as (λ b. All P (if b then x ∷ (y ∷ ys) else y ∷ inserted_by R x ys)) [
-      | true ↦ All-cons P x (y ∷ ys) p h
-      | false ↦ All-cons P y (inserted_by R x ys) (All-head P y ys h) (all_inserted P R x ys p (All-tail P y ys h))
-    ]
 
 pub sqs_laws : SiteLaws sqs sqs_conditions
 sqs_laws =

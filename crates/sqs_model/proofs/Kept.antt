@@ -312,15 +312,6 @@ entered now site entries e n at h = none_later now entries e at h
 counted : (now site : ℕ) (entries : List Entry) (n : ℕ) → Recent now site entries n → Recent now site entries (n + 1)
 counted now site entries n h = h
 
--- so a send, an arrival and a receive leave none from after their moment
-pub sends_recent :
-    (k : Kind) (q : Queue) (now : ℕ) (body : List ℕ) (delay : Option ℕ) (group id : Option (List ℕ))
-    → IsRecent now q → IsRecent now (sends k q now body delay group id).1
-sends_recent = sends_kept Recent entered counted
-
-pub arrived_recent : (q : Queue) (now : ℕ) (x : Load) → IsRecent now q → IsRecent now (arrived q now x).1
-arrived_recent = arrived_kept Recent entered counted
-
 pub receive_recent :
     (q : Queue) (now max : ℕ) (timeout : Option ℕ) (set : ℕ) (short : Bool)
     → IsRecent now q → IsRecent now (receive q now max timeout set short).1
@@ -330,9 +321,6 @@ receive_recent = receive_kept Recent entered counted
 pub act_recent : (key : Key) (a : Actor) (c : Core) (x : Act) → IsRecent key.at c.queue → IsRecent key.at (act_made key a c x).effect.core.queue
 act_recent = act_stays Recent entered counted
 
-pub told_recent : (key : Key) (i : ℕ) (w : Answer) (c : Core) → IsRecent key.at c.queue → IsRecent key.at (told key i w c).core.queue
-told_recent = told_stays Recent entered counted
-
 -- nor does the giving of messages, or the answers to waiting polls
 pub given_recent :
     (key : Key) (c : Core) (agent : ℕ) (timeout : Option ℕ) (x : Queue × List Got)
@@ -341,9 +329,6 @@ given_recent = given_stays Recent entered counted
 
 pub polls_recent : (key : Key) (ps : List Poll) (c : Core) → IsRecent key.at c.queue → IsRecent key.at (answer_polls key ps c).core.queue
 polls_recent = polls_stays Recent entered counted
-
-pub polled_recent : (key : Key) (e : Effect) → IsRecent key.at e.core.queue → IsRecent key.at (with_polls key e).core.queue
-polled_recent = polled_stays Recent entered counted
 
 -- nor does what is due at a site
 pub arrival_recent : (key : Key) (o : Option Outbound) (c : Core) → IsRecent key.at c.queue → IsRecent key.at (handle_arrival key o c).core.queue

@@ -109,7 +109,3 @@ pub of_all : {A : Type 0} (P : A → Type 0) (xs : List A) (x : A) → All P xs 
 of_all P [] x a h = absurd h
 of_all P (y ∷ ys) x a (inl e) = subst P e (All-head P y ys a)
 of_all P (y ∷ ys) x a (inr h) = of_all P ys x (All-tail P y ys a) h
-
-pub each_append : {A : Type 0} (P : A → Type 0) (xs ys : List A) → Each P xs → Each P ys → Each P (xs ++ ys)
-each_append P [] ys h k = k
-each_append P (x ∷ xs) ys h k = (h.0, each_append P xs ys h.1 k)

@@ -1,13 +1,12 @@
 -- A handling of a key leaves nothing due that comes before the key, where nothing that was due came before it, and makes
 -- nothing due that is not later.
 use Rattle.std.specs.Prelude.{All, Bool, Err, List, None, Ok, Option, Result, Some, [], cond, false, find, flat_map, if◌then◌else◌, length, map, min, suc, take, drop, true, zero, ℕ, ◌*◌, ◌+◌, ◌-◌, ◌++◌, ◌<◌, ◌==◌, ◌∷◌, ◌≡◌, ◌≤◌}
-use Rattle.std.proofs.Common.{Equal, Greater, Less, arith, inl, inr, refl, subst, sym, true≢false}
+use Rattle.std.proofs.Common.{arith, inl, inr, refl, subst, sym, true≢false}
 use Rattle.std.proofs.Math.Nat.{mul-add}
 use Rattle.std.proofs.lemmas.Bool.{cases_lt, eqb-false, eqb-true, leb-false}
 use Rattle.std.proofs.lemmas.List.Elements.{All-push, All-tail}
 use Rattle.std.specs.List.{list_any}
-use Rattle.std.specs.Ordering.{is_lt, nat_cmp, ordering_then}
-use Rattle.std.specs.declared.cmp.Ordering.{Ordering}
+use Rattle.std.specs.Ordering.{is_lt}
 use Rattle.sim_clock.specs.declared.key.Class.{Class}
 use Rattle.sim_clock.specs.declared.key.Class.TheVariants as classes
 use Rattle.sim_clock.specs.declared.key.Key.{Key}
@@ -15,6 +14,7 @@ use Rattle.sim_clock.specs.Firsts.{without}
 use Rattle.sim_clock.specs.Order.{key_cmp}
 use Rattle.sim_clock.specs.declared.refusal.Refusal.{Refusal}
 use Rattle.sim_clock.specs.declared.refusal.Refusal.TheVariants as refusals
+use Rattle.sim_clock.proofs.Orderings.{key_not_less}
 use Rattle.sqs_message.specs.declared.ids.MessageId.{MessageId}
 use Rattle.sqs_message.specs.declared.ids.Receipt.{Receipt}
 use Rattle.sqs_message.specs.declared.message.Message.{Message}
@@ -65,17 +65,6 @@ use Rattle.sqs_model.proofs.Kept.{handled_number}
 use Rattle.sqs_model.proofs.Wakes.{IsLaterWake, KeepsWake, next_keeps}
 use Rattle.sqs_model.proofs.Members.{From, In, all_in, contains_in, in_append, in_flat, in_left, in_map, in_right, into_flat, into_map, of_all}
 use Rattle.sqs_model.specs.NoneBefore.{HandlingLeavesNoneBefore, HandlingMakesNothingDueNow, IsLaterOrIn}
-
-more_at : (o p : Ordering) → is_lt (ordering_then o p) ≡ false → is_lt o ≡ false
-more_at Less p h = h
-more_at Equal p h = refl
-more_at Greater p h = refl
-
-nat_more : (x y : ℕ) → is_lt (nat_cmp x y) ≡ false → y ≤ x
-nat_more x y h = grind (arith)
-
-key_more : (a b : Key) → is_lt (key_cmp a b) ≡ false → b.at ≤ a.at
-key_more a b h = nat_more a.at b.at (more_at _ _ h)
 
 lt_before : (a b : Key) → a.at < b.at → is_lt (key_cmp b a) ≡ false
 lt_before a b l = grind (arith)
@@ -682,7 +671,7 @@ pub leaves_none_before : HandlingLeavesNoneBefore
 leaves_none_before key s h f =
     let Comes : Key → Type 0 = λ j. is_lt (key_cmp j key) ≡ false in
     all_in Comes (dues (handled key s).site)
-    (still_comes key Comes (lt_before key) (λ j k. key_more j key k) s h (λ j i. of_all Comes (dues s) j f i))
+    (still_comes key Comes (lt_before key) (λ j k. key_not_less j key k) s h (λ j i. of_all Comes (dues s) j f i))
 
 -- nothing new that is not later
 pub makes_nothing_due_now : HandlingMakesNothingDueNow

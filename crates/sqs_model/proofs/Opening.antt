@@ -21,11 +21,11 @@ pub all_enumerated : {A : Type 0} (P : A → Type 0) (n : ℕ) (xs : List A) →
 all_enumerated {A} P n [] a = All-nil (λ (x : ℕ × A). P x.1)
 all_enumerated {A} P n (x ∷ xs) a = All-cons (λ (y : ℕ × A). P y.1) (n, x) (enumerate_from (n + 1) xs) (All-head P x xs a) (all_enumerated P (n + 1) xs (All-tail P x xs a))
 
-ascends_enumerated : {A : Type 0} (n : ℕ) (xs : List A) → Ascends (λ x. x.0) n (enumerate_from n xs)
+pub ascends_enumerated : {A : Type 0} (n : ℕ) (xs : List A) → Ascends (λ x. x.0) n (enumerate_from n xs)
 ascends_enumerated n [] = tt
 ascends_enumerated n (x ∷ xs) = (omega arith, ascends_enumerated (n + 1) xs)
 
-ascends_filter : {A : Type 0} (number : A → ℕ) (p : A → Bool) (n : ℕ) (xs : List A) → Ascends number n xs → Ascends number n (filter p xs)
+pub ascends_filter : {A : Type 0} (number : A → ℕ) (p : A → Bool) (n : ℕ) (xs : List A) → Ascends number n xs → Ascends number n (filter p xs)
 ascends_filter number p n [] a = tt
 ascends_filter number p n (x ∷ xs) a =
     let k : n ≤ number x = a.0 in

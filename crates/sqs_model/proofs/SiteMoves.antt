@@ -5,6 +5,7 @@ use Rattle.sim_clock.specs.declared.key.Class.TheVariants.{Release, Sample, Step
 use Rattle.sim_clock.specs.declared.key.Key.{Key}
 use Rattle.sim_clock.specs.Firsts.{without}
 use Rattle.sim_clock.proofs.Least.{key_tied}
+use Rattle.sim_clock.proofs.Orderings.{key_self}
 use Rattle.sqs_message.specs.declared.message.Message.{Message}
 use Rattle.sqs_redrive.specs.declared.transfers.Outbound.{Outbound}
 use Rattle.sqs_redrive.specs.Transfers.{transfer_key}
@@ -19,7 +20,7 @@ use Rattle.sqs_model.proofs.Counts.{count_is, find_picked, tick, tick_now, total
 use Rattle.sqs_model.proofs.Members.{From, In, in_append, in_contains, in_flat, in_found, in_map}
 use Rattle.sqs_model.proofs.Early.{by, early, early_is}
 use Rattle.sqs_model.proofs.Effects.{KeepsEffect}
-use Rattle.sqs_model.proofs.StepMoves.{arrival_keeps, expiry_falls, key_self, poll_end_falls, release_falls, sample_falls, step_falls, wake_falls, with_polls_keep}
+use Rattle.sqs_model.proofs.StepMoves.{arrival_keeps, expiry_falls, poll_end_falls, release_falls, sample_falls, step_falls, wake_falls, with_polls_keep}
 
 -- how many dues of a site there are by a moment
 pub site_is : (e : ℕ) (s : Site) → count_due e (dues s) ≡ total (λ o. tick e (transfer_key o).at) s.arriving + early e s.core

@@ -1,15 +1,14 @@
 -- The handling of a due takes it away, and makes nothing else due by the present.
 use Rattle.std.specs.Prelude.{All, Bool, List, None, Option, Some, [], cond, false, find, length, take, true, ℕ, ◌*◌, ◌+◌, ◌<◌, ◌==◌, ◌∷◌, ◌≡◌, ◌≤◌}
-use Rattle.std.proofs.Common.{Equal, Greater, Less, ap, arith, refl, subst, sym}
+use Rattle.std.proofs.Common.{ap, arith, refl, subst, sym}
 use Rattle.std.proofs.Math.Nat.{mul-add}
 use Rattle.std.proofs.lemmas.Bool.{eqb-false}
 use Rattle.std.proofs.lemmas.List.Elements.{All-cons, All-nil}
-use Rattle.std.specs.Ordering.{is_eq, ordering_reverse}
-use Rattle.std.specs.declared.cmp.Ordering.{Ordering}
 use Rattle.sim_clock.specs.declared.key.Key.{Key}
 use Rattle.sim_clock.specs.Firsts.{without}
-use Rattle.sim_clock.specs.Order.{key_cmp, key_cmp_total, same_key}
+use Rattle.sim_clock.specs.Order.{same_key}
 use Rattle.sim_clock.proofs.Least.{key_tied}
+use Rattle.sim_clock.proofs.Orderings.{key_self}
 use Rattle.sqs_message.specs.declared.message.Message.{Message}
 use Rattle.sqs_redrive.specs.declared.answers.Rest.{Rest}
 use Rattle.sqs_redrive.specs.declared.transfers.Load.{Load}
@@ -38,15 +37,6 @@ use Rattle.sqs_model.proofs.Early.{message_early, poll_early, sample_early, task
 use Rattle.sqs_model.proofs.Effects.{KeepsCore, KeepsEffect, after_core, and_then_keeps, came_back_keeps, latency_least, no_effect_keeps, polls_keep, queue_keeps, task_keeps, with_rows}
 use Rattle.sqs_model.proofs.QueueMoves.{Keeps, arrived_keeps, keeps_less, released_one, take_keeps, taken_found}
 use Rattle.sqs_model.proofs.TurnMoves.{polls_answered_keep, told_keeps, wake_keeps}
-
--- a key ties with itself
-tied_self : (o : Ordering) → o ≡ ordering_reverse o → is_eq o ≡ true
-tied_self Less h = cc
-tied_self Equal h = refl
-tied_self Greater h = cc
-
-pub key_self : (k : Key) → same_key k k ≡ true
-key_self k = tied_self (key_cmp k k) (key_cmp_total.antisymm k k)
 
 -- messages that a task moves leave its number and settings, and arrive later
 record Sends (key : Key) (t : Task) (m : Moved) : Type 0 where

@@ -29,7 +29,7 @@ use Rattle.sqs_redrive.specs.declared.settings.Kind.TheVariants.{Fifo, Standard}
 use Rattle.sqs_redrive.specs.declared.settings.Policy.{Policy}
 use Rattle.sqs_redrive.specs.declared.transfers.Load.{Load}
 use Rattle.sqs_redrive.specs.declared.transfers.Outbound.{Outbound}
-use Rattle.sqs_model.specs.Actor.{Actor, Asked, Ended, Served, Stage, act_of, consumer_got, consumer_told, consumer_wake, ends_service, next, next_as, script_wake, serves, woken}
+use Rattle.sqs_model.specs.Actor.{Actor, Asked, Ended, Served, LastAct, act_of, consumer_got, consumer_told, consumer_wake, ends_service, next, next_as, script_wake, serves, woken}
 use Rattle.std.specs.List.{list_any}
 use Rattle.sim_clock.specs.declared.refusal.Refusal.TheVariants as refusals
 use Rattle.sqs_message.specs.declared.row.RowAnswer.TheVariants as answers
@@ -233,9 +233,9 @@ role_left : (a x : Actor) → IsLeft a x → x.settings.role ≡ a.settings.role
 role_left a x (inl e) = ap (λ (y : Actor). y.settings.role) e
 role_left a x (inr e) = ap (λ (y : Actor). y.settings.role) e
 
-stage_left : (a x : Actor) → IsLeft a x → x.stage ≡ a.stage
-stage_left a x (inl e) = ap (λ (y : Actor). y.stage) e
-stage_left a x (inr e) = ap (λ (y : Actor). y.stage) e
+stage_left : (a x : Actor) → IsLeft a x → x.last_act ≡ a.last_act
+stage_left a x (inl e) = ap (λ (y : Actor). y.last_act) e
+stage_left a x (inr e) = ap (λ (y : Actor). y.last_act) e
 
 script_over : (more : Actor → Answer → Type 0) (s : List ScriptCall) (now : ℕ) (x : Actor) (w : Answer) → IsAnswer w → IsOverAfter more (next_as (Script s) x now w)
 script_over more s now x told_by.Wake h = absurd h
@@ -254,21 +254,21 @@ got_over more c now x [] = tt
 got_over more c now x (g ∷ gs) = tt
 
 -- whether a consumer has nothing to delete
-abbrev IsIdle : Stage → Type 0
+abbrev IsIdle : LastAct → Type 0
 IsIdle Asked = Unit {0}
 IsIdle (Served r) = ⊥
 IsIdle Ended = Unit {0}
 
-idle_over : (more : Actor → Answer → Type 0) (c : ConsumerSettings) (now : ℕ) (x : Actor) (s : Stage) → IsIdle s → IsOverAfter more (consumer_told x c now s)
+idle_over : (more : Actor → Answer → Type 0) (c : ConsumerSettings) (now : ℕ) (x : Actor) (s : LastAct) → IsIdle s → IsOverAfter more (consumer_told x c now s)
 idle_over more c now x Asked h = tt
 idle_over more c now x (Served r) h = absurd h
 idle_over more c now x Ended h = tt
 
-consumer_over : (more : Actor → Answer → Type 0) (c : ConsumerSettings) (now : ℕ) (x : Actor) (w : Answer) → IsIdle x.stage → IsAnswer w → IsOverAfter more (next_as (Consumer c) x now w)
+consumer_over : (more : Actor → Answer → Type 0) (c : ConsumerSettings) (now : ℕ) (x : Actor) (w : Answer) → IsIdle x.last_act → IsAnswer w → IsOverAfter more (next_as (Consumer c) x now w)
 consumer_over more c now x told_by.Wake i h = absurd h
 consumer_over more c now x (told_by.Got gots) i h = got_over more c now x gots
 consumer_over more c now x told_by.Waiting i h = tt
-consumer_over more c now x told_by.Other i h = idle_over more c now x x.stage i
+consumer_over more c now x told_by.Other i h = idle_over more c now x x.last_act i
 
 -- the same, of an actor by its role
 over_by : (k now : ℕ) (x : Actor) (w : Answer) (r : Role) → x.settings.role ≡ r → IsOverAfter (IsOver k now) (next_as r x now w) → IsOver (suc k) now x w
@@ -276,17 +276,17 @@ unfolding next
 over_by k now x w r e h = subst (λ q. IsOverAfter (IsOver k now) (next_as q x now w)) (sym e) h
 
 -- one decision more, by a consumer that served a message
-told_over : (k now : ℕ) (c : ConsumerSettings) (x : Actor) (s : Stage) → x.settings.role ≡ Consumer c → IsOverAfter (IsOver (suc k) now) (consumer_told x c now s)
+told_over : (k now : ℕ) (c : ConsumerSettings) (x : Actor) (s : LastAct) → x.settings.role ≡ Consumer c → IsOverAfter (IsOver (suc k) now) (consumer_told x c now s)
 told_over k now c x Asked e = tt
 told_over k now c x (Served r) e =
-    λ y w h l. over_by k now y w (Consumer c) (role_left (record x { stage = Ended }) y l ∙ e) (consumer_over (IsOver k now) c now y w (subst IsIdle (sym (stage_left (record x { stage = Ended }) y l)) tt) h)
+    λ y w h l. over_by k now y w (Consumer c) (role_left (record x { last_act = Ended }) y l ∙ e) (consumer_over (IsOver k now) c now y w (subst IsIdle (sym (stage_left (record x { last_act = Ended }) y l)) tt) h)
 told_over k now c x Ended e = tt
 
 answer_over : (k now : ℕ) (c : ConsumerSettings) (x : Actor) (w : Answer) → x.settings.role ≡ Consumer c → IsAnswer w → IsOver (suc (suc k)) now x w
 answer_over k now c x told_by.Wake e h = absurd h
 answer_over k now c x (told_by.Got gots) e h = over_by (suc k) now x (told_by.Got gots) (Consumer c) e (got_over (IsOver (suc k) now) c now x gots)
 answer_over k now c x told_by.Waiting e h = over_by (suc k) now x told_by.Waiting (Consumer c) e tt
-answer_over k now c x told_by.Other e h = over_by (suc k) now x told_by.Other (Consumer c) e (told_over k now c x x.stage e)
+answer_over k now c x told_by.Other e h = over_by (suc k) now x told_by.Other (Consumer c) e (told_over k now c x x.last_act e)
 
 -- a service that ends
 serves_over : (now at : ℕ) (c : ConsumerSettings) (a : Actor) (g : Got) (o : Option Forwarding) → a.settings.role ≡ Consumer c → IsOverAfter (IsOver 2 now) (serves a at g o)
@@ -295,7 +295,7 @@ serves_over now at c a g (Some f) e = λ x w h l. answer_over 0 now c x w (role_
 
 ends_over : (now : ℕ) (c : ConsumerSettings) (a : Actor) (g : Got) (y : Bool × Draws) → a.settings.role ≡ Consumer c → IsOverAfter (IsOver 2 now) (ends_service a c now g y)
 ends_over now c a g (true, draws) e = λ x w h l. answer_over 0 now c x w (role_left _ x l ∙ e) h
-ends_over now c a g (false, draws) e = serves_over now now c (record a { stage = Served g.receipt; draws = draws }) g c.forward e
+ends_over now c a g (false, draws) e = serves_over now now c (record a { last_act = Served g.receipt; draws = draws }) g c.forward e
 
 wake_over : (now : ℕ) (c : ConsumerSettings) (a : Actor) (gs : List Got) → a.settings.role ≡ Consumer c → IsOverAfter (IsOver 2 now) (consumer_wake a c now gs)
 wake_over now c a [] e = λ x w h l. answer_over 0 now c x w (role_left _ x l ∙ e) h

@@ -12,7 +12,7 @@ use Rattle.sqs_model.specs.declared.agents.ProducerSettings.{ProducerSettings}
 use Rattle.sqs_model.specs.declared.agents.Role.{Role}
 use Rattle.sqs_model.specs.declared.agents.Role.TheVariants.{Consumer, Producer, Script}
 use Rattle.sqs_redrive.specs.declared.answers.Got.{Got}
-use Rattle.sqs_model.specs.Actor.{Actor, Asked, Ended, Served, Stage, consumer_got, consumer_told, consumer_wake, ends_service, first_at, next, next_as, producer_sent, script_wake, serves, wakes_after, woken}
+use Rattle.sqs_model.specs.Actor.{Actor, Asked, Ended, Served, LastAct, consumer_got, consumer_told, consumer_wake, ends_service, first_at, next, next_as, producer_sent, script_wake, serves, wakes_after, woken}
 use Rattle.sqs_model.specs.Draw.{Draws, drawn_chance, drawn_uniform}
 use Rattle.sqs_model.specs.Progress.{Ascends, IsSoundActor, IsSoundRole, WakesFor}
 use Rattle.sqs_model.proofs.ActorMoves.{drop_ascends}
@@ -48,7 +48,7 @@ serves_none b now g (Some f) w = w
 
 ends_none : (b : Actor) (c : ConsumerSettings) (now : ℕ) (g : Got) (x : Bool × Draws) → b.wake ≡ None → (ends_service b c now g x).1.wake ≡ None
 ends_none b c now g (true, draws) w = w
-ends_none b c now g (false, draws) w = serves_none (record b { stage = Served g.receipt; draws = draws }) now g c.forward w
+ends_none b c now g (false, draws) w = serves_none (record b { last_act = Served g.receipt; draws = draws }) now g c.forward w
 
 woken_none : (a : Actor) (c : ConsumerSettings) (now : ℕ) (gs : List Got) → (consumer_wake (woken a) c now gs).1.wake ≡ None
 woken_none a c now [] = refl
@@ -63,7 +63,7 @@ got_keeps : (a : Actor) (c : ConsumerSettings) (now : ℕ) (gs : List Got) → (
 got_keeps a c now [] = refl
 got_keeps a c now (g ∷ gs) = refl
 
-told_keeps : (a : Actor) (c : ConsumerSettings) (now : ℕ) (stage : Stage) (held : List Got) → a.held ≡ held → (consumer_told a c now stage).1.wakes ≡ a.wakes
+told_keeps : (a : Actor) (c : ConsumerSettings) (now : ℕ) (last_act : LastAct) (held : List Got) → a.held ≡ held → (consumer_told a c now last_act).1.wakes ≡ a.wakes
 told_keeps a c now Asked held e = refl
 told_keeps a c now (Served receipt) held e = refl
 told_keeps a c now Ended [] e = rw e refl
@@ -81,7 +81,7 @@ role_keeps (Producer p) a now told_by.Other s w = sent_keeps a p now
 role_keeps (Consumer c) a now told_by.Wake s w = none_after a.wake _ (woken_none a c now a.held)
 role_keeps (Consumer c) a now (told_by.Got gots) s w = got_keeps a c now gots
 role_keeps (Consumer c) a now told_by.Waiting s w = refl
-role_keeps (Consumer c) a now told_by.Other s w = told_keeps a c now a.stage a.held refl
+role_keeps (Consumer c) a now told_by.Other s w = told_keeps a c now a.last_act a.held refl
 
 pub next_keeps : (a : Actor) (now : ℕ) (w : Answer) → IsSoundActor a → KeepsWake a w (next a now w).1
 unfolding next

@@ -1,7 +1,7 @@
 -- A handling keeps a site's ways, sends over them alone and at least their latencies later, and its rows carry its key and its site.
 use Rattle.std.specs.Prelude.{All, Bool, Err, IfSome, List, None, Ok, Option, Result, Some, [], false, find, length, map, min, nat_lt, suc, take, drop, true, zero, ℕ, ◌&&◌, ◌%◌, ◌*◌, ◌+◌, ◌==◌, ◌∷◌, ◌≡◌, ◌≤◌}
 use Rattle.std.proofs.Common.{ap, arith, refl, subst, sym, ◌∙◌}
-use Rattle.std.proofs.lemmas.List.Elements.{All-filter, All-cons, All-head, All-push, All-tail, All-take}
+use Rattle.std.proofs.lemmas.List.Elements.{All-filter, All-head, All-push, All-tail, All-take}
 use Rattle.std.specs.List.{list_any}
 use Rattle.sim_clock.specs.declared.key.Class.{Class}
 use Rattle.sim_clock.specs.declared.key.Class.TheVariants as classes
@@ -9,8 +9,6 @@ use Rattle.sim_clock.specs.declared.key.Key.{Key}
 use Rattle.sim_clock.specs.Firsts.{without}
 use Rattle.sim_clock.specs.declared.refusal.Refusal.{Refusal}
 use Rattle.sim_clock.specs.declared.refusal.Refusal.TheVariants as refusals
-use Rattle.sqs_message.specs.declared.calls.Call.{Call}
-use Rattle.sqs_message.specs.declared.calls.Call.TheVariants as calls
 use Rattle.sqs_message.specs.declared.calls.ScriptCall.{ScriptCall}
 use Rattle.sqs_message.specs.declared.ids.MessageId.{MessageId}
 use Rattle.sqs_message.specs.declared.ids.Receipt.{Receipt}
@@ -45,7 +43,7 @@ use Rattle.sqs_redrive.specs.declared.settings.Scope.{Scope}
 use Rattle.sqs_redrive.specs.declared.transfers.Load.{Load}
 use Rattle.sqs_redrive.specs.declared.transfers.Load.TheVariants.{Forward, Move, Redrive}
 use Rattle.sqs_redrive.specs.declared.transfers.Outbound.{Outbound}
-use Rattle.sqs_model.specs.Actor.{Actor, Asked, Ended, Served, Stage, act_of, consumer_got, consumer_told, consumer_wake, ends_service, next, next_as, script_wake, serves, serving, wakes_after, woken}
+use Rattle.sqs_model.specs.Actor.{Actor, Asked, Ended, Served, LastAct, consumer_got, consumer_told, consumer_wake, ends_service, next, next_as, script_wake, serves, serving, wakes_after, woken}
 use Rattle.sqs_model.specs.Acts.{Made, act_made, change_row, deleted_row, got_row, made, receive_row, runs, send_row, task_row, with_poll, all_came_back, came_back, cancel_done, cancel_made, change_answered, change_made, delete_done, delete_made, given, long_poll, receive_as, receive_made, receive_none, receive_some, redrive_by, sends, send_made, serve_made, short_poll, start_made}
 use Rattle.sqs_model.specs.Arrive.{arrived, expired_found, forwarded, forwarded_group, sent_of, settled_when}
 use Rattle.sqs_model.specs.Available.{all_available, all_hosts, available, available_at, firsts, has_host, open_from}
@@ -60,17 +58,19 @@ use Rattle.sqs_model.specs.Step.{Handled, Moved, arrival_done, arrival_rows, end
 use Rattle.sqs_model.specs.Task.{Taken, Task, destination, take_each, take_movable, taken_one}
 use Rattle.sqs_model.proofs.Answered.{change_by, delete_by, receive_by}
 use Rattle.sqs_model.proofs.Branches.{either}
+use Rattle.sqs_model.proofs.Sending.{Sends, call_sends}
 use Rattle.sqs_model.proofs.Chosen.{open_all}
 use Rattle.sqs_model.proofs.Grouped.{all_groups}
 use Rattle.sqs_model.proofs.Counts.{all_changed, all_without, find_all}
 use Rattle.sqs_model.proofs.Effects.{latency_least}
 use Rattle.sqs_model.specs.Ways.{CameOver, ComesOver, FitsWays, HandlingGoesAlongWays, AcceptingKeepsWays, HasActorWay, HasCoreWays, HasForwardWay, HasPolicyWay, HasQueueWays, HasRoleWay, HasTaskWay, HasTaskWays, IsRowOf, IsSentBy, LeadsBy, MayMoveTo}
 use Rattle.sqs_model.specs.Scenario.{edge}
-use Rattle.std.specs.declared.cmp.Ordering.{Ordering}
-use Rattle.std.specs.Ordering.{is_lt, on as by}
-use Rattle.sim_clock.specs.Order.{inserted_by, key_cmp}
+use Rattle.std.specs.Ordering.{on as by}
+use Rattle.sim_clock.specs.Order.{key_cmp}
+use Rattle.sim_clock.proofs.Lists.{all_inserted}
+use Rattle.sim_engine.proofs.Parts.{each_append}
 use Rattle.sqs_redrive.specs.Transfers.{transfer_key}
-use Rattle.sqs_model.proofs.Members.{Each, all_each, each_append}
+use Rattle.sqs_model.proofs.Members.{Each, all_each}
 
 module _ (edges : List Edge) (home : ℕ → ℕ) (leads : ℕ → ℕ → Type 0) (site : ℕ) where
   -- 1. queues
@@ -444,14 +444,7 @@ module _ (edges : List Edge) (home : ℕ → ℕ) (leads : ℕ → ℕ → Type 
 
   -- what an act sends
   abbrev SendsOver : Act → Type 0
-  SendsOver (acts.Send body delay group id) = Unit {0}
-  SendsOver (acts.Receive max wait timeout) = Unit {0}
-  SendsOver (acts.Delete text) = Unit {0}
-  SendsOver (acts.Change text timeout) = Unit {0}
-  SendsOver (acts.Start task) = Unit {0}
-  SendsOver (acts.Cancel task) = Unit {0}
-  SendsOver (acts.Serve id receipt failed forward) = MaySend forward
-  SendsOver acts.Nothing = Unit {0}
+  SendsOver act = Sends MaySend act
 
   act_goes : (a : Actor) (c : Core) (x : Act) → FineActor a → SendsOver x → Fine c → Makes (act_made key a c x)
   unfolding act_made
@@ -470,17 +463,9 @@ module _ (edges : List Edge) (home : ℕ → ℕ) (leads : ℕ → ℕ → Type 
     pub settings : x.1.settings ≡ a.settings
     pub sends : SendsOver x.0
 
-  call_over : (c : Call) → SendsOver (act_of c)
-  call_over (calls.Send body delay group id) = tt
-  call_over (calls.Receive max wait timeout) = tt
-  call_over (calls.Delete receipt) = tt
-  call_over (calls.Change receipt timeout) = tt
-  call_over (calls.Start task) = tt
-  call_over (calls.Cancel task) = tt
-
   script_over : (a : Actor) (cs : List ScriptCall) → ActGoes a (script_wake a cs)
   script_over a [] = record { number = refl; settings = refl; sends = tt }
-  script_over a (c ∷ cs) = record { number = refl; settings = refl; sends = call_over c.call }
+  script_over a (c ∷ cs) = record { number = refl; settings = refl; sends = call_sends MaySend c.call }
 
   serve_over : (a b : Actor) (g : Got) (o : Option Forwarding) → b.number ≡ a.number → b.settings ≡ a.settings → home a.number ≡ site → HasForwardWay edges site o → ActGoes a (serves b key.at g o)
   serve_over a b g None n t h w = record { number = n; settings = t; sends = tt }
@@ -495,7 +480,7 @@ module _ (edges : List Edge) (home : ℕ → ℕ) (leads : ℕ → ℕ → Type 
 
   ends_over : (a b : Actor) (c : ConsumerSettings) (g : Got) (x : Bool × Draws) → b.number ≡ a.number → b.settings ≡ a.settings → home a.number ≡ site → HasForwardWay edges site c.forward → ActGoes a (ends_service b c key.at g x)
   ends_over a b c g (true, d) n t h w = record { number = n; settings = t; sends = tt }
-  ends_over a b c g (false, d) n t h w = serve_over a (record b { stage = Served g.receipt; draws = d }) g c.forward n t h w
+  ends_over a b c g (false, d) n t h w = serve_over a (record b { last_act = Served g.receipt; draws = d }) g c.forward n t h w
 
   woke_over : (a b : Actor) (c : ConsumerSettings) (gs : List Got) → b.number ≡ a.number → b.settings ≡ a.settings → home a.number ≡ site → HasForwardWay edges site c.forward → ActGoes a (consumer_wake b c key.at gs)
   woke_over a b c [] n t h w = record { number = n; settings = t; sends = tt }
@@ -509,7 +494,7 @@ module _ (edges : List Edge) (home : ℕ → ℕ) (leads : ℕ → ℕ → Type 
   got_over a c [] = record { number = refl; settings = refl; sends = tt }
   got_over a c (g ∷ gs) = serving_same a c (g ∷ gs)
 
-  told_over : (a : Actor) (c : ConsumerSettings) (s : Stage) → ActGoes a (consumer_told a c key.at s)
+  told_over : (a : Actor) (c : ConsumerSettings) (s : LastAct) → ActGoes a (consumer_told a c key.at s)
   told_over a c Asked = record { number = refl; settings = refl; sends = tt }
   told_over a c (Served r) = record { number = refl; settings = refl; sends = tt }
   told_over a c Ended = serving_same a c a.held
@@ -528,7 +513,7 @@ module _ (edges : List Edge) (home : ℕ → ℕ) (leads : ℕ → ℕ → Type 
   as_over (Consumer c) a told_by.Wake h k = woke_over a (woken a) c a.held refl refl h k
   as_over (Consumer c) a (told_by.Got gots) h k = got_over a c gots
   as_over (Consumer c) a told_by.Waiting h k = record { number = refl; settings = refl; sends = tt }
-  as_over (Consumer c) a told_by.Other h k = told_over a c a.stage
+  as_over (Consumer c) a told_by.Other h k = told_over a c a.last_act
 
   next_over : (a : Actor) (w : Answer) → FineActor a → ActGoes a (next a key.at w)
   unfolding next
@@ -702,13 +687,6 @@ module _ (edges : List Edge) (home : ℕ → ℕ) (leads : ℕ → ℕ → Type 
   pub handled_goes : (s : Site) → Fine s.core → All Arrives s.arriving → HandledGoes (handled key s)
   unfolding handled
   handled_goes s h a = when_handled _ s h a
-
--- what is inserted is as the others
-all_inserted : {A : Type 0} (P : A → Type 0) (R : A → A → Ordering) (x : A) (xs : List A) → P x → All P xs → All P (inserted_by R x xs)
-all_inserted P R x [] h k = All-cons P x [] h k
-all_inserted P R x (y ∷ ys) h k =
-    either (All P) (is_lt (R x y)) (x ∷ (y ∷ ys)) (y ∷ inserted_by R x ys) (All-cons P x (y ∷ ys) h k)
-    (All-cons P y (inserted_by R x ys) (All-head P y ys k) (all_inserted P R x ys h (All-tail P y ys k)))
 
 pub goes_along : HandlingGoesAlongWays
 goes_along edges home leading key s w =

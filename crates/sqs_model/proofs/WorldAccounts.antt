@@ -1,8 +1,7 @@
 -- Every message accepted stands in exactly one place, at every step of a run.
 use Rattle.std.specs.List.{count_by, enumerate_from, sum_by}
-use Rattle.std.specs.Ordering.{is_lt, on}
+use Rattle.std.specs.Ordering.{on}
 use Rattle.std.specs.Prelude.{All, Bool, List, None, Option, Some, [], cond, false, filter, find, flat_map, get_or, if◌then◌else◌, length, map, suc, true, zero, ℕ, ◌&&◌, ◌+◌, ◌++◌, ◌<◌, ◌==◌, ◌∷◌, ◌≡◌, ◌≢◌, ◌≤◌}
-use Rattle.std.specs.declared.cmp.Ordering.{Ordering}
 use Rattle.std.proofs.Common.{ap, arith, inl, inr, refl, subst, sym, ◌∙◌}
 use Rattle.std.proofs.lemmas.Bool.{eq-eqb, eqb-false, eqb-true, ne_eqb}
 use Rattle.std.proofs.lemmas.List.{append-nil}
@@ -12,7 +11,8 @@ use Rattle.sim_clock.specs.declared.key.Class.{Class}
 use Rattle.sim_clock.specs.declared.key.Class.TheVariants as classes
 use Rattle.sim_clock.specs.declared.key.Key.{Key}
 use Rattle.sim_clock.specs.Firsts.{without}
-use Rattle.sim_clock.specs.Order.{inserted_by, key_cmp}
+use Rattle.sim_clock.specs.Order.{key_cmp}
+use Rattle.sim_clock.proofs.Lists.{absent_without, all_inserted}
 use Rattle.sqs_message.specs.declared.ids.Origin.{Origin}
 use Rattle.sqs_message.specs.declared.message.Message.{Message}
 use Rattle.sqs_message.specs.declared.row.Row.{Row}
@@ -33,7 +33,7 @@ use Rattle.sqs_model.specs.Site.{Effect, Site, accepted, has_key, number_of}
 use Rattle.sqs_model.specs.Step.{Handled, handle_arrival, handled, handled_when, is_arrival, left_with, with_polls}
 use Rattle.sqs_model.proofs.Balance.{AreApart, Holds, IsFine}
 use Rattle.sqs_model.proofs.Branches.{either}
-use Rattle.sqs_model.proofs.Counts.{all_without, find_all, total, total_without}
+use Rattle.sqs_model.proofs.Counts.{all_without, find_all, total, total_same, total_without}
 use Rattle.sqs_model.proofs.Kept.{handled_number}
 use Rattle.sqs_model.proofs.Ledger.{IsPast, bit, ended, first_in, given_by, id_at}
 use Rattle.sqs_model.proofs.Members.{From, In, in_append, in_flat, in_found, in_map}
@@ -48,31 +48,12 @@ total_plus : {A : Type 0} (f g : A → ℕ) (xs : List A) → total (λ x. f x +
 total_plus f g [] = refl
 total_plus f g (x ∷ xs) = omega (arith, total_plus f g xs)
 
-total_like : {A : Type 0} (f g : A → ℕ) → ((x : A) → f x ≡ g x) → (xs : List A) → total f xs ≡ total g xs
-total_like f g e [] = refl
-total_like f g e (x ∷ xs) = omega (arith, e x, total_like f g e xs)
-
 sum_is : {A : Type 0} (f : A → ℕ) (xs : List A) → sum_by f xs ≡ total f xs
 sum_is f [] = refl
 sum_is f (x ∷ xs) = omega (arith, sum_by-cons f x xs, sum_is f xs)
 
 count_total : {A : Type 0} (p : A → Bool) (xs : List A) → count_by p xs ≡ total (λ x. bit (p x)) xs
 count_total p xs = sum_is (λ x. bit (p x)) xs
-
--- a list in which a test finds nothing
-without_none : {A : Type 0} (p : A → Bool) (xs : List A) → find p xs ≡ None → without p xs ≡ xs
-without_none p [] h = refl
-without_none p (x ∷ xs) h =
-    elim (p x) as (λ b. cond b (Some x) (find p xs) ≡ None → (if b then xs else x ∷ without p xs) ≡ x ∷ xs) [
-      | true ↦ λ e. cc
-      | false ↦ λ e. ap (λ t. x ∷ t) (without_none p xs e)
-    ] h
-
-all_inserted : {A : Type 0} (P : A → Type 0) (R : A → A → Ordering) (x : A) (xs : List A) → P x → All P xs → All P (inserted_by R x xs)
-all_inserted P R x [] h a = All-cons P x [] h a
-all_inserted P R x (y ∷ ys) h a =
-    either (All P) (is_lt (R x y)) (x ∷ (y ∷ ys)) (y ∷ inserted_by R x ys) (All-cons P x (y ∷ ys) h a)
-    (All-cons P y (inserted_by R x ys) (All-head P y ys a) (all_inserted P R x ys h (All-tail P y ys a)))
 
 -- what is due to expire is there
 module _ (s : Site) where
@@ -252,7 +233,7 @@ module _ (o : Origin) (top : ℕ) where
       → stock s + ended o rows + elsewhere ≡ first_in o rows → Stays rows elsewhere (left_with (without (has_key key) s.arriving) (with_polls key (handle_arrival key f s.core)))
   came_stays key rows elsewhere s None e k h =
       let left : List Outbound = without (has_key key) s.arriving in
-      let same : sent_bits o top left ≡ sent_bits o top s.arriving = ap (sent_bits o top) (without_none (has_key key) s.arriving e) in
+      let same : sent_bits o top left ≡ sent_bits o top s.arriving = ap (sent_bits o top) (absent_without (has_key key) s.arriving e) in
       left_stays rows elsewhere left _ (all_without (has_key key) (IsBound o top) s.arriving k.arriving)
       (none_come o top rows key rows (sent_bits o top left + elsewhere) s.core (at_site rows (sent_bits o top left + elsewhere) s k (omega (arith, h, same))))
   came_stays key rows elsewhere s (Some x) e k h =
@@ -465,10 +446,10 @@ module _ (o : Origin) (top : ℕ) where
       let coming : Site → ℕ = λ s. sent_bits o top s.arriving in
       let a : queued o sites ≡ total held sites =
       sum_is (λ s. count_by (λ m. same_origin o m.origin) s.core.queue.records) sites
-      ∙ total_like (λ s. count_by (λ m. same_origin o m.origin) s.core.queue.records) held (λ s. count_total (λ m. same_origin o m.origin) s.core.queue.records) sites in
+      ∙ total_same (λ s. count_by (λ m. same_origin o m.origin) s.core.queue.records) held (λ s. count_total (λ m. same_origin o m.origin) s.core.queue.records) sites in
       let b : under_way o sites ≡ total coming sites =
       sum_is (λ s. count_by (λ t. carries o t.load) s.arriving) sites
-      ∙ total_like (λ s. count_by (λ t. carries o t.load) s.arriving) coming (λ s. count_total (λ t. carries o t.load) s.arriving) sites in
+      ∙ total_same (λ s. count_by (λ t. carries o t.load) s.arriving) coming (λ s. count_total (λ t. carries o t.load) s.arriving) sites in
       let c : ended_by is_deleted o rows ≡ total (λ r. bit (is_deleted r.answer && is_told o rows r)) rows = count_total (λ r. is_deleted r.answer && is_told o rows r) rows in
       let d : ended_by is_expired o rows ≡ total (λ r. bit (is_expired r.answer && is_told o rows r)) rows = count_total (λ r. is_expired r.answer && is_told o rows r) rows in
       omega (arith, a, b, c, d, total_plus held coming sites, total_plus (λ r. bit (is_deleted r.answer && is_told o rows r)) (λ r. bit (is_expired r.answer && is_told o rows r)) rows)

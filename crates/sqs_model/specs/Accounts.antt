@@ -1,4 +1,4 @@
--- Where a message stands: in a queue, in a transfer, deleted or expired.
+-- Where a message is: in a queue, in a transfer, deleted or expired.
 use Rattle.std.specs.List.{list_any}
 use Rattle.std.specs.Prelude.{Bool, IsTrue, List, None, Option, Some, count_by, false, sum_by, true, ℕ, ◌&&◌, ◌+◌, ◌==◌, ◌≡◌}
 use Rattle.sqs_message.specs.declared.ids.MessageId.{MessageId}
@@ -19,7 +19,7 @@ use Rattle.sqs_message.specs.declared.row.Detail.TheVariants as details
 abbrev pub same_origin : Origin → Origin → Bool
 same_origin a b = a.site == b.site && a.number == b.number
 
--- the origin that a row tells of the id that it makes new: its own for a send, the row's detail for an arrival
+-- the origin that a row gives to the new id in it: the id's own for a send, the row's detail for an arrival
 abbrev pub origin_told : RowAnswer → Detail → MessageId → Option Origin
 origin_told answers.New (details.From origin) id = Some origin
 origin_told answers.New (details.Digest d) id = Some (record { site = id.site; number = id.number })
@@ -53,7 +53,7 @@ is_told o rows row = list_any (λ r. tells o r && same_id r.message row.message)
 abbrev pub is_first : Origin → Row → Bool
 is_first o row = tells o row && same_id row.message (Some (record { site = o.site; number = o.number }))
 
--- an origin is accepted where a row gives an id its own origin
+-- an origin is accepted if a row gives an id its own origin
 abbrev pub IsAccepted : Origin → List Row → Type 0
 IsAccepted o rows = IsTrue (list_any (is_first o) rows)
 
@@ -73,7 +73,7 @@ abbrev pub is_expired : RowAnswer → Bool
 is_expired answers.Expired = true
 is_expired _ = false
 
--- how many messages of an origin stand in queues
+-- the number of messages with an origin that are in queues
 abbrev pub queued : Origin → List Site → ℕ
 queued o sites = sum_by (λ s. count_by (λ m. same_origin o m.origin) s.core.queue.records) sites
 
@@ -85,25 +85,25 @@ under_way o sites = sum_by (λ s. count_by (λ t. carries o t.load) s.arriving) 
 abbrev pub ended_by : (RowAnswer → Bool) → Origin → List Row → ℕ
 ended_by is_end o rows = count_by (λ r. is_end r.answer && is_told o rows r) rows
 
--- in how many places the message of an origin stands
+-- the number of places of the message with an origin
 abbrev pub places : Origin → List Site → List Row → ℕ
 places o sites rows = queued o sites + under_way o sites + ended_by is_deleted o rows + ended_by is_expired o rows
 
--- every message accepted stands in exactly one place: one queue, transfer, deleted, expired
+-- every message accepted is in exactly one place: one queue, one transfer, deleted, or expired
 abbrev pub EachHasOnePlace : List Site → List Row → Type 0
 EachHasOnePlace sites rows = (o : Origin) → IsAccepted o rows → places o sites rows ≡ 1
 
--- a message that was not accepted stands nowhere
+-- a message that was not accepted is nowhere
 abbrev pub NoOtherHasPlace : List Site → List Row → Type 0
 NoOtherHasPlace sites rows = (o : Origin) → list_any (is_first o) rows ≡ false → places o sites rows ≡ 0
 
--- in the one-list run of every scenario that has its queues, at every step, every message accepted stands in exactly one place
+-- at every step of the one-list run of a scenario that has its queues, every accepted message is in exactly one place
 abbrev pub EachKeepsOnePlace : Type 0
 EachKeepsOnePlace =
     (s : Scenario) → HasItsQueues s → (n : ℕ)
     → EachHasOnePlace (after s.horizon n (opening s)).sites (after s.horizon n (opening s)).rows
 
--- nor does a message stand anywhere there that was not accepted
+-- no message is anywhere in that run that was not accepted
 abbrev pub NoOtherComesIn : Type 0
 NoOtherComesIn =
     (s : Scenario) → HasItsQueues s → (n : ℕ)

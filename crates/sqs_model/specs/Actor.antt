@@ -23,17 +23,17 @@ use Rattle.sqs_redrive.specs.declared.transfers.Load.TheVariants as loads
 use Rattle.sqs_model.specs.declared.acts.Answer.TheVariants as told_by
 
 -- what a consumer did last: it asked for messages, served one, or ended a service
-pub data Stage : Type 0 where
-  Asked : Stage
-  Served : Receipt → Stage
-  Ended : Stage
+pub data LastAct : Type 0 where
+  Asked : LastAct
+  Served : Receipt → LastAct
+  Ended : LastAct
 
--- an actor: the messages that it holds and has not served; how many wakes, waiting polls and transfers it had; its draws
+-- an actor: the messages that it holds and has not served; its numbers of wakes, waiting polls and transfers; its draws
 pub record Actor : Type 0 where
   pub number : ℕ
   pub settings : ActorSettings
   pub held : List Got
-  pub stage : Stage
+  pub last_act : LastAct
   pub wake : Option ℕ
   pub wakes : ℕ
   pub polls : ℕ
@@ -124,12 +124,12 @@ serves a now g (Some f) = forwards a now g f.to (drawn_latency f.latency a.draws
 
 -- the end of a service, which fails or not by a draw
 abbrev pub ends_service : Actor → ConsumerSettings → ℕ → Got → Bool × Draws → Act × Actor
-ends_service a c now g (true, draws) = (acts.Serve g.id g.receipt true None, record a { stage = Ended; draws = draws })
-ends_service a c now g (false, draws) = serves (record a { stage = Served g.receipt; draws = draws }) now g c.forward
+ends_service a c now g (true, draws) = (acts.Serve g.id g.receipt true None, record a { last_act = Ended; draws = draws })
+ends_service a c now g (false, draws) = serves (record a { last_act = Served g.receipt; draws = draws }) now g c.forward
 
 -- a consumer that wakes with nothing held asks for messages; else the service of the first ends
 abbrev pub consumer_wake : Actor → ConsumerSettings → ℕ → List Got → Act × Actor
-consumer_wake a c now [] = (acts.Receive c.batch c.wait c.timeout, record a { stage = Asked })
+consumer_wake a c now [] = (acts.Receive c.batch c.wait c.timeout, record a { last_act = Asked })
 consumer_wake a c now (g ∷ gs) = ends_service (record a { held = gs }) c now g (drawn_chance c.fail_permille a.draws)
 
 -- a consumer that got messages serves the first; without any it rests
@@ -137,13 +137,13 @@ abbrev pub consumer_got : Actor → ConsumerSettings → ℕ → List Got → Ac
 consumer_got a c now [] = idle a c now
 consumer_got a c now (g ∷ gs) = (acts.Nothing, serving a c now (g ∷ gs))
 
--- after a refused receive a consumer rests; a message served is deleted; after a service comes the next one
-abbrev pub consumer_told : Actor → ConsumerSettings → ℕ → Stage → Act × Actor
+-- after a refused receive a consumer waits; a message served is deleted; after a service comes the next one
+abbrev pub consumer_told : Actor → ConsumerSettings → ℕ → LastAct → Act × Actor
 consumer_told a c now Asked = idle a c now
-consumer_told a c now (Served receipt) = (acts.Delete (receipt_text receipt), record a { stage = Ended })
+consumer_told a c now (Served receipt) = (acts.Delete (receipt_text receipt), record a { last_act = Ended })
 consumer_told a c now Ended = (acts.Nothing, serving a c now a.held)
 
--- what an actor of a role does that is told something
+-- what an actor of a role does when it gets an answer
 abbrev pub next_as : Role → Actor → ℕ → Answer → Act × Actor
 next_as (Script script) a now told_by.Wake = script_wake a (drop a.wakes script)
 next_as (Script script) a now (told_by.Got gots) = (acts.Nothing, a)
@@ -156,8 +156,8 @@ next_as (Producer p) a now told_by.Other = producer_sent a p now
 next_as (Consumer c) a now told_by.Wake = consumer_wake (woken a) c now a.held
 next_as (Consumer c) a now (told_by.Got gots) = consumer_got a c now gots
 next_as (Consumer c) a now told_by.Waiting = (acts.Nothing, a)
-next_as (Consumer c) a now told_by.Other = consumer_told a c now a.stage
+next_as (Consumer c) a now told_by.Other = consumer_told a c now a.last_act
 
--- the next act of an actor that is told something, and the actor after it
+-- the next act of an actor that gets an answer, and the actor after it
 unfoldable pub next : Actor → ℕ → Answer → Act × Actor
 next a now answer = next_as a.settings.role a now answer

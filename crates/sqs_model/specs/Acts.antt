@@ -76,7 +76,7 @@ abbrev pub all_came_back : Key → List Got → Core → Effect
 all_came_back key [] c = no_effect c
 all_came_back key (g ∷ gs) c = and_then (came_back key c g.id.number g.left) (all_came_back key gs)
 
--- what an act made, and what its actor is told
+-- what an act made, and the answer that its actor gets
 pub record Made : Type 0 where
   pub effect : Effect
   pub answer : Answer
@@ -195,7 +195,7 @@ change_answered key a c text timeout r (Ok left, q) =
     let e : Effect = says (with_queue c q) (change_row key a c text answers.Ok (Some (id_of c.queue r.number)) (details.Timeout timeout)) in
     made (if timeout == 0 then and_then e (λ d. came_back key d r.number left) else e) told_by.Other
 
--- a change by a text, which may be no receipt; an over-long timeout is told first
+-- a change by a text, which may be no receipt; a timeout that is too long is the first error
 abbrev pub change_made : Key → Actor → Core → List ℕ → ℕ → Option Receipt → Made
 change_made key a c text timeout None =
     change_refused key a c text (if nat_lt longest_timeout timeout then refusals.BadTimeout else refusals.ReceiptHandleIsInvalid)
@@ -209,7 +209,7 @@ task_row key a c task kind answer = row key c a.number kind answer None receipts
 abbrev pub runs : Task → Bool
 runs t = is_running t.move.status
 
--- a start, which is refused while a task of the site runs
+-- a start, which is refused while a task of the site is running
 abbrev pub start_made : Key → Actor → Core → ℕ → Option Task → Made
 start_made key a c task None = made (no_effect c) told_by.Other
 start_made key a c task (Some t) =
@@ -222,7 +222,7 @@ abbrev pub cancel_done : Key → Actor → Core → ℕ → Task → Result (Uni
 cancel_done key a c task t (Ok u, m) = made (says (with_task c (record t { move = m })) (task_row key a c task kinds.Cancel answers.Ok)) told_by.Other
 cancel_done key a c task t (Err e, m) = made (says c (task_row key a c task kinds.Cancel (answers.Refused e))) told_by.Other
 
--- a cancel, which is refused where the task does not run
+-- a cancel, which is refused if the task is not running
 abbrev pub cancel_made : Key → Actor → Core → ℕ → Option Task → Made
 cancel_made key a c task None = made (no_effect c) told_by.Other
 cancel_made key a c task (Some t) = cancel_done key a c task t (task_cancelled t.move)

@@ -1,11 +1,11 @@
--- How a call that may be refused meets the definitions.
+-- How a call that may return an error agrees with the definitions.
 use Rattle.std.specs.Prelude.{Err, IsOk, Ok, Result, ◌≡◌}
 use Rattle.sim_clock.specs.declared.refusal.Refusal.{Refusal}
 pub use Rattle.sim_engine.specs.Limits.{most_count}
 use Rattle.sqs_model.specs.Queue.{Queue}
 use Rattle.sim_clock.specs.declared.refusal.Refusal.TheVariants as refusals
 
--- the answer and the queue after it are the definition's; of want of memory nothing is said, and a count at its limit is told only where the definition would count on
+-- answer and queue are the definition's; Memory says nothing of them; CountLimit only if the definition would count on
 abbrev pub Meets : {A : Type 0} → Type 0 → Result A Refusal → Queue → Result A Refusal × Queue → Type 0
 Meets AtLimit (Ok a) new model = model ≡ (Ok a, new)
 Meets AtLimit (Err refusals.CountLimit) new model = AtLimit × IsOk model.0

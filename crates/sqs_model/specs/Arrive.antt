@@ -1,4 +1,4 @@
--- What a transfer makes where it arrives, and the expiry of a message.
+-- What a transfer makes when it arrives, and the expiry of a message.
 use Rattle.std.specs.Prelude.{Bool, Err, List, None, Ok, Option, Result, Some, [], false, nat_le, true, ℕ, ◌+◌, ◌-◌}
 use Rattle.sim_clock.specs.declared.refusal.Refusal.{Refusal}
 use Rattle.sqs_message.specs.declared.ids.MessageId.{MessageId}
@@ -42,12 +42,12 @@ abbrev pub forwarded_group : Option (List ℕ) → List ℕ
 forwarded_group None = []
 forwarded_group (Some g) = g
 
--- what a send made that is not refused
+-- what a send made that was not refused
 abbrev pub sent_of : Queue → Result Sent Refusal × Queue → (Sent × Bool) × Queue
 sent_of before (Ok s, q) = ((s, false), q)
 sent_of before (Err e, q) = ((New (id_of before before.arrivals), false), q)
 
--- a forward is a send with the queue's delay; at a FIFO queue with the served message's group, and its id text as deduplication id
+-- a forward is a send with the queue's delay; to a FIFO queue in the message's group, its id text as deduplication id
 abbrev pub forwarded : Kind → Queue → ℕ → MessageId → List ℕ → Option (List ℕ) → (Sent × Bool) × Queue
 forwarded (Standard hosts sampled) q now id body group = sent_of q (send_standard q now body None)
 forwarded (Fifo content_dedup scope) q now id body group =

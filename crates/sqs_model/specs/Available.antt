@@ -31,7 +31,7 @@ firsts earlier (m ∷ ms) = kept_when (not (list_any (same_group m) earlier)) m 
 abbrev pub by_group : List Message → List Message
 by_group ms = flat_map (λ leader. filter (same_group leader) ms) (firsts [] ms)
 
--- what a queue of a kind may give of its messages: a standard one those on the hosts seen, message n lying on host n modulo hosts
+-- what a queue of a kind may give: a standard one those on the hosts seen, where message n is on host n modulo hosts
 abbrev pub available_at : Kind → ℕ → List Message → List Message
 available_at (Standard hosts sampled) set records =
     filter (λ m. is_visible m && has_host set (m.number % hosts)) records

@@ -21,11 +21,11 @@ use Rattle.sim_clock.specs.declared.refusal.Refusal.TheVariants as refusals
 use Rattle.sqs_redrive.specs.declared.settings.Scope.TheVariants as scopes
 use Rattle.sqs_model.specs.Longest.{deduplication_interval, longest_delay, longest_flight, longest_timeout}
 
--- the deduplication id that stands for a body: its SHA-256 in lower-case hex
+-- the deduplication id made of a body: its SHA-256 in lower-case hexadecimal
 unfoldable pub body_digest : List ℕ → List ℕ
 body_digest body = encode_lower (sha256 body)
 
--- a new message that is delayed for so many milliseconds
+-- a new message that is delayed, in milliseconds
 abbrev pub new_message : Queue → ℕ → List ℕ → Option (List ℕ) → ℕ → Message
 new_message q now body group delay =
     record {
@@ -66,7 +66,7 @@ abbrev pub living : Queue → ℕ → Option (List ℕ) → List ℕ → Option 
 living q now scope id =
     find (λ e. nat_lt now e.end && same_text e.scope scope && bytes_eq e.id id) q.entries
 
--- where the deduplication ids of a group's messages count
+-- the scope of the deduplication ids of a group's messages
 abbrev pub scope_of : Scope → List ℕ → Option (List ℕ)
 scope_of scopes.Queue group = None
 scope_of scopes.Group group = Some group
@@ -96,7 +96,7 @@ send_with q scope now body None id = (Err refusals.MissingGroup, q)
 send_with q scope now body (Some group) None = (Err refusals.MissingDeduplication, q)
 send_with q scope now body (Some group) (Some id) = send_in q now body group (scope_of scope group) id
 
--- the deduplication id of a send: the sender's, or else where bodies are compared the body's
+-- the deduplication id of a send: the sender's, or else, if bodies are compared, that of the body
 abbrev pub deduplication_id : Bool → List ℕ → Option (List ℕ) → Option (List ℕ)
 deduplication_id content body (Some id) = Some id
 deduplication_id content body None = if content then Some (body_digest body) else None
@@ -107,7 +107,7 @@ send_fifo q content scope now body group id delay =
     if is_bad_delay 0 delay then (Err refusals.BadDelay, q)
     else send_with q scope now body group (deduplication_id content body id)
 
--- whether a receipt may be one that a queue gave: it names the queue's site, and a receive of the message, counted from 1
+-- whether a queue may have given a receipt: it names the queue's site, and a receive of the message, counted from 1
 abbrev pub may_be_given : Queue → Receipt → Bool
 may_be_given q r = r.site == q.site && nat_lt 0 r.count
 

@@ -1,4 +1,4 @@
--- The greatest count that an actor, a task or a site has come to.
+-- The greatest count that an actor, a task or a site has reached.
 use Rattle.std.specs.Prelude.{[], map, ℕ, ◌∷◌}
 pub use Rattle.sim_engine.specs.Counts.{greatest}
 use Rattle.sqs_message.specs.declared.row.RowReceipt.{RowReceipt}

@@ -1,4 +1,4 @@
--- Delivery of transfers: in which order they are delivered, and whether before or after a handling, makes no difference.
+-- Delivery of transfers: their order, and whether they come before or after a handling, makes no difference.
 use Rattle.std.specs.Ordering.{on}
 use Rattle.std.specs.Prelude.{false, ◌≡◌}
 use Rattle.sim_clock.specs.declared.key.Key.{Key}
@@ -8,7 +8,7 @@ use Rattle.sqs_model.specs.Site.{Site, accepted, has_key}
 use Rattle.sqs_model.specs.Step.{Handled, handled}
 use Rattle.sqs_redrive.specs.Transfers.{transfer_key}
 
--- whether the transfers on their way to a site stand in the order of their keys
+-- whether the transfers on their way to a site are in the order of their keys
 abbrev pub IsSorted : Site → Type 0
 IsSorted s = IsInOrder (on transfer_key key_cmp) s.arriving
 

@@ -16,7 +16,7 @@ word seed agent n = word_at 10 (key_of (seed_bytes seed)) agent n
 abbrev pub uniform : ℕ → ℕ → ℕ → ℕ
 uniform low high w = low + w * (high - low + 1) / 2 ^ 32
 
--- whether a word lets an event come that has so many chances in a thousand
+-- whether an event with a chance of `permille` in a thousand occurs, by a word
 abbrev pub chance : ℕ → ℕ → Bool
 chance permille w = nat_lt (w * 1000 / 2 ^ 32) permille
 
@@ -42,7 +42,7 @@ drawn_uniform low high d = (uniform low high (next_word d), moved_on d)
 abbrev pub drawn_chance : ℕ → Draws → Bool × Draws
 drawn_chance permille d = (chance permille (next_word d), moved_on d)
 
--- a number drawn between two bounds, where equal bounds take no word
+-- a number drawn between two bounds; equal bounds take no word
 abbrev pub drawn_between : ℕ → ℕ → Draws → ℕ × Draws
 drawn_between low high d = if nat_lt low high then drawn_uniform low high d else (low, d)
 

@@ -19,6 +19,7 @@ pub mod Scenario
 pub mod Counts
 pub mod Delivery
 pub mod Progress
+pub mod Giving
 pub mod Sqs
 pub mod Conditions
 pub mod Run
@@ -32,12 +33,4 @@ pub mod Ways
 pub mod NoneBefore
 pub mod Turns
 pub mod Limits
-pub mod Parts
-pub mod Machine
-pub mod Bounds
-pub mod Merge
-pub mod Theorems
-pub mod Prefixes
-pub mod Rounds
-pub mod Exchange
-pub mod Kept
+pub mod Simulated

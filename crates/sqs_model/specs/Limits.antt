@@ -1,4 +1,4 @@
--- The greatest count that a run has come to. Counts only grow, and the code refuses one that would pass `most_count`.
+-- The greatest count that a run has reached. Counts only grow, and the code refuses one that would pass `most_count`.
 use Rattle.std.specs.Prelude.{List, max, ℕ, ◌<◌, ◌≤◌}
 use Rattle.sim_clock.specs.declared.key.Key.{Key}
 use Rattle.sim_engine.specs.Counts as engine
@@ -27,7 +27,7 @@ effect_of h = record { core = h.site.core; rows = h.rows; sent = h.sent }
 abbrev pub sites_count : List Site → ℕ
 sites_count = engine.sites_count sqs
 
--- the greatest count that a run has come to: in a site, or of the receives that a row tells
+-- the greatest count that a run has reached: in a site, or in the receive count of a row
 abbrev pub run_count : Run → ℕ
 run_count = engine.run_count sqs
 

@@ -1,4 +1,4 @@
--- The mark in a producer's body that stands for a message's number.
+-- The mark in a producer's body that is replaced by a message's number.
 use Rattle.std.specs.Prelude.{Bool, List, [], false, ℕ, ◌&&◌, ◌==◌, ◌∷◌}
 
 -- whether bytes begin with {n}

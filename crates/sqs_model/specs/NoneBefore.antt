@@ -1,4 +1,5 @@
--- The order of keys goes on: the handling of the least due leaves nothing due that comes before it, and makes later dues only.
+-- The order of keys goes on: handling the least entry due leaves nothing due before it, and makes only later entries
+-- due.
 use Rattle.std.specs.Ordering.{is_lt}
 use Rattle.std.specs.Prelude.{All, Contains, List, false, ◌<◌, ◌≡◌, ◌≤◌, ◌⊎◌}
 use Rattle.sim_clock.specs.declared.key.Key.{Key}
@@ -12,7 +13,7 @@ use Rattle.sqs_model.specs.Step.{handled}
 abbrev pub HasNoneBefore : Key → Site → Type 0
 HasNoneBefore key s = All (λ due. is_lt (key_cmp due key) ≡ false) (dues s)
 
--- where nothing due at a sound site comes before a key, nothing does after its handling
+-- if nothing due at a sound site comes before a key, nothing does after its handling
 abbrev pub HandlingLeavesNoneBefore : Type 0
 HandlingLeavesNoneBefore = (key : Key) (s : Site) → IsSound s.core → HasNoneBefore key s → HasNoneBefore key (handled key s).site
 
@@ -20,7 +21,7 @@ HandlingLeavesNoneBefore = (key : Key) (s : Site) → IsSound s.core → HasNone
 abbrev pub IsLaterOrIn : Key → List Key → Key → Type 0
 IsLaterOrIn key keys due = (key.at < due.at) ⊎ Contains keys due
 
--- where nothing is due at a sound site before a moment, a handling at that moment makes nothing due there but what is later:
+-- if nothing is due at a sound site before a moment, a handling at that moment makes only later entries due there:
 -- all else that is due afterwards was due before
 abbrev pub HandlingMakesNothingDueNow : Type 0
 HandlingMakesNothingDueNow =

@@ -1,4 +1,4 @@
--- What an actor does at its site, act after act, and the answers that waiting polls get.
+-- What an actor does at its site, act after act, and the answers to waiting polls.
 use Rattle.std.specs.Prelude.{Bool, List, None, Option, Some, [], drop, false, nat_lt, not, suc, true, zero, ℕ, ◌&&◌, ◌∷◌}
 use Rattle.sim_clock.specs.declared.key.Key.{Key}
 use Rattle.sqs_model.specs.declared.acts.Act.{Act}
@@ -18,17 +18,17 @@ use Rattle.sqs_model.specs.declared.acts.Answer.TheVariants as told_by
 abbrev pub continued : (Answer → Core → Effect) → Made → Effect
 continued more m = and_then m.effect (more m.answer)
 
--- an act with what comes of it, where there is one
+-- an act with what follows from it, if there is one
 abbrev pub acts_next : (Answer → Core → Effect) → Key → Core → Act × Actor → Effect
 acts_next more key c (acts.Nothing, a) = no_effect (with_actor c a)
 acts_next more key c (act, a) = continued more (act_made key a (with_actor c a) act)
 
--- the same, where the actor is there
+-- the same if the actor is there
 abbrev pub acts_found : (Answer → Core → Effect) → Key → Answer → Core → Option Actor → Effect
 acts_found more key answer c None = no_effect c
 acts_found more key answer c (Some a) = acts_next more key c (next a key.at answer)
 
--- an actor is told something and acts, at most so many times; the answer to each act is told it in turn
+-- an actor gets an answer and acts, a limited number of times; it then gets the answer to each act in turn
 abbrev pub acts_most : ℕ → Key → ℕ → Answer → Core → Effect
 acts_most zero key n answer c = no_effect c
 acts_most (suc most) key n answer c = acts_found (acts_most most key n) key answer c (actor_numbered n c)

@@ -1,4 +1,5 @@
--- Time moves on: what a sound site is, and that a handling leaves less due by its own moment, and no more by an earlier one.
+-- Time moves on: what a sound site is, and that a handling reduces the number of entries due by its moment, and never
+-- increases the number due by an earlier one.
 use Rattle.std.specs.Prelude.{All, Contains, List, None, Option, Some, [], drop, ℕ, ◌+◌, ◌<◌, ◌∷◌, ◌≡◌, ◌≢◌, ◌≤◌}
 use Rattle.sim_clock.specs.declared.key.Key.{Key}
 pub use Rattle.sim_engine.specs.Members.{Ascends, count_due}
@@ -55,7 +56,7 @@ pub record IsSoundScenario (s : Scenario) : Type 0 where
   pub actors : All (λ a. IsSoundRole a.role) s.actors
   pub tasks : All (λ t. TakesTime t.latency) s.tasks
 
--- messages stand in the order of their numbers, which were all given out
+-- messages are in the order of their numbers, which were all given out
 pub record IsSoundQueue (q : Queue) : Type 0 where
   pub settings : IsSoundSettings q.settings
   pub ordered : Ascends (λ m. m.number) 0 q.records
@@ -72,7 +73,7 @@ pub record IsSoundActor (a : Actor) : Type 0 where
   pub role : IsSoundRole a.settings.role
   pub wakes : WakesFor a.settings.role a
 
--- a site in which time moves on: its parts are sound, and its actors and tasks stand in the order of their numbers
+-- a site in which time moves on: its parts are sound, and its actors and tasks are in the order of their numbers
 pub record IsSound (c : Core) : Type 0 where
   pub queue : IsSoundQueue c.queue
   pub actors : All IsSoundActor c.actors

@@ -11,12 +11,12 @@ use Rattle.sqs_message.specs.declared.message.Place.TheVariants as places
 use Rattle.sim_clock.specs.declared.refusal.Refusal.TheVariants as refusals
 use Rattle.sqs_model.specs.Longest.{longest_timeout}
 
--- a message that is received at a moment, for so many milliseconds
+-- a message that is received at a moment, with a timeout in milliseconds
 abbrev pub received : ℕ → ℕ → Message → Message
 received now timeout m =
     record m { place = places.InFlight; release = Some (now + timeout); receives = m.receives + 1; received = now }
 
--- what a receive tells of a message
+-- what a receive returns for a message
 abbrev pub got_of : Queue → Message → Option Load → Got
 got_of q m left =
     record {
@@ -42,7 +42,7 @@ got_first g (q, gots) = (q, g ∷ gots)
 abbrev pub give_after : (Queue → Queue × List Got) → Message → Queue × Option Load → Queue × List Got
 give_after others m (q, left) = got_first (got_of q m left) (others q)
 
--- the queue after it gives these messages, one after another, and what it tells of each
+-- the queue after it gives these messages, one after another, and what it returns for each
 abbrev pub give : ℕ → ℕ → List Message → Queue → Queue × List Got
 give now timeout [] q = (q, [])
 give now timeout (m ∷ ms) q = give_after (give now timeout ms) m (given_one q now timeout m)
@@ -57,11 +57,11 @@ abbrev pub is_bad_timeout : Option ℕ → Bool
 is_bad_timeout None = false
 is_bad_timeout (Some s) = nat_lt longest_timeout s
 
--- the messages that a receive of at most so many gives which sees these hosts
+-- the messages that a receive gives, given its greatest number of messages and the hosts that it sees
 abbrev pub to_give : Queue → ℕ → ℕ → List Message
 to_give q max set = take (min max (room q)) (available q set)
 
--- the queue after such a receive, and what it tells of each message
+-- the queue after such a receive, and what it returns for each message
 abbrev pub give_most : Queue → ℕ → ℕ → Option ℕ → ℕ → Queue × List Got
 give_most q now max timeout set = give now (timeout_of q timeout) (to_give q max set) q
 
@@ -69,7 +69,7 @@ give_most q now max timeout set = give now (timeout_of q timeout) (to_give q max
 abbrev pub answered : Queue × List Got → Result (List Got) Refusal × Queue
 answered (q, gots) = (Ok gots, q)
 
--- the answer of a receive, and the queue after it: a short poll is refused where the in-flight limit is reached
+-- the answer of a receive, and the queue after it: a short poll is refused if the in-flight limit is reached
 abbrev pub receive : Queue → ℕ → ℕ → Option ℕ → ℕ → Bool → Result (List Got) Refusal × Queue
 receive q now max timeout set short =
     if is_bad_timeout timeout then (Err refusals.BadTimeout, q)

@@ -26,11 +26,11 @@ abbrev pub released_when : Bool → Queue → ℕ → Message → Queue × Optio
 released_when true q n m = (taken_out q n, Some (redrive_of q m))
 released_when false q n m = (with_change q n visible_again, None)
 
--- the same, where it is there
+-- the same if it is there
 abbrev pub released_found : Queue → ℕ → Option Message → Queue × Option Load
 released_found q n None = (q, None)
 released_found q n (Some m) = released_when (leaves q.settings.policy m) q n m
 
--- the queue after message n comes back, and its load where it left
+-- the queue after message n comes back, and its load if it left
 abbrev pub released : Queue → ℕ → Queue × Option Load
 released q n = released_found q n (numbered n q.records)

@@ -14,7 +14,7 @@ setting_of s = record { horizon = s.horizon; opening = opening s; edges = edges 
 abbrev pub Run : Type 0
 Run = engine.Run sqs
 
--- the run from an opening after so many handlings
+-- the run from an opening after n handlings
 abbrev pub after : ℕ → ℕ → List Site → Run
 after = engine.after sqs
 

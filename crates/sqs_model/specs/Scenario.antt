@@ -48,7 +48,7 @@ opening_actor seed (n, settings) =
       number = n;
       settings = settings;
       held = [];
-      stage = Asked;
+      last_act = Asked;
       wake = first_wake settings.role;
       wakes = 0;
       polls = 0;
@@ -68,7 +68,7 @@ numbered_actors s = enumerate_from (length s.queues) s.actors
 abbrev pub numbered_tasks : Scenario → List (ℕ × TaskSettings)
 numbered_tasks s = enumerate_from (length s.queues + length s.actors) s.tasks
 
--- a queue at which nothing was done, with these actors and tasks at home there, under a seed, sampled every so often
+-- a queue at which nothing was done, with its actors and tasks, under a seed, and with an interval of its samples
 abbrev pub fresh_core : ℕ → QueueSettings → List (ℕ × ActorSettings) → List (ℕ × TaskSettings) → ℕ → ℕ → Core
 fresh_core n settings actors tasks seed sample =
     record {
@@ -82,7 +82,7 @@ fresh_core n settings actors tasks seed sample =
       samples = 0;
     }
 
--- a queue of a scenario with the actors and tasks at home there
+-- a queue of a scenario with its actors and tasks
 abbrev pub opening_core : Scenario → ℕ → QueueSettings → Core
 opening_core s n settings =
     fresh_core n settings (filter (λ x. x.1.home == n) (numbered_actors s)) (filter (λ x. x.1.home == n) (numbered_tasks s)) s.seed s.sample
@@ -104,7 +104,7 @@ abbrev pub policy_edges : ℕ → Option Policy → List Edge
 policy_edges n None = []
 policy_edges n (Some p) = edge n p.dead_letter p.latency ∷ []
 
--- a consumer's home to where it forwards
+-- from a consumer's queue to that to which it forwards
 abbrev pub forward_edges : ℕ → Option Forwarding → List Edge
 forward_edges n None = []
 forward_edges n (Some f) = edge n f.to f.latency ∷ []
@@ -124,7 +124,7 @@ leads_to n (Some p) = p.dead_letter == n
 abbrev pub sources : Scenario → ℕ → List ℕ
 sources s d = map (λ x. x.0) (filter (λ x. leads_to d x.1.policy) (enumerate_from 0 s.queues))
 
--- where a task moves messages: to its destination, or without one back to the queues that they may have come from
+-- the queues to which a task moves messages: its destination, or else those from which the messages may have come
 abbrev pub task_goals : Scenario → TaskSettings → Option ℕ → List ℕ
 task_goals s t (Some to) = to ∷ []
 task_goals s t None = sources s t.home
@@ -140,7 +140,7 @@ edges s =
     ++ flat_map (λ a. role_edges a.home a.role) s.actors
     ++ flat_map (task_edges s) s.tasks
 
--- a queue's number, if there is one, is one of so many
+-- the number of a queue, if there is one, is among the queues
 abbrev pub MayBeWithin : ℕ → Option ℕ → Type 0
 MayBeWithin queues None = Unit {0}
 MayBeWithin queues (Some n) = n < queues
@@ -160,11 +160,11 @@ abbrev pub least_of : ℕ → List Edge → ℕ
 least_of most [] = most
 least_of most (e ∷ es) = min e.least (least_of most es)
 
--- the least latency of some edges, or this where there is none
+-- the least latency of some edges, or this number if there are none
 abbrev pub least_among : ℕ → List Edge → ℕ
 least_among past [] = past
 least_among past (e ∷ es) = least_of e.least es
 
--- the least latency of a scenario, which no window may pass: past the horizon where no transfer can be
+-- the least latency of a scenario, which no window may exceed: past the horizon if there can be no transfer
 abbrev pub least_latency : Scenario → ℕ
 least_latency s = least_among (s.horizon + 1) (edges s)

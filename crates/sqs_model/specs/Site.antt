@@ -1,4 +1,4 @@
--- A site: a queue with the actors and tasks at home there, and the transfers on their way to it.
+-- A site: a queue with its actors and tasks, and the transfers on their way to it.
 use Rattle.std.specs.Ordering.{on}
 use Rattle.std.specs.Prelude.{Bool, List, Option, [], find, ℕ, ◌++◌, ◌==◌, ◌∷◌}
 use Rattle.sim_clock.specs.declared.key.Key.{Key}
@@ -20,7 +20,7 @@ pub record Poll : Type 0 where
   pub timeout : Option ℕ
   pub end : ℕ
 
--- a site but for what is on its way to it: polls wait oldest first; sent and draws are the queue's; samples are taken every so often
+-- a site without what is on its way: polls wait oldest first; sent and draws are the queue's; samples have an interval
 pub record Core : Type 0 where
   pub queue : Queue
   pub actors : List Actor
@@ -31,7 +31,7 @@ pub record Core : Type 0 where
   pub sample : ℕ
   pub samples : ℕ
 
--- a site; the transfers on their way to it stand in the order of their keys
+-- a site; the transfers on their way to it are in the order of their keys
 pub record Site : Type 0 where
   pub core : Core
   pub arriving : List Outbound

@@ -94,7 +94,7 @@ handle_arrival key (Some o) c = arrival_done key o.load c (arrived c.queue key.a
 abbrev pub ends_at : Key → Poll → Bool
 ends_at key p = same_key key (poll_key p)
 
--- a long poll ends with nothing, which its actor is told
+-- a long poll ends with nothing, which is the answer that its actor gets
 abbrev pub handle_poll_end : Key → Core → Effect
 handle_poll_end key c =
     and_then (says (record c { polls = without (ends_at key) c.polls }) (receive_row key c key.agent answers.Empty))
@@ -152,7 +152,7 @@ end_row key c t NoSource = row key c t.number kinds.Task answers.Failed None rec
 abbrev pub step_done : Key → Core → Rest → Moved → Task → Effect
 step_done key c rest m t = record { core = with_task c t; rows = m.rows ++ end_row key c t rest; sent = m.sent }
 
--- a step that took so many
+-- a step that took these messages
 abbrev pub step_moved : Key → Core → ℕ → Rest → Moved → Effect
 step_moved key c taken rest m = step_done key c rest m (record m.task { move = task_stepped m.task.move key.at taken rest })
 

@@ -11,7 +11,7 @@ use Rattle.sqs_model.specs.Queue.{Queue, id_of, taken_out}
 use Rattle.sqs_redrive.specs.MoveTasks.{MoveTask}
 use Rattle.sqs_redrive.specs.declared.transfers.Load.TheVariants as loads
 
--- where a message goes: to the task's queue, or else back to the one that it came from
+-- where a message goes: to the task's queue, or else back to the queue that it came from
 abbrev pub destination : Option ℕ → Message → Option ℕ
 destination (Some to) m = Some to
 destination None m = m.source
@@ -52,7 +52,7 @@ rest_when false q = rest_of q
 abbrev pub taken_answer : Taken → (List (ℕ × Load) × Rest) × Queue
 taken_answer t = ((t.loads, rest_when t.stuck t.queue), t.queue)
 
--- a step of at most so many messages, of those available now
+-- a step of at most `max` messages, of those available now
 abbrev pub take_movable : Queue → ℕ → Option ℕ → (List (ℕ × Load) × Rest) × Queue
 take_movable q max to = taken_answer (take_each q to (take max (all_available q)))
 

@@ -14,11 +14,7 @@ module _ {A : Type 0} (same : A → A → Bool) (decides : (a b : A) → Decides
   pub decided_equivalence : IsEquivalence same
   decided_equivalence = record { refl = λ a. (decides a a).1 refl; symm = decided_symm; congr = λ a b c e. ap (λ k. same k c) ((decides a b).0 e) }
 
-  -- and so it is symmetric and transitive
-  pub decided_partial : IsPartialEquivalence same
-  decided_partial = partial_equiv_from_equiv decided_equivalence
-
--- texts that may be absent are one where they are equal
+-- texts that may be absent are the same if they are equal
 pub same_text_decides : (a b : Option (List ℕ)) → Decides (same_text a b) (a ≡ b)
 same_text_decides None None = (λ _. refl, λ _. refl)
 same_text_decides None (Some b) = (λ e. absurd (true≢false (sym e)), λ e. cc)

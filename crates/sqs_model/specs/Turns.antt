@@ -1,4 +1,4 @@
--- An actor's turn ends: told something, it does at most two acts and then nothing.
+-- An actor's turn ends: after an answer it does at most two acts and then nothing.
 use Rattle.std.specs.Prelude.{ℕ, ◌+◌, ◌≡◌}
 use Rattle.sim_clock.specs.declared.key.Key.{Key}
 use Rattle.sqs_model.specs.declared.acts.Answer.{Answer}

@@ -11,7 +11,7 @@ use Rattle.sqs_redrive.specs.declared.settings.QueueSettings.{QueueSettings}
 use Rattle.sqs_redrive.specs.declared.settings.TaskSettings.{TaskSettings}
 use Rattle.sqs_model.specs.Longest.{longest_delay, longest_timeout}
 
--- whether a number lies between two
+-- whether a number is from the one to the other
 abbrev pub Between : ℕ → ℕ → ℕ → Type 0
 Between low high n = (low ≤ n) × (n ≤ high)
 
@@ -46,7 +46,8 @@ abbrev pub IsFifo : Kind → Type 0
 IsFifo (Standard hosts sampled) = ⊥
 IsFifo (Fifo content_dedup scope) = Unit {0}
 
--- a queue: a visibility timeout to 12 hours, a delay to 15 minutes, a retention period of 1 minute to 14 days, 1 to 120,000 messages in flight
+-- a queue: a visibility timeout of at most 12 hours, a delay of at most 15 minutes, a retention period of 1 minute to
+-- 14 days, 1 to 120,000 messages in flight
 pub record IsQueueSettings (s : QueueSettings) : Type 0 where
   pub kind : IsKind s.kind
   pub visibility : s.visibility ≤ 1000 * longest_timeout

@@ -1,4 +1,5 @@
--- The ways out of sites: each queue, actor and task of a site sends over edges that there are, and what was redriven came over one.
+-- The ways out of sites: each queue, actor and task of a site sends only along edges that exist, and each message that
+-- was redriven came along one.
 use Rattle.std.specs.List.{enumerate_from}
 use Rattle.std.specs.Prelude.{All, List, None, Option, Some, get_or, map, ℕ, ◌++◌, ◌≡◌, ◌≤◌}
 use Rattle.sim_clock.specs.declared.key.Key.{Key}
@@ -28,7 +29,7 @@ abbrev pub HasPolicyWay : List Edge → (ℕ → ℕ → Type 0) → ℕ → Opt
 HasPolicyWay edges leads site None = Unit {0}
 HasPolicyWay edges leads site (Some p) = In edges (edge site p.dead_letter p.latency) × leads site p.dead_letter
 
--- a consumer has the way to where it forwards
+-- a consumer has the way to the queue to which it forwards
 abbrev pub HasForwardWay : List Edge → ℕ → Option Forwarding → Type 0
 HasForwardWay edges site None = Unit {0}
 HasForwardWay edges site (Some f) = In edges (edge site f.to f.latency)
@@ -44,7 +45,7 @@ abbrev pub MayMoveTo : (ℕ → ℕ → Type 0) → ℕ → Option ℕ → ℕ �
 MayMoveTo leads site (Some to) d = d ≡ to
 MayMoveTo leads site None d = leads d site
 
--- a task has the ways to where it may move messages
+-- a task has the ways to the queues to which it may move messages
 abbrev pub HasTaskWays : List Edge → (ℕ → ℕ → Type 0) → ℕ → TaskSettings → Type 0
 HasTaskWays edges leads site t = (d : ℕ) → MayMoveTo leads site t.to d → In edges (edge site d t.latency)
 
@@ -53,7 +54,7 @@ abbrev pub CameOver : (ℕ → ℕ → Type 0) → ℕ → Option ℕ → Type 0
 CameOver leads site None = Unit {0}
 CameOver leads site (Some from) = leads from site
 
--- whether a load, if it is redriven, comes to a queue to which its own leads
+-- whether a load, if it was redriven, comes from a queue that leads to this one
 abbrev pub ComesOver : (ℕ → ℕ → Type 0) → ℕ → Load → Type 0
 ComesOver leads site (loads.Redrive id origin body group enqueued) = leads id.site site
 ComesOver leads site (loads.Move id origin body group) = Unit {0}
@@ -65,12 +66,12 @@ pub record HasQueueWays (edges : List Edge) (leads : ℕ → ℕ → Type 0) (si
   pub policy : HasPolicyWay edges leads site q.settings.policy
   pub sources : All (λ m. CameOver leads site m.source) q.records
 
--- an actor of a site, at home there
+-- an actor of a site, which is its home
 pub record HasActorWay (edges : List Edge) (home : ℕ → ℕ) (site : ℕ) (a : Actor) : Type 0 where
   pub at_home : home a.number ≡ site
   pub way : HasRoleWay edges site a.settings.role
 
--- a task of a site, at home there
+-- a task of a site, which is its home
 pub record HasTaskWay (edges : List Edge) (home : ℕ → ℕ) (leads : ℕ → ℕ → Type 0) (site : ℕ) (t : Task) : Type 0 where
   pub at_home : home t.number ≡ site
   pub ways : HasTaskWays edges leads site t.move.settings
@@ -92,11 +93,11 @@ pub record HasWays (edges : List Edge) (home : ℕ → ℕ) (leads : ℕ → ℕ
 abbrev pub FitsWays : (ℕ → ℕ → Type 0) → Outbound → Type 0
 FitsWays leads o = ComesOver leads o.to o.load
 
--- the site at which each agent of a scenario is at home, by its number: queues first, then actors, then tasks
+-- the home of each agent of a scenario, by its number: queues first, then actors, then tasks
 abbrev pub homes : Scenario → List ℕ
 homes s = map (λ x. x.0) (enumerate_from 0 s.queues) ++ (map (λ x. x.1.home) (numbered_actors s) ++ map (λ x. x.1.home) (numbered_tasks s))
 
--- the site at which an agent is at home
+-- the site that is an agent's home
 abbrev pub home_of : Scenario → ℕ → ℕ
 home_of s n = get_or (homes s) n 0
 

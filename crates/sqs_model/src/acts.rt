@@ -1,22 +1,21 @@
-//! What an actor is told, and what it then does.
+//! The answers that an actor gets, and its acts.
 use sqs_message::{Call, MessageId, Receipt, ReceiptHandle, Text};
 use sqs_redrive::{Batch, Outbound};
 
-/// What an actor is told.
+/// An answer that an actor gets.
 #[derive(Drop)]
 pub enum Answer {
     /// Its wake has come.
     Wake,
-    /// What its receive gave; empty too at the end of a long poll.
+    /// The messages that its receive gave; none at the end of a long poll that found nothing.
     Got(Batch),
     /// Its receive waits.
     Waiting,
-    /// Any other answer, and each refusal.
+    /// Any other answer, and every error.
     Other,
 }
 
-/// What an actor does: a call with its values, the end of a service, or nothing. Times are
-/// seconds.
+/// What an actor does: a call with its values, the end of a service, or nothing. Times are seconds.
 #[derive(Drop)]
 pub enum Act {
     Send {
@@ -43,8 +42,8 @@ pub enum Act {
     Cancel {
         task: u32,
     },
-    /// The service of a message ended: the message, the receipt that it was got with, whether the
-    /// service failed, and what goes to another queue if it did not.
+    /// The service of a message ended. It has the message, the receipt that the actor got with it,
+    /// whether the service failed, and, if it did not, what is forwarded to another queue.
     Serve {
         id: MessageId,
         receipt: Receipt,

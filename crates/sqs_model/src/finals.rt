@@ -1,4 +1,4 @@
-//! What is left at the end of a run. Times are milliseconds from its start.
+//! The state at the end of a run. Times are milliseconds from its start.
 use sqs_message::{Listed, MessageId, Origin, Place, Text};
 use sqs_redrive::TaskStatus;
 
@@ -8,7 +8,7 @@ pub struct FinalMessage {
     pub id: MessageId,
     pub origin: Origin,
     pub place: Place,
-    /// When its delay or visibility timeout ends; none where it is visible.
+    /// When its delay or visibility timeout ends; none if it is visible.
     pub due: Option<u64>,
     pub enqueued: u64,
     pub receives: u64,
@@ -32,9 +32,10 @@ pub struct FinalTransfer {
     pub to: u32,
     pub kind: TransferKind,
     pub due: u64,
-    /// How many transfers its sender sent before.
+    /// How many transfers its sender had sent before.
     pub number: u64,
-    /// The message's id in the queue that it left; of a forward the id of the message served.
+    /// The message's id in the queue that it left; for a forward the id of the message that was
+    /// served.
     pub message: MessageId,
     /// None for a forward, which is not accepted yet.
     pub origin: Option<Origin>,
@@ -47,7 +48,7 @@ pub struct FinalTask {
     /// Its agent number.
     pub task: u32,
     pub status: TaskStatus,
-    /// How many messages it moved since its last start.
+    /// The number of messages that it moved since its last start.
     pub moved: u64,
 }
 

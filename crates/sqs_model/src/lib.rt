@@ -1,6 +1,6 @@
 //! The definitions: queues and their calls, actors, move tasks, sites, and the one-list run of a
-//! scenario. They stand in `specs/`; here are the types that they and several crates share, and
-//! the laws about the definitions that crates rely on.
+//! scenario. They are in `specs/`. The code has the types that they share with several crates, and
+//! the laws about the definitions on which crates rely.
 #![tactic(auto)]
 
 mod acts;
@@ -18,12 +18,10 @@ pub use finals::{
 };
 pub use laws::{
     accepting_keeps_ways, counts_only_grow, delivery_in_any_order, each_keeps_one_place,
-    ends_at_own_bounds, finished_at_own_bounds, handling_apart_from_delivery,
-    handling_goes_along_ways, handling_keeps_time, handling_leaves_none_before,
-    handling_makes_nothing_due_now, handling_moves_on, handling_stays_recent, holds_at_own_bounds,
-    machines_are_read_by_parts, machines_go_on, machines_keep_bounds, machines_stay_from,
-    no_other_comes_in, opening_has_ways, opening_is_sound, parts_get_sorted, rounds_are_picks,
-    run_ends, sorted_sites_stay_sorted, turns_end,
+    giving_is_giving_then_returning, handling_apart_from_delivery, handling_goes_along_ways,
+    handling_keeps_time, handling_leaves_none_before, handling_makes_nothing_due_now,
+    handling_moves_on, handling_stays_recent, no_other_comes_in, opening_has_ways,
+    opening_is_sound, run_ends, scenarios_are_simulated, sorted_sites_stay_sorted, turns_end,
 };
 pub use limits::{
     DEDUPLICATION_INTERVAL, LONGEST_DELAY, LONGEST_FLIGHT, LONGEST_TIMEOUT, MOST_COUNT,

@@ -1,4 +1,4 @@
-//! The mark in a producer's body that stands for a message's number.
+//! The mark in a producer's body that is replaced by a message's number.
 ghost use Rattle.std.specs.Prelude.{◌≡◌};
 ghost use Rattle.sqs_model.specs.Marks.{has_mark};
 

@@ -2,6 +2,7 @@
 use Rattle.std.proofs.Common.{◌≡◌, ℕ, ◌==◌, Bool, true, false, List, [], ◌∷◌, None, Some, cond, if◌then◌else◌, ap, refl, sym, ◌∙◌}
 use Rattle.std.specs.Prelude.{find}
 use Rattle.sim_clock.specs.Firsts.{changed, without}
+use Rattle.sim_clock.proofs.Lists.{absent_without}
 use Rattle.sqs_message.specs.declared.message.Message.{Message}
 use Rattle.sqs_model.specs.Queue.{Queue, has_number, numbered, taken_out, with_change, with_records}
 use Rattle.sqs_model.specs.Receive.{received}
@@ -24,17 +25,8 @@ gives_out q now timeout n e =
     let taken : Queue = with_change q n (received now timeout) in
     ap (λ b. if b then released taken n else (taken, None)) e
 
--- where there is no message of a number, none leaves
-without_none : {A : Type 0} (p : A → Bool) (xs : List A) → find p xs ≡ None → without p xs ≡ xs
-without_none p [] e = refl
-without_none p (x ∷ xs) e =
-    elim (p x) as (λ b. cond b (Some x) (find p xs) ≡ None → (if b then xs else x ∷ without p xs) ≡ x ∷ xs) [
-      | true ↦ λ k. cc
-      | false ↦ λ k. ap (λ ys. x ∷ ys) (without_none p xs k)
-    ] e
-
 pub taken_none : (q : Queue) (n : ℕ) → numbered n q.records ≡ None → taken_out q n ≡ q
-taken_none q n e = ap (with_records q) (without_none (has_number n) q.records e)
+taken_none q n e = ap (with_records q) (absent_without (has_number n) q.records e)
 
 -- a change speaks of the message that is there alone
 changed_as : (p : Message → Bool) (f g : Message → Message) (m : Message) (xs : List Message) → find p xs ≡ Some m → f m ≡ g m → changed p f xs ≡ changed p g xs

@@ -67,10 +67,6 @@ gives_site q now timeout n =
       | false ↦ refl
     ]
 
--- answers before answers
-after_nil : (x : Queue × List Got) → x ≡ after [] x
-after_nil (q, gots) = refl
-
 after_after : (a b : List Got) (x : Queue × List Got) → after a (after b x) ≡ after (a ++ b) x
 after_after a b (q, gots) = ap (λ g. (q, g)) (sym (append_assoc a b gots))
 
@@ -111,9 +107,6 @@ pub record IsGiving (now timeout : ℕ) (whole : Queue × List Got) (count i : �
   pub rest : CanBeGiven q (drop i gots)
   pub length : length gots ≡ count
 
-pub giving_none : (now timeout : ℕ) (q : Queue) (gots : List Got) → CanBeGiven q gots → IsGiving now timeout (gives_all now timeout gots q) (length gots) 0 q gots
-giving_none now timeout q gots h = record { so_far = after_nil (gives_all now timeout gots q); rest = h; length = refl }
-
 pub giving_more :
     (now timeout : ℕ) (whole : Queue × List Got) (count i : ℕ) (q next : Queue) (gots : List Got) (g : Got) (left : Option Load)
     → i < length gots → g ≡ get_or gots i g → gives q now timeout g.id.number ≡ (next, left)
@@ -132,13 +125,6 @@ giving_more now timeout whole count i q next gots g left l e r h =
       rest = rw kept (can_give_rest q next now timeout left g rest r (rw (← d) h.rest));
       length = length-set gots i told ∙ h.length;
     }
-
-pub giving_all : (now timeout : ℕ) (whole : Queue × List Got) (count i : ℕ) (q : Queue) (gots : List Got) → count ≤ i → IsGiving now timeout whole count i q gots → whole ≡ (q, gots)
-giving_all now timeout whole count i q gots l h =
-    let long : length gots ≤ i = omega (arith, h.length) in
-    let none : drop i gots ≡ [] = drop_all i gots long in
-    let all : take i gots ≡ gots = take_all i gots long in
-    h.so_far ∙ ap (λ ys. after (take i gots) (gives_all now timeout ys q)) none ∙ ap (λ g. (q, g)) (append-nil (take i gots) ∙ all)
 
 -- what is told of messages that differ, differs
 told_all : (site n : ℕ) (ms : List Message) → All (λ m. m.number ≢ n) ms → All (λ g. g.id.number ≢ n) (map (told_of site) ms)

@@ -4,6 +4,7 @@ use Rattle.std.specs.List.{cons_option}
 use Rattle.std.specs.Prelude.{All, suc, zero, ◌≢◌}
 use Rattle.std.proofs.lemmas.List.{drop_all, drop_more, length-append}
 use Rattle.std.proofs.lemmas.List.Elements.{All-head, All-tail}
+use Rattle.std.proofs.lemmas.Option.{same_Some}
 use Rattle.sqs_message.specs.declared.message.Message.{Message}
 use Rattle.sqs_redrive.specs.declared.transfers.Load.{Load}
 use Rattle.sqs_redrive.specs.declared.transfers.Load.TheVariants as loads
@@ -32,9 +33,6 @@ takes_when q to m ms o =
 
 takes_found : (q : Queue) (to : Option ℕ) (m : Message) (ms : List Message) (d : ℕ) → destination to m ≡ Some d → take_each q to (m ∷ ms) ≡ taken_one q m d (take_each (taken_out q m.number) to ms)
 takes_found q to m ms d e = ap (takes_when q to m ms) e
-
-takes_stuck : (q : Queue) (to : Option ℕ) (m : Message) (ms : List Message) → destination to m ≡ None → take_each q to (m ∷ ms) ≡ record { queue = q; loads = []; stuck = true }
-takes_stuck q to m ms e = ap (takes_when q to m ms) e
 
 before_one : (taken : List (ℕ × Load)) (site : ℕ) (q : Queue) (m : Message) (d : ℕ) (t : Taken) → q.site ≡ site → taken_before taken (taken_one q m d t) ≡ taken_before (taken ++ (d, moved_from site m) ∷ []) t
 before_one taken site q m d t e =
@@ -97,23 +95,6 @@ module _ (whole : Taken) (site : ℕ) (to : Option ℕ) (numbers : List ℕ) (i 
           so_far = h.so_far ∙ ap (taken_before taken) one ∙ before_one taken site q m d (take_each (taken_out q n) to (messages_of (taken_out q n).records (drop (i + 1) numbers))) h.site;
           room = let more : length (taken ++ (d, moved_from site m) ∷ []) ≡ length taken + 1 = length-append taken ((d, moved_from site m) ∷ []) in omega (arith, more, h.room);
         }
-
-    -- one that has nowhere to go
-    pub taking_stuck : destination to m ≡ None → whole ≡ record { queue = q; loads = taken; stuck = true }
-    taking_stuck nowhere =
-        h.so_far ∙ ap (λ ms. taken_before taken (take_each q to ms)) meets
-        ∙ ap (taken_before taken) (takes_stuck q to m (messages_of q.records (drop (i + 1) numbers)) nowhere)
-        ∙ ap (λ ls. record { queue = q; loads = ls; stuck = true }) (append-nil taken)
-
-  -- all were taken
-  pub taking_all : length numbers ≤ i → IsTaking whole site to numbers i q taken → whole ≡ record { queue = q; loads = taken; stuck = false }
-  taking_all l h =
-      h.so_far ∙ ap (λ ns. taken_before taken (take_each q to (messages_of q.records ns))) (drop_all i numbers l)
-      ∙ ap (λ ls. record { queue = q; loads = ls; stuck = false }) (append-nil taken)
-
--- two that are one, and one that is none
-pub same_some : {A : Type 0} (a b : A) → Some a ≡ Some b → a ≡ b
-same_some a b e = cc
 
 pub none_some : {A : Type 0} {B : Type 0} (a : A) → None ≡ Some a → B
 none_some a e = cc

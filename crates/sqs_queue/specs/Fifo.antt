@@ -4,12 +4,12 @@ use Rattle.sqs_redrive.specs.declared.settings.Kind.{Kind}
 use Rattle.sqs_redrive.specs.declared.settings.Kind.TheVariants.{Fifo, Standard}
 use Rattle.sqs_model.specs.Calls.{scope_of}
 
--- whether bodies stand for the ids that are absent
+-- whether bodies replace ids that are absent
 abbrev pub compares_bodies : Kind → Bool
 compares_bodies (Standard hosts sampled) = false
 compares_bodies (Fifo content_dedup scope) = content_dedup
 
--- where the deduplication ids of a group's messages count
+-- the scope of the deduplication ids of a group's messages
 abbrev pub scope_in : Kind → List ℕ → Option (List ℕ)
 scope_in (Standard hosts sampled) group = None
 scope_in (Fifo content_dedup scope) group = scope_of scope group

@@ -1,4 +1,4 @@
--- Giving in two passes: what is told of each message, then the giving of one after another.
+-- Giving in two passes: first what is returned for each message, then giving them one after another.
 use Rattle.std.specs.Prelude.{All, IfSome, List, None, Option, [], if◌then◌else◌, ℕ, ◌++◌, ◌+◌, ◌<◌, ◌==◌, ◌∷◌}
 use Rattle.sqs_message.specs.declared.message.Message.{Message}
 use Rattle.sqs_redrive.specs.declared.answers.Got.{Got}
@@ -9,7 +9,7 @@ use Rattle.sqs_model.specs.Queue.{Queue, numbered, with_change}
 use Rattle.sqs_model.specs.Receive.{received}
 use Rattle.sqs_model.specs.Return.{released}
 
--- what a receive tells of a message, before it gives it
+-- what a receive returns for a message, before it gives it
 abbrev pub told_of : ℕ → Message → Got
 told_of site m =
     record {
@@ -21,7 +21,7 @@ told_of site m =
       left = None;
     }
 
--- what is told, with the load of a message that left
+-- what is returned, with the load of a message that left
 abbrev pub with_left : Got → Option Load → Got
 with_left g left = record g { left = left }
 
@@ -31,7 +31,7 @@ gives q now timeout n =
     let taken = with_change q n (received now timeout) in
     if timeout == 0 then released taken n else (taken, None)
 
--- answers before others
+-- more answers, before the others
 abbrev pub after : List Got → Queue × List Got → Queue × List Got
 after gots (q, others) = (q, gots ++ others)
 

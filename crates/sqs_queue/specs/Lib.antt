@@ -4,3 +4,4 @@ pub mod Giving
 pub mod Kinds
 pub mod Looking
 pub mod Picked
+pub mod Words

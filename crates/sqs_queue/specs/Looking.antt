@@ -2,7 +2,8 @@
 use Rattle.std.specs.Prelude.{ℕ}
 use Rattle.sqs_model.specs.Queue.{Queue}
 
--- a queue by itself, and how many messages its newest receive that answered Ok read to choose what it gave; 0 before one
+-- a queue on its own, and how many messages its newest receive without an error read to choose what it gave; 0 before
+-- the first
 pub record Looking : Type 0 where
   pub queue : Queue
   pub looked : ℕ

@@ -1,4 +1,4 @@
--- The messages that some numbers stand for.
+-- The messages with some numbers.
 use Rattle.std.specs.List.{filter_map}
 use Rattle.std.specs.Prelude.{List, ℕ}
 use Rattle.sqs_message.specs.declared.message.Message.{Message}

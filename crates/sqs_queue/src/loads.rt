@@ -1,4 +1,4 @@
-//! What a step of a move task takes out.
+//! The messages that a step of a move task takes out.
 ghost use Rattle.std.specs.Prelude.{◌≡◌, ◌≤◌, [], length, vec_capacity};
 ghost use Rattle.sqs_message.specs.declared.message.Message.{Message};
 ghost use Rattle.sqs_model.specs.Progress.{Differ};
@@ -9,9 +9,11 @@ use sqs_message::{Message, MessageId};
 use sqs_messages::MessageTable;
 use sqs_redrive::Load;
 
-// What a move carries of a message of this queue.
+// The load of a move of a message of this queue.
 fn move_of(site: u32, message: Message) -> Load
-    ensures { result ≡ Load.Move (record { site = site; number = message.number }) message.origin message.body message.group }
+    ensures { result
+        ≡ Load.Move (record { site = site; number = message.number }) message.origin message.body
+        message.group }
 {
     Load::Move {
         id: MessageId {
@@ -24,9 +26,9 @@ fn move_of(site: u32, message: Message) -> Load
     }
 }
 
-// Takes out the messages of these numbers, up to the first that has nowhere to go: each goes to the
-// task's queue, or else back to the one that it came from. Adds where it goes and its load to a list
-// that has room, and tells whether it met one that has nowhere to go.
+// Takes out the messages with these numbers, up to the first without a destination. Each goes to
+// the task's queue, or else back to the queue that it came from. Appends each destination and load
+// to a list that has room. Returns whether there was a message without a destination.
 pub fn take_each(
     messages: &mut MessageTable,
     numbers: &[u64],
@@ -36,7 +38,8 @@ pub fn take_each(
     requires apart { Differ (λ n. n) numbers.now }
     requires none { loads.old.items ≡ [] }
     requires room { length numbers.now ≤ vec_capacity loads.old }
-    ensures { take_each messages.old to (messages_of messages.old.records numbers.now) ≡ record { queue = messages.new; loads = loads.new.items; stuck = result } }
+    ensures { take_each messages.old to (messages_of messages.old.records numbers.now)
+        ≡ record { queue = messages.new; loads = loads.new.items; stuck = result } }
 {
     let site = messages.site();
     for number in numbers {

@@ -1,4 +1,4 @@
-//! The states of messages: whether they are visible or in flight, and what they become.
+//! The states of messages: whether they are visible or in flight, and how they change.
 ghost use Rattle.std.specs.Prelude.{◌≡◌, ◌+◌, ◌<◌, ◌^◌};
 ghost use Rattle.sqs_model.specs.Answers.{most_count};
 ghost use Rattle.sqs_model.specs.Calls.{in_flight_until};
@@ -17,7 +17,7 @@ pub fn may_be_received(message: &Message) -> bool
     matches!(message.place, Place::Visible)
 }
 
-/// Whether a message is received and not yet back.
+/// Whether a message was received and is not back yet.
 pub fn is_out(message: &Message) -> bool
     ensures { result ≡ is_in_flight message.now }
 {
@@ -52,7 +52,7 @@ pub fn out_until(message: &Message, until: u64) -> State
     }
 }
 
-// The state of a message that is received, for so many milliseconds.
+// The state of a message that is received, with a timeout in milliseconds.
 pub fn received(message: &Message, now: u64, timeout: u64) -> State
     requires counted { message.now.receives < most_count }
     requires until { now + timeout < 2 ^ 64 }

@@ -1,4 +1,4 @@
-//! The queue, what it tells of itself, and what becomes of its messages with time.
+//! The queue, what it reports of itself, and how its messages change with time.
 ghost use Rattle.std.specs.Prelude.{◌≡◌, ◌+◌, ◌<◌, ◌≤◌, ◌^◌, [], count_by, not};
 ghost use Rattle.sim_clock.specs.Firsts.{is_empty};
 ghost use Rattle.sim_clock.specs.Order.{least};
@@ -6,7 +6,7 @@ ghost use Rattle.sqs_message.specs.declared.message.Message.{Message};
 ghost use Rattle.sqs_model.specs.Answers.{most_count};
 ghost use Rattle.sqs_model.specs.Arrive.{expired};
 ghost use Rattle.sqs_model.specs.Available.{all_available, all_hosts};
-ghost use Rattle.sqs_model.specs.Calls.{may_be_given, new_message, returned};
+ghost use Rattle.sqs_model.specs.Calls.{may_be_given, new_message};
 ghost use Rattle.sqs_model.specs.Dues.{queue_dues};
 ghost use Rattle.sqs_model.specs.Polls.{can_give};
 ghost use Rattle.sqs_model.specs.Queue.{IsFramed, is_delayed, is_in_flight, is_visible, room};
@@ -29,7 +29,7 @@ mod give;
 mod standard;
 mod take;
 
-// Whether a message has been received as often as the policy allows.
+// Whether a message has been received as often as the redrive policy allows.
 fn is_spent(settings: &QueueSettings, message: &Message) -> bool
     ensures { result ≡ leaves settings.now.policy message.now }
 {
@@ -39,9 +39,11 @@ fn is_spent(settings: &QueueSettings, message: &Message) -> bool
     }
 }
 
-// What goes to the dead-letter queue of a message of this queue.
+// The load by which a message of this queue goes to the dead-letter queue.
 fn redrive(site: u32, message: Message) -> Load
-    ensures { result ≡ Load.Redrive (record { site = site; number = message.number }) message.origin message.body message.group message.enqueued }
+    ensures { result
+        ≡ Load.Redrive (record { site = site; number = message.number }) message.origin message.body
+        message.group message.enqueued }
 {
     Load::Redrive {
         id: MessageId {
@@ -55,9 +57,9 @@ fn redrive(site: u32, message: Message) -> Load
     }
 }
 
-/// A queue of either kind: its number and settings, its messages in the order of their arrival, its
-/// deduplication entries (none at a standard queue), and how many messages ever came. Contracts see
-/// it as the definitions' `Queue`. Times are milliseconds.
+/// A queue of either kind: its number and settings, its messages in the order of their arrival, and
+/// how many ever came. It also has its deduplication entries, of which a standard queue has none.
+/// Contracts see it as the definitions' `Queue`. Times are milliseconds.
 #[derive(Drop)]
 pub struct Queue {
     messages: MessageTable,
@@ -77,17 +79,31 @@ impl Queue {
     /// An empty queue with this number, of the kind that its settings say.
     pub fn new(alloc: Global, site: u32, settings: QueueSettings) -> Queue
         requires { IsQueueSettings settings }
-        ensures { result ≡ record { site = site; settings = settings; records = []; entries = []; arrivals = 0 } }
+        ensures { result
+            ≡ record {
+              site = site;
+              settings = settings;
+              records = [];
+              entries = [];
+              arrivals = 0;
+            } }
     {
         Queue::opened_at(alloc, site, settings, 0)
     }
 
-    /// An empty queue with this number, to which so many messages came before: the next gets that count
-    /// as its number.
+    /// An empty queue with this number, to which `arrivals` messages came before: the next message
+    /// gets that count as its number.
     pub fn opened_at(alloc: Global, site: u32, settings: QueueSettings, arrivals: u64) -> Queue
         requires settings { IsQueueSettings settings }
         requires arrivals { arrivals ≤ most_count }
-        ensures { result ≡ record { site = site; settings = settings; records = []; entries = []; arrivals = arrivals } }
+        ensures { result
+            ≡ record {
+              site = site;
+              settings = settings;
+              records = [];
+              entries = [];
+              arrivals = arrivals;
+            } }
     {
         Queue {
             messages: MessageTable::opened_at(alloc, site, settings, arrivals),
@@ -96,7 +112,7 @@ impl Queue {
         }
     }
 
-    /// Its number.
+    /// The number of the queue.
     pub fn site(&self) -> u32
         ensures { result ≡ self.now.site }
     {
@@ -111,28 +127,28 @@ impl Queue {
         self.messages.arrivals()
     }
 
-    /// Its settings.
+    /// The settings of the queue.
     pub fn settings(&self) -> &QueueSettings
         ensures { result.now ≡ self.now.settings }
     {
         self.messages.settings()
     }
 
-    /// Its messages, in the order of their arrival.
+    /// The messages, in the order of their arrival.
     pub fn view(&self) -> Messages<'_>
         ensures { result ≡ self.now.records }
     {
         self.messages.iter()
     }
 
-    /// The key of what is due next: the least expiry or end of a delay or visibility timeout.
+    /// The key of the next entry due: the least expiry or end of a delay or visibility timeout.
     pub fn least_due(&self) -> Option<Key>
         ensures { result ≡ least (queue_dues self.now) }
     {
         self.messages.least_due()
     }
 
-    /// How many messages are where.
+    /// The number of messages in each state.
     pub fn counts(&self) -> Counts
         ensures visible { result.visible ≡ count_by is_visible self.now.records }
         ensures in_flight { result.in_flight ≡ count_by is_in_flight self.now.records }
@@ -141,21 +157,23 @@ impl Queue {
         self.messages.counts()
     }
 
-    /// Whether it has a message to give and room in flight for it. Goes over no messages.
+    /// Whether the queue has a message to give and the in-flight limit leaves room for it. It does
+    /// not scan the messages.
     pub fn can_give(&self) -> bool
         ensures { result ≡ can_give self.now }
     {
         self.has_available() && self.room() > 0
     }
 
-    /// Whether a receive that sees all hosts would find a message to give. Goes over no messages.
+    /// Whether a receive that sees all hosts would find a message to give. It does not scan the
+    /// messages.
     pub fn has_available(&self) -> bool
         ensures { result ≡ not (is_empty (all_available self.now)) }
     {
         self.messages.has_available(self.all_hosts())
     }
 
-    // The set of all hosts, by their bits; that of a FIFO queue has one.
+    // The set of all hosts, by their bits; a FIFO queue has one.
     fn all_hosts(&self) -> u32
         ensures { result ≡ all_hosts self.now.settings.kind }
     {
@@ -173,14 +191,14 @@ impl Queue {
         limit.saturating_sub(self.messages.counts().in_flight)
     }
 
-    // Whether a receipt may be one that this queue gave.
+    // Whether this queue may have given a receipt.
     fn may_be_given(&self, receipt: &Receipt) -> bool
         ensures { result ≡ may_be_given self.now receipt.now }
     {
         receipt.site == self.messages.site() && receipt.count > 0
     }
 
-    // The message that would come next, delayed for so many milliseconds.
+    // The message that would come next, with a delay in milliseconds.
     fn next_message(&self, now: u64, body: Text, group: Option<Text>, delay: u64) -> Message
         requires { now + delay < 2 ^ 64 }
         ensures { result ≡ new_message self.now now body group delay }
@@ -207,18 +225,9 @@ impl Queue {
         }
     }
 
-    /// The end of the delay or visibility timeout of a message: it is visible again, or leaves for
-    /// the dead-letter queue, which gives its load. No error comes.
-    pub fn release(&mut self, number: u64) -> Result<Option<Load>, Refusal>
-        ensures answer { returned (released self.old number) ≡ (result, self.new) }
-        ensures kept { self.new.entries ≡ self.old.entries }
-        ensures framed { IsFramed self.old self.new }
-    {
-        Ok(self.come_back(number))
-    }
-
-    // A message is visible again, or leaves.
-    fn come_back(&mut self, number: u64) -> Option<Load>
+    /// Ends the delay or visibility timeout of a message. It is visible again, or leaves for the
+    /// dead-letter queue; then its load is returned.
+    pub fn release(&mut self, number: u64) -> Option<Load>
         ensures answer { released self.old number ≡ (self.new, result) }
         ensures kept { self.new.entries ≡ self.old.entries }
         ensures framed { IsFramed self.old self.new }
@@ -234,8 +243,8 @@ impl Queue {
         Some(redrive(site, message))
     }
 
-    /// The end of the retention period of a message, which leaves. Answers its age, 0 where it is
-    /// not there.
+    /// Ends the retention period of a message, which leaves. Returns its age in milliseconds, 0 if
+    /// it is not there.
     pub fn expire(&mut self, now: u64, number: u64) -> u64
         ensures answer { expired self.old now number ≡ (result, self.new) }
         ensures kept { self.new.entries ≡ self.old.entries }

@@ -44,7 +44,7 @@ is_running Failed = false
 abbrev pub task_started : MoveTask → ℕ → MoveTask
 task_started t now = record t { status = Running; moved = 0; step_at = now + 1000 }
 
--- a start of a task, which is refused while it runs
+-- a start of a task, which is refused while it is running
 abbrev pub started : MoveTask → ℕ → Result (Unit {0}) Refusal × MoveTask
 started t now = if is_running t.status then (Err refusals.TaskRunning, t) else (Ok tt, task_started t now)
 
@@ -59,7 +59,7 @@ task_status Empty = Completed
 task_status More = Running
 task_status NoSource = Failed
 
--- a task after a step that took so many; the next one is a second later
+-- a task after a step that took some messages; the next step is a second later
 abbrev pub task_stepped : MoveTask → ℕ → ℕ → Rest → MoveTask
 task_stepped t now taken rest =
     record t { status = task_status rest; moved = t.moved + taken; step_at = now + 1000; steps = t.steps + 1 }

@@ -1,17 +1,17 @@
-//! What a queue answers.
+//! The answers of a queue.
 use crate::transfers::Load;
 use sqs_message::{Listed, MessageId, Origin, Receipt, Text};
 
-/// What a send made.
+/// The result of a send.
 #[derive(Clone, Copy, Debug, PartialEq, Eq)]
 pub enum Sent {
-    /// A message of its own.
+    /// A new message.
     New(MessageId),
-    /// Nothing: it is a duplicate of this message.
+    /// No message: the send is a duplicate of this one.
     Repeat(MessageId),
 }
 
-/// What a delete did.
+/// The result of a delete.
 #[derive(Clone, Copy, Debug, PartialEq, Eq)]
 pub enum Deleted {
     /// The message left, at this age in milliseconds.
@@ -22,7 +22,7 @@ pub enum Deleted {
     Gone,
 }
 
-/// What becomes of a message that would be visible again.
+/// What happens to a message that would be visible again.
 #[derive(Clone, Copy, Debug, PartialEq, Eq)]
 pub enum Returned {
     /// It stays, visible.
@@ -36,9 +36,9 @@ pub enum Returned {
 pub enum Rest {
     /// No message is available.
     Empty,
-    /// Some are.
+    /// Some messages are available.
     More,
-    /// One of those that the step came to has nowhere to go.
+    /// One of the messages that the step reached has no destination.
     NoSource,
 }
 
@@ -50,8 +50,8 @@ pub struct Got {
     pub origin: Origin,
     pub group: Option<Text>,
     pub body: Text,
-    /// The load of one that left for the dead-letter queue at once, as a receive with a timeout of
-    /// 0 may bring about.
+    /// The load of a message that left for the dead-letter queue at once, which is possible with a
+    /// timeout of 0.
     pub left: Option<Load>,
 }
 

@@ -1,4 +1,5 @@
-//! Settings of queues and tasks, what a queue answers, and what goes from one queue to another.
+//! Settings of queues and tasks, the answers of a queue, and the transfers from one queue to
+//! another.
 #![tactic(auto)]
 
 mod answers;

@@ -1,4 +1,4 @@
-//! What becomes of a message that comes back, and move tasks.
+//! The fate of a message that comes back, and move tasks.
 ghost use Rattle.std.specs.Prelude.{◌≡◌, ◌<◌, ◌^◌, ℕ, Option, Some, None, if◌then◌else◌};
 ghost use Rattle.sqs_redrive.specs.MoveTasks.{is_running, opening_move, returned_by, started, task_cancelled, task_stepped};
 ghost use Rattle.sqs_redrive.specs.declared.settings.TaskStatus.TheVariants.{Running};
@@ -9,8 +9,8 @@ use sim_clock::Refusal;
 use sqs_message::Message;
 use std::marker::Model;
 
-/// What becomes of a message that would be visible again: it leaves for the dead-letter queue where
-/// it was received at least `max_receives` times (`RedrivePolicy`). Takes no memory.
+/// What happens to a message that would be visible again: it leaves for the dead-letter queue if it
+/// was received at least `max_receives` times (`RedrivePolicy`). It allocates nothing.
 pub fn on_return(policy: &Policy, message: &Message) -> Returned
     ensures { result ≡ returned_by policy.now message.now }
 {
@@ -21,8 +21,8 @@ pub fn on_return(policy: &Policy, message: &Message) -> Returned
     }
 }
 
-/// The state of a move task (`StartMessageMoveTask`). No call of it takes memory, and one that is
-/// refused leaves it as it was.
+/// The state of a move task (`StartMessageMoveTask`). Its calls allocate nothing, and a call that
+/// returns an error leaves the task as it was.
 #[derive(Drop)]
 pub struct MoveTask {
     settings: TaskSettings,
@@ -54,7 +54,8 @@ impl MoveTask {
         }
     }
 
-    /// Starts it, or starts it again; its first step is 1,000 ms later. `TaskRunning` where it runs.
+    /// Starts it, also if it ran before; its first step is 1,000 ms later. `TaskRunning` if it is
+    /// running.
     pub fn start(&mut self, now: u64) -> Result<(), Refusal>
         requires { now < 2 ^ 63 }
         ensures { started self.old now ≡ (result, self.new) }
@@ -68,7 +69,8 @@ impl MoveTask {
         Ok(())
     }
 
-    /// Stops it, and takes nothing back (`CancelMessageMoveTask`). `NoTask` where it does not run.
+    /// Stops it; what it moved stays moved (`CancelMessageMoveTask`). `NoTask` if it is not
+    /// running.
     pub fn cancel(&mut self) -> Result<(), Refusal>
         ensures { task_cancelled self.old ≡ (result, self.new) }
     {
@@ -79,15 +81,15 @@ impl MoveTask {
         Ok(())
     }
 
-    /// How many messages a step takes, at most.
+    /// The greatest number of messages that a step takes.
     pub fn quota(&self) -> u64
         ensures { result ≡ self.now.settings.per_second }
     {
         self.settings.per_second
     }
 
-    /// A step at its moment, in milliseconds, that took so many messages and left this; the next
-    /// one is 1,000 ms later.
+    /// Counts a step at its moment, in milliseconds, that took `taken` messages and left `rest`.
+    /// The next step is 1,000 ms later.
     pub fn step(&mut self, now: u64, taken: u64, rest: Rest)
         requires running { self.old.status ≡ Running }
         requires moment { now < 2 ^ 63 }
@@ -112,21 +114,21 @@ impl MoveTask {
         self.status
     }
 
-    /// How many messages it moved since its last start.
+    /// The number of messages that it moved since its last start.
     pub fn moved(&self) -> u64
         ensures { result ≡ self.now.moved }
     {
         self.moved
     }
 
-    /// How many steps it took.
+    /// The number of steps that it took.
     pub fn steps(&self) -> u64
         ensures { result ≡ self.now.steps }
     {
         self.steps
     }
 
-    /// When its next step is due, in milliseconds, while it runs.
+    /// When its next step is due, in milliseconds, while it is running.
     pub fn next_step(&self) -> Option<u64>
         ensures { result ≡ (if is_running self.now.status then Some self.now.step_at else None) }
     {

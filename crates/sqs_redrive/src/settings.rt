@@ -1,6 +1,7 @@
 //! Settings of queues and move tasks.
 
-/// Where two sends with one deduplication id are duplicates (`DeduplicationScope`).
+/// The scope within which two sends with one deduplication id are duplicates
+/// (`DeduplicationScope`).
 #[derive(Clone, Copy, Debug, PartialEq, Eq)]
 pub enum Scope {
     /// In the whole queue.
@@ -9,17 +10,18 @@ pub enum Scope {
     Group,
 }
 
-/// The two kinds of queue, each with what it alone has.
+/// The two kinds of queue, each with the settings that only it has.
 #[derive(Clone, Copy, Debug, PartialEq, Eq)]
 pub enum Kind {
-    /// A standard queue: on how many servers its messages lie, and how many a short poll samples.
+    /// A standard queue: the number of servers on which its messages are, and how many a short poll
+    /// samples.
     Standard { hosts: u64, sampled: u64 },
-    /// A FIFO queue: whether the body stands for an absent deduplication id
+    /// A FIFO queue: whether the body replaces an absent deduplication id
     /// (`ContentBasedDeduplication`), and the scope of ids.
     Fifo { content_dedup: bool, scope: Scope },
 }
 
-/// How long a transfer takes, in milliseconds: between these, both included.
+/// How long a transfer takes, in milliseconds: from the least to the greatest, both included.
 #[derive(Clone, Copy, Debug, PartialEq, Eq)]
 pub struct Latency {
     pub least: u64,
@@ -31,7 +33,7 @@ pub struct Latency {
 pub struct Policy {
     /// The number of the dead-letter queue.
     pub dead_letter: u32,
-    /// A message that comes back with so many receives leaves (`maxReceiveCount`).
+    /// A message that comes back after this many receives leaves (`maxReceiveCount`).
     pub max_receives: u64,
     pub latency: Latency,
 }
@@ -46,7 +48,7 @@ pub struct QueueSettings {
     pub delay: u64,
     /// How long a message is kept (`MessageRetentionPeriod`).
     pub retention: u64,
-    /// How many messages may be in flight.
+    /// The greatest number of messages in flight.
     pub in_flight_limit: u64,
     pub policy: Option<Policy>,
 }
@@ -54,11 +56,12 @@ pub struct QueueSettings {
 /// Settings of a move task (`StartMessageMoveTask`).
 #[derive(Clone, Copy, Debug, PartialEq, Eq)]
 pub struct TaskSettings {
-    /// The number of the queue that it moves messages out of.
+    /// The number of the queue from which it moves messages.
     pub home: u32,
-    /// Where it moves them; without one each goes back to the queue that it came from.
+    /// The queue to which it moves them; without one each message goes back to the queue that it
+    /// came from.
     pub to: Option<u32>,
-    /// How many it moves a second, at most (`MaxNumberOfMessagesPerSecond`).
+    /// The greatest number of messages that it moves a second (`MaxNumberOfMessagesPerSecond`).
     pub per_second: u64,
     pub latency: Latency,
 }

@@ -1,11 +1,11 @@
-//! What goes from one queue to another.
+//! The transfers from one queue to another.
 ghost use Rattle.std.specs.Prelude.{◌≡◌};
 ghost use Rattle.sqs_redrive.specs.Transfers.{transfer_key};
 
 use sim_clock::{Class, Key};
 use sqs_message::{MessageId, Origin, Text};
 
-/// What a transfer carries.
+/// The load of a transfer.
 #[derive(Drop)]
 pub enum Load {
     /// A message on its way to the dead-letter queue, with the enqueue time that it had.
@@ -23,7 +23,7 @@ pub enum Load {
         body: Text,
         group: Option<Text>,
     },
-    /// A copy of a message that a consumer served: a send made as it arrives.
+    /// A copy of a message that a consumer served: a send that is made on arrival.
     Forward {
         id: MessageId,
         body: Text,
@@ -39,16 +39,16 @@ pub struct Outbound {
     /// The agent that sent it: the queue of a redriven message, the consumer of a forward, the
     /// task of a moved message.
     pub sender: u32,
-    /// How many transfers the sender sent before.
+    /// How many transfers the sender had sent before.
     pub number: u64,
-    /// The queue that it left.
+    /// The number of the queue that it left.
     pub from: u32,
-    /// The queue that it goes to.
+    /// The number of the queue that receives it.
     pub to: u32,
     pub load: Load,
 }
 
-/// A transfer, as the queue that it goes to sees it.
+/// A transfer, as the queue that receives it sees it.
 pub type Transfer = Outbound;
 
 impl Outbound {

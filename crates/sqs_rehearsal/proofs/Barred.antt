@@ -11,14 +11,8 @@ use Rattle.sqs_rehearsal.specs.Rehearsals.{Bars, Request, Stated, fault_of_readi
 use Rattle.sqs_rehearsal.specs.Options.{IsUnsplit, Options, is_within, layout_of, or_else, split_fault, window_fault, workers_fault}
 use Rattle.sqs_rehearsal.specs.declared.rehearsal.Fault.TheVariants as faults
 use Rattle.sim_clock.specs.declared.refusal.Refusal.TheVariants as refusals
+use Rattle.std.proofs.lemmas.Option.{same_Some}
 use Rattle.sim_scenario.specs.declared.fault.ReadError.TheVariants as errors
-
-pub bars_reading : (q : Request) (e : ReadError) → Fails e (scenario_of q.scripts q.text) → Bars q (fault_of_reading e)
-bars_reading q errors.Memory p = tt
-bars_reading q (errors.Fault f) p = p
-
-some-same : {A : Type 0} (x y : A) → Some x ≡ Some y → x ≡ y
-some-same x y e = cc
 
 none-some : {A X : Type 0} (x : A) → None ≡ Some x → X
 none-some x e = cc
@@ -29,7 +23,7 @@ module _ (P : Refusal → Type 0) where
   of_window least None e p h = none-some e h
   of_window least (Some w) e p h =
       (elim (nat_lt least w) as (λ b. (if b then Some (refusals.WindowTooLong w least) else None) ≡ Some e → P e) [
-        | true ↦ λ h. subst P (some-same (refusals.WindowTooLong w least) e h) (p w)
+        | true ↦ λ h. subst P (same_Some (refusals.WindowTooLong w least) e h) (p w)
         | false ↦ λ h. none-some e h
       ]) h
 
@@ -37,7 +31,7 @@ module _ (P : Refusal → Type 0) where
   of_workers n e p h =
       (elim (is_within 1 64 n) as (λ b. (if b then None else Some refusals.BadWorkers) ≡ Some e → P e) [
         | true ↦ λ h. none-some e h
-        | false ↦ λ h. subst P (some-same refusals.BadWorkers e h) p
+        | false ↦ λ h. subst P (same_Some refusals.BadWorkers e h) p
       ]) h
 
   of_both : (a b : Option Refusal) (e : Refusal) → (a ≡ Some e → P e) → (b ≡ Some e → P e) → or_else a b ≡ Some e → P e
@@ -49,7 +43,7 @@ module _ (P : Refusal → Type 0) where
   of_split s o e m w k h =
       (elim (is_layout (length s.queues) (layout_of (length s.queues) o)) as (λ b. (if b then or_else (window_fault (least_latency s) o.window) (workers_fault o.workers) else Some refusals.BadMap) ≡ Some e → P e) [
         | true ↦ λ h. of_both (window_fault (least_latency s) o.window) (workers_fault o.workers) e (of_window (least_latency s) o.window e w) (of_workers o.workers e k) h
-        | false ↦ λ h. subst P (some-same refusals.BadMap e h) m
+        | false ↦ λ h. subst P (same_Some refusals.BadMap e h) m
       ]) h
 
 -- why it can't be split so

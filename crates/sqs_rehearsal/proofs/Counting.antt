@@ -6,7 +6,7 @@ use Rattle.sim_clock.specs.declared.refusal.Refusal.{Refusal}
 use Rattle.sim_engine.specs.Limits.{IsOver as IsPast, StopsWhere}
 use Rattle.sim_engine.specs.Setting.{IsRunOf, Setting}
 use Rattle.sim_engine.proofs.Counted.{not_over, over_by}
-use Rattle.sim_windows.specs.Sinks.{HasStopped, HasTaken, IsFront}
+use Rattle.sim_windows.specs.Sinks.{HasStopped, HasTaken, IsPrefixOfRun}
 use Rattle.sim_workers.specs.Runs.{StopsAnyhow}
 use Rattle.sqs_message.specs.declared.row.Row.{Row}
 use Rattle.sqs_model.specs.Answers.{most_count}
@@ -22,13 +22,13 @@ use Rattle.sqs_rehearsal.specs.LimitLaws.{rows_joined}
 use Rattle.sqs_rehearsal.specs.declared.limited.Limited.{Limited}
 
 -- rows that a run begins with, and fewer of them
-fewer_first : (s : Setting Site) (front rest rows : List Row) → front ++ rest ≡ rows → IsFront sqs s rows → IsFront sqs s front
-fewer_first s front rest rows e first = λ r is.
+fewer_first : (s : Setting Site) (prefix rest rows : List Row) → prefix ++ rest ≡ rows → IsPrefixOfRun sqs s rows → IsPrefixOfRun sqs s prefix
+fewer_first s prefix rest rows e first = λ r is.
     let f = first r is in
-    (rest ++ f.0, sym (append_assoc front rest f.0) ∙ ap (λ xs. xs ++ f.0) e ∙ f.1)
+    (rest ++ f.0, sym (append_assoc prefix rest f.0) ∙ ap (λ xs. xs ++ f.0) e ∙ f.1)
 
 -- where a run begins with rows that tell of a count past the limit, it passes it
-past_by : (s : Setting Site) (r : Run) → IsRunOf sqs s r → (rows : List Row) → IsFront sqs s rows → most_count < rows_count rows → IsPast sqs s
+past_by : (s : Setting Site) (r : Run) → IsRunOf sqs s r → (rows : List Row) → IsPrefixOfRun sqs s rows → most_count < rows_count rows → IsPast sqs s
 past_by s r is rows first past =
     let f = first r is in
     let all : rows_count r.rows ≡ max (rows_count rows) (rows_count f.0) = ap rows_count (sym f.1) ∙ rows_joined rows f.0 in
@@ -56,16 +56,16 @@ module _ {K : Type 0} (took : K → List Row → K → Type 0) where
         → HasStopped sqs (TookWithin took) (BrokeWithin took broke) s before refusal now → HasStopped sqs took broke s before.sink.now refusal now.sink.now
     stopped_there s r is before now refusal h =
         let Stopped : Type 0 = HasStopped sqs took broke s before.sink.now refusal now.sink.now in
-        let first : IsFront sqs s h.rows = h.front in
+        let first : IsPrefixOfRun sqs s h.rows = h.prefix in
         let passed : Passed took before.sink.now h.rows refusal now.sink.now → Stopped = λ p.
         record {
-          rows = p.front;
-          front = fewer_first s p.front p.rest h.rows p.rows_are first;
+          rows = p.prefix;
+          prefix = fewer_first s p.prefix p.rest h.rows p.rows_are first;
           at_rows = inl (p.taken, subst (StopsWhere (IsPast sqs s)) (sym p.limit) (past_by s r is h.rows first p.past));
         } in
         elim h.at_rows as (λ _. Stopped) [
-          | inl t ↦ record { rows = h.rows; front = first; at_rows = inl (t.0.taken, t.1) }
-          | inr b ↦ elim b.why as (λ _. Stopped) [ inl k ↦ record { rows = h.rows; front = first; at_rows = inr k } | inr p ↦ passed p ]
+          | inl t ↦ record { rows = h.rows; prefix = first; at_rows = inl (t.0.taken, t.1) }
+          | inr b ↦ elim b.why as (λ _. Stopped) [ inl k ↦ record { rows = h.rows; prefix = first; at_rows = inr k } | inr p ↦ passed p ]
         ]
 
     pub stopped_behind : (world s : Setting Site) → world ≡ s → (r : Run) → IsRunOf sqs world r → (before now : Limited K) (refusal : Refusal)

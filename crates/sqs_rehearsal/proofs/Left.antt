@@ -61,14 +61,6 @@ pub without_keys : (os : List Outbound) → map (λ (p : Key × FinalTransfer). 
 without_keys [] = refl
 without_keys (o ∷ os) = ap (λ t. final_transfer o ∷ t) (without_keys os)
 
--- one more of a list, behind those before it
-pub item_added : {A B : Type 0} (f : A → B) (xs : List A) (i : ℕ) (d x : A) (before old new : List B) (y : B)
-    → i < length xs → x ≡ get_or xs i d → y ≡ f x → old ≡ before ++ map f (take i xs) → new ≡ old ++ y ∷ [] → new ≡ before ++ map f (take (i + 1) xs)
-item_added f xs i d x before old new y h is e o n =
-    let here : map f (take (i + 1) xs) ≡ map f (take i xs) ++ y ∷ [] =
-    ap (map f) (take_more xs i d h) ∙ map-append f (take i xs) (get_or xs i d ∷ []) ∙ ap (λ z. map f (take i xs) ++ z ∷ []) (sym (e ∙ ap f is)) in
-    n ∙ ap (λ t. t ++ y ∷ []) o ∙ append_assoc before (map f (take i xs)) (y ∷ []) ∙ sym (ap (λ t. before ++ t) here)
-
 -- what is made of the items of a list, one after another: those of the items so far stand behind others
 pub record IsAdding {A B : Type 0} (f : A → B) (xs : List A) (before : List B) (rest : List A) (now : List B) : Type 0 where
   pub done : List A

@@ -8,3 +8,4 @@ pub mod Rehearsing
 pub mod Sorting
 pub mod Left
 pub mod Counting
+pub mod Prefixes

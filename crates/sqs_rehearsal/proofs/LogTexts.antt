@@ -1,20 +1,22 @@
 -- What a log got of a run.
-use Rattle.std.proofs.Common.{◌≡◌, ◌++◌, ◌∙◌, [], ℕ, Bool, Err, List, Ok, Option, ap, append-nil, false, inl, inr, map, subst, sym}
+use Rattle.std.specs.Prelude.{IfErr, nat_le, true, ◌&&◌, ◌≢◌, ◌≤◌}
+use Rattle.std.proofs.Common.{◌≡◌, ◌++◌, ◌∙◌, [], ℕ, Bool, Err, List, Ok, Option, Result, ap, append-nil, false, inl, inr, map, refl, subst, sym, true≢false}
+use Rattle.std.proofs.lemmas.Bool.{leb-true}
 use Rattle.std.proofs.lemmas.Grind.{flat_map-append}
 use Rattle.std.proofs.lemmas.List.{map-append}
 use Rattle.std.specs.Io.KnownBytes.{Appends}
 use Rattle.csv.proofs.WriteFacts.{appends-more}
 use Rattle.sim_clock.specs.declared.refusal.Refusal.{Refusal}
 use Rattle.sim_workers.specs.Runs.{StopsAnyhow}
-use Rattle.sim_recorder.proofs.Fronts.{all_are_front}
-use Rattle.sim_recorder.specs.Sinks.{IsSame, Recorded, StoppedAt}
-use Rattle.sim_recorder.specs.declared.recorder.Recorder.{Recorder}
-use Rattle.sim_records.proofs.Writes.{front_of_first, front_of_second, several_after, several_stopped}
-use Rattle.sim_records.specs.Writes.{AppendsFront, WroteSeveral}
+use Rattle.sqs_rehearsal.proofs.Prefixes.{all_are_prefix}
+use Rattle.sqs_rehearsal.specs.Sinks.{IsSame, Recorded, StoppedAt}
+use Rattle.sqs_rehearsal.specs.declared.recorder.Recorder.{Recorder}
+use Rattle.sim_records.proofs.Writes.{prefix_of_first, prefix_of_second, several_after, several_stopped}
+use Rattle.sim_records.specs.Writes.{AppendsPrefix, Wrote, WroteSeveral}
 use Rattle.sim_report.specs.Running.{running}
 use Rattle.sim_report.specs.declared.queue.QueueCounts.{QueueCounts}
 use Rattle.sim_engine.specs.Limits.{StopsWhere}
-use Rattle.sim_windows.specs.Sinks.{HasTaken}
+use Rattle.sim_windows.specs.Sinks.{HasStopped, HasTaken}
 use Rattle.sqs_formats.specs.Output.{log_of, queue_names}
 use Rattle.sqs_formats.specs.Rows.{line, lines, log_header, row_fields}
 use Rattle.sqs_message.specs.declared.row.Row.{Row}
@@ -24,7 +26,8 @@ use Rattle.sqs_model.specs.Sqs.{sqs}
 use Rattle.sqs_model.specs.Scenario.{Scenario}
 use Rattle.sqs_model.specs.Site.{Site}
 use Rattle.sqs_rehearsal.specs.Logs.{HasLogged, StopsLogging, rows_text}
-use Rattle.sqs_rehearsal.specs.Writers.{GotFront, Writer}
+use Rattle.sqs_rehearsal.specs.Options.{is_within}
+use Rattle.sqs_rehearsal.specs.Writers.{GotPrefix, Writer}
 use Rattle.sqs_rehearsal.proofs.Runs.{one_run}
 use Rattle.sim_clock.specs.declared.refusal.Refusal.TheVariants as refusals
 
@@ -36,11 +39,11 @@ lines_joined names xs ys zs e =
     ∙ ap lines (sym (map-append (row_fields names) xs ys))
     ∙ ap (λ (rows : List Row). lines (map (row_fields names) rows)) e
 
--- a run that stops for want of memory, or at a count, has written so much
-pub stops_where : (s : Scenario) (start text : List ℕ) (log : Writer) (e : Refusal) → StopsWhere (IsOver s) e → GotFront log text false → StopsLogging s start text log e
-stops_where s start text log refusals.Memory why front = front
-stops_where s start text log refusals.CountLimit why front = (why, front)
-stops_where s start text log e why front = absurd why
+-- a run that stops since memory ran out, or at a count, has written so much
+pub stops_where : (s : Scenario) (start text : List ℕ) (log : Writer) (e : Refusal) → StopsWhere (IsOver s) e → GotPrefix log text false → StopsLogging s start text log e
+stops_where s start text log refusals.Memory why prefix = prefix
+stops_where s start text log refusals.CountLimit why prefix = (why, prefix)
+stops_where s start text log e why prefix = absurd why
 
 -- one that stops since its rows could not be written
 pub stops_unwritten : (s : Scenario) (start text : List ℕ) (log : Writer) (e : Refusal) → WroteSeveral log.before log.after log.failed text (Err e) → StopsLogging s start text log e
@@ -48,15 +51,35 @@ stops_unwritten s start text log refusals.Memory p = record { bytes = p.0; fails
 stops_unwritten s start text log refusals.Write p = record { bytes = p.0; fails = p.1 }
 stops_unwritten s start text log e p = absurd p
 
+-- so many workers are at least one
+pub within_least : (n : ℕ) → is_within 1 64 n ≡ true → 1 ≤ n
+within_least n h =
+    elim (nat_le 1 n) as (λ b. nat_le 1 n ≡ b → (b && nat_le n 64) ≡ true → 1 ≤ n) [
+      | true ↦ λ e g. leb-true 1 n e
+      | false ↦ λ e g. absurd (true≢false (sym g))
+    ] refl h
+
+-- what a writer answers is no refused start
+pub several_started : (old new : Option (List ℕ)) (failed : Bool) (text : List ℕ) (e : Refusal) → WroteSeveral old new failed text (Err e) → e ≢ refusals.NoWorker
+several_started old new failed text e p same = subst (λ (x : Refusal). WroteSeveral old new failed text (Err x)) same p
+
+pub wrote_started : (old new : Option (List ℕ)) (failed : Bool) (text : List ℕ) (e : Refusal) → Wrote old new failed text (Err e) → e ≢ refusals.NoWorker
+wrote_started old new failed text e p same = subst (λ (x : Refusal). Wrote old new failed text (Err x)) same p
+
+-- what holds of any refusal holds of the one that there is
+pub of_any : {X : Type 0} (P : Refusal → Type 0) (r : Result X Refusal) → ((e : Refusal) → P e) → IfErr r P
+of_any P (Ok x) all = tt
+of_any P (Err e) all = all e
+
 -- a text that starts with a header is written to its end, or so much of it, where the rest is
 pub stops_after : (s : Scenario) (header text : List ℕ) (old mid new : Option (List ℕ)) (failed : Bool) (e : Refusal)
     → Appends old mid header → StopsLogging s [] text (record { before = mid; after = new; failed = failed }) e
     → StopsLogging s header (header ++ text) (record { before = old; after = new; failed = failed }) e
-stops_after s header text old mid new failed refusals.Memory h p = record { bytes = front_of_second old mid new header text h p.bytes; fails = p.fails }
-stops_after s header text old mid new failed refusals.CountLimit h p = (p.0, record { bytes = front_of_second old mid new header text h p.1.bytes; fails = p.1.fails })
+stops_after s header text old mid new failed refusals.Memory h p = record { bytes = prefix_of_second old mid new header text h p.bytes; fails = p.fails }
+stops_after s header text old mid new failed refusals.CountLimit h p = (p.0, record { bytes = prefix_of_second old mid new header text h p.1.bytes; fails = p.1.fails })
 stops_after s header text old mid new failed refusals.NoWorker h p =
     record { bytes = subst (λ (t : List ℕ). Appends old new t) (append-nil header) (appends-more old mid new header [] h p.bytes); whole = p.whole }
-stops_after s header text old mid new failed refusals.Write h p = record { bytes = front_of_second old mid new header text h p.bytes; fails = p.fails }
+stops_after s header text old mid new failed refusals.Write h p = record { bytes = prefix_of_second old mid new header text h p.bytes; fails = p.fails }
 stops_after s header text old mid new failed e h p = absurd p
 
 -- the header and then the rows are the log
@@ -113,23 +136,31 @@ module _ {L P : Type 0} (held : L → Option (List ℕ)) (failed : L → Bool) w
         | inr broke ↦ broke.same
       ]
 
+  -- a run that stops on its way does not do so since no worker could be started
+  pub stops_started : (s : Scenario) (before after : Recorder L P) (e : Refusal) → HasStopped sqs (Recorded held failed) (StoppedAt held failed) (setting_of s) before e after → e ≢ refusals.NoWorker
+  stops_started s before after e p same =
+      elim p.at_rows as (λ _. ⊥) [
+        | inl took ↦ subst (λ (x : Refusal). StopsWhere (IsOver s) x) same took.1
+        | inr broke ↦ subst (λ (x : Refusal). WroteSeveral (held before.out.now) (held after.out.now) (failed after.out.now) (lines (map (row_fields before.names.now) p.rows)) (Err x)) same broke.written
+      ]
+
   -- a recorder took some first rows of a run, and then the run stopped
-  pub logs_front : (s : Scenario) (before after : Recorder L P) (e : Refusal) → StopsRecorded s before e after → before.names.now ≡ s.names → failed before.out.now ≡ false
+  pub logs_prefix : (s : Scenario) (before after : Recorder L P) (e : Refusal) → StopsRecorded s before e after → before.names.now ≡ s.names → failed before.out.now ≡ false
       → (r : Run) → IsRunOf s r → StopsLogging s [] (rows_text s r) (writer_of before after) e
-  logs_front s before after e (inr p) names works r is = rw p.0 (record { bytes = p.1.written; whole = p.1.works works })
-  logs_front s before after e (inl p) names works r is =
+  logs_prefix s before after e (inr p) names works r is = rw p.0 (record { bytes = p.1.written; whole = p.1.works works })
+  logs_prefix s before after e (inl p) names works r is =
       let old = held before.out.now in
       let new = held after.out.now in
       let fails = failed after.out.now in
       let some : List ℕ = lines (map (row_fields s.names) p.rows) in
-      let rest = p.front r is in
+      let rest = p.prefix r is in
       let others : List ℕ = lines (map (row_fields s.names) rest.0) in
       let joined : some ++ others ≡ rows_text s r = lines_joined s.names p.rows rest.0 r.rows rest.1 in
       elim p.at_rows as (λ _. StopsLogging s [] (rows_text s r) (writer_of before after) e) [
         | inl took ↦
             let bytes : Appends old new some = subst (λ (n : List (List ℕ)). Appends old new (lines (map (row_fields n) p.rows))) names took.0.written in
-            let front : AppendsFront old new (rows_text s r) = subst (λ (t : List ℕ). AppendsFront old new t) joined (front_of_first old new some others (all_are_front old new some bytes)) in
-            stops_where s [] (rows_text s r) (writer_of before after) e took.1 (record { bytes = front; fails = took.0.works works })
+            let prefix : AppendsPrefix old new (rows_text s r) = subst (λ (t : List ℕ). AppendsPrefix old new t) joined (prefix_of_first old new some others (all_are_prefix old new some bytes)) in
+            stops_where s [] (rows_text s r) (writer_of before after) e took.1 (record { bytes = prefix; fails = took.0.works works })
         | inr broke ↦
             let bytes : WroteSeveral old new fails some (Err e) = subst (λ (n : List (List ℕ)). WroteSeveral old new fails (lines (map (row_fields n) p.rows)) (Err e)) names broke.written in
             stops_unwritten s [] (rows_text s r) (writer_of before after) e (subst (λ (t : List ℕ). WroteSeveral old new fails t (Err e)) joined (several_stopped old new fails some others e bytes))

@@ -16,7 +16,7 @@ use Rattle.sqs_model.specs.declared.agents.ActorSettings.{ActorSettings}
 use Rattle.sqs_model.specs.declared.agents.Role.{Role}
 use Rattle.sqs_model.specs.declared.agents.Role.TheVariants.{Consumer, Producer, Script}
 use Rattle.sqs_model.proofs.Counts.{ascends_lower}
-use Rattle.sqs_model.proofs.Opening.{all_enumerated}
+use Rattle.sqs_model.proofs.Opening.{all_enumerated, ascends_enumerated, ascends_filter}
 use Rattle.sqs_model.specs.Progress.{Ascends}
 use Rattle.sqs_model.specs.Scenario.{HasItsQueues, MayBeWithin, Scenario, fresh_core, numbered_actors, numbered_tasks, opening_site}
 use Rattle.sqs_model.specs.Site.{Site}
@@ -118,20 +118,6 @@ settles_all home here others first next so_far left all before after v none h =
     let whole : so_far ≡ all = sym (append-nil so_far) ∙ ap (λ r. so_far ++ r) (sym none) ∙ v.rest in
     subst (λ xs. AtHome home 0 (map here after) (enumerate_from first xs)) whole (v.settled h)
 
--- agents with their numbers
-ascends_numbered : {A : Type 0} (n : ℕ) (xs : List A) → Ascends (λ x. x.0) n (enumerate_from n xs)
-ascends_numbered n [] = tt
-ascends_numbered n (x ∷ xs) = (omega arith, ascends_numbered (n + 1) xs)
-
-ascends_filter : {A : Type 0} (number : A → ℕ) (p : A → Bool) (n : ℕ) (xs : List A) → Ascends number n xs → Ascends number n (filter p xs)
-ascends_filter number p n [] a = tt
-ascends_filter number p n (x ∷ xs) a =
-    let k : n ≤ number x = a.0 in
-    elim (p x) as (λ b. Ascends number n (cond b (x ∷ filter p xs) (filter p xs))) [
-      | true ↦ (k, ascends_filter number p (number x + 1) xs a.1)
-      | false ↦ ascends_lower number n (number x + 1) (filter p xs) (omega arith) (ascends_filter number p (number x + 1) xs a.1)
-    ]
-
 -- roles of a scenario in range
 role_in_range : (r : Role) → IsScenarioRole r → IsRole r
 role_in_range (Script script) h = h.few
@@ -184,7 +170,7 @@ fit_homes s homes range settled =
     record {
       actors = all_enumerated (λ (a : ActorSettings). IsScenarioRole a.role) (length s.queues) s.actors range.actors;
       tasks = all_enumerated (λ (t : TaskSettings). IsLatency t.latency) first s.tasks latencies;
-      numbered = ascends_lower (λ (t : ℕ × TaskSettings). t.0) 0 first (numbered_tasks s) (omega arith) (ascends_numbered first s.tasks);
+      numbered = ascends_lower (λ (t : ℕ × TaskSettings). t.0) 0 first (numbered_tasks s) (omega arith) (ascends_enumerated first s.tasks);
     } settled.actors settled.tasks
 
 -- sites that are to come, from a number on

@@ -1,8 +1,8 @@
 -- What came of a rehearsal, from what came of its run.
 use Rattle.std.proofs.Common.{◌≡◌, Err, List, None, Ok, Result, inr, false, subst, sym}
-use Rattle.std.specs.Prelude.{IfErr, OnOk}
+use Rattle.std.specs.Prelude.{IfErr, OnOk, ◌<◌}
 use Rattle.sim_clock.specs.declared.refusal.Refusal.{Refusal}
-use Rattle.sim_records.specs.Writes.{AppendsFront, WroteSeveral}
+use Rattle.sim_records.specs.Writes.{AppendsPrefix, WroteSeveral}
 use Rattle.sim_report.specs.declared.queue.QueueCounts.{QueueCounts}
 use Rattle.sim_scenario.specs.Ranges.{IsInRange}
 use Rattle.sqs_formats.specs.Output.{ending_of, log_of}
@@ -34,18 +34,18 @@ module _ (q : Request) (x : Scenario) (stated : scenario_of q.scripts q.text ≡
     with_run r is = rehearsed q (record { scenario = x; stated = stated }) range (subst (λ (y : Options). split_fault x y ≡ None) (sym asked) allowed) r is
 
     -- its run stopped
-    pub refused_logging : (log report : Writer) (e : Refusal) → ((r : Run) → IsRunOf x r → StopsLogging x (line log_header) (log_of x r) log e) → GotNothing report
+    pub refused_logging : (log report : Writer) (e : Refusal) → ((r : Run) → IsRunOf x r → StopsLogging x (line log_header) (log_of x r) log e) → GotNothing report → (e ≡ refusals.NoWorker → 1 < o.workers)
         → IsRefused q log report (faults.Refused e)
-    refused_logging log report e stops none =
+    refused_logging log report e stops none several =
         let run : (r : Run) × IsRunOf x r = some_run x range in
-        refused_at_log q (with_run run.0 run.1) log report e (stops run.0 run.1) none
+        refused_at_log q (with_run run.0 run.1) log report e (stops run.0 run.1) none (subst (λ (y : Options). e ≡ refusals.NoWorker → 1 < y.workers) (sym asked) several)
 
     -- its log was written
     module _ (log : Writer) (counts : List QueueCounts) (sites : List Site) (logged : HasLogged x (log_of x) log counts sites) where
       -- and then memory was wanting
-      pub refused_after : (report : Writer) → AppendsFront report.before report.after (ending_of x logged.ended.run) → report.failed ≡ false → IsRefused q log report (faults.Refused refusals.Memory)
-      refused_after report front works =
-          inr (inr (record { of = with_run logged.ended.run logged.ended.is_run; whole_log = logged.got; report_front = record { bytes = front; fails = works } }))
+      pub refused_after : (report : Writer) → AppendsPrefix report.before report.after (ending_of x logged.ended.run) → report.failed ≡ false → IsRefused q log report (faults.Refused refusals.Memory)
+      refused_after report prefix works =
+          inr (inr (record { of = with_run logged.ended.run logged.ended.is_run; whole_log = logged.got; report_prefix = record { bytes = prefix; fails = works } }))
 
       -- what comes of the rest comes of all
       pub written_after : (report : Writer) (result : Result (Unit {0}) Refusal) → WroteSeveral report.before report.after report.failed (ending_of x logged.ended.run) result

@@ -1,6 +1,6 @@
 -- What writers got where a rehearsal stopped.
-use Rattle.std.proofs.Common.{◌≡◌, Err, Ok, Result, inl, inr}
-use Rattle.std.specs.Prelude.{IfErr}
+use Rattle.std.proofs.Common.{◌≡◌, Err, Ok, Result, inl, inr, refl}
+use Rattle.std.specs.Prelude.{IfErr, ◌<◌}
 use Rattle.std.specs.Result.{IsErrAnd}
 use Rattle.sim_clock.specs.declared.refusal.Refusal.{Refusal}
 use Rattle.sim_records.specs.Writes.{WroteSeveral}
@@ -22,17 +22,17 @@ refused_barred q log report (faults.Refused refusals.NoWorker) b u = absurd b
 refused_barred q log report (faults.Refused e) b u = (b, u)
 
 pub refused_at_log : (q : Request) (of : Rehearsed q) (log report : Writer) (e : Refusal)
-    → StopsLogging of.scenario (line log_header) (log_of of.scenario of.run) log e → GotNothing report → IsRefused q log report (faults.Refused e)
-refused_at_log q of log report refusals.Memory p n = inr (inl (record { of = of; log_front = p; no_report = n }))
-refused_at_log q of log report refusals.CountLimit p n = record { stopped = record { of = of; log_front = p.1; no_report = n }; over = p.0 }
-refused_at_log q of log report refusals.NoWorker p n = record { of = of; header = p; no_report = n }
-refused_at_log q of log report refusals.Write p n = inl (record { of = of; log_front = p; no_report = n })
-refused_at_log q of log report e p n = absurd p
+    → StopsLogging of.scenario (line log_header) (log_of of.scenario of.run) log e → GotNothing report → (e ≡ refusals.NoWorker → 1 < q.options.workers) → IsRefused q log report (faults.Refused e)
+refused_at_log q of log report refusals.Memory p n several = inr (inl (record { of = of; log_prefix = p; no_report = n }))
+refused_at_log q of log report refusals.CountLimit p n several = record { stopped = record { of = of; log_prefix = p.1; no_report = n }; over = p.0 }
+refused_at_log q of log report refusals.NoWorker p n several = record { of = of; several = several refl; header = p; no_report = n }
+refused_at_log q of log report refusals.Write p n several = inl (record { of = of; log_prefix = p; no_report = n })
+refused_at_log q of log report e p n several = absurd p
 
 pub refused_at_report : (q : Request) (of : Rehearsed q) (log report : Writer) (e : Refusal)
     → Got log (log_of of.scenario of.run) → WroteSeveral report.before report.after report.failed (ending_of of.scenario of.run) (Err e) → IsRefused q log report (faults.Refused e)
-refused_at_report q of log report refusals.Memory g p = inr (inr (record { of = of; whole_log = g; report_front = record { bytes = p.0; fails = p.1 } }))
-refused_at_report q of log report refusals.Write g p = inr (record { of = of; whole_log = g; report_front = record { bytes = p.0; fails = p.1 } })
+refused_at_report q of log report refusals.Memory g p = inr (inr (record { of = of; whole_log = g; report_prefix = record { bytes = p.0; fails = p.1 } }))
+refused_at_report q of log report refusals.Write g p = inr (record { of = of; whole_log = g; report_prefix = record { bytes = p.0; fails = p.1 } })
 refused_at_report q of log report e g p = absurd p
 
 -- the refusal that a `?` hands on is the one that it met

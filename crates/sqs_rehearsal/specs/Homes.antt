@@ -21,7 +21,7 @@ pub record IsVacant (h : Home) : Type 0 where
   pub actors : actors_in h ≡ []
   pub tasks : tasks_in h ≡ []
 
--- whether each of some homes, numbered from this on, has those agents that are at home there, in their order
+-- whether each of some homes, numbered from n on, has the agents whose home it is, in their order
 abbrev pub AtHome : {A : Type 0} → (A → ℕ) → ℕ → List (List (ℕ × A)) → List (ℕ × A) → Type 0
 AtHome home n [] agents = Unit {0}
 AtHome home n (here ∷ rest) agents = (here ≡ filter (λ x. home x.1 == n) agents) × AtHome home (n + 1) rest agents
@@ -31,7 +31,8 @@ pub record IsSettled (homes : List Home) (roles : List (ℕ × ActorSettings)) (
   pub actors : AtHome (λ a. a.home) 0 (map actors_in homes) roles
   pub tasks : AtHome (λ t. t.home) 0 (map tasks_in homes) moves
 
--- a home with which a site can be set up: roles are in range, waits are short, latencies are in range, and each task has a number of its own
+-- a home with which a site can be set up: roles are in range, waits are short, latencies are in range, and each task
+-- has its own number
 pub record IsFit (h : Home) : Type 0 where
   pub roles : All (λ x. IsRole x.1.role) (actors_in h)
   pub waits : All (λ a. HasShortWaits a.role) (map (λ x. x.1) (actors_in h))

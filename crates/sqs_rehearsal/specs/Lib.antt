@@ -7,3 +7,5 @@ pub mod Rehearsals
 pub mod Left
 pub mod Limited
 pub mod LimitLaws
+pub mod Sinks
+pub mod SinkLaws

@@ -1,4 +1,4 @@
--- What a sink took in turn it took together, where rows are looked at for counts past the limit.
+-- A sink that checks rows for counts past the limit: what it took in several calls it took together.
 use Rattle.std.specs.List.{list_all}
 use Rattle.std.specs.Prelude.{Bool, List, [], false, max, nat_le, true, ◌&&◌, ◌++◌, ◌<◌, ◌∷◌, ◌≡◌, ◌≤◌, ◌⊎◌}
 use Rattle.std.proofs.Common.{ap, append_assoc, arith, inl, inr, refl, sym, true≢false, ◌∙◌}
@@ -12,7 +12,7 @@ use Rattle.sqs_model.specs.Limits.{rows_count}
 use Rattle.sqs_rehearsal.specs.Limited.{BrokeWithin, Passed, TookWithin}
 use Rattle.sqs_rehearsal.specs.declared.limited.Limited.{Limited}
 
--- whether a row tells of no count past the limit
+-- whether a row has no count past the limit
 abbrev is_within : Row → Bool
 is_within r = nat_le (receipt_count r.receipt) most_count
 
@@ -42,13 +42,13 @@ module _ {K : Type 0} (took : K → List Row → K → Type 0) where
   pub took_none : ((sink : K) → took sink [] sink) → (limited : Limited K) → TookWithin took limited [] limited
   took_none unchanged limited = record { same = refl; taken = unchanged limited.sink.now; within = omega arith }
 
-  -- rows that are not all within the limit are refused before any is handed on
+  -- rows that are not all within the limit are refused before any of them is handed on
   pub past_refused : ((sink : K) → took sink [] sink) → (broke : K → List Row → Refusal → K → Type 0) (limited : Limited K) (rows : List Row) → list_all is_within rows ≡ false
       → BrokeWithin took broke limited rows refusals.CountLimit limited
   past_refused unchanged broke limited rows past =
       record {
         same = refl;
-        why = inr (record { limit = refl; front = []; rest = rows; rows_are = refl; taken = unchanged limited.sink.now; past = some_past rows past });
+        why = inr (record { limit = refl; prefix = []; rest = rows; rows_are = refl; taken = unchanged limited.sink.now; past = some_past rows past });
       }
 
   module _ (both : (a b c : K) (xs ys : List Row) → took a xs b → took b ys c → took a (xs ++ ys) c) where
@@ -64,10 +64,10 @@ module _ {K : Type 0} (took : K → List Row → K → Type 0) where
     passed_after a b c xs ys refusal first second =
         record {
           limit = second.limit;
-          front = xs ++ second.front;
+          prefix = xs ++ second.prefix;
           rest = second.rest;
-          rows_are = append_assoc xs second.front second.rest ∙ ap (λ zs. xs ++ zs) second.rows_are;
-          taken = both a b c xs second.front first second.taken;
+          rows_are = append_assoc xs second.prefix second.rest ∙ ap (λ zs. xs ++ zs) second.rows_are;
+          taken = both a b c xs second.prefix first second.taken;
           past = rw (rows_joined xs ys) (omega (arith, second.past, le-max_right (rows_count xs) (rows_count ys)));
         }
 

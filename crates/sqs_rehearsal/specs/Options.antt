@@ -7,7 +7,7 @@ use Rattle.sqs_model.specs.Scenario.{Scenario, least_latency}
 use Rattle.sqs_rehearsal.specs.declared.options.Split.{Split}
 use Rattle.sim_clock.specs.declared.refusal.Refusal.TheVariants as refusals
 
--- what was asked for: the window in milliseconds, the number of partitions, the partition of each queue, the number of workers
+-- the options: the window in milliseconds, the number of partitions, the partition of each queue, the number of workers
 pub record Options : Type 0 where
   pub window : Option ℕ
   pub parts : Option ℕ
@@ -24,11 +24,11 @@ parts_of (Some n) map = n
 parts_of None (Some ps) = partitions_in ps
 parts_of None None = 1
 
--- the partitions of so many queues that take turns
+-- the partitions of queues that are assigned in turn
 abbrev pub in_turn : ℕ → ℕ → List ℕ
 in_turn parts queues = map (λ q. q % parts) (range_with_len 0 queues)
 
--- how many partitions there are, and which of them each of so many queues has
+-- the number of partitions, and the partition of each queue
 abbrev pub layout_of : ℕ → Options → Layout
 layout_of queues o =
     let parts = parts_of o.parts o.map in
@@ -59,12 +59,12 @@ split_fault s o =
     then or_else (window_fault (least_latency s) o.window) (workers_fault o.workers)
     else Some refusals.BadMap
 
--- a refusal, if there is one
+-- an error, if there is one
 abbrev pub unless : Option Refusal → Result (Unit {0}) Refusal
 unless None = Ok tt
 unless (Some r) = Err r
 
--- why a scenario can't be split so: that, or want of memory
+-- why a scenario can't be split so: that, or out of memory
 abbrev pub IsUnsplit : Scenario → Options → Refusal → Type 0
 IsUnsplit s o e = (e ≡ refusals.Memory) ⊎ (split_fault s o ≡ Some e)
 

@@ -12,7 +12,8 @@ use Rattle.sqs_model.specs.Scenario.{Scenario}
 use Rattle.sqs_model.specs.Site.{Site}
 use Rattle.sqs_rehearsal.specs.declared.outcome.Outcome.{Outcome}
 
--- a scenario's one-list run has come to its end, and taken no count past the limit: its rows are counted, and these are the sites of its last world
+-- a scenario's one-list run has reached its end and taken no count past the limit; its rows are counted, and these are
+-- the sites of its last world
 pub record HasCounted (s : Scenario) (counts : List QueueCounts) (sites : List Site) : Type 0 where
   pub run : Run
   pub is_run : IsRunOf s run
@@ -32,6 +33,6 @@ pub record IsOutcomeOf (s : Scenario) (o : Outcome) : Type 0 where
   pub not_over : ¬ IsOver s
   pub left : IsLeftBy s run o
 
--- why a scenario is not run to its end: want of memory, or a count that its one-list run takes past the limit
+-- why a scenario is not run to its end: out of memory, or a count that its one-list run takes past the limit
 abbrev pub Stops : Scenario → Refusal → Type 0
 Stops s = StopsWhere (IsOver s)

@@ -1,5 +1,5 @@
 -- What a rehearsal writes, or why it is refused.
-use Rattle.std.specs.Prelude.{Bool, Err, List, None, Ok, Some, false, true, ℕ, ◌≡◌, ◌⊎◌}
+use Rattle.std.specs.Prelude.{Bool, Err, List, None, Ok, Some, false, true, ℕ, ◌<◌, ◌≡◌, ◌⊎◌}
 use Rattle.sim_clock.specs.declared.refusal.Refusal.{Refusal}
 use Rattle.sqs_formats.specs.Output.{ending_of, log_of}
 use Rattle.sqs_formats.specs.Rows.{line, log_header}
@@ -9,7 +9,7 @@ use Rattle.sqs_model.specs.Limits.{IsOver}
 use Rattle.sqs_model.specs.Run.{IsRunOf, Run}
 use Rattle.sqs_model.specs.Scenario.{Scenario}
 use Rattle.sqs_rehearsal.specs.Options.{Options, split_fault}
-use Rattle.sqs_rehearsal.specs.Writers.{Got, GotFront, GotNothing, Writer}
+use Rattle.sqs_rehearsal.specs.Writers.{Got, GotPrefix, GotNothing, Writer}
 use Rattle.sqs_rehearsal.specs.declared.rehearsal.Fault.{Fault}
 use Rattle.sim_scenario.specs.declared.fault.ReadError.{ReadError}
 use Rattle.sim_clock.specs.declared.refusal.Refusal.TheVariants as refusals
@@ -22,7 +22,11 @@ pub record Request : Type 0 where
   pub scripts : List (List ℕ × List ℕ)
   pub options : Options
 
--- a scenario that a request states, which can be split so, and its one-list run, in which every message accepted stands in exactly one place, and no other anywhere
+-- a request for these
+abbrev pub request : List ℕ → List (List ℕ × List ℕ) → Options → Request
+request text scripts options = record { text = text; scripts = scripts; options = options }
+
+-- a request's scenario, split as asked, and its one-list run: each accepted message is in one place, no other in any
 pub record Rehearsed (q : Request) : Type 0 where
   pub scenario : Scenario
   pub run : Run
@@ -32,17 +36,17 @@ pub record Rehearsed (q : Request) : Type 0 where
   pub one_place : EachHasOnePlace run.sites run.rows
   pub no_other : NoOtherHasPlace run.sites run.rows
 
--- the whole of a rehearsal: the one-list run takes no count past the limit; the log writer got the log, the other finals and report
+-- a whole rehearsal: the one-list run takes no count past the limit; the writers got the log, and the finals and report
 pub record IsWritten (q : Request) (log report : Writer) : Type 0 where
   pub of : Rehearsed q
   pub not_over : ¬ IsOver of.scenario
   pub whole_log : Got log (log_of of.scenario of.run)
   pub whole_report : Got report (ending_of of.scenario of.run)
 
--- a rehearsal that stopped while the log was written: the log writer got a front of it, and whether it failed; the other got nothing
+-- a rehearsal that stopped in the log: its writer got a prefix of it, and whether it failed; the other got nothing
 pub record StoppedInLog (q : Request) (log report : Writer) (failed : Bool) : Type 0 where
   pub of : Rehearsed q
-  pub log_front : GotFront log (log_of of.scenario of.run) failed
+  pub log_prefix : GotPrefix log (log_of of.scenario of.run) failed
   pub no_report : GotNothing report
 
 -- one whose run stopped since a count would pass the limit
@@ -50,17 +54,18 @@ pub record StoppedByLimit (q : Request) (log report : Writer) : Type 0 where
   pub stopped : StoppedInLog q log report false
   pub over : IsOver stopped.of.scenario
 
--- one of which no worker could be started: the log writer got the header, the other nothing
+-- one of several workers, of which one could not be started: the log writer got the header, the other nothing
 pub record StoppedAtStart (q : Request) (log report : Writer) : Type 0 where
   pub of : Rehearsed q
+  pub several : 1 < q.options.workers
   pub header : Got log (line log_header)
   pub no_report : GotNothing report
 
--- one that stopped after the log: the other writer got a front of finals and report, and whether it failed
+-- one that stopped after the log: the other writer got a prefix of finals and report, and whether it failed
 pub record StoppedAfterLog (q : Request) (log report : Writer) (failed : Bool) : Type 0 where
   pub of : Rehearsed q
   pub whole_log : Got log (log_of of.scenario of.run)
-  pub report_front : GotFront report (ending_of of.scenario of.run) failed
+  pub report_prefix : GotPrefix report (ending_of of.scenario of.run) failed
 
 -- one that stopped on its way: the log is written first, and the rest after all of it
 abbrev pub IsPartWritten : Request → Writer → Writer → Bool → Type 0

@@ -1,4 +1,4 @@
-//! What is left in sites at the end of a run.
+//! The state of sites at the end of a run.
 ghost use Rattle.std.specs.Prelude.{◌≡◌, ◌++◌, IfOk, OnOk, flat_map, map};
 ghost use Rattle.std.specs.Ordering.{is_lt};
 ghost use Rattle.sim_clock.specs.Order.{key_cmp};
@@ -44,7 +44,8 @@ fn add_messages(
     messages: &mut Vec<FinalMessage>,
     queue: &Queue,
 ) -> Result<(), AllocError>
-    ensures { OnOk result (messages.new.items ≡ messages.old.items ++ map (final_message queue.now) queue.now.records) }
+    ensures { OnOk result (messages.new.items
+        ≡ messages.old.items ++ map (final_message queue.now) queue.now.records) }
 {
     for message in queue.view() {
         messages.push(final_message(alloc, queue.site(), message)?)?;
@@ -118,7 +119,7 @@ fn keyed_transfers(alloc: Global, sites: &[Site]) -> Result<Vec<(Key, FinalTrans
     Ok(transfers)
 }
 
-// Which of two keys comes first.
+// The order of two keys.
 fn order(first: Key, second: Key) -> Ordering
     ensures { is_lt result ≡ is_lt (key_cmp first second) }
 {
@@ -141,7 +142,8 @@ fn without_keys(
 
 // The transfers under way to all sites, in the order of their keys.
 fn transfers_of(alloc: Global, sites: &[Site]) -> Result<Vec<FinalTransfer>, AllocError>
-    ensures { IfOk result (λ t. t.items ≡ map final_transfer (in_key_order (flat_map (λ s. s.arriving) sites.now))) }
+    ensures { IfOk result
+        (λ t. t.items ≡ map final_transfer (in_key_order (flat_map (λ s. s.arriving) sites.now))) }
 {
     let mut keyed = keyed_transfers(alloc, sites)?;
     keyed.reverse();
@@ -183,7 +185,8 @@ fn site_tasks(alloc: Global, sites: &[Site]) -> Result<Vec<FinalTask>, AllocErro
 
 // The move tasks of all sites, by number.
 fn tasks_of(alloc: Global, sites: &[Site]) -> Result<Vec<FinalTask>, AllocError>
-    ensures { IfOk result (λ t. t.items ≡ map final_task (in_number_order (flat_map (λ s. s.core.tasks) sites.now))) }
+    ensures { IfOk result
+        (λ t. t.items ≡ map final_task (in_number_order (flat_map (λ s. s.core.tasks) sites.now))) }
 {
     let mut tasks = site_tasks(alloc, sites)?;
     tasks.reverse();
@@ -191,12 +194,12 @@ fn tasks_of(alloc: Global, sites: &[Site]) -> Result<Vec<FinalTask>, AllocError>
     Ok(tasks)
 }
 
-/// What is left in the sites of a run: the messages of each queue, the transfers under way in the
-/// order of their keys, and the move tasks by number.
+/// The state of a run's sites at its end: the messages of each queue, the transfers under way in
+/// the order of their keys, and the move tasks by number.
 ///
 /// # Errors
 ///
-/// `AllocError` where a growth is refused.
+/// `AllocError` if a growth is refused.
 #[tactic(auto, unfolding(sqs_model::specs::Finals::finals_of))]
 pub fn finals_of(alloc: Global, sites: &[Site]) -> Result<Finals, AllocError>
     ensures { IfOk result (λ finals. finals ≡ the_finals_of sites.now) }

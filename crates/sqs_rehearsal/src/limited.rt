@@ -1,4 +1,4 @@
-//! Rows are handed on while no count that they tell of is past the limit.
+//! Rows are handed on only if no count in them is past the limit.
 ghost use Rattle.std.specs.Prelude.{◌≡◌, ◌≤◌, IfOk, nat_le};
 ghost use Rattle.std.specs.List.{list_all};
 ghost use Rattle.sqs_model.specs.Answers.{most_count};
@@ -11,15 +11,15 @@ use sim_windows::RowSink;
 use sqs_message::{Row, RowReceipt};
 use sqs_model::MOST_COUNT;
 
-/// A sink before which rows are looked at. It refuses them with `CountLimit` where one tells of a count
-/// past 2^62 - 1: no queue makes such a row.
+/// A sink in front of another one. It refuses rows with `CountLimit` if one of them has a count
+/// past 2^62 - 1; no queue makes such a row.
 #[derive(Drop)]
 pub struct Limited<'a, K> {
-    /// The sink that the rows are for.
+    /// The sink that gets the rows.
     pub sink: &'a mut K,
 }
 
-// How often its message was received, by the receipt of a row.
+// How often the message of a row was received, by the row's receipt.
 fn count_of(row: &Row) -> u64
     ensures { result ≡ receipt_count row.now.receipt }
 {
@@ -29,7 +29,7 @@ fn count_of(row: &Row) -> u64
     }
 }
 
-// Whether no row tells of a count past the limit.
+// Whether no row has a count past the limit.
 fn are_within(rows: &[Row]) -> bool
     ensures { result ≡ list_all (λ r. nat_le (receipt_count r.receipt) most_count) rows.now }
 {
@@ -60,7 +60,7 @@ impl<K: RowSink<Row>> RowSink<Row> for Limited<'_, K> {
     ghost broke_later = { λ a b c xs ys refusal first second. broke_after K.took K.took_both K.broke K.broke_later a b c xs ys refusal first second };
 }
 
-// The greatest count that these sites have come to.
+// The greatest count that these sites have reached.
 fn greatest_of(sites: &[Site]) -> u64
     ensures count { result ≡ sites_count sites.now }
     ensures limit { result ≤ most_count }
@@ -72,7 +72,7 @@ fn greatest_of(sites: &[Site]) -> u64
     most
 }
 
-/// What a run came to: where that is its last sites, no count of theirs is past the limit.
+/// The result of a run. If that is its last sites, none of their counts is past the limit.
 pub fn counted(ran: Result<Vec<Site>, Refusal>) -> Result<Vec<Site>, Refusal>
     ensures same { result ≡ ran }
     ensures within { IfOk result (λ sites. sites_count sites.items ≤ most_count) }

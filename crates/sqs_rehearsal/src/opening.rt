@@ -1,4 +1,4 @@
-//! The sites that a scenario opens with.
+//! The sites with which a scenario opens.
 ghost use Rattle.std.specs.List.{enumerate_from};
 ghost use Rattle.std.specs.Prelude.{◌≡◌, ◌+◌, ◌<◌, ◌≤◌, ◌^◌, [], All, IfOk, List, OnOk, length, map, ℕ};
 ghost use Rattle.sim_engine.specs.Simulated.{IsSimulated};
@@ -17,14 +17,14 @@ use sqs_model::ActorSettings;
 use sqs_redrive::{QueueSettings, TaskSettings};
 use std::alloc::{AllocError, Global};
 
-// The actors and tasks at home at one queue, each under its own number.
+// The actors and tasks of one queue, each under its own number.
 #[derive(Drop)]
 struct Home {
     actors: Vec<(u32, ActorSettings)>,
     tasks: Vec<(u32, TaskSettings)>,
 }
 
-// Homes of so many queues, with nothing at any of them.
+// The homes of `queues` queues, without actors and tasks.
 fn vacant_homes(alloc: Global, queues: usize) -> Result<Vec<Home>, AllocError>
     ensures vacant { IfOk result (λ homes. All IsVacant homes.items) }
     ensures count { IfOk result (λ homes. length homes.items ≡ queues) }
@@ -39,7 +39,7 @@ fn vacant_homes(alloc: Global, queues: usize) -> Result<Vec<Home>, AllocError>
     Ok(homes)
 }
 
-// Brings actors to their homes, in order and numbered from the first on.
+// Adds actors to their homes, in order, with consecutive numbers.
 fn settle_actors(
     homes: &mut Vec<Home>,
     first: u32,
@@ -47,7 +47,9 @@ fn settle_actors(
 ) -> Result<(), AllocError>
     requires homes { All (λ a. a.home < length homes.old.items) actors.items }
     requires numbers { first + length actors.items < 2 ^ 32 }
-    ensures settled { OnOk result (AtHome (λ a. a.home) 0 (map actors_in homes.old.items) [] → AtHome (λ a. a.home) 0 (map actors_in homes.new.items) (enumerate_from first actors.items)) }
+    ensures settled { OnOk result (AtHome (λ a. a.home) 0 (map actors_in homes.old.items) []
+        → AtHome (λ a. a.home) 0 (map actors_in homes.new.items)
+        (enumerate_from first actors.items)) }
     ensures tasks { OnOk result (map tasks_in homes.new.items ≡ map tasks_in homes.old.items) }
     ensures count { OnOk result (length homes.new.items ≡ length homes.old.items) }
 {
@@ -60,7 +62,7 @@ fn settle_actors(
     Ok(())
 }
 
-// The same of tasks.
+// The same for tasks.
 fn settle_tasks(
     homes: &mut Vec<Home>,
     first: u32,
@@ -68,7 +70,9 @@ fn settle_tasks(
 ) -> Result<(), AllocError>
     requires homes { All (λ t. t.home < length homes.old.items) tasks.items }
     requires numbers { first + length tasks.items < 2 ^ 32 }
-    ensures settled { OnOk result (AtHome (λ t. t.home) 0 (map tasks_in homes.old.items) [] → AtHome (λ t. t.home) 0 (map tasks_in homes.new.items) (enumerate_from first tasks.items)) }
+    ensures settled { OnOk result (AtHome (λ t. t.home) 0 (map tasks_in homes.old.items) []
+        → AtHome (λ t. t.home) 0 (map tasks_in homes.new.items)
+        (enumerate_from first tasks.items)) }
     ensures actors { OnOk result (map actors_in homes.new.items ≡ map actors_in homes.old.items) }
     ensures count { OnOk result (length homes.new.items ≡ length homes.old.items) }
 {
@@ -81,7 +85,7 @@ fn settle_tasks(
     Ok(())
 }
 
-// The homes of so many queues. Agents are numbered: queues first, then actors, then tasks.
+// The homes of `queues` queues. Agents are numbered: queues first, then actors, then tasks.
 fn settled_homes(
     alloc: Global,
     queues: usize,
@@ -91,7 +95,9 @@ fn settled_homes(
     requires actors { All (λ a. a.home < queues) actors.items }
     requires tasks { All (λ t. t.home < queues) tasks.items }
     requires numbers { queues + length actors.items + length tasks.items < 2 ^ 32 }
-    ensures settled { IfOk result (λ homes. IsSettled homes.items (enumerate_from queues actors.items) (enumerate_from (queues + length actors.items) tasks.items)) }
+    ensures settled { IfOk result (λ homes.
+        IsSettled homes.items (enumerate_from queues actors.items)
+        (enumerate_from (queues + length actors.items) tasks.items)) }
     ensures count { IfOk result (λ homes. length homes.items ≡ queues) }
 {
     let mut homes = vacant_homes(alloc, queues)?;
@@ -102,7 +108,7 @@ fn settled_homes(
     Ok(homes)
 }
 
-// The sites of queues, by number, each with those at home there.
+// The sites of queues, by number, each with its actors and tasks.
 fn open_sites(
     alloc: Global,
     queues: &[QueueSettings],
@@ -115,7 +121,10 @@ fn open_sites(
     requires count { length homes.items ≡ length queues.now }
     requires numbers { length queues.now < 2 ^ 32 }
     requires sample { sample ≤ most_count }
-    ensures opened { IfOk result (λ sites. (s : TheScenario) → s.seed ≡ seed → s.sample ≡ sample → s.queues ≡ queues.now → IsSettled homes.items (numbered_actors s) (numbered_tasks s) → sites.items ≡ opening s) }
+    ensures opened { IfOk result (λ sites.
+        (s : TheScenario) → s.seed ≡ seed → s.sample ≡ sample → s.queues ≡ queues.now
+        → IsSettled homes.items (numbered_actors s) (numbered_tasks s)
+        → sites.items ≡ opening s) }
 {
     let mut sites = Vec::with_capacity(alloc, queues.len())?;
     let mut number = 0;
@@ -136,8 +145,8 @@ fn open_sites(
     Ok(sites)
 }
 
-// The sites that a scenario opens with: one for each of its queues, by number, at which nothing was
-// done and to which nothing is on its way.
+// The sites with which a scenario opens: one for each of its queues, by number, that has done
+// nothing and to which nothing is on its way.
 fn opening_sites(alloc: Global, scenario: Scenario) -> Result<Vec<Site>, AllocError>
     ensures opened { IfOk result (λ sites. sites.items ≡ opening scenario) }
     ensures has_queues { IfOk result (λ _. HasItsQueues scenario) }
@@ -153,13 +162,18 @@ fn opening_sites(alloc: Global, scenario: Scenario) -> Result<Vec<Site>, AllocEr
     )
 }
 
-/// The world that a scenario opens with: a site for each of its queues, at which nothing was done and
-/// to which nothing is on its way, and the ways between them. The error is want of memory.
+/// The world with which a scenario opens: a site for each of its queues, and the ways between them.
+/// The sites have done nothing, and nothing is on its way to them.
+///
+/// # Errors
+///
+/// `AllocError` if memory runs out.
 pub fn open_world(alloc: Global, scenario: Scenario) -> Result<World<Site>, AllocError>
     ensures setting { IfOk result (λ world. world ≡ setting_of scenario) }
     ensures simulated { IfOk result (λ world. IsSimulated sqs sqs_conditions world) }
     ensures horizon { IfOk result (λ world. world.horizon ≤ most_count) }
-    ensures ways { IfOk result (λ world. All (λ e. (1 ≤ e.least) × (e.least ≤ 900000)) world.edges) }
+    ensures ways { IfOk result
+        (λ world. All (λ e. (1 ≤ e.least) × (e.least ≤ 900000)) world.edges) }
     ensures has_queues { IfOk result (λ _. HasItsQueues scenario) }
 {
     let horizon = scenario.horizon();

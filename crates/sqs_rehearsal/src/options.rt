@@ -1,4 +1,4 @@
-//! How a rehearsal is split into partitions, windows and workers.
+//! The partitions, the window and the workers of a rehearsal.
 ghost use Rattle.std.specs.Prelude.{◌≡◌, ◌≤◌, ◌⊎◌, IfErr, IfOk, None, OnOk, false, true};
 ghost use Rattle.sim_clock.specs.declared.refusal.Refusal.TheVariants.{BadMap, Memory};
 ghost use Rattle.sim_exchange.specs.Layout.{is_layout};
@@ -11,17 +11,17 @@ use sim_scenario::{Scenario, least_latency};
 use std::alloc::{AllocError, Global};
 use std::marker::Model;
 
-/// How a rehearsal is split. The answer does not depend on it.
+/// How a rehearsal is split. What it writes does not depend on this.
 #[derive(Drop)]
 pub struct Options {
-    /// The window of the partitions, in milliseconds, at least 1; without one it is the least
-    /// latency of the scenario's transfers, which no window may pass.
+    /// The window of the partitions, in milliseconds, at least 1. Without one it is the least
+    /// latency of the scenario's transfers, which no window may exceed.
     pub window: Option<u64>,
-    /// How many partitions there are, 1 to 256; without a number as many as the map needs, or one.
+    /// The number of partitions, 1 to 256. Without it there are as many as the map needs, or one.
     pub parts: Option<u32>,
-    /// The partition of each queue; without a list the queues take turns.
+    /// The partition of each queue. Without a list, queues are assigned to the partitions in turn.
     pub map: Option<Vec<u32>>,
-    /// How many workers there are, 1 to 64.
+    /// The number of workers, 1 to 64.
     pub workers: u32,
 }
 
@@ -41,7 +41,7 @@ pub struct Split {
     pub layout: PartMap,
     /// The window, in milliseconds.
     pub window: u64,
-    /// How many workers there are.
+    /// The number of workers.
     pub workers: usize,
 }
 
@@ -56,7 +56,7 @@ fn partitions_in(map: &[u32]) -> u64
     needed
 }
 
-// The partitions of so many queues that take turns.
+// The partitions of `queues` queues that are assigned in turn.
 fn in_turn(alloc: Global, parts: u64, queues: usize) -> Result<Vec<u32>, AllocError>
     requires some { 1 ≤ parts }
     requires few { parts ≤ 256 }
@@ -69,7 +69,7 @@ fn in_turn(alloc: Global, parts: u64, queues: usize) -> Result<Vec<u32>, AllocEr
     Ok(owners)
 }
 
-/// Whether there are 1 to 64 workers. The one error is `BadWorkers`.
+/// Checks that there are 1 to 64 workers. The only error is `BadWorkers`.
 pub fn check_workers(workers: usize) -> Result<(), Refusal>
     ensures fault { result ≡ unless (workers_fault workers) }
     ensures within { OnOk result (is_within 1 64 workers ≡ true) }
@@ -81,7 +81,7 @@ pub fn check_workers(workers: usize) -> Result<(), Refusal>
 }
 
 impl Options {
-    // How many partitions there are.
+    // The number of partitions.
     fn parts(&self) -> u64
         ensures { result ≡ parts_of self.now.parts self.now.map }
     {
@@ -94,10 +94,14 @@ impl Options {
         }
     }
 
-    // The partition of each of so many queues.
+    // The partition of each of `queues` queues.
     fn layout(&self, alloc: Global, queues: usize) -> Result<PartMap, Refusal>
-        ensures laid { IfOk result (λ layout. (is_layout queues (layout_of queues self.now) ≡ true) × (layout ≡ layout_of queues self.now)) }
-        ensures refused { IfErr result (λ refusal. (refusal ≡ Memory) ⊎ ((is_layout queues (layout_of queues self.now) ≡ false) × (refusal ≡ BadMap))) }
+        ensures laid { IfOk result (λ layout.
+            (is_layout queues (layout_of queues self.now) ≡ true)
+            × (layout ≡ layout_of queues self.now)) }
+        ensures refused { IfErr result (λ refusal.
+            (refusal ≡ Memory)
+            ⊎ ((is_layout queues (layout_of queues self.now) ≡ false) × (refusal ≡ BadMap))) }
     {
         let parts = self.parts();
         if parts < 1 || parts > 256 {
@@ -110,7 +114,7 @@ impl Options {
         PartMap::new(queues, parts as u32, owners)
     }
 
-    // Whether the window is longer than the least latency.
+    // Checks that the window is no longer than the least latency.
     fn check_window(&self, least: u64) -> Result<(), Refusal>
         ensures { result ≡ unless (window_fault least self.now.window) }
     {
@@ -120,13 +124,14 @@ impl Options {
         }
     }
 
-    /// How a scenario is split.
+    /// The split of a scenario.
     ///
     /// # Errors
     ///
-    /// `BadMap` where there are not 1 to 256 partitions, or the map does not give each queue one of
-    /// them; else `WindowTooLong` where the window is longer than the least latency; else
-    /// `BadWorkers` where there are not 1 to 64 workers. `Memory` where a growth is refused.
+    /// The first of these that holds. `BadMap` if there are not 1 to 256 partitions, or if the map
+    /// does not give each queue one of them. `WindowTooLong` if the window is longer than the least
+    /// latency. `BadWorkers` if there are not 1 to 64 workers. Also `Memory` if a growth is
+    /// refused.
     pub fn split(&self, alloc: Global, scenario: &Scenario) -> Result<Split, Refusal>
         ensures allowed { IfOk result (λ _. split_fault scenario.now self.now ≡ None) }
         ensures split { IfOk result (λ split. split ≡ split_of scenario.now self.now) }

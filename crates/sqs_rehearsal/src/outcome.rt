@@ -1,5 +1,5 @@
-//! What the whole run of a scenario leaves.
-ghost use Rattle.std.specs.Prelude.{◌≡◌, [], false, map, IfErr, IfOk, OnOk};
+//! The outcome of the whole run of a scenario.
+ghost use Rattle.std.specs.Prelude.{◌≡◌, [], false, true, map, IfErr, IfOk, OnOk};
 ghost use Rattle.sim_records.specs.Writes.{WroteSeveral};
 ghost use Rattle.sim_report.specs.Running.{running};
 ghost use Rattle.sqs_formats.specs.Comparison.{comparison};
@@ -8,10 +8,10 @@ ghost use Rattle.sqs_model.specs.Run.{Run};
 ghost use Rattle.sqs_model.specs.Scenario.{Scenario as TheScenario};
 ghost use Rattle.sqs_rehearsal.specs.Outcomes.{HasCounted, IsLeftBy, IsOutcomeOf, Stops};
 
+use crate::counter::Counter;
 use crate::finals::finals_of;
 use crate::running::run_alone;
 use sim_clock::Refusal;
-use sim_recorder::Counter;
 use sim_records::{Names, Out, write_finals};
 use sim_report::Report;
 use sim_scenario::Scenario;
@@ -20,15 +20,15 @@ use sqs_message::Text;
 use sqs_model::Finals;
 use std::alloc::{AllocError, Global};
 
-/// What the whole run of a scenario leaves: the report of its rows, and what is left in its queues, on
-/// the way and in its move tasks at the end.
+/// The outcome of the whole run of a scenario: the report of its rows, and the state of its queues,
+/// transfers and move tasks at the end.
 #[derive(Drop)]
 pub struct Outcome {
     report: Report,
     finals: Finals,
 }
 
-/// Copies of texts. The error is want of memory.
+/// Copies of texts. It fails if memory runs out.
 pub fn copies(alloc: Global, texts: &[Text]) -> Result<Vec<Text>, AllocError>
     ensures { IfOk result (λ copies. copies.items ≡ texts.now) }
 {
@@ -39,7 +39,7 @@ pub fn copies(alloc: Global, texts: &[Text]) -> Result<Vec<Text>, AllocError>
     Ok(copies)
 }
 
-/// The report of no rows of a scenario. The error is want of memory.
+/// The report of no rows of a scenario. It fails if memory runs out.
 pub fn fresh_report(alloc: Global, scenario: &Scenario) -> Result<Report, AllocError>
     ensures { IfOk result (λ report. report ≡ running (queue_names scenario.now) []) }
 {
@@ -48,10 +48,11 @@ pub fn fresh_report(alloc: Global, scenario: &Scenario) -> Result<Report, AllocE
     Report::new(alloc, names)
 }
 
-/// Hands on what a writer has taken.
+/// Makes a writer pass on what it has taken.
 pub fn flush<W: Out>(out: &mut W) -> Result<(), Refusal>
     requires { W.failed out.old ≡ false }
-    ensures { WroteSeveral (W.held out.old) (W.held out.new) (W.failed out.new) [] result }
+    ensures written { WroteSeveral (W.held out.old) (W.held out.new) (W.failed out.new) [] result }
+    ensures flushed { OnOk result (W.flushed out.new ≡ true) }
 {
     out.flush()?;
     Ok(())
@@ -68,11 +69,12 @@ fn run_counted(alloc: Global, scenario: Scenario, report: &mut Report) -> Result
 }
 
 impl Outcome {
-    /// Runs a scenario to its horizon on this thread, due by due.
+    /// Runs a scenario to its horizon on this thread, event by event.
     ///
     /// # Errors
     ///
-    /// `CountLimit`, only where the one-list run takes a count past 2^62 - 1; `Memory`.
+    /// `CountLimit` only if the one-list run takes a count past 2^62 - 1; `Memory` if a growth is
+    /// refused.
     pub fn of(alloc: Global, scenario: Scenario) -> Result<Outcome, Refusal>
         ensures whole { IfOk result (IsOutcomeOf scenario) }
         ensures stops { IfErr result (Stops scenario) }
@@ -83,32 +85,33 @@ impl Outcome {
         Ok(outcome)
     }
 
-    /// The outcome of a run by the report of its rows and the sites of its last world. The error is
-    /// want of memory.
+    /// The outcome of a run, from the report of its rows and the sites of its last world. It fails
+    /// if memory runs out.
     pub(crate) fn at_end(
         alloc: Global,
         report: Report,
         sites: &[Site],
     ) -> Result<Outcome, AllocError>
-        ensures { (s : TheScenario) (r : Run) → report ≡ running (queue_names s) r.rows → sites.now ≡ r.sites → IfOk result (IsLeftBy s r) }
+        ensures { (s : TheScenario) (r : Run) → report ≡ running (queue_names s) r.rows
+            → sites.now ≡ r.sites → IfOk result (IsLeftBy s r) }
     {
         let finals = finals_of(alloc, sites)?;
         Ok(Outcome { report, finals })
     }
 
-    /// What is left at the end.
+    /// The state at the end.
     pub fn finals(&self) -> &Finals
         ensures { result.now ≡ self.now.finals }
     {
         &self.finals
     }
 
-    /// Writes what is left at the end and the report, and flushes the writer. The names are those of
+    /// Writes the state at the end and the report, and flushes the writer. `names` has the names of
     /// all agents.
     ///
     /// # Errors
     ///
-    /// `Memory` where a growth is refused, `Write` where the writer fails: a front of the two is
+    /// `Memory` if a growth is refused, `Write` if the writer fails: a prefix of the two is
     /// written.
     pub fn write_ending<W: Out>(
         &self,
@@ -117,17 +120,22 @@ impl Outcome {
         out: &mut W,
     ) -> Result<(), Refusal>
         requires { W.failed out.old ≡ false }
-        ensures { (s : TheScenario) (r : Run) → names.now ≡ s.names → IsLeftBy s r self.now → WroteSeveral (W.held out.old) (W.held out.new) (W.failed out.new) (ending_of s r) result }
+        ensures written { (s : TheScenario) (r : Run) → names.now ≡ s.names → IsLeftBy s r self.now
+            → WroteSeveral (W.held out.old) (W.held out.new) (W.failed out.new) (ending_of s r)
+            result }
+        ensures flushed { OnOk result (W.flushed out.new ≡ true) }
     {
         self.write_left(alloc, names, out)?;
         flush(out)
     }
 
-    // Writes what is left at the end, and the report.
+    // Writes the state at the end and the report.
     fn write_left<W: Out>(&self, alloc: Global, names: &Names, out: &mut W) -> Result<(), Refusal>
         requires { W.failed out.old ≡ false }
         ensures works { OnOk result (W.failed out.new ≡ false) }
-        ensures written { (s : TheScenario) (r : Run) → names.now ≡ s.names → IsLeftBy s r self.now → WroteSeveral (W.held out.old) (W.held out.new) (W.failed out.new) (ending_of s r) result }
+        ensures written { (s : TheScenario) (r : Run) → names.now ≡ s.names → IsLeftBy s r self.now
+            → WroteSeveral (W.held out.old) (W.held out.new) (W.failed out.new) (ending_of s r)
+            result }
     {
         write_finals(alloc, out, &self.finals, names)?;
         self.report.write_report(alloc, out, &self.finals)
@@ -138,7 +146,7 @@ impl Outcome {
 ///
 /// # Errors
 ///
-/// `Memory` where a growth is refused, `Write` where the writer fails: a front of the comparison is
+/// `Memory` if a growth is refused, `Write` if the writer fails: a prefix of the comparison is
 /// written.
 pub fn compare<W: Out>(
     alloc: Global,
@@ -147,7 +155,11 @@ pub fn compare<W: Out>(
     second: &Outcome,
 ) -> Result<(), Refusal>
     requires { W.failed out.old ≡ false }
-    ensures { (s t : TheScenario) (r u : Run) → IsLeftBy s r first.now → IsLeftBy t u second.now → WroteSeveral (W.held out.old) (W.held out.new) (W.failed out.new) (comparison (report_of s r) (report_of t u)) result }
+    ensures written { (s t : TheScenario) (r u : Run) → IsLeftBy s r first.now
+        → IsLeftBy t u second.now
+        → WroteSeveral (W.held out.old) (W.held out.new) (W.failed out.new)
+        (comparison (report_of s r) (report_of t u)) result }
+    ensures flushed { OnOk result (W.flushed out.new ≡ true) }
 {
     sim_report::compare(
         alloc,

@@ -1,17 +1,17 @@
 //! A rehearsal, from bytes to bytes.
-ghost use Rattle.std.specs.Prelude.{◌≡◌, false, IfErr, List, Ok, OnOk, ℕ};
+ghost use Rattle.std.specs.Prelude.{◌≡◌, false, true, IfErr, List, Ok, OnOk, ℕ};
 ghost use Rattle.sqs_formats.specs.Scenario.{scenario_of};
 ghost use Rattle.sim_scenario.specs.Drafts.{IsDraftOf};
-ghost use Rattle.sqs_rehearsal.specs.Rehearsals.{IsRefused, IsWritten, Request};
+ghost use Rattle.sqs_rehearsal.specs.Rehearsals.{IsRefused, IsWritten, Request, request};
 ghost use Rattle.sqs_rehearsal.specs.declared.rehearsal.Fault.TheVariants.{Refused};
-ghost use Rattle.sqs_rehearsal.specs.Writers.{Writer};
+ghost use Rattle.sqs_rehearsal.specs.Writers.{seen};
 
 use crate::logging::run_logged;
 use crate::options::Options;
 use crate::outcome::{Outcome, copies, fresh_report};
 use crate::running::Running;
+use crate::watch::{Unwatched, Watch};
 use sim_clock::Refusal;
-use sim_recorder::{Unwatched, Watch};
 use sim_records::{Names, Out};
 use sim_scenario::{Draft, ReadError, Scenario, Scripts};
 use sim_workers::Gate;
@@ -25,8 +25,8 @@ use std::thread::Threads;
 pub enum Fault {
     /// The scenario has a fault, from 10 to 20.
     Scenario(ScenarioFault),
-    /// What ends a run, from 30 on: the run can't be split so, a count is at its limit, memory is
-    /// wanting or a writer failed.
+    /// An error that ends a run, from 30 on. The split is not possible, a count is at its limit,
+    /// memory ran out, a thread could not be started, or a writer failed.
     Refused(Refusal),
 }
 
@@ -68,8 +68,16 @@ fn rehearse_scenario<G: Gate<Running> + Sync, L: Out, R: Out, P: Watch, W: Threa
 ) -> Result<(), Refusal>
     requires log { L.failed log.old ≡ false }
     requires report { R.failed report.old ≡ false }
-    ensures written { (q : Request) → scenario_of q.scripts q.text ≡ Ok scenario → q.options ≡ options.now → OnOk result (IsWritten q (record { before = L.held log.old; after = L.held log.new; failed = L.failed log.new }) (record { before = R.held report.old; after = R.held report.new; failed = R.failed report.new })) }
-    ensures refused { (q : Request) → scenario_of q.scripts q.text ≡ Ok scenario → q.options ≡ options.now → IfErr result (λ refusal. IsRefused q (record { before = L.held log.old; after = L.held log.new; failed = L.failed log.new }) (record { before = R.held report.old; after = R.held report.new; failed = R.failed report.new }) (Refused refusal)) }
+    ensures written { (q : Request) → scenario_of q.scripts q.text ≡ Ok scenario
+        → q.options ≡ options.now
+        → OnOk result (IsWritten q (seen L.held L.failed log.old log.new)
+        (seen R.held R.failed report.old report.new)) }
+    ensures flushed { OnOk result ((L.flushed log.new ≡ true) × (R.flushed report.new ≡ true)) }
+    ensures refused { (q : Request) → scenario_of q.scripts q.text ≡ Ok scenario
+        → q.options ≡ options.now
+        → IfErr result (λ refusal.
+        IsRefused q (seen L.held L.failed log.old log.new)
+        (seen R.held R.failed report.old report.new) (Refused refusal)) }
 {
     let split = options.split(alloc, &scenario)?;
     let names = Names::new(copies(alloc, scenario.names())?);
@@ -89,8 +97,8 @@ fn rehearse_scenario<G: Gate<Running> + Sync, L: Out, R: Out, P: Watch, W: Threa
     outcome.write_ending(alloc, &names, report)
 }
 
-/// Rehearses a scenario as `rehearse` does, from the draft of its text, and tells a watch how far the run
-/// has come, whenever rows are written.
+/// Rehearses a scenario as `rehearse` does, from the draft of its text. Whenever rows are written,
+/// it informs a watch of the progress of the run.
 ///
 /// # Errors
 ///
@@ -114,28 +122,35 @@ pub fn rehearse_watched<
 ) -> Result<(), Fault>
     requires log { L.failed log.old ≡ false }
     requires report { R.failed report.old ≡ false }
-    ensures written { (text : List ℕ) → IsDraftOf text draft → OnOk result (IsWritten (record { text = text; scripts = scripts.now; options = options.now }) (record { before = L.held log.old; after = L.held log.new; failed = L.failed log.new }) (record { before = R.held report.old; after = R.held report.new; failed = R.failed report.new })) }
-    ensures refused { (text : List ℕ) → IsDraftOf text draft → IfErr result (IsRefused (record { text = text; scripts = scripts.now; options = options.now }) (record { before = L.held log.old; after = L.held log.new; failed = L.failed log.new }) (record { before = R.held report.old; after = R.held report.new; failed = R.failed report.new })) }
+    ensures written { (text : List ℕ) → IsDraftOf text draft
+        → OnOk result (IsWritten (request text scripts.now options.now)
+        (seen L.held L.failed log.old log.new) (seen R.held R.failed report.old report.new)) }
+    ensures flushed { OnOk result ((L.flushed log.new ≡ true) × (R.flushed report.new ≡ true)) }
+    ensures refused { (text : List ℕ) → IsDraftOf text draft
+        → IfErr result (IsRefused (request text scripts.now options.now)
+        (seen L.held L.failed log.old log.new) (seen R.held R.failed report.old report.new)) }
 {
     let scenario = draft.read(alloc, scripts)?;
     rehearse_scenario(rt, alloc, scenario, options, gate, log, report, watch)?;
     Ok(())
 }
 
-/// Rehearses a scenario: reads its text, with its scripts by their names, runs it with so many workers,
-/// its queues in partitions, writes the log to one writer as the run goes on, and then what is left at
-/// the end and the report to the other. Both are flushed. How the run is split does not change what is
-/// written. Each piece of a partition's run goes through the gate; `Open` only runs it.
+/// Rehearses a scenario. It reads the scenario's text, with its scripts by their names, and runs it
+/// with its queues in partitions and the given number of workers. It writes the log to one writer
+/// as the run goes on, and then the state at the end and the report to the other; both are flushed.
+/// How the run is split does not change what is written. With several workers each piece of a
+/// partition's run goes through the gate; `Open` only runs it.
 ///
 /// # Errors
 ///
-/// Nothing is written where the scenario has a fault, 10 to 20, nor where it can't be split so:
-/// `BadMap`, `WindowTooLong` or `BadWorkers`, the first of these that holds. After `NoWorker`, where a
-/// thread could not be started, the log writer has got the header and the other nothing. After
-/// `CountLimit`, which comes only where the one-list run takes a count past 2^62 - 1, the log writer
-/// has got a front of the log, and the other nothing. After `Write`, where a writer failed, and after
-/// `Memory` the log writer has got a front of the log, and the other a front of the rest, or nothing
-/// where the log was not written whole.
+/// - A fault of the scenario, 10 to 20: nothing is written.
+/// - `BadMap`, `WindowTooLong` or `BadWorkers`, the first that holds, if the split is not possible:
+///   nothing is written.
+/// - `NoWorker` if a thread could not be started: the log writer has the header, the other nothing.
+/// - `CountLimit`, only if the one-list run takes a count past 2^62 - 1: the log writer has a
+///   prefix of the log, the other nothing.
+/// - `Write` if a writer failed, and `Memory`: the log writer has a prefix of the log. The other
+///   has a prefix of the rest, and nothing if the log was not written whole.
 pub fn rehearse<G: Gate<Running> + Sync, L: Out, R: Out, W: Threads + Wait + Sync>(
     rt: &W,
     alloc: Global,
@@ -148,8 +163,11 @@ pub fn rehearse<G: Gate<Running> + Sync, L: Out, R: Out, W: Threads + Wait + Syn
 ) -> Result<(), Fault>
     requires log { L.failed log.old ≡ false }
     requires report { R.failed report.old ≡ false }
-    ensures written { OnOk result (IsWritten (record { text = text.now; scripts = scripts.now; options = options.now }) (record { before = L.held log.old; after = L.held log.new; failed = L.failed log.new }) (record { before = R.held report.old; after = R.held report.new; failed = R.failed report.new })) }
-    ensures refused { IfErr result (IsRefused (record { text = text.now; scripts = scripts.now; options = options.now }) (record { before = L.held log.old; after = L.held log.new; failed = L.failed log.new }) (record { before = R.held report.old; after = R.held report.new; failed = R.failed report.new })) }
+    ensures written { OnOk result (IsWritten (request text.now scripts.now options.now)
+        (seen L.held L.failed log.old log.new) (seen R.held R.failed report.old report.new)) }
+    ensures flushed { OnOk result ((L.flushed log.new ≡ true) × (R.flushed report.new ≡ true)) }
+    ensures refused { IfErr result (IsRefused (request text.now scripts.now options.now)
+        (seen L.held L.failed log.old log.new) (seen R.held R.failed report.old report.new)) }
 {
     let Ok(draft) = Draft::parse(alloc, text) else {
         return Err(Fault::Refused(Refusal::Memory));

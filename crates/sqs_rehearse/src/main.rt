@@ -1,5 +1,5 @@
-//! Rehearses networks of Amazon SQS queues: `run` writes a scenario's log, final queues and report,
-//! `check` tells whether a text is a scenario, and `compare` compares the reports of two.
+//! Rehearses networks of Amazon SQS queues. `run` writes a scenario's log, final queues and report.
+//! `check` says whether a text is a scenario. `compare` compares the reports of two scenarios.
 #![tactic(auto)]
 
 use std::process::ExitCode;

@@ -1,6 +1,6 @@
 -- Texts that tell numbers.
 use Rattle.std.proofs.Common.{Bor, Bool, Err, List, None, Ok, Option, Result, Some, [], add-one, ap, append_assoc, cond, drop, drop-cons, false, get_or, length, map, refl, sym, true, ℕ, ◌&&◌, ◌+◌, ◌++◌, ◌<◌, ◌^◌, ◌∙◌, ◌∷◌, ◌≡◌}
-use Rattle.std.proofs.lemmas.Bool.{lt-ltb, ltb-true}
+use Rattle.std.proofs.lemmas.Bool.{and_parts, lt-ltb, ltb-true}
 use Rattle.std.specs.Char.{digit_value}
 use Rattle.std.specs.List.{list_all}
 use Rattle.std.specs.Result.{result_ok}
@@ -8,13 +8,9 @@ use Rattle.std.specs.Prelude.{nat_lt, option_and_then, option_map}
 use Rattle.std.specs.Str.Parse.{AllDigits, IsNumeral, ParsesUnsigned, digits_value, without_leading_plus}
 use Rattle.sqs_shell.specs.Splits.{is_numeral, number_of, numbers_of}
 
-both : (a b : Bool) → (a && b) ≡ true → (a ≡ true) × (b ≡ true)
-both true b e = (refl, e)
-both false b e = absurd (cc)
-
 all_digits : (ds : List ℕ) → list_all (λ d. nat_lt (digit_value d) 10) ds ≡ true → AllDigits 10 ds
 all_digits [] e = tt
-all_digits (d ∷ ds) e = let parts = both _ _ e in (ltb-true _ _ parts.0, all_digits ds parts.1)
+all_digits (d ∷ ds) e = let parts = and_parts _ _ e in (ltb-true _ _ parts.0, all_digits ds parts.1)
 
 only_digits : (ds : List ℕ) → AllDigits 10 ds → list_all (λ d. nat_lt (digit_value d) 10) ds ≡ true
 only_digits [] h = refl
@@ -25,8 +21,8 @@ is_number ds = is_numeral ds && nat_lt (digits_value 10 ds) (2 ^ 32)
 
 numeral : (ds : List ℕ) → is_number ds ≡ true → IsNumeral 10 ds × (digits_value 10 ds < 2 ^ 32)
 numeral ds e =
-    let parts = both _ _ e in
-    let digits = both _ _ parts.0 in
+    let parts = and_parts _ _ e in
+    let digits = and_parts _ _ parts.0 in
     ((ltb-true _ _ digits.0, all_digits ds digits.1), ltb-true _ _ parts.1)
 
 is_numeral_of : (ds : List ℕ) → IsNumeral 10 ds → digits_value 10 ds < 2 ^ 32 → is_number ds ≡ true

@@ -10,11 +10,11 @@ use Rattle.sqs_shell.specs.declared.faults.Stop.TheVariants as stops
 use Rattle.sqs_shell.specs.declared.files.InputError.{InputError}
 use Rattle.sqs_shell.specs.declared.files.InputError.TheVariants as errors
 
--- the path of a script: its name in the folder, which is . where none is given
+-- the path of a script: its name in the folder, which is . if none is given
 abbrev pub script_path : Option (List ℕ) → List ℕ → List ℕ
 script_path folder name = unwrap_or folder (codes ".") ++ (codes "/" ++ name)
 
--- why an input can't be had, by the error of a read: want of memory, or it can't be read
+-- why an input can't be had, by the error of a read: out of memory, or it can't be read
 abbrev pub input_error : ErrorKind → InputError
 input_error kinds.OutOfMemory = errors.Memory
 input_error kind = errors.Unreadable
@@ -24,7 +24,7 @@ abbrev pub input_stop : InputError → Bor (List ℕ) → Stop
 input_stop errors.Memory path = stops.Refused (faults.Refused refusals.Memory)
 input_stop errors.Unreadable path = stops.CannotRead path
 
--- what stops it where the words of its command line can't be had: want of memory, or one is not UTF-8
+-- why it stops if the words of its command line can't be read: out of memory, or one is not UTF-8
 abbrev pub words_stop : ErrorKind → Stop
 words_stop kinds.OutOfMemory = stops.Refused (faults.Refused refusals.Memory)
 words_stop kind = stops.NotUtf8

@@ -1,7 +1,7 @@
--- How far a run has come, and where that is told.
+-- The progress of a run, and when it is shown.
 use Rattle.std.specs.Prelude.{Bool, not, ℕ, ◌&&◌, ◌*◌, ◌/◌}
 
--- whether it is told: where nobody asked to be spared, on a terminal, to which the log does not go
+-- whether it is shown: the run is not quiet, and standard error is a terminal to which the log does not go
 abbrev pub is_shown : Bool → Bool → Bool → Bool
 is_shown quiet to_terminal log_to_terminal = not quiet && to_terminal && not log_to_terminal
 

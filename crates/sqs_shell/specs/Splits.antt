@@ -10,22 +10,22 @@ use Rattle.sqs_rehearsal.specs.Options.{Options}
 abbrev pub is_numeral : List ℕ → Bool
 is_numeral ds = nat_lt 0 (length ds) && list_all (λ d. nat_lt (digit_value d) 10) ds
 
--- the number of 32 bits that a text tells: digits, with a plus before them or without
+-- the number of 32 bits in a text: digits, with or without a plus before them
 abbrev pub number_of : List ℕ → Option ℕ
 number_of text =
     let ds = without_leading_plus text in
     cond (is_numeral ds && nat_lt (digits_value 10 ds) (2 ^ 32)) (Some (digits_value 10 ds)) None
 
--- the numbers of texts, where each tells one
+-- the numbers in texts, if each has one
 abbrev pub numbers_of : List (List ℕ) → Option (List ℕ)
 numbers_of [] = Some []
 numbers_of (text ∷ rest) = option_and_then (λ n. option_map (λ ns. n ∷ ns) (numbers_of rest)) (number_of text)
 
--- the list of a map as 0,1,0: the numbers between the commas; none where one of them is no number
+-- the list of a map such as 0,1,0: the numbers between the commas; none if one of them is no number
 abbrev pub map_of : List ℕ → List ℕ
 map_of list = unwrap_or (numbers_of (slice_split (λ b. b == 44) list)) []
 
--- the split that a line asks for: its numbers as they were read; one worker where it says nothing
+-- the split of a command line: its numbers as they were read; one worker if it has no number of workers
 abbrev pub split_of : RunLine → Options
 split_of line = record {
   window = line.window;

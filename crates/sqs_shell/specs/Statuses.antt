@@ -11,7 +11,7 @@ use Rattle.sqs_rehearsal.specs.declared.rehearsal.Fault.TheVariants as faults
 use Rattle.sqs_shell.specs.declared.faults.Stop.{Stop}
 use Rattle.sqs_shell.specs.declared.faults.Stop.TheVariants as stops
 
--- by a refusal: 3 of a run, 4 of a writer that failed, 1 of a scenario
+-- by an error: 3 of a run, 4 of a writer that failed, 1 of a scenario
 abbrev pub status_of : Refusal → ℕ
 status_of (refusals.WindowTooLong window least) = 3
 status_of refusals.BadMap = 3
@@ -33,14 +33,14 @@ stop_status (stops.CannotRead path) = 1
 stop_status stops.NotUtf8 = 2
 stop_status (stops.Refused fault) = fault_status fault
 
--- by what `clap` says of the words: 3 of want of memory, 0 of help that was asked for, else 2
+-- by what `clap` says of the words: 3 if memory runs out, 0 of help that was asked for, else 2
 abbrev pub usage_status : ErrorKind → ℕ
 usage_status kinds.OutOfMemory = 3
 usage_status kinds.DisplayHelp = 0
 usage_status kinds.DisplayVersion = 0
 usage_status kind = 2
 
--- the refusal of a writer's error: want of memory, or that it failed
+-- the error of the program for a writer's error: out of memory, or that the writer failed
 abbrev pub write_refusal : IoErrorKind → Refusal
 write_refusal io_kinds.OutOfMemory = refusals.Memory
 write_refusal kind = refusals.Write

@@ -1,11 +1,11 @@
-//! Whether a text is a scenario.
+//! Checks whether a text is a scenario.
 use crate::faults::{Stop, tell, write_refusal};
 use crate::files::{Inputs, read_inputs};
 use sim_scenario::least_latency;
 use sqs_command_line::CheckLine;
 use std::process::ExitCode;
 
-// Reads a scenario and prints how much it has.
+// Reads a scenario and prints how many queues, actors and tasks it has.
 fn checked<'a>(rt: &HostRuntime, asked: CheckLine<'a>) -> Result<(), Stop<'a>> {
     let Inputs { draft, scripts } = read_inputs(rt, asked.scenario, asked.scripts)?;
     let scenario = draft.read(rt.alloc(), &scripts)?;
@@ -19,7 +19,7 @@ fn checked<'a>(rt: &HostRuntime, asked: CheckLine<'a>) -> Result<(), Stop<'a>> {
     }
 }
 
-/// Prints `ok` and how many queues, actors and tasks a scenario has, with its least latency in
+/// Prints `ok`, how many queues, actors and tasks a scenario has, and its least latency in
 /// milliseconds.
 pub fn check(rt: &HostRuntime, asked: CheckLine<'_>) -> ExitCode {
     match checked(rt, asked) {

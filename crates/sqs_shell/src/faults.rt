@@ -16,7 +16,7 @@ use std::process::ExitCode;
 /// Why the program stops.
 #[derive(Drop)]
 pub enum Stop<'a> {
-    /// The input of this path can't be read; `-` is standard input.
+    /// The input with this path can't be read; `-` is standard input.
     CannotRead(&'a str),
     /// A word of the command line is not UTF-8.
     NotUtf8,
@@ -85,7 +85,7 @@ impl<'a> From<ReadError> for Stop<'a> {
     }
 }
 
-// The place of a fault behind its name, where it has one.
+// A fault's place as it follows the fault's name, if it has one.
 fn at_place(alloc: Global, place: &[u8]) -> Result<Vec<u8>, AllocError>
     ensures { IfOk result (λ v. v.items ≡ at_place place.now) }
 {
@@ -97,7 +97,7 @@ fn at_place(alloc: Global, place: &[u8]) -> Result<Vec<u8>, AllocError>
     Ok(text)
 }
 
-// The line of a scenario's fault, as `refused 14 OutOfRange at queue[0].delay_s`.
+// The line of a scenario's fault, for example `refused 14 OutOfRange at queue[0].delay_s`.
 fn fault_line(alloc: Global, fault: &ScenarioFault) -> Result<Vec<u8>, AllocError>
     ensures { IfOk result (λ v. v.items ≡ the_fault_line fault.now) }
 {
@@ -111,7 +111,7 @@ fn fault_line(alloc: Global, fault: &ScenarioFault) -> Result<Vec<u8>, AllocErro
     Ok(text)
 }
 
-// The status of a refusal: 1 of a scenario, 4 of a writer that failed, 3 of a run.
+// The status of an error: 1 for a scenario, 4 for a writer that failed, 3 for a run.
 fn status(refusal: Refusal) -> u8
     ensures { result ≡ status_of refusal }
 {
@@ -127,7 +127,7 @@ fn status(refusal: Refusal) -> u8
     }
 }
 
-/// The refusal of a writer's error: want of memory, or that it failed.
+/// The error of the program for a writer's error: out of memory, or `Write`.
 pub fn write_refusal(error: &io::Error) -> Refusal
     ensures { result ≡ write_refusal (error_kind error.now) }
 {
@@ -137,7 +137,7 @@ pub fn write_refusal(error: &io::Error) -> Refusal
     }
 }
 
-// Tells a fault in a line, and gives the status.
+// Prints a fault in a line, and returns the status.
 fn tell_fault(rt: &HostRuntime, fault: Fault) -> ExitCode
     ensures { exit_status result ≡ fault_status fault }
 {
@@ -156,7 +156,8 @@ fn tell_fault(rt: &HostRuntime, fault: Fault) -> ExitCode
     }
 }
 
-/// Tells what stopped the program in a line on standard error. Gives the status that it ends with.
+/// Prints what stopped the program in a line on standard error. Returns the status with which it
+/// ends.
 pub fn tell(rt: &HostRuntime, stop: Stop<'_>) -> ExitCode
     ensures { exit_status result ≡ stop_status stop.entry }
 {

@@ -1,4 +1,4 @@
-//! What the program reads and writes: a scenario and its scripts, and buffered writers.
+//! The files of the program: a scenario and its scripts, and buffered writers.
 ghost use Rattle.std.specs.Prelude.{◌≡◌, IfOk, IfSome, false, option_map, string_bytes};
 ghost use Rattle.sim_records.specs.Writers.{has_failed};
 ghost use Rattle.sqs_shell.specs.Inputs.{input_stop, script_path};
@@ -13,17 +13,17 @@ use std::fs::File;
 use std::io::{self, BufWriter, ErrorKind, Read, Write};
 use std::str;
 
-/// How many reads the program makes of one input at most.
+/// The greatest number of reads that the program makes of one input.
 const MOST_READS: u32 = 33_554_432;
 
-/// The draft of a scenario's text, and the scripts that it asks for.
+/// The draft of a scenario's text, and the scripts that it names.
 #[derive(Drop)]
 pub struct Inputs {
     pub draft: Draft,
     pub scripts: Scripts,
 }
 
-/// A writer that gathers what it takes before it hands it to this one.
+/// A buffered writer around this one.
 pub fn buffered<'a, W: Write + Drop>(
     rt: &HostRuntime,
     writer: W,
@@ -36,7 +36,7 @@ pub fn buffered<'a, W: Write + Drop>(
     }
 }
 
-/// Why an input can't be had.
+/// Why an input can't be read.
 #[derive(Drop)]
 pub enum InputError {
     /// Memory was refused.
@@ -71,7 +71,7 @@ impl From<AllocError> for InputError {
     }
 }
 
-// What stops the program where the input of this path can't be had.
+// Why the program stops if the input with this path can't be read.
 fn stopped<'a>(error: InputError, path: &'a str) -> Stop<'a>
     ensures { result ≡ input_stop error path.entry }
 {
@@ -115,15 +115,16 @@ fn scenario<'a>(rt: &HostRuntime, path: Option<&'a str>) -> Result<Vec<u8>, Stop
     }
 }
 
-// The path of a script in a folder, which is `.` where none is given.
+// The path of a script in a folder; `.` if none is given.
 fn script_path(alloc: Global, folder: Option<&str>, name: &str) -> Result<String, AllocError>
-    ensures { IfOk result (λ path. string_bytes path ≡ script_path (option_map (λ f. f.now) folder.entry) name.now) }
+    ensures { IfOk result
+        (λ path. string_bytes path ≡ script_path (option_map (λ f. f.now) folder.entry) name.now) }
 {
     let folder = folder.unwrap_or(".");
     format!(in alloc; "{folder}/{name}")
 }
 
-// The scripts of these names in a folder; those that can't be read are left out.
+// The scripts with these names in a folder; those that can't be read are left out.
 fn scripts<'a>(
     rt: &HostRuntime,
     names: Vec<Text>,

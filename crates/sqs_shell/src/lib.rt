@@ -1,5 +1,5 @@
-//! What the program does with its words: it reads files and standard input, rehearses, and tells
-//! what stopped it.
+//! The commands of the program: it reads files and standard input, rehearses, and reports what
+//! stopped it.
 #![tactic(auto)]
 
 mod check;

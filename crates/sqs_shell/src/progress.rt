@@ -1,4 +1,4 @@
-//! How far a run has come, told on standard error.
+//! The progress of a run, shown on standard error.
 ghost use Rattle.std.specs.Prelude.{◌≡◌, ◌≤◌};
 ghost use Rattle.sqs_shell.specs.Progress.{is_shown, share};
 
@@ -6,10 +6,10 @@ use sqs_rehearsal::Watch;
 use std::io::IsTerminal;
 use std::time::{Duration, Instant};
 
-/// How many milliseconds pass at least from one line to the next.
+/// The least time from one line to the next, in milliseconds.
 const PAUSE: u128 = 250;
 
-/// Tells how far a run has come, in one line on standard error that is written over a few times a
+/// Shows the progress of a run in one line on standard error, which it overwrites a few times a
 /// second.
 #[derive(Drop)]
 pub struct Progress<'a> {
@@ -19,14 +19,14 @@ pub struct Progress<'a> {
     rows: u64,
 }
 
-// Whether it is told: standard error is a terminal, and the log does not go to one.
+// Whether the progress is shown: standard error is a terminal, and the log does not go to one.
 fn is_shown(quiet: bool, to_terminal: bool, log_to_terminal: bool) -> bool
     ensures { result ≡ is_shown quiet to_terminal log_to_terminal }
 {
     !quiet && to_terminal && !log_to_terminal
 }
 
-// How many hundredths of the horizon a moment is.
+// The percentage of the horizon that a moment is.
 fn share(moment: u64, horizon: u64) -> u128
     requires { 1 ≤ horizon }
     ensures { result ≡ share moment horizon }
@@ -51,7 +51,7 @@ impl<'a> Progress<'a> {
         }
     }
 
-    // Tells how far it has come, where that was not told just before. What is written next goes over it.
+    // Shows the progress, unless it was shown just before. The next output overwrites it.
     fn tell(&mut self, moment: u64, horizon: u64, passed: Duration) {
         let now = passed.as_millis();
         if horizon == 0 || now < self.last.saturating_add(PAUSE) {

@@ -1,4 +1,4 @@
-//! A rehearsal of the program.
+//! The command that rehearses.
 ghost use Rattle.std.specs.Prelude.{◌≡◌, false};
 
 use crate::faults::{Stop, tell, write_refusal};
@@ -42,8 +42,8 @@ fn write<'a, L: Out, W: Threads + Wait + Sync>(
     Ok(answer?)
 }
 
-// Refuses with `Write` where standard output is closed: a file that is opened then would take its
-// place, and get what is meant for it.
+// Returns `Write` if standard output is closed: a file that is opened then would take its place,
+// and would get what is meant for it.
 fn look_for_output<'a>(rt: &HostRuntime) -> Result<(), Stop<'a>> {
     match rt.stdout().write(&[]) {
         Ok(_) => Ok(()),
@@ -77,8 +77,8 @@ fn rehearsed<'a, W: Threads + Wait + Sync>(
     }
 }
 
-/// Rehearses a scenario, with its workers on threads of these: its log goes to a file or else to
-/// standard output, what is left at the end and the report to standard output.
+/// Rehearses a scenario, with its workers on these threads. Its log goes to a file or else to
+/// standard output. The state at the end and the report go to standard output.
 pub fn run<W: Threads + Wait + Sync>(
     rt: &HostRuntime,
     threads: &W,

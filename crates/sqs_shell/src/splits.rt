@@ -1,4 +1,4 @@
-//! How a rehearsal is split, by its line.
+//! The split of a rehearsal, from its command line.
 ghost use Rattle.std.specs.Prelude.{◌==◌, ◌≡◌, [], IfOk, map, unwrap_or};
 ghost use Rattle.std.specs.List.{slice_split};
 ghost use Rattle.sqs_shell.specs.Splits.{map_of, number_of, numbers_of, split_of};
@@ -7,14 +7,14 @@ use sqs_command_line::RunLine;
 use sqs_rehearsal::Options;
 use std::alloc::{AllocError, Global};
 
-// The number that a text tells.
+// The number in a text.
 fn number(text: &str) -> Option<u32>
     ensures { result ≡ number_of text.now }
 {
     text.parse::<u32>().ok()
 }
 
-// The numbers that texts tell; none where one of them tells none.
+// The numbers in texts; none if one of them has no number.
 fn numbers(alloc: Global, texts: &[&str]) -> Result<Vec<u32>, AllocError>
     ensures { IfOk result (λ v. v.items ≡ unwrap_or (numbers_of (map (λ t. t.now) texts.now)) []) }
 {
@@ -30,12 +30,13 @@ fn numbers(alloc: Global, texts: &[&str]) -> Result<Vec<u32>, AllocError>
 
 // The texts between the commas of a list.
 fn pieces<'a>(alloc: Global, list: &'a str) -> Result<Vec<&'a str>, AllocError>
-    ensures { IfOk result (λ v. map (λ t. t.now) v.items ≡ slice_split (λ b. b == 44) list.entry.now) }
+    ensures { IfOk result
+        (λ v. map (λ t. t.now) v.items ≡ slice_split (λ b. b == 44) list.entry.now) }
 {
     list.split(',').collect(alloc)
 }
 
-// The partition of each queue by a list as `0,1,0`; none where it can't be read.
+// The partition of each queue, from a list such as `0,1,0`; none if it can't be read.
 fn partitions(alloc: Global, list: &str) -> Result<Vec<u32>, AllocError>
     ensures { IfOk result (λ v. v.items ≡ map_of list.now) }
 {

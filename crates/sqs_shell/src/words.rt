@@ -1,4 +1,4 @@
-//! The words of the command line, and what is done as they ask.
+//! The words of the command line, and the commands that they give.
 ghost use Rattle.std.specs.Prelude.{◌≡◌, ◌⊎◌};
 ghost use Rattle.std.specs.IoError.{error_kind};
 ghost use Rattle.std.specs.Process.{exit_status};
@@ -18,7 +18,7 @@ use std::sync::Wait;
 use std::thread::Threads;
 use std::{env, io};
 
-// Why the words can't be had: memory was refused, or one is not UTF-8.
+// Why the words can't be read: memory was refused, or one is not UTF-8.
 fn words_stop(error: &io::Error) -> Stop<'static>
     ensures { result ≡ words_stop (error_kind error.now) }
 {
@@ -28,7 +28,7 @@ fn words_stop(error: &io::Error) -> Stop<'static>
     }
 }
 
-// The words that the program was called with.
+// The words with which the program was called.
 fn words(rt: &HostRuntime) -> Result<Vec<String>, Stop<'static>> {
     let given = match env::args(rt) {
         Ok(given) => given,
@@ -51,10 +51,11 @@ fn help(rt: &HostRuntime, error: &Error) -> ExitCode
     }
 }
 
-// Tells a usage fault, the help that was asked for, or want of memory. The status is 4 where help
-// can't be written.
+// Prints a usage fault, the help that was asked for, or that memory ran out. The status is 4 if
+// help can't be written.
 fn tell(rt: &HostRuntime, error: &Error) -> ExitCode
-    ensures { (exit_status result ≡ usage_status (kind_of error.now)) ⊎ ((usage_status (kind_of error.now) ≡ 0) × (exit_status result ≡ 4)) }
+    ensures { (exit_status result ≡ usage_status (kind_of error.now))
+        ⊎ ((usage_status (kind_of error.now) ≡ 0) × (exit_status result ≡ 4)) }
 {
     match error.kind() {
         ErrorKind::OutOfMemory => faults::tell(rt, Stop::from(Refusal::Memory)),
@@ -92,8 +93,8 @@ fn borrowed(alloc: Global, words: &[String]) -> Result<Vec<&str>, AllocFailed<&s
     Ok(borrowed)
 }
 
-/// Does what the words of the command line ask for, with workers on threads of these. Gives the status
-/// that the program ends with.
+/// Does what the words of the command line ask for, with workers on these threads. Returns the
+/// status with which the program ends.
 pub fn answer<W: Threads + Wait + Sync>(rt: &HostRuntime, threads: &W) -> ExitCode {
     let words = match words(rt) {
         Ok(words) => words,

@@ -1,4 +1,4 @@
-//! A standard queue: messages that lie on hosts, and the calls of Amazon SQS on them.
+//! A standard queue: messages that are on hosts, and the calls of Amazon SQS on them.
 #![tactic(auto)]
 
 mod standard_queue;

@@ -5,7 +5,7 @@ ghost use Rattle.sqs_model.specs.Answers.{most_count};
 ghost use Rattle.sqs_model.specs.Valid.{IsConsumer, IsLatency, MayBeForward};
 ghost use Rattle.sim_actor.specs.Lives.{Becomes, Decides, IsFramed, Meets};
 
-use super::{Actor, Stage};
+use super::{Actor, LastAct};
 use sim_clock::Refusal;
 use sqs_message::ReceiptHandle;
 use sqs_model::{Act, ConsumerSettings, Forwarding, MOST_COUNT};
@@ -13,7 +13,7 @@ use sqs_redrive::{Batch, Got, Latency, Load, Outbound};
 use std::collections::VecDeque;
 
 impl Actor {
-    // Rests.
+    // Waits until it receives again.
     fn idle(&mut self, settings: ConsumerSettings, now: u64) -> Act
         requires moment { now ≤ most_count }
         requires settings { IsConsumer settings }
@@ -24,7 +24,7 @@ impl Actor {
         Act::Nothing
     }
 
-    // Serves the first of the messages held; without any it wakes 1 ms later.
+    // Serves the first of the messages that it holds. If it holds none, it wakes 1 ms later.
     fn serve_held(&mut self, settings: ConsumerSettings, now: u64) -> Result<(), Refusal>
         requires moment { now ≤ most_count }
         requires settings { IsConsumer settings }
@@ -39,7 +39,7 @@ impl Actor {
         }
     }
 
-    // Sends on what was served.
+    // Forwards the message that it served.
     fn forward(&mut self, now: u64, got: Got, forwarding: Forwarding) -> Result<Act, Refusal>
         requires moment { now ≤ most_count }
         requires latency { IsLatency forwarding.latency }
@@ -91,7 +91,7 @@ impl Actor {
         }
     }
 
-    // Ends a service, which failed or not.
+    // Ends a service, failed or not.
     fn end_service(
         &mut self,
         settings: ConsumerSettings,
@@ -101,11 +101,12 @@ impl Actor {
     ) -> Result<Act, Refusal>
         requires moment { now ≤ most_count }
         requires settings { IsConsumer settings }
-        ensures decision { Decides result self.new (the_ends_service self.old settings now got (fails, self.old.draws)) }
+        ensures decision { Decides result self.new
+            (the_ends_service self.old settings now got (fails, self.old.draws)) }
         ensures framed { IsFramed self.old self.new }
     {
         if fails {
-            self.stage = Stage::Ended;
+            self.last_act = LastAct::Ended;
             Ok(Act::Serve {
                 id: got.id,
                 receipt: got.receipt,
@@ -113,12 +114,12 @@ impl Actor {
                 forward: None,
             })
         } else {
-            self.stage = Stage::Served(got.receipt);
+            self.last_act = LastAct::Served(got.receipt);
             self.serve(now, got, settings.forward)
         }
     }
 
-    // Asks for messages where none is held; else the service of the first ends.
+    // If it holds no message, it asks for messages. If it does, the service of the first one ends.
     pub(super) fn consumer_wake(
         &mut self,
         settings: ConsumerSettings,
@@ -126,11 +127,12 @@ impl Actor {
     ) -> Result<Act, Refusal>
         requires moment { now ≤ most_count }
         requires settings { IsConsumer settings }
-        ensures decision { Decides result self.new (the_consumer_wake self.old settings now self.old.held) }
+        ensures decision { Decides result self.new
+            (the_consumer_wake self.old settings now self.old.held) }
         ensures framed { IsFramed self.old self.new }
     {
         let Some(got) = self.held.pop_front() else {
-            self.stage = Stage::Asked;
+            self.last_act = LastAct::Asked;
             return Ok(Act::Receive {
                 max: settings.batch,
                 wait: settings.wait,
@@ -144,7 +146,8 @@ impl Actor {
         self.end_service(settings, now, got, fails)
     }
 
-    // Serves the first of the messages received; without any it rests.
+    // Serves the first of the messages received. If there is none, it waits until it receives
+    // again.
     pub(super) fn consumer_got(
         &mut self,
         settings: ConsumerSettings,
@@ -165,7 +168,8 @@ impl Actor {
         Ok(Act::Nothing)
     }
 
-    // Rests after a refused receive, deletes what was served, or serves the next message.
+    // After a refused receive it waits, after a service that ended well it deletes the message, and
+    // else it serves the next message.
     pub(super) fn consumer_told(
         &mut self,
         settings: ConsumerSettings,
@@ -173,18 +177,19 @@ impl Actor {
     ) -> Result<Act, Refusal>
         requires moment { now ≤ most_count }
         requires settings { IsConsumer settings }
-        ensures decision { Meets result self.old self.new (the_consumer_told self.old settings now self.old.stage) }
+        ensures decision { Meets result self.old self.new
+            (the_consumer_told self.old settings now self.old.last_act) }
         ensures framed { IsFramed self.old self.new }
     {
-        match self.stage {
-            Stage::Asked => Ok(self.idle(settings, now)),
-            Stage::Served(receipt) => {
-                self.stage = Stage::Ended;
+        match self.last_act {
+            LastAct::Asked => Ok(self.idle(settings, now)),
+            LastAct::Served(receipt) => {
+                self.last_act = LastAct::Ended;
                 Ok(Act::Delete {
                     receipt: ReceiptHandle::from(receipt),
                 })
             }
-            Stage::Ended => {
+            LastAct::Ended => {
                 self.serve_held(settings, now)?;
                 Ok(Act::Nothing)
             }

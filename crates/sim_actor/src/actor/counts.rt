@@ -1,4 +1,4 @@
-//! How often an actor woke and waited, and what it has counted most of.
+//! How often an actor woke and waited, and the greatest of its counts.
 ghost use Rattle.std.specs.Prelude.{◌≡◌, ◌≤◌};
 ghost use Rattle.sqs_model.specs.Answers.{most_count};
 ghost use Rattle.sqs_model.specs.Counts.{actor_count};
@@ -6,14 +6,14 @@ ghost use Rattle.sqs_model.specs.Counts.{actor_count};
 use super::Actor;
 
 impl Actor {
-    /// How many of its wakes have come.
+    /// The number of its wakes so far.
     pub fn wakes(&self) -> u64
         ensures { result ≡ self.now.wakes }
     {
         self.wakes
     }
 
-    /// How many of its polls have waited.
+    /// The number of its polls that have waited.
     pub fn polls(&self) -> u64
         ensures { result ≡ self.now.polls }
     {

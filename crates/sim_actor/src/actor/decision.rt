@@ -1,4 +1,4 @@
-//! What an actor does next.
+//! The decisions of an actor.
 ghost use Rattle.std.specs.Prelude.{◌≡◌, ◌≤◌, ◌<◌, ◌^◌};
 ghost use Rattle.sqs_model.specs.Actor.{next as the_next, next_as, wakes_after, woken};
 ghost use Rattle.sqs_model.specs.Answers.{most_count};
@@ -18,7 +18,8 @@ impl Actor {
         requires moment { now ≤ most_count }
         requires order { least ≤ greatest }
         requires span { greatest < 2 ^ 32 }
-        ensures actor { Becomes result self.new (wakes_after self.old now (drawn_uniform least greatest self.old.draws)) }
+        ensures actor { Becomes result self.new
+            (wakes_after self.old now (drawn_uniform least greatest self.old.draws)) }
         ensures framed { IsFramed self.old self.new }
     {
         if self.draws.taken() == MOST_COUNT {
@@ -42,7 +43,8 @@ impl Actor {
     // Decides when its wake has come.
     fn next_woken(&mut self, now: u64) -> Result<Act, Refusal>
         requires { now ≤ most_count }
-        ensures decision { Meets result self.old self.new (next_as self.old.settings.role self.old now Answer.Wake) }
+        ensures decision { Meets result self.old self.new
+            (next_as self.old.settings.role self.old now Answer.Wake) }
         ensures framed { IsFramed self.old self.new }
     {
         match &self.settings.role {
@@ -79,7 +81,8 @@ impl Actor {
     // Decides on the messages that it got.
     fn next_got(&mut self, now: u64, batch: Batch) -> Result<Act, Refusal>
         requires { now ≤ most_count }
-        ensures decision { Decides result self.new (next_as self.old.settings.role self.old now (Answer.Got batch)) }
+        ensures decision { Decides result self.new
+            (next_as self.old.settings.role self.old now (Answer.Got batch)) }
         ensures framed { IsFramed self.old self.new }
     {
         match &self.settings.role {
@@ -94,7 +97,8 @@ impl Actor {
     // Decides on any other answer.
     fn next_told(&mut self, now: u64) -> Result<Act, Refusal>
         requires { now ≤ most_count }
-        ensures decision { Meets result self.old self.new (next_as self.old.settings.role self.old now Answer.Other) }
+        ensures decision { Meets result self.old self.new
+            (next_as self.old.settings.role self.old now Answer.Other) }
         ensures framed { IsFramed self.old self.new }
     {
         match &self.settings.role {
@@ -113,7 +117,7 @@ impl Actor {
         }
     }
 
-    // Decides on what it is told.
+    // Decides on an answer of any kind.
     #[tactic(auto, unfolding(sqs_model::specs::Actor::next))]
     fn decide(&mut self, now: u64, answer: Answer) -> Result<Act, Refusal>
         requires { now ≤ most_count }
@@ -128,9 +132,13 @@ impl Actor {
         }
     }
 
-    /// Decides at a moment, in milliseconds, on what it is told: that its wake has come, or what
-    /// its last act got. Without memory the actor is as it was. A count at its limit is refused
-    /// exactly where the decision would count past it; of the actor after that nothing is said.
+    /// Decides what to do at a moment, in milliseconds, on an answer: that its wake has come, or
+    /// the result of its last act.
+    ///
+    /// # Errors
+    ///
+    /// `Memory`: the actor is as it was. `CountLimit` exactly if the decision would count past the
+    /// limit; nothing is promised of the actor after it.
     pub fn next(&mut self, now: u64, answer: Answer) -> Result<Act, Refusal>
         requires { now ≤ most_count }
         ensures decision { Meets result self.old self.new (the_next self.old now answer) }
@@ -138,7 +146,7 @@ impl Actor {
         ensures framed { IsFramed self.old self.new }
     {
         let act = self.decide(now, answer);
-        // By the type's invariant its counts are within the limit.
+        // The type's invariant says that its counts are within the limit.
         let _ = &self.alloc;
         act
     }

@@ -1,4 +1,4 @@
-//! What a producer sends.
+//! The messages that a producer sends.
 ghost use Rattle.std.specs.Prelude.{◌≡◌, IfOk};
 ghost use Rattle.std.specs.Fmt.{decimal};
 ghost use Rattle.sqs_model.specs.Actor.{filled as the_filled, group_of, id_given};
@@ -9,7 +9,7 @@ use sqs_message::Text;
 use sqs_model::{Act, ProducerSettings};
 use std::alloc::{AllocError, Global};
 
-// The group of message n, where there are several in turn.
+// The group of message n, if there are several groups in turn.
 fn group(alloc: Global, groups: Option<u64>, n: u64) -> Result<Option<Text>, AllocError>
     ensures { IfOk result (λ group. group ≡ group_of groups n) }
 {
@@ -28,7 +28,7 @@ fn group(alloc: Global, groups: Option<u64>, n: u64) -> Result<Option<Text>, All
     }
 }
 
-// The deduplication id of message n of a producer with a number.
+// The deduplication id of message n of the producer with a number.
 fn id(
     alloc: Global,
     producer: &ProducerSettings,
@@ -49,14 +49,17 @@ fn id(
     Ok(Some(Text::new(id)))
 }
 
-// The send of message n of a producer with a number.
+// The send of message n of the producer with a number.
 pub fn message(
     alloc: Global,
     producer: &ProducerSettings,
     number: u32,
     n: u64,
 ) -> Result<Act, AllocError>
-    ensures { IfOk result (λ act. act ≡ Act.Send (the_filled (decimal n) producer.now.body) producer.now.delay (group_of producer.now.groups n) (id_given producer.now number n)) }
+    ensures { IfOk result (λ act.
+        act
+        ≡ Act.Send (the_filled (decimal n) producer.now.body) producer.now.delay
+        (group_of producer.now.groups n) (id_given producer.now number n)) }
 {
     Ok(Act::Send {
         body: Text::new(filled(alloc, n, producer.body.as_bytes())?),

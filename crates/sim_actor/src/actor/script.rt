@@ -7,7 +7,7 @@ use sqs_message::{Call, ScriptCall, Text};
 use sqs_model::Act;
 use std::alloc::{AllocError, Global};
 
-// Another call with the same values.
+// A call with the same values.
 fn copied(alloc: Global, call: &Call) -> Result<Call, AllocError>
     ensures { IfOk result (λ copy. copy ≡ call.now) }
 {
@@ -40,14 +40,15 @@ fn copied(alloc: Global, call: &Call) -> Result<Call, AllocError>
     })
 }
 
-// When the call at an index is made, if there is one.
+// When the call with an index is made, if there is one.
 fn time_at(calls: &[ScriptCall], n: usize) -> Option<u64>
     ensures { result ≡ first_at (drop n calls.now) }
 {
     calls.get(n).map(|call| call.at)
 }
 
-// The act that makes call n of a script, and when the one after it is made; nothing past its end.
+// The act that makes call n of a script, and when the next one is made. Past the end it does
+// nothing.
 pub fn call_made(
     alloc: Global,
     calls: &[ScriptCall],

@@ -1,4 +1,4 @@
-//! Transfers that arrive.
+//! The arrival of transfers.
 ghost use Rattle.std.specs.Prelude.{◌<◌, IfErr, IfOk, OnOk, Option, ◌≡◌, ◌≤◌};
 ghost use Rattle.sqs_message.specs.declared.ids.MessageId.{MessageId};
 ghost use Rattle.sqs_redrive.specs.declared.transfers.Load.{Load};
@@ -14,13 +14,13 @@ ghost use Rattle.sim_site.specs.Origins.{origin_or};
 
 use super::Core;
 use crate::effects::Effects;
-use crate::rows::row;
+use crate::rows::{row, site_row};
 use sim_clock::{Key, Refusal};
 use sqs_message::{Detail, MessageId, Origin, Row, RowAnswer, RowKind};
 use sqs_queue::Queue;
 use sqs_redrive::{Load, Sent};
 
-// The origin that a load brings, if it brings one.
+// The origin in a load, if it has one.
 fn origin_of(load: &Load) -> Option<Origin>
     ensures { (id : MessageId) → load_origin load.now id ≡ origin_or result id }
 {
@@ -30,7 +30,7 @@ fn origin_of(load: &Load) -> Option<Origin>
     }
 }
 
-// The age of a message that expires as it arrives.
+// The age of a message that expires on arrival.
 fn age_of(load: &Load, now: u64) -> u64
     ensures { result ≡ the_load_age load.now now }
 {
@@ -47,7 +47,8 @@ fn arrive_by(queue: &mut Queue, now: u64, load: Load) -> Result<(Sent, bool), Re
     requires recent { IsRecent now queue.old }
     ensures arrived { IfOk result (λ answer. arrived queue.old now load ≡ (answer, queue.new)) }
     ensures framed { IsFramed queue.old queue.new }
-    ensures stops { IfErr result (StopsWhere (most_count < (arrived queue.old now load).1.arrivals)) }
+    ensures stops { IfErr result
+        (StopsWhere (most_count < (arrived queue.old now load).1.arrivals)) }
 {
     match queue.arrive(now, load) {
         Ok(answer) => Ok(answer),
@@ -59,7 +60,9 @@ fn arrive_by(queue: &mut Queue, now: u64, load: Load) -> Result<(Sent, bool), Re
 
 // The row of an arrival; its agent is the sender.
 fn arrival_row(key: Key, site: u32, origin: Option<Origin>, answer: RowAnswer, id: MessageId) -> Row
-    ensures { (c : Core) (load : Load) → number_of c ≡ site → load_origin load id ≡ origin_or origin id → result ≡ the_arrival_row key c load answer id }
+    ensures { (c : Core) (load : Load) → number_of c ≡ site
+        → load_origin load id ≡ origin_or origin id
+        → result ≡ the_arrival_row key c load answer id }
 {
     let origin = match origin {
         None => Origin {
@@ -81,13 +84,15 @@ fn arrival_row(key: Key, site: u32, origin: Option<Origin>, answer: RowAnswer, i
 }
 
 impl Core {
-    /// A load arrives by a transfer, which was enqueued by then.
+    /// A load arrives by a transfer; its enqueue time is no later than its arrival.
     pub fn arrive(&mut self, key: Key, load: Load, effects: &mut Effects) -> Result<(), Refusal>
         requires moment { key.at ≤ most_count }
         requires enqueued { WasEnqueuedBy key.at load }
         requires recent { IsRecent key.at self.old.queue }
-        ensures did { OnOk result (Did effects.old effects.new self.new (arrival_done key load self.old (arrived self.old.queue key.at load))) }
-        ensures stops { IfErr result (Stops (arrival_done key load self.old (arrived self.old.queue key.at load))) }
+        ensures did { OnOk result (Did effects.old effects.new self.new
+            (arrival_done key load self.old (arrived self.old.queue key.at load))) }
+        ensures stops { IfErr result
+            (Stops (arrival_done key load self.old (arrived self.old.queue key.at load))) }
     {
         let site = self.queue.site();
         let origin = origin_of(&load);
@@ -103,15 +108,8 @@ impl Core {
                 if !expired {
                     return Ok(());
                 }
-                effects.say(row(
-                    key,
-                    site,
-                    site,
-                    RowKind::Expire,
-                    RowAnswer::Expired,
-                    Some(id),
-                    Detail::Age(age),
-                ))?;
+                let (kind, answer) = (RowKind::Expire, RowAnswer::Expired);
+                effects.say(site_row(key, site, kind, answer, id, Detail::Age(age)))?;
                 Ok(())
             }
         }

@@ -1,6 +1,8 @@
 //! Deletes and changes of visibility by actors, and ends of services.
-ghost use Rattle.std.specs.Prelude.{IfErr, OnOk, Option, ◌≡◌, ◌≤◌};
+ghost use Rattle.std.specs.Prelude.{IfErr, None, OnOk, Option, ◌≡◌, ◌≤◌};
 ghost use Rattle.sqs_message.specs.Ids.{read_receipt};
+ghost use Rattle.sqs_message.specs.declared.row.Detail.TheVariants as details;
+ghost use Rattle.sqs_message.specs.declared.row.RowAnswer.TheVariants as answers;
 ghost use Rattle.sqs_message.specs.declared.row.RowReceipt.TheVariants as receipts;
 ghost use Rattle.sqs_model.specs.Actor.{Actor};
 ghost use Rattle.sqs_model.specs.Acts.{change_made, change_answered, delete_made, deleted_row as the_deleted_row, serve_made};
@@ -11,27 +13,37 @@ ghost use Rattle.sim_site.specs.Effects.{Did, Stops};
 
 use super::Core;
 use crate::effects::Effects;
-use crate::rows::row;
+use crate::rows::{row, with_receipt};
 use sim_clock::{Key, Refusal};
 use sqs_message::{Detail, MessageId, Receipt, ReceiptHandle, Row, RowAnswer, RowKind, RowReceipt};
 use sqs_model::LONGEST_TIMEOUT;
 use sqs_redrive::{Deleted, Outbound};
 use std::alloc::AllocError;
 
-// A row with the receipt handle that a call gave.
-fn with_handle(row: Row, handle: ReceiptHandle) -> Row
-    ensures { result ≡ record row { receipt = receipts.Given handle } }
+// The row of a delete or of a change that was refused.
+fn refused_row(
+    key: Key,
+    site: u32,
+    agent: u32,
+    kind: RowKind,
+    handle: ReceiptHandle,
+    refusal: Refusal,
+) -> Row
+    ensures { result
+        ≡ record {
+          key = key;
+          queue = site;
+          agent = agent;
+          kind = kind;
+          answer = answers.Refused refusal;
+          message = None;
+          receipt = receipts.Given handle;
+          detail = details.Absent;
+        } }
 {
-    Row {
-        key: row.key,
-        queue: row.queue,
-        agent: row.agent,
-        kind: row.kind,
-        answer: row.answer,
-        message: row.message,
-        receipt: RowReceipt::Given(handle),
-        detail: row.detail,
-    }
+    let answer = RowAnswer::Refused(refusal);
+    let row = row(key, site, agent, kind, answer, None, Detail::Absent);
+    with_receipt(row, RowReceipt::Given(handle))
 }
 
 // The row of a delete by a receipt.
@@ -43,7 +55,8 @@ fn deleted_row(
     receipt: Receipt,
     answer: Result<Deleted, Refusal>,
 ) -> Row
-    ensures { (a : Actor) (c : Core) → a.number ≡ agent → number_of c ≡ site → result ≡ the_deleted_row key a c handle receipt answer }
+    ensures { (a : Actor) (c : Core) → a.number ≡ agent → number_of c ≡ site
+        → result ≡ the_deleted_row key a c handle receipt answer }
 {
     let id = MessageId {
         site,
@@ -56,11 +69,11 @@ fn deleted_row(
         Err(refusal) => (RowAnswer::Refused(refusal), None, Detail::Absent),
     };
     let row = row(key, site, agent, RowKind::Delete, answer, message, detail);
-    with_handle(row, handle)
+    with_receipt(row, RowReceipt::Given(handle))
 }
 
 impl Core {
-    /// An actor deletes a message by a handle, which may be no receipt.
+    /// An actor deletes a message by a receipt handle, which may be no receipt.
     pub fn delete(
         &mut self,
         key: Key,
@@ -68,22 +81,16 @@ impl Core {
         handle: ReceiptHandle,
         effects: &mut Effects,
     ) -> Result<(), AllocError>
-        ensures { (a : Actor) → a.number ≡ agent → OnOk result (Did effects.old effects.new self.new (delete_made key a self.old handle (read_receipt handle)).effect) }
+        ensures { (a : Actor) → a.number ≡ agent
+            → OnOk result (Did effects.old effects.new self.new
+            (delete_made key a self.old handle (read_receipt handle)).effect) }
     {
         let site = self.queue.site();
         match handle.receipt() {
             None => {
-                let answer = RowAnswer::Refused(Refusal::ReceiptHandleIsInvalid);
-                let row = row(
-                    key,
-                    site,
-                    agent,
-                    RowKind::Delete,
-                    answer,
-                    None,
-                    Detail::Absent,
-                );
-                effects.say(with_handle(row, handle))?;
+                let refusal = Refusal::ReceiptHandleIsInvalid;
+                let row = refused_row(key, site, agent, RowKind::Delete, handle, refusal);
+                effects.say(row)?;
                 Ok(())
             }
             Some(receipt) => {
@@ -104,23 +111,20 @@ impl Core {
         effects: &mut Effects,
     ) -> Result<(), Refusal>
         requires { key.at ≤ most_count }
-        ensures did { (a : Actor) → a.number ≡ agent → OnOk result (Did effects.old effects.new self.new (change_answered key a self.old handle timeout receipt (change self.old.queue key.at receipt timeout)).effect) }
-        ensures stops { (a : Actor) → a.number ≡ agent → IfErr result (Stops (change_answered key a self.old handle timeout receipt (change self.old.queue key.at receipt timeout)).effect) }
+        ensures did { (a : Actor) → a.number ≡ agent
+            → OnOk result (Did effects.old effects.new self.new
+            (change_answered key a self.old handle timeout receipt
+            (change self.old.queue key.at receipt timeout)).effect) }
+        ensures stops { (a : Actor) → a.number ≡ agent
+            → IfErr result (Stops
+            (change_answered key a self.old handle timeout receipt
+            (change self.old.queue key.at receipt timeout)).effect) }
     {
         let site = self.queue.site();
         match self.queue.change(key.at, &receipt, timeout) {
             Err(refusal) => {
-                let answer = RowAnswer::Refused(refusal);
-                let row = row(
-                    key,
-                    site,
-                    agent,
-                    RowKind::Change,
-                    answer,
-                    None,
-                    Detail::Absent,
-                );
-                effects.say(with_handle(row, handle))?;
+                let row = refused_row(key, site, agent, RowKind::Change, handle, refusal);
+                effects.say(row)?;
                 Ok(())
             }
             Ok(left) => {
@@ -138,7 +142,7 @@ impl Core {
                     Some(id),
                     detail,
                 );
-                effects.say(with_handle(row, handle))?;
+                effects.say(with_receipt(row, RowReceipt::Given(handle)))?;
                 if timeout == 0 {
                     self.came_back(key, receipt.number, left, effects)
                 } else {
@@ -149,7 +153,8 @@ impl Core {
         }
     }
 
-    /// An actor changes a visibility timeout, in seconds, by a handle, which may be no receipt.
+    /// An actor changes a visibility timeout, in seconds, by a receipt handle, which may be no
+    /// receipt.
     pub fn change(
         &mut self,
         key: Key,
@@ -159,8 +164,12 @@ impl Core {
         effects: &mut Effects,
     ) -> Result<(), Refusal>
         requires { key.at ≤ most_count }
-        ensures did { (a : Actor) → a.number ≡ agent → OnOk result (Did effects.old effects.new self.new (change_made key a self.old handle timeout (read_receipt handle)).effect) }
-        ensures stops { (a : Actor) → a.number ≡ agent → IfErr result (Stops (change_made key a self.old handle timeout (read_receipt handle)).effect) }
+        ensures did { (a : Actor) → a.number ≡ agent
+            → OnOk result (Did effects.old effects.new self.new
+            (change_made key a self.old handle timeout (read_receipt handle)).effect) }
+        ensures stops { (a : Actor) → a.number ≡ agent
+            → IfErr result
+            (Stops (change_made key a self.old handle timeout (read_receipt handle)).effect) }
     {
         match handle.receipt() {
             None => {
@@ -170,25 +179,16 @@ impl Core {
                 } else {
                     Refusal::ReceiptHandleIsInvalid
                 };
-                let answer = RowAnswer::Refused(refusal);
-                let row = row(
-                    key,
-                    site,
-                    agent,
-                    RowKind::Change,
-                    answer,
-                    None,
-                    Detail::Absent,
-                );
-                effects.say(with_handle(row, handle))?;
+                let row = refused_row(key, site, agent, RowKind::Change, handle, refusal);
+                effects.say(row)?;
                 Ok(())
             }
             Some(receipt) => self.change_by(key, agent, handle, timeout, receipt, effects),
         }
     }
 
-    /// An actor ends the service of a message: a row if it failed, and else the forward on its
-    /// way, if there is one.
+    /// An actor ends the service of a message. If the service failed, this makes a row. If not, and
+    /// there is a forward, this makes a row and sends the forward.
     pub fn serve(
         &mut self,
         key: Key,
@@ -199,7 +199,9 @@ impl Core {
         forward: Option<Outbound>,
         effects: &mut Effects,
     ) -> Result<(), AllocError>
-        ensures { (a : Actor) → a.number ≡ agent → OnOk result (Did effects.old effects.new self.new (serve_made key a self.old id receipt failed forward).effect) }
+        ensures { (a : Actor) → a.number ≡ agent
+            → OnOk result (Did effects.old effects.new self.new
+            (serve_made key a self.old id receipt failed forward).effect) }
     {
         let site = self.queue.site();
         if failed {

@@ -1,6 +1,5 @@
-//! The rows of what a receive gave.
+//! The rows of the messages that a receive gave.
 ghost use Rattle.std.specs.Prelude.{IfErr, OnOk, map, ◌++◌, ◌≡◌, ◌≤◌};
-ghost use Rattle.sqs_message.specs.declared.row.RowReceipt.TheVariants as receipts;
 ghost use Rattle.sqs_model.specs.Acts.{all_came_back, given, got_row as the_got_row};
 ghost use Rattle.sqs_model.specs.Answers.{most_count};
 ghost use Rattle.sqs_model.specs.Site.{Core, number_of};
@@ -9,7 +8,7 @@ ghost use Rattle.sim_site.specs.Effects.{Did, Stops};
 use super::Core;
 use crate::effects::Effects;
 use crate::loads::copied;
-use crate::rows::row;
+use crate::rows::{row, with_receipt};
 use sim_clock::{Key, Refusal};
 use sqs_message::{Detail, Row, RowAnswer, RowKind, RowReceipt};
 use sqs_redrive::Got;
@@ -29,16 +28,7 @@ fn got_row(key: Key, site: u32, agent: u32, got: &Got) -> Row
         Some(got.id),
         detail,
     );
-    Row {
-        key: row.key,
-        queue: row.queue,
-        agent: row.agent,
-        kind: row.kind,
-        answer: row.answer,
-        message: row.message,
-        receipt: RowReceipt::Made(got.receipt),
-        detail: row.detail,
-    }
+    with_receipt(row, RowReceipt::Made(got.receipt))
 }
 
 impl Core {
@@ -50,7 +40,8 @@ impl Core {
         gots: &[Got],
         effects: &mut Effects,
     ) -> Result<(), AllocError>
-        ensures rows { OnOk result (effects.new.rows.items ≡ effects.old.rows.items ++ map (the_got_row key self.now agent) gots.now) }
+        ensures rows { OnOk result (effects.new.rows.items
+            ≡ effects.old.rows.items ++ map (the_got_row key self.now agent) gots.now) }
         ensures sent { OnOk result (effects.new.sent ≡ effects.old.sent) }
     {
         let site = self.queue.site();
@@ -60,7 +51,7 @@ impl Core {
         Ok(())
     }
 
-    // All that were given came back, in order.
+    // All messages that were given come back, in order.
     fn all_come_back(
         &mut self,
         key: Key,
@@ -68,7 +59,8 @@ impl Core {
         effects: &mut Effects,
     ) -> Result<(), Refusal>
         requires { key.at ≤ most_count }
-        ensures did { OnOk result (Did effects.old effects.new self.new (all_came_back key gots.now self.old)) }
+        ensures did { OnOk result
+            (Did effects.old effects.new self.new (all_came_back key gots.now self.old)) }
         ensures stops { IfErr result (Stops (all_came_back key gots.now self.old)) }
     {
         for i in 0..gots.len() {
@@ -78,8 +70,8 @@ impl Core {
         Ok(())
     }
 
-    /// What a receive gave, whose queue is the site's by now: a row for each message, and with a
-    /// timeout of 0 after them the rows of their coming back.
+    /// Makes the rows of a receive's messages: one for each, and with a timeout of 0 after them
+    /// those of their coming back. The site's queue has given these messages already.
     pub fn give(
         &mut self,
         key: Key,
@@ -89,8 +81,10 @@ impl Core {
         effects: &mut Effects,
     ) -> Result<(), Refusal>
         requires { key.at ≤ most_count }
-        ensures did { OnOk result (Did effects.old effects.new self.new (given key self.old agent timeout (self.old.queue, gots.now))) }
-        ensures stops { IfErr result (Stops (given key self.old agent timeout (self.old.queue, gots.now))) }
+        ensures did { OnOk result (Did effects.old effects.new self.new
+            (given key self.old agent timeout (self.old.queue, gots.now))) }
+        ensures stops { IfErr result
+            (Stops (given key self.old agent timeout (self.old.queue, gots.now))) }
     {
         self.say_gots(key, agent, gots, effects)?;
         let at_once = match timeout {

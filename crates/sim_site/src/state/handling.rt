@@ -1,4 +1,4 @@
-//! The handling of what is due, by its class, and after it the answers to waiting polls.
+//! The handling of an entry due, by its class, and after it the answers to waiting polls.
 ghost use Rattle.std.specs.Prelude.{IfErr, IfSome, OnOk, ◌≤◌};
 ghost use Rattle.sqs_model.specs.Answers.{most_count};
 ghost use Rattle.sqs_model.specs.Dues.{core_dues};
@@ -13,13 +13,14 @@ use sim_clock::{Class, Key, Refusal};
 use sqs_redrive::Outbound;
 
 impl Core {
-    // Handles what is due but for arrivals. A task whose step is due runs.
+    // Handles an entry due that is no arrival. If a task's step is due, the task runs.
     #[tactic(auto, unfolding(sqs_model::specs::Step::handle_class))]
     fn handle_class(&mut self, key: Key, effects: &mut Effects) -> Result<(), Refusal>
         requires moment { key.at ≤ most_count }
         requires recent { IsRecent key.at self.old.queue }
         requires due { IsAmong (core_dues self.old) key }
-        ensures did { OnOk result (Did effects.old effects.new self.new (handle_class key.class key self.old)) }
+        ensures did { OnOk result
+            (Did effects.old effects.new self.new (handle_class key.class key self.old)) }
         ensures stops { IfErr result (Stops (handle_class key.class key self.old)) }
     {
         match key.class {
@@ -33,14 +34,19 @@ impl Core {
         }
     }
 
-    /// Handles what is due but for arrivals, and answers waiting polls. `Memory`; `CountLimit`
-    /// where a count would pass its limit.
+    /// Handles an entry due that is no arrival, and answers waiting polls.
+    ///
+    /// # Errors
+    ///
+    /// `Memory`. `CountLimit` if a count would pass its limit.
     pub fn handle(&mut self, key: Key, effects: &mut Effects) -> Result<(), Refusal>
         requires moment { key.at ≤ most_count }
         requires recent { IsRecent key.at self.old.queue }
         requires due { IsAmong (core_dues self.old) key }
-        ensures did { OnOk result (Did effects.old effects.new self.new (with_polls key (handle_class key.class key self.old))) }
-        ensures stops { IfErr result (Stops (with_polls key (handle_class key.class key self.old))) }
+        ensures did { OnOk result (Did effects.old effects.new self.new
+            (with_polls key (handle_class key.class key self.old))) }
+        ensures stops { IfErr result
+            (Stops (with_polls key (handle_class key.class key self.old))) }
     {
         self.handle_class(key, effects)?;
         self.answer_polls(key, effects)
@@ -56,7 +62,8 @@ impl Core {
         requires moment { key.at ≤ most_count }
         requires recent { IsRecent key.at self.old.queue }
         requires enqueued { IfSome transfer (λ t. WasEnqueuedBy key.at t.load) }
-        ensures did { OnOk result (Did effects.old effects.new self.new (handle_arrival key transfer self.old)) }
+        ensures did { OnOk result
+            (Did effects.old effects.new self.new (handle_arrival key transfer self.old)) }
         ensures stops { IfErr result (Stops (handle_arrival key transfer self.old)) }
     {
         match transfer {
@@ -65,8 +72,11 @@ impl Core {
         }
     }
 
-    /// A transfer arrives, if there is one, and waiting polls are answered. `Memory`; `CountLimit`
-    /// where a count would pass its limit.
+    /// A transfer arrives, if there is one, and waiting polls are answered.
+    ///
+    /// # Errors
+    ///
+    /// `Memory`. `CountLimit` if a count would pass its limit.
     pub fn handle_arrival(
         &mut self,
         key: Key,
@@ -76,8 +86,10 @@ impl Core {
         requires moment { key.at ≤ most_count }
         requires recent { IsRecent key.at self.old.queue }
         requires enqueued { IfSome transfer (λ t. WasEnqueuedBy key.at t.load) }
-        ensures did { OnOk result (Did effects.old effects.new self.new (with_polls key (handle_arrival key transfer self.old))) }
-        ensures stops { IfErr result (Stops (with_polls key (handle_arrival key transfer self.old))) }
+        ensures did { OnOk result (Did effects.old effects.new self.new
+            (with_polls key (handle_arrival key transfer self.old))) }
+        ensures stops { IfErr result
+            (Stops (with_polls key (handle_arrival key transfer self.old))) }
     {
         self.handle_transfer(key, transfer, effects)?;
         self.answer_polls(key, effects)

@@ -1,4 +1,4 @@
-//! Polls that wait: their ends, and the answers that they get.
+//! Polls that wait: their ends, and their answers.
 ghost use Rattle.std.specs.Prelude.{IfErr, OnOk, false, ◌-◌, ◌^◌, ◌≡◌, ◌≤◌};
 ghost use Rattle.sqs_model.specs.Answers.{most_count};
 ghost use Rattle.sqs_model.specs.Available.{all_hosts};
@@ -20,7 +20,7 @@ use sqs_model::Answer;
 use sqs_queue::Queue;
 use sqs_redrive::{Batch, Kind};
 
-// On how many hosts the messages of a queue lie, those of a FIFO queue as if on one.
+// The number of hosts on which the messages of a queue are; 1 for a FIFO queue.
 fn host_count(queue: &Queue) -> u64
     requires { IsQueueSettings queue.now.settings }
     ensures few { result ≤ 16 }
@@ -33,13 +33,15 @@ fn host_count(queue: &Queue) -> u64
 }
 
 impl Core {
-    // The first poll is answered, which leaves the list, and its actor acts on it.
+    // Answers the first poll, which leaves the list; its actor acts on the answer.
     fn answer_poll(&mut self, key: Key, poll: Poll, effects: &mut Effects) -> Result<(), Refusal>
         requires allowed { MayBeTimeout poll.timeout }
         requires moment { key.at ≤ most_count }
         requires recent { IsRecent key.at self.old.queue }
-        ensures did { OnOk result (Did effects.old effects.new self.new (poll_answered key poll self.old (poll_given key poll self.old.queue))) }
-        ensures stops { IfErr result (Stops (poll_answered key poll self.old (poll_given key poll self.old.queue))) }
+        ensures did { OnOk result (Did effects.old effects.new self.new
+            (poll_answered key poll self.old (poll_given key poll self.old.queue))) }
+        ensures stops { IfErr result
+            (Stops (poll_answered key poll self.old (poll_given key poll self.old.queue))) }
     {
         let set = all_hosts_of(host_count(&self.queue));
         let (max, timeout) = (poll.max, poll.timeout);
@@ -53,13 +55,14 @@ impl Core {
         self.told(key, poll.actor, Answer::Got(Batch::new(gots)), effects)
     }
 
-    // Waiting polls are answered, oldest first, while there is something to give. Apart from
-    // `answer_polls`, which comes after each handling.
+    // Answers waiting polls, oldest first, while there is something to give. It is apart from
+    // `answer_polls`, which follows each handling.
     #[inline(never)]
     fn answer_each(&mut self, key: Key, effects: &mut Effects) -> Result<(), Refusal>
         requires moment { key.at ≤ most_count }
         requires recent { IsRecent key.at self.old.queue }
-        ensures did { OnOk result (Did effects.old effects.new self.new (answer_polls key self.old.polls self.old)) }
+        ensures did { OnOk result
+            (Did effects.old effects.new self.new (answer_polls key self.old.polls self.old)) }
         ensures stops { IfErr result (Stops (answer_polls key self.old.polls self.old)) }
     {
         for _ in 0..self.polls.len() {
@@ -68,7 +71,7 @@ impl Core {
                 return Ok(());
             }
             let Some(poll) = self.polls.first() else {
-                // Those that were there and were not answered yet still wait.
+                // Polls that were there and have no answer yet still wait.
                 unreachable!();
             };
             self.answer_poll(key, poll, effects)?;
@@ -78,16 +81,18 @@ impl Core {
 
     // Whether a poll waits and there is something to give.
     fn may_answer(&self) -> bool
-        ensures { result ≡ false → (key : Key) → answer_polls key self.now.polls self.now ≡ no_effect self.now }
+        ensures { result ≡ false → (key : Key)
+            → answer_polls key self.now.polls self.now ≡ no_effect self.now }
     {
         !self.polls.is_empty() && self.queue.can_give()
     }
 
-    /// Waiting polls are answered, oldest first, while there is something to give.
+    /// Answers waiting polls, oldest first, while there is something to give.
     pub fn answer_polls(&mut self, key: Key, effects: &mut Effects) -> Result<(), Refusal>
         requires moment { key.at ≤ most_count }
         requires recent { IsRecent key.at self.old.queue }
-        ensures did { OnOk result (Did effects.old effects.new self.new (answer_polls key self.old.polls self.old)) }
+        ensures did { OnOk result
+            (Did effects.old effects.new self.new (answer_polls key self.old.polls self.old)) }
         ensures stops { IfErr result (Stops (answer_polls key self.old.polls self.old)) }
     {
         if self.may_answer() {
@@ -97,11 +102,12 @@ impl Core {
         }
     }
 
-    /// A long poll ends with nothing, which its actor is told.
+    /// A long poll ends with nothing, and its actor acts on that.
     pub fn handle_poll_end(&mut self, key: Key, effects: &mut Effects) -> Result<(), Refusal>
         requires moment { key.at ≤ most_count }
         requires recent { IsRecent key.at self.old.queue }
-        ensures did { OnOk result (Did effects.old effects.new self.new (handle_poll_end key self.old)) }
+        ensures did { OnOk result
+            (Did effects.old effects.new self.new (handle_poll_end key self.old)) }
         ensures stops { IfErr result (Stops (handle_poll_end key self.old)) }
     {
         let site = self.queue.site();

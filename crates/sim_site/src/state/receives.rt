@@ -1,4 +1,4 @@
-//! Receives of actors.
+//! Receives by actors.
 ghost use Rattle.std.specs.Prelude.{Any, Err, IfErr, IfOk, IfSome, IsOk, None, OnErr, Some, true, ℕ, ◌-◌, ◌<◌, ◌^◌, ◌≡◌, ◌≤◌};
 ghost use Rattle.sqs_model.specs.Actor.{Actor};
 ghost use Rattle.sqs_model.specs.Acts.{receive_row as the_receive_row, hosts_from as the_hosts_from, long_poll, receive_as, receive_none, receive_some, short_poll};
@@ -26,8 +26,8 @@ use sqs_model::{Answer, LONGEST_TIMEOUT, MOST_COUNT};
 use sqs_queue::Queue;
 use sqs_redrive::{Batch, Got, Kind};
 
-// The hosts that a short poll samples: some from a first one on, round the end. They are given by
-// their bits.
+// The hosts that a short poll samples, as bits: `sampled` of them from a first one on, continuing
+// at the first host after the last.
 fn hosts_from(hosts: u64, sampled: u64, start: u64) -> u16
     requires some { 1 ≤ hosts }
     requires few { hosts ≤ 16 }
@@ -50,10 +50,13 @@ pub fn all_hosts_of(hosts: u64) -> u16
     ((1u32 << hosts) - 1) as u16
 }
 
-// Why a short poll is refused, if it is.
+// The error of a short poll, if it has one.
 fn short_refusal(queue: &Queue, timeout: Option<u64>) -> Option<Refusal>
-    ensures allowed { result ≡ None → (now max set : ℕ) → receive queue.now now max timeout set true ≡ answered (give_most queue.now now max timeout set) }
-    ensures refused { IfSome result (λ refusal. (now max set : ℕ) → receive queue.now now max timeout set true ≡ (Err refusal, queue.now)) }
+    ensures allowed { result ≡ None → (now max set : ℕ)
+        → receive queue.now now max timeout set true
+        ≡ answered (give_most queue.now now max timeout set) }
+    ensures refused { IfSome result (λ refusal.
+        (now max set : ℕ) → receive queue.now now max timeout set true ≡ (Err refusal, queue.now)) }
 {
     if let Some(seconds) = timeout {
         if seconds > LONGEST_TIMEOUT {
@@ -66,7 +69,7 @@ fn short_refusal(queue: &Queue, timeout: Option<u64>) -> Option<Refusal>
     None
 }
 
-// A receive, with a refusal that the actor is told.
+// A receive. The inner error is one that the actor gets as its answer.
 pub fn received_by(
     queue: &mut Queue,
     now: u64,
@@ -77,11 +80,14 @@ pub fn received_by(
 ) -> Result<Result<Vec<Got>, Refusal>, Refusal>
     requires moment { now ≤ most_count }
     requires short { short ≡ true → IsStandard queue.old.settings.kind }
-    ensures received { IfOk result (λ answer. receive queue.old now max timeout hosts short ≡ (result_map_both (λ batch. batch.items) (λ refusal. refusal) answer, queue.new)) }
+    ensures received { IfOk result (λ answer.
+        receive queue.old now max timeout hosts short
+        ≡ (result_map_both (λ batch. batch.items) (λ refusal. refusal) answer, queue.new)) }
     ensures unchanged { IfOk result (λ answer. OnErr answer (queue.new ≡ queue.old)) }
     ensures allowed { IfOk result (λ answer. IfOk answer (λ _. MayBeTimeout timeout)) }
     ensures framed { IsFramed queue.old queue.new }
-    ensures stops { IfErr result (StopsWhere (Any (λ m. m.receives ≡ most_count) (to_give queue.old max hosts) × IsOk (receive queue.old now max timeout hosts short).0)) }
+    ensures stops { IfErr result (StopsWhere (Any (λ m. m.receives ≡ most_count) (to_give queue.old max hosts)
+        × IsOk (receive queue.old now max timeout hosts short).0)) }
 {
     match queue.receive(now, max, timeout, hosts, short) {
         Ok(received) => Ok(Ok(received.messages)),
@@ -105,7 +111,7 @@ pub fn receive_row(key: Key, site: u32, agent: u32, answer: RowAnswer) -> Row
 }
 
 impl Core {
-    // A receive that finds nothing is empty, or waits if it is a long poll.
+    // A receive that finds nothing. It is empty, or waits if it is a long poll.
     fn receive_none(
         &mut self,
         key: Key,
@@ -118,8 +124,12 @@ impl Core {
         requires allowed { MayBeTimeout timeout }
         requires moment { key.at ≤ most_count }
         requires wait { wait ≤ most_wait }
-        ensures did { (a : Actor) → a.number ≡ agent → actor_numbered agent self.old ≡ Some a → IfOk result (λ answer. DidMake effects.old effects.new self.new answer (receive_none key a self.old max wait timeout)) }
-        ensures stops { (a : Actor) → a.number ≡ agent → actor_numbered agent self.old ≡ Some a → IfErr result (Stops (receive_none key a self.old max wait timeout).effect) }
+        ensures did { (a : Actor) → a.number ≡ agent → actor_numbered agent self.old ≡ Some a
+            → IfOk result (λ answer.
+            DidMake effects.old effects.new self.new answer
+            (receive_none key a self.old max wait timeout)) }
+        ensures stops { (a : Actor) → a.number ≡ agent → actor_numbered agent self.old ≡ Some a
+            → IfErr result (Stops (receive_none key a self.old max wait timeout).effect) }
     {
         let site = self.queue.site();
         if wait == 0 {
@@ -142,7 +152,8 @@ impl Core {
         Ok(Answer::Waiting)
     }
 
-    // A receive that finds something, or nothing; what it gave left the queue before.
+    // The outcome of a receive, which may have found nothing. What it gave has left the queue
+    // already.
     fn receive_some(
         &mut self,
         key: Key,
@@ -156,8 +167,13 @@ impl Core {
         requires allowed { MayBeTimeout timeout }
         requires moment { key.at ≤ most_count }
         requires wait { wait ≤ most_wait }
-        ensures did { (a : Actor) → a.number ≡ agent → actor_numbered agent self.old ≡ Some a → IfOk result (λ answer. DidMake effects.old effects.new self.new answer (receive_some key a self.old max wait timeout self.old.queue gots.items)) }
-        ensures stops { (a : Actor) → a.number ≡ agent → actor_numbered agent self.old ≡ Some a → IfErr result (Stops (receive_some key a self.old max wait timeout self.old.queue gots.items).effect) }
+        ensures did { (a : Actor) → a.number ≡ agent → actor_numbered agent self.old ≡ Some a
+            → IfOk result (λ answer.
+            DidMake effects.old effects.new self.new answer
+            (receive_some key a self.old max wait timeout self.old.queue gots.items)) }
+        ensures stops { (a : Actor) → a.number ≡ agent → actor_numbered agent self.old ≡ Some a
+            → IfErr result (Stops
+            (receive_some key a self.old max wait timeout self.old.queue gots.items).effect) }
     {
         if gots.is_empty() {
             return self.receive_none(key, agent, max, wait, timeout, effects);
@@ -166,7 +182,7 @@ impl Core {
         Ok(Answer::Got(Batch::new(gots)))
     }
 
-    // A short poll, from a first host that is drawn. One that is refused draws no word.
+    // A short poll, from a first host that is drawn. If it is refused, it draws no word.
     fn short_poll(
         &mut self,
         key: Key,
@@ -182,8 +198,14 @@ impl Core {
         requires few { hosts ≤ 16 }
         requires sampled { sampled ≤ hosts }
         requires standard { IsStandard self.old.queue.settings.kind }
-        ensures did { (a : Actor) → a.number ≡ agent → actor_numbered agent self.old ≡ Some a → IfOk result (λ answer. DidMake effects.old effects.new self.new answer (short_poll key a self.old max timeout hosts sampled (drawn_uniform 0 (hosts - 1) self.old.draws))) }
-        ensures stops { (a : Actor) → a.number ≡ agent → actor_numbered agent self.old ≡ Some a → IfErr result (Stops (short_poll key a self.old max timeout hosts sampled (drawn_uniform 0 (hosts - 1) self.old.draws)).effect) }
+        ensures did { (a : Actor) → a.number ≡ agent → actor_numbered agent self.old ≡ Some a
+            → IfOk result (λ answer.
+            DidMake effects.old effects.new self.new answer (short_poll key a self.old max
+            timeout hosts sampled (drawn_uniform 0 (hosts - 1) self.old.draws))) }
+        ensures stops { (a : Actor) → a.number ≡ agent → actor_numbered agent self.old ≡ Some a
+            → IfErr result (Stops
+            (short_poll key a self.old max timeout hosts sampled
+            (drawn_uniform 0 (hosts - 1) self.old.draws)).effect) }
     {
         let site = self.queue.site();
         if let Some(refusal) = short_refusal(&self.queue, timeout) {
@@ -217,8 +239,12 @@ impl Core {
         requires wait { wait ≤ most_wait }
         requires few { hosts ≤ 16 }
         requires all { all_hosts self.old.queue.settings.kind ≡ 2 ^ hosts - 1 }
-        ensures did { (a : Actor) → a.number ≡ agent → actor_numbered agent self.old ≡ Some a → IfOk result (λ answer. DidMake effects.old effects.new self.new answer (long_poll key a self.old max wait timeout)) }
-        ensures stops { (a : Actor) → a.number ≡ agent → actor_numbered agent self.old ≡ Some a → IfErr result (Stops (long_poll key a self.old max wait timeout).effect) }
+        ensures did { (a : Actor) → a.number ≡ agent → actor_numbered agent self.old ≡ Some a
+            → IfOk result (λ answer.
+            DidMake effects.old effects.new self.new answer
+            (long_poll key a self.old max wait timeout)) }
+        ensures stops { (a : Actor) → a.number ≡ agent → actor_numbered agent self.old ≡ Some a
+            → IfErr result (Stops (long_poll key a self.old max wait timeout).effect) }
     {
         let site = self.queue.site();
         let set = all_hosts_of(hosts);
@@ -232,7 +258,7 @@ impl Core {
         }
     }
 
-    /// An actor receives at most so many messages.
+    /// An actor receives at most `max` messages.
     pub fn receive(
         &mut self,
         key: Key,
@@ -244,8 +270,13 @@ impl Core {
     ) -> Result<Answer, Refusal>
         requires moment { key.at ≤ most_count }
         requires wait { wait ≤ most_wait }
-        ensures did { (a : Actor) → a.number ≡ agent → actor_numbered agent self.old ≡ Some a → IfOk result (λ answer. DidMake effects.old effects.new self.new answer (receive_as self.old.queue.settings.kind key a self.old max wait timeout)) }
-        ensures stops { (a : Actor) → a.number ≡ agent → actor_numbered agent self.old ≡ Some a → IfErr result (Stops (receive_as self.old.queue.settings.kind key a self.old max wait timeout).effect) }
+        ensures did { (a : Actor) → a.number ≡ agent → actor_numbered agent self.old ≡ Some a
+            → IfOk result (λ answer.
+            DidMake effects.old effects.new self.new answer
+            (receive_as self.old.queue.settings.kind key a self.old max wait timeout)) }
+        ensures stops { (a : Actor) → a.number ≡ agent → actor_numbered agent self.old ≡ Some a
+            → IfErr result (Stops
+            (receive_as self.old.queue.settings.kind key a self.old max wait timeout).effect) }
     {
         match self.queue.settings().kind {
             Kind::Standard { hosts, sampled } => {
@@ -254,7 +285,8 @@ impl Core {
                 }
                 self.long_poll(key, agent, max, wait, timeout, hosts, effects)
             }
-            // It has no short polls, and gives whatever hosts are seen, as if all lay on one.
+            // It has no short polls. It gives whatever hosts are seen, as if all messages were on
+            // one.
             Kind::Fifo { .. } => self.long_poll(key, agent, max, wait, timeout, 1, effects),
         }
     }

@@ -9,7 +9,7 @@ ghost use Rattle.sim_site.specs.Effects.{Did, Stops};
 
 use super::Core;
 use crate::effects::Effects;
-use crate::rows::row;
+use crate::rows::site_row;
 use sim_clock::{Key, Refusal};
 use sqs_message::{Detail, MessageId, RowAnswer, RowKind};
 use sqs_model::MOST_COUNT;
@@ -17,7 +17,7 @@ use sqs_redrive::{Load, Outbound, Policy};
 use std::alloc::AllocError;
 
 impl Core {
-    // The load of a message leaves for the dead-letter queue.
+    // Sends the load of a message to the dead-letter queue.
     fn redrive(
         &mut self,
         key: Key,
@@ -28,8 +28,10 @@ impl Core {
     ) -> Result<(), Refusal>
         requires moment { key.at ≤ most_count }
         requires latency { IsLatency policy.latency }
-        ensures did { OnOk result (Did effects.old effects.new self.new (redriven key self.old number load policy.dead_letter (drawn_latency policy.latency self.old.draws))) }
-        ensures stops { IfErr result (Stops (redriven key self.old number load policy.dead_letter (drawn_latency policy.latency self.old.draws))) }
+        ensures did { OnOk result (Did effects.old effects.new self.new (redriven key self.old
+            number load policy.dead_letter (drawn_latency policy.latency self.old.draws))) }
+        ensures stops { IfErr result (Stops (redriven key self.old number load policy.dead_letter
+            (drawn_latency policy.latency self.old.draws))) }
     {
         let (least, greatest) = (policy.latency.least, policy.latency.greatest);
         let varies = least < greatest;
@@ -40,15 +42,7 @@ impl Core {
         let id = MessageId { site, number };
         let to = Detail::Queue(policy.dead_letter);
         let latency = self.draws.between(least, greatest);
-        let row = row(
-            key,
-            site,
-            site,
-            RowKind::Redrive,
-            RowAnswer::Out,
-            Some(id),
-            to,
-        );
+        let row = site_row(key, site, RowKind::Redrive, RowAnswer::Out, id, to);
         let transfer = Outbound {
             at: key.at + latency,
             sender: site,
@@ -71,22 +65,16 @@ impl Core {
         effects: &mut Effects,
     ) -> Result<(), Refusal>
         requires { key.at ≤ most_count }
-        ensures did { OnOk result (Did effects.old effects.new self.new (the_came_back key self.old number left)) }
+        ensures did { OnOk result
+            (Did effects.old effects.new self.new (the_came_back key self.old number left)) }
         ensures stops { IfErr result (Stops (the_came_back key self.old number left)) }
     {
         match left {
             None => {
                 let site = self.queue.site();
                 let id = MessageId { site, number };
-                effects.say(row(
-                    key,
-                    site,
-                    site,
-                    RowKind::Release,
-                    RowAnswer::Visible,
-                    Some(id),
-                    Detail::Absent,
-                ))?;
+                let (kind, answer) = (RowKind::Release, RowAnswer::Visible);
+                effects.say(site_row(key, site, kind, answer, id, Detail::Absent))?;
                 Ok(())
             }
             Some(load) => match self.queue.settings().policy {
@@ -99,18 +87,18 @@ impl Core {
     /// A message reaches the end of its delay or visibility timeout.
     pub fn handle_release(&mut self, key: Key, effects: &mut Effects) -> Result<(), Refusal>
         requires { key.at ≤ most_count }
-        ensures did { OnOk result (Did effects.old effects.new self.new (handle_release key self.old)) }
+        ensures did { OnOk result
+            (Did effects.old effects.new self.new (handle_release key self.old)) }
         ensures stops { IfErr result (Stops (handle_release key self.old)) }
     {
-        match self.queue.release(key.number) {
-            Ok(left) => self.came_back(key, key.number, left, effects),
-            Err(_) => unreachable!(),
-        }
+        let left = self.queue.release(key.number);
+        self.came_back(key, key.number, left, effects)
     }
 
     /// A message reaches the end of its retention period.
     pub fn handle_expiry(&mut self, key: Key, effects: &mut Effects) -> Result<(), AllocError>
-        ensures did { OnOk result (Did effects.old effects.new self.new (handle_expiry key self.old)) }
+        ensures did { OnOk result
+            (Did effects.old effects.new self.new (handle_expiry key self.old)) }
     {
         let age = self.queue.expire(key.at, key.number);
         let site = self.queue.site();
@@ -118,14 +106,7 @@ impl Core {
             site,
             number: key.number,
         };
-        effects.say(row(
-            key,
-            site,
-            site,
-            RowKind::Expire,
-            RowAnswer::Expired,
-            Some(id),
-            Detail::Age(age),
-        ))
+        let (kind, answer) = (RowKind::Expire, RowAnswer::Expired);
+        effects.say(site_row(key, site, kind, answer, id, Detail::Age(age)))
     }
 }

@@ -12,12 +12,13 @@ use sqs_message::{Detail, RowAnswer, RowKind};
 use std::alloc::AllocError;
 
 impl Core {
-    /// A queue's counts are sampled, where the next sample is due. The one error is `Memory`.
+    /// Samples a queue's counts, when the next sample is due. The only error is `Memory`.
     pub fn handle_sample(&mut self, key: Key, effects: &mut Effects) -> Result<(), AllocError>
         requires moment { key.at ≤ most_count }
         requires sampled { self.old.sample ≢ 0 }
         requires due { key.at ≡ self.old.sample * (self.old.samples + 1) }
-        ensures did { OnOk result (Did effects.old effects.new self.new (handle_sample key self.old)) }
+        ensures did { OnOk result
+            (Did effects.old effects.new self.new (handle_sample key self.old)) }
     {
         let counts = self.queue.counts();
         let site = self.queue.site();

@@ -1,4 +1,4 @@
-//! Sends of actors.
+//! Sends by actors.
 ghost use Rattle.std.specs.Prelude.{IfErr, IfOk, List, OnOk, Option, ℕ, ◌<◌, ◌≡◌, ◌≢◌, ◌≤◌};
 ghost use Rattle.md5.specs.Md5.{md5};
 ghost use Rattle.sim_clock.specs.declared.refusal.Refusal.TheVariants as refusals;
@@ -19,7 +19,8 @@ use sqs_message::{Detail, Row, RowAnswer, RowKind, Text, body_md5};
 use sqs_queue::Queue;
 use sqs_redrive::Sent;
 
-/// A refusal that a caller is told. Want of memory and a count at its limit end the site instead.
+/// Returns the error if the caller gets it as an answer. `Memory` and `CountLimit` end the site
+/// instead: they are returned as the error.
 pub fn told_refusal(refusal: Refusal) -> Result<Refusal, Refusal>
     ensures same { IfOk result (λ told. told ≡ refusal) }
     ensures memory { OnOk result (refusal ≢ refusals.Memory) }
@@ -34,7 +35,7 @@ pub fn told_refusal(refusal: Refusal) -> Result<Refusal, Refusal>
     }
 }
 
-// A send, with a refusal that the sender is told.
+// A send. The inner error is one that the sender gets as its answer.
 fn sent_by(
     queue: &mut Queue,
     now: u64,
@@ -45,9 +46,11 @@ fn sent_by(
 ) -> Result<Result<Sent, Refusal>, Refusal>
     requires moment { now ≤ most_count }
     requires recent { IsRecent now queue.old }
-    ensures sent { IfOk result (λ answer. sends queue.old.settings.kind queue.old now body delay group id ≡ (answer, queue.new)) }
+    ensures sent { IfOk result (λ answer.
+        sends queue.old.settings.kind queue.old now body delay group id ≡ (answer, queue.new)) }
     ensures framed { IsFramed queue.old queue.new }
-    ensures stops { IfErr result (StopsWhere (most_count < (sends queue.old.settings.kind queue.old now body delay group id).1.arrivals)) }
+    ensures stops { IfErr result (StopsWhere (most_count
+        < (sends queue.old.settings.kind queue.old now body delay group id).1.arrivals)) }
 {
     match queue.send(now, body, delay, group, id) {
         Ok(sent) => Ok(Ok(sent)),
@@ -55,9 +58,10 @@ fn sent_by(
     }
 }
 
-// The row of a send of a body with this digest.
+// The row of a send of a body with this MD5.
 fn send_row(key: Key, site: u32, agent: u32, digest: [u8; 16], answer: Result<Sent, Refusal>) -> Row
-    ensures { (c : Core) (body : List ℕ) → number_of c ≡ site → digest ≡ md5 body → result ≡ the_send_row key agent c body answer }
+    ensures { (c : Core) (body : List ℕ) → number_of c ≡ site → digest ≡ md5 body
+        → result ≡ the_send_row key agent c body answer }
 {
     let digest = Detail::Digest(digest);
     match answer {
@@ -96,8 +100,8 @@ fn send_row(key: Key, site: u32, agent: u32, digest: [u8; 16], answer: Result<Se
 }
 
 impl Core {
-    /// An actor sends a message, delayed by so many seconds or else as the queue says, in a message
-    /// group and with a deduplication id, if it gives them.
+    /// An actor sends a message, delayed by `delay` seconds or else by the queue's delay, in a
+    /// message group and with a deduplication id, if it gives them.
     pub fn send(
         &mut self,
         key: Key,
@@ -110,8 +114,14 @@ impl Core {
     ) -> Result<(), Refusal>
         requires moment { key.at ≤ most_count }
         requires recent { IsRecent key.at self.old.queue }
-        ensures did { (a : Actor) → a.number ≡ agent → OnOk result (Did effects.old effects.new self.new (send_made key a self.old body (sends self.old.queue.settings.kind self.old.queue key.at body delay group id)).effect) }
-        ensures stops { (a : Actor) → a.number ≡ agent → IfErr result (Stops (send_made key a self.old body (sends self.old.queue.settings.kind self.old.queue key.at body delay group id)).effect) }
+        ensures did { (a : Actor) → a.number ≡ agent
+            → OnOk result (Did effects.old effects.new self.new
+            (send_made key a self.old body
+            (sends self.old.queue.settings.kind self.old.queue key.at body delay group id)).effect) }
+        ensures stops { (a : Actor) → a.number ≡ agent
+            → IfErr result (Stops
+            (send_made key a self.old body
+            (sends self.old.queue.settings.kind self.old.queue key.at body delay group id)).effect) }
     {
         let site = self.queue.site();
         let digest = body_md5(body.as_bytes());

@@ -41,7 +41,8 @@ fn load_id(load: &Load) -> MessageId
 
 // The row of a message that is moved.
 fn move_row(key: Key, site: u32, task: u32, to: u32, load: &Load) -> Row
-    ensures { (c : TheCore) (t : TheTask) → number_of c ≡ site → t.number ≡ task → result ≡ the_move_row key c t to load.now }
+    ensures { (c : TheCore) (t : TheTask) → number_of c ≡ site → t.number ≡ task
+        → result ≡ the_move_row key c t to load.now }
 {
     let id = load_id(load);
     let detail = Detail::Queue(to);
@@ -57,15 +58,17 @@ fn move_row(key: Key, site: u32, task: u32, to: u32, load: &Load) -> Row
 }
 
 impl Task {
-    // Sends on a message, with a latency drawn. `CountLimit` where its transfers or words are used
-    // up.
+    // Sends a message on, with a latency that is drawn. `CountLimit` if the task's transfers or
+    // words are used up.
     fn send_on(&mut self, key: Key, site: u32, to: u32, load: Load) -> Result<Outbound, Refusal>
         requires moment { key.at ≤ most_count }
         requires latency { IsLatency self.old.move.settings.latency }
         ensures sent { IfOk result (λ o. SendsOn key site self.old to load o self.new) }
         ensures counted { OnOk result (self.new.sent ≡ self.old.sent + 1) }
         ensures kept { IsKept self.old self.new }
-        ensures stops { IfErr result (StopsWhere (most_count < task_count (one_sent self.old (drawn_latency self.old.move.settings.latency self.old.draws).1))) }
+        ensures stops { IfErr result (StopsWhere (most_count
+            < task_count (one_sent self.old
+            (drawn_latency self.old.move.settings.latency self.old.draws).1))) }
     {
         let Latency { least, greatest } = self.movement.settings().latency;
         let draws_a_word = least < greatest;
@@ -85,7 +88,7 @@ impl Task {
         Ok(outbound)
     }
 
-    // Sends on one message after its row.
+    // Makes the row of one message and sends it on.
     fn move_one(
         &mut self,
         key: Key,
@@ -96,10 +99,13 @@ impl Task {
     ) -> Result<(), Refusal>
         requires moment { key.at ≤ most_count }
         requires latency { IsLatency self.old.move.settings.latency }
-        ensures moved { OnOk result ((c : TheCore) → number_of c ≡ site → DidMove effects.old effects.new self.new (moves key c self.old ((to, load) ∷ []))) }
+        ensures moved { OnOk result ((c : TheCore) → number_of c ≡ site
+            → DidMove effects.old effects.new self.new (moves key c self.old ((to, load) ∷ []))) }
         ensures counted { OnOk result (self.new.sent ≡ self.old.sent + 1) }
         ensures kept { IsKept self.old self.new }
-        ensures stops { IfErr result (StopsWhere (most_count < task_count (one_sent self.old (drawn_latency self.old.move.settings.latency self.old.draws).1))) }
+        ensures stops { IfErr result (StopsWhere (most_count
+            < task_count (one_sent self.old
+            (drawn_latency self.old.move.settings.latency self.old.draws).1))) }
     {
         effects.say(move_row(key, site, self.number, to, &load))?;
         let outbound = self.send_on(key, site, to, load)?;
@@ -107,7 +113,7 @@ impl Task {
         Ok(())
     }
 
-    // Sends on messages, one after another, each after its row.
+    // Sends messages on, one after another, each after its row.
     fn move_all(
         &mut self,
         key: Key,
@@ -117,10 +123,12 @@ impl Task {
     ) -> Result<(), Refusal>
         requires moment { key.at ≤ most_count }
         requires latency { IsLatency self.old.move.settings.latency }
-        ensures moved { OnOk result ((c : TheCore) → number_of c ≡ site → DidMove effects.old effects.new self.new (moves key c self.old loads.items)) }
+        ensures moved { OnOk result ((c : TheCore) → number_of c ≡ site
+            → DidMove effects.old effects.new self.new (moves key c self.old loads.items)) }
         ensures counted { OnOk result (self.new.sent ≡ self.old.sent + length loads.items) }
         ensures kept { IsKept self.old self.new }
-        ensures stops { IfErr result (StopsWhere ((c : TheCore) → number_of c ≡ site → most_count < task_count (moves key c self.old loads.items).task)) }
+        ensures stops { IfErr result (StopsWhere ((c : TheCore) → number_of c ≡ site
+            → most_count < task_count (moves key c self.old loads.items).task)) }
     {
         for (to, load) in loads {
             self.move_one(key, site, to, load, effects)?;
@@ -128,7 +136,7 @@ impl Task {
         Ok(())
     }
 
-    // Tells its end, where a step was its last.
+    // Makes the row of the task's end, if this step was its last.
     fn tell_end(
         &self,
         key: Key,
@@ -136,7 +144,8 @@ impl Task {
         rest: Rest,
         effects: &mut Effects,
     ) -> Result<(), AllocError>
-        ensures rows { OnOk result ((c : TheCore) → number_of c ≡ site → effects.new.rows.items ≡ effects.old.rows.items ++ the_end_row key c self.now rest) }
+        ensures rows { OnOk result ((c : TheCore) → number_of c ≡ site
+            → effects.new.rows.items ≡ effects.old.rows.items ++ the_end_row key c self.now rest) }
         ensures sent { effects.new.sent ≡ effects.old.sent }
     {
         let answer = match rest {
@@ -149,8 +158,8 @@ impl Task {
         effects.say(row(key, site, number, RowKind::Task, answer, None, detail))
     }
 
-    /// A step that took these messages and left this: they are sent on, and where it was the last
-    /// step the task's end is told.
+    /// A step that took these messages and left this. It sends them on, and if it was the last
+    /// step, makes the row of the task's end.
     pub fn step(
         &mut self,
         key: Key,
@@ -162,9 +171,12 @@ impl Task {
         requires running { runs self.old ≡ true }
         requires moment { key.at ≤ most_count }
         requires latency { IsLatency self.old.move.settings.latency }
-        ensures stepped { OnOk result ((c : TheCore) → number_of c ≡ site → DidMove effects.old effects.new self.new (stepped_moves key c self.old loads.items rest)) }
+        ensures stepped { OnOk result ((c : TheCore) → number_of c ≡ site
+            → DidMove effects.old effects.new self.new
+            (stepped_moves key c self.old loads.items rest)) }
         ensures settings { numbered_settings self.new ≡ numbered_settings self.old }
-        ensures stops { IfErr result (StopsWhere ((c : TheCore) → number_of c ≡ site → most_count < task_count (stepped_moves key c self.old loads.items rest).task)) }
+        ensures stops { IfErr result (StopsWhere ((c : TheCore) → number_of c ≡ site
+            → most_count < task_count (stepped_moves key c self.old loads.items rest).task)) }
     {
         if self.movement.steps() >= MOST_COUNT {
             return Err(Refusal::CountLimit);
@@ -177,7 +189,7 @@ impl Task {
     }
 }
 
-// The task at a place, which runs, takes a step.
+// The task at a place, which is running, takes a step.
 fn step_at(
     tasks: &mut Vec<Task>,
     place: usize,
@@ -191,21 +203,27 @@ fn step_at(
     requires running { IfSome (find (is_task key.agent) tasks.old.items) (λ t. runs t ≡ true) }
     requires latencies { All (λ t. IsLatency t.1.latency) (map numbered_settings tasks.old.items) }
     requires moment { key.at ≤ most_count }
-    ensures stepped { OnOk result (Stepped key.agent key site loads.items rest effects.old effects.new tasks.old.items tasks.new.items) }
-    ensures settings { map numbered_settings tasks.new.items ≡ map numbered_settings tasks.old.items }
-    ensures stops { IfErr result (StopsWhere ((c : TheCore) (t : TheTask) → number_of c ≡ site → find (is_task key.agent) tasks.old.items ≡ Some t → most_count < task_count (stepped_moves key c t loads.items rest).task)) }
+    ensures stepped { OnOk result (Stepped key.agent key site loads.items rest effects.old
+        effects.new tasks.old.items tasks.new.items) }
+    ensures settings { map numbered_settings tasks.new.items
+        ≡ map numbered_settings tasks.old.items }
+    ensures stops { IfErr result (StopsWhere ((c : TheCore) (t : TheTask) → number_of c ≡ site
+        → find (is_task key.agent) tasks.old.items ≡ Some t
+        → most_count < task_count (stepped_moves key c t loads.items rest).task)) }
 {
     tasks[place].step(key, site, loads, rest, effects)
 }
 
 impl Core {
-    /// A move task, which runs, takes its next step.
+    /// A move task, which is running, takes its next step.
     pub fn handle_step(&mut self, key: Key, effects: &mut Effects) -> Result<(), Refusal>
         requires moment { key.at ≤ most_count }
         requires class { key.class ≡ StepClass }
         requires due { IsAmong (core_dues self.old) key }
-        ensures did { OnOk result (Did effects.old effects.new self.new (handle_step key self.old (task_numbered key.agent self.old))) }
-        ensures stops { IfErr result (Stops (handle_step key self.old (task_numbered key.agent self.old))) }
+        ensures did { OnOk result (Did effects.old effects.new self.new
+            (handle_step key self.old (task_numbered key.agent self.old))) }
+        ensures stops { IfErr result
+            (Stops (handle_step key self.old (task_numbered key.agent self.old))) }
     {
         let site = self.queue.site();
         let Some(place) = place_of_task(&self.tasks, key.agent) else {

@@ -20,31 +20,34 @@ use sim_clock::{Key, Refusal};
 use sqs_message::{Detail, Row, RowAnswer, RowKind};
 use std::alloc::AllocError;
 
-// Whether one of some tasks runs.
+// Whether one of some tasks is running.
 fn any_runs(tasks: &[Task]) -> bool
     ensures { result ≡ list_any runs tasks.now }
 {
     tasks.iter().any(|task| task.is_running())
 }
 
-// The task at a place is started, which none was.
+// Starts the task at a place; no task is running.
 fn start_at(tasks: &mut Vec<Task>, place: usize, number: u32, now: u64)
     requires place { Stands (is_task number) tasks.old.items place }
     requires idle { list_any runs tasks.old.items ≡ false }
     requires moment { now ≤ most_count }
     ensures started { Rewritten number (started_task now) tasks.old.items tasks.new.items }
-    ensures settings { map numbered_settings tasks.new.items ≡ map numbered_settings tasks.old.items }
+    ensures settings { map numbered_settings tasks.new.items
+        ≡ map numbered_settings tasks.old.items }
 {
     tasks[place].start(now);
 }
 
-// The task at a place is cancelled, if it runs.
+// Cancels the task at a place, if it is running. Returns whether it was.
 fn cancel_at(tasks: &mut Vec<Task>, place: usize, number: u32) -> bool
     requires { Stands (is_task number) tasks.old.items place }
     ensures ran { IfSome (find (is_task number) tasks.old.items) (λ t. result ≡ runs t) }
-    ensures cancelled { result ≡ true → Rewritten number cancelled_task tasks.old.items tasks.new.items }
+    ensures cancelled { result ≡ true
+        → Rewritten number cancelled_task tasks.old.items tasks.new.items }
     ensures unchanged { result ≡ false → tasks.new ≡ tasks.old }
-    ensures settings { map numbered_settings tasks.new.items ≡ map numbered_settings tasks.old.items }
+    ensures settings { map numbered_settings tasks.new.items
+        ≡ map numbered_settings tasks.old.items }
 {
     if !tasks[place].is_running() {
         return false;
@@ -55,14 +58,15 @@ fn cancel_at(tasks: &mut Vec<Task>, place: usize, number: u32) -> bool
 
 // The row of a start or cancel.
 fn task_row(key: Key, site: u32, agent: u32, task: u32, kind: RowKind, answer: RowAnswer) -> Row
-    ensures { (a : Actor) (c : Core) → a.number ≡ agent → number_of c ≡ site → result ≡ the_task_row key a c task kind answer }
+    ensures { (a : Actor) (c : Core) → a.number ≡ agent → number_of c ≡ site
+        → result ≡ the_task_row key a c task kind answer }
 {
     let detail = Detail::Task(task);
     row(key, site, agent, kind, answer, None, detail)
 }
 
 impl Core {
-    /// An actor starts a task, which is refused while a task of the site runs.
+    /// An actor starts a task. It is refused while a task of the site is running.
     pub fn start(
         &mut self,
         key: Key,
@@ -71,7 +75,9 @@ impl Core {
         effects: &mut Effects,
     ) -> Result<(), AllocError>
         requires { key.at ≤ most_count }
-        ensures { (a : Actor) → a.number ≡ agent → OnOk result (Did effects.old effects.new self.new (start_made key a self.old task (task_numbered task self.old)).effect) }
+        ensures { (a : Actor) → a.number ≡ agent
+            → OnOk result (Did effects.old effects.new self.new
+            (start_made key a self.old task (task_numbered task self.old)).effect) }
     {
         let site = self.queue.site();
         let Some(place) = place_of_task(&self.tasks, task) else {
@@ -85,7 +91,7 @@ impl Core {
         effects.say(task_row(key, site, agent, task, RowKind::Start, RowAnswer::Ok))
     }
 
-    /// An actor cancels a task, which is refused where the task does not run.
+    /// An actor cancels a task. It is refused if the task is not running.
     pub fn cancel(
         &mut self,
         key: Key,
@@ -93,7 +99,9 @@ impl Core {
         task: u32,
         effects: &mut Effects,
     ) -> Result<(), AllocError>
-        ensures { (a : Actor) → a.number ≡ agent → OnOk result (Did effects.old effects.new self.new (cancel_made key a self.old task (task_numbered task self.old)).effect) }
+        ensures { (a : Actor) → a.number ≡ agent
+            → OnOk result (Did effects.old effects.new self.new
+            (cancel_made key a self.old task (task_numbered task self.old)).effect) }
     {
         let site = self.queue.site();
         let Some(place) = place_of_task(&self.tasks, task) else {

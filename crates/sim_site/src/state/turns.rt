@@ -8,7 +8,8 @@ ghost use Rattle.sqs_model.specs.Polls.{told as the_told};
 ghost use Rattle.sqs_model.specs.Site.{actor_numbered};
 ghost use Rattle.sqs_model.specs.Step.{handle_wake};
 ghost use Rattle.sim_site.specs.Effects.{Did, Stops};
-ghost use Rattle.sim_site.specs.Turns.{DidTurn, WaitsShortly, turn_by, turn_of};
+ghost use Rattle.sim_site.specs.Kept.{WaitsShortly};
+ghost use Rattle.sim_site.specs.Turns.{DidTurn, turn_by, turn_of};
 
 use super::Core;
 use crate::effects::Effects;
@@ -16,7 +17,7 @@ use sim_clock::{Key, Refusal};
 use sqs_model::{Act, Answer};
 
 impl Core {
-    // An actor acts, and answers what it is told of it, if it did anything.
+    // An actor acts. Returns the answer that it gets, if it did anything.
     #[tactic(auto, unfolding(sqs_model::specs::Acts::act_made))]
     fn act(
         &mut self,
@@ -28,8 +29,12 @@ impl Core {
         requires moment { key.at ≤ most_count }
         requires recent { IsRecent key.at self.old.queue }
         requires wait { WaitsShortly act }
-        ensures did { (a : Actor) → a.number ≡ agent → actor_numbered agent self.old ≡ Some a → IfOk result (λ told. DidTurn effects.old effects.new self.new told (turn_by act (act_made key a self.old act))) }
-        ensures stops { (a : Actor) → a.number ≡ agent → actor_numbered agent self.old ≡ Some a → IfErr result (Stops (act_made key a self.old act).effect) }
+        ensures did { (a : Actor) → a.number ≡ agent → actor_numbered agent self.old ≡ Some a
+            → IfOk result (λ told.
+            DidTurn effects.old effects.new self.new told
+            (turn_by act (act_made key a self.old act))) }
+        ensures stops { (a : Actor) → a.number ≡ agent → actor_numbered agent self.old ≡ Some a
+            → IfErr result (Stops (act_made key a self.old act).effect) }
     {
         match act {
             Act::Send {
@@ -61,7 +66,8 @@ impl Core {
         Ok(Some(Answer::Other))
     }
 
-    // An actor is told something, decides and acts; the same answer.
+    // An actor gets an answer, decides and acts. Returns the answer to what it did, if it did
+    // anything.
     fn take_turn(
         &mut self,
         key: Key,
@@ -71,8 +77,11 @@ impl Core {
     ) -> Result<Option<Answer>, Refusal>
         requires moment { key.at ≤ most_count }
         requires recent { IsRecent key.at self.old.queue }
-        ensures did { IfOk result (λ told. DidTurn effects.old effects.new self.new told (turn_of key answer self.old (actor_numbered agent self.old))) }
-        ensures stops { IfErr result (Stops (turn_of key answer self.old (actor_numbered agent self.old)).effect) }
+        ensures did { IfOk result (λ told.
+            DidTurn effects.old effects.new self.new told
+            (turn_of key answer self.old (actor_numbered agent self.old))) }
+        ensures stops { IfErr result
+            (Stops (turn_of key answer self.old (actor_numbered agent self.old)).effect) }
     {
         let Some(place) = self.actors.place_of(agent) else {
             return Ok(None);
@@ -81,7 +90,8 @@ impl Core {
         self.act(key, agent, act, effects)
     }
 
-    /// An actor is told something and acts; the answer to each act is told it in turn, to the end.
+    /// An actor gets an answer and acts. It then gets the answer to each act in turn, until it does
+    /// nothing.
     pub fn told(
         &mut self,
         key: Key,
@@ -91,7 +101,8 @@ impl Core {
     ) -> Result<(), Refusal>
         requires moment { key.at ≤ most_count }
         requires recent { IsRecent key.at self.old.queue }
-        ensures did { OnOk result (Did effects.old effects.new self.new (the_told key agent answer self.old)) }
+        ensures did { OnOk result
+            (Did effects.old effects.new self.new (the_told key agent answer self.old)) }
         ensures stops { IfErr result (Stops (the_told key agent answer self.old)) }
     {
         let Some(answer) = self.take_turn(key, agent, answer, effects)? else {
@@ -108,7 +119,8 @@ impl Core {
     pub fn handle_wake(&mut self, key: Key, effects: &mut Effects) -> Result<(), Refusal>
         requires moment { key.at ≤ most_count }
         requires recent { IsRecent key.at self.old.queue }
-        ensures did { OnOk result (Did effects.old effects.new self.new (handle_wake key self.old)) }
+        ensures did { OnOk result
+            (Did effects.old effects.new self.new (handle_wake key self.old)) }
         ensures stops { IfErr result (Stops (handle_wake key self.old)) }
     {
         self.told(key, key.agent, Answer::Wake, effects)

@@ -13,7 +13,8 @@ use sim_clock::Key;
 use sim_index::Mark;
 use sqs_message::{Message, Place, Text};
 
-// The number of a message that came joins its group's, and the first of the group is marked anew.
+// Appends the number of a new message to its group's, and marks the first message of the group
+// anew.
 fn join(shelf: &mut Shelf, groups: &mut [Members], place: usize, number: u64, is_out: bool)
     requires place { place < length groups.old }
     requires room { HasRoomAt groups.old place }
@@ -23,16 +24,22 @@ fn join(shelf: &mut Shelf, groups: &mut [Members], place: usize, number: u64, is
     ensures len { length groups.new ≡ length groups.old }
     ensures others { (j : ℕ) → j ≢ place → group_at groups.new j ≡ group_at groups.old j }
     ensures out { (group_at groups.new place).out ≡ (group_at groups.old place).out + bit is_out }
-    ensures held { held shelf.old.items (group_at groups.new place).numbers ≡ held shelf.old.items ((group_at groups.old place).numbers ++ number ∷ []) }
-    ensures below { (n : ℕ) → All (λ k. k < n) ((group_at groups.old place).numbers ++ number ∷ []) → All (λ k. k < n) (group_at groups.new place).numbers }
-    ensures led { (g : Option (List ℕ)) → All (IsLedBut shelf.old.items g) shelf.old.items → held shelf.old.items ((group_at groups.old place).numbers ++ number ∷ []) ≡ of_group g (told shelf.old.items) → (group_at groups.new place).out ≡ out_of g (told shelf.old.items) → AreLed shelf.new.items }
+    ensures held { held shelf.old.items (group_at groups.new place).numbers
+        ≡ held shelf.old.items ((group_at groups.old place).numbers ++ number ∷ []) }
+    ensures below { (n : ℕ) → All (λ k. k < n) ((group_at groups.old place).numbers ++ number ∷ [])
+        → All (λ k. k < n) (group_at groups.new place).numbers }
+    ensures led { (g : Option (List ℕ)) → All (IsLedBut shelf.old.items g) shelf.old.items
+        → held shelf.old.items ((group_at groups.old place).numbers ++ number ∷ [])
+        ≡ of_group g (told shelf.old.items)
+        → (group_at groups.new place).out ≡ out_of g (told shelf.old.items)
+        → AreLed shelf.new.items }
 {
     groups[place].numbers.push_back_reserved(number);
     moved(shelf, groups, place, false, is_out);
 }
 
-// The hosts of a message that comes to the group at a place. Where the group's list is empty it is the
-// first, and else it is marked as no leader.
+// The flags of a new message of the group with an index. If the group's list is empty, the message
+// is its first. If not, it is marked as no leader.
 fn hosts_at(groups: &[Members], place: usize, visible: bool) -> u32
     requires { place < length groups.now }
     ensures { (group_at groups.now place).numbers ≢ [] → result ≡ 0 }
@@ -45,7 +52,7 @@ fn hosts_at(groups: &[Members], place: usize, visible: bool) -> u32
     }
 }
 
-/// One more message, of the group at a place of the table, with what is due of it.
+/// Adds a message of the group with an index, with what is due of it.
 pub fn add(
     shelf: &mut Shelf,
     names: &IndexSet<Option<Text>>,
@@ -61,7 +68,8 @@ pub fn add(
     requires place { IsPlaceOf names.now.keys message.group place }
     requires room { HasRoomAt groups.old place }
     ensures grouped { AreInGroups shelf.new.items shelf.new.next names.now.keys groups.new }
-    ensures added { map unhosted shelf.new.items ≡ map unhosted shelf.old.items ++ (message, due, place) ∷ [] }
+    ensures added { map unhosted shelf.new.items
+        ≡ map unhosted shelf.old.items ++ (message, due, place) ∷ [] }
     ensures next { shelf.new.next ≡ shelf.old.next + 1 }
     ensures len { length groups.new ≡ length groups.old }
 {
@@ -69,7 +77,7 @@ pub fn add(
     let number = message.number;
     let is_out = in_flight(message.place);
     let hosts = hosts_at(groups, place, message.place == Place::Visible);
-    let Ok(()) = shelf.push(message, place, Mark { due, hosts }) else {
+    let Ok(()) = shelf.push(message, place, Mark { due, flags: hosts }) else {
         unreachable!();
     };
     join(shelf, groups, place, number, is_out);

@@ -15,8 +15,7 @@ use sqs_message::{Message, Place};
 use std::alloc::{AllocError, Global};
 use std::collections::VecDeque;
 
-// Adds the numbers of a group's messages that stand before its first delayed one, up to so many in
-// all.
+// Adds the numbers of a group's messages before its first delayed one, up to `most` in all.
 fn give(
     shelf: &Shelf,
     numbers: &VecDeque<u64>,
@@ -26,9 +25,13 @@ fn give(
     requires most { length choice.old.numbers.items ≤ most }
     requires range { most < 2 ^ 63 }
     requires few { choice.old.looked ≤ 2 * length choice.old.numbers.items }
-    ensures walked { OnOk result (choice.new.numbers.items ≡ take most (choice.old.numbers.items ++ map (λ m. m.number) (until_delayed (held shelf.now.items numbers.now.items)))) }
-    ensures looked { OnOk result (choice.new.looked + length choice.old.numbers.items ≤ choice.old.looked + length choice.new.numbers.items + 1) }
-    ensures read { OnOk result (choice.old.looked + length choice.new.numbers.items ≤ choice.new.looked + length choice.old.numbers.items) }
+    ensures walked { OnOk result (choice.new.numbers.items
+        ≡ take most (choice.old.numbers.items
+        ++ map (λ m. m.number) (until_delayed (held shelf.now.items numbers.now.items)))) }
+    ensures looked { OnOk result (choice.new.looked + length choice.old.numbers.items
+        ≤ choice.old.looked + length choice.new.numbers.items + 1) }
+    ensures read { OnOk result (choice.old.looked + length choice.new.numbers.items
+        ≤ choice.new.looked + length choice.old.numbers.items) }
 {
     for number in numbers.iter() {
         if choice.numbers.len() as u64 == most {
@@ -45,8 +48,8 @@ fn give(
     Ok(())
 }
 
-// The numbers of the first messages, at most so many, that the queue may give: the groups' leaders
-// one after another, each with its group.
+// The numbers of the first messages that the queue may give, at most `most`: group after group, by
+// the groups' leaders.
 pub fn choose(
     alloc: Global,
     shelf: &Shelf,
@@ -54,8 +57,12 @@ pub fn choose(
     most: u64,
 ) -> Result<Choice, AllocError>
     requires range { most < 2 ^ 63 }
-    requires grouped { AreInGroups shelf.now.items shelf.now.next groups.now.names.keys groups.now.members.items }
-    ensures numbers { IfOk result (λ choice. choice.numbers.items ≡ map (λ m. m.number) (take most (by_group (open_from (told shelf.now.items) [] (told shelf.now.items))))) }
+    requires grouped { AreInGroups shelf.now.items shelf.now.next groups.now.names.keys
+        groups.now.members.items }
+    ensures numbers { IfOk result (λ choice.
+        choice.numbers.items
+        ≡ map (λ m. m.number) (take most
+        (by_group (open_from (told shelf.now.items) [] (told shelf.now.items))))) }
     ensures looked { IfOk result (λ choice. choice.looked ≤ 2 * most) }
     ensures read { IfOk result (λ choice. length choice.numbers.items ≤ choice.looked) }
 {

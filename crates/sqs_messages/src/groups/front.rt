@@ -11,12 +11,13 @@ use crate::shelf::Shelf;
 use sqs_message::{Message, Place};
 use std::collections::VecDeque;
 
-// Drops numbers of messages that have left from the front of a list, and tells the number of the
-// first message and whether it may be received.
+// Drops the numbers of messages that have left from the front of a list. Returns the number of the
+// first message that is there, and whether it may be received.
 pub fn trim(shelf: &Shelf, numbers: &mut VecDeque<u64>) -> Option<(u64, bool)>
     ensures front { result ≡ front_of (held shelf.now.items numbers.new.items) }
     ensures held { held shelf.now.items numbers.new.items ≡ held shelf.now.items numbers.old.items }
-    ensures below { (n : ℕ) → All (λ k. k < n) numbers.old.items → All (λ k. k < n) numbers.new.items }
+    ensures below { (n : ℕ) → All (λ k. k < n) numbers.old.items
+        → All (λ k. k < n) numbers.new.items }
 {
     while let Some(first) = numbers.front() {
         let number = *first;
@@ -28,21 +29,26 @@ pub fn trim(shelf: &Shelf, numbers: &mut VecDeque<u64>) -> Option<(u64, bool)>
     None
 }
 
-// The hosts of a group's first message.
+// The flags of a group's first message.
 pub fn leader_hosts(visible: bool, out: u64) -> u32
     ensures { result ≡ bit (visible && out == 0) }
 {
     if visible && out == 0 { LEADS } else { 0 }
 }
 
-// Marks the first message of a group where it leads, and drops numbers of those that left before it.
+// Marks the first message of a group if it leads, and drops the numbers of those that left before
+// it.
 pub fn refresh(shelf: &mut Shelf, members: &mut Members)
     ensures kept { map unhosted shelf.new.items ≡ map unhosted shelf.old.items }
     ensures next { shelf.new.next ≡ shelf.old.next }
     ensures out { members.new.out ≡ members.old.out }
-    ensures held { held shelf.old.items members.new.numbers.items ≡ held shelf.old.items members.old.numbers.items }
-    ensures below { (n : ℕ) → All (λ k. k < n) members.old.numbers.items → All (λ k. k < n) members.new.numbers.items }
-    ensures led { (g : Option (List ℕ)) → All (IsLedBut shelf.old.items g) shelf.old.items → held shelf.old.items members.old.numbers.items ≡ of_group g (told shelf.old.items) → members.old.out ≡ out_of g (told shelf.old.items) → AreLed shelf.new.items }
+    ensures held { held shelf.old.items members.new.numbers.items
+        ≡ held shelf.old.items members.old.numbers.items }
+    ensures below { (n : ℕ) → All (λ k. k < n) members.old.numbers.items
+        → All (λ k. k < n) members.new.numbers.items }
+    ensures led { (g : Option (List ℕ)) → All (IsLedBut shelf.old.items g) shelf.old.items
+        → held shelf.old.items members.old.numbers.items ≡ of_group g (told shelf.old.items)
+        → members.old.out ≡ out_of g (told shelf.old.items) → AreLed shelf.new.items }
 {
     let _next = shelf.number();
     let Some((number, visible)) = trim(shelf, &mut members.numbers) else {

@@ -11,33 +11,33 @@ use indexmap::IndexSet;
 use sqs_message::{Place, Text};
 use std::collections::VecDeque;
 
-/// The hosts in the mark of a message that leads its group: that is the first of its group and
-/// visible, while none of the group is in flight. A FIFO queue has one host.
+/// The flag in the mark of a message that leads its group: it is the first of its group and
+/// visible, and no message of the group is in flight. All messages of a FIFO queue are on one host.
 pub const LEADS: u32 = 1;
 
-/// Whether a place is that of a message in flight.
+/// Whether a state is that of a message in flight.
 pub fn in_flight(place: Place) -> bool
     ensures { result ≡ in_flight_at place }
 {
     matches!(place, Place::InFlight)
 }
 
-/// The numbers of a group's messages, in order, some of which may have left, and how many are in
-/// flight.
+/// The numbers of a group's messages, in order, some of which may have left; and how many messages
+/// of the group are in flight.
 #[derive(Drop)]
 pub struct Members {
     pub numbers: VecDeque<u64>,
     pub out: u64,
 }
 
-// The place of a group, or how many groups there are.
+// The index of a group; the number of groups if it is not there.
 pub fn place_of(names: &IndexSet<Option<Text>>, group: &Option<Text>) -> usize
     ensures { result ≡ place_by names.now.keys group.now }
 {
     names.get_index_of(group).unwrap_or(names.len())
 }
 
-// How many are in flight after one was or was not, and now is or is not.
+// The number in flight after a message changes: `was` and `is` say whether it was and is in flight.
 fn counted(out: u64, was: bool, is: bool) -> u64
     requires less { was ≡ true → 1 ≤ out }
     requires room { was ≡ false → is ≡ true → out + 1 < 2 ^ 64 }
@@ -52,7 +52,7 @@ fn counted(out: u64, was: bool, is: bool) -> u64
     }
 }
 
-// Counts a change of a group's message, and marks the first of the group anew.
+// Counts a change of a group's message, and marks the first message of the group anew.
 pub fn moved(shelf: &mut Shelf, groups: &mut [Members], index: usize, was: bool, is: bool)
     requires index { index < length groups.old }
     requires less { was ≡ true → 1 ≤ (group_at groups.old index).out }
@@ -61,10 +61,17 @@ pub fn moved(shelf: &mut Shelf, groups: &mut [Members], index: usize, was: bool,
     ensures next { shelf.new.next ≡ shelf.old.next }
     ensures others { (j : ℕ) → j ≢ index → group_at groups.new j ≡ group_at groups.old j }
     ensures len { length groups.new ≡ length groups.old }
-    ensures out { (group_at groups.new index).out + bit was ≡ (group_at groups.old index).out + bit is }
-    ensures held { held shelf.old.items (group_at groups.new index).numbers ≡ held shelf.old.items (group_at groups.old index).numbers }
-    ensures below { (n : ℕ) → All (λ k. k < n) (group_at groups.old index).numbers → All (λ k. k < n) (group_at groups.new index).numbers }
-    ensures led { (g : Option (List ℕ)) → All (IsLedBut shelf.old.items g) shelf.old.items → held shelf.old.items (group_at groups.old index).numbers ≡ of_group g (told shelf.old.items) → (group_at groups.new index).out ≡ out_of g (told shelf.old.items) → AreLed shelf.new.items }
+    ensures out { (group_at groups.new index).out + bit was
+        ≡ (group_at groups.old index).out + bit is }
+    ensures held { held shelf.old.items (group_at groups.new index).numbers
+        ≡ held shelf.old.items (group_at groups.old index).numbers }
+    ensures below { (n : ℕ) → All (λ k. k < n) (group_at groups.old index).numbers
+        → All (λ k. k < n) (group_at groups.new index).numbers }
+    ensures led { (g : Option (List ℕ)) → All (IsLedBut shelf.old.items g) shelf.old.items
+        → held shelf.old.items (group_at groups.old index).numbers
+        ≡ of_group g (told shelf.old.items)
+        → (group_at groups.new index).out ≡ out_of g (told shelf.old.items)
+        → AreLed shelf.new.items }
 {
     let members = &mut groups[index];
     members.out = counted(members.out, was, is);

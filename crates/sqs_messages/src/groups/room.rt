@@ -11,8 +11,7 @@ use sqs_message::Text;
 use std::alloc::{AllocError, Global};
 use std::collections::VecDeque;
 
-// Enters a group that is not in the table, without messages. Where there is no memory nothing
-// changes.
+// Adds a group that is not there yet, without messages. If memory runs out, nothing changes.
 fn enter(
     alloc: Global,
     names: &mut IndexSet<Option<Text>>,
@@ -21,7 +20,8 @@ fn enter(
 ) -> Result<(), AllocError>
     requires new { length names.old.keys ≤ place_by names.old.keys group.now }
     ensures names { OnOk result (names.new.keys ≡ names.old.keys ++ group.now ∷ []) }
-    ensures groups { OnOk result (map kept groups.new.items ≡ map kept groups.old.items ++ nobody ∷ []) }
+    ensures groups { OnOk result
+        (map kept groups.new.items ≡ map kept groups.old.items ++ nobody ∷ []) }
     ensures same_names { OnErr result (names.new.keys ≡ names.old.keys) }
     ensures same_groups { OnErr result (map kept groups.new.items ≡ map kept groups.old.items) }
 {
@@ -35,7 +35,7 @@ fn enter(
     Ok(())
 }
 
-// The place of a group, which is entered where it is new. No group's messages change.
+// The index of a group, which is added if it is new. No group's messages change.
 fn place_for(
     alloc: Global,
     names: &mut IndexSet<Option<Text>>,
@@ -44,8 +44,10 @@ fn place_for(
 ) -> Result<usize, AllocError>
     requires { length names.old.keys ≡ length groups.old.items }
     ensures same { length names.new.keys ≡ length groups.new.items }
-    ensures groups { (g : Option (List ℕ)) → group_by names.new.keys groups.new.items g ≡ group_by names.old.keys groups.old.items g }
-    ensures places { (g : Option (List ℕ)) (i : ℕ) → IsPlaceOf names.old.keys g i → IsPlaceOf names.new.keys g i }
+    ensures groups { (g : Option (List ℕ))
+        → group_by names.new.keys groups.new.items g ≡ group_by names.old.keys groups.old.items g }
+    ensures places { (g : Option (List ℕ)) (i : ℕ) → IsPlaceOf names.old.keys g i
+        → IsPlaceOf names.new.keys g i }
     ensures place { IfOk result (IsPlaceOf names.new.keys group.now) }
 {
     let place = place_of(names, group);
@@ -62,12 +64,13 @@ fn is_there(shelf: &Shelf, number: u64) -> bool
     shelf.get(number).is_some()
 }
 
-// Makes room for one more number in a list. Where it is full, the numbers of messages that have left
-// go first, and then there is to be room for as many more as stay: so a list is no longer than some
-// four times as many messages as there once were, and numbers go only now and then.
+// Makes room for one more number in a list. If the list is full, the numbers of messages that have
+// left go first; then it asks for room for as many more as stay. So a list has room for at most
+// about four times as many messages as there once were, and numbers are dropped only now and then.
 fn room_in(shelf: &Shelf, numbers: &mut VecDeque<u64>) -> Result<(), AllocError>
     ensures held { held shelf.now.items numbers.new.items ≡ held shelf.now.items numbers.old.items }
-    ensures below { (n : ℕ) → All (λ k. k < n) numbers.old.items → All (λ k. k < n) numbers.new.items }
+    ensures below { (n : ℕ) → All (λ k. k < n) numbers.old.items
+        → All (λ k. k < n) numbers.new.items }
     ensures room { OnOk result (deque_len numbers.new < deque_capacity numbers.new) }
 {
     if numbers.len() < numbers.capacity() {
@@ -78,21 +81,23 @@ fn room_in(shelf: &Shelf, numbers: &mut VecDeque<u64>) -> Result<(), AllocError>
     numbers.reserve(more)
 }
 
-// Makes room for one more number in the list of the group at a place.
+// Makes room for one more number in the list of the group with an index.
 fn room_at(shelf: &Shelf, groups: &mut [Members], place: usize) -> Result<(), AllocError>
     requires { place < length groups.old }
     ensures len { length groups.new ≡ length groups.old }
     ensures others { (j : ℕ) → j ≢ place → group_at groups.new j ≡ group_at groups.old j }
     ensures out { (group_at groups.new place).out ≡ (group_at groups.old place).out }
-    ensures held { held shelf.now.items (group_at groups.new place).numbers ≡ held shelf.now.items (group_at groups.old place).numbers }
-    ensures below { (n : ℕ) → All (λ k. k < n) (group_at groups.old place).numbers → All (λ k. k < n) (group_at groups.new place).numbers }
+    ensures held { held shelf.now.items (group_at groups.new place).numbers
+        ≡ held shelf.now.items (group_at groups.old place).numbers }
+    ensures below { (n : ℕ) → All (λ k. k < n) (group_at groups.old place).numbers
+        → All (λ k. k < n) (group_at groups.new place).numbers }
     ensures room { OnOk result (HasRoomAt groups.new place) }
 {
     let members = &mut groups[place];
     room_in(shelf, &mut members.numbers)
 }
 
-/// Makes room for one more message of a group, which may be new, and tells the group's place. No
+/// Makes room for one more message of a group, which may be new. Returns the group's index. No
 /// group's messages change.
 pub fn room_for(
     alloc: Global,

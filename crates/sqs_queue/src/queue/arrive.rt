@@ -17,20 +17,25 @@ use sqs_redrive::{Kind, Load, Sent};
 use std::alloc::AllocError;
 
 impl Queue {
-    /// A transfer arrives: a message of a move task or of another queue's redrive is visible at
-    /// once, the latter at a standard queue with the enqueue time that it had, which is no later
-    /// than now, and at a FIFO queue with a new one; one older than the retention period expires
-    /// within its arrival, which the second part of the answer tells. A forward is a `SendMessage`
-    /// with the queue's delay, at a FIFO queue in the group of the message that was served and with
-    /// its id text as deduplication id, so that it may be a repeat. `CountLimit` where a new
-    /// message is to come and the queue's numbers are used up; `Memory`.
+    /// A transfer arrives. A message of a move task or of another queue's redrive is visible at
+    /// once. The latter keeps its enqueue time, which is no later than now, at a standard queue,
+    /// and gets a new one at a FIFO queue. A message older than the retention period expires on
+    /// arrival; then the second part of the result is true. A forward is a `SendMessage` with the
+    /// queue's delay. At a FIFO queue it is in the group of the message that was served, with that
+    /// message's id text as deduplication id, and so may be a repeat.
+    ///
+    /// # Errors
+    ///
+    /// `CountLimit` if a new message is to come and the queue's numbers are used up; `Memory`.
     pub fn arrive(&mut self, now: u64, load: Load) -> Result<(Sent, bool), Refusal>
         requires moment { now ≤ most_count }
         requires enqueued { IsStandard self.old.settings.kind → WasEnqueuedBy now load }
         requires recent { IsRecent now self.old }
-        ensures answer { Meets (self.old.arrivals ≡ most_count) result self.new (never_refused (arrived self.old now load)) }
+        ensures answer { Meets (self.old.arrivals ≡ most_count) result self.new
+            (never_refused (arrived self.old now load)) }
         ensures counted { OnOk result ((self.old.arrivals < most_count) ⊎ (self.new ≡ self.old)) }
-        ensures at_limit { result ≡ Err Refusal.CountLimit → most_count < (arrived self.old now load).1.arrivals }
+        ensures at_limit { result ≡ Err Refusal.CountLimit
+            → most_count < (arrived self.old now load).1.arrivals }
         ensures unchanged { OnErr result (self.new ≡ self.old) }
         ensures framed { IsFramed self.old self.new }
         ensures recent { IsRecent now self.new }
@@ -42,8 +47,8 @@ impl Queue {
     }
 
     // A message comes in with the origin that it had and is visible at once, enqueued at a moment
-    // that is no later than now; or it expires at once where it is older than the retention period,
-    // which the second part of the answer tells.
+    // that is no later than now. If it is older than the retention period, it expires at once; then
+    // the second part of the result is true.
     pub(super) fn bring(
         &mut self,
         now: u64,
@@ -55,7 +60,8 @@ impl Queue {
     ) -> Result<(Sent, bool), Refusal>
         requires moment { now ≤ most_count }
         requires enqueued { enqueued ≤ now }
-        ensures answer { Meets (self.old.arrivals ≡ most_count) result self.new (never_refused (settle self.old now (brought self.old now origin body group enqueued source))) }
+        ensures answer { Meets (self.old.arrivals ≡ most_count) result self.new (never_refused
+            (settle self.old now (brought self.old now origin body group enqueued source))) }
         ensures counted { OnOk result (self.old.arrivals < most_count) }
         ensures unchanged { OnErr result (self.new ≡ self.old) }
         ensures kept { self.new.entries ≡ self.old.entries }

@@ -1,5 +1,5 @@
-//! The calls of callers by the kind of the queue, and the change of visibility, which is the same
-//! at both.
+//! The calls that depend on the kind of the queue, and the change of visibility, which is the same
+//! for both kinds.
 ghost use Rattle.std.specs.Prelude.{◌≡◌, ◌⊎◌, ◌<◌, ◌≤◌, Err, OnErr, OnOk};
 ghost use Rattle.sqs_model.specs.Acts.{sends};
 ghost use Rattle.sqs_model.specs.Answers.{Meets, most_count};
@@ -15,11 +15,15 @@ use sqs_model::{LONGEST_FLIGHT, LONGEST_TIMEOUT};
 use sqs_redrive::{Deleted, Kind, Load, Sent};
 
 impl Queue {
-    /// `SendMessage`: a message of this body, delayed by so many seconds or else as the queue says;
-    /// at a FIFO queue in this message group, with this deduplication id or else by its body. A
-    /// standard queue has no use for group and id. `BadDelay` over 900 seconds, and at a FIFO queue
-    /// over 0; `MissingGroup` and `MissingDeduplication` at a FIFO queue; `CountLimit` where a new
-    /// message is to come and the queue's numbers are used up; `Memory`.
+    /// `SendMessage`: sends a message with this body, delayed by `delay` seconds or else by the
+    /// queue's delay. At a FIFO queue it is in this message group, with this deduplication id or
+    /// else one made of its body. A standard queue ignores group and id.
+    ///
+    /// # Errors
+    ///
+    /// `BadDelay` over 900 seconds, and at a FIFO queue over 0. `MissingGroup` and
+    /// `MissingDeduplication` at a FIFO queue. `CountLimit` if a new message is to come and the
+    /// queue's numbers are used up. `Memory`.
     pub fn send(
         &mut self,
         now: u64,
@@ -30,9 +34,12 @@ impl Queue {
     ) -> Result<Sent, Refusal>
         requires moment { now ≤ most_count }
         requires recent { IsRecent now self.old }
-        ensures answer { Meets (self.old.arrivals ≡ most_count) result self.new (sends self.old.settings.kind self.old now body delay group id) }
+        ensures answer { Meets (self.old.arrivals ≡ most_count) result self.new
+            (sends self.old.settings.kind self.old now body delay group id) }
         ensures counted { OnOk result ((self.old.arrivals < most_count) ⊎ (self.new ≡ self.old)) }
-        ensures at_limit { result ≡ Err Refusal.CountLimit → most_count < (sends self.old.settings.kind self.old now body delay group id).1.arrivals }
+        ensures at_limit { result ≡ Err Refusal.CountLimit
+            → most_count
+            < (sends self.old.settings.kind self.old now body delay group id).1.arrivals }
         ensures unchanged { OnErr result (self.new ≡ self.old) }
         ensures framed { IsFramed self.old self.new }
         ensures recent { IsRecent now self.new }
@@ -46,10 +53,13 @@ impl Queue {
         }
     }
 
-    /// `DeleteMessage`: a message leaves by its newest receipt, at its age. By an older one a
-    /// standard queue keeps it; a FIFO queue refuses that one, and any receipt of a message that is
-    /// not in flight. `ReceiptHandleIsInvalid` there, and where the receipt is none of this
-    /// queue's.
+    /// `DeleteMessage`: a message leaves by its newest receipt; returns its age in milliseconds.
+    /// With an older receipt a standard queue keeps it.
+    ///
+    /// # Errors
+    ///
+    /// `ReceiptHandleIsInvalid` if the receipt is not this queue's. A FIFO queue also returns it
+    /// for an older receipt, and for any receipt of a message that is not in flight.
     pub fn delete(&mut self, now: u64, receipt: &Receipt) -> Result<Deleted, Refusal>
         ensures answer { delete self.old now receipt.now ≡ (result, self.new) }
         ensures kept { self.new.entries ≡ self.old.entries }
@@ -61,7 +71,7 @@ impl Queue {
         }
     }
 
-    // The answer of a delete of a message that is not there: it is gone, or was never there.
+    // The result of deleting a message that is not there: it has left, or was never there.
     pub(super) fn delete_gone(&self, receipt: &Receipt) -> Result<Deleted, Refusal>
         ensures { delete_gone self.now receipt.now ≡ (result, self.now) }
     {
@@ -72,11 +82,15 @@ impl Queue {
         }
     }
 
-    /// `ChangeMessageVisibility`: a message in flight is so until `now` and so many seconds; by 0
-    /// seconds it is visible again, or leaves for the dead-letter queue, which gives its load.
-    /// `BadTimeout` over 43,200 seconds, or past 12 hours from the receive;
-    /// `ReceiptHandleIsInvalid` where the receipt is none of this queue's; `MessageNotInflight`
-    /// where the message is not in flight by this receipt.
+    /// `ChangeMessageVisibility`: a message in flight stays so until `timeout` seconds after `now`.
+    /// With 0 seconds it is visible again, or leaves for the dead-letter queue; then its load is
+    /// returned.
+    ///
+    /// # Errors
+    ///
+    /// `BadTimeout` over 43,200 seconds, or past 12 hours from the receive.
+    /// `ReceiptHandleIsInvalid` if the receipt is not this queue's. `MessageNotInflight` if the
+    /// message is not in flight by this receipt.
     pub fn change(
         &mut self,
         now: u64,
@@ -112,7 +126,7 @@ impl Queue {
             return Err(Refusal::BadTimeout);
         }
         if timeout == 0 {
-            return self.release(receipt.number);
+            return Ok(self.release(receipt.number));
         }
         let state = out_until(message, until);
         self.messages.put(receipt.number, state);

@@ -1,5 +1,5 @@
-//! What a FIFO queue does by its kind: its sends, with their groups and deduplication, its deletes,
-//! and the transfers that it gets.
+//! The calls of a FIFO queue that depend on its kind: its sends, with their groups and
+//! deduplication, its deletes, and the arrival of transfers.
 ghost use Rattle.std.specs.Prelude.{◌≡◌, ◌⊎◌, ◌<◌, ◌≤◌, Err, IfErr, IfOk, OnErr, OnOk};
 ghost use Rattle.sqs_model.specs.Acts.{sends};
 ghost use Rattle.sqs_model.specs.Answers.{Meets, most_count};
@@ -20,7 +20,7 @@ use sqs_model::MOST_COUNT;
 use sqs_redrive::{Deleted, Kind, Load, Scope, Sent};
 use std::alloc::{AllocError, Global};
 
-// The deduplication id that stands for a body: its SHA-256 in hex.
+// The deduplication id of a body: its SHA-256 in hexadecimal.
 fn digest_of(alloc: Global, body: &Text) -> Result<Text, AllocError>
     ensures { IfOk result (λ digest. digest ≡ body_digest body.now) }
 {
@@ -28,7 +28,7 @@ fn digest_of(alloc: Global, body: &Text) -> Result<Text, AllocError>
     Ok(Text::new(digest.into_bytes()))
 }
 
-// The deduplication id of a send: the sender's, or else where bodies are compared the body's.
+// The deduplication id of a send: the sender's, or else, if bodies are compared, that of the body.
 fn deduplication_id(
     alloc: Global,
     content: bool,
@@ -50,7 +50,7 @@ fn deduplication_id(
 }
 
 impl Queue {
-    // Whether bodies stand for ids that are absent.
+    // Whether the body replaces an absent deduplication id.
     fn compares_bodies(&self) -> bool
         ensures { result ≡ compares_bodies self.now.settings.kind }
     {
@@ -60,7 +60,7 @@ impl Queue {
         }
     }
 
-    // Where the deduplication ids of a group count.
+    // The scope of the deduplication ids of a group.
     fn scope_of(&self, group: &Text) -> Result<Option<Text>, AllocError>
         ensures { IfOk result (λ scope. scope ≡ scope_in self.now.settings.kind group.now) }
     {
@@ -73,8 +73,9 @@ impl Queue {
         }
     }
 
-    /// A send to a FIFO queue: a message of this body in a message group, delayed as the queue says, and
-    /// its deduplication entry; or a repeat, which makes nothing. The errors are those of `send`.
+    /// A send to a FIFO queue. It adds a message with this body in a message group, with the
+    /// queue's delay, and its deduplication entry; or it is a repeat, which adds nothing. The
+    /// errors are those of `send`.
     pub fn send_fifo(
         &mut self,
         now: u64,
@@ -86,8 +87,11 @@ impl Queue {
         requires kind { IsFifo self.old.settings.kind }
         requires moment { now ≤ most_count }
         requires recent { IsRecent now self.old }
-        ensures answer { Meets (self.old.arrivals ≡ most_count) result self.new (sends self.old.settings.kind self.old now body delay group id) }
-        ensures at_limit { result ≡ Err Refusal.CountLimit → most_count < (sends self.old.settings.kind self.old now body delay group id).1.arrivals }
+        ensures answer { Meets (self.old.arrivals ≡ most_count) result self.new
+            (sends self.old.settings.kind self.old now body delay group id) }
+        ensures at_limit { result ≡ Err Refusal.CountLimit
+            → most_count
+            < (sends self.old.settings.kind self.old now body delay group id).1.arrivals }
         ensures counted { OnOk result ((self.old.arrivals < most_count) ⊎ (self.new ≡ self.old)) }
         ensures unchanged { OnErr result (self.new ≡ self.old) }
         ensures recent { IsRecent now self.new }
@@ -109,11 +113,15 @@ impl Queue {
     fn send_in(&mut self, now: u64, body: Text, group: Text, id: Text) -> Result<Sent, Refusal>
         requires moment { now ≤ most_count }
         requires recent { IsRecent now self.old }
-        ensures answer { Meets (self.old.arrivals ≡ most_count) result self.new (send_in self.old now body group (scope_in self.old.settings.kind group) id) }
+        ensures answer { Meets (self.old.arrivals ≡ most_count) result self.new
+            (send_in self.old now body group (scope_in self.old.settings.kind group) id) }
         ensures counted { OnOk result ((self.old.arrivals < most_count) ⊎ (self.new ≡ self.old)) }
         ensures unchanged { OnErr result (self.new ≡ self.old) }
-        ensures at_limit { result ≡ Err Refusal.CountLimit → most_count < (send_in self.old now body group (scope_in self.old.settings.kind group) id).1.arrivals }
-        ensures refused { IfErr result (λ refusal. (refusal ≡ Refusal.CountLimit) ⊎ (refusal ≡ Refusal.Memory)) }
+        ensures at_limit { result ≡ Err Refusal.CountLimit
+            → most_count
+            < (send_in self.old now body group (scope_in self.old.settings.kind group) id).1.arrivals }
+        ensures refused { IfErr result
+            (λ refusal. (refusal ≡ Refusal.CountLimit) ⊎ (refusal ≡ Refusal.Memory)) }
         ensures recent { IsRecent now self.new }
         ensures framed { IsFramed self.old self.new }
     {
@@ -141,8 +149,8 @@ impl Queue {
         }))
     }
 
-    /// A delete at a FIFO queue: a message in flight leaves by its newest receipt, and by no other. The
-    /// errors are those of `delete`.
+    /// A delete at a FIFO queue: a message in flight leaves by its newest receipt, and by no other.
+    /// The errors are those of `delete`.
     pub fn delete_fifo(&mut self, now: u64, receipt: &Receipt) -> Result<Deleted, Refusal>
         ensures answer { delete_fifo self.old now receipt.now ≡ (result, self.new) }
         ensures kept { self.new.entries ≡ self.old.entries }
@@ -160,15 +168,17 @@ impl Queue {
         Ok(Deleted::Removed(self.expire(now, receipt.number)))
     }
 
-    /// A transfer arrives at a FIFO queue: a dead letter or what a move task brings as of now, a forward as
-    /// a send in the served message's group, with its id text as deduplication id. The errors are those of
-    /// `arrive`.
+    /// A transfer arrives at a FIFO queue. A dead letter and a message of a move task are enqueued
+    /// now. A forward is a send in the served message's group, with its id text as deduplication
+    /// id. The errors are those of `arrive`.
     pub fn arrive_fifo(&mut self, now: u64, load: Load) -> Result<(Sent, bool), Refusal>
         requires kind { IsFifo self.old.settings.kind }
         requires moment { now ≤ most_count }
         requires recent { IsRecent now self.old }
-        ensures answer { Meets (self.old.arrivals ≡ most_count) result self.new (never_refused (arrived self.old now load)) }
-        ensures at_limit { result ≡ Err Refusal.CountLimit → most_count < (arrived self.old now load).1.arrivals }
+        ensures answer { Meets (self.old.arrivals ≡ most_count) result self.new
+            (never_refused (arrived self.old now load)) }
+        ensures at_limit { result ≡ Err Refusal.CountLimit
+            → most_count < (arrived self.old now load).1.arrivals }
         ensures counted { OnOk result ((self.old.arrivals < most_count) ⊎ (self.new ≡ self.old)) }
         ensures unchanged { OnErr result (self.new ≡ self.old) }
         ensures recent { IsRecent now self.new }

@@ -16,13 +16,18 @@ use sqs_model::LONGEST_TIMEOUT;
 use sqs_redrive::{Got, Load};
 
 impl Queue {
-    /// `ReceiveMessage`: at most so many messages of those that the queue may give, and no more
+    /// `ReceiveMessage`: gives at most `max` of the messages that the queue may give, and no more
     /// than the in-flight limit leaves room for. A standard queue gives those visible on the hosts
-    /// seen, which are given by their bits; a FIFO queue gives group by group, whatever the hosts.
-    /// Each is in flight for so many seconds or else as the queue says; with 0 seconds it comes
-    /// back at once. `BadTimeout` over 43,200 seconds; `OverLimit` where a short poll, which is of
-    /// standard queues, finds the limit reached; `CountLimit` where one of them can be received no
-    /// more; `Memory`. Tells also how many messages it read in order to choose those that it gives.
+    /// seen, which `hosts` has as bits. A FIFO queue gives group by group, whatever the hosts. Each
+    /// message is in flight for `timeout` seconds or else for the queue's visibility timeout; with
+    /// 0 seconds it comes back at once. Also returns how many messages it read to choose those that
+    /// it gives.
+    ///
+    /// # Errors
+    ///
+    /// `BadTimeout` over 43,200 seconds. `OverLimit` if a short poll, which only standard queues
+    /// have, finds the in-flight limit reached. `CountLimit` if the receive count of one of them is
+    /// at its limit. `Memory`.
     pub fn receive(
         &mut self,
         now: u64,
@@ -32,10 +37,13 @@ impl Queue {
         short: bool,
     ) -> Result<Received, Refusal>
         requires { now ≤ most_count }
-        ensures answer { Meets (Any (λ m. m.receives ≡ most_count) (to_give self.old max hosts)) (result_map_both (λ received. received.messages.items) (λ refusal. refusal) result) self.new (receive self.old now max timeout hosts short) }
+        ensures answer { Meets (Any (λ m. m.receives ≡ most_count) (to_give self.old max hosts))
+            (result_map_both (λ received. received.messages.items) (λ refusal. refusal) result)
+            self.new (receive self.old now max timeout hosts short) }
         ensures looked { IfOk result (λ received. received.looked ≤ 2 * max) }
         ensures read { IfOk result (λ received. length received.messages.items ≤ received.looked) }
-        ensures counted { OnOk result (All (λ m. m.receives < most_count) (to_give self.old max hosts)) }
+        ensures counted { OnOk result
+            (All (λ m. m.receives < most_count) (to_give self.old max hosts)) }
         ensures unchanged { OnErr result (self.new ≡ self.old) }
         ensures kept { self.new.entries ≡ self.old.entries }
         ensures framed { IsFramed self.old self.new }
@@ -54,8 +62,11 @@ impl Queue {
     // A receive's visibility timeout in milliseconds: its own, given in seconds, or else the
     // queue's. `BadTimeout` over 43,200 seconds.
     fn wait_of(&self, timeout: Option<u64>) -> Result<u64, Refusal>
-        ensures wait { IfOk result (λ wait. (is_bad_timeout timeout ≡ false) × (timeout_of self.now timeout ≡ wait) × (wait ≤ longest_flight)) }
-        ensures bad { IfErr result (λ refusal. (is_bad_timeout timeout ≡ true) × (refusal ≡ Refusal.BadTimeout)) }
+        ensures wait { IfOk result (λ wait.
+            (is_bad_timeout timeout ≡ false) × (timeout_of self.now timeout ≡ wait)
+            × (wait ≤ longest_flight)) }
+        ensures bad { IfErr result
+            (λ refusal. (is_bad_timeout timeout ≡ true) × (refusal ≡ Refusal.BadTimeout)) }
     {
         match timeout {
             None => Ok(self.messages.settings().visibility),
@@ -69,15 +80,20 @@ impl Queue {
         }
     }
 
-    // What a receive tells of the first messages, before it gives them.
+    // What a receive returns for the first messages, before it gives them.
     fn batch(&self, hosts: u32, most: u64) -> Result<Received, Refusal>
-        ensures told { IfOk result (λ batch. batch.messages.items ≡ map (told_of self.now.site) (take most (available self.now hosts))) }
+        ensures told { IfOk result (λ batch.
+            batch.messages.items
+            ≡ map (told_of self.now.site) (take most (available self.now hosts))) }
         ensures given { IfOk result (λ batch. CanBeGiven self.now batch.messages.items) }
         ensures looked { IfOk result (λ batch. batch.looked ≤ 2 * most) }
         ensures read { IfOk result (λ batch. length batch.messages.items ≤ batch.looked) }
-        ensures below { OnOk result (All (λ m. m.receives < most_count) (take most (available self.now hosts))) }
-        ensures at_limit { result ≡ Err Refusal.CountLimit → Any (λ m. m.receives ≡ most_count) (take most (available self.now hosts)) }
-        ensures refused { IfErr result (λ refusal. (refusal ≡ Refusal.CountLimit) ⊎ (refusal ≡ Refusal.Memory)) }
+        ensures below { OnOk result
+            (All (λ m. m.receives < most_count) (take most (available self.now hosts))) }
+        ensures at_limit { result ≡ Err Refusal.CountLimit
+            → Any (λ m. m.receives ≡ most_count) (take most (available self.now hosts)) }
+        ensures refused { IfErr result
+            (λ refusal. (refusal ≡ Refusal.CountLimit) ⊎ (refusal ≡ Refusal.Memory)) }
     {
         let choice = self.messages.first_numbers(hosts, most)?;
         let messages = batch_of(self.alloc, &self.messages, &choice.numbers)?;
@@ -92,7 +108,8 @@ impl Queue {
         requires moment { now ≤ most_count }
         requires timeout { timeout ≤ longest_flight }
         requires given { CanBeGiven self.old batch.old.items }
-        ensures given { gives_all now timeout batch.old.items self.old ≡ (self.new, batch.new.items) }
+        ensures given { gives_all now timeout batch.old.items self.old
+            ≡ (self.new, batch.new.items) }
         ensures same_length { length batch.new.items ≡ length batch.old.items }
         ensures kept { self.new.entries ≡ self.old.entries }
         ensures framed { IsFramed self.old self.new }
@@ -107,7 +124,8 @@ impl Queue {
     fn give(&mut self, now: u64, timeout: u64, number: u64) -> Option<Load>
         requires moment { now ≤ most_count }
         requires timeout { timeout ≤ longest_flight }
-        requires counted { IfSome (numbered number self.old.records) (λ m. m.receives < most_count) }
+        requires counted { IfSome (numbered number self.old.records)
+            (λ m. m.receives < most_count) }
         ensures given { gives self.old now timeout number ≡ (self.new, result) }
         ensures kept { self.new.entries ≡ self.old.entries }
         ensures framed { IsFramed self.old self.new }
@@ -116,7 +134,7 @@ impl Queue {
         let state = received(message, now, timeout);
         self.messages.put(number, state);
         if timeout == 0 {
-            self.come_back(number)
+            self.release(number)
         } else {
             None
         }

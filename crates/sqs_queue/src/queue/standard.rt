@@ -1,4 +1,5 @@
-//! What a standard queue does by its kind: its sends and deletes, and the transfers that it gets.
+//! The calls of a standard queue that depend on its kind: its sends and deletes, and the arrival of
+//! transfers.
 ghost use Rattle.std.specs.Prelude.{◌≡◌, ◌<◌, ◌≤◌, OnErr, OnOk};
 ghost use Rattle.sqs_model.specs.Answers.{Meets, most_count};
 ghost use Rattle.sqs_model.specs.Arrive.{arrived};
@@ -15,8 +16,8 @@ use sqs_model::{LONGEST_DELAY, MOST_COUNT};
 use sqs_redrive::{Deleted, Load, Sent};
 
 impl Queue {
-    /// A send to a standard queue: a message of this body, delayed by so many seconds or else as the queue
-    /// says. The errors are those of `send`.
+    /// A send to a standard queue: adds a message with this body, delayed by `delay` seconds or
+    /// else by the queue's delay. The errors are those of `send`.
     pub fn send_standard(
         &mut self,
         now: u64,
@@ -24,7 +25,8 @@ impl Queue {
         delay: Option<u64>,
     ) -> Result<Sent, Refusal>
         requires { now ≤ most_count }
-        ensures answer { Meets (self.old.arrivals ≡ most_count) result self.new (send_standard self.old now body delay) }
+        ensures answer { Meets (self.old.arrivals ≡ most_count) result self.new
+            (send_standard self.old now body delay) }
         ensures counted { OnOk result (self.old.arrivals < most_count) }
         ensures unchanged { OnErr result (self.new ≡ self.old) }
         ensures kept { self.new.entries ≡ self.old.entries }
@@ -51,8 +53,8 @@ impl Queue {
         }))
     }
 
-    /// A delete at a standard queue: the message leaves by its newest receipt; by an older one it is kept.
-    /// The errors are those of `delete`.
+    /// A delete at a standard queue: the message leaves by its newest receipt; with an older one it
+    /// is kept. The errors are those of `delete`.
     pub fn delete_standard(&mut self, now: u64, receipt: &Receipt) -> Result<Deleted, Refusal>
         ensures answer { delete_standard self.old now receipt.now ≡ (result, self.new) }
         ensures kept { self.new.entries ≡ self.old.entries }
@@ -73,13 +75,15 @@ impl Queue {
         Ok(Deleted::Removed(self.expire(now, receipt.number)))
     }
 
-    /// A transfer arrives at a standard queue: a dead letter with the enqueue time that it had, what a move
-    /// task brings as of now, a forward as a send with the queue's delay. The errors are those of `arrive`.
+    /// A transfer arrives at a standard queue. A dead letter keeps its enqueue time; a message of a
+    /// move task is enqueued now; a forward is a send with the queue's delay. The errors are those
+    /// of `arrive`.
     pub fn arrive_standard(&mut self, now: u64, load: Load) -> Result<(Sent, bool), Refusal>
         requires kind { IsStandard self.old.settings.kind }
         requires moment { now ≤ most_count }
         requires enqueued { WasEnqueuedBy now load }
-        ensures answer { Meets (self.old.arrivals ≡ most_count) result self.new (never_refused (arrived self.old now load)) }
+        ensures answer { Meets (self.old.arrivals ≡ most_count) result self.new
+            (never_refused (arrived self.old now load)) }
         ensures counted { OnOk result (self.old.arrivals < most_count) }
         ensures unchanged { OnErr result (self.new ≡ self.old) }
         ensures kept { self.new.entries ≡ self.old.entries }

@@ -1,4 +1,4 @@
-//! What a move task takes out.
+//! The messages that a step of a move task takes out.
 ghost use Rattle.std.specs.Prelude.{◌≡◌, IfOk, IsOkUnless, OnErr, take};
 ghost use Rattle.sqs_model.specs.Available.{all_available};
 ghost use Rattle.sqs_model.specs.Queue.{IsFramed};
@@ -11,14 +11,17 @@ use sqs_redrive::{Load, Rest};
 use std::alloc::AllocError;
 
 impl Queue {
-    // Takes out the first messages of those that a receive may give, at most so many, up to the first
-    // that has nowhere to go. Answers where each goes and its load, and whether it met that one.
+    // Takes out the first messages that a receive may give, at most `most`, up to the first without
+    // a destination. Returns each destination and load, and whether there was a message without
+    // one.
     fn take_first(
         &mut self,
         most: u64,
         to: Option<u32>,
     ) -> Result<(Vec<(u32, Load)>, bool), AllocError>
-        ensures taken { IfOk result (λ answer. take_each self.old to (take most (all_available self.old)) ≡ record { queue = self.new; loads = answer.0.items; stuck = answer.1 }) }
+        ensures taken { IfOk result (λ answer.
+            take_each self.old to (take most (all_available self.old))
+            ≡ record { queue = self.new; loads = answer.0.items; stuck = answer.1 }) }
         ensures unchanged { OnErr result (self.new ≡ self.old) }
         ensures kept { self.new.entries ≡ self.old.entries }
         ensures framed { IsFramed self.old self.new }
@@ -29,17 +32,21 @@ impl Queue {
         Ok((loads, stuck))
     }
 
-    /// A step of a move task (`StartMessageMoveTask`) takes at most so many of the messages that the
-    /// queue may give, in the order in which it gives them, each for the task's queue or else for
-    /// the one that it came from as a dead letter, up to the first that has nowhere to go. Answers
-    /// where each goes and its load, and what is left. The one error is `Memory`, which leaves the
-    /// queue as it was.
+    /// A step of a move task (`StartMessageMoveTask`). It takes at most `max` of the messages that
+    /// the queue may give, in the order in which it gives them, up to the first without a
+    /// destination. Each goes to the task's queue, or else to the queue from which it came as a
+    /// dead letter. Returns each destination and load, and what is left.
+    ///
+    /// # Errors
+    ///
+    /// Only `Memory`, if memory runs out; the queue is then as it was.
     pub fn take_movable(
         &mut self,
         max: u64,
         to: Option<u32>,
     ) -> Result<(Vec<(u32, Load)>, Rest), Refusal>
-        ensures taken { IfOk result (λ answer. take_movable self.old max to ≡ ((answer.0.items, answer.1), self.new)) }
+        ensures taken { IfOk result
+            (λ answer. take_movable self.old max to ≡ ((answer.0.items, answer.1), self.new)) }
         ensures unchanged { OnErr result (self.new ≡ self.old) }
         ensures memory_only { IsOkUnless result Refusal.Memory }
         ensures kept { self.new.entries ≡ self.old.entries }

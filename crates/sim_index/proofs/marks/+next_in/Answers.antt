@@ -13,11 +13,11 @@ next_in-requires t c =
 pub returns-in-None : goal.returns-in-None
 returns-in-None t c =
     let below : IsBelow (bare c.args.nodes.now) c.args.row = is_below (bare c.args.nodes.now) c.args.row c.requires.power c.if-row-eq1.false in
-    none_below (bare c.args.nodes.now) c.args.hosts c.args.row c.args.from c.args.row c.requires.pairs (omega (arith, c.requires.within, long_bare c.args.nodes.now)) below c.requires.from (omega arith) c.in_default.ensures
-    (subst (λ (end : ℕ). NoneIn (bare c.args.nodes.now) c.args.hosts (c.args.from / 2 + 1) end) below.twice c.in-None.ensures)
+    none_below (bare c.args.nodes.now) c.args.flags c.args.row c.args.from c.args.row c.requires.pairs (omega (arith, c.requires.within, long_bare c.args.nodes.now)) below c.requires.from (omega arith) c.in_default.ensures
+    (subst (λ (end : ℕ). NoneIn (bare c.args.nodes.now) c.args.flags (c.args.from / 2 + 1) end) below.twice c.in-None.ensures)
 
 pub returns-in-Some-next_in : goal.returns-in-Some-next_in
 returns-in-Some-next_in t c =
     let below : IsBelow (bare c.args.nodes.now) c.args.row = is_below (bare c.args.nodes.now) c.args.row c.requires.power c.if-row-eq1.false in
-    next_below (bare c.args.nodes.now) c.args.hosts c.args.row c.args.from c.in-Some-next_in.node c.first_below.result c.requires.pairs (omega (arith, c.requires.within, long_bare c.args.nodes.now)) below c.requires.from
+    next_below (bare c.args.nodes.now) c.args.flags c.args.row c.args.from c.in-Some-next_in.node c.first_below.result c.requires.pairs (omega (arith, c.requires.within, long_bare c.args.nodes.now)) below c.requires.from
     c.in_default.ensures c.in-Some-next_in.ensures c.first_below.ensures

@@ -8,5 +8,5 @@ invariant-loop-place l =
       long : vec_len l.nodes ≡ 2 * length l.marks;
       same : vec_len l.nodes ≡ length l.nodes.items;
       there : (i : ℕ) → i < length l.nodes.items → (node_in l.nodes.items i).place < length l.marks;
-      single : (i : ℕ) → i < l.place → node_in l.nodes.items (length l.marks + i) ≡ record { place = i; hosts = (node l.marks i).hosts };
+      single : (i : ℕ) → i < l.place → node_in l.nodes.items (length l.marks + i) ≡ record { place = i; flags = (node l.marks i).flags };
     }

@@ -33,7 +33,7 @@ returns-in_ok-accept-clause-marked g c =
     c.lesser-due.ensures ∙ ap (λ k. lesser (Some k) c.mark_at.result.due) c.transfer_key-key.ensures
     ∙ ap (λ (m : Mark). lesser (Some (e.transfer_key c.args.transfer)) m.due) (c.mark_at.ensures ∙ kept)
     ∙ sym (g.met.S.Site.laws.due_accepted c.args.transfer site) ∙ sym (ap (least_due e) c.in_ok-accept.ensures.accepted) in
-    marked_with (mark_of e) list c.set_mark.new.self place c.accept.new.self _ c.requires.marked (ap (λ d. let m : Mark = record { due = d; hosts = 0 } in m) due) c.set_mark.ensures
+    marked_with (mark_of e) list c.set_mark.new.self place c.accept.new.self _ c.requires.marked (ap (λ d. let m : Mark = record { due = d; flags = 0 } in m) due) c.set_mark.ensures
 
 pub returns-in_default-clause-delivered : goal.returns-in_default-clause-delivered
 returns-in_default-clause-delivered g c =

@@ -39,17 +39,11 @@ returns-clause-handled g c =
 
 pub returns-clause-kept : goal.returns-clause-kept
 returns-clause-kept g c =
-    let e = g.S.Site.engine in
-    let key = c.args.key in
-    let d = c.value_mut.result.now in
-    let xs = c.args.sites.now.values in
-    let h = handles_at g.met.S.Site.laws key xs c.args.place d c.requires.there c.value_mut.ensures.value in
-    let sites : c.set_mark.new.self.values ≡ (handled_among e key xs).sites =
-    ap (λ (s : Marked _). s.values) c.set_mark.ensures ∙ ap (set xs c.args.place) c.in_ok-handle_into.ensures.site ∙ h.after in
+    let sites : c.set_mark.new.self.values ≡ (handled_among g.S.Site.engine c.args.key c.args.sites.now.values).sites = λ k. (returns-clause-handled g c k).sites in
     record {
-      part = subst (IsPart e g.S.Site.conditions) (sym sites) (part_handled g.met.S.Site.laws key xs c.requires.kept.part c.requires.due);
+      part = subst (IsPart g.S.Site.engine g.S.Site.conditions) (sym sites) (part_handled g.met.S.Site.laws c.args.key c.args.sites.now.values c.requires.kept.part c.requires.due);
       marked =
-          marked_anew (mark_of e) c.args.sites.now c.set_mark.new.self c.args.place c.handle_into.new.self c.index-values-place.result c.mark_of-mark.result c.values.result.now c.requires.kept.marked
+          marked_anew (mark_of g.S.Site.engine) c.args.sites.now c.set_mark.new.self c.args.place c.handle_into.new.self c.index-values-place.result c.mark_of-mark.result c.values.result.now c.requires.kept.marked
           c.requires.there.within c.values.ensures.values c.index-values-place.is c.mark_of-mark.ensures c.set_mark.ensures;
     }
 

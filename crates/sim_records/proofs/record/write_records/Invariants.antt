@@ -6,7 +6,7 @@ use Rattle.sim_records.proofs.record.write_records.Given as goal
 abbrev pub invariant-loop-rest : goal.invariant-loop-rest
 invariant-loop-rest g l = record {
   whole : g.W.Out.failed l.out ≡ false;
-  front : (written : List ℕ) × Appends (g.W.Out.held l.initial.out) (g.W.Out.held l.out) written
+  prefix : (written : List ℕ) × Appends (g.W.Out.held l.initial.out) (g.W.Out.held l.out) written
       × (written ++ lines (map (g.T.Record.columns l.names) l.rest) ≡ lines (map (g.T.Record.columns l.names) l.records));
 }
 

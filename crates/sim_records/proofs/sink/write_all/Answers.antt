@@ -11,9 +11,9 @@ loop-done-preserved g c =
     let n = c.in_ok-done.field-0 in
     let taken = rw c.in_ok-done.was at c.write.ensures.bytes in
     let same : take n (take (length bytes - done) (drop done bytes)) ≡ take n (drop done bytes) = grind (arith, common_steps) in
-    let front = appends-more _ _ _ _ _ c.loop-done.invariant.front taken in
+    let prefix = appends-more _ _ _ _ _ c.loop-done.invariant.prefix taken in
     record {
       within = grind (arith, common_steps);
       whole = search rules;
-      front = rw (take-add done n bytes, ← same) front;
+      prefix = rw (take-add done n bytes, ← same) prefix;
     }

@@ -6,7 +6,7 @@ abbrev pub invariant-loop-done : goal.invariant-loop-done
 invariant-loop-done g l = record {
   within : l.done ≤ length l.bytes;
   whole : g.W.Out.failed l.out ≡ false;
-  front : Appends (g.W.Out.held l.initial.out) (g.W.Out.held l.out) (take l.done l.bytes);
+  prefix : Appends (g.W.Out.held l.initial.out) (g.W.Out.held l.out) (take l.done l.bytes);
 }
 
 abbrev pub decreases-loop-done : goal.decreases-loop-done

@@ -1,6 +1,6 @@
 use Rattle.std.proofs.Common.{◌≡◌, ◌+◌, ◌++◌, drop}
 use Rattle.std.specs.List.{enumerate_from, zip}
-use Rattle.sim_scenario.specs.ActorWalks.{tasks_at}
+use Rattle.sqs_formats.specs.Actors.{tasks_at}
 use Rattle.sim_scenario.proofs.outline.tasks_at.Given as goal
 
 -- those found so far, with those that are left, are all

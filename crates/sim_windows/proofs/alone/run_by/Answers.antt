@@ -2,16 +2,19 @@ use Rattle.std.proofs.Common.{arith}
 use Rattle.std.proofs.lemmas.Result.{err_from_is_err_and}
 use Rattle.sim_clock.specs.declared.refusal.Refusal.{Refusal}
 use Rattle.sim_windows.specs.Worlds.{sites_in}
-use Rattle.sim_windows.proofs.Sinking.{halts_on, runs_on}
+use Rattle.sim_windows.specs.Gathered.{gathered}
+use Rattle.sim_windows.proofs.Gathering.{gathered_on, gathering_halts}
 use Rattle.sim_windows.proofs.alone.run_by.Goals as goal
 
 pub loop-key-preserved : goal.loop-key-preserved
 loop-key-preserved g c =
     record {
       ready = c.in_ok-run_moment.ensures.ready;
+      none = c.in_ok-run_moment.ensures.none;
       lives = c.in_ok-run_moment.ensures.lives;
       ran =
-          runs_on g.met.S.Site.laws g.K.RowSink.took c.args.horizon g.met.K.RowSink.took_both (sites_in c.args.partition.now) (sites_in c.loop-key.partition) (sites_in c.run_moment.new.partition) c.args.sink.now c.loop-key.sink c.run_moment.new.sink
+          gathered_on g.met.S.Site.laws g.K.RowSink.took g.met.K.RowSink.took_both c.args.horizon (sites_in c.args.partition.now) (sites_in c.loop-key.partition) (sites_in c.run_moment.new.partition) (gathered c.args.sink.now c.args.effects.now.rows.items)
+          (gathered c.loop-key.sink c.loop-key.effects.rows.items) (gathered c.run_moment.new.sink c.run_moment.new.effects.rows.items)
           c.loop-key.invariant.ran (c.in_ok-run_moment.ensures.ran c.args.horizon (omega (arith, c.if-key-horizon.false)));
     }
 
@@ -20,5 +23,6 @@ returns-in_err-run_moment-clause-stops g c =
     let e : Refusal = c.in_err-run_moment.field-0.0 in
     let told = err_from_is_err_and c.from_residual.result c.from_residual.ensures.1 in
     rw (told.1, told.2)
-    (halts_on g.met.S.Site.laws g.K.RowSink.took c.args.horizon g.K.RowSink.broke g.met.K.RowSink.took_both g.met.K.RowSink.broke_later (sites_in c.args.partition.now) (sites_in c.loop-key.partition) c.args.sink.now c.loop-key.sink c.run_moment.new.sink e
+    (gathering_halts g.met.S.Site.laws g.K.RowSink.took g.met.K.RowSink.took_both g.K.RowSink.broke g.met.K.RowSink.broke_later c.args.horizon (sites_in c.args.partition.now) (sites_in c.loop-key.partition) (gathered c.args.sink.now c.args.effects.now.rows.items)
+    (gathered c.loop-key.sink c.loop-key.effects.rows.items) c.run_moment.new.sink e
     c.loop-key.invariant.ran (c.in_err-run_moment.ensures.stops c.args.horizon (omega (arith, c.if-key-horizon.false))))

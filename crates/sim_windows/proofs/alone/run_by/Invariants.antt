@@ -1,7 +1,7 @@
-use Rattle.std.proofs.Common.{◌+◌, ◌-◌}
+use Rattle.std.proofs.Common.{[], ◌+◌, ◌-◌, ◌≡◌}
 use Rattle.std.specs.Prelude.{IsOk}
 use Rattle.sim_engine.specs.World.{world_due}
-use Rattle.sim_windows.specs.Sinks.{HasRun}
+use Rattle.sim_windows.specs.Gathered.{HasGathered, gathered}
 use Rattle.sim_windows.specs.Worlds.{due_at, sites_in}
 use Rattle.sim_windows.proofs.alone.run_by.Given as goal
 
@@ -10,7 +10,9 @@ invariant-loop-key g l =
     record {
       ready : g.K.RowSink.ready l.sink;
       lives : IsOk l.partition;
-      ran : HasRun g.S.Site.engine g.K.RowSink.took l.horizon (sites_in l.initial.partition) l.initial.sink (sites_in l.partition) l.sink;
+      none : l.effects.sent.items ≡ [];
+      ran :
+          HasGathered g.S.Site.engine g.K.RowSink.took l.horizon (sites_in l.initial.partition) (gathered l.initial.sink l.initial.effects.rows.items) (sites_in l.partition) (gathered l.sink l.effects.rows.items);
     }
 
 -- the time to the horizon

@@ -6,7 +6,8 @@ use Rattle.sim_partition.specs.Sites.{AreOfPast, IsFrom}
 use Rattle.sim_windows.specs.Worlds.{sites_in}
 use Rattle.sim_windows.proofs.Whole.{due_told, past_told, sound_told}
 use Rattle.sim_windows.proofs.Runs.{from_after, smaller}
-use Rattle.sim_windows.proofs.Sinking.{halts_on, runs_on}
+use Rattle.sim_windows.specs.Gathered.{gathered}
+use Rattle.sim_windows.proofs.Gathering.{gathered_on, gathering_halts}
 use Rattle.sim_windows.proofs.alone.run_moment.Goals as goal
 
 pub handle-requires-clause-past : goal.handle-requires-clause-past
@@ -32,9 +33,11 @@ loop-key-preserved g c =
     let from : c.args.moment ≤ key.at = subst (IsFrom c.args.moment) due c.loop-key.invariant.from in
     record {
       ready = c.in_ok-handle.ensures.ready;
+      none = c.in_ok-handle.ensures.none;
       lives = c.in_ok-handle.ensures.lives;
       ran = λ horizon l.
-          runs_on g.met.S.Site.laws g.K.RowSink.took horizon g.met.K.RowSink.took_both (sites_in c.args.partition.now) w x c.args.sink.now c.loop-key.sink c.handle.new.sink (c.loop-key.invariant.ran horizon l)
+          gathered_on g.met.S.Site.laws g.K.RowSink.took g.met.K.RowSink.took_both horizon (sites_in c.args.partition.now) w x (gathered c.args.sink.now c.args.effects.now.rows.items) (gathered c.loop-key.sink c.loop-key.effects.rows.items) (gathered c.handle.new.sink c.handle.new.effects.rows.items)
+          (c.loop-key.invariant.ran horizon l)
           (c.in_ok-handle.ensures.ran horizon (omega (arith, l, c.if-key-moment.false)));
       from = from_after g.met.S.Site.laws key c.args.moment w x from (sound_told g.met.S.Site.laws c.loop-key.partition c.least_due.ensures.moves_on) due c.loop-key.invariant.from c.in_ok-handle.ensures.done;
     }
@@ -45,5 +48,6 @@ returns-in_err-handle-clause-stops g c =
     let told = err_from_is_err_and c.from_residual.result c.from_residual.ensures.1 in
     rw (told.1, told.2)
     (λ horizon l.
-    halts_on g.met.S.Site.laws g.K.RowSink.took horizon g.K.RowSink.broke g.met.K.RowSink.took_both g.met.K.RowSink.broke_later (sites_in c.args.partition.now) (sites_in c.loop-key.partition) c.args.sink.now c.loop-key.sink c.handle.new.sink e
+    gathering_halts g.met.S.Site.laws g.K.RowSink.took g.met.K.RowSink.took_both g.K.RowSink.broke g.met.K.RowSink.broke_later horizon (sites_in c.args.partition.now) (sites_in c.loop-key.partition) (gathered c.args.sink.now c.args.effects.now.rows.items) (gathered c.loop-key.sink c.loop-key.effects.rows.items)
+    c.handle.new.sink e
     (c.loop-key.invariant.ran horizon l) (c.in_err-handle.ensures.stops horizon (omega (arith, l, c.if-key-moment.false))))

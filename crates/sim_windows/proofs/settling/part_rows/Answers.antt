@@ -1,7 +1,8 @@
-use Rattle.std.proofs.Common.{Bool, List, [], ap, drop, false, filter, not, refl, sym, take, true, ◌&&◌, ◌++◌, ◌∙◌, ◌∷◌, ◌≡◌}
+use Rattle.std.proofs.Common.{Bool, List, [], ℕ, ap, drop, false, filter, not, refl, sym, take, true, ◌&&◌, ◌++◌, ◌∙◌, ◌∷◌, ◌≡◌}
 use Rattle.std.proofs.lemmas.List.{take-append-drop}
 use Rattle.std.specs.List.{list_all}
 use Rattle.sim_engine.specs.Prefixes.{is_before}
+use Rattle.sim_windows.proofs.settling.part_rows.Given.{Over}
 use Rattle.sim_windows.proofs.settling.part_rows.Goals as goal
 
 -- of two lists behind each other a test keeps the one, and its opposite the other
@@ -25,20 +26,25 @@ parts : {X : Type 0} (p : X → Bool) (xs ys : List X) → list_all p xs ≡ tru
 parts p [] ys h k = others_only p ys k
 parts p (x ∷ xs) ys h k = one_before p x xs ys (p x) refl h (λ rest. parts p xs ys rest k)
 
+-- rows that are split at a place, where all in front pass a test and none behind does
+split_at : {X : Type 0} (p : X → Bool) (rows now front back : List X) (place : ℕ) → now ≡ rows → front ≡ take place now → back ≡ drop place now
+    → true ≡ list_all p front → true ≡ list_all (λ x. not (p x)) back → Parts p (take place rows) (drop place rows)
+split_at p rows now front back place read first rest h k =
+    parts p (take place rows) (drop place rows) (ap (list_all p) (ap (take place) (sym read) ∙ sym first) ∙ sym h)
+    (ap (list_all (λ x. not (p x))) (ap (drop place) (sym read) ∙ sym rest) ∙ sym k)
+
+-- the rows at the place that was found
+split : (g : Over) (c : goal.In_ok-others g) → Parts (is_before g.S.Site.engine c.args.moment) (take c.partition_point-place.result c.args.rows.items) (drop c.partition_point-place.result c.args.rows.items)
+split g c =
+    split_at (is_before g.S.Site.engine c.args.moment) c.args.rows.items _ _ _ c.partition_point-place.result c.deref-2.ensures.value c.split_at.ensures.front c.split_at.ensures.back
+    (sym c.if-not-are_before.false ∙ c.are_before.ensures) (sym c.if-not-none_before.false ∙ c.none_before.ensures)
+
 pub returns-clause-before : goal.returns-clause-before
 returns-clause-before g c =
     let p = is_before g.S.Site.engine c.args.moment in
-    let rows = c.args.rows.items in
-    let place = c.partition_point-place.result in
-    let first : list_all p (take place rows) ≡ true = ap (list_all p) (ap (take place) (sym c.deref-2.ensures.value) ∙ sym c.split_at.ensures.front) ∙ sym c.are_before.ensures ∙ c.if-not-are_before.false in
-    let rest : list_all (λ r. not (p r)) (drop place rows) ≡ true = ap (list_all (λ r. not (p r))) (ap (drop place) (sym c.deref-2.ensures.value) ∙ sym c.split_at.ensures.back) ∙ sym c.none_before.ensures ∙ c.if-not-none_before.false in
-    c.in_ok-others.ensures.items ∙ sym (parts p (take place rows) (drop place rows) first rest).kept ∙ ap (filter p) (take-append-drop place rows)
+    c.in_ok-others.ensures.items ∙ sym (split g c).kept ∙ ap (filter p) (take-append-drop c.partition_point-place.result c.args.rows.items)
 
 pub returns-clause-others : goal.returns-clause-others
 returns-clause-others g c =
     let p = is_before g.S.Site.engine c.args.moment in
-    let rows = c.args.rows.items in
-    let place = c.partition_point-place.result in
-    let first : list_all p (take place rows) ≡ true = ap (list_all p) (ap (take place) (sym c.deref-2.ensures.value) ∙ sym c.split_at.ensures.front) ∙ sym c.are_before.ensures ∙ c.if-not-are_before.false in
-    let rest : list_all (λ r. not (p r)) (drop place rows) ≡ true = ap (list_all (λ r. not (p r))) (ap (drop place) (sym c.deref-2.ensures.value) ∙ sym c.split_at.ensures.back) ∙ sym c.none_before.ensures ∙ c.if-not-none_before.false in
-    c.in_ok-others.ensures.tail ∙ sym (parts p (take place rows) (drop place rows) first rest).left ∙ ap (filter (λ r. not (p r))) (take-append-drop place rows)
+    c.in_ok-others.ensures.tail ∙ sym (split g c).left ∙ ap (filter (λ r. not (p r))) (take-append-drop c.partition_point-place.result c.args.rows.items)

@@ -10,9 +10,9 @@ loop-rows-preserved given c =
     let before : Vec _ Global → List _ = λ v. filter (is_before engine c.args.moment) v.items in
     let others : Vec _ Global → List _ = λ v. filter (λ r. not (is_before engine c.args.moment r)) v.items in
     record {
-      fronts =
-          ap (map items) c.in_ok-push.ensures.items ∙ map_push items c.loop-rows.fronts.items c.in_ok-parted.parted.before
-          ∙ ap (λ z. z ++ c.in_ok-parted.parted.before.items ∷ []) c.loop-rows.invariant.fronts
+      prefixes =
+          ap (map items) c.in_ok-push.ensures.items ∙ map_push items c.loop-rows.prefixes.items c.in_ok-parted.parted.before
+          ∙ ap (λ z. z ++ c.in_ok-parted.parted.before.items ∷ []) c.loop-rows.invariant.prefixes
           ∙ ap (λ b. map before c.loop-rows.yielded ++ b ∷ []) c.in_ok-parted.ensures.before
           ∙ sym (map_push before c.loop-rows.yielded c.in-Some.rows);
       kept =

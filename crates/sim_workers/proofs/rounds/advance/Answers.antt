@@ -1,8 +1,8 @@
 use Rattle.std.specs.Prelude.{[], ◌++◌, ◌∷◌}
 use Rattle.sim_engine.specs.declared.picks.Pick.TheVariants.{Barrier}
-use Rattle.std.proofs.Common.{refl}
+use Rattle.std.proofs.Common.{arith, refl, sym, ◌∙◌}
 use Rattle.std.proofs.lemmas.Result.{err_from_is_err_and}
-use Rattle.sim_workers.proofs.Fronts.{memory_stops}
+use Rattle.sim_workers.proofs.Prefixes.{memory_stops}
 use Rattle.sim_workers.proofs.Handing.{stops_before, tells_none}
 use Rattle.sim_workers.proofs.rounds.advance.Goals as goal
 
@@ -25,3 +25,7 @@ returns-in_err-meet-in-None-clause-stops g c =
     let refusal = c.in_err-meet-in-None.field-0.0 in
     rw (told.1, told.2) (stops_before g.met.S.Site.laws g.K.RowSink.took g.K.RowSink.broke c.args.sink.now refusal c.args.sink.now c.args.stage
     (g.met.K.RowSink.unchanged c.args.sink.now) (λ s on. memory_stops g.met.S.Site.laws s refusal c.in_err-meet-in-None.ensures.memory))
+
+pub returns-in_ok-stage-in-Some-clause-less : goal.returns-in_ok-stage-in-Some-clause-less
+returns-in_ok-stage-in-Some-clause-less g c = λ going.
+    c.in_ok-stage-in-Some.ensures.less c.in-Some.next (sym c.next_ready.ensures ∙ c.in-Some.is) (λ small. c.cut_at-cut.ensures.later c.requires.span (omega (arith, small)))

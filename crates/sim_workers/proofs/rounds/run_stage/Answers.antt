@@ -1,7 +1,7 @@
 use Rattle.std.proofs.Common.{subst}
 use Rattle.std.proofs.lemmas.Result.{err_from_is_err_and}
 use Rattle.sim_windows.specs.Stages.{HasRest}
-use Rattle.sim_workers.proofs.Fronts.{breaks_last, memory_stops, stops_so}
+use Rattle.sim_workers.proofs.Prefixes.{breaks_last, memory_stops, stops_so}
 use Rattle.sim_workers.proofs.rounds.run_stage.Goals as goal
 
 pub returns-in_err-ended-clause-stops : goal.returns-in_err-ended-clause-stops

@@ -2,7 +2,7 @@ use Rattle.std.specs.Prelude.{[]}
 use Rattle.std.proofs.Common.{arith}
 use Rattle.std.proofs.lemmas.Result.{err_from_is_err_and}
 use Rattle.sim_engine.specs.Laws.{SiteLaws}
-use Rattle.sim_workers.proofs.Ran.{ran_none, ran_ready, ran_stops, ran_whole, stopped_none}
+use Rattle.sim_workers.proofs.Ended.{ran_none, ran_ready, ran_stops, ran_whole, stopped_none}
 use Rattle.sim_workers.proofs.run.run_workers.Goals as goal
 
 pub returns-in_err-handoff-clause-stops : goal.returns-in_err-handoff-clause-stops
@@ -16,18 +16,6 @@ returns-in_err-handles-clause-stops g c =
     let laws : SiteLaws g.S.Site.engine g.S.Site.conditions = (g.met.S.Site g.world.𝓛 g.world.𝓜 g.world.𝓡 ((λ s x. x), (λ x. x), (λ x. x), λ x. x)).laws in
     let told = err_from_is_err_and c.from_residual-in_err-handles.result c.from_residual-in_err-handles.ensures.1 in
     rw told.1 (ran_none laws g.K.RowSink.ready g.K.RowSink.took g.K.RowSink.broke c.args.world c.args.sink.now told.0 told.2 (g.met.K.RowSink.unchanged c.args.sink.now))
-
-pub returns-in_err-handoff-clause-alone : goal.returns-in_err-handoff-clause-alone
-returns-in_err-handoff-clause-alone g c = λ few.
-    let laws : SiteLaws g.S.Site.engine g.S.Site.conditions = (g.met.S.Site g.world.𝓛 g.world.𝓜 g.world.𝓡 ((λ s x. x), (λ x. x), (λ x. x), λ x. x)).laws in
-    let told = err_from_is_err_and c.from_residual-in_err-handoff.result c.from_residual-in_err-handoff.ensures.1 in
-    rw (told.1, told.2) (stopped_none laws g.K.RowSink.ready g.K.RowSink.took g.K.RowSink.broke c.args.world c.args.sink.now c.in_err-handoff.field-0.0 c.in_err-handoff.ensures.memory_only (g.met.K.RowSink.unchanged c.args.sink.now))
-
-pub returns-in_err-handles-clause-alone : goal.returns-in_err-handles-clause-alone
-returns-in_err-handles-clause-alone g c = λ few.
-    let laws : SiteLaws g.S.Site.engine g.S.Site.conditions = (g.met.S.Site g.world.𝓛 g.world.𝓜 g.world.𝓡 ((λ s x. x), (λ x. x), (λ x. x), λ x. x)).laws in
-    let told = err_from_is_err_and c.from_residual-in_err-handles.result c.from_residual-in_err-handles.ensures.1 in
-    rw told.1 (stopped_none laws g.K.RowSink.ready g.K.RowSink.took g.K.RowSink.broke c.args.world c.args.sink.now told.0 told.2 (g.met.K.RowSink.unchanged c.args.sink.now))
 
 pub returns-clause-ready : goal.returns-clause-ready
 returns-clause-ready g c =
@@ -46,7 +34,3 @@ returns-clause-stops g c =
     let laws : SiteLaws g.S.Site.engine g.S.Site.conditions = (g.met.S.Site g.world.𝓛 g.world.𝓜 g.world.𝓡 ((λ s x. x), (λ x. x), (λ x. x), λ x. x)).laws in
     ran_stops laws g.K.RowSink.ready g.K.RowSink.took g.K.RowSink.broke c.args.world c.args.sink.now c.run_threads.result c.run_threads.new.sink
     (c.run_threads.ensures.ran c.args.world (record { picks = []; stands = c.in_ok-stage.ensures.stands }))
-
-pub returns-clause-alone : goal.returns-clause-alone
-returns-clause-alone g c = λ few.
-    c.run_threads.ensures.alone (omega (arith, c.saturating_sub.ensures, c.min-threads.ensures, few)) c.args.world (record { picks = []; stands = c.in_ok-stage.ensures.stands })

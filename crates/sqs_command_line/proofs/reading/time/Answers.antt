@@ -1,21 +1,10 @@
-use Rattle.std.proofs.Common.{Ok, Err, Option, ap, subst, ◌∙◌}
-use Rattle.std.specs.Str.Parse.{ExplainsUnsignedError, HasUnsignedDigitsIfOk, ParsesUnsigned}
-use Rattle.clap.specs.Words.{Text, found_of, one_text}
-use Rattle.clap.proofs.WalkLemmas.{one_text-rows}
-use Rattle.sqs_command_line.specs.Lines.{IsNumber, number_of}
+use Rattle.std.proofs.Common.{Err, Ok}
+use Rattle.clap.specs.Words.{found_of}
 use Rattle.sqs_command_line.proofs.Answered.{told_number}
 use Rattle.sqs_command_line.proofs.reading.time.Goals as goal
 
 pub returns-in-Ok : goal.returns-in-Ok
-returns-in-Ok c =
-    let found = found_of c.args.matches.now in
-    told_number 64 (λ bs r. ParsesUnsigned 64 10 bs r × ExplainsUnsignedError 10 bs r × HasUnsignedDigitsIfOk bs r) (λ u x g. g.0)
-    (one_text found c.args.id.now) (Ok c.in-Ok.time) c.in-Ok.ensures.none c.in-Ok.ensures.value
-    ∙ ap number_of (one_text-rows found c.args.id.now)
+returns-in-Ok c = told_number 64 (found_of c.args.matches.now) c.args.id.now (Ok c.in-Ok.time) c.in-Ok.ensures.none c.in-Ok.ensures.value
 
 pub returns-in-Err : goal.returns-in-Err
-returns-in-Err c =
-    let found = found_of c.args.matches.now in
-    subst (λ (t : Option Text). IsNumber 64 t → ⊥) (one_text-rows found c.args.id.now)
-    (told_number 64 (λ bs r. ParsesUnsigned 64 10 bs r × ExplainsUnsignedError 10 bs r × HasUnsignedDigitsIfOk bs r) (λ u x g. g.0)
-    (one_text found c.args.id.now) (Err c.in-Err.field-0) c.in-Err.ensures.none c.in-Err.ensures.value)
+returns-in-Err c = told_number 64 (found_of c.args.matches.now) c.args.id.now (Err c.in-Err.field-0) c.in-Err.ensures.none c.in-Err.ensures.value

@@ -9,7 +9,7 @@ use Rattle.sqs_messages.proofs.hosts.put.Goals as goal
 
 pub returns-clause-hosted : goal.returns-clause-hosted
 returns-clause-hosted c =
-    let mark : Mark = record { due = c.args.due; hosts = c.host_bit-host.result } in
+    let mark : Mark = record { due = c.args.due; flags = c.host_bit-host.result } in
     record {
       some = c.requires.hosted.some;
       few = c.requires.hosted.few;
@@ -18,6 +18,6 @@ returns-clause-hosted c =
 
 pub returns-clause-changed : goal.returns-clause-changed
 returns-clause-changed c =
-    let mark : Mark = record { due = c.args.due; hosts = c.host_bit-host.result } in
+    let mark : Mark = record { due = c.args.due; flags = c.host_bit-host.result } in
     ap (map unhosted) c.put-found.ensures.items
     ∙ unhosted_alike (is_numbered c.args.number) (λ (s : Shelved). let t : Shelved = record s { message = restated c.args.state s.message; mark = mark } in t) (restamped c.args.state c.args.due) (λ s. refl) c.args.shelf.now.items

@@ -2,9 +2,10 @@ use Rattle.std.proofs.Common.{◌≡◌, None, Option, Some, refl, sym, ℕ, ◌
 use Rattle.sqs_message.specs.declared.message.Message.{Message}
 use Rattle.sqs_model.specs.Queue.{Queue}
 use Rattle.std.specs.Option.{option_or}
+use Rattle.std.proofs.lemmas.Option.{same_Some}
 use Rattle.sqs_model.specs.Task.{Taken, destination, take_each}
 use Rattle.sqs_queue.specs.Picked.{messages_of}
-use Rattle.sqs_queue.proofs.Taking.{none_some, same_some, taking_more, taking_none}
+use Rattle.sqs_queue.proofs.Taking.{none_some, taking_more, taking_none}
 use Rattle.sqs_queue.proofs.loads.take_each.Goals.{in-Some+in-Some-or+in-Some-remove, in-Some+in-Some-or+in_default-remove, in_default}
 use Rattle.sqs_queue.proofs.loads.take_each.Goals as goal
 
@@ -23,7 +24,7 @@ loop-number-preserved c =
     elim c.match-find.branch [
       | in-Some+in-Some-or+in-Some-remove w ↦
           let m : Message = w.in-Some.message.now in
-          let gone : w.in-Some-remove.message ≡ m = same_some w.in-Some-remove.message m (w.in-Some-remove.ensures.found ∙ sym w.in-Some.ensures.found) in
+          let gone : w.in-Some-remove.message ≡ m = same_Some w.in-Some-remove.message m (w.in-Some-remove.ensures.found ∙ sym w.in-Some.ensures.found) in
           rw (w.messages-is, w.loads-is, w.push_reserved.ensures.items, w.move_of.ensures, c.site-site.ensures, gone, w.remove.ensures.rest)
           (taking_more whole first.site c.args.to c.args.numbers.now i q taken m c.loop-number-test.true (sym w.in-Some.ensures.found) c.loop-number.invariant
           w.in-Some-or.queue (sym (w.in-Some-or.ensures ∙ or_source c.args.to m)) c.requires.apart)

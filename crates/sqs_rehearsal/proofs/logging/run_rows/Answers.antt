@@ -1,7 +1,10 @@
-use Rattle.std.proofs.Common.{sym, ◌≡◌}
+use Rattle.std.specs.Prelude.{IfErr, ◌<◌}
+use Rattle.std.proofs.Common.{arith, inl, inr, sym, ◌≡◌}
+use Rattle.std.proofs.lemmas.Bool.{cases_lt}
 use Rattle.std.proofs.lemmas.Result.{IfErr-weaker}
 use Rattle.sqs_rehearsal.proofs.Counting.{if_both}
-use Rattle.sqs_rehearsal.proofs.LogTexts.{logs_front, logs_whole, stops_same}
+use Rattle.sim_clock.specs.declared.refusal.Refusal.TheVariants as refusals
+use Rattle.sqs_rehearsal.proofs.LogTexts.{logs_prefix, logs_whole, of_any, stops_same, stops_started, within_least}
 use Rattle.sqs_rehearsal.proofs.logging.run_rows.Goals as goal
 
 pub returns-clause-whole : goal.returns-clause-whole
@@ -19,5 +22,16 @@ returns-clause-stops g c r is =
     (λ e told.
     let same = stops_same g.L.Out.held g.L.Out.failed c.args.scenario _ c.run_workers.new.sink e told in
     let log_is : c.log-1.given.0 ≡ c.run_workers.new.sink.out.now = c.log-1.given.1 (sym same.writer) in
-    rw log_is (logs_front g.L.Out.held g.L.Out.failed c.args.scenario _ c.run_workers.new.sink e told c.requires.names c.requires.works r is))
+    rw log_is (logs_prefix g.L.Out.held g.L.Out.failed c.args.scenario _ c.run_workers.new.sink e told c.requires.names c.requires.works r is))
     (c.run_workers.ensures.stops c.requires.window c.requires.workers)
+
+pub returns-clause-starts : goal.returns-clause-starts
+returns-clause-starts g c =
+    let workers = c.args.split.workers in
+    elim (cases_lt 1 workers) as (λ _. IfErr c.run_workers.result (λ e. e ≡ refusals.NoWorker → 1 < workers)) [
+      | inl l ↦ of_any (λ e. e ≡ refusals.NoWorker → 1 < workers) c.run_workers.result (λ e same. l)
+      | inr k ↦
+          IfErr-weaker c.run_workers.result _ _
+          (λ e stopped same. absurd (stops_started g.L.Out.held g.L.Out.failed c.args.scenario _ c.run_workers.new.sink e stopped same))
+          (c.run_workers.ensures.alone c.requires.window (omega (arith, k, within_least workers c.requires.workers)))
+    ]

@@ -21,5 +21,5 @@ pub returns-clause-distances : goal.returns-clause-distances
 returns-clause-distances c =
     let owner = owner_of c.args.layout.now in
     let p = c.parts-parts.ensures.parts in
-    table_distances owner c.args.ways.now _ (subst (λ (n : ℕ). (queue : ℕ) → owner queue < n) (sym p) c.parts-parts.ensures.below)
+    table_distances owner c.args.ways.now _ (subst (λ (n : ℕ). (site : ℕ) → owner site < n) (sym p) c.parts-parts.ensures.below)
     (subst (λ (n : ℕ). AreRows owner c.args.ways.now n n c.loop-start.cells.items) (sym p) (λ q r k l. c.loop-start.invariant.rows q r (omega (arith, p)) l))

@@ -8,5 +8,5 @@ use Rattle.sim_index.proofs.marked.MarkedList.has_on.Goals as goal
 pub returns : goal.returns
 returns g c =
     c.has_on.ensures
-    ∙ sym (any_taken (length c.self.inside.values.items) c.self.inside.tree c.self.invariant c.args.hosts)
-    ∙ ap (λ (m : Marked _). list_any (meets c.args.hosts) m.marks) c.self.view_is
+    ∙ sym (any_taken (length c.self.inside.values.items) c.self.inside.tree c.self.invariant c.args.flags)
+    ∙ ap (λ (m : Marked _). list_any (meets c.args.flags) m.marks) c.self.view_is

@@ -1,5 +1,5 @@
 use Rattle.sim_scenario.proofs.Drafted.{scenario_of_table, scenario_refused}
-use Rattle.sim_scenario.proofs.WholeScenario.{names_fails}
+use Rattle.sim_scenario.proofs.Admits.{names_fails}
 use Rattle.sim_scenario.proofs.draft.Draft.read.Goals as goal
 
 pub returns-in-Ok-clause-value : goal.returns-in-Ok-clause-value

@@ -18,18 +18,12 @@ returns-in_err-number c =
 
 pub returns-then-number-self : goal.returns-then-number-self
 returns-then-number-self c =
-    let o = c.self.inside in
-    let name = c.args.name.now in
-    let number = c.in_ok-number.number in
-    let all = among_all name o.names o.queue_count c.place.result (Some number) c.place.ensures c.in_ok-number.was in
-    sym (front_has (λ t. bytes_eq t name) (take o.queue_count o.names) (drop o.queue_count o.names) number all (omega (arith, length-take o.queue_count o.names, c.self.invariant, c.if-number-self.true)))
-    ∙ ap (λ q. place_among q.queues name) c.self.view_is
+    let all = among_all c.args.name.now c.self.inside.names c.self.inside.queue_count c.place.result (Some c.in_ok-number.number) c.place.ensures c.in_ok-number.was in
+    sym (front_has (λ t. bytes_eq t c.args.name.now) _ (drop c.self.inside.queue_count c.self.inside.names) c.in_ok-number.number all (omega (arith, length-take c.self.inside.queue_count c.self.inside.names, c.self.invariant, c.if-number-self.true)))
+    ∙ ap (λ q. place_among q.queues c.args.name.now) c.self.view_is
 
 pub returns-else-number-self : goal.returns-else-number-self
 returns-else-number-self c =
-    let o = c.self.inside in
-    let name = c.args.name.now in
-    let number = c.in_ok-number.number in
-    let all = among_all name o.names o.queue_count c.place.result (Some number) c.place.ensures c.in_ok-number.was in
-    sym (front_misses (λ t. bytes_eq t name) (take o.queue_count o.names) (drop o.queue_count o.names) number all (omega (arith, length-take o.queue_count o.names, c.self.invariant, c.if-number-self.false)))
-    ∙ ap (λ q. place_among q.queues name) c.self.view_is
+    let all = among_all c.args.name.now c.self.inside.names c.self.inside.queue_count c.place.result (Some c.in_ok-number.number) c.place.ensures c.in_ok-number.was in
+    sym (front_misses (λ t. bytes_eq t c.args.name.now) _ (drop c.self.inside.queue_count c.self.inside.names) c.in_ok-number.number all (omega (arith, length-take c.self.inside.queue_count c.self.inside.names, c.self.invariant, c.if-number-self.false)))
+    ∙ ap (λ q. place_among q.queues c.args.name.now) c.self.view_is

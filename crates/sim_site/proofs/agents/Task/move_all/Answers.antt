@@ -1,4 +1,5 @@
 use Rattle.std.proofs.Common.{ap, arith, length, List, refl, subst, suc, sym, ℕ, ◌+◌, ◌<◌, ◌≡◌, ◌∙◌}
+use Rattle.std.proofs.lemmas.List.{nil_from_length}
 use Rattle.sqs_redrive.specs.MoveTasks.{MoveTask}
 use Rattle.sqs_redrive.specs.declared.transfers.Load.{Load}
 use Rattle.sqs_model.specs.Answers.{most_count}
@@ -9,7 +10,7 @@ use Rattle.sqs_model.specs.Valid.{IsLatency}
 use Rattle.sim_site.specs.Steps.{MoveRemains}
 use Rattle.sim_site.proofs.Limiting.{moves_pass}
 use Rattle.sim_site.proofs.Passing.{stops_up}
-use Rattle.sim_site.proofs.Stepping.{move_remains_all, move_remains_next, move_remains_none, none_left}
+use Rattle.sim_site.proofs.Stepping.{move_remains_all, move_remains_next, move_remains_none}
 use Rattle.sim_site.proofs.agents.Task.move_all.Goals as goal
 
 pub loop-to-init : goal.loop-to-init
@@ -43,7 +44,7 @@ returns-clause-moved c = λ core n.
     let whole : Moved = moves c.args.key core c.args.self.now c.args.loads.items in
     let none : length now.to-iterator.rest.items ≡ 0 = omega (arith, c.in-None.ensures.steps.0, now.to-iterator.rest.ok.0) in
     move_remains_none c.args.effects.now now.effects c.args.key core now.self whole
-    (subst (λ (xs : List (ℕ × Load)). MoveRemains c.args.effects.now now.effects (moves c.args.key core now.self xs) whole) (none_left now.to-iterator.rest.items none) (now.invariant.moved core n))
+    (subst (λ (xs : List (ℕ × Load)). MoveRemains c.args.effects.now now.effects (moves c.args.key core now.self xs) whole) (nil_from_length now.to-iterator.rest.items none) (now.invariant.moved core n))
 
 pub returns-clause-kept : goal.returns-clause-kept
 returns-clause-kept c = c.loop-to.invariant.kept

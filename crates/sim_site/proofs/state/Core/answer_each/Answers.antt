@@ -3,16 +3,21 @@ use Rattle.std.specs.Prelude.{All}
 use Rattle.std.proofs.lemmas.List.{drop_all}
 use Rattle.std.proofs.lemmas.List.Elements.{All-head}
 use Rattle.sim_site.proofs.Answering.{polls_limited}
-use Rattle.sim_site.proofs.Grown.{answered_begins, begins_all, begins_first, begins_some}
+use Rattle.sim_site.proofs.Grown.{BeginWith, answered_begins, begins_all, begins_first, begins_some}
 use Rattle.sim_site.proofs.Passing.{passes_rest, stops_up}
 use Rattle.sim_site.proofs.Recent.{did_recent, poll_recent}
-use Rattle.std.proofs.Common.{◌≡◌, ◌∙◌, ◌∷◌, ◌+◌, ◌<◌, [], List, ap, arith, drop, get_or, length, subst, sym, true, false}
+use Rattle.std.proofs.Common.{ℕ, ◌≡◌, ◌∙◌, ◌∷◌, ◌+◌, ◌<◌, [], List, ap, arith, drop, get_or, length, subst, sym, true, false}
 use Rattle.sqs_model.specs.Polls.{answer_polls, can_give, poll_answered, poll_given}
 use Rattle.sqs_model.specs.Site.{Core, Effect, Poll}
 use Rattle.sqs_model.specs.Valid.{MayBeTimeout}
 use Rattle.sim_site.proofs.Carried.{remains_all, remains_none, remains_then}
 use Rattle.sim_site.proofs.Polling.{polls_go, polls_stop}
 use Rattle.sim_site.proofs.state.Core.answer_each.Goals as goal
+
+-- the poll that is answered is the next of those that waited at first
+first_of :
+    (ps inside now : List Poll) (i : ℕ) (p : Poll) → i < length ps → inside ≡ now → BeginWith (drop i ps) now → inside ≡ p ∷ drop 1 inside → p ≡ get_or ps i p
+first_of ps inside now i p within is waits next = begins_first ps now i p within waits (subst (λ xs. xs ≡ p ∷ drop 1 xs) is next)
 
 pub answer_poll-requires-clause-allowed : goal.answer_poll-requires-clause-allowed
 answer_poll-requires-clause-allowed c =
@@ -23,19 +28,16 @@ pub loop-preserved : goal.loop-preserved
 loop-preserved c =
     let now = c.loop in
     let ps : List Poll = c.args.self.now.polls in
-    let p : Poll = c.in-Some.poll in
     let within : now.counter < length ps = omega (arith, c.loop-test.true, c.len-end.ensures, ap (λ (x : Core). length x.polls) c.self.view_is) in
-    let same : c.self-in-loop.inside.polls ≡ now.self.polls = ap (λ (x : Core). x.polls) c.self-in-loop.view_is in
-    let head : now.self.polls ≡ p ∷ drop 1 now.self.polls = subst (λ (xs : List Poll). xs ≡ p ∷ drop 1 xs) same c.in-Some.ensures in
-    let first : p ≡ get_or ps now.counter p = begins_first ps now.self.polls now.counter p within now.invariant.waits head in
+    let first = first_of ps _ now.self.polls now.counter c.in-Some.poll within (ap (λ (x : Core). x.polls) c.self-in-loop.view_is) now.invariant.waits c.in-Some.ensures in
     let gives : can_give now.self.queue ≡ true = ap (λ (x : Core). can_give x.queue) (sym c.self-in-loop.view_is) ∙ sym c.can_give-gives.ensures ∙ c.if-not-gives.false in
-    let done : Effect = poll_answered c.args.key p now.self (poll_given c.args.key p now.self.queue) in
+    let done : Effect = poll_answered c.args.key c.in-Some.poll now.self (poll_given c.args.key c.in-Some.poll now.self.queue) in
     record {
       remains = remains_then c.args.effects.now now.effects c.answer_poll.new.effects c.answer_poll.new.self _ _ done (answer_polls c.args.key (drop (now.counter + 1) ps))
-          now.invariant.remains (polls_go c.args.key now.self ps now.counter p within first gives) c.in_ok-answer_poll.ensures.did;
+          now.invariant.remains (polls_go c.args.key now.self ps now.counter c.in-Some.poll within first gives) c.in_ok-answer_poll.ensures.did;
       recent = did_recent c.args.key.at now.effects c.answer_poll.new.effects c.answer_poll.new.self done c.in_ok-answer_poll.ensures.did
-          (poll_recent c.args.key p now.self gives now.invariant.recent);
-      waits = answered_begins c.args.key p now.self c.answer_poll.new.self (poll_given c.args.key p now.self.queue) ps now.counter within now.invariant.waits c.in_ok-answer_poll.ensures.did.core;
+          (poll_recent c.args.key c.in-Some.poll now.self gives now.invariant.recent);
+      waits = answered_begins c.args.key c.in-Some.poll now.self c.answer_poll.new.self (poll_given c.args.key c.in-Some.poll now.self.queue) ps now.counter within now.invariant.waits c.in_ok-answer_poll.ensures.did.core;
     }
 
 pub returns-then-not-gives-clause-did : goal.returns-then-not-gives-clause-did
@@ -48,15 +50,12 @@ pub returns-in_err-answer_poll-clause-stops : goal.returns-in_err-answer_poll-cl
 returns-in_err-answer_poll-clause-stops c =
     let now = c.loop in
     let ps : List Poll = c.args.self.now.polls in
-    let p : Poll = c.in-Some.poll in
     let within : now.counter < length ps = omega (arith, c.loop-test.true, c.len-end.ensures, ap (λ (x : Core). length x.polls) c.self.view_is) in
-    let same : c.self-in-loop.inside.polls ≡ now.self.polls = ap (λ (x : Core). x.polls) c.self-in-loop.view_is in
-    let head : now.self.polls ≡ p ∷ drop 1 now.self.polls = subst (λ (xs : List Poll). xs ≡ p ∷ drop 1 xs) same c.in-Some.ensures in
-    let first : p ≡ get_or ps now.counter p = begins_first ps now.self.polls now.counter p within now.invariant.waits head in
+    let first = first_of ps _ now.self.polls now.counter c.in-Some.poll within (ap (λ (x : Core). x.polls) c.self-in-loop.view_is) now.invariant.waits c.in-Some.ensures in
     let gives : can_give now.self.queue ≡ true = ap (λ (x : Core). can_give x.queue) (sym c.self-in-loop.view_is) ∙ sym c.can_give-gives.ensures ∙ c.if-not-gives.false in
     stops_up _ (PassesCount (answer_polls c.args.key ps c.args.self.now)) c.from_residual.result c.in_err-answer_poll.field-0.0 c.from_residual.ensures.1
     (λ h. passes_rest c.args.effects.now now.effects (answer_polls c.args.key (drop now.counter ps) now.self) (answer_polls c.args.key ps c.args.self.now) now.invariant.remains
-    (polls_limited c.args.key now.self ps now.counter p within first gives h)) c.in_err-answer_poll.ensures.stops
+    (polls_limited c.args.key now.self ps now.counter c.in-Some.poll within first gives h)) c.in_err-answer_poll.ensures.stops
 
 pub loop-init : goal.loop-init
 loop-init c = record {

@@ -21,9 +21,9 @@ pub returns-clause-did : goal.returns-clause-did
 returns-clause-did c =
     let h = c.in_ok-sent.ensures.arrived ∙ ap (λ (s : Sent). ((s, c.in_ok-sent.expired), c.arrive_by.new.queue)) c.in-New.is ∙ ap (λ b. ((sent.New c.in-New.id, b), c.arrive_by.new.queue)) c.if-not-expired.false in
     subst (λ (x : Core). Did c.args.effects.now c.say-in-New-2.new.self (with_queue (the_view c.self.inside) c.arrive_by.new.queue) (arrival_done c.args.key c.args.load x (arrived x.queue c.args.key.at c.args.load))) c.self.view_is
-    (new_expires c.args.key c.args.load (the_view c.self.inside) c.args.effects.now c.say-in-New.new.self c.say-in-New-2.new.self (Ok tt) c.arrive_by.new.queue c.in-New.id c.arrival_row-in-New.result c.row.result h c.in_ok-say-in-New.ensures.rows c.in_ok-say-in-New.ensures.sent
+    (new_expires c.args.key c.args.load (the_view c.self.inside) c.args.effects.now c.say-in-New.new.self c.say-in-New-2.new.self (Ok tt) c.arrive_by.new.queue c.in-New.id c.arrival_row-in-New.result c.site_row.result h c.in_ok-say-in-New.ensures.rows c.in_ok-say-in-New.ensures.sent
     (c.arrival_row-in-New.ensures (the_view c.self.inside) c.args.load (sym c.site-site.ensures) (c.origin_of-origin.ensures c.in-New.id))
-    c.in_ok-say-in-New-2.ensures.rows c.in_ok-say-in-New-2.ensures.sent (rw (c.row.ensures, c.site-site.ensures, c.age_of-age.ensures) refl))
+    c.in_ok-say-in-New-2.ensures.rows c.in_ok-say-in-New-2.ensures.sent (rw (c.site_row.ensures, c.site-site.ensures, c.age_of-age.ensures) refl))
 
 pub returns-in-Repeat-clause-did : goal.returns-in-Repeat-clause-did
 returns-in-Repeat-clause-did c =

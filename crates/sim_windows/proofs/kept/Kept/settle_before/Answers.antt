@@ -25,4 +25,4 @@ returns-clause-settled given c = λ parts.
 pub returns-clause-rows : goal.returns-clause-rows
 returns-clause-rows given c =
     let engine = given.S.Site.engine in
-    c.in_ok-settled.ensures.fronts ∙ of_items (filter (is_before engine c.args.moment)) c.replace-rows.result c.args.self.now.rows c.replace-rows.ensures.value
+    c.in_ok-settled.ensures.prefixes ∙ of_items (filter (is_before engine c.args.moment)) c.replace-rows.result c.args.self.now.rows c.replace-rows.ensures.value

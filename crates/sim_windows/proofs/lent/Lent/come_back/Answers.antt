@@ -1,4 +1,4 @@
-use Rattle.std.specs.Prelude.{List, Ok, Result, [], drop, get_or, length, set, ◌++◌, ◌+◌, ◌<◌, ◌∷◌, ◌≡◌, ◌≤◌, ℕ}
+use Rattle.std.specs.Prelude.{List, Ok, Result, [], drop, get_or, length, map, set, ◌++◌, ◌+◌, ◌<◌, ◌∷◌, ◌≡◌, ◌≤◌, ℕ}
 use Rattle.std.proofs.Common.{ap, append_assoc, arith, length-append, refl, subst, sym, ◌∙◌}
 use Rattle.std.proofs.lemmas.List.{append-nil, drop_all, length-map, length-set, nil_from_length}
 use Rattle.sim_clock.specs.declared.refusal.Refusal.{Refusal}
@@ -27,13 +27,16 @@ module _ {Site Row Transfer : Type 0} {engine : Engine Site Row Transfer} {condi
         many_rows basics r.stands.setting r.stands.picks g r.stands.stands,
       )
 
+  -- all came that were yielded
+  whole_of : (yielded rest came : List (Came Site Row Transfer)) → yielded ++ rest ≡ came → length rest ≡ 0 → yielded ≡ came
+  whole_of yielded rest came order none = sym (append-nil yielded) ∙ ap (λ r. yielded ++ r) (sym (nil_from_length rest none)) ∙ order
+
   -- as many came as were lent
   all_came :
       (ps : List (Result (List Site) Refusal)) (ends : List ℕ) (yielded rest came : List (Came Site Row Transfer)) → yielded ++ rest ≡ came → length rest ≡ 0 → HaveCome engine conditions ends ps came
       → length yielded ≡ length ps
   all_came ps ends yielded rest came order none have =
-      let all : yielded ≡ came = sym (append-nil yielded) ∙ ap (λ r. yielded ++ r) (sym (nil_from_length rest none)) ∙ order in
-      ap (λ z. length z) all ∙ many_back basics ends ps came have
+      ap (λ z. length z) (whole_of yielded rest came order none) ∙ many_back basics ends ps came have
 
   -- none is out any more
   all_back :
@@ -53,6 +56,7 @@ loop-one-init g c = record {
   bounds = ap (λ (x : Standing _ _ _). x.bounds) c.self.view_is;
   same = record { layout = ap (λ (x : Standing _ _ _). x.layout) c.self.view_is; distances = ap (λ (x : Standing _ _ _). x.distances) c.self.view_is };
   settled = ap (λ (x : Standing _ _ _). x.settled) c.self.view_is;
+  horizon = ap (λ (x : Standing _ _ _). x.horizon) c.self.view_is;
   back = λ s ps ends on under came.
       subst (λ z. StandsOn g.S.Site.engine g.S.Site.conditions s (standing_of c.self.inside.kept (z ++ ps))) (sym c.in_ok-parts.ensures.items)
       (subst (λ (x : Standing _ _ _). StandsOn g.S.Site.engine g.S.Site.conditions s (with_parts ps x)) (sym c.self.view_is) on);
@@ -87,6 +91,7 @@ loop-one-preserved g c =
       bounds = i.bounds;
       same = record { layout = i.same.layout; distances = i.same.distances };
       settled = i.settled;
+      horizon = i.horizon;
       back = λ s ps ends on under came.
           let st = i.back s ps ends on under came in
           let next : Next laws ends ps k (Ok []) one = subst (λ n. Next laws ends ps n (Ok []) one) (sym i.place) (next_back laws ends ps l.yielded one more (Ok []) (subst (HaveCome e cs ends ps) (sym order) came)) in
@@ -121,5 +126,11 @@ returns g c = record {
             ap (λ xs. length xs) l.invariant.parts ∙ length-map l.yielded _
             ∙ all_came g.met.S.Site.laws ps ends l.yielded l.one-iterator.rest.items c.args.came.items l.invariant.rest (omega (arith, c.in-None.ensures.steps.0, l.one-iterator.rest.ok.0)) came;
         settled = l.invariant.settled;
+        horizon = l.invariant.horizon;
+        bounds = l.invariant.bounds;
       });
+  parts =
+      let l = c.loop-one in
+      let whole = whole_of g.met.S.Site.laws l.yielded l.one-iterator.rest.items c.args.came.items l.invariant.rest (omega (arith, c.in-None.ensures.steps.0, l.one-iterator.rest.ok.0)) in
+      ap (λ (x : Standing _ _ _). x.parts) c.stage_of.ensures ∙ l.invariant.parts ∙ ap (map (λ one. one.part)) whole;
 }

@@ -15,5 +15,6 @@ invariant-loop-one g l = record {
   bounds : l.kept.bounds.items ≡ l.fn.self.bounds;
   same : IsSame l.fn.self (standing_of l.kept l.parts.items);
   settled : l.kept.settled ≡ l.fn.self.settled;
+  horizon : l.kept.horizon ≡ l.fn.self.horizon;
   back : (s : Setting _) (parts : List (Result (List _) Refusal)) (ends : List ℕ) → StandsOn g.S.Site.engine g.S.Site.conditions s (with_parts parts l.fn.self) → AreWithin ends l.fn.self.bounds → HaveCome g.S.Site.engine g.S.Site.conditions ends parts l.fn.came.items → StandsOn g.S.Site.engine g.S.Site.conditions s (standing_of l.kept (l.parts.items ++ drop l.place parts));
 }

@@ -9,7 +9,7 @@ use Rattle.sim_engine.specs.declared.picks.Pick.{Pick}
 use Rattle.sim_exchange.specs.Layout.{Layout, owner_of}
 use Rattle.sim_exchange.specs.Table.{Table, distance_in}
 use Rattle.sim_windows.specs.Machines.{IsMachine, IsMachineOf, IsMachineUnless, Seen}
-use Rattle.sim_windows.specs.Stages.{IsSame, Played, Plays, Standing, Stands, Tells, effects_in, end_in, ended_after, ended_in, machine_at, machine_in}
+use Rattle.sim_windows.specs.Stages.{IsSame, Played, Plays, Standing, Stands, Tells, effective_picks_in, end_in, ended_after, ended_in, machine_at, machine_in}
 use Rattle.sim_windows.proofs.Playing.{ended_append}
 use Rattle.sim_windows.proofs.Reading.{end_is, same_state}
 use Rattle.sim_windows.proofs.machine.Machine.play.Goals as goal
@@ -33,7 +33,7 @@ module _ {Site Row Transfer : Type 0} {engine : Engine Site Row Transfer} {condi
   after :
       (layout : Layout) (s : Setting Site) (done more : List Pick) (x : Seen Site Row Transfer) (was : IsMachineOf engine conditions layout s done x) (g h : Standing Site Row Transfer) (count end : ℕ) (rows : List Row)
       → x.state ≡ Ok g → Plays engine conditions g h more count → Tells engine conditions g x.rows h rows → end ≡ end_in h
-      → IsMachineOf engine conditions layout s (done ++ more) (record { state = Ok h; rows = rows; end = end }) × (count ≡ effects_in engine was.standing s done more)
+      → IsMachineOf engine conditions layout s (done ++ more) (record { state = Ok h; rows = rows; end = end }) × (count ≡ effective_picks_in engine was.standing s done more)
   after layout s done more x was g h count end rows state plays tells ends =
       let same : g ≡ was.standing = same_state g was.standing (sym state ∙ was.lives) in
       let p : Played engine conditions was.standing h s done more count = subst (λ (y : Standing Site Row Transfer). Plays engine conditions y h more count) same plays s done was.stands in

@@ -1,6 +1,7 @@
 use Rattle.std.specs.Option.{is_some}
-use Rattle.std.specs.Prelude.{◌||◌, ◌≡◌}
+use Rattle.std.specs.Prelude.{[], ◌||◌, ◌≡◌}
 use Rattle.std.proofs.Common.{ap, sym, ◌∙◌}
+use Rattle.std.proofs.lemmas.List.{append-nil}
 use Rattle.sim_engine.proofs.Machines.{not_some}
 use Rattle.sim_windows.specs.Stages.{is_finished_in, next_in}
 use Rattle.sim_windows.proofs.Stepped.{barrier, left_so, no_barrier, rests_so, tells}
@@ -37,3 +38,6 @@ pub returns-clause-tells : goal.returns-clause-tells
 returns-clause-tells g c =
     tells g.met.S.Site.laws c.args.self c.in_ok-settled.settled c.in_ok-stage.stage c.args.told.now.items c.in_ok-settled.rows.items c.append.new.self.items
     c.in_ok-settled.ensures c.in_ok-stage.ensures.settled c.in_ok-append.ensures.items
+
+pub returns-in_err-append-clause-keeps : goal.returns-in_err-append-clause-keeps
+returns-in_err-append-clause-keeps g c = ([], c.in_err-append.ensures.items ∙ sym (append-nil c.args.told.now.items))

@@ -1,12 +1,14 @@
-use Rattle.std.specs.Prelude.{List, Result, length, ◌≡◌}
+use Rattle.std.specs.Prelude.{List, Result, [], length, ◌<◌, ◌∷◌, ◌≡◌}
 use Rattle.std.proofs.Common.{ap, arith, subst, ◌∙◌, refl}
 use Rattle.std.proofs.lemmas.Result.{err_from_is_err_and}
 use Rattle.sim_clock.specs.declared.refusal.Refusal.{Refusal}
 use Rattle.sim_engine.specs.Engine.{Engine}
-use Rattle.sim_windows.specs.Stages.{Standing, bounded_by, bounds_by, standing_of}
+use Rattle.sim_engine.specs.declared.picks.Pick.TheVariants.{Barrier}
+use Rattle.sim_windows.specs.Stages.{Follows, IsStanding, Standing, bounded_by, bounds_by, left_in, standing_of}
 use Rattle.sim_windows.specs.declared.kept.Kept.{Kept}
 use Rattle.sim_windows.proofs.Meetings.{are_reached, live, parts_in}
 use Rattle.sim_windows.proofs.Stepped.{few_parts, has_parts, meets_so, short}
+use Rattle.sim_windows.proofs.stage.Stage.meet.Given.{Over}
 use Rattle.sim_windows.proofs.stage.Stage.meet.Goals as goal
 
 module _ {Site Row Transfer : Type 0} (engine : Engine Site Row Transfer) where
@@ -49,20 +51,25 @@ set_bounds-requires-clause-horizon g c =
     let st = c.self.invariant in
     omega (arith, short g.met.S.Site.laws (standing_of i.kept i.parts.items) (standing_of c.deliver.new.self c.deliver.new.parts.items) c.in_ok-deliver.ensures.delivered st.setting st.picks st.stands)
 
-pub invariant_of-result : goal.invariant_of-result
-invariant_of-result g c =
+-- the stage that met stands, and follows the one before
+met :
+    (g : Over) (c : goal.In_ok-set_bounds g)
+    → (let h = standing_of c.set_bounds.new.self c.deliver.new.parts.items in
+    IsStanding g.S.Site.engine g.S.Site.conditions h × Follows g.S.Site.engine g.S.Site.conditions c.args.self h (Barrier ∷ [])
+    × (h.settled ≡ c.args.self.settled) × (left_in g.S.Site.engine h < left_in g.S.Site.engine c.args.self))
+met g c =
     let i = c.self.inside in
-    (meets_so g.met.S.Site.laws c.args.self (standing_of i.kept i.parts.items) (standing_of c.deliver.new.self c.deliver.new.parts.items) (standing_of c.set_bounds.new.self c.deliver.new.parts.items) c.self.view_is c.in_ok-deliver.ensures.delivered
-    (bounds_set_so g.S.Site.engine c.deliver.new.self c.set_bounds.new.self c.deref.result.now c.deliver.new.parts.items c.deref.ensures.value c.in_ok-set_bounds.ensures) c.requires.rests c.requires.left c.self.invariant).0
+    meets_so g.met.S.Site.laws c.args.self (standing_of i.kept i.parts.items) (standing_of c.deliver.new.self c.deliver.new.parts.items) (standing_of c.set_bounds.new.self c.deliver.new.parts.items) c.self.view_is c.in_ok-deliver.ensures.delivered
+    (bounds_set_so g.S.Site.engine c.deliver.new.self c.set_bounds.new.self c.deref.result.now c.deliver.new.parts.items c.deref.ensures.value c.in_ok-set_bounds.ensures) c.requires.rests c.requires.left c.self.invariant
+
+pub invariant_of-result : goal.invariant_of-result
+invariant_of-result g c = (met g c).0
 
 pub returns-clause-met : goal.returns-clause-met
-returns-clause-met g c =
-    let i = c.self.inside in
-    (meets_so g.met.S.Site.laws c.args.self (standing_of i.kept i.parts.items) (standing_of c.deliver.new.self c.deliver.new.parts.items) (standing_of c.set_bounds.new.self c.deliver.new.parts.items) c.self.view_is c.in_ok-deliver.ensures.delivered
-    (bounds_set_so g.S.Site.engine c.deliver.new.self c.set_bounds.new.self c.deref.result.now c.deliver.new.parts.items c.deref.ensures.value c.in_ok-set_bounds.ensures) c.requires.rests c.requires.left c.self.invariant).1
+returns-clause-met g c = (met g c).1
 
 pub returns-clause-settled : goal.returns-clause-settled
-returns-clause-settled g c =
-    let i = c.self.inside in
-    (meets_so g.met.S.Site.laws c.args.self (standing_of i.kept i.parts.items) (standing_of c.deliver.new.self c.deliver.new.parts.items) (standing_of c.set_bounds.new.self c.deliver.new.parts.items) c.self.view_is c.in_ok-deliver.ensures.delivered
-    (bounds_set_so g.S.Site.engine c.deliver.new.self c.set_bounds.new.self c.deref.result.now c.deliver.new.parts.items c.deref.ensures.value c.in_ok-set_bounds.ensures) c.requires.rests c.requires.left c.self.invariant).2
+returns-clause-settled g c = (met g c).2
+
+pub returns-clause-further : goal.returns-clause-further
+returns-clause-further g c = (met g c).3

@@ -4,7 +4,7 @@ use Rattle.std.proofs.lemmas.List.{take_all, take_more}
 use Rattle.std.proofs.lemmas.Result.{err_from_is_err_and}
 use Rattle.sim_engine.specs.declared.picks.Pick.{Pick}
 use Rattle.sim_windows.specs.Stages.{Plays}
-use Rattle.sim_windows.proofs.Playing.{one_more, plays_on, stops_on, tells_on}
+use Rattle.sim_windows.proofs.Playing.{begin_with, one_more, plays_on, stops_on, tells_on}
 use Rattle.sim_windows.proofs.stage.Stage.play.Goals.{else-took, then-took}
 use Rattle.sim_windows.proofs.stage.Stage.play.Goals as goal
 
@@ -34,8 +34,12 @@ loop-pick-preserved g c =
     record {
       plays = subst (λ n. Plays g.S.Site.engine g.S.Site.conditions c.args.self c.in_ok-next.next (take (i + 1) picks) n) (counted took l.effects count branches) plays;
       tells = tells_on g.met.S.Site.laws c.args.self l.stage c.in_ok-next.next (take i picks) l.effects c.args.told.now.items l.told.items c.take.new.told.items l.invariant.plays l.invariant.tells c.in_ok-next.ensures.tells;
+      keeps = begin_with c.args.told.now.items l.told.items c.take.new.told.items l.invariant.keeps c.take.ensures.keeps;
       few = elim branches as (λ _. count ≤ i + 1) [ inl h ↦ omega (arith, h.1, l.invariant.few) | inr h ↦ omega (arith, h.1, l.invariant.few) ];
     }
+
+pub returns-in_err-next-clause-keeps : goal.returns-in_err-next-clause-keeps
+returns-in_err-next-clause-keeps g c = begin_with c.args.told.now.items c.loop-pick.told.items c.take.new.told.items c.loop-pick.invariant.keeps c.take.ensures.keeps
 
 pub returns-clause-played : goal.returns-clause-played
 returns-clause-played g c =

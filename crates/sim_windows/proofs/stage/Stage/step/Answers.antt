@@ -1,7 +1,9 @@
 use Rattle.std.specs.Option.{is_some}
-use Rattle.std.specs.Prelude.{Vec, get_or, map, not, set, true, ◌∷◌, ◌++◌, ◌≡◌, [], Ok, IfOk}
+use Rattle.std.specs.Prelude.{Bool, Option, Vec, false, get_or, map, not, set, true, ℕ, ◌∷◌, ◌++◌, ◌≡◌, [], Ok, IfOk}
 use Rattle.std.proofs.Common.{Global, ap, subst, sym, ◌∙◌}
 use Rattle.std.proofs.lemmas.Result.{err_from_is_err_and}
+use Rattle.sim_clock.specs.declared.key.Key.{Key}
+use Rattle.sim_engine.specs.Engine.{Engine}
 use Rattle.sim_engine.specs.World.{world_due}
 use Rattle.sim_engine.specs.declared.picks.Pick.TheVariants.{Part}
 use Rattle.sim_engine.proofs.Machines.{not_some}
@@ -9,6 +11,12 @@ use Rattle.sim_partition.specs.Sites.{AreOfPast}
 use Rattle.sim_windows.specs.Stages.{Standing, Stands, Took, ready_in, standing_of}
 use Rattle.sim_windows.proofs.Stepped.{can_step, over, stays, stepped}
 use Rattle.sim_windows.proofs.stage.Stage.step.Goals as goal
+
+-- a partition that was found to have something may step
+may_step :
+    {Site Row Transfer : Type 0} (engine : Engine Site Row Transfer) (inside self : Standing Site Row Transfer) (part : ℕ) (found : Option Key) (none : Bool)
+    → inside ≡ self → found ≡ ready_in engine self part → is_some found ≡ not none → none ≡ false → is_some (ready_in engine inside part) ≡ true
+may_step engine inside self part found none is ready tested may = ap is_some (ap (λ x. ready_in engine x part) is ∙ sym ready) ∙ tested ∙ ap not may
 
 pub returns-then-is_none-clause-took : goal.returns-then-is_none-clause-took
 returns-then-is_none-clause-took g c =
@@ -18,15 +26,13 @@ pub step-requires : goal.step-requires
 step-requires g c =
     let i = c.self.inside in
     let st = c.self.invariant in
-    let some : is_some (ready_in g.S.Site.engine (standing_of i.kept i.parts.items) c.args.part) ≡ true =
-    ap is_some (ap (λ (x : Standing _ _ _). ready_in g.S.Site.engine x c.args.part) c.self.view_is ∙ sym c.ready_at.ensures.ready) ∙ c.is_none.ensures ∙ ap not c.if-is_none.false in
+    let some = may_step g.S.Site.engine (standing_of i.kept i.parts.items) c.args.self c.args.part _ _ c.self.view_is c.ready_at.ensures.ready c.is_none.ensures c.if-is_none.false in
     record { due = can_step g.met.S.Site.laws i.kept i.parts.items c.args.part c.index_mut.result.now c.index_mut.ensures.value some st.setting st.picks st.stands }
 
 pub returns-in_err-handled-clause-stops : goal.returns-in_err-handled-clause-stops
 returns-in_err-handled-clause-stops g c =
     let i = c.self.inside in
-    let some : is_some (ready_in g.S.Site.engine (standing_of i.kept i.parts.items) c.args.part) ≡ true =
-    ap is_some (ap (λ (x : Standing _ _ _). ready_in g.S.Site.engine x c.args.part) c.self.view_is ∙ sym c.ready_at.ensures.ready) ∙ c.is_none.ensures ∙ ap not c.if-is_none.false in
+    let some = may_step g.S.Site.engine (standing_of i.kept i.parts.items) c.args.self c.args.part _ _ c.self.view_is c.ready_at.ensures.ready c.is_none.ensures c.if-is_none.false in
     let told = err_from_is_err_and c.from_residual.result c.from_residual.ensures.1 in
     rw (told.1, told.2) (λ s on.
     over g.met.S.Site.laws i.kept i.parts.items c.args.part c.index_mut.result.now c.index_mut.ensures.value some s on.picks
@@ -36,8 +42,7 @@ pub invariant_of-result : goal.invariant_of-result
 invariant_of-result g c =
     let i = c.self.inside in
     let st = c.self.invariant in
-    let some : is_some (ready_in g.S.Site.engine (standing_of i.kept i.parts.items) c.args.part) ≡ true =
-    ap is_some (ap (λ (x : Standing _ _ _). ready_in g.S.Site.engine x c.args.part) c.self.view_is ∙ sym c.ready_at.ensures.ready) ∙ c.is_none.ensures ∙ ap not c.if-is_none.false in
+    let some = may_step g.S.Site.engine (standing_of i.kept i.parts.items) c.args.self c.args.part _ _ c.self.view_is c.ready_at.ensures.ready c.is_none.ensures c.if-is_none.false in
     let past : IfOk (get_or i.parts.items c.args.part (Ok [])) (λ v. AreOfPast g.S.Site.conditions v (world_due g.S.Site.engine v)) =
     subst (λ (x : Standing _ _ _). IfOk (get_or x.parts c.args.part (Ok [])) (λ v. AreOfPast g.S.Site.conditions v (world_due g.S.Site.engine v))) (sym c.self.view_is) c.ready_at.ensures.past in
     let took = stepped g.met.S.Site.laws i.kept i.parts.items c.args.part c.index_mut.result.now c.index_mut.ensures.value some st.setting st.picks st.stands
@@ -48,8 +53,7 @@ invariant_of-result g c =
 pub returns-clause-took : goal.returns-clause-took
 returns-clause-took g c = λ s done st.
     let i = c.self.inside in
-    let some : is_some (ready_in g.S.Site.engine (standing_of i.kept i.parts.items) c.args.part) ≡ true =
-    ap is_some (ap (λ (x : Standing _ _ _). ready_in g.S.Site.engine x c.args.part) c.self.view_is ∙ sym c.ready_at.ensures.ready) ∙ c.is_none.ensures ∙ ap not c.if-is_none.false in
+    let some = may_step g.S.Site.engine (standing_of i.kept i.parts.items) c.args.self c.args.part _ _ c.self.view_is c.ready_at.ensures.ready c.is_none.ensures c.if-is_none.false in
     let past : IfOk (get_or i.parts.items c.args.part (Ok [])) (λ v. AreOfPast g.S.Site.conditions v (world_due g.S.Site.engine v)) =
     subst (λ (x : Standing _ _ _). IfOk (get_or x.parts c.args.part (Ok [])) (λ v. AreOfPast g.S.Site.conditions v (world_due g.S.Site.engine v))) (sym c.self.view_is) c.ready_at.ensures.past in
     let h : Standing _ _ _ = record (standing_of i.kept i.parts.items) { parts = set i.parts.items c.args.part c.step.new.self; rows = map (λ (v : Vec _ Global). v.items) (set i.kept.rows.items c.args.part c.append.new.self); waiting = c.append-2.new.self.items } in

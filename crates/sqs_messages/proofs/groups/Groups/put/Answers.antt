@@ -40,7 +40,7 @@ pub moved-requires-clause-room : goal.moved-requires-clause-room
 moved-requires-clause-room c e f =
     let m = member _ _ _ _ _ _ _ _ c.as_mut_slice-groups.ensures.value c.requires c.in-Some.ensures.found in
     let room : (group_at c.as_mut_slice-groups.result.now c.in-Some.place).out + 1 ≤ c.args.shelf.now.next =
-    out_room c.args.number c.args.shelf.now.next c.args.shelf.now.items m.shelved c.args.state (record { due = c.args.due; hosts = 0 }) _ m.grouped m.found
+    out_room c.args.number c.args.shelf.now.next c.args.shelf.now.items m.shelved c.args.state (record { due = c.args.due; flags = 0 }) _ m.grouped m.found
     (ap in_flight_at m.is ∙ sym c.in_flight.ensures ∙ e) (sym c.in_flight-2.ensures ∙ f) c.number-next.ensures.ordered c.number-next.ensures.below in
     omega (arith, room, c.number-next.ensures.value, c.number-next.type_inv)
 
@@ -50,7 +50,7 @@ returns-clause-grouped c =
     let names = c.args.self.now.names.keys in
     let groups = c.as_mut_slice-groups.result.now in
     let after = c.moved.new.groups in
-    let mark : Mark = record { due = c.args.due; hosts = 0 } in
+    let mark : Mark = record { due = c.args.due; flags = 0 } in
     let m = member _ _ _ _ _ _ _ _ c.as_mut_slice-groups.ensures.value c.requires c.in-Some.ensures.found in
     let settled : IsSettled (changed (is_numbered c.args.number) (restamped c.args.state c.args.due) items) c.moved.new.shelf.items m.shelved.message.group (is_in_flight m.shelved.message) (in_flight_at c.args.state.place) (group_by names groups) (group_by names after) =
     subst (λ b. IsSettled (changed (is_numbered c.args.number) (restamped c.args.state c.args.due) items) c.moved.new.shelf.items m.shelved.message.group (is_in_flight m.shelved.message) b (group_by names groups) (group_by names after)) c.in_flight-2.ensures

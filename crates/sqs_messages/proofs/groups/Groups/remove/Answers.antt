@@ -2,8 +2,9 @@ use Rattle.std.proofs.Common.{◌≡◌, List, ap, arith, false, subst, sym, ◌
 use Rattle.std.specs.Prelude.{find}
 use Rattle.std.proofs.lemmas.List.{with_items_is}
 use Rattle.sim_clock.specs.Firsts.{without}
+use Rattle.sim_clock.proofs.Lists.{absent_without}
 use Rattle.sqs_model.specs.Queue.{is_in_flight}
-use Rattle.sqs_messages.proofs.Calls.{absent_without, out_some, placed_kept, removed_grouped, removed_led}
+use Rattle.sqs_messages.proofs.Calls.{out_some, placed_kept, removed_grouped, removed_led}
 use Rattle.sqs_messages.proofs.Firsts.{none_of}
 use Rattle.sqs_messages.proofs.Led.{all_without}
 use Rattle.sqs_messages.proofs.Moved.{member, settle_here, stood, written_back}

@@ -19,14 +19,14 @@ join-requires-clause-count c t =
 
 pub returns-clause-grouped : goal.returns-clause-grouped
 returns-clause-grouped c =
-    let s : Shelved = item_of (record { due = c.args.due; hosts = c.hosts_at-hosts.result }) c.args.place c.args.message in
+    let s : Shelved = item_of (record { due = c.args.due; flags = c.hosts_at-hosts.result }) c.args.place c.args.message in
     let items = c.args.shelf.now.items in
     let names = c.args.names.now.keys in
     let groups = c.args.groups.now in
     let own : IsGrouped items c.args.shelf.now.next s.message.group (group_at groups c.args.place) =
     subst (λ j. IsGrouped items c.args.shelf.now.next s.message.group (group_at groups j)) (sym c.requires.place.at) (c.requires.grouped.grouped s.message.group) in
     let off : begins (of_group s.message.group (told (items ++ s ∷ []))) s.message ≡ false → meets 1 s.mark ≡ false = λ later.
-    ap (λ hosts. meets 1 (item_of (record { due = c.args.due; hosts = hosts }) c.args.place c.args.message).mark)
+    ap (λ hosts. meets 1 (item_of (record { due = c.args.due; flags = hosts }) c.args.place c.args.message).mark)
     (c.hosts_at-hosts.ensures (λ empty. let clash : true ≡ false = sym (first_come c.args.shelf.now.next items s (group_at groups c.args.place) own empty) ∙ later in cc)) in
     let out : (group_at c.join.new.groups c.args.place).out ≡ (group_at groups c.args.place).out + bit (is_in_flight s.message) =
     c.join.ensures.out ∙ ap (λ b. (group_at groups c.args.place).out + bit b) c.in_flight-is_out.ensures in
@@ -42,5 +42,5 @@ returns-clause-grouped c =
 
 pub returns-clause-added : goal.returns-clause-added
 returns-clause-added c =
-    let s : Shelved = item_of (record { due = c.args.due; hosts = c.hosts_at-hosts.result }) c.args.place c.args.message in
+    let s : Shelved = item_of (record { due = c.args.due; flags = c.hosts_at-hosts.result }) c.args.place c.args.message in
     c.join.ensures.kept ∙ ap (map unhosted) c.in-Ok.ensures.pushed ∙ map-append unhosted c.args.shelf.now.items (s ∷ [])

@@ -24,16 +24,16 @@ returns-then-mark-hosts-clause-items c =
     let list = c.self.inside.slots in
     let place = c.in-Some.place in
     let same : list ≡ record list { marks = set list.marks place (node list.marks place) } = ap (λ (ms : List Mark). let l : Marked Slot = record list { marks = ms } in l) (sym (set-get_or list.marks place no_mark)) in
-    let hosts : (node list.marks place).hosts ≡ c.args.hosts = ap (λ (m : Mark). m.hosts) (sym c.mark_at-mark.ensures) ∙ c.if-mark-hosts.true in
+    let hosts : (node list.marks place).flags ≡ c.args.hosts = ap (λ (m : Mark). m.flags) (sym c.mark_at-mark.ensures) ∙ c.if-mark-hosts.true in
     ap (λ (h : Holding). h.items) (sym c.self.view_is)
-    ∙ marked_items (node list.marks place) c.self.invariant.places c.in-Some.ensures c.values.ensures.values same c.args.hosts (λ j. let m : Mark = record { due = (node list.marks place).due; hosts = hosts j } in m)
+    ∙ marked_items (node list.marks place) c.self.invariant.places c.in-Some.ensures c.values.ensures.values same c.args.hosts (λ j. let m : Mark = record { due = (node list.marks place).due; flags = hosts j } in m)
     ∙ ap (λ (h : Holding). changed (is_numbered c.args.number) (with_hosts c.args.hosts) h.items) c.self.view_is
 
 pub invariant_of-self : goal.invariant_of-self
 invariant_of-self c =
     let list = c.self.inside.slots in
-    let mark : Mark = record { due = c.mark_at-mark.result.due; hosts = c.args.hosts } in
-    let due = ap (λ (m : Mark). let n : Mark = record { due = m.due; hosts = c.args.hosts } in n) c.mark_at-mark.ensures in
+    let mark : Mark = record { due = c.mark_at-mark.result.due; flags = c.args.hosts } in
+    let due = ap (λ (m : Mark). let n : Mark = record { due = m.due; flags = c.args.hosts } in n) c.mark_at-mark.ensures in
     let items = marked_items mark c.self.invariant.places c.in-Some.ensures c.values.ensures.values c.set_mark.ensures c.args.hosts due in
     record {
       places = marked_shelf mark c.self.invariant.places c.in-Some.ensures c.values.ensures.values c.set_mark.ensures;
@@ -43,7 +43,7 @@ invariant_of-self c =
 
 pub returns-clause-items : goal.returns-clause-items
 returns-clause-items c =
-    let mark : Mark = record { due = c.mark_at-mark.result.due; hosts = c.args.hosts } in
-    let due = ap (λ (m : Mark). let n : Mark = record { due = m.due; hosts = c.args.hosts } in n) c.mark_at-mark.ensures in
+    let mark : Mark = record { due = c.mark_at-mark.result.due; flags = c.args.hosts } in
+    let due = ap (λ (m : Mark). let n : Mark = record { due = m.due; flags = c.args.hosts } in n) c.mark_at-mark.ensures in
     marked_items mark c.self.invariant.places c.in-Some.ensures c.values.ensures.values c.set_mark.ensures c.args.hosts due
     ∙ ap (λ (h : Holding). changed (is_numbered c.args.number) (with_hosts c.args.hosts) h.items) c.self.view_is

@@ -21,7 +21,7 @@ returns-then-timeout-eq0-clause-given c =
     ap (λ (r : Queue). gives r c.args.now c.args.timeout c.args.number) (sym c.self.view_is)
     ∙ gives_back (record q { entries = c.self.inside.entries }) c.args.now c.args.timeout c.args.number (eq-eqb c.args.timeout 0 c.if-timeout-eq0.true)
     ∙ ap (λ (r : Queue). released (record r { entries = c.self.inside.entries }) c.args.number) (sym put)
-    ∙ c.come_back.ensures.answer
+    ∙ c.release.ensures.answer
 
 pub returns-else-timeout-eq0-clause-given : goal.returns-else-timeout-eq0-clause-given
 returns-else-timeout-eq0-clause-given c =

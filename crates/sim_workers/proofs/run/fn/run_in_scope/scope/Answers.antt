@@ -4,7 +4,7 @@ use Rattle.std.proofs.lemmas.Result.{IfErr-weaker}
 use Rattle.sim_windows.specs.Sinks.{HasStopped}
 use Rattle.sim_workers.specs.Runs.{RanOn}
 use Rattle.sim_engine.specs.Laws.{SiteLaws}
-use Rattle.sim_workers.proofs.Ran.{ran_not, ran_so}
+use Rattle.sim_workers.proofs.Ended.{ran_not, ran_so}
 use Rattle.sim_workers.proofs.run.fn.run_in_scope.scope.Goals.{else-ready, then-ready}
 use Rattle.sim_workers.proofs.run.fn.run_in_scope.scope.Goals as goal
 
@@ -22,12 +22,5 @@ returns g c =
                 (subst (λ k. RanOn g.S.Site.engine g.K.RowSink.ready g.K.RowSink.took g.K.RowSink.broke s c.captures.sink.now w.run_stage.result k) (sym w.sink-is) ran)
             | else-ready w ↦
                 ran_not laws g.K.RowSink.ready g.K.RowSink.took g.K.RowSink.broke s c.captures.sink.now c.if-ready.outcome c.if-ready.sink (w.outcome-is ∙ c.requires.none) w.sink-is (g.met.K.RowSink.unchanged c.captures.sink.now)
-          ];
-      alone = λ none s on.
-          elim c.if-ready.branch [
-            | then-ready w ↦
-                subst (λ o. IfErr o (λ e. HasStopped g.S.Site.engine g.K.RowSink.took g.K.RowSink.broke s c.captures.sink.now e c.if-ready.sink)) (sym w.outcome-is)
-                (subst (λ k. IfErr w.run_stage.result (λ e. HasStopped g.S.Site.engine g.K.RowSink.took g.K.RowSink.broke s c.captures.sink.now e k)) (sym w.sink-is) (IfErr-weaker w.run_stage.result _ _ (λ refusal stopped. stopped s on) w.run_stage.ensures.stops))
-            | else-ready w ↦ absurd (true≢false (sym (c.start_all-ready.ensures.alone none) ∙ w.if-ready.false))
           ];
     }

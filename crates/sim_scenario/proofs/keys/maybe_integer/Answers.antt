@@ -1,8 +1,0 @@
-use Rattle.sim_scenario.proofs.Then.{some_ok, some_fails}
-use Rattle.sim_scenario.proofs.keys.maybe_integer.Goals as goal
-
-pub returns-in-Ok : goal.returns-in-Ok
-returns-in-Ok c = rw (← c.member.ensures, c.in-Some.is) (some_ok _ _ c.in-Ok.ensures.value)
-
-pub returns-in-Err : goal.returns-in-Err
-returns-in-Err c = rw (← c.member.ensures, c.in-Some.is) (some_fails _ _ c.in-Err.ensures.value)

@@ -1,9 +1,0 @@
-use Rattle.std.proofs.Common.{◌≡◌, codes, drop, map, []}
-use Rattle.toml.specs.View.{view}
-use Rattle.sqs_formats.specs.Queues.{dead_letter}
-use Rattle.sim_scenario.proofs.EachItem.{Left}
-use Rattle.sim_scenario.proofs.lists.dead_letters.Given as goal
-
--- what is left, with what was read so far, is the whole
-abbrev pub invariant-loop-i : goal.invariant-loop-i
-invariant-loop-i l = Left (codes "queue") (dead_letter l.outline) 0 [] (map view l.values) ≡ Left (codes "queue") (dead_letter l.outline) l.i l.dead_letters.items (map view (drop l.i l.values))

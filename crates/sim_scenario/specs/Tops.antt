@@ -1,0 +1,28 @@
+-- The top table that the code holds.
+use Rattle.std.specs.Prelude.{◌≤◌, ◌+◌, length, map}
+use Rattle.toml.specs.View.{view}
+use Rattle.sqs_formats.specs.Scenario.{Top}
+use Rattle.sqs_model.specs.Valid.{Between}
+use Rattle.sim_scenario.specs.declared.top.Top.{Top as Held}
+
+-- as the definitions have it
+abbrev pub top_view : Held → Top
+top_view h =
+    record {
+      version = h.version;
+      horizon = h.horizon;
+      seed = h.seed;
+      sample = h.sample;
+      queues = map view h.queues.now;
+      actors = map view h.actors.now;
+      tasks = map view h.tasks.now;
+    }
+
+-- the numbers of the top table are in range
+pub record IsTop (t : Top) : Type 0 where
+  pub version : Between 1 2 t.version
+  pub horizon : Between 1 2592000000 t.horizon
+  pub seed : t.seed ≤ 9223372036854775807
+  pub sample : t.sample ≤ 2592000000
+  pub few_queues : Between 1 1000 (length t.queues)
+  pub few_agents : length t.actors + length t.tasks ≤ 10000

@@ -1,0 +1,115 @@
+//! The types of keys: how a value at a key is read.
+ghost use Rattle.std.specs.Prelude.{◌≤◌, IfOk};
+ghost use Rattle.toml.specs.View.{view};
+ghost use Rattle.sqs_formats.specs.Keys.{integer as an_integer, place_of};
+ghost use Rattle.sim_scenario.specs.Gives.{Gives};
+ghost use Rattle.sim_scenario.specs.Sections.{table_of};
+
+use crate::fault::ReadError;
+use crate::section::Section;
+use sim_clock::Refusal;
+use toml::Value;
+
+/// A type of key.
+pub(crate) trait KeyType {
+    ghost use Rattle.toml.specs.View.{view};
+    ghost use Rattle.sqs_formats.specs.Keys.{KeyType, place_of};
+    ghost use Rattle.sim_scenario.specs.Gives.{Gives};
+    ghost use Rattle.sim_scenario.specs.Sections.{table_of};
+
+    /// What a value says.
+    type Value: Drop;
+
+    // The same type of key in the definitions.
+    ghost says: { Self → KeyType Self.Value };
+
+    /// Reads the value at a key of a table.
+    fn read(
+        &self,
+        section: &Section<'_>,
+        value: &Value,
+        key: &str,
+    ) -> Result<Self::Value, ReadError>
+        ensures { Gives (λ x. x) result
+            (says self.now (place_of (table_of section.now) key.now) (view value.now)) };
+}
+
+/// The number in a value, from `low` to `high`.
+#[tactic(auto, unfolding(sqs_formats::specs::Keys::integer, sqs_formats::specs::Reading::and_then))]
+fn number(
+    section: &Section<'_>,
+    value: &Value,
+    key: &str,
+    low: u64,
+    high: u64,
+) -> Result<u64, ReadError>
+    ensures value { Gives (λ n. n) result
+        (an_integer low high (place_of (table_of section.now) key.now) (view value.now)) }
+    ensures most { IfOk result (λ n. n ≤ high) }
+{
+    let Some(n) = value.as_integer() else {
+        return Err(section.blame(Refusal::WrongType, key));
+    };
+    if n < 0 {
+        return Err(section.blame(Refusal::OutOfRange, key));
+    }
+    let n = n as u64;
+    if low <= n && n <= high {
+        Ok(n)
+    } else {
+        Err(section.blame(Refusal::OutOfRange, key))
+    }
+}
+
+/// An integer from the first number to the second.
+#[derive(Drop)]
+pub(crate) struct Integer(pub(crate) u64, pub(crate) u64);
+
+impl KeyType for Integer {
+    type Value = u64;
+
+    ghost use Rattle.sqs_formats.specs.Keys.{integer};
+
+    ghost says = { λ k. integer k.0 k.1 };
+
+    fn read(&self, section: &Section<'_>, value: &Value, key: &str) -> Result<u64, ReadError> {
+        number(section, value, key, self.0, self.1)
+    }
+}
+
+/// A time in seconds from the first number to the second, which is read as milliseconds.
+#[derive(Drop)]
+pub(crate) struct Seconds(pub(crate) u32, pub(crate) u32);
+
+impl KeyType for Seconds {
+    type Value = u64;
+
+    ghost use Rattle.sqs_formats.specs.Keys.{seconds};
+
+    ghost says = { λ k. seconds k.0 k.1 };
+
+    #[tactic(auto, unfolding(sqs_formats::specs::Keys::seconds, sqs_formats::specs::Reading::and_then))]
+    fn read(&self, section: &Section<'_>, value: &Value, key: &str) -> Result<u64, ReadError> {
+        let seconds = number(section, value, key, self.0 as u64, self.1 as u64)?;
+        Ok(1000 * seconds)
+    }
+}
+
+/// True or false.
+#[derive(Drop)]
+pub(crate) struct Boolean;
+
+impl KeyType for Boolean {
+    type Value = bool;
+
+    ghost use Rattle.sqs_formats.specs.Keys.{boolean};
+
+    ghost says = { λ k. boolean };
+
+    fn read(&self, section: &Section<'_>, value: &Value, key: &str) -> Result<bool, ReadError> {
+        match value.as_bool() {
+            Some(truth) => Ok(truth),
+            None => Err(section.blame(Refusal::WrongType, key)),
+        }
+    }
+}

@@ -1,0 +1,6 @@
+pub mod Listing
+pub mod WholeText
+pub mod Digits
+pub mod RecordFields
+pub mod RecordCalls
+pub mod ScriptRanges

@@ -1,0 +1,2 @@
+pub mod ScriptGives
+pub mod Ranges

@@ -1,0 +1,77 @@
+-- What a sink took in turn it took together.
+use Rattle.std.proofs.Common.{◌≡◌, ◌++◌, ◌∙◌, [], ℕ, Bool, Err, List, Option, ap, append-nil, append_assoc, refl, subst, sym}
+use Rattle.std.proofs.lemmas.Grind.{flat_map-append}
+use Rattle.std.proofs.lemmas.List.{map-append}
+use Rattle.std.specs.Io.KnownBytes.{Appends}
+use Rattle.csv.proofs.WriteFacts.{appends-more, appends-none}
+use Rattle.sim_clock.specs.declared.refusal.Refusal.{Refusal}
+use Rattle.sqs_message.specs.declared.row.Row.{Row}
+use Rattle.sqs_formats.specs.Rows.{line}
+use Rattle.sim_records.specs.Writes.{WroteSeveral}
+use Rattle.sim_records.proofs.Writes.{several_after}
+use Rattle.sim_report.specs.declared.queue.QueueCounts.{QueueCounts}
+use Rattle.sim_report.specs.Running.{running}
+use Rattle.sqs_rehearsal.specs.declared.counter.Counter.{Counter}
+use Rattle.sqs_rehearsal.specs.declared.recorder.Recorder.{Recorder}
+use Rattle.sqs_rehearsal.specs.Sinks.{Added, Counted, IsSame, Recorded, StoppedAt, lines_of}
+
+-- a report with no more rows
+added_none : (report : List QueueCounts) → Added report [] report
+added_none report = λ names sofar is. is ∙ ap (running names) (sym (append-nil sofar))
+
+-- a report with some rows, and then others
+added_both : (a b c : List QueueCounts) (xs ys : List Row) → Added a xs b → Added b ys c → Added a (xs ++ ys) c
+added_both a b c xs ys first second =
+    λ names sofar is. second names (sofar ++ xs) (first names sofar is) ∙ ap (running names) (append_assoc sofar xs ys)
+
+-- a counter as it was took nothing
+pub counted_none : (counter : Counter) → Counted counter [] counter
+counted_none counter = record { same = refl; added = added_none counter.report.now }
+
+-- a counter took some rows, and then others
+pub counted_both : (a b c : Counter) (xs ys : List Row) → Counted a xs b → Counted b ys c → Counted a (xs ++ ys) c
+counted_both a b c xs ys first second =
+    record { same = second.same ∙ first.same; added = added_both a.report.now b.report.now c.report.now xs ys first.added second.added }
+
+-- the same from first to last
+same_both : {W P : Type 0} (a b c : Recorder W P) → IsSame a b → IsSame b c → IsSame a c
+same_both a b c first second =
+    record { names = second.names ∙ first.names; writer = second.writer ∙ first.writer; report = second.report ∙ first.report }
+
+-- the lines of some rows, and then those of others
+lines_both : {W P : Type 0} (a b : Recorder W P) (xs ys : List Row) → IsSame a b → lines_of a xs ++ lines_of b ys ≡ lines_of a (xs ++ ys)
+lines_both a b xs ys same = rw (same.names, map-append, flat_map-append line) refl
+
+module _ {W P : Type 0} (held : W → Option (List ℕ)) (failed : W → Bool) where
+  -- a recorder as it was took nothing
+  pub recorded_none : (recorder : Recorder W P) → Recorded held failed recorder [] recorder
+  recorded_none recorder =
+      record {
+        same = record { names = refl; writer = refl; report = refl };
+        written = appends-none (held recorder.out.now);
+        works = λ works. works;
+        added = added_none recorder.report.now;
+      }
+
+  -- a recorder took some rows, and then others
+  pub recorded_both : (a b c : Recorder W P) (xs ys : List Row) → Recorded held failed a xs b → Recorded held failed b ys c → Recorded held failed a (xs ++ ys) c
+  recorded_both a b c xs ys first second =
+      record {
+        same = same_both a b c first.same second.same;
+        written =
+            subst (λ (t : List ℕ). Appends (held a.out.now) (held c.out.now) t) (lines_both a b xs ys first.same)
+            (appends-more _ _ _ _ _ first.written second.written);
+        works = λ works. second.works (first.works works);
+        added = added_both a.report.now b.report.now c.report.now xs ys first.added second.added;
+      }
+
+  -- a recorder took some rows, and then stopped at others
+  pub stopped_later : (a b c : Recorder W P) (xs ys : List Row) (refusal : Refusal)
+      → Recorded held failed a xs b → StoppedAt held failed b ys refusal c → StoppedAt held failed a (xs ++ ys) refusal c
+  stopped_later a b c xs ys refusal first second =
+      record {
+        same = same_both a b c first.same second.same;
+        written =
+            subst (λ (t : List ℕ). WroteSeveral (held a.out.now) (held c.out.now) (failed c.out.now) t (Err refusal)) (lines_both a b xs ys first.same)
+            (several_after _ _ _ _ _ _ (Err refusal) first.written second.written);
+      }

@@ -1,0 +1,156 @@
+ghost use Rattle.std.specs.Prelude.{◌≡◌};
+
+use crate::tests::same::same;
+use sqs_message::{
+    Call, HandleForm, Message, MessageId, Origin, Place, Receipt, ReceiptHandle, Script,
+    ScriptCall, Text, body_md5, body_sha256,
+};
+use std::alloc::{AllocError, Global};
+use std::process::Abort;
+
+fn text(rt: &impl Abort, alloc: Global, bytes: &[u8]) -> Text {
+    Text::new(bytes.to_vec(alloc).expect(rt, "memory"))
+}
+
+fn receipt(site: u32, number: u64, count: u64) -> Receipt
+    ensures { result ≡ record { site = site; number = number; count = count } }
+{
+    Receipt {
+        site,
+        number,
+        count,
+    }
+}
+
+// Compares what was written of something.
+fn try_written(rt: &impl Abort, written: Result<String, AllocError>, wanted: &str) {
+    same(rt, written.expect(rt, "memory").as_str(), wanted);
+}
+
+#[test]
+fn ids_are_written(rt: HostRuntime) {
+    let id = MessageId { site: 2, number: 0 };
+    let origin = Origin {
+        site: 0,
+        number: 4611686018427387903,
+    };
+    let receipt = receipt(0, 12, 1);
+    try_written(&rt, id.text(rt.alloc()), "m-2-0");
+    try_written(&rt, origin.text(rt.alloc()), "o-0-4611686018427387903");
+    try_written(&rt, receipt.text(rt.alloc()), "r-0-12-1");
+}
+
+#[test]
+fn receipts_are_read_back_and_nothing_else(rt: HostRuntime) {
+    let receipt = receipt(4294967295, 4611686018427387903, 1);
+    let text = "r-4294967295-4611686018427387903-1";
+    same(&rt, Receipt::read(text), Some(receipt));
+    for &other in &[
+        "",
+        "r",
+        "r-",
+        "r-0",
+        "r-0-12",
+        "r-0-12-",
+        "r-0-12-0",
+        "r-0-012-1",
+        "r-00-12-1",
+        "r-0-+12-1",
+        "r-0--1",
+        "r-0-12-1-",
+        "r-0-12-1 ",
+        "R-0-12-1",
+        "m-0-12",
+        "r-4294967296-12-1",
+        "r-0-4611686018427387904-1",
+        "r-0-12-4611686018427387904",
+        "r-0-99999999999999999999-1",
+    ] {
+        same(&rt, (other, Receipt::read(other)), (other, None));
+    }
+}
+
+// Whether a handle was given as a text.
+fn is_text(handle: &ReceiptHandle) -> bool {
+    match handle.form() {
+        HandleForm::Made(_) => false,
+        HandleForm::Text(_) => true,
+    }
+}
+
+#[test]
+fn handles_are_receipts_where_they_fit(rt: HostRuntime) {
+    let never_received = receipt(0, 12, 0);
+    let receipt = receipt(0, 12, 1);
+    let made = ReceiptHandle::from(receipt);
+    let given = ReceiptHandle::from(text(&rt, rt.alloc(), b"r-0-12-1"));
+    let other = ReceiptHandle::from(text(&rt, rt.alloc(), b"r-0-12-1\xff"));
+    same(
+        &rt,
+        (made.receipt(), is_text(&made)),
+        (Some(receipt), false),
+    );
+    same(
+        &rt,
+        (given.receipt(), is_text(&given)),
+        (Some(receipt), true),
+    );
+    same(&rt, other.receipt(), None);
+    same(&rt, ReceiptHandle::from(never_received).receipt(), None);
+}
+
+#[test]
+fn digests_of_abc(rt: HostRuntime) {
+    let md5 = "900150983cd24fb0d6963f7d28e17f72";
+    let sha256 = "ba7816bf8f01cfea414140de5dae2223b00361a396177a9cb410ff61f20015ad";
+    try_written(&rt, hex::encode(rt.alloc(), &body_md5(b"abc")), md5);
+    try_written(&rt, hex::encode(rt.alloc(), &body_sha256(b"abc")), sha256);
+}
+
+#[test]
+fn texts_are_made_copied_and_given_back(rt: HostRuntime) {
+    let first = text(&rt, rt.alloc(), b"abc");
+    let other = text(&rt, rt.alloc(), b"abd");
+    let copy = first.copy(rt.alloc()).expect(&rt, "memory");
+    same(&rt, (first == copy, first == other), (true, false));
+    same(&rt, copy.as_bytes(), b"abc".as_slice());
+    same(&rt, copy.into_bytes().as_slice(), b"abc".as_slice());
+}
+
+// The moment of the only call.
+fn moment(calls: &[ScriptCall]) -> Option<u64> {
+    match calls {
+        [only] => Some(only.at),
+        _ => None,
+    }
+}
+
+#[test]
+fn scripts_are_plain_data(rt: HostRuntime) {
+    let call = Call::Receive {
+        max: 1,
+        wait: 0,
+        timeout: None,
+    };
+    let calls = vec![in rt.alloc(); ScriptCall { at: 7, call }];
+    let script = Script::new(calls.expect(&rt, "memory"));
+    same(&rt, moment(script.as_slice()), Some(7));
+    same(&rt, moment(&script.into_vec()), Some(7));
+}
+
+#[test]
+fn messages_are_plain_data(rt: HostRuntime) {
+    let message = Message {
+        number: 0,
+        origin: Origin { site: 0, number: 0 },
+        body: text(&rt, rt.alloc(), b"abc"),
+        group: None,
+        enqueued: 5,
+        place: Place::Visible,
+        release: None,
+        receives: 0,
+        received: 0,
+        source: None,
+    };
+    same(&rt, message.body.as_bytes(), b"abc".as_slice());
+}

@@ -1,0 +1,62 @@
+//! The ways and the parts of scenarios that were read. The expected values follow from the rules of
+//! the formats.
+use crate::tests::machines::scenario;
+use sim_engine::Edge;
+use sim_scenario::{Scenario, edges};
+use std::alloc::Global;
+
+// Whether these are the ways of a scenario.
+fn has_ways(alloc: Global, scenario: &Scenario, wanted: &[Edge]) -> bool {
+    match edges(alloc, scenario) {
+        Ok(ways) => ways.as_slice() == wanted,
+        Err(_) => false,
+    }
+}
+
+// A way from one queue to another, and the least time that it takes.
+fn way(from: u32, to: u32, least: u64) -> Edge {
+    Edge { from, to, least }
+}
+
+// The queues are 0 to 3: orders and returns, whose dead letters go to dead, and archive.
+#[test]
+fn scenarios_give_their_ways(rt: HostRuntime) {
+    let text =
+        b"version = 2\nhorizon = 90\n[[queue]]\nname = 'orders'\ndead_letter = 'dead'\nmax_receives = 3\nlatency_min_ms = 10\nlatency_max_ms = 15\n[[queue]]\nname = 'returns'\ndead_letter = 'dead'\nmax_receives = 3\nlatency_min_ms = 20\nlatency_max_ms = 25\n[[queue]]\nname = 'dead'\n[[queue]]\nname = 'archive'\n[[actor]]\nname = 'packer'\nkind = 'consumer'\nqueue = 'orders'\nservice_min_ms = 1\nservice_max_ms = 2\nforward = 'archive'\nlatency_min_ms = 30\nlatency_max_ms = 35\n[[actor]]\nname = 'reader'\nkind = 'consumer'\nqueue = 'dead'\nservice_min_ms = 1\nservice_max_ms = 2\n[[actor]]\nname = 'sorter'\nkind = 'consumer'\nqueue = 'archive'\nservice_min_ms = 1\nservice_max_ms = 2\nforward = 'returns'\nlatency_min_ms = 40\nlatency_max_ms = 45\n[[task]]\nname = 'away'\nqueue = 'dead'\nto = 'archive'\nlatency_min_ms = 50\nlatency_max_ms = 55\n[[task]]\nname = 'back'\nqueue = 'dead'\nlatency_min_ms = 60\nlatency_max_ms = 65\n".as_slice();
+    let wanted = [
+        way(0, 2, 10),
+        way(1, 2, 20),
+        way(0, 3, 30),
+        way(3, 1, 40),
+        way(2, 3, 50),
+        way(2, 0, 60),
+        way(2, 1, 60),
+    ];
+    match scenario(rt.alloc(), text) {
+        Some(scenario) => assert!(rt; has_ways(rt.alloc(), &scenario, &wanted)),
+        None => assert!(rt; false),
+    }
+}
+
+// Whether a scenario has this horizon, seed and sample, and one queue with this visibility timeout
+// and this name.
+fn has_parts(scenario: Scenario, numbers: (u64, u64, u64), visibility: u64, name: &[u8]) -> bool {
+    let is_timed = (scenario.horizon(), scenario.seed(), scenario.sample()) == numbers;
+    let parts = scenario.into_parts();
+    match (parts.queues.as_slice(), parts.names.as_slice()) {
+        ([queue], [text]) => {
+            is_timed && queue.visibility == visibility && text.as_bytes() == name
+        }
+        _ => false,
+    }
+}
+
+#[test]
+fn scenarios_give_their_parts(rt: HostRuntime) {
+    let text =
+        b"version = 1\nhorizon = 90\nseed = 7\nsample = 5\n[[queue]]\nname = 'q'\nvisibility_s = 3\n";
+    match scenario(rt.alloc(), text) {
+        Some(scenario) => assert!(rt; has_parts(scenario, (90, 7, 5), 3000, b"q")),
+        None => assert!(rt; false),
+    }
+}

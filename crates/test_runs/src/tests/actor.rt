@@ -1,0 +1,397 @@
+//! Lives of actors, step by step: the answers that they get and what they do.
+ghost use Rattle.std.specs.Prelude.{◌≤◌, length};
+ghost use Rattle.sqs_model.specs.Valid.{IsLatency};
+ghost use Rattle.sim_actor.specs.Lives.{IsRole};
+
+use crate::tests::same::same;
+use sim_actor::Actor;
+use sqs_message::{
+    Call, HandleForm, MessageId, Origin, Receipt, ReceiptHandle, Script, ScriptCall, Text,
+};
+use sqs_model::{Act, ActorSettings, Answer, ConsumerSettings, Forwarding, ProducerSettings, Role};
+use sqs_redrive::{Batch, Got, Latency, Load, Outbound};
+use std::alloc::{AllocError, Global};
+use std::fmt::Write;
+use std::process::Abort;
+use std::str;
+
+// The text of some letters.
+fn text(rt: &impl Abort, alloc: Global, letters: &str) -> Text {
+    Text::new(letters.as_bytes().to_vec(alloc).expect(rt, "memory"))
+}
+
+// The letters of a text.
+fn letters(text: &Text) -> &str {
+    match str::from_utf8(text.as_bytes()) {
+        Ok(letters) => letters,
+        Err(_) => "not text",
+    }
+}
+
+// The letters of a text that may be absent.
+fn letters_if(text: &Option<Text>) -> &str {
+    match text {
+        None => "-",
+        Some(text) => letters(text),
+    }
+}
+
+type Shown = Result<(), AllocError>;
+
+// A transfer in a line.
+fn show_transfer(out: &mut String, sent: &Outbound) -> Shown {
+    let body = match &sent.load {
+        Load::Forward { body, .. } => letters(body),
+        _ => "no forward",
+    };
+    write!(
+        out,
+        " at {} from {} {} number {} to {} {body}",
+        sent.at, sent.sender, sent.from, sent.number, sent.to
+    )
+}
+
+// A receipt.
+fn show_receipt(out: &mut String, receipt: Receipt) -> Shown {
+    let Receipt {
+        site,
+        number,
+        count,
+    } = receipt;
+    write!(out, "r-{site}-{number}-{count}")
+}
+
+// The receipt handle of a call.
+fn show_handle(out: &mut String, handle: &ReceiptHandle) -> Shown {
+    match handle.form() {
+        HandleForm::Made(receipt) => show_receipt(out, *receipt),
+        HandleForm::Text(text) => out.push_str(letters(text)),
+    }
+}
+
+// The end of a service in a line.
+fn show_service(
+    out: &mut String,
+    receipt: Receipt,
+    failed: bool,
+    forward: &Option<Outbound>,
+) -> Shown {
+    out.push_str("serve ")?;
+    show_receipt(out, receipt)?;
+    write!(out, " {failed}")?;
+    match forward {
+        None => Ok(()),
+        Some(sent) => show_transfer(out, sent),
+    }
+}
+
+// An act in a line.
+fn show(out: &mut String, act: &Act) -> Shown {
+    match act {
+        Act::Send {
+            body,
+            delay,
+            group,
+            id,
+        } => {
+            let (body, group, id) = (letters(body), letters_if(group), letters_if(id));
+            write!(out, "send {body} {:?} {group} {id}", *delay)
+        }
+        Act::Receive { max, wait, timeout } => {
+            write!(out, "receive {max} {wait} {:?}", *timeout)
+        }
+        Act::Delete { receipt } => {
+            out.push_str("delete ")?;
+            show_handle(out, receipt)
+        }
+        Act::Change { receipt, timeout } => {
+            out.push_str("change ")?;
+            show_handle(out, receipt)?;
+            write!(out, " {timeout}")
+        }
+        Act::Start { task } => write!(out, "start {task}"),
+        Act::Cancel { task } => write!(out, "cancel {task}"),
+        Act::Serve {
+            receipt,
+            failed,
+            forward,
+            ..
+        } => show_service(out, *receipt, *failed, forward),
+        Act::Nothing => out.push_str("nothing"),
+    }
+}
+
+// A message of queue 2 that was received once.
+fn got(rt: &impl Abort, alloc: Global, number: u64, body: &str) -> Got {
+    Got {
+        id: MessageId { site: 2, number },
+        receipt: Receipt {
+            site: 2,
+            number,
+            count: 1,
+        },
+        origin: Origin { site: 2, number },
+        group: None,
+        body: text(rt, alloc, body),
+        left: None,
+    }
+}
+
+// The answer that an actor gets, in a table.
+#[derive(Clone, Copy)]
+enum Told {
+    Wake,
+    Two,
+    Empty,
+    Waiting,
+    Other,
+}
+
+// The answer that this means; two messages are 4 and 6 with the bodies x and y.
+fn answer(rt: &impl Abort, alloc: Global, told: Told) -> Answer {
+    match told {
+        Told::Wake => Answer::Wake,
+        Told::Two => {
+            let (first, second) = (got(rt, alloc, 4, "x"), got(rt, alloc, 6, "y"));
+            let messages = vec![in alloc; first, second].expect(rt, "memory");
+            Answer::Got(Batch::new(messages))
+        }
+        Told::Empty => Answer::Got(Batch::new(Vec::new(alloc))),
+        Told::Waiting => Answer::Waiting,
+        Told::Other => Answer::Other,
+    }
+}
+
+// A step of a life: the moment, the answer that the actor gets, its act in a line, and its wake
+// after it.
+type Step = (u32, Told, &'static str, Option<u64>);
+
+// Takes an actor through the steps of a life.
+fn live(rt: &impl Abort, alloc: Global, actor: &mut Actor, steps: &[Step]) {
+    for &(now, told, wanted, wake) in steps {
+        let answer = answer(rt, alloc, told);
+        let act = actor.next(u64::from(now), answer).expect(rt, "an act");
+        let mut line = String::new(alloc);
+        show(&mut line, &act).expect(rt, "memory");
+        same(rt, (now, line.as_str(), actor.wake()), (now, wanted, wake));
+    }
+}
+
+// A script call at a moment.
+fn at(at: u64, call: Call) -> ScriptCall {
+    ScriptCall { at, call }
+}
+
+// A script of every call.
+fn every_call(rt: &impl Abort, alloc: Global) -> Script
+    ensures { length result ≤ 100000 }
+{
+    let send = Call::Send {
+        body: text(rt, alloc, "a{n}"),
+        delay: Some(3),
+        group: Some(text(rt, alloc, "g")),
+        id: None,
+    };
+    let receive = Call::Receive {
+        max: 10,
+        wait: 20,
+        timeout: None,
+    };
+    let delete = Call::Delete {
+        receipt: text(rt, alloc, "r-0-0-1"),
+    };
+    let change = Call::Change {
+        receipt: text(rt, alloc, "r-0-1-1"),
+        timeout: 0,
+    };
+    let start = Call::Start { task: 4 };
+    let cancel = Call::Cancel { task: 5 };
+    let calls = vec![in alloc;
+        at(10, send),
+        at(20, receive),
+        at(30, delete),
+        at(40, change),
+        at(50, start),
+        at(60, cancel),
+    ];
+    Script::new(calls.expect(rt, "memory"))
+}
+
+// A producer of three messages.
+fn producer(body: Text, gap_min: u32, groups: Option<u64>, ids: bool) -> ActorSettings
+    requires most { gap_min ≤ 100 }
+    requires some { 1 ≤ gap_min }
+    ensures { IsRole result.role }
+{
+    ActorSettings {
+        home: 0,
+        role: Role::Producer(ProducerSettings {
+            count: 3,
+            start: 5,
+            gap_min: u64::from(gap_min),
+            gap_max: 100,
+            body,
+            groups,
+            ids,
+            delay: Some(9),
+        }),
+    }
+}
+
+// A consumer at queue 2 that serves for 1 to 100 ms and waits for 1,000 after it got nothing. Its
+// forwards take from `least` to `greatest` milliseconds.
+fn consumer(fail_permille: u64, least: u64, greatest: u64) -> ActorSettings
+    requires failures { fail_permille ≤ 1000 }
+    requires latency { IsLatency (record { least = least; greatest = greatest }) }
+    ensures { IsRole result.role }
+{
+    let latency = Latency { least, greatest };
+    ActorSettings {
+        home: 2,
+        role: Role::Consumer(ConsumerSettings {
+            start: 7,
+            batch: 2,
+            wait: 5,
+            timeout: Some(30),
+            service_min: 1,
+            service_max: 100,
+            fail_permille,
+            idle: 1000,
+            forward: Some(Forwarding { to: 3, latency }),
+        }),
+    }
+}
+
+#[test]
+fn script_makes_each_call_at_its_time(rt: HostRuntime) {
+    let settings = ActorSettings {
+        home: 0,
+        role: Role::Script(every_call(&rt, rt.alloc())),
+    };
+    let mut actor = Actor::new(rt.alloc(), 1, settings, 0);
+    same(&rt, (actor.number(), actor.settings().home), (1, 0));
+    same(&rt, actor.wake(), Some(10));
+    let life: &[Step] = &[
+        (10, Told::Wake, "send a{n} Some(3) g -", Some(20)),
+        (10, Told::Other, "nothing", Some(20)),
+        (20, Told::Wake, "receive 10 20 None", Some(30)),
+        (20, Told::Waiting, "nothing", Some(30)),
+        (30, Told::Wake, "delete r-0-0-1", Some(40)),
+        (35, Told::Two, "nothing", Some(40)),
+        (40, Told::Wake, "change r-0-1-1 0", Some(50)),
+        (50, Told::Wake, "start 4", Some(60)),
+        (60, Told::Wake, "cancel 5", None),
+        (70, Told::Wake, "nothing", None),
+    ];
+    live(&rt, rt.alloc(), &mut actor, life);
+}
+
+// Takes a producer with this number, under seed 0, through a life.
+fn produce(rt: &impl Abort, alloc: Global, number: u32, settings: ActorSettings, steps: &[Step])
+    requires { IsRole settings.role }
+{
+    let mut actor = Actor::new(alloc, number, settings, 0);
+    same(rt, actor.wake(), Some(5));
+    live(rt, alloc, &mut actor, steps);
+}
+
+#[test]
+fn producer_sends_in_turn_and_stops(rt: HostRuntime) {
+    let settings = producer(text(&rt, rt.alloc(), "{n}"), 100, Some(2), true);
+    let life: &[Step] = &[
+        (5, Told::Wake, "send 0 Some(9) g0 7-0", None),
+        (5, Told::Other, "nothing", Some(105)),
+        (105, Told::Wake, "send 1 Some(9) g1 7-1", None),
+        (105, Told::Other, "nothing", Some(205)),
+        (205, Told::Wake, "send 2 Some(9) g0 7-2", None),
+        (205, Told::Other, "nothing", None),
+    ];
+    produce(&rt, rt.alloc(), 7, settings, life);
+}
+
+#[test]
+fn producer_draws_its_gaps(rt: HostRuntime) {
+    // The first two words of agent 0 under seed 0 give 68 and 57.
+    let settings = producer(text(&rt, rt.alloc(), "b"), 1, None, false);
+    let life: &[Step] = &[
+        (5, Told::Wake, "send b Some(9) - -", None),
+        (5, Told::Other, "nothing", Some(73)),
+        (73, Told::Wake, "send b Some(9) - -", None),
+        (73, Told::Other, "nothing", Some(130)),
+    ];
+    produce(&rt, rt.alloc(), 0, settings, life);
+}
+
+// Takes a consumer with number 0, under seed 0, through a life, and then counts a poll of it and
+// its wakes.
+fn consume(rt: &impl Abort, alloc: Global, settings: ActorSettings, steps: &[Step], wakes: u64)
+    requires { IsRole settings.role }
+{
+    let mut actor = Actor::new(alloc, 0, settings, 0);
+    same(rt, actor.wake(), Some(7));
+    live(rt, alloc, &mut actor, steps);
+    actor.polled().expect(rt, "a count");
+    same(rt, (actor.polls(), actor.wakes()), (1, wakes));
+}
+
+#[test]
+fn consumer_forwards_deletes_fails_and_rests(rt: HostRuntime) {
+    // The words of agent 0 under seed 0 give in turn: a service of 68 ms; 563 of 1,000, no failure;
+    // a service of 90 ms; 159 of 1,000, a failure. The latency takes no word.
+    let receive = "receive 2 5 Some(30)";
+    let first = "serve r-2-4-1 false at 575 from 0 2 number 0 to 3 x";
+    let life: &[Step] = &[
+        (7, Told::Wake, receive, None),
+        (7, Told::Two, "nothing", Some(75)),
+        (75, Told::Wake, first, None),
+        (75, Told::Other, "delete r-2-4-1", None),
+        (75, Told::Other, "nothing", Some(165)),
+        (165, Told::Wake, "serve r-2-6-1 true", None),
+        (165, Told::Other, "nothing", Some(166)),
+        (166, Told::Wake, receive, None),
+        (166, Told::Waiting, "nothing", None),
+        (5166, Told::Empty, "nothing", Some(6166)),
+        (6166, Told::Wake, receive, None),
+        (6166, Told::Other, "nothing", Some(7166)),
+    ];
+    consume(&rt, rt.alloc(), consumer(563, 500, 500), life, 5);
+}
+
+#[test]
+fn consumer_draws_the_latency_after_the_chance(rt: HostRuntime) {
+    // The words of agent 0 under seed 0 give in turn: a service of 68 ms; 563 of 1,000; a latency
+    // of 90 ms; a service of 16 ms; 719 of 1,000; a latency of 11 ms.
+    let first = "serve r-2-4-1 false at 158 from 0 2 number 0 to 3 x";
+    let second = "serve r-2-6-1 false at 95 from 0 2 number 1 to 3 y";
+    let life: &[Step] = &[
+        (0, Told::Two, "nothing", Some(68)),
+        (68, Told::Wake, first, None),
+        (68, Told::Other, "delete r-2-4-1", None),
+        (68, Told::Other, "nothing", Some(84)),
+        (84, Told::Wake, second, None),
+    ];
+    consume(&rt, rt.alloc(), consumer(500, 1, 100), life, 2);
+}
+
+// What a producer of messages with this body sends first, with the number 0.
+fn try_body(rt: &impl Abort, alloc: Global, body: &str, wanted: &'static str) {
+    let settings = producer(text(rt, alloc, body), 100, None, false);
+    produce(rt, alloc, 7, settings, &[(5, Told::Wake, wanted, None)]);
+}
+
+#[test]
+fn each_mark_in_a_body_is_replaced(rt: HostRuntime) {
+    for &(body, wanted) in &[
+        ("", "send  Some(9) - -"),
+        ("{n}", "send 0 Some(9) - -"),
+        ("{n}{n}", "send 00 Some(9) - -"),
+        ("a{n}b{n}c", "send a0b0c Some(9) - -"),
+        ("{{n}}", "send {0} Some(9) - -"),
+        ("{n", "send {n Some(9) - -"),
+        ("{{n", "send {{n Some(9) - -"),
+        ("{n{n}", "send {n0 Some(9) - -"),
+        ("{N}n}", "send {N}n} Some(9) - -"),
+    ] {
+        try_body(&rt, rt.alloc(), body, wanted);
+    }
+}

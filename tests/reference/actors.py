@@ -1,0 +1,213 @@
+"""Scripts, producers and consumers: what each does when it wakes, and when it wakes next."""
+from collections.abc import Sequence
+from typing import Protocol
+
+from queues import Load, Message
+from settings import ActorSettings, ConsumerSettings, Forwarding, ProducerSettings, ScriptSettings
+from words import Draws, place_by_weight
+
+
+class Home(Protocol):
+    """What an actor may do at its site."""
+
+    now: int
+    number: int
+    names: list[str]
+
+    def row(self, agent: int, call: str, answer: str, message: str = "", receipt: str = "",
+            detail: object = "") -> None: ...
+
+    def transfer(self, agent: int, target: int, time: int, load: Load) -> None: ...
+
+    def send(self, agent: int, body: str, group: str | None, id: str | None, delay_s: int | None) -> None: ...
+
+    def receive(self, actor: "Actor", most: int, wait_s: int, timeout_s: int | None) -> list[Message] | None: ...
+
+    def delete(self, agent: int, receipt: str) -> None: ...
+
+    def change(self, agent: int, receipt: str, timeout_s: int) -> None: ...
+
+    def start_or_cancel(self, agent: int, call: str, name: str) -> None: ...
+
+    def visibility_s(self) -> int: ...
+
+
+class Actor:
+    """An actor with its number, its words, and how often it woke and its polls waited."""
+
+    def __init__(self, agent: int, seed: int, first_wake: int | None) -> None:
+        self.agent, self.draws, self.next_wake = agent, Draws(seed, agent), first_wake
+        self.wakes = self.polls = 0
+
+    def woken(self, home: Home) -> None:
+        """Its wake has come."""
+        self.wakes, self.next_wake = self.wakes + 1, None
+        self.wake(home, self.wakes - 1)
+
+    def wake(self, home: Home, number: int) -> None:
+        raise NotImplementedError
+
+    def got(self, home: Home, messages: Sequence[Message]) -> None:
+        """Its poll was answered with messages, or ended with none."""
+
+
+class Script(Actor):
+    """Makes its calls at their times."""
+
+    def __init__(self, agent: int, settings: ScriptSettings, seed: int) -> None:
+        super().__init__(agent, seed, settings.calls[0].at if settings.calls else None)
+        self.calls = settings.calls
+
+    def wake(self, home: Home, number: int) -> None:
+        call, later = self.calls[number], self.calls[number + 1:]
+        if later:
+            self.next_wake = later[0].at
+        if call.name == "send":
+            home.send(self.agent, call.body, call.group, call.id, call.delay)
+        elif call.name == "receive":
+            home.receive(self, call.max or 1, call.wait or 0, call.timeout)
+        elif call.name == "delete":
+            home.delete(self.agent, call.receipt)
+        elif call.name == "change":
+            home.change(self.agent, call.receipt, call.timeout or 0)
+        else:
+            home.start_or_cancel(self.agent, call.name, call.task)
+
+
+class Producer(Actor):
+    """Sends message n at its wake n, until it stops or has sent all."""
+
+    def __init__(self, agent: int, settings: ProducerSettings, seed: int) -> None:
+        super().__init__(agent, seed, settings.start)
+        self.settings = settings
+
+    def wake(self, home: Home, number: int) -> None:
+        settings = self.settings
+        if settings.stop is not None and home.now >= settings.stop:
+            return
+        id = f"{self.agent}-{number}" if settings.has_ids else None
+        home.send(self.agent, settings.body_of(number), self.group(number), id, settings.delay_s)
+        if number + 1 < settings.count:
+            self.next_wake = home.now + settings.gap.drawn(self.draws)
+
+    def group(self, number: int) -> str | None:
+        if self.settings.key_groups is not None:
+            groups, weights = zip(*self.settings.key_groups)
+            group: str = groups[place_by_weight(weights, self.draws.word())]
+            return group
+        return None if self.settings.groups is None else f"g{number % self.settings.groups}"
+
+
+class Held:
+    """A message that a consumer got, with its receipt."""
+
+    def __init__(self, home: Home, message: Message) -> None:
+        self.id, self.body, self.group = f"m-{home.number}-{message.number}", message.body, message.group
+        self.receipt = f"r-{home.number}-{message.number}-{message.receives}"
+        self.receives = message.receives
+
+
+class Consumer(Actor):
+    """Asks for messages, serves one after another, and settles each: by a delete, or a change of its visibility."""
+
+    def __init__(self, agent: int, settings: ConsumerSettings, seed: int) -> None:
+        super().__init__(agent, seed, settings.start)
+        self.settings = settings
+        # What one receive gave; what of that is not served, with the one in service first; what is left to settle.
+        self.batch: list[Held] = []
+        self.unserved: list[Held] = []
+        self.unsettled: list[Held] = []
+        self.has_failed = False
+        self.service_end = 0
+
+    def wake(self, home: Home, number: int) -> None:
+        settings = self.settings
+        if self.unsettled:
+            self.settle_next(home)
+        elif self.unserved and home.now < self.service_end:
+            self.beat(home)
+        elif self.unserved:
+            self.end_service(home)
+        elif settings.stop is None or home.now < settings.stop:
+            messages = home.receive(self, settings.batch, settings.wait_s, settings.timeout_s)
+            if messages is not None:
+                self.got(home, messages)
+
+    def got(self, home: Home, messages: Sequence[Message]) -> None:
+        if messages:
+            self.batch = [Held(home, message) for message in messages]
+            self.unserved = list(self.batch)
+            self.serve_next(home)
+        else:
+            self.next_wake = home.now + self.settings.idle
+
+    def serve_next(self, home: Home) -> None:
+        """Begins the next service, or asks 1 ms later."""
+        if self.unserved:
+            self.service_end = home.now + self.settings.service.drawn(self.draws)
+            self.wake_in_service(home)
+        else:
+            self.next_wake = home.now + 1
+
+    def wake_in_service(self, home: Home) -> None:
+        """The next wake is the end of the service, or the next heartbeat if that is before it."""
+        heartbeat = self.settings.heartbeat
+        self.next_wake = self.service_end if heartbeat is None else min(self.service_end, home.now + heartbeat)
+
+    def beat(self, home: Home) -> None:
+        timeout_s = self.settings.timeout_s
+        home.change(self.agent, self.unserved[0].receipt, home.visibility_s() if timeout_s is None else timeout_s)
+        self.wake_in_service(home)
+
+    def end_service(self, home: Home) -> None:
+        settings, served = self.settings, self.unserved.pop(0)
+        fails_by_chance = self.draws.chance(settings.fail_permille)
+        is_poison = settings.fails_on is not None and settings.fails_on in served.body
+        self.has_failed = fails_by_chance or is_poison or home.now in settings.outage
+        if self.has_failed:
+            home.row(self.agent, "fail", "ok", served.id, served.receipt)
+        if settings.is_whole:
+            self.go_on_with_batch(home)
+        else:
+            self.settle(home, served)
+            self.serve_next(home)
+
+    def go_on_with_batch(self, home: Home) -> None:
+        """After a service of a batch that fails as a whole."""
+        if self.has_failed:
+            self.unserved = []
+        if self.unserved:
+            self.serve_next(home)
+        elif self.has_failed and not self.settings.backoff_s:
+            self.next_wake = home.now + 1
+        else:
+            self.unsettled = list(self.batch)
+            self.settle_next(home)
+
+    def settle_next(self, home: Home) -> None:
+        self.settle(home, self.unsettled.pop(0))
+        self.next_wake = home.now + 1
+
+    def settle(self, home: Home, held: Held) -> None:
+        """After a failure the message gets its backoff, if there is one; else it is forwarded and deleted."""
+        backoff_s = self.settings.backoff_s
+        if not self.has_failed:
+            if self.settings.forward:
+                self.forward(home, held, self.settings.forward)
+            home.delete(self.agent, held.receipt)
+        elif backoff_s:
+            home.change(self.agent, held.receipt, backoff_s[min(held.receives, len(backoff_s)) - 1])
+
+    def forward(self, home: Home, held: Held, forward: Forwarding) -> None:
+        time = forward.latency.drawn(self.draws)
+        home.row(self.agent, "forward", "out", held.id, "", home.names[forward.queue])
+        home.transfer(self.agent, forward.queue, time, Load("forward", held.id, held.body, held.group))
+
+
+def actor_of(agent: int, settings: ActorSettings, seed: int) -> Actor:
+    """An actor that has done nothing."""
+    if isinstance(settings.role, ScriptSettings):
+        return Script(agent, settings.role, seed)
+    if isinstance(settings.role, ProducerSettings):
+        return Producer(agent, settings.role, seed)
+    return Consumer(agent, settings.role, seed)

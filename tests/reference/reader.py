@@ -1,0 +1,298 @@
+"""Reads a scenario, or finds its first fault."""
+import re
+from collections.abc import Mapping
+from dataclasses import replace
+from typing import Any
+
+from faults import Fault
+from scripts import ScriptFault, calls_of
+from settings import (ActorSettings, Bounds, ByQuantiles, Call, ConsumerSettings, Forwarding, Latency, Policy,
+                      ProducerSettings, QueueSettings, Role, Scenario, ScriptSettings, TaskSettings, Time)
+from tables import (MOST_DAY, MOST_TIME, Table, backoffs, boolean, document_of, integer, one_of, quantiles, sized_text,
+                    tables, text, weighted_groups)
+
+MOST_AGENTS, MOST_QUEUES, LONGEST_NAME = 10_000, 1_000, 80
+AGENT_NAME = re.compile(r"[A-Za-z0-9_-]{1,80}")
+QUEUE_NAME = re.compile(r"(?=.{1,80}\Z)[A-Za-z0-9_-]+(\.fifo)?")
+SCRIPT_NAME = re.compile(r"[A-Za-z0-9_-][A-Za-z0-9._-]{0,79}")
+HEAD = ["name", "kind", "queue"]
+# The keys of consumers that version 3 has besides, in the order in which they are read.
+NEW_CONSUMER_KEYS = ["stop_ms", "fails_on", "fails_from_ms", "batch_fails", "backoff_s", "heartbeat_s", "copies"]
+
+
+def script_names(source: bytes) -> list[str]:
+    """The names of the script files that a text asks for, whatever else is wrong with it."""
+    try:
+        actors = document_of(source).get("actor")
+    except Fault:
+        return []
+    names = [actor.get("script") for actor in actors if isinstance(actor, dict)] if isinstance(actors, list) else []
+    return [name for name in names if isinstance(name, str) and SCRIPT_NAME.fullmatch(name)]
+
+
+def read(source: bytes, scripts: Mapping[str, bytes], greatest_version: int = 2) -> Scenario:
+    """The scenario of a text with its script files; its version may be up to this one."""
+    return Reader(document_of(source), scripts).whole(greatest_version)
+
+
+class Reader:
+    """Reads a document in the order of its faults."""
+
+    def __init__(self, document: dict[str, Any], scripts: Mapping[str, bytes]) -> None:
+        self.top, self.scripts = Table(document), scripts
+        self.names: set[str] = set()
+        self.queues: list[QueueSettings] = []
+        self.actors: list[ActorSettings] = []
+        self.more_copies = 0
+
+    # The whole.
+    def whole(self, greatest_version: int) -> Scenario:
+        top = self.top
+        top.only(["version", "horizon", "seed", "sample", "queue", "actor", "task"])
+        self.version = top.required("version", integer(1, greatest_version))
+        horizon = top.required("horizon", integer(1, MOST_TIME))
+        seed = top.optional("seed", integer(0, 2 ** 63 - 1), 0)
+        sample = top.optional("sample", integer(0, MOST_TIME), 0)
+        self.read_lists()
+        for number, item in enumerate(self.queue_items):
+            self.queues.append(self.queue(table_of("queue", number, item)))
+        self.judge_dead_letters()
+        for number, item in enumerate(self.actor_items):
+            self.actors.append(self.actor(table_of("actor", number, item)))
+        tasks = [self.task(table_of("task", number, item)) for number, item in enumerate(self.task_items)]
+        return Scenario(horizon, seed, sample, self.queues, copied(self.actors), tasks)
+
+    def read_lists(self) -> None:
+        self.queue_items = self.top.required("queue", tables)
+        if not self.queue_items:
+            raise Fault(14, "queue")
+        if len(self.queue_items) > MOST_QUEUES:
+            raise Fault(19, "queue")
+        self.actor_items: list[Any] = self.top.optional("actor", tables, [])
+        if len(self.actor_items) > MOST_AGENTS:
+            raise Fault(19, "actor")
+        self.task_items: list[Any] = self.top.optional("task", tables, [])
+        if len(self.actor_items) + len(self.task_items) > MOST_AGENTS:
+            raise Fault(19, "task")
+
+    # What several tables have.
+    def name(self, table: Table, pattern: re.Pattern[str]) -> str:
+        """A name that is well-formed and that nothing before it has."""
+        name = table.required("name", text)
+        if not pattern.fullmatch(name):
+            raise Fault(15, table.place("name"))
+        if name in self.names:
+            raise Fault(16, table.place("name"))
+        self.names.add(name)
+        return name
+
+    def number_of(self, name: str, place: str) -> int:
+        for number, queue in enumerate(self.queues):
+            if queue.name == name:
+                return number
+        raise Fault(17, place)
+
+    def queue_named(self, value: Any, place: str) -> int:
+        return self.number_of(text(value, place), place)
+
+    def check_kinds(self, number: int, home: int, place: str) -> None:
+        if self.queues[number].is_fifo != self.queues[home].is_fifo:
+            raise Fault(18, place)
+
+    def latency_keys(self) -> list[str]:
+        return ["latency_ms"] if self.version == 1 else ["latency_min_ms", "latency_max_ms"]
+
+    def latency(self, table: Table) -> Latency:
+        least = table.required(self.latency_keys()[0], integer(1, 900_000))
+        greatest = table.required(self.latency_keys()[-1], integer(least, 900_000))
+        return Latency(least, greatest)
+
+    def time_keys(self, table: Table, name: str) -> list[str]:
+        """The keys of a time: quantiles, which only version 3 has, or two bounds in their place."""
+        return [name] if self.version == 3 and table.has(name) else [f"{name}_min_ms", f"{name}_max_ms"]
+
+    def time(self, table: Table, name: str) -> Time:
+        keys = self.time_keys(table, name)
+        if keys == [name]:
+            return ByQuantiles(table.required(name, quantiles))
+        least = table.required(keys[0], integer(1, MOST_DAY))
+        return Bounds(least, table.required(keys[1], integer(least, MOST_DAY)))
+
+    def stop(self, table: Table, start: int) -> int | None:
+        return table.maybe("stop_ms", integer(start, MOST_TIME)) if self.version == 3 else None
+
+    # Queues.
+    def queue(self, table: Table) -> QueueSettings:
+        name = self.name(table, QUEUE_NAME)
+        is_fifo, has_policy = name.endswith(".fifo"), table.has("dead_letter")
+        own_keys = ["content_dedup", "dedup_scope"] if is_fifo else ["hosts", "sampled"]
+        policy_keys = ["max_receives", *self.latency_keys()] if has_policy else []
+        table.only(["name", "visibility_s", "delay_s", "retention_s", "in_flight", "dead_letter", *own_keys,
+                    *policy_keys])
+        settings = QueueSettings(
+            name, is_fifo, table.optional("visibility_s", integer(0, 43_200), 30),
+            1000 * table.optional("delay_s", integer(0, 900), 0),
+            1000 * table.optional("retention_s", integer(60, 1_209_600), 345_600),
+            table.optional("in_flight", integer(1, 120_000), 120_000))
+        if is_fifo:
+            settings.content_dedup = table.optional("content_dedup", boolean, False)
+            scope = table.optional("dedup_scope", one_of("queue", "group"), "queue")
+            settings.is_scoped_by_group = scope == "group"
+        else:
+            settings.hosts = table.optional("hosts", integer(1, 16), 1)
+            settings.sampled = table.optional("sampled", integer(1, settings.hosts), settings.hosts)
+        if has_policy:
+            settings.policy = Policy(table.required("dead_letter", text),
+                                     table.required("max_receives", integer(1, 1_000)), self.latency(table))
+        return settings
+
+    def judge_dead_letters(self) -> None:
+        for number, queue in enumerate(self.queues):
+            if queue.policy:
+                place = f"queue[{number}].dead_letter"
+                queue.policy.queue = self.number_of(queue.policy.name, place)
+                if queue.policy.queue == number:
+                    raise Fault(17, place)
+                self.check_kinds(queue.policy.queue, number, place)
+
+    # Actors.
+    def actor(self, table: Table) -> ActorSettings:
+        name = self.name(table, AGENT_NAME)
+        kind = table.required("kind", one_of("script", "producer", "consumer"))
+        home = table.required("queue", self.queue_named)
+        if kind == "script":
+            return ActorSettings(name, home, self.script(table, home))
+        if kind == "producer":
+            return ActorSettings(name, home, self.producer(table, self.queues[home].is_fifo))
+        consumer = self.consumer(table, home)
+        if self.version == 3:
+            self.read_new_keys(table, consumer)
+            consumer.copies = table.maybe("copies", integer(1, 1_000))
+            self.judge_copies(table.place("copies"), name, consumer.copies or 0)
+        return ActorSettings(name, home, consumer)
+
+    def script(self, table: Table, home: int) -> Role:
+        table.only([*HEAD, "calls", *([] if table.has("calls") else ["script"])])
+        key = "script" if table.has("script") else "calls"
+        source = table.required(key, text).encode("utf-8")
+        if key == "script":
+            source = self.script_file(source.decode("utf-8"), table.place(key))
+        return ScriptSettings(self.calls(source, home, table.place(key)))
+
+    def script_file(self, name: str, place: str) -> bytes:
+        if not SCRIPT_NAME.fullmatch(name):
+            raise Fault(14, place)
+        if name not in self.scripts:
+            raise Fault(20, place)
+        return self.scripts[name]
+
+    def calls(self, source: bytes, home: int, place: str) -> list[Call]:
+        queue = self.queues[home]
+        tasks = {item["name"] for item in self.task_items if isinstance(item, dict)
+                 and isinstance(item.get("name"), str) and item.get("queue") == queue.name}
+        try:
+            return calls_of(source, queue.is_fifo, tasks)
+        except ScriptFault as fault:
+            record = "" if fault.record is None else f":{fault.record}"
+            raise Fault(fault.number, place + record) from None
+
+    def producer(self, table: Table, is_fifo: bool) -> Role:
+        groups_key = "key_groups" if self.version == 3 and table.has("key_groups") else "groups"
+        table.only([*HEAD, "count", "start_ms", *self.time_keys(table, "gap"), "body",
+                    *([groups_key, "ids"] if is_fifo else ["delay_s"]), *(["stop_ms"] if self.version == 3 else [])])
+        count = table.required("count", integer(1, 1_000_000))
+        start = table.optional("start_ms", integer(0, MOST_TIME), 0)
+        gap = self.time(table, "gap")
+        settings = ProducerSettings(count, start, gap, table.required("body", text))
+        if not settings.body_of(0) or len(settings.body_of(count - 1).encode("utf-8")) > 1024:
+            raise Fault(14, table.place("body"))
+        if not is_fifo:
+            settings.delay_s = table.maybe("delay_s", integer(0, 900))
+        elif groups_key == "groups":
+            settings.groups = table.required("groups", integer(1, 1_000))
+        else:
+            settings.key_groups = table.required("key_groups", weighted_groups)
+        if is_fifo:
+            settings.has_ids = table.optional("ids", boolean, True)
+        settings.stop = self.stop(table, start)
+        return settings
+
+    def consumer(self, table: Table, home: int) -> ConsumerSettings:
+        """What versions 1 and 2 have, after the keys are judged."""
+        new_keys = NEW_CONSUMER_KEYS + (["fails_to_ms"] if table.has("fails_from_ms") else [])
+        table.only([*HEAD, "start_ms", "batch", "wait_s", "timeout_s", *self.time_keys(table, "service"),
+                    "fail_permille", "idle_ms", "forward", *(self.latency_keys() if table.has("forward") else []),
+                    *(new_keys if self.version == 3 else [])])
+        return ConsumerSettings(
+            table.optional("start_ms", integer(0, MOST_TIME), 0), table.optional("batch", integer(1, 10), 1),
+            table.optional("wait_s", integer(0, 20), 0), table.maybe("timeout_s", integer(0, 43_200)),
+            self.time(table, "service"), table.optional("fail_permille", integer(0, 1_000), 0),
+            table.optional("idle_ms", integer(1, MOST_DAY), 1_000), self.forwarding(table, home))
+
+    def forwarding(self, table: Table, home: int) -> Forwarding | None:
+        if not table.has("forward"):
+            return None
+        queue = table.required("forward", self.queue_named)
+        self.check_kinds(queue, home, table.place("forward"))
+        return Forwarding(queue, self.latency(table))
+
+    def read_new_keys(self, table: Table, consumer: ConsumerSettings) -> None:
+        """What version 3 has besides, but for the copies."""
+        consumer.stop = self.stop(table, consumer.start)
+        consumer.fails_on = table.maybe("fails_on", sized_text(1, 128))
+        if table.has("fails_from_ms"):
+            begin = table.required("fails_from_ms", integer(0, MOST_TIME))
+            consumer.outage = range(begin, table.required("fails_to_ms", integer(begin, MOST_TIME)))
+        consumer.is_whole = table.optional("batch_fails", one_of("each", "whole"), "each") == "whole"
+        consumer.backoff_s = table.optional("backoff_s", backoffs, [])
+        heartbeat_s = table.maybe("heartbeat_s", integer(1, 43_200))
+        consumer.heartbeat = heartbeat_s and 1000 * heartbeat_s
+
+    def judge_copies(self, place: str, name: str, copies: int) -> None:
+        names = copy_names(name, copies)
+        if any(len(copy) > LONGEST_NAME for copy in names):
+            raise Fault(15, place)
+        if not self.names.isdisjoint(names):
+            raise Fault(16, place)
+        self.names.update(names)
+        self.more_copies += max(0, copies - 1)
+        if len(self.actor_items) + len(self.task_items) + self.more_copies > MOST_AGENTS:
+            raise Fault(19, place)
+
+    # Move tasks.
+    def task(self, table: Table) -> TaskSettings:
+        name = self.name(table, AGENT_NAME)
+        home = table.required("queue", self.queue_named)
+        if all(queue.policy is None or queue.policy.queue != home for queue in self.queues):
+            raise Fault(17, table.place("queue"))
+        table.only(["name", "queue", "to", "per_second", *self.latency_keys()])
+        to = table.maybe("to", self.queue_named)
+        if to is not None:
+            if to == home:
+                raise Fault(17, table.place("to"))
+            self.check_kinds(to, home, table.place("to"))
+        per_second = table.optional("per_second", integer(1, 500), 500)
+        return TaskSettings(name, home, to, per_second, self.latency(table))
+
+
+def table_of(key: str, number: int, item: Any) -> Table:
+    place = f"{key}[{number}]"
+    if not isinstance(item, dict):
+        raise Fault(13, place)
+    return Table(item, f"{place}.")
+
+
+def copy_names(name: str, copies: int) -> list[str]:
+    return [f"{name}-{number}" for number in range(1, copies + 1)]
+
+
+def copied(actors: list[ActorSettings]) -> list[ActorSettings]:
+    """The actors with their copies: the first copy of each in its place, the others behind all actors."""
+    firsts, others = [], []
+    for actor in actors:
+        copies = actor.role.copies if isinstance(actor.role, ConsumerSettings) else None
+        names = [actor.name] if copies is None else copy_names(actor.name, copies)
+        first, *more = (replace(actor, name=name) for name in names)
+        firsts.append(first)
+        others += more
+    return firsts + others

@@ -1,0 +1,174 @@
+"""What a scenario says of its queues, actors and tasks. Times are milliseconds, unless a name ends with _s."""
+from dataclasses import dataclass, field
+from typing import Protocol
+
+from words import Draws, Quantiles, time_at
+
+
+class Time(Protocol):
+    """A time that is drawn by one word."""
+
+    def drawn(self, draws: Draws) -> int:
+        ...
+
+
+@dataclass
+class Bounds:
+    """Times that come evenly."""
+
+    least: int
+    greatest: int
+
+    def drawn(self, draws: Draws) -> int:
+        return draws.uniform(self.least, self.greatest)
+
+
+@dataclass
+class ByQuantiles:
+    """Times by pairs of a permille and a time."""
+
+    pairs: Quantiles
+
+    def drawn(self, draws: Draws) -> int:
+        return time_at(self.pairs, draws.word())
+
+
+@dataclass
+class Latency:
+    """The bounds of a transfer's time; they take no word if they are equal."""
+
+    least: int
+    greatest: int
+
+    def drawn(self, draws: Draws) -> int:
+        return draws.between(self.least, self.greatest)
+
+
+@dataclass
+class Policy:
+    """The dead-letter queue of a queue, by its name until all queues are read."""
+
+    name: str
+    max_receives: int
+    latency: Latency
+    queue: int = -1
+
+
+@dataclass
+class QueueSettings:
+    name: str
+    is_fifo: bool
+    visibility_s: int
+    delay: int
+    retention: int
+    in_flight: int
+    hosts: int = 1
+    sampled: int = 1
+    content_dedup: bool = False
+    is_scoped_by_group: bool = False
+    policy: Policy | None = None
+
+
+@dataclass
+class Call:
+    """A call of a script. What is not given is None."""
+
+    at: int
+    name: str
+    body: str = ""
+    receipt: str = ""
+    group: str | None = None
+    id: str | None = None
+    delay: int | None = None
+    max: int | None = None
+    wait: int | None = None
+    timeout: int | None = None
+    task: str = ""
+
+
+@dataclass
+class ScriptSettings:
+    calls: list[Call]
+
+
+@dataclass
+class ProducerSettings:
+    count: int
+    start: int
+    gap: Time
+    body: str
+    groups: int | None = None
+    has_ids: bool = False
+    delay_s: int | None = None
+    key_groups: list[tuple[str, int]] | None = None
+    stop: int | None = None
+
+    def body_of(self, number: int) -> str:
+        return self.body.replace("{n}", str(number))
+
+
+@dataclass
+class Forwarding:
+    queue: int
+    latency: Latency
+
+
+@dataclass
+class ConsumerSettings:
+    start: int
+    batch: int
+    wait_s: int
+    timeout_s: int | None
+    service: Time
+    fail_permille: int
+    idle: int
+    forward: Forwarding | None
+    stop: int | None = None
+    fails_on: str | None = None
+    outage: range = range(0)
+    is_whole: bool = False
+    backoff_s: list[int] = field(default_factory=list)
+    heartbeat: int | None = None
+    copies: int | None = None
+
+
+Role = ScriptSettings | ProducerSettings | ConsumerSettings
+
+
+@dataclass
+class ActorSettings:
+    name: str
+    home: int
+    role: Role
+
+
+@dataclass
+class TaskSettings:
+    name: str
+    home: int
+    to: int | None
+    per_second: int
+    latency: Latency
+
+
+@dataclass
+class Scenario:
+    """All settings. Agents are numbered: queues, then actors, then tasks."""
+
+    horizon: int
+    seed: int
+    sample: int
+    queues: list[QueueSettings]
+    actors: list[ActorSettings]
+    tasks: list[TaskSettings]
+
+    def names(self) -> list[str]:
+        return [*(it.name for it in self.queues), *(it.name for it in self.actors), *(it.name for it in self.tasks)]
+
+    def least_latency(self) -> int:
+        """The least latency of all ways, or the horizon plus 1 if nothing can be transferred."""
+        latencies = [queue.policy.latency for queue in self.queues if queue.policy]
+        latencies += [actor.role.forward.latency for actor in self.actors
+                      if isinstance(actor.role, ConsumerSettings) and actor.role.forward]
+        latencies += [task.latency for task in self.tasks]
+        return min((latency.least for latency in latencies), default=self.horizon + 1)

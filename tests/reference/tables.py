@@ -1,0 +1,167 @@
+"""Tables of a scenario's text: their keys, the types of their values, and the faults of both."""
+import math
+import tomllib
+from collections.abc import Callable, Collection, Iterator
+from typing import Any, TypeVar
+
+from faults import Fault
+from scripts import MARK, MOST_BYTES, is_visible
+
+X = TypeVar("X")
+# How a value at a place is read.
+Type = Callable[[Any, str], X]
+MOST_TIME, MOST_DAY = 2_592_000_000, 86_400_000
+
+
+def check_numbers(value: Any) -> None:
+    """An integer past 64 bits cannot be said."""
+    if type(value) is int and not -2 ** 63 <= value < 2 ** 63:
+        raise ValueError("an integer past 64 bits")
+    for item in value.values() if isinstance(value, dict) else value if isinstance(value, list) else ():
+        check_numbers(item)
+
+
+def float_of(text: str) -> float:
+    value = float(text)
+    if math.isinf(value) and "inf" not in text:
+        raise ValueError("a float past its range")
+    return value
+
+
+def document_of(text: bytes) -> dict[str, Any]:
+    """The table of a document, or the fault 19 or 10."""
+    if len(text) > MOST_BYTES:
+        raise Fault(19)
+    try:
+        document = tomllib.loads(text.removeprefix(MARK).decode("utf-8"), parse_float=float_of)
+        check_numbers(document)
+    except (ValueError, RecursionError):
+        raise Fault(10) from None
+    return document
+
+
+class Table:
+    """A table, with the text before its keys in their places."""
+
+    def __init__(self, values: dict[str, Any], prefix: str = "") -> None:
+        self.values, self.prefix = values, prefix
+
+    def place(self, key: str) -> str:
+        return f"{self.prefix}{key}"
+
+    def has(self, key: str) -> bool:
+        return key in self.values
+
+    def only(self, keys: Collection[str]) -> None:
+        """The first key that there should not be, in the order of bytes, is 11."""
+        for key in sorted(set(self.values) - set(keys), key=lambda key: key.encode("utf-8")):
+            raise Fault(11, self.place(key))
+
+    def required(self, key: str, type_of: Type[X]) -> X:
+        if key not in self.values:
+            raise Fault(12, self.place(key))
+        return type_of(self.values[key], self.place(key))
+
+    def optional(self, key: str, type_of: Type[X], default: X) -> X:
+        return type_of(self.values[key], self.place(key)) if key in self.values else default
+
+    def maybe(self, key: str, type_of: Type[X]) -> X | None:
+        return type_of(self.values[key], self.place(key)) if key in self.values else None
+
+
+def typed(value: Any, of: type, place: str) -> Any:
+    """A value that is of this type and of none below it, as true is no integer."""
+    if type(value) is not of:
+        raise Fault(13, place)
+    return value
+
+
+def text(value: Any, place: str) -> str:
+    found: str = typed(value, str, place)
+    return found
+
+
+def boolean(value: Any, place: str) -> bool:
+    found: bool = typed(value, bool, place)
+    return found
+
+
+def tables(value: Any, place: str) -> list[Any]:
+    found: list[Any] = typed(value, list, place)
+    return found
+
+
+def integer(low: int, high: int) -> Type[int]:
+    def read(value: Any, place: str) -> int:
+        number: int = typed(value, int, place)
+        if not low <= number <= high:
+            raise Fault(14, place)
+        return number
+    return read
+
+
+def one_of(*words: str) -> Type[str]:
+    def read(value: Any, place: str) -> str:
+        word = text(value, place)
+        if word not in words:
+            raise Fault(14, place)
+        return word
+    return read
+
+
+def sized_text(low: int, high: int) -> Type[str]:
+    """A text of so many bytes."""
+    def read(value: Any, place: str) -> str:
+        found = text(value, place)
+        if not low <= len(found.encode("utf-8")) <= high:
+            raise Fault(14, place)
+        return found
+    return read
+
+
+def items_in(value: Any, place: str, least: int, most: int) -> Iterator[tuple[Any, str]]:
+    """The items of a list with so many, each with its place, after the faults of the list."""
+    items: list[Any] = typed(value, list, place)
+    if len(items) < least:
+        raise Fault(14, place)
+    if len(items) > most:
+        raise Fault(19, place)
+    return ((item, f"{place}[{number}]") for number, item in enumerate(items))
+
+
+def pair_in(value: Any, place: str) -> tuple[Any, Any]:
+    pair: list[Any] = typed(value, list, place)
+    if len(pair) != 2:
+        raise Fault(14, place)
+    return pair[0], pair[1]
+
+
+def quantiles(value: Any, place: str) -> list[tuple[int, int]]:
+    """Pairs [permille, ms] from 0 to 1,000, whose permilles ascend and whose times do not descend."""
+    pairs: list[tuple[int, int]] = []
+    items = list(items_in(value, place, 2, 32))
+    for number, (item, at) in enumerate(items):
+        low, high = (0, 0) if number == 0 else (pairs[-1][0] + 1, 999)
+        if number == len(items) - 1:
+            low, high = 1000, 1000
+        first, second = pair_in(item, at)
+        permille = integer(low, high)(first, at)
+        time = integer(pairs[-1][1] if pairs else 1, MOST_DAY)(second, at)
+        pairs.append((permille, time))
+    return pairs
+
+
+def weighted_groups(value: Any, place: str) -> list[tuple[str, int]]:
+    """Pairs [group, weight]."""
+    pairs = []
+    for item, at in items_in(value, place, 1, 100):
+        first, second = pair_in(item, at)
+        group = text(first, at)
+        if not is_visible(group, 128):
+            raise Fault(14, at)
+        pairs.append((group, integer(1, 1_000_000)(second, at)))
+    return pairs
+
+
+def backoffs(value: Any, place: str) -> list[int]:
+    return [integer(0, 43_200)(item, at) for item, at in items_in(value, place, 1, 12)]

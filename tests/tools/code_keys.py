@@ -1,0 +1,88 @@
+"""The keys of a scenario as the reader's code has them: each is read in one line, with its type, range and default."""
+import os
+import re
+from collections.abc import Iterator
+
+from tool import ROOT
+from rehearse_tools.keys import NUMBER, REQUIRED, TABLES, TEXT, TRUTH, Key
+
+SOURCES = os.path.join(ROOT, "crates", "sim_scenario", "src")
+# A function of a file, or of an implementation of a trait for a type.
+FUNCTION = re.compile(r"\n( *)(?:pub(?:\(crate\))? )?fn (\w+).*?\n\1}|\nimpl[^\n]* for (\w+)", re.DOTALL)
+# A key that is read, or a function of the reader that reads others.
+READ = re.compile(
+    r'section\s*\.(required|optional|maybe)\(\s*"(\w+)",\s*&(\w+)(?:\(([^)]*)\)|\s*{[^}]*})?(?:,\s*([\w:]+))?,?\s*\)|'
+    r'section\s*\.(bounds)\(\s*"(\w+)",\s*"(\w+)",\s*([\d_]+)|'
+    r'section\s*\.(required_list)\("(\w+)"\)|'
+    r'(agent_list)\([^"()]*(?:\(\))?[^"()]*"(\w+)"\)|'
+    r'\b(queue_list|kind|policy|latency|sending|forward|calls)\(')
+LIST = re.compile(r'(?:_KEYS: &\[&str\] = &\[|&\[)((?:\s*"\w+",?)+)\s*\]')
+WORDS = {"ScopeName": ("queue", "group"), "KindName": ("script", "producer", "consumer")}
+
+
+def functions(file: str) -> dict[str, str]:
+    """The bodies of the functions in a file of the reader. Methods of a trait are named as `Queues::read`."""
+    with open(os.path.join(SOURCES, file), encoding="utf-8") as source:
+        text = source.read()
+    found, owner = {}, ""
+    for match in FUNCTION.finditer(text):
+        indent, name, type_ = match.groups()
+        if type_:
+            owner = type_
+        else:
+            found[f"{owner}::{name}" if indent else name] = match.group(0)
+    return found
+
+
+def number(text: str) -> int | None:
+    digits = text.replace("_", "")
+    return int(digits) if digits.isdigit() else None
+
+
+def default_of(how: str, type_: str, text: str | None) -> int | str | None:
+    """A default, in the unit of the key."""
+    if how != "optional" or text is None:
+        return REQUIRED if how == "required" else None
+    value = number(text)
+    if value is not None:
+        return value // 1000 if type_ == "Seconds" else value
+    return {"true": True, "false": False}.get(text, text.split("::")[-1].lower())
+
+
+def key_of(how: str, name: str, type_: str, bounds: str | None, text: str | None) -> Key:
+    default = default_of(how, type_, text)
+    if type_ == "Boolean":
+        return Key(name, TRUTH, default=default)
+    if type_ not in ("Integer", "Seconds"):
+        return Key(name, TEXT, default=default, words=WORDS.get(type_))
+    low, high = (number(bound.strip()) for bound in (bounds or "").split(","))
+    return Key(name, NUMBER, low, high, default)
+
+
+def keys_in(body: str, others: dict[str, str]) -> Iterator[Key]:
+    """The keys that a function reads, in order, with those of the functions that it calls."""
+    for match in READ.finditer(body[body.index("{"):]):
+        how, name, type_, bounds, default, pair, low, high, most, _, several, _, agents, call = match.groups()
+        if how:
+            yield key_of(how, name, type_, bounds, default)
+        elif pair:
+            yield Key(low, NUMBER, 1, number(most), REQUIRED)
+            yield Key(high, NUMBER, 1, number(most), REQUIRED, least=low)
+        elif several:
+            yield Key(several, TABLES, default=REQUIRED)
+        elif agents:
+            yield Key(agents, TABLES)
+        elif call in others and f"fn {call}" not in body:
+            yield from keys_in(others[call], others)
+
+
+def code_keys(file: str, function: str) -> list[Key]:
+    """The keys of a table, which a function in a file reads."""
+    others = {"latency": functions("queues.rt")["latency"], **functions(file)}
+    return list(keys_in(others[function], others))
+
+
+def listed_keys(file: str) -> set[str]:
+    """The keys that a file's tables may have, as they are listed there."""
+    with open(os.path.join(SOURCES, file), encoding="utf-8") as source:
+        return {name for match in LIST.finditer(source.read()) for name in re.findall(r'"(\w+)"', match.group(1))}

@@ -1,0 +1,198 @@
+"""Tests tools/sweep --cluster on a real Dask cluster of this machine, against the bytes of a sweep without one."""
+import json
+import os
+import shutil
+import signal
+import subprocess
+import sys
+import tempfile
+import time
+import unittest
+from collections.abc import Callable
+
+from tool import TOOLS, ToolCase, needs_program
+
+SCHEDULER, WORKER = shutil.which("dask-scheduler"), shutil.which("dask-worker")
+needs_dask = unittest.skipUnless(SCHEDULER and WORKER, "Dask is not here: apt-get install python3-distributed")
+SCENARIO = """version = 1
+horizon = 3600000
+[[queue]]
+name = "q"
+visibility_s = 30
+[[actor]]
+name = "shop"
+kind = "producer"
+queue = "q"
+count = 10000
+gap_min_ms = 1
+gap_max_ms = 600
+body = "m"
+[[actor]]
+name = "worker"
+kind = "consumer"
+queue = "q"
+service_min_ms = 1
+service_max_ms = 600
+[[actor]]
+name = "operator"
+kind = "script"
+queue = "q"
+script = "calls.csv"
+"""
+CALLS = "at,call,body,group,id,delay,receipt,max,wait,timeout,task\n1000,send,hello,,,,,,,,\n"
+ROWS_BEFORE_THE_END = 6
+
+
+class DaskCase(ToolCase):
+    """A test with a scheduler and its workers, of which each has a folder of its own."""
+
+    def setUp(self) -> None:
+        super().setUp()
+        self.scenario = self.write("s.toml", SCENARIO)
+        os.mkdir(self.path("scripts"))
+        self.write("scripts/calls.csv", CALLS)
+        self.cluster = tempfile.mkdtemp()
+        self.addCleanup(shutil.rmtree, self.cluster, ignore_errors=True)
+        self.file, self.workers = os.path.join(self.cluster, "scheduler.json"), 0
+        self.scheduler = self.start(str(SCHEDULER), "--host", "127.0.0.1", "--port", "0", "--no-dashboard",
+                                    "--scheduler-file", self.file, folder=self.cluster)
+        self.wait_for(self.has_address)
+
+    def has_address(self) -> bool:
+        """Whether the scheduler has written its address, which may take it a while from the first byte on."""
+        try:
+            with open(self.file, encoding="utf-8") as file:
+                self.address: str = json.load(file)["address"]
+        except (OSError, ValueError):
+            return False
+        return True
+
+    def start(self, *words: str, folder: str) -> "subprocess.Popen[bytes]":
+        """A process that is ended with the test."""
+        environment = {name: value for name, value in os.environ.items() if name != "PYTHONPATH"}
+        process = subprocess.Popen(words, cwd=folder, stdin=subprocess.DEVNULL, stdout=subprocess.DEVNULL,
+                                   stderr=subprocess.DEVNULL, env={**environment, "TMPDIR": folder})
+        self.addCleanup(process.wait)
+        self.addCleanup(process.kill)
+        return process
+
+    def start_worker(self) -> "subprocess.Popen[bytes]":
+        """A worker with one thread, which knows the scheduler alone."""
+        self.workers += 1
+        folder = os.path.join(self.cluster, f"worker{self.workers}")
+        os.mkdir(folder)
+        return self.start(str(WORKER), self.address, "--nthreads", "1", "--no-nanny", "--no-dashboard",
+                          "--local-directory", folder, folder=folder)
+
+    def wait_for(self, is_so: Callable[[], bool]) -> None:
+        until = time.monotonic() + 60
+        while not is_so():
+            self.assertLess(time.monotonic(), until, "it has not come in a minute")
+            time.sleep(0.05)
+
+    def words(self, *more: str) -> tuple[str, ...]:
+        return (self.scenario, "--scripts", "scripts", *more)
+
+    def rest_of(self, process: "subprocess.Popen[str]") -> tuple[int, str, str]:
+        """The status and what is still to be read of both outputs of a sweep, of which some has been read."""
+        assert process.stdout is not None and process.stderr is not None
+        out, err = process.stdout.read(), process.stderr.read()
+        return process.wait(), out, err
+
+    def sweep(self, *words: str) -> "subprocess.Popen[str]":
+        """A sweep on the cluster that is under way."""
+        command = [sys.executable, os.path.join(TOOLS, "sweep"), *self.words(*words), "--cluster", self.address]
+        process = subprocess.Popen(command, cwd=self.folder, stdout=subprocess.PIPE, stderr=subprocess.PIPE, text=True)
+        self.addCleanup(process.wait)
+        self.addCleanup(process.kill)
+        return process
+
+
+@needs_dask
+@needs_program
+class Clusters(DaskCase):
+    def test_a_worker_that_is_killed_in_the_middle(self) -> None:
+        """Two workers run; one is killed, and a third one comes. The bytes are those of one machine."""
+        wanted = self.run_tool("sweep", *self.words("--vary", "seed=1..80"))[1]
+        lost, _ = self.start_worker(), self.start_worker()
+        process = self.sweep("--vary", "seed=1..80")
+        assert process.stdout is not None
+        out = "".join(process.stdout.readline() for _ in range(ROWS_BEFORE_THE_END))
+        lost.send_signal(signal.SIGKILL)
+        lost.wait()
+        self.start_worker()
+        self.assertLess(out.count("\n"), wanted.count("\n"))
+        status, rest, err = self.rest_of(process)
+        self.assertEqual((status, out + rest), (0, wanted), err)
+        self.assertEqual(err.splitlines()[-1], "sweep: 80 of 80 variants run, 0 failed")
+
+    def test_what_is_counted_and_refused(self) -> None:
+        """Logs are counted where they are written; a refusal reads as on one machine; the hint is the same."""
+        self.start_worker()
+        for more in (("--vary", "seed=1..3", "--from", "10m", "--require", "q.age_p95<1h"),
+                     ("--vary", "queue.q.visibility_s=30,50000"),
+                     ("--vary", "seed=1..5", "--spread", "seed", "--columns", "sends,age_p95")):
+            here = self.run_tool("sweep", *self.words(*more))
+            self.assertEqual(self.rest_of(self.sweep(*more)), here)
+        folder = os.path.join(self.cluster, "worker1")
+        self.wait_for(lambda: not [name for *_, names in os.walk(folder) for name in names if name == "calls.csv"])
+
+    def test_an_interrupt(self) -> None:
+        """The rows so far are whole, and the status is 130."""
+        self.start_worker()
+        process = self.sweep("--vary", "seed=1..2000")
+        assert process.stdout is not None
+        out = "".join(process.stdout.readline() for _ in range(ROWS_BEFORE_THE_END))
+        process.send_signal(signal.SIGINT)
+        status, rest, err = self.rest_of(process)
+        self.assertEqual(status, 130, err)
+        self.assertEqual({line.count(",") for line in (out + rest).splitlines()}, {out.splitlines()[0].count(",")})
+        self.assertRegex(err.splitlines()[-1], "sweep: interrupted after [0-9]+ of 2000 variants")
+
+    def test_a_scheduler_that_is_lost(self) -> None:
+        self.start_worker()
+        process = self.sweep("--vary", "seed=1..2000")
+        assert process.stdout is not None
+        for _ in range(ROWS_BEFORE_THE_END):
+            process.stdout.readline()
+        self.scheduler.kill()
+        status, _, err = self.rest_of(process)
+        self.assertEqual((status, err.splitlines()[-1]), (2, "sweep: the Dask scheduler is lost"))
+
+
+@needs_program
+class Faults(ToolCase):
+    def test_words(self) -> None:
+        scenario = self.write("s.toml", SCENARIO)
+        for words, line in ((("--cluster", "host"), "host is no address of a Dask scheduler, as tcp://HOST:8786"),
+                            (("--cluster", "tcp://h:1", "--share", "1/2", "--results", "r"),
+                             "--cluster goes with runs (--help tells the usage)")):
+            self.assert_fault(self.run_tool("sweep", scenario, "--vary", "seed=1", *words), f"sweep: {line}")
+
+    def test_scripts_outside_their_folder(self) -> None:
+        self.write("calls.csv", CALLS)
+        os.mkdir(self.path("scripts"))
+        scenario = self.write("s.toml", SCENARIO.replace("calls.csv", "../calls.csv"))
+        ran = self.run_tool("sweep", scenario, "--vary", "seed=1", "--scripts", "scripts", "--cluster", "tcp://h:1")
+        self.assert_fault(ran, "sweep: --cluster sends the scripts below --scripts alone, and not ../calls.csv")
+
+    def test_without_its_library(self) -> None:
+        """A Python that finds no Dask tells which package has it."""
+        scenario = self.write("s.toml", SCENARIO)
+        os.mkdir(self.path("without"))
+        self.write("without/distributed.py", "raise ImportError\n")
+        ran = self.run_tool("sweep", scenario, "--vary", "seed=1", "--cluster", "tcp://h:1",
+                            PYTHONPATH=self.path("without"))
+        self.assert_fault(ran, "sweep: --cluster needs Debian's package python3-distributed, which is for Debian's "
+                               "python3")
+
+    @needs_dask
+    def test_nobody_answers(self) -> None:
+        scenario = self.write("s.toml", SCENARIO)
+        status, out, err = self.run_tool("sweep", scenario, "--vary", "seed=1", "--cluster", "tcp://127.0.0.1:9")
+        self.assertEqual((status, out, len(err.splitlines())), (2, "", 1), err)
+        self.assertTrue(err.startswith("sweep: cannot use the Dask scheduler at tcp://127.0.0.1:9: "), err)
+
+
+if __name__ == "__main__":
+    unittest.main()

@@ -1,0 +1,211 @@
+"""Tests the ages since the first send: by logs written by hand, and by the bodies of messages in random chains."""
+import csv
+import hashlib
+import io
+import json
+import random
+import subprocess
+import unittest
+
+from tool import PROGRAM, ToolCase, needs_program
+from rehearse_tools.doors import Doors
+from rehearse_tools.logs import Rows
+from rehearse_tools.replay import ignored
+from rehearse_tools.runs import Output
+
+HEADER = "at,queue,agent,call,answer,message,receipt,detail\n"
+# m-0-0 is dead-lettered to d, moved back as m-0-1, and forwarded to b, where it is deleted 9.2 s after it was sent.
+CHAIN = HEADER + """100,a,shop,send,new,m-0-0,,x
+150,a,w,receive,ok,m-0-0,r-0-0-1,o-0-0
+200,a,w,fail,ok,m-0-0,r-0-0-1,
+2150,a,a,redrive,out,m-0-0,,d
+2170,d,a,arrive,new,m-2-0,,o-0-0
+5000,d,back,move,out,m-2-0,,a
+5020,a,back,arrive,new,m-0-1,,o-0-0
+5100,a,w,receive,ok,m-0-1,r-0-1-1,o-0-0
+5300,a,w,forward,out,m-0-1,,b
+5300,a,w,delete,deleted,m-0-1,r-0-1-1,280
+5400,b,w,arrive,new,m-1-0,,o-1-0
+9000,b,v,receive,ok,m-1-0,r-1-0-1,o-1-0
+9300,b,v,delete,deleted,m-1-0,r-1-0-1,3900
+"""
+STEADY = """version = 1
+horizon = 60000
+[[queue]]
+name = "a"
+[[queue]]
+name = "b"
+[[actor]]
+name = "w"
+kind = "consumer"
+queue = "a"
+wait_s = 20
+idle_ms = 1
+service_min_ms = 1000
+service_max_ms = 1000
+forward = "b"
+latency_ms = 500
+[[actor]]
+name = "v"
+kind = "consumer"
+queue = "b"
+wait_s = 20
+idle_ms = 1
+service_min_ms = 1000
+service_max_ms = 1000
+[[actor]]
+name = "shop"
+kind = "producer"
+queue = "a"
+count = 5
+gap_min_ms = 5000
+gap_max_ms = 5000
+body = "m"
+"""
+
+
+def two_forwards(first_out: int, second_out: int, first_in: int, second_in: int) -> str:
+    """Messages sent at 0 and 1 ms, forwarded by one consumer, and deleted in b at 2 s and 3 s."""
+    rows = [(0, "a,shop,send,new,m-0-0,,x"), (1, "a,shop,send,new,m-0-1,,x"),
+            (2, "a,w,receive,ok,m-0-0,r-0-0-1,o-0-0"), (2, "a,w,receive,ok,m-0-1,r-0-1-1,o-0-1"),
+            (first_out, "a,w,forward,out,m-0-0,,b"), (first_out, "a,w,delete,deleted,m-0-0,r-0-0-1,9"),
+            (second_out, "a,w,forward,out,m-0-1,,b"), (second_out, "a,w,delete,deleted,m-0-1,r-0-1-1,9"),
+            (first_in, "b,w,arrive,new,m-1-0,,o-1-0"), (second_in, "b,w,arrive,new,m-1-1,,o-1-1"),
+            (1_990, "b,v,receive,ok,m-1-0,r-1-0-1,o-1-0"), (1_990, "b,v,receive,ok,m-1-1,r-1-1-1,o-1-1"),
+            (2_000, "b,v,delete,deleted,m-1-0,r-1-0-1,9"), (3_000, "b,v,delete,deleted,m-1-1,r-1-1-1,9")]
+    return HEADER + "".join(f"{at},{row}\n" for at, row in sorted(rows, key=lambda row: row[0]))
+
+
+def doors_of(text: str, first: int = 0) -> Doors:
+    doors = Doors(first)
+    Output(io.StringIO(text)).give(Rows(lambda head: doors.take_of(head) or ignored))
+    return doors
+
+
+class ByHand(ToolCase):
+    def test_a_chain(self) -> None:
+        """Its age in a ends 5.2 s after the first send, and in b 9.2 s after it."""
+        doors = doors_of(CHAIN)
+        self.assertEqual((doors.ages_of("a"), doors.ages_of("b"), doors.ages_of("d")), ({5_200: 1}, {9_200: 1}, {}))
+        self.assertEqual(doors.columns("b"), {"door_age_p50": 9_200, "door_age_p95": 9_200, "door_age_max": 9_200})
+        self.assertEqual(set(doors.columns("d").values()), {None})
+        self.assertEqual(doors_of(CHAIN, 5_301).ages_of("a"), {})
+
+    def test_messages_that_are_left(self) -> None:
+        """Without its last row it is in b, and 10 s after its first send 10 s old."""
+        doors = doors_of(CHAIN.rpartition("9300")[0])
+        self.assertEqual(doors.left(10_100), {"b": [10_000]})
+
+    def test_when_the_order_of_forwards_is_known(self) -> None:
+        for what, text, number in (("one after another", two_forwards(100, 300, 200, 450), 0),
+                                   ("both take 300 ms", two_forwards(100, 200, 400, 500), 0),
+                                   ("the second may have been first", two_forwards(100, 200, 400, 550), 2)):
+            with self.subTest(what=what):
+                doors = doors_of(text)
+                self.assertEqual(doors.open_of("b"), (number, ["w"] if number else []))
+                self.assertEqual(doors.ages_of("b"), {2_000: 1, 2_999: 1})
+                self.assertEqual(doors.columns("b")["door_age_max"], None if number else 2_999)
+
+    def test_doubts_are_kept_over_a_chain(self) -> None:
+        """A consumer of b that forwards one message after another to c settles nothing that was open in b."""
+        rest = """2000,b,v,forward,out,m-1-0,,c
+2100,c,v,arrive,new,m-2-0,,o-2-0
+2200,c,u,receive,ok,m-2-0,r-2-0-1,o-2-0
+2300,c,u,delete,deleted,m-2-0,r-2-0-1,200
+"""
+        forward, _, rest = rest.partition("\n")
+        text = two_forwards(100, 200, 400, 550).replace("2000,b,v,delete", f"{forward}\n2000,b,v,delete")
+        text = text.replace("3000,b", rest + "3000,b")
+        self.assertEqual(doors_of(text).open_of("c"), (1, ["w"]))
+
+    def test_summary(self) -> None:
+        path = self.write("run.log", CHAIN)
+        status, out, err = self.run_tool("summary", path, "--door", "--queue", "b")
+        self.assertEqual((status, err), (0, ""))
+        self.assertIn("   age since first send, 95 %        9.20 s\n", out)
+        queue, = json.loads(self.run_tool("summary", path, "--door", "--queue", "b", "--json")[1])["runs"][0]["queues"]
+        self.assertEqual((queue["door_age_p95_ms"], queue["door_age_open"]), (9_200, 0))
+        self.assertNotIn("since first send", self.run_tool("summary", path)[1])
+        open_path = self.write("open.log", two_forwards(100, 200, 400, 550))
+        out = self.run_tool("summary", open_path, "--door", "--queue", "b")[1]
+        self.assertIn("     first send open of                   2 as forwards of w may overtake\n", out)
+        self.assertNotIn("age since", out)
+
+    def test_logs_that_lack_rows(self) -> None:
+        """A forward of what was not received, and an arrival of another consumer than the one that forwarded."""
+        for what, text, line in (
+                ("no receive", CHAIN.replace("150,a,w,receive", "150,a,u,receive").replace("5100,a,w", "5100,a,u"),
+                 "run.log line 10: w did not receive m-0-1: is this the whole log?"),
+                ("another consumer", CHAIN.replace("5400,b,w", "5400,b,u"),
+                 "run.log line 12: o-1-0 was not on its way to b: is this the whole log?")):
+            with self.subTest(what=what):
+                self.write("run.log", text)
+                self.assert_fault(self.run_tool("summary", "run.log", "--door"), f"summary: {line}")
+        self.assert_hostile_logs("summary", "--door")
+
+
+def chain(seed: int) -> str:
+    """A chain of two queues in which the body of each message tells which it is, with latencies that differ."""
+    chance = random.Random(seed)
+    least = chance.choice([1, 100])
+    greatest = least + chance.choice([0, 30, 1_000])
+    latency = f"latency_min_ms = {least}\nlatency_max_ms = {greatest}\n"
+    parts = [f"version = 2\nhorizon = 60000\nseed = {seed}\n",
+             f'[[queue]]\nname = "a"\nvisibility_s = {chance.choice([2, 30])}\ndead_letter = "d"\nmax_receives = 3\n'
+             f'{latency}[[queue]]\nname = "b"\n[[queue]]\nname = "d"\n',
+             '[[actor]]\nname = "shop"\nkind = "producer"\nqueue = "a"\ncount = 200\ngap_min_ms = 1\ngap_max_ms = 200\n'
+             'body = "{n}"\n']
+    for number in range(chance.randint(1, 3)):
+        service = chance.choice([5, 200])
+        parts.append(f'[[actor]]\nname = "w{number}"\nkind = "consumer"\nqueue = "a"\nbatch = {chance.randint(1, 10)}\n'
+                     f'service_min_ms = {service}\nservice_max_ms = {3 * service}\nforward = "b"\nfail_permille = 100\n'
+                     + latency)
+    parts.append('[[task]]\nname = "t"\nqueue = "d"\nto = "a"\nper_second = 50\n' + latency)
+    parts.append('[[actor]]\nname = "op"\nkind = "script"\nqueue = "d"\ncalls = """\n'
+                 'at,call,body,group,id,delay,receipt,max,wait,timeout,task\n20000,start,,,,,,,,,t\n"""\n')
+    return "".join(parts)
+
+
+@needs_program
+class Random(unittest.TestCase):
+    def test_what_is_known_is_right(self) -> None:
+        """The checksum of each message that is left in b tells which one it was, and so when it was sent."""
+        known = wrong = 0
+        for seed in range(60):
+            run = subprocess.run([str(PROGRAM), "run", "--quiet"], input=chain(seed), capture_output=True, text=True)
+            self.assertEqual(run.returncode, 0, run.stderr)
+            records, doors = list(csv.reader(io.StringIO(run.stdout))), doors_of(run.stdout)
+            sent = {record[7]: int(record[0]) for record in records if record[3:5] == ["send", "new"]}
+            self.assertEqual(len(sent), 200)
+            self.assertIn(hashlib.md5(b"0").hexdigest(), sent)
+            for record in records:
+                if record[:2] == ["final", "b"]:
+                    door = doors.origins.there[record[2]][0]
+                    is_open = any(not doors.forwards.edges[edge].keeps_order for edge in door.doubts)
+                    wrong += is_open and door.at != sent[record[9]]
+                    known += not is_open
+                    if not is_open:
+                        self.assertEqual(door.at, sent[record[9]], seed)
+        self.assertGreater(known, 1_000)
+        self.assertGreater(wrong, 100)
+
+
+@needs_program
+class Sweeps(ToolCase):
+    def test_columns_and_requirements(self) -> None:
+        """The message is served for a second in a and in b, and takes 500 ms from one to the other: 2.5 s in all."""
+        scenario = self.write("s.toml", STEADY)
+        words = scenario, "--vary", "seed=1", "--columns", "deletes,door_age_p50,door_age_max"
+        status, out, _ = self.run_tool("sweep", *words)
+        self.assertEqual((status, out), (0, "seed,failed,queue,deletes,door_age_p50,door_age_max\n1,,a,5,1000,1000\n"
+                                            "1,,b,5,2500,2500\n"))
+        for text, status in (("b.door_age_p95<=2500ms", 0), ("b.door_age_p95<2500ms", 1)):
+            self.assertEqual(self.run_tool("sweep", *words, "--require", text)[0], status)
+        # sent at 0, 5, .. 20 s, so that two of five are deleted before 10 s
+        self.assertEqual(self.run_tool("sweep", *words, "--from", "10s")[1].splitlines()[2], "1,,b,3,2500,2500")
+        ran = self.run_tool("report", scenario, "--require", "b.door_age_p95<1s", "--output", "r.html")
+        self.assertEqual(ran, (1, "", "report: b.door_age_p95<1s fails: it is 2500 ms, 2.50 s\n"))
+
+
+if __name__ == "__main__":
+    unittest.main()

@@ -1,0 +1,200 @@
+"""Tests the columns of a sweep that no report has: by a log written by hand, by random scenarios against the report and
+the summary, and by the program."""
+import io
+import json
+import math
+import subprocess
+import unittest
+
+from test_runs import OVERLOADED, random_scenario
+from tool import PROGRAM, ToolCase, needs_program
+from rehearse_tools.further import COLUMNS as FURTHER
+from rehearse_tools.logs import FINAL_HEADER, LOG_HEADER, REPORT_HEADER
+from rehearse_tools.requirements import Requirement
+from rehearse_tools.runs import ALL_COLUMNS, COLUMNS, Ages, Counting, Extra, reported
+from rehearse_tools.statistics import Interval
+from rehearse_tools.summaries import ACTIONS, Reading, read_runs
+
+# m-0-0 is dead-lettered to d and moved back as m-0-2, and is 2 s old there when it is deleted; m-0-1 is new, and 2.5 s
+# old. m-0-3 is left, 11 s old.
+ROWS = """100,a,shop,send,new,m-0-0,,x
+200,a,w,receive,ok,m-0-0,r-0-0-1,o-0-0
+300,a,w,fail,ok,m-0-0,r-0-0-1,
+1200,a,a,redrive,out,m-0-0,,d
+1220,d,a,arrive,new,m-1-0,,o-0-0
+2500,a,shop,send,new,m-0-1,,x
+3000,d,back,move,out,m-1-0,,a
+3020,a,back,arrive,new,m-0-2,,o-0-0
+4000,a,w,receive,ok,m-0-1,r-0-1-1,o-0-1
+5000,a,w,delete,deleted,m-0-1,r-0-1-1,2500
+5001,a,w,receive,ok,m-0-2,r-0-2-1,o-0-0
+5020,a,w,delete,deleted,m-0-2,r-0-2-1,2000
+6000,a,w,receive,empty,,,
+9000,a,shop,send,new,m-0-3,,x
+"""
+REST = (f"final,{','.join(FINAL_HEADER[1:])}\nfinal,a,m-0-3,o-0-3,visible,,9000,0,,x\n"
+        f"report,{','.join(REPORT_HEADER[1:])}\nreport,a\nreport,d\n")
+TEXT = ",".join(LOG_HEADER) + "\n" + ROWS + REST
+
+
+def found_in(text: str, counting: Counting) -> tuple[dict[str, dict[str, str]], dict[str, Ages]]:
+    """By queue the further columns that are counted in what a run prints, and the ages."""
+    records, ages = reported(io.StringIO(text), counting)
+    return {name: dict(zip(ALL_COLUMNS, numbers, strict=True)) for name, *numbers in records}, ages
+
+
+class ByHand(ToolCase):
+    def found(self, first: int = 0, **extra: object) -> tuple[dict[str, dict[str, str]], dict[str, Ages]]:
+        return found_in(TEXT, Counting(first, 20_000, Extra(with_further=True, **extra)))
+
+    def test_new_and_moved_messages(self) -> None:
+        found, ages = self.found()
+        self.assertEqual({column: found["a"][column] for column in FURTHER}, {
+            "requests": "9", "cost": "", "backlog_gone": "0", "new_age_p50": "2500", "new_age_p95": "2500",
+            "new_age_max": "2500", "moved_age_p50": "2000", "moved_age_p95": "2000", "moved_age_max": "2000",
+            "window_age_p95": "2500"})
+        self.assertEqual(found["a"]["door_age_p50"], "")
+        self.assertEqual({found["d"][column] for column in FURTHER[3:]}, {""})
+        # one new message is left, 11 s old, and no moved one
+        self.assertEqual(ages["a"].bounds["new_age_p50"], Interval(2_500, 2_500))
+        self.assertEqual(ages["a"].bounds["new_age_p95"], Interval(11_000, math.inf))
+        self.assertEqual(ages["a"].bounds["moved_age_max"], Interval(2_000, 2_000))
+
+    def test_a_summary(self) -> None:
+        """It has the ages apart if a move task brought messages that were deleted, and counts them anew with --from."""
+        path = self.write("run.log", TEXT.partition("final,")[0])
+        columns = [f"{kind}_age_p{percent}_ms" for kind in ("new", "moved") for percent in (50, 95)]
+        for words, ages in (((), [2_500, 2_500, 2_000, 2_000]), (("--from", "5010"), [None, None, 2_000, 2_000]),
+                            (("--to", "5010"), [None] * 4)):
+            status, out, err = self.run_tool("summary", path, "--json", "--queue", "a", *words)
+            self.assertEqual((status, err), (0, ""))
+            queue, = json.loads(out)["runs"][0]["queues"]
+            self.assertEqual([queue[column] for column in columns], ages)
+        self.assertIn("   age of moved ones, 95 %           2.00 s\n", self.run_tool("summary", path)[1])
+        self.assertNotIn("ones", self.run_tool("summary", path, "--to", "5010")[1])
+
+    def test_requests_and_their_cost(self) -> None:
+        """Three sends, two deletions, and four receives, of which one got nothing."""
+        self.assertEqual(self.found(price=1_000_000.0)[0]["a"]["cost"], "9")
+        self.assertEqual(self.found(price=0.4)[0]["a"]["cost"], "0.000004")
+        self.assertEqual(self.found(first=5_001)[0]["a"]["requests"], "4")
+
+    def test_windows(self) -> None:
+        """By windows of 10 ms each deletion has one of its own; what is left counts in that of the end."""
+        for window, bounds in ((10, Interval(11_000, math.inf)), (5_010, Interval(11_000, math.inf)),
+                               (100_000, Interval(11_000, math.inf))):
+            found, ages = self.found(window=window)
+            self.assertEqual((found["a"]["window_age_p95"], ages["a"].bounds["window_age_p95"]), ("2500", bounds))
+        self.assertEqual(self.found(first=5_010, window=10)[0]["a"]["window_age_p95"], "2000")
+
+    def test_backlogs(self) -> None:
+        """Eleven that wait are a backlog, which ends with the first that is received; at the end it is not gone."""
+        sends = "".join(f"{at},a,shop,send,new,m-0-{at},,x\n" for at in range(11))
+        head, rest = ",".join(LOG_HEADER) + "\n", f"final,{','.join(FINAL_HEADER[1:])}\n{REST[REST.index('report'):]}"
+        for rows, gone in ((sends, ""), (sends + "70,a,w,receive,ok,m-0-0,r-0-0-1,o-0-0\n", "70")):
+            found, _ = found_in(head + rows + rest, Counting(0, 100, Extra(with_further=True)))
+            self.assertEqual(found["a"]["backlog_gone"], gone)
+
+
+class Requirements(unittest.TestCase):
+    def word(self, text: str, bounds: dict[str, Interval], left: int = 1, **columns: str) -> str | None:
+        numbers = {**dict.fromkeys(ALL_COLUMNS, ""), **dict.fromkeys(COLUMNS, "0"), "visible": str(left), **columns}
+        failure = Requirement(text).failure(list(numbers.values()), Ages({}, [], bounds=bounds))
+        return failure and failure.word
+
+    def test_messages_that_are_left(self) -> None:
+        bounds = {"new_age_p95": Interval(1_000, 5_000), "window_age_p95": Interval(9_000, math.inf)}
+        for text, word in (("q.new_age_p95<6s", None), ("q.new_age_p95<1s", "fails"),
+                           ("q.new_age_p95<2s", "is undecided"), ("q.window_age_p95<1min", "is undecided"),
+                           ("q.window_age_p95<9s", "fails")):
+            self.assertEqual(self.word(text, bounds, new_age_p95="900", window_age_p95="900"), word, text)
+        self.assertEqual(self.word("q.new_age_p95<1s", {}, 0, new_age_p95="900"), None)
+
+    def test_numbers(self) -> None:
+        self.assertEqual(self.word("q.cost<0.5", {}, cost="0.46"), None)
+        self.assertEqual(self.word("q.cost<0.4", {}, cost="0.46"), "fails")
+        self.assertEqual(self.word("q.backlog_gone<=0", {}, backlog_gone="0"), None)
+        self.assertEqual(self.word("q.backlog_gone<1h", {}, backlog_gone="3600000"), "fails")
+        failure = Requirement("q.backlog_gone<1h").failure([*["0"] * len(COLUMNS), *[""] * 99])
+        self.assertEqual(failure, ("fails", "a backlog is there at the end"))
+
+
+@needs_program
+class Random(ToolCase):
+    def test_against_report_and_summary(self) -> None:
+        """New and moved messages are all that were deleted; one window is the run; the requests are the summary's."""
+        moved = backlogs = 0
+        for seed in range(40):
+            text = random_scenario(seed)
+            run = subprocess.run([str(PROGRAM), "run", "--quiet"], input=text, capture_output=True, text=True)
+            found, _ = found_in(run.stdout, Counting(0, 90_000, Extra(True, True, 100_000)))
+            summary, = read_runs([self.write("run.out", run.stdout)], Reading())
+            for name, numbers in found.items():
+                values = summary.queues[name].values()
+                with self.subTest(seed=seed, queue=name):
+                    self.assertEqual(numbers["window_age_p95"], numbers["age_p95"])
+                    greatest = [int(numbers[column]) for column in ("new_age_max", "moved_age_max") if numbers[column]]
+                    self.assertEqual(str(max(greatest, default="")), numbers["age_max"])
+                    self.assertEqual(int(numbers["requests"]), sum(values[action] for action in ACTIONS.values()))
+                    gone = "" if values["backlog_since_ms"] is not None else str(values["backlog_gone_at_ms"] or 0)
+                    self.assertEqual(numbers["backlog_gone"], gone)
+                moved += bool(numbers["moved_age_max"])
+                backlogs += numbers["backlog_gone"] not in ("", "0")
+        self.assertGreater(moved, 3)
+        self.assertGreater(backlogs, 10)
+
+
+@needs_program
+class Sweeps(ToolCase):
+    def setUp(self) -> None:
+        super().setUp()
+        self.scenario = self.write("s.toml", OVERLOADED)
+
+    def sweep(self, *words: str) -> tuple[int, str, str]:
+        return self.run_tool("sweep", self.scenario, *words)
+
+    def test_columns(self) -> None:
+        words = "--vary", "seed=1..5", "--price", "0.4", "--columns", "requests,cost,window_age_p95"
+        status, out, _ = self.sweep(*words)
+        rows = [line.split(",") for line in out.splitlines()]
+        self.assertEqual((status, rows[0]), (0, "seed,failed,queue,requests,cost,window_age_p95".split(",")))
+        for *_, requests, cost, _ in rows[1:]:
+            self.assertAlmostEqual(float(cost), int(requests) * 0.4 / 1e6, places=6)
+        spread = self.sweep("--vary", "seed=1..5", "--columns", "cost", "--price", "400000", "--spread", "seed")[1]
+        self.assertAlmostEqual(float(spread.splitlines()[1].split(",")[3]), sum(int(row[3]) for row in rows[1:]) / 12.5,
+                               places=2)
+
+    def test_requirements(self) -> None:
+        status, _, err = self.sweep("--require", "q.new_age_p95<90s", "--require", "q.backlog_gone<50s", "--require",
+                                    "q.moved_age_p50<1s", "--require", "q.requests<1000")
+        self.assertEqual(status, 1)
+        self.assertIn("q.new_age_p95<90s is undecided with the scenario as it is: it is ", err)
+        self.assertIn("q.backlog_gone<50s fails with the scenario as it is: a backlog is there at the end\n", err)
+        self.assertIn("q.moved_age_p50<1s fails with the scenario as it is: no moved message was deleted\n", err)
+        self.assertIn("requirements that hold: 1 of 4\n", err)
+
+    def test_reports(self) -> None:
+        words = self.scenario, "--output", "r.html", "--require"
+        status, _, err = self.run_tool("report", *words, "q.window_age_p95<1s", "--require", "q.requests<1000")
+        self.assertEqual(status, 1)
+        self.assertTrue(err.startswith("report: q.window_age_p95<1s fails: it is "), err)
+        self.assertEqual(len(err.splitlines()), 1)
+        self.assert_fault(self.run_tool("report", *words, "q.cost<1"),
+                          "report: q.cost<1: a report knows no price (tools/sweep has --price)")
+
+    def test_faults(self) -> None:
+        words = "--vary", "seed=1", "--columns"
+        for more, line in ((("cost",), "the column cost needs --price, what a million requests cost"),
+                           (("cost", "--price", "-1"), "--price is 0 to 1,000,000"),
+                           (("cost", "--price", "nan"), "--price is 0 to 1,000,000"),
+                           (("window_age_p95", "--window", "0"), "--window is a time over 0"),
+                           (("window_age_p95", "--window", "x"), "--window x is no time, as 90s or 1.5h")):
+            self.assert_fault(self.sweep(*words, *more), f"sweep: {line}")
+        self.assertEqual(self.sweep("--vary", "seed=1", "--share", "1/1", "--results", "d")[0], 0)
+        status, _, err = self.run_tool("sweep", "--collect", "d", "--columns", "requests")
+        self.assertEqual(status, 2)
+        self.assertIn("shares and jobs have the columns of the report alone, and none of door_age_p50, ", err)
+
+
+if __name__ == "__main__":
+    unittest.main()

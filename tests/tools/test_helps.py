@@ -1,0 +1,45 @@
+"""Tests the examples in the helps of the tools: each runs as it stands."""
+import os
+import shutil
+import subprocess
+import unittest
+
+from tool import ROOT, TOOLS, USERS_TOOLS, ToolCase, needs_program
+import helps
+
+ATTRIBUTES = """{"Attributes": {"QueueArn": "arn:aws:sqs:eu-west-1:1:%s", "VisibilityTimeout": "45",
+"ApproximateNumberOfMessages": "2"}}
+"""
+
+
+@needs_program
+class Examples(ToolCase):
+    def setUp(self) -> None:
+        super().setUp()
+        for name in ("examples", "tools", "sqs_rehearse"):
+            os.symlink(os.path.join(ROOT, name), self.path(name))
+        for name in ("orders", "failed"):
+            self.write(f"{name}.json", ATTRIBUTES % name)
+        shutil.copy(os.path.join(ROOT, "tests", "tools", "plans", "modules", "plan.json"), self.path("plan.json"))
+
+    def examples_of(self, name: str) -> list[str]:
+        blocks = helps.blocks_of(self.run_tool(name, "--help")[1])
+        leads = [block.lead for block in blocks]
+        return blocks[leads.index("Examples:") + 1].rows if "Examples:" in leads else []
+
+    def test_examples(self) -> None:
+        """Each tool has two at least, which run where the examples are; a requirement or an alarm may end with 1."""
+        for name in USERS_TOOLS:
+            examples = self.examples_of(name)
+            self.assertGreaterEqual(len(examples), 2, name)
+            for example in examples:
+                with self.subTest(example=example):
+                    run = subprocess.run(["bash", "-c", example], cwd=self.folder, capture_output=True, text=True,
+                                         env={**os.environ, "PATH": f"{TOOLS}:{os.environ['PATH']}"})
+                    self.assertIn(run.returncode, (0, 1), run.stderr)
+                    self.assertNotIn("Traceback", run.stderr)
+                    self.assertIn(f"tools/{name} ", example)
+
+
+if __name__ == "__main__":
+    unittest.main()

@@ -1,0 +1,187 @@
+"""Tests the jobs of a sweep: what a share writes, what is left after one was ended, and what is not collected."""
+import os
+import shlex
+import signal
+import subprocess
+import sys
+import time
+import unittest
+
+from test_sweep import SCENARIO, STAND_IN
+from tool import TOOLS, ToolCase
+
+
+class Jobs(ToolCase):
+    def setUp(self) -> None:
+        super().setUp()
+        self.scenario = self.write("s.toml", SCENARIO)
+        self.program = self.write("program", STAND_IN)
+        os.chmod(self.program, 0o755)
+        self.words = self.scenario, "--vary", "queue.q.visibility_s=2", "--vary", "seed=1..6"
+        self.results = self.path("results")
+
+    def sweep(self, *words: str) -> tuple[int, str, str]:
+        return self.run_tool("sweep", *words, SQS_REHEARSE=self.program)
+
+    def jobs(self, *words: str) -> list[str]:
+        """The commands of jobs for these words, or those of all."""
+        status, out, err = self.sweep(*(words or self.words), "--print-jobs", "results")
+        self.assertEqual((status, err), (0, ""))
+        return out.splitlines()
+
+    def rest(self) -> list[str]:
+        return self.jobs(*self.words, "--rest")
+
+    def run_job(self, job: str) -> tuple[int, str]:
+        """The status and the standard error of a job, run from another folder."""
+        ran = subprocess.run(["sh", "-c", f"{shlex.quote(sys.executable)} {job}"], cwd="/", capture_output=True,
+                             text=True)
+        return ran.returncode, ran.stderr
+
+    def files(self) -> list[str]:
+        return sorted(os.listdir(self.results))
+
+    def test_shares_are_as_one_sweep(self) -> None:
+        whole = self.sweep(*self.words)[1]
+        for number in (3, 1, 2, 4):
+            self.assertEqual(self.sweep(*self.words, "--share", f"{number}/4", "--results", "results")[0], 0)
+        self.assertEqual(len(self.files()), 4)
+        self.assertEqual(self.sweep("--collect", "results"), (0, whole, ""))
+
+    def test_jobs_of_shares(self) -> None:
+        """Of six variants in four shares the first two have two each."""
+        jobs = self.jobs(*self.words, "--shares", "4")
+        self.assertEqual([" --share 1/4 " in jobs[0], " --share 4/4 " in jobs[3], len(jobs)], [True, True, 4])
+        for job in jobs:
+            self.assertEqual(self.run_job(job)[0], 0)
+        self.assertEqual(self.sweep("--collect", "results")[1], self.sweep(*self.words)[1])
+
+    def test_a_file_that_is_there_is_not_made_again(self) -> None:
+        first = self.jobs()[0]
+        self.run_job(first)
+        status, err = self.run_job(first)
+        self.assertEqual((status, err.endswith("is there already\n")), (0, True))
+        # one that is cut is
+        path = os.path.join(self.results, self.files()[0])
+        with open(path, "r+b") as file:
+            file.truncate(400)
+        self.assertIn("1 of 1 variants run", self.run_job(first)[1])
+        self.assertEqual(len(self.rest()), 5)
+
+    def test_the_rest_is_printed(self) -> None:
+        """All without a folder; then those whose file is missing, empty or cut, also where a share had them."""
+        jobs = self.jobs()
+        self.assertEqual(self.rest(), jobs)
+        for job in jobs[:4]:
+            self.run_job(job)
+        self.assertEqual(self.rest(), jobs[4:])
+        self.write(os.path.join("results", self.files()[1]), "")
+        self.assertEqual(self.rest(), [jobs[1], *jobs[4:]])
+        status, out, _ = self.sweep(*self.words, "--print-jobs", "results", "--rest", "--shares", "2")
+        self.assertEqual((status, len(out.splitlines())), (0, 2))
+
+    def test_a_job_that_is_ended_leaves_no_file(self) -> None:
+        """As a scheduler ends it, or a person: the seed of 77 takes a minute."""
+        words = self.scenario, "--vary", "queue.q.visibility_s=2", "--vary", "seed=1,77,3"
+        for number in (signal.SIGTERM, signal.SIGINT):
+            command = [sys.executable, os.path.join(TOOLS, "sweep"), *words, "--share", "1/1", "--results", "results",
+                       "--program", self.program, "--jobs", "1"]
+            process = subprocess.Popen(command, cwd=self.folder, stderr=subprocess.PIPE, text=True)
+            while not os.path.exists(self.path("begun")):
+                time.sleep(0.02)
+            time.sleep(0.2)
+            os.remove(self.path("begun"))
+            process.send_signal(number)
+            _, err = process.communicate(timeout=20)
+            self.assertEqual((process.returncode, self.files()), (130, []), err)
+            self.assertIn("interrupted after 1 of 3 variants", err)
+        self.assertEqual(len(self.sweep(*words, "--print-jobs", "results", "--rest")[1].splitlines()), 3)
+
+    def test_a_variant_whose_program_is_killed_is_left(self) -> None:
+        """The killed program of seed 4 says nothing of the variant, so that it is run again."""
+        self.write("program", STAND_IN.replace("if seed == 77:", "if seed == 4:\n    import os; os.kill(os.getpid(), 9)"
+                                               "\nif seed == 77:"))
+        status, _, err = self.sweep(*self.words, "--share", "1/1", "--results", "results")
+        self.assertEqual(status, 1)
+        self.assertIn("sweep: variant 4 is left, as its run was ended by signal 9\n", err)
+        status, out, err = self.sweep("--collect", "results")
+        self.assertEqual((status, err, len(out.splitlines())), (1, "sweep: 1 of 6 variants are left: 4\n", 11))
+        self.assertEqual([" --share 4/6 " in job for job in self.rest()], [True])
+
+    def test_results_of_another_scenario_are_not_collected(self) -> None:
+        """A scenario that has changed is another sweep, whose jobs are all left; both together are refused."""
+        jobs = self.jobs()
+        for job in jobs:
+            self.run_job(job)
+        old = self.files()[0][-12:-4]
+        self.write("s.toml", SCENARIO.replace("horizon = 1000", "horizon = 2000"))
+        changed = self.jobs()
+        self.assertEqual(len(self.rest()), 6)
+        status, err = self.run_job(jobs[0].replace("--share 1/6", "--share 1/3"))
+        new = changed[0].split("--mark ")[1].split()[0]
+        self.assertEqual((status, err), (2, "sweep: the scenario, its scripts, the settings and the program here are "
+                                            f"those of the sweep {new}, and not of {old}\n"))
+        for job in changed[:3]:
+            self.run_job(job)
+        marks = ", ".join(sorted([old, new]))
+        self.assert_fault(self.sweep("--collect", "results"),
+                          f"sweep: there are results of 2 sweeps, {marks}, which should be one")
+        status, out, err = self.sweep("--collect", "results", "--mark", new)
+        self.assertEqual((status, len(out.splitlines()), err.splitlines()[-1]),
+                         (1, 7, "sweep: 3 of 6 variants are left: 4-6"))
+        self.assert_fault(self.sweep("--collect", "results", "--mark", "01234567"),
+                          "sweep: results has no whole result of the sweep 01234567: "
+                          f"{self.files()[0]} is foreign: it is of the sweep {self.files()[0][-12:-4]}, and not of "
+                          "01234567")
+
+    def test_scripts_and_the_program_are_parts_of_the_mark(self) -> None:
+        scenario = self.write("a.toml", SCENARIO + '[[actor]]\nname = "a"\nkind = "script"\nqueue = "q"\n'
+                              'script = "sends.csv"\n')
+        words = scenario, "--vary", "actor.a.script=sends.csv,more.csv", "--vary", "seed=1"
+        marks = set()
+        for name, text in (("sends.csv", "1"), ("sends.csv", "2"), ("more.csv", "1"), ("program", STAND_IN + "\n"),
+                           ("other.csv", "not read")):
+            self.write(name, text)
+            marks.add(self.jobs(*words)[0].split("--mark ")[1].split()[0])
+        self.assertEqual(len(marks), 4)
+
+    def test_a_file_that_is_bad_is_named(self) -> None:
+        for job in self.jobs():
+            self.run_job(job)
+        name = self.files()[2]
+        with open(os.path.join(self.results, name), encoding="utf-8") as file:
+            text = file.read()
+        copy = f"6{self.files()[5][1:]}"
+        for bad, line in ((text[:-1], "is cut: it has no end mark"), (text[:-80], "is cut: it has no end mark"),
+                          (text.replace(",203,", ",20,"), "is not as it was written: its checksum is another")):
+            self.write(f"results/{name}", bad)
+            status, out, err = self.sweep("--collect", "results")
+            self.assertEqual((status, len(out.splitlines())), (1, 11))
+            self.assertEqual(err, f"sweep: {name} {line}\nsweep: 1 of 6 variants are left: 3\n")
+        self.write(f"results/0{copy}", text)
+        self.assertIn(f"sweep: 0{copy} is foreign: it holds variant 3, which is none of share 6/6 of 6",
+                      self.sweep("--collect", "results")[2])
+
+    def test_faults(self) -> None:
+        share = "--share", "1/2", "--results", "results"
+        for words, line in (
+                ((*self.words, "--share", "1/2"), "--share goes with --results (--help tells the usage)"),
+                ((*self.words, "--results", "r"), "--results goes with --share (--help tells the usage)"),
+                ((*self.words, "--rest"), "--rest goes with --print-jobs (--help tells the usage)"),
+                ((*self.words, "--mark", "3fa9c2d1"), "--mark goes with --share or --collect (--help tells the usage)"),
+                ((*self.words, "--share", "3/2", "--results", "r"),
+                 "3/2 is no share, as 3/50 for the third of fifty"),
+                ((*self.words, *share, "--spread", "seed"),
+                 "a share writes all rows: --require and --spread go with --collect"),
+                ((*self.words, "--print-jobs", "r", "--shares", "0"), "--shares is 1 to 1000000")):
+            with self.subTest(words=words):
+                self.assert_fault(self.sweep(*words), f"sweep: {line}")
+        command = [sys.executable, os.path.join(TOOLS, "sweep"), "-", "--vary", "seed=1", "--print-jobs", "r"]
+        ran = subprocess.run(command, cwd=self.folder, input=SCENARIO, capture_output=True, text=True,
+                             env={**os.environ, "SQS_REHEARSE": self.program})
+        self.assertEqual((ran.returncode, ran.stderr),
+                         (2, "sweep: jobs read the scenario from a file, and not from standard input\n"))
+
+
+if __name__ == "__main__":
+    unittest.main()

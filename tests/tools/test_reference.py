@@ -1,0 +1,280 @@
+"""Tests the reference in tests/reference: versions 1 and 2 against stored cases, and against the program over random
+scenarios; version 3 against docs/VERSION3.md, by logs, faults and times that were written by hand."""
+import glob
+import os
+import pathlib
+import random
+import re
+import subprocess
+import sys
+import unittest
+
+from tool import PROGRAM, ROOT, needs_program
+
+REFERENCE = os.path.join(ROOT, "tests", "reference")
+sys.path.insert(0, REFERENCE)
+from agreeing import Outcome, answered, first_difference, referred, split_words  # noqa: E402 (of the folder above)
+from faults import Fault  # noqa: E402
+from making import PROFILES, scenario_text  # noqa: E402
+from reader import read  # noqa: E402
+from sites import TooLong  # noqa: E402
+from words import MASK, Draws, place_by_weight, time_at  # noqa: E402
+
+SEEDS, MOST_HANDLINGS = range(1, 21), 1_000
+OLD_PROFILES = [name for name, (version, _) in PROFILES.items() if version < 3]
+STORED = sorted(glob.glob(os.path.join(ROOT, "tests", "cases", "*", "*.toml")))
+WRITTEN = sorted(glob.glob(os.path.join(REFERENCE, "cases", "*.toml")))
+VERSION_2 = re.compile(rb"^version = 2$", re.MULTILINE)
+HEAD = 'version = 3\nhorizon = 9\n[[queue]]\nname = "q"\n[[queue]]\nname = "w-1"\n[[queue]]\nname = "f.fifo"\n'
+CONSUMER = HEAD + '[[actor]]\nname = "c"\nkind = "consumer"\nqueue = "q"\n'
+SERVED = CONSUMER + "service_min_ms = 1\nservice_max_ms = 1\n"
+PRODUCER = HEAD + '[[actor]]\nname = "p"\nkind = "producer"\nqueue = "q"\ncount = 1\nbody = "m"\n'
+SENT = PRODUCER + "gap_min_ms = 1\ngap_max_ms = 1\n"
+SENT_FIFO = SENT.replace('queue = "q"\ncount', 'queue = "f.fifo"\ncount')
+ANOTHER = SERVED[len(HEAD):]
+BOUNDS = re.compile(r"(gap|service)_min_ms = (\d+)\n\1_max_ms = (\d+)\n")
+# Keys that change nothing: what they name does not occur.
+NEUTRAL = {"producer": "stop_ms = 2592000000\n",
+           "consumer": 'stop_ms = 2592000000\nfails_on = "in no body"\nfails_from_ms = 7\nfails_to_ms = 7\n'
+                       'batch_fails = "each"\nheartbeat_s = 43200\n'}
+PAIRS_33 = [[0, 1], *([it, 1] for it in range(1, 32)), [1000, 1]]
+# Texts with what is added to them, and the first fault of the whole.
+FAULTS = [
+    (CONSUMER, "", "12 MissingKey at actor[0].service_min_ms"),
+    (SERVED, "service = 3", "11 UnknownKey at actor[0].service_max_ms"),
+    (SERVED.replace("= 3\n", "= 2\n", 1), "service = 3", "11 UnknownKey at actor[0].service"),
+    (CONSUMER, "service = 3", "13 WrongType at actor[0].service"),
+    (CONSUMER, "service = []", "14 OutOfRange at actor[0].service"),
+    (CONSUMER, "service = [[0, 1]]", "14 OutOfRange at actor[0].service"),
+    (CONSUMER, f"service = {PAIRS_33}", "19 TooMany at actor[0].service"),
+    (CONSUMER, f"service = {PAIRS_33[1:]}", "14 OutOfRange at actor[0].service[0]"),
+    (CONSUMER, "service = [0, 1000]", "13 WrongType at actor[0].service[0]"),
+    (CONSUMER, "service = [[0, 1, 2], [1000, 1]]", "14 OutOfRange at actor[0].service[0]"),
+    (CONSUMER, "service = [[0, 1], [1000]]", "14 OutOfRange at actor[0].service[1]"),
+    (CONSUMER, 'service = [["0", 1], [1000, 1]]', "13 WrongType at actor[0].service[0]"),
+    (CONSUMER, "service = [[0.0, 1], [1000, 1]]", "13 WrongType at actor[0].service[0]"),
+    (CONSUMER, "service = [[0, 1], [1000, true]]", "13 WrongType at actor[0].service[1]"),
+    (CONSUMER, 'service = [[1, "1"], [1000, 1]]', "14 OutOfRange at actor[0].service[0]"),
+    (CONSUMER, "service = [[0, 0], [1000, 1]]", "14 OutOfRange at actor[0].service[0]"),
+    (CONSUMER, "service = [[0, 1], [500, 1], [500, 2], [1000, 3]]", "14 OutOfRange at actor[0].service[2]"),
+    (CONSUMER, "service = [[0, 1], [1000, 1], [1000, 2]]", "14 OutOfRange at actor[0].service[1]"),
+    (CONSUMER, "service = [[0, 1], [999, 2]]", "14 OutOfRange at actor[0].service[1]"),
+    (CONSUMER, "service = [[0, 2], [1000, 1]]", "14 OutOfRange at actor[0].service[1]"),
+    (CONSUMER, "service = [[0, 1], [1000, 86400001]]", "14 OutOfRange at actor[0].service[1]"),
+    (CONSUMER, "service = [[0, 1], [1000, 86400000]]", ""),
+    (SERVED, "start_ms = 5\nstop_ms = 4", "14 OutOfRange at actor[0].stop_ms"),
+    (SERVED, "start_ms = 5\nstop_ms = 5", ""),
+    (SERVED, "stop_ms = 2592000001", "14 OutOfRange at actor[0].stop_ms"),
+    (SERVED, 'fails_on = ""', "14 OutOfRange at actor[0].fails_on"),
+    (SERVED, f'fails_on = "{"é" * 64}"', ""),
+    (SERVED, f'fails_on = "{"é" * 64}x"', "14 OutOfRange at actor[0].fails_on"),
+    (SERVED, "fails_on = 5", "13 WrongType at actor[0].fails_on"),
+    (SERVED, "fails_to_ms = 5", "11 UnknownKey at actor[0].fails_to_ms"),
+    (SERVED, "fails_from_ms = 5", "12 MissingKey at actor[0].fails_to_ms"),
+    (SERVED, "fails_from_ms = 5\nfails_to_ms = 4", "14 OutOfRange at actor[0].fails_to_ms"),
+    (SERVED, "fails_from_ms = 5\nfails_to_ms = 5", ""),
+    (SERVED, 'fails_from_ms = "5"\nfails_to_ms = -1', "13 WrongType at actor[0].fails_from_ms"),
+    (SERVED, 'batch_fails = "some"', "14 OutOfRange at actor[0].batch_fails"),
+    (SERVED, "batch_fails = true", "13 WrongType at actor[0].batch_fails"),
+    (SERVED, "backoff_s = 5", "13 WrongType at actor[0].backoff_s"),
+    (SERVED, "backoff_s = []", "14 OutOfRange at actor[0].backoff_s"),
+    (SERVED, f"backoff_s = {[0] * 12}", ""),
+    (SERVED, f"backoff_s = {[-1] * 13}", "19 TooMany at actor[0].backoff_s"),
+    (SERVED, "backoff_s = [43200, 43201]", "14 OutOfRange at actor[0].backoff_s[1]"),
+    (SERVED, 'backoff_s = ["5", -1]', "13 WrongType at actor[0].backoff_s[0]"),
+    (SERVED, "heartbeat_s = 0", "14 OutOfRange at actor[0].heartbeat_s"),
+    (SERVED, "heartbeat_s = 43201", "14 OutOfRange at actor[0].heartbeat_s"),
+    (SERVED, "copies = 0", "14 OutOfRange at actor[0].copies"),
+    (SERVED, "copies = 1001", "14 OutOfRange at actor[0].copies"),
+    (SERVED, "copies = 1000", ""),
+    (SERVED.replace('"c"', f'"{"c" * 78}"'), "copies = 9", ""),
+    (SERVED.replace('"c"', f'"{"c" * 78}"'), "copies = 10", "15 BadName at actor[0].copies"),
+    (SERVED.replace('"c"', '"w"'), "copies = 1", "16 NameTwice at actor[0].copies"),
+    (SERVED, "copies = 2\n" + ANOTHER, "16 NameTwice at actor[1].name"),
+    (SERVED, "copies = 2\n" + ANOTHER.replace('"c"', '"c-2"'), "16 NameTwice at actor[1].name"),
+    (SERVED, "copies = 2\n" + ANOTHER.replace('"c"', '"c-3"'), ""),
+    (SERVED.replace('"c"', '"c-2"'), ANOTHER + "copies = 2", "16 NameTwice at actor[1].copies"),
+    (SERVED, "copies = 1000\n" + "".join(
+        ANOTHER.replace('"c"', f'"d{it}"') + "copies = 1000\n" for it in range(9)), ""),
+    (SERVED, "copies = 1000\n" + "".join(
+        ANOTHER.replace('"c"', f'"d{it}"') + "copies = 1000\n" for it in range(10)), "19 TooMany at actor[9].copies"),
+    (SERVED, "copies = 1\nbackoff_s = 1\nstop_ms = -1", "14 OutOfRange at actor[0].stop_ms"),
+    (SERVED, "idle_ms = 0\nstop_ms = -1", "14 OutOfRange at actor[0].idle_ms"),
+    (SERVED, "gap = 1\ncopies = 0", "11 UnknownKey at actor[0].gap"),
+    (SENT, "copies = 2", "11 UnknownKey at actor[0].copies"),
+    (PRODUCER, "", "12 MissingKey at actor[0].gap_min_ms"),
+    (SENT, "gap = []", "11 UnknownKey at actor[0].gap_max_ms"),
+    (PRODUCER, "gap = [[0, 1], [1000, 0]]", "14 OutOfRange at actor[0].gap[1]"),
+    (SENT, 'key_groups = [["g", 1]]', "11 UnknownKey at actor[0].key_groups"),
+    (SENT_FIFO, "", "12 MissingKey at actor[0].groups"),
+    (SENT_FIFO, 'groups = 1\nkey_groups = [["g", 1]]', "11 UnknownKey at actor[0].groups"),
+    (SENT_FIFO, "key_groups = []", "14 OutOfRange at actor[0].key_groups"),
+    (SENT_FIFO, f"key_groups = {[['g', 1]] * 100}", ""),
+    (SENT_FIFO, f"key_groups = {[['g', 1]] * 101}", "19 TooMany at actor[0].key_groups"),
+    (SENT_FIFO, 'key_groups = [["g", 1], ["g h", 1]]', "14 OutOfRange at actor[0].key_groups[1]"),
+    (SENT_FIFO, f'key_groups = [["{"g" * 129}", 1]]', "14 OutOfRange at actor[0].key_groups[0]"),
+    (SENT_FIFO, 'key_groups = [["g", 0]]', "14 OutOfRange at actor[0].key_groups[0]"),
+    (SENT_FIFO, 'key_groups = [["g", 1000001]]', "14 OutOfRange at actor[0].key_groups[0]"),
+    (SENT_FIFO, "key_groups = [[1, 1]]", "13 WrongType at actor[0].key_groups[0]"),
+    (SENT_FIFO, 'key_groups = [["g", 1]]\nids = 1\nstop_ms = 1', "13 WrongType at actor[0].ids"),
+    (SENT, "start_ms = 2\nstop_ms = 1", "14 OutOfRange at actor[0].stop_ms"),
+]
+
+
+def with_end(path, end):
+    """The bytes of the file that belongs to a scenario, or none."""
+    file = pathlib.Path(path).with_suffix(end)
+    return file.read_bytes() if file.exists() else b""
+
+
+def stored_outcome(path):
+    return Outcome(int(with_end(path, ".status") or 0), with_end(path, ".out"), with_end(path, ".err"))
+
+
+def fault_line(text):
+    """The line of the first fault of a text, or nothing."""
+    try:
+        read(text.encode("utf-8"), {}, 3)
+    except Fault as fault:
+        return fault.line()
+    return ""
+
+
+def with_neutral_keys(text):
+    """A text of version 2 as one of version 3, with keys that change nothing, and quantiles that say what its bounds
+    do."""
+    text = BOUNDS.sub(lambda it: f"{it[1]} = [[0, {it[2]}], [1000, {int(it[3]) + 1}]]\n", text)
+    for kind, keys in NEUTRAL.items():
+        text = text.replace(f'kind = "{kind}"\n', f'kind = "{kind}"\n{keys}')
+    return text.replace("version = 2\n", "version = 3\n")
+
+
+def random_texts(profile):
+    """Random scenarios of a profile, each with what the reference answers, without those that run long."""
+    for seed in SEEDS:
+        source = scenario_text(profile, seed).encode("utf-8")
+        try:
+            yield seed, source, referred(source, PROFILES[profile][0], MOST_HANDLINGS)
+        except TooLong:
+            pass
+
+
+class OldVersions(unittest.TestCase):
+    def assert_same(self, wanted, found):
+        self.assertEqual(first_difference(wanted, found), "")
+
+    def test_stored_cases(self):
+        for path in STORED:
+            with self.subTest(case=os.path.relpath(path, ROOT)):
+                self.assert_same(stored_outcome(path), referred(pathlib.Path(path).read_bytes()))
+
+    @needs_program
+    def test_the_program_agrees_on_stored_cases(self):
+        for path in STORED:
+            with self.subTest(case=os.path.relpath(path, ROOT)):
+                source = pathlib.Path(path).read_bytes()
+                self.assert_same(referred(source), answered(PROGRAM, source))
+
+    @needs_program
+    def test_the_program_agrees_on_random_scenarios(self):
+        for profile in OLD_PROFILES:
+            for seed, source, wanted in random_texts(profile):
+                with self.subTest(profile=profile, seed=seed):
+                    self.assert_same(wanted, answered(PROGRAM, source))
+                    self.assert_same(wanted, answered(PROGRAM, source, *split_words(source)))
+
+    def test_a_text_of_version_2_is_the_same_in_version_3(self):
+        sources = [pathlib.Path(path).read_bytes() for path in STORED]
+        sources += [source for _, source, _ in random_texts("version-2")]
+        sources = [source for source in sources if VERSION_2.search(source)]
+        self.assertGreater(len(sources), 50)
+        for source in sources:
+            with self.subTest(text=source[:200]):
+                self.assert_same(referred(source), referred(VERSION_2.sub(b"version = 3", source), 3))
+
+
+class VersionThree(unittest.TestCase):
+    def test_logs_that_were_written_by_hand(self):
+        self.assertGreaterEqual(len(WRITTEN), 20)
+        for path in WRITTEN:
+            with self.subTest(case=os.path.basename(path)):
+                found, log = referred(pathlib.Path(path).read_bytes(), 3), with_end(path, ".log.csv")
+                self.assertEqual((found.status, found.error), (0, b""))
+                self.assertEqual(found.output[:found.output.index(b"final,queue")].decode(), log.decode())
+
+    def test_it_is_read_only_if_it_is_asked_for(self):
+        text = pathlib.Path(WRITTEN[0]).read_bytes()
+        wanted = Outcome(1, b"", b"refused 14 OutOfRange at version\n")
+        self.assertEqual(referred(text), wanted)
+        self.assertEqual(referred(text.replace(b"version = 3", b"version = 4"), 3), wanted)
+        program = os.path.join(REFERENCE, "sqs_reference")
+        for words, line in ([], wanted.error), (["--preview"], b"ok queues=1 actors=3 tasks=0 least=2001\n"):
+            case = os.path.join(REFERENCE, "cases", "copies.toml")
+            ran = subprocess.run([sys.executable, program, "check", *words, case], capture_output=True)
+            self.assertEqual(ran.stdout + ran.stderr, line)
+
+    def test_faults(self):
+        for text, added, line in FAULTS:
+            with self.subTest(added=added, line=line):
+                self.assertEqual(fault_line(f"{text}{added}\n"), f"refused {line}" if line else "")
+
+    def test_the_example_of_the_document_is_read(self):
+        text = pathlib.Path(ROOT, "docs", "VERSION3.md").read_text(encoding="utf-8")
+        examples = re.findall(r"```toml\n(.*?)```", text, re.DOTALL)
+        self.assertEqual([fault_line(example) for example in examples], [""])
+
+    def test_times_by_quantiles(self):
+        steps = [(0, 7), (250, 107), (500, 107), (1000, 1107)]
+        # 2^30 is at 250, 2^31 at 500, and 3 * 2^30 at 750; each word before them is a little below.
+        for word, time in ((0, 7), (1, 7), (2 ** 30 - 1, 106), (2 ** 30, 107), (2 ** 31 - 1, 107), (2 ** 31, 107),
+                           (3 * 2 ** 30, 607), (MASK, 1106)):
+            self.assertEqual(time_at(steps, word), time, word)
+        self.assertEqual({time_at([(0, 5), (1000, 5)], word) for word in (0, 2 ** 31, MASK)}, {5})
+        # One permille of a day is so steep that the last word is 21 ms short: 86399999 * 1000 / 2^32 is 20.1.
+        self.assertEqual(time_at([(0, 1), (999, 1), (1000, 86_400_000)], MASK), 86_400_000 - 21)
+
+    def test_two_quantiles_are_two_bounds(self):
+        choice = random.Random(1)
+        for agent in range(100):
+            low, more = choice.randrange(1, 1000), choice.choice([0, 1, 10, 10_000, 86_000_000])
+            quantiles, bounds = Draws(5, agent), Draws(5, agent)
+            for _ in range(10):
+                self.assertEqual(time_at([(0, low), (1000, low + more + 1)], quantiles.word()),
+                                 bounds.uniform(low, low + more))
+
+    def test_groups_by_weight(self):
+        self.assertEqual([place_by_weight([1, 2, 1], word) for word in (0, 2 ** 30 - 1, 2 ** 30, 3 * 2 ** 30 - 1,
+                                                                        3 * 2 ** 30, MASK)], [0, 0, 1, 1, 2, 2])
+        self.assertEqual([place_by_weight([9], word) for word in (0, MASK)], [0, 0])
+
+    def test_copies_are_tables_at_the_end(self):
+        keys = 'kind = "consumer"\nqueue = "q"\nbatch = 2\nservice_min_ms = 1\nservice_max_ms = 99\n'
+        producer = SENT[len(HEAD):].replace("count = 1", "count = 40")
+        head = HEAD.replace("horizon = 9", "horizon = 999") + producer
+        tables = {name: f'[[actor]]\nname = "{name}"\n{keys}' for name in ("c", "c-1", "c-2", "c-3", "d")}
+        copied = referred(f"{head}{tables['c']}copies = 3\n{tables['d']}".encode(), 3)
+        written = referred((head + "".join(tables[name] for name in ("c-1", "d", "c-2", "c-3"))).encode(), 3)
+        self.assertEqual(copied, written)
+        self.assertEqual(copied.status, 0)
+
+    def test_keys_that_name_nothing_change_nothing(self):
+        for seed, source, wanted in random_texts("version-2"):
+            with self.subTest(seed=seed):
+                found = referred(with_neutral_keys(source.decode("utf-8")).encode("utf-8"), 3)
+                self.assertEqual(first_difference(wanted, found), "")
+
+    def test_a_batch_of_one_fails_as_a_whole_or_each(self):
+        for seed, source, _ in random_texts("version-3"):
+            with self.subTest(seed=seed):
+                text = re.sub("batch = [0-9]+\n", "batch = 1\n", source.decode("utf-8"))
+                each, whole = (re.sub('batch_fails = "[a-z]+"\n', f'batch_fails = "{word}"\n', text).encode("utf-8")
+                               for word in ("each", "whole"))
+                self.assertEqual(first_difference(referred(each, 3), referred(whole, 3)), "")
+
+    def test_random_scenarios_run(self):
+        texts = [outcome.status for profile in ("version-3", "faulty-3") for _, _, outcome in random_texts(profile)]
+        self.assertGreater(texts.count(0), 10)
+
+
+if __name__ == "__main__":
+    unittest.main()

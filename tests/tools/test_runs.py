@@ -1,0 +1,339 @@
+"""Tests what is counted of a run: by the stored cases and random scenarios against the program's own reports, and
+between two moments by logs written by hand."""
+import csv
+import io
+import json
+import os
+import random
+import re
+import subprocess
+import unittest
+from itertools import chain
+from typing import Any
+
+from test_summary import LOG, PARTS, WAYS, cases
+from tool import PROGRAM, ToolCase, needs_program
+from rehearse_tools import runs
+from rehearse_tools.requirements import Requirement
+from rehearse_tools.runs import COLUMNS, Ages
+from rehearse_tools.summaries import Reading, read_runs
+
+SCENARIOS = 60
+# Columns whose numbers in two halves of a run add up to those of the whole.
+ADDED = [*COLUMNS[:COLUMNS.index("depth_max")], "age_sum"]
+# Three messages a second come in for a worker that does one in three seconds: most are left.
+OVERLOADED = """version = 1
+horizon = 60000
+[[queue]]
+name = "q"
+[[actor]]
+name = "p"
+kind = "producer"
+queue = "q"
+count = 9000
+gap_min_ms = 1
+gap_max_ms = 1999
+body = "m"
+[[actor]]
+name = "c"
+kind = "consumer"
+queue = "q"
+service_min_ms = 2000
+service_max_ms = 4000
+"""
+
+
+def counts_of(text: str, first: int) -> dict[str, dict[str, str]]:
+    """The columns of each queue that are counted from a moment on in what a run prints."""
+    found = runs.reported(io.StringIO(text), runs.Counting(first, 0))
+    assert found is not None
+    return {name: dict(zip(COLUMNS, numbers)) for name, *numbers in found[0]}
+
+
+def table(of: str, **keys: Any) -> str:
+    """A table of a scenario's list."""
+    return f"[[{of}]]\n" + "".join(f"{key} = {json.dumps(value)}\n" for key, value in keys.items())
+
+
+def random_scenario(seed: int) -> str:
+    """A scenario of two to four queues with dead letters, delays, long polls, forwards, failures and a move task."""
+    chance = random.Random(seed)
+    end = chance.choice(["", ".fifo"])
+    names = [f"q{number}{end}" for number in range(chance.randint(2, 4))]
+    parts = [f"version = 1\nhorizon = {chance.choice([20_000, 90_000])}\nseed = {seed}\n"]
+    for number, name in enumerate(names):
+        keys: dict[str, Any] = {"visibility_s": chance.randint(1, 8), "delay_s": chance.choice([0, 0, 3]),
+                                "retention_s": chance.choice([60, 345_600])}
+        if number == 0:
+            keys |= {"dead_letter": names[-1], "max_receives": chance.randint(1, 3), "latency_ms": 20}
+        parts.append(table("queue", name=name, **keys))
+    fifo = {"groups": chance.randint(1, 5), "ids": True} if end else {}
+    for number, name in enumerate(names[:-1]):
+        least = chance.randint(1, 300)
+        parts.append(table("actor", name=f"p{number}", kind="producer", queue=name, count=chance.randint(1, 300),
+                           gap_min_ms=least, gap_max_ms=least + 200, body=chance.choice(["m", "{n}"]), **fifo))
+        forward = {"forward": names[number + 1], "latency_ms": 30} if chance.random() < 0.5 else {}
+        least = chance.randint(1, 4_000)
+        for copy in range(chance.randint(0, 3)):
+            parts.append(table("actor", name=f"c{number}-{copy}", kind="consumer", queue=name, service_min_ms=least,
+                               service_max_ms=2 * least, batch=chance.randint(1, 10), wait_s=chance.choice([0, 2]),
+                               fail_permille=chance.choice([0, 300]), **forward))
+    parts.append(table("actor", name="op", kind="script", queue=names[-1],
+                       calls="at,call,body,group,id,delay,receipt,max,wait,timeout,task\n9000,start,,,,,,,,,t\n"
+                             "9001,receive,,,,,,10,,,\n9500,start,,,,,,,,,t\n"))
+    parts.append(table("task", name="t", queue=names[-1], to=names[0], per_second=5, latency_ms=20))
+    return "".join(parts)
+
+
+class Whole(unittest.TestCase):
+    def test_stored_cases(self) -> None:
+        """Where nothing is cut, all columns are those of the program's reports."""
+        number = 0
+        for number, (path, log, rest, records) in enumerate(cases(), 1):
+            with self.subTest(path=path):
+                wanted = {record["queue"]: {column: record[column] for column in COLUMNS} for record in records}
+                self.assertEqual(counts_of(log + rest, 0), wanted)
+        self.assertGreater(number, 100)
+
+    @needs_program
+    def test_random_scenarios(self) -> None:
+        """All columns are the program's; two halves add up to the whole; an end is that of a run with this horizon."""
+        command, are_rich = [PROGRAM, "run", "--scripts", "."], 0
+        for seed in range(SCENARIOS):
+            text = random_scenario(seed)
+            with self.subTest(seed=seed):
+                whole = runs.run(command, text, None)
+                self.assertEqual(whole.status, 0, whole.told)
+                self.assertEqual(runs.run(command, text, runs.Counting(0, 0)).records, whole.records)
+                half = 7_001
+                ended = text.replace("\nhorizon = ", f"\nhorizon = {half - 1} # ")
+                first = runs.run(command, ended, runs.Counting(0, 0)).records
+                second = runs.run(command, text, runs.Counting(half, 0)).records
+                for of_first, of_second, of_whole in zip(first or [], second or [], whole.records or [], strict=True):
+                    numbers = [dict(zip(COLUMNS, record[1:])) for record in (of_first, of_second, of_whole)]
+                    for column in ADDED:
+                        self.assertEqual(sum(int(record[column]) for record in numbers[:2]), int(numbers[2][column]))
+                    self.assertEqual(max(int(record["depth_max"]) for record in numbers[:2]),
+                                     int(numbers[2]["depth_max"]))
+                    self.assertEqual([numbers[1][place] for place in runs.PLACES.values()],
+                                     [numbers[2][place] for place in runs.PLACES.values()])
+                    are_rich += int(numbers[2]["redrives"]) > 0
+        self.assertGreater(are_rich, SCENARIOS // 4)
+
+
+class Cut(ToolCase):
+    def test_output_that_ends_anywhere(self) -> None:
+        """A program that is ended within its output has no report, or one of which rows are cut."""
+        text = LOG + PARTS
+        for end in range(len(text)):
+            for first, is_extra in ((0, False), (2_500, True)):
+                counting = runs.Counting(first, 60_000, runs.Extra(is_extra, is_extra))
+                found = runs.reported(io.StringIO(text[:end]), counting)
+                self.assertEqual(found is None, end < text.index("\n", text.index("report,queue")), end)
+
+    def test_from_a_moment_on(self) -> None:
+        """From 2.5 s on queue a has a delete of a message that is kept, two deletes, a receive and what follows."""
+        found = counts_of(LOG + PARTS, 2_500)
+        self.assertEqual({column: number for column, number in found["a"].items() if number not in ("0", "")},
+                         {"receives": "1", "empties": "2", "deletes": "2", "redrives": "1", "MessageNotInflight": "1",
+                          "depth_max": "3", "age_sum": "5300", "age_max": "2800", "age_p50": "2500", "age_p95": "2800",
+                          "age_p99": "2800"})
+        self.assertEqual(counts_of(LOG + PARTS, 2_601)["a"]["age_sum"], "2800")
+        self.assertEqual(counts_of(LOG + PARTS, 3_001)["a"]["depth_max"], "1")
+        self.assertEqual(counts_of(LOG + PARTS, 60_201)["d"], {**dict.fromkeys(COLUMNS, "0"), "age_max": "",
+                                                               "age_p50": "", "age_p95": "", "age_p99": ""})
+
+    def queues(self, text: str, *words: str) -> dict[str, dict[str, Any]]:
+        status, out, err = self.run_tool("summary", "--json", self.write("run.txt", text), *words)
+        self.assertEqual((status, err), (0, ""))
+        run, = json.loads(out)["runs"]
+        return {queue["queue"]: queue for queue in run["queues"]}
+
+    def test_summary_from_a_moment_on(self) -> None:
+        """After 2.5 s each of the three messages is handled once, and m-0-2 alone is received, for the first time."""
+        found = self.queues(LOG + PARTS, "--from", "2501")["a"]
+        wanted = {"sent": 0, "came_in": 0, "there_before": 3, "deleted": 2, "handled_once": 3,
+                  "handled_more_than_once": 0, "receives": 1, "received_messages": 1, "tries_mean": 1.0,
+                  "tries_greatest": 1, "failed_services": 1, "dead_lettered": 1, "depth_greatest": 3,
+                  "depth_greatest_at_ms": 2501, "age_p50_ms": 2500, "age_greatest_ms": 2800, "DeleteMessage": 4,
+                  "empty_receives": 2, "left": 0}
+        self.assertEqual({key: found[key] for key in wanted}, wanted)
+
+    def test_summary_to_a_moment(self) -> None:
+        """To 2.1 s, what happens then included, m-0-0 is visible again, and two are in flight."""
+        found = self.queues(LOG + PARTS, "--to", "2.1s")["a"]
+        wanted = {"sent": 3, "receives": 3, "deleted": 0, "left": 3, "left_in_flight": 2, "left_visible_or_delayed": 1,
+                  "left_visible": None, "backlog_gone_at_ms": None, "not_empty_since_ms": 100}
+        self.assertEqual({key: found[key] for key in wanted}, wanted)
+        self.assertNotIn("there_before", found)
+        self.assertEqual(self.queues(LOG + PARTS, "--to", "2099")["a"]["left_in_flight"], 3)
+
+    def test_summary_between_moments(self) -> None:
+        path = self.write("run.txt", WAYS)
+        status, out, err = self.run_tool("summary", path, "--from", "1.5s", "--to", "1700")
+        self.assertEqual((status, err), (0, ""))
+        self.assertEqual(out.splitlines()[:3], [
+            f"{path}: 4 rows, the last at 1.70 s", "   counted from 1.50 s to 1.70 s",
+            "   it is not told which of the messages left are delayed"])
+        self.assertIn("   deleted                                1 of 2\n", out)
+
+    def test_the_cut_is_that_of_the_whole(self) -> None:
+        """A cut before the first row and after the last one changes no number."""
+        for path, *_ in cases():
+            whole, cut = (read_runs([path], Reading(first))[0].queues for first in (None, 0))
+            for name, queue in whole.items():
+                with self.subTest(path=path, queue=name):
+                    found = cut[name].values()
+                    self.assertEqual({key: found[key] for key in queue.values()}, queue.values())
+
+    def test_faults(self) -> None:
+        log = self.write("run.txt", LOG)
+        for words, line in ((("--from", "soon"), "--from soon is no time, as 90s or 1.5h"),
+                            (("--to", "0.1"), "--to 0.1 is no time, as 90s or 1.5h"),
+                            (("--from", "2s", "--to", "1s"), "--from 2s is after --to 1s")):
+            self.assert_fault(self.run_tool("summary", log, *words), f"summary: {line}")
+
+
+@needs_program
+class Sweeps(ToolCase):
+    def setUp(self) -> None:
+        super().setUp()
+        self.scenario = self.write("o.toml", OVERLOADED)
+
+    def test_columns_of_a_sweep(self) -> None:
+        """They are those of the log that the program writes for a run that ends then."""
+        status, out, _ = self.run_tool("sweep", self.scenario, "--vary", "seed=1..3", "--from", "10s", "--to", "40s")
+        self.assertEqual(status, 0)
+        for seed, row in zip("123", csv.DictReader(io.StringIO(out))):
+            text = OVERLOADED.replace("60000", f"40000\nseed = {seed}")
+            log = subprocess.run([str(PROGRAM), "run", "--quiet"], input=text, capture_output=True, text=True).stdout
+            self.assertEqual({column: row[column] for column in COLUMNS}, counts_of(log, 10_000)["q"])
+            self.assertGreater(int(row["sends"]), 0)
+
+    def test_requirements_use_them(self) -> None:
+        words = self.scenario, "--require", "q.sends<45"
+        self.assertEqual(self.run_tool("sweep", *words)[0], 1)
+        self.assertEqual(self.run_tool("sweep", *words, "--from", "30s")[0], 0)
+
+    def test_shares_and_their_collection(self) -> None:
+        """A share counts the same, and its mark is another than that of a share that counts all."""
+        words = self.scenario, "--vary", "seed=1..4", "--from", "10s", "--to", "40s"
+        whole = self.run_tool("sweep", *words)[1]
+        status, jobs, _ = self.run_tool("sweep", *words, "--print-jobs", "results", "--shares", "2")
+        self.assertIn("--from 10000 --to 40000 ", jobs)
+        for job in jobs.splitlines():
+            self.assertEqual(subprocess.run(["sh", "-c", job], capture_output=True).returncode, 0)
+        self.assertEqual(self.run_tool("sweep", "--collect", "results"), (0, whole, ""))
+        uncut = self.run_tool("sweep", *words[:3], "--print-jobs", "results", "--shares", "2")[1]
+        self.assertNotEqual(jobs.split("--mark ")[1][:8], uncut.split("--mark ")[1][:8])
+        self.assertEqual(os.listdir(self.path("results"))[0].count("-of-2-"), 1)
+
+    def test_faults(self) -> None:
+        for words, line in ((("--from", "2m"), "--from 120000 ms is after the horizon of 60000 ms"),
+                            (("--from", "x"), "--from x is no time, as 90s or 1.5h"),
+                            (("--from", "1s", "--print-scenario"), "--from and --to go with runs, and nothing is run")):
+            ran = self.run_tool("sweep", self.scenario, "--vary", "seed=1", *words)
+            self.assert_fault(ran, f"sweep: {line}")
+
+    def test_ages_of_messages_that_are_left(self) -> None:
+        """Twice as many wait as were deleted: 90 s may hold or not, and 10 s fails for what is known already."""
+        status, _, err = self.run_tool("sweep", self.scenario, "--require", "q.age_p95<90s", "--require",
+                                       "q.age_p95<10s", "--require", "q.age_p95>10s", "--columns", "deletes,visible")
+        self.assertEqual(status, 1)
+        lines = err.splitlines()[-3:]
+        self.assertRegex(lines[0], r"q.age_p95<90s is undecided with the scenario as it is: it is \d+ ms, \d\d.\d s, "
+                                   r"of those deleted, and \d+ ms or more with the \d+ that are left \(\d+\.\d %\)$")
+        self.assertIn("q.age_p95<10s fails with the scenario as it is", lines[1])
+        self.assertEqual(lines[2], "sweep: requirements that hold: 1 of 3")
+
+    def test_what_is_collected_has_no_log(self) -> None:
+        """Of a share there is the report alone, by which 90 s is open as well."""
+        words = "--vary", "seed=1", "--share", "1/1", "--results", "results"
+        self.assertEqual(self.run_tool("sweep", self.scenario, *words)[0], 0)
+        status, _, err = self.run_tool("sweep", "--collect", "results", "--require", "q.age_p95<90s")
+        self.assertEqual(status, 1)
+        self.assertIn("q.age_p95<90s is undecided with seed=1: ", err)
+
+    def test_a_report_of_messages_that_are_left(self) -> None:
+        status, out, err = self.run_tool("report", self.scenario, "--require", "q.age_p95<90s", "--output", "o.html")
+        self.assertEqual((status, out), (1, ""))
+        self.assertTrue(err.startswith("report: q.age_p95<90s is undecided: it is "), err)
+        with open(self.path("o.html"), encoding="utf-8") as file:
+            self.assertIn('<td class="fails">is undecided</td><td>q.age_p95&lt;90s</td>', file.read())
+
+
+    def test_a_report_from_and_to_a_moment(self) -> None:
+        """Its requirements are judged by what a sweep counts; the page says what was counted."""
+        first, second = (dict(zip(*csv.reader(io.StringIO(self.run_tool("sweep", self.scenario, "--vary", "seed=0",
+                                                                        *words)[1]))))
+                         for words in (("--from", "30s"), ("--to", "20s")))
+        for words, numbers, told in ((("--from", "30s"), first, "counted from 30.0 s"),
+                                     (("--to", "20s"), second, "ended at 20.0 s")):
+            requires = [word for column in ("sends", "deletes", "age_max", "depth_max", "visible")
+                        for word in ("--require", f"q.{column}!={numbers[column]}")]
+            status, _, err = self.run_tool("report", self.scenario, *words, *requires, "--output", "o.html")
+            self.assertEqual(status, 1)
+            self.assertEqual(len(re.findall(r"^report: q\.\w+!=\d+ fails: it is ", err, re.M)), 4, err)
+            with open(self.path("o.html"), encoding="utf-8") as file:
+                self.assertIn(f", {told}.</p>", file.read())
+        self.assert_fault(self.run_tool("report", self.scenario, "--from", "2m", "--output", "o.html"),
+                          "report: --from 120000 ms is after the horizon of 60000 ms")
+
+
+class Left(unittest.TestCase):
+    """Requirements on ages where messages are left, by counting."""
+
+    def numbers(self, ages: list[int], left: int) -> list[str]:
+        """The texts of a report in which messages of these ages were deleted and some are visible."""
+        found = {**dict.fromkeys(COLUMNS, 0), "deletes": len(ages), "visible": left, "age_max": max(ages)}
+        for column, share in (("age_p50", 50), ("age_p95", 95), ("age_p99", 99)):
+            found[column] = sorted(ages)[-(-share * len(ages) // 100) - 1]
+        return [str(found[column]) for column in COLUMNS]
+
+    def word(self, text: str, ages: list[int], left: int, known: list[int] | None = None) -> str:
+        """What is said of a requirement; `known` are the ages of those left where the log was read."""
+        counts = {age: ages.count(age) for age in ages}
+        failure = Requirement(text).failure(self.numbers(ages, left), None if known is None else Ages(counts, known))
+        return failure.word if failure else "holds"
+
+    def test_the_report_decides(self) -> None:
+        """Of 100 ages 1 to 100 s and one that is left, the 95th percentile has rank 96 of 101: it lies between those of
+        ranks 95 and 96, which a report knows as between 95 and 99 s."""
+        ages = [1_000 * age for age in range(1, 101)]
+        for text, word in (("q.age_p95<=99s", "holds"), ("q.age_p95>94s", "holds"), ("q.age_p95<95s", "fails"),
+                           ("q.age_p95<=96s", "is undecided"), ("q.age_max<200s", "is undecided"),
+                           ("q.age_max<100s", "fails"), ("q.sends=0", "holds")):
+            self.assertEqual(self.word(text, ages, 1), word, text)
+            self.assertEqual(Requirement(text).is_open(self.numbers(ages, 1)), word == "is undecided")
+
+    def test_the_log_decides(self) -> None:
+        """The one that is left is at least 1 s old, so that rank 96 of 101 is 95 or 96 s."""
+        ages = [1_000 * age for age in range(1, 101)]
+        self.assertEqual(self.word("q.age_p95<=96s", ages, 1, [1_000]), "holds")
+        self.assertEqual(self.word("q.age_p95<96s", ages, 1, [1_000]), "is undecided")
+        self.assertEqual(self.word("q.age_p95<96s", ages, 1, [99_000]), "fails")
+
+    def test_a_reason_tells_the_share(self) -> None:
+        """Two of five are left: the middle of five has rank 3, which is the greatest of three or one that is left."""
+        ages = Ages({1_000: 1, 2_000: 1, 3_000: 1}, [500, 9_000])
+        failure = Requirement("q.age_p50<2500").failure(self.numbers([1_000, 2_000, 3_000], 2), ages)
+        self.assertEqual(failure, ("is undecided", "it is 2000 ms, 2.00 s, of those deleted, and 2000 to 3000 ms with "
+                                                   "the 2 that are left (40 %)"))
+
+    def test_bounds_by_the_report_are_not_too_narrow(self) -> None:
+        """Whatever ages the messages have that are left, what a report decides is so."""
+        chance = random.Random(5)
+        for _ in range(2_000):
+            ages = [chance.randint(1, 50) for _ in range(chance.randint(1, 60))]
+            left = [chance.randint(1, 80) for _ in range(chance.randint(1, 12))]
+            column, share = chance.choice([("age_p50", 50), ("age_p95", 95), ("age_p99", 99), ("age_max", 100)])
+            bound = chance.randint(1, 60)
+            together = sorted(chain(ages, left))
+            true = together[-(-share * len(together) // 100) - 1] < bound
+            word = self.word(f"q.{column}<{bound}", ages, len(left))
+            if word != "is undecided":
+                self.assertEqual(word == "holds", true)
+
+
+if __name__ == "__main__":
+    unittest.main()

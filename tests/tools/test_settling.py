@@ -1,0 +1,109 @@
+"""Tests the advice on a warm-up, by queues of which it is known when they settle."""
+import io
+import unittest
+
+from tool import ToolCase, needs_program
+from rehearse_tools import settling
+
+# A message a second for 100 minutes, which nobody receives and which expires: the depth grows until the retention
+# period ends, and is its number of seconds from then on.
+LEFT_ALONE = """version = 1
+horizon = 5999999
+[[queue]]
+name = "q"
+retention_s = 1200
+[[actor]]
+name = "p"
+kind = "producer"
+queue = "q"
+count = 9000
+gap_min_ms = 1000
+gap_max_ms = 1000
+body = "m"
+"""
+LOG = """at,queue,agent,call,answer,message,receipt,detail
+0,q,p,send,new,m-0-0,,x
+100,q,p,send,new,m-0-1,,x
+150,q,c,receive,ok,m-0-0,r-0-0-1,o-0-0
+199,q,c,delete,deleted,m-0-0,r-0-0-1,199
+199,q,c,forward,out,m-0-0,r-0-0-1,d
+"""
+
+
+class Advice(unittest.TestCase):
+    def test_depths_by_counting(self) -> None:
+        """A run of 200 ms has parts of 1 ms: one message up to 100 ms, then two, and one from 199 ms on."""
+        found = settling.series_of(io.StringIO(LOG), settling.PARTS - 1)["q"]
+        self.assertEqual(found.depths, [1.0] * 100 + [2.0] * 99 + [1.0])
+        self.assertEqual(found.entered, [1, 0, 0, 0, 0, 1, 0, 0, 0, 0])
+
+    def series(self, depths: list[float], entered: list[int]) -> list[settling.Series]:
+        return [settling.Series(depths, entered)] * 5
+
+    def test_when_it_is_said(self) -> None:
+        """The first 20 of 200 parts are empty; the others have ten messages."""
+        late, steady = [0.0] * 20 + [10.0] * 180, [7] * 10
+        self.assertEqual(settling.advice_of("q", self.series(late, steady), 1_999), ("q", 200, 9.0, 10.0))
+        for what, depths, entered in (("a burst", late, [70] + [0] * 9), ("no traffic", late, [0] * 10),
+                                      ("settled at once", [10.0] * 200, steady),
+                                      ("too late", [0.0] * 120 + [10.0] * 80, steady),
+                                      ("it does not matter", [9.0] * 20 + [10.0] * 180, steady)):
+            with self.subTest(what=what):
+                self.assertIsNone(settling.advice_of("q", self.series(depths, entered), 1_999))
+
+
+@needs_program
+class Sweeps(ToolCase):
+    def hints(self, text: str, *words: str) -> list[str]:
+        """The lines of a sweep on standard error that advise something."""
+        path = self.write("s.toml", text)
+        status, _, err = self.run_tool("sweep", path, "--vary", "seed=1..6", *words)
+        self.assertEqual(status, 0, err)
+        return [line for line in err.splitlines() if "--from" in line]
+
+    def test_a_queue_that_fills(self) -> None:
+        """It has settled after 1,200 s, in which the mean is 600.5; (1,200 x 600.5 + 4,800 x 1,200) / 6,000 = 1,080.1.
+        """
+        self.assertEqual(self.hints(LEFT_ALONE, "--spread", "seed"), [
+            "sweep: the runs settle late: in q the mean depth is 1,080.1 over all and 1,200.0 from 20m on; "
+            "--from 20m leaves their beginning out"])
+
+    def test_once_for_the_deepest_variant(self) -> None:
+        line, = self.hints(LEFT_ALONE, "--vary", "queue.q.retention_s=60,1500", "--spread", "seed")
+        self.assertIn(" from 25m on with queue.q.retention_s=1500; ", line)
+
+    def test_where_nothing_is_said(self) -> None:
+        for words in ((), ("--spread", "seed", "--from", "20m"), ("--spread", "seed", "--columns", "sends", "--vary",
+                                                                  "queue.q.retention_s=60")):
+            self.assertEqual(self.hints(LEFT_ALONE, *words), [])
+        for text in (LEFT_ALONE.replace("9000", "60"), LEFT_ALONE.replace("1200", "345600")):
+            self.assertEqual(self.hints(text, "--spread", "seed"), [])
+
+    def test_a_picture(self) -> None:
+        """It has each queue with messages, and where to begin; with --from, too, it is drawn from the beginning."""
+        scenario = self.write("s.toml", LEFT_ALONE.replace("[[actor]]", '[[queue]]\nname = "empty"\n[[actor]]'))
+        words = scenario, "--vary", "seed=1..6", "--spread", "seed", "--settling"
+        for more, hints in (((), 1), (("--from", "20m"), 0)):
+            status, _, err = self.run_tool("sweep", *words, "settled.svg", *more)
+            self.assertEqual((status, err.count("--from")), (0, hints), err)
+            with open(self.path("settled.svg"), encoding="utf-8") as file:
+                text = file.read()
+            for wanted in ("When the runs settle", "over 6 runs", "q: settled from 20m on, by MSER-5"):
+                self.assertIn(wanted, text)
+            self.assertNotIn("empty", text)
+
+    def test_no_picture(self) -> None:
+        scenario = self.write("s.toml", LEFT_ALONE)
+        words = "--vary", "seed=1..4", "--spread", "seed", "--settling", "x.png"
+        status, _, err = self.run_tool("sweep", scenario, *words)
+        self.assertEqual(status, 0)
+        self.assertIn("sweep: --settling draws nothing: it needs five runs of one variant", err)
+        for words, line in ((("x.gif",), "x.gif ends in none of .svg, .png, .pdf"),
+                            (("x.svg",), "--settling goes with --spread (--help tells the usage)")):
+            spread = ("--spread", "seed") if "gif" in line else ()
+            self.assert_fault(self.run_tool("sweep", scenario, "--vary", "seed=1..9", *spread, "--settling", *words),
+                              f"sweep: {line}")
+
+
+if __name__ == "__main__":
+    unittest.main()

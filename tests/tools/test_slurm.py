@@ -1,0 +1,139 @@
+"""Tests examples/sweeps/slurm.sh on a real Slurm of this machine, with two nodes, against the bytes of one sweep."""
+import os
+import shutil
+import socket
+import subprocess
+import tempfile
+import time
+import unittest
+from collections.abc import Callable
+
+from test_clusters import CALLS, SCENARIO
+from tool import PROGRAM, ROOT, ToolCase, needs_program
+
+SCRIPT = os.path.join(ROOT, "examples", "sweeps", "slurm.sh")
+SERVERS = [shutil.which(name, path=os.environ.get("PATH", os.defpath) + ":/usr/sbin")
+           for name in ("munged", "slurmctld", "slurmd", "sbatch")]
+needs_slurm = unittest.skipUnless(all(SERVERS) and os.getuid() == 0,
+                                  "Slurm is not here, or the user is not root: apt-get install slurm-wlm munge")
+CONFIGURATION = """ClusterName=test
+SlurmctldHost=localhost(127.0.0.1)
+SlurmUser=root
+SlurmdUser=root
+AuthType=auth/munge
+AuthInfo=socket={folder}/munge.socket
+CredType=cred/munge
+SlurmctldPort={ports[0]}
+StateSaveLocation={folder}/state
+SlurmdSpoolDir={folder}/spool-%n
+SlurmctldPidFile={folder}/slurmctld.pid
+SlurmdPidFile={folder}/slurmd-%n.pid
+SlurmctldLogFile={folder}/slurmctld.log
+SlurmdLogFile={folder}/slurmd-%n.log
+ProctrackType=proctrack/linuxproc
+TaskPlugin=task/none
+JobAcctGatherType=jobacct_gather/none
+AccountingStorageType=accounting_storage/none
+SelectType=select/cons_tres
+SelectTypeParameters=CR_CPU
+SchedulerType=sched/builtin
+SwitchType=switch/none
+MpiDefault=none
+ReturnToService=2
+KillWait=2
+NodeName=n1 NodeHostname=localhost NodeAddr=127.0.0.1 Port={ports[1]} CPUs={cpus} State=UNKNOWN
+NodeName=n2 NodeHostname=localhost NodeAddr=127.0.0.1 Port={ports[2]} CPUs={cpus} State=UNKNOWN
+PartitionName=all Nodes=n1,n2 Default=YES MaxTime=INFINITE State=UP
+"""
+
+
+def free_ports(count: int) -> list[int]:
+    """Ports on which nobody listens."""
+    sockets = [socket.create_server(("127.0.0.1", 0)) for _ in range(count)]
+    ports = [opened.getsockname()[1] for opened in sockets]
+    for opened in sockets:
+        opened.close()
+    return ports
+
+
+@needs_slurm
+@needs_program
+class Slurm(ToolCase):
+    def setUp(self) -> None:
+        super().setUp()
+        self.servers = tempfile.mkdtemp()
+        self.addCleanup(shutil.rmtree, self.servers, ignore_errors=True)
+        self.environment = {**os.environ, "SLURM_CONF": os.path.join(self.servers, "slurm.conf"),
+                            "SQS_REHEARSE": str(PROGRAM)}
+        with open(self.environment["SLURM_CONF"], "w", encoding="utf-8") as file:
+            file.write(CONFIGURATION.format(folder=self.servers, ports=free_ports(3), cpus=os.cpu_count()))
+        with open(os.path.join(self.servers, "munge.key"), "wb") as key:
+            os.chmod(key.fileno(), 0o400)
+            key.write(os.urandom(1024))
+        os.mkdir(os.path.join(self.servers, "state"))
+        self.start_servers()
+        os.mkdir(self.path("scripts"))
+        self.write("scripts/calls.csv", CALLS)
+        # some 0.1 s a run, so that a task lasts for seconds
+        scenario = self.write("s.toml", SCENARIO.replace("= 10000", "= 40000").replace("3600000", "14400000"))
+        self.words = scenario, "--scripts", self.path("scripts"), "--vary", "seed=1..60"
+
+    def start_servers(self) -> None:
+        munged, control, node, _ = map(str, SERVERS)
+        files = {f"--{of}-file": os.path.join(self.servers, f"munge.{of}") for of in ("key", "log", "pid", "seed")}
+        self.start(munged, "--force", "--foreground", f"--socket={self.servers}/munge.socket",
+                   *(f"{option}={path}" for option, path in files.items()))
+        self.wait_for(lambda: os.path.exists(f"{self.servers}/munge.socket"))
+        self.start(control, "-D")
+        self.start(node, "-D", "-N", "n1")
+        self.start(node, "-D", "-N", "n2")
+        self.wait_for(lambda: self.answer("sinfo", "--noheader", "--format=%D %t") == "2 idle")
+
+    def start(self, *words: str) -> None:
+        """A process that is ended with the test."""
+        process = subprocess.Popen(words, stdin=subprocess.DEVNULL, stdout=subprocess.DEVNULL,
+                                   stderr=subprocess.DEVNULL, env=self.environment)
+        self.addCleanup(process.wait)
+        self.addCleanup(process.terminate)
+
+    def wait_for(self, is_so: Callable[[], bool]) -> None:
+        until = time.monotonic() + 60
+        while not is_so():
+            self.assertLess(time.monotonic(), until, "it has not come in a minute")
+            time.sleep(0.1)
+
+    def answer(self, *words: str) -> str:
+        """What a command of Slurm prints."""
+        return subprocess.run(words, capture_output=True, text=True, env=self.environment).stdout.strip()
+
+    def submit(self, array: str, shares: int) -> str:
+        """The number of the job that runs some shares."""
+        told = self.answer("sbatch", f"--array={array}", "--cpus-per-task=1", f"--chdir={ROOT}",
+                           f"--error={self.path('errors')}", SCRIPT, str(shares), self.path("results"), *self.words)
+        self.assertRegex(told, "^Submitted batch job [0-9]+$")
+        return told.split()[-1]
+
+    def wait_until_ended(self) -> None:
+        self.wait_for(lambda: not self.answer("squeue", "--noheader"))
+
+    def collected(self) -> tuple[int, str, str]:
+        return self.run_tool("sweep", "--collect", "results")
+
+    def test_a_task_that_is_cancelled(self) -> None:
+        """It leaves no file, and reports what is left; once it is run again the bytes are those of one sweep."""
+        wanted = self.run_tool("sweep", *self.words)[1]
+        job = self.submit("1-2", 2)
+        self.wait_for(lambda: self.answer("squeue", "--noheader", "--format=%t", f"--job={job}_2") == "R")
+        subprocess.run(["scancel", f"{job}_2"], check=True, env=self.environment)
+        self.wait_until_ended()
+        self.assertEqual([name[:7] for name in os.listdir(self.path("results"))], ["1-of-2-"])
+        status, _, err = self.collected()
+        self.assertEqual(status, 1)
+        self.assertIn("30 of 60 variants are left: 2,4,6,", err)
+        self.submit("2", 2)
+        self.wait_until_ended()
+        self.assertEqual(self.collected(), (0, wanted, ""))
+
+
+if __name__ == "__main__":
+    unittest.main()

@@ -1,0 +1,6 @@
+"""The tools beside the program, and what they share.
+
+Each tool for users is a module with `main(words)`, which takes the words of its command line and returns the status.
+`tools/NAME` runs it from a shell, and `python3 -m rehearse_tools NAME` from any folder that has this package on its
+path.
+"""

@@ -1,0 +1,207 @@
+"""The actors of a scenario that from-plan and from-queue make. They import it; it is not a command.
+
+A file of real queues says at most who sends and receives, but not how many messages and how long their service takes.
+So what is made here is marked SKELETON in a comment.
+"""
+import dataclasses
+import math
+import re
+from collections.abc import Iterable
+
+from .queues import NAME_MOST, Queue
+
+# How far the messages of a skeleton's producer are apart on average, in milliseconds, and how many it may send.
+GAP, SENDS_MOST = 1_000, 1_000_000
+# How long a skeleton's receive waits where the file does not say, in seconds.
+WAIT = 20
+# The most messages of a receive; consumers for a mapping that limits itself to none, and the most that are written.
+BATCH_MOST, CONSUMERS, CONSUMERS_MOST = 10, 5, 100
+# Messages of the depth that one producer sends, one each millisecond, while there are not too many producers.
+DEPTH_OF_PRODUCER, DEPTH_PRODUCERS_MOST = 1_000, 100
+PRODUCER = """[[actor]]
+name = "{name}"
+kind = "producer"
+queue = "{queue}"
+count = {count}
+gap_min_ms = {least}
+gap_max_ms = {most}
+body = "message {{n}}"
+"""
+CONSUMER = """[[actor]]
+name = "{name}"
+kind = "consumer"
+queue = "{queue}"
+batch = {batch}
+wait_s = {wait}
+service_min_ms = 100
+service_max_ms = 1000
+idle_ms = 1
+"""
+
+
+@dataclasses.dataclass
+class Mapping:
+    """An event source mapping of Lambda, by which a function takes messages of a queue.
+
+    `batch` is the greatest number of messages of a call, and `window` how many seconds a call may wait for them. `most`
+    is how many calls may run at once, or None if the file does not say. `notes` has further remarks.
+    """
+
+    place: str
+    queue: str
+    function: str
+    batch: int = 10
+    window: int = 0
+    most: int | None = None
+    is_partial: bool = False
+    is_enabled: bool = True
+    is_filtered: bool = False
+    notes: list[str] = dataclasses.field(default_factory=list)
+
+    def consumers(self) -> int:
+        """How many consumers replace it."""
+        return min(self.most or CONSUMERS, CONSUMERS_MOST) if self.is_enabled else 0
+
+    def told(self) -> list[str]:
+        """What the model does not have of it, or the file does not say."""
+        if not self.is_enabled:
+            return [*self.notes, "it is not enabled, so that nobody receives"]
+        notes = list(self.notes)
+        if self.most is None:
+            notes.append(f"DEFAULT: {CONSUMERS} consumers, as no maximum concurrency is given: Lambda begins with so "
+                         f"many calls, and makes more as messages wait, which the model does not")
+        elif self.most > CONSUMERS_MOST:
+            notes.append(f"{CONSUMERS_MOST} consumers in place of a maximum concurrency of {self.most}")
+        if self.batch > BATCH_MOST:
+            notes.append(f"a batch of {BATCH_MOST}, the most of a scenario, in place of {self.batch}")
+        if self.window:
+            notes.append(f"its batching window of {self.window} s is left out: a consumer takes what is there")
+        if self.batch > 1 and not self.is_partial:
+            notes.append("it does not report batch item failures, so that a message that fails brings its whole batch "
+                         "back; here each message fails by itself")
+        if self.is_filtered:
+            notes.append("its filter is left out: all messages of the queue come")
+        return notes
+
+
+@dataclasses.dataclass
+class Subscription:
+    """A subscription of SNS, by which the messages of a topic go to a queue."""
+
+    place: str
+    queue: str
+    topic: str
+    is_filtered: bool = False
+
+    def told(self, others: Iterable[str]) -> list[str]:
+        """What the model does not have of it; `others` are the queues that get the same messages."""
+        notes = ["its filter policy is left out: send as many as it lets through"] if self.is_filtered else []
+        names = ", ".join(sorted(set(others) - {self.queue}))
+        return [*notes, f"the same messages go to {names}: here each queue gets its own"] if names else notes
+
+
+@dataclasses.dataclass
+class Wiring:
+    """Who sends to queues and receives from them, and what a file does not say about it."""
+
+    mappings: list[Mapping] = dataclasses.field(default_factory=list)
+    subscriptions: list[Subscription] = dataclasses.field(default_factory=list)
+    notes: list[str] = dataclasses.field(default_factory=list)
+
+
+def plain(text: str) -> str:
+    """A text in characters that a comment of a scenario may have."""
+    return re.sub(r"[^ -~]", "?", text)
+
+
+def name_apart(queue: str, end: str, taken: set[str]) -> str:
+    """A name for an actor that nothing else has."""
+    base, number = re.sub("[^A-Za-z0-9_-]+", "-", queue.removesuffix(".fifo")), 0
+    while True:
+        ending = end if number == 0 else f"{end}-{number + 1}"
+        made = base[:NAME_MOST - len(ending)] + ending
+        if made not in taken:
+            taken.add(made)
+            return made
+        number += 1
+
+
+def commented(lines: Iterable[str]) -> str:
+    """Sentences as comments."""
+    return "".join(f"# {plain(line[:1].upper() + line[1:])}.\n" for line in lines)
+
+
+class Actors:
+    """The tables of actors for some queues, as a text, and notes on them, each with the place that it is about."""
+
+    def __init__(self, queues: list[Queue], horizon: int) -> None:
+        self.taken, self.text = {queue.name for queue in queues}, ""
+        self.notes: list[tuple[str, str]] = []
+        self.received: set[str] = set()
+        self.count = min(max(1, horizon // GAP), SENDS_MOST)
+
+    def begin(self, title: str, place: str, notes: list[str]) -> None:
+        """Begins a group of actors with its comments."""
+        self.text += "\n" + commented([title, *notes])
+        self.notes += [(place, plain(note)) for note in notes]
+
+    def producer(self, queue: Queue, name: str, count: int, gaps: tuple[int, int] = (100, 1_900)) -> None:
+        self.text += PRODUCER.format(name=name, queue=queue.name, count=count, least=gaps[0], most=gaps[1])
+        self.text += "groups = 10\n" if queue.fifo else ""
+
+    def consumer(self, queue: Queue, name: str, batch: int) -> None:
+        self.received.add(queue.name)
+        self.text += CONSUMER.format(name=name, queue=queue.name, batch=batch, wait=queue.wait or WAIT)
+
+    def skeleton_producer(self, queue: Queue) -> None:
+        self.begin(f"SKELETON: who sends to {queue.name}", queue.name, [])
+        self.producer(queue, name_apart(queue.name, "-sender", self.taken), self.count)
+
+    def skeleton_consumer(self, queue: Queue) -> None:
+        self.begin(f"SKELETON: who works on {queue.name}", queue.name, [])
+        self.consumer(queue, name_apart(queue.name, "-worker", self.taken), 1)
+
+    def of_mapping(self, queue: Queue, mapping: Mapping) -> None:
+        self.begin(f"SKELETON: the function {mapping.function} takes messages of {queue.name}, by {mapping.place}",
+                   mapping.place, mapping.told())
+        names = [f"{mapping.function[:NAME_MOST - 8]}-{number}" for number in range(1, mapping.consumers() + 1)]
+        for place, name in enumerate(names):
+            self.text += "\n" if place else ""
+            self.consumer(queue, name_apart(name, "", self.taken), max(1, min(mapping.batch, BATCH_MOST)))
+
+    def of_subscription(self, queue: Queue, subscription: Subscription, others: Iterable[str]) -> None:
+        self.begin(f"SKELETON: what the topic {subscription.topic} sends to {queue.name}, by {subscription.place}",
+                   subscription.place, subscription.told(others))
+        self.producer(queue, name_apart(subscription.topic, f"-to-{queue.name.removesuffix('.fifo')}"[:40], self.taken),
+                      self.count)
+
+    def depth(self, queue: Queue, attribute: str, count: int) -> None:
+        """Producers that send the messages which are there in the beginning, within the first moments."""
+        many = min(math.ceil(count / DEPTH_OF_PRODUCER), DEPTH_PRODUCERS_MOST)
+        counts = [count // many + (place < count % many) for place in range(many)]
+        is_delayed = attribute.endswith("Delayed")
+        self.begin(f"DEPTH: the {count} messages of {attribute}, sent in the first {counts[0]} ms, as the file does "
+                   f"not tell their ages", queue.name, [])
+        for place, part in enumerate(counts):
+            self.text += "\n" if place else ""
+            self.producer(queue, name_apart(queue.name, f"-depth-{'delayed-' if is_delayed else ''}{place + 1}",
+                                            self.taken), part, (1, 1))
+            self.text += "delay_s = 0\n" if not is_delayed and not queue.fifo else ""
+
+    def of_wiring(self, queues: list[Queue], wiring: Wiring) -> None:
+        """For each queue the senders and receivers that the file names, else skeletons if it takes no dead letters."""
+        dead_letters = {queue.dead_letter for queue in queues}
+        of_topic: dict[str, list[str]] = {}
+        for subscription in wiring.subscriptions:
+            of_topic.setdefault(subscription.topic, []).append(subscription.queue)
+        for queue in queues:
+            subscriptions = [found for found in wiring.subscriptions if found.queue == queue.name]
+            mappings = [found for found in wiring.mappings if found.queue == queue.name]
+            for subscription in subscriptions:
+                self.of_subscription(queue, subscription, of_topic[subscription.topic])
+            if not subscriptions and queue.name not in dead_letters:
+                self.skeleton_producer(queue)
+            for mapping in mappings:
+                self.of_mapping(queue, mapping)
+            if not mappings and queue.name not in dead_letters:
+                self.skeleton_consumer(queue)

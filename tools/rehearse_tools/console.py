@@ -1,0 +1,280 @@
+"""How the tools end, with one line on standard error and status 2 if the input is bad. Also how they read and write,
+and how they find the libraries that are not part of Python.
+
+The tools import it; it is not a command.
+"""
+import argparse
+import errno
+import importlib.util
+import io
+import os
+import re
+import stat
+import sys
+import tempfile
+import time
+from collections.abc import Callable, Container
+from typing import Any, NoReturn, TextIO
+
+# The folder of the commands.
+TOOLS = os.path.dirname(os.path.dirname(os.path.abspath(__file__)))
+# Where Debian's packages put libraries, which another Python than Debian's does not look into.
+DEBIAN_LIBRARIES = "/usr/lib/python3/dist-packages"
+# How the commands of an installed package begin, which run its tools.
+COMMAND = "sqs_rehearse-"
+WRAPPER_NAMED = re.compile(r"(?<![\w/.])\./sqs_rehearse(?![\w/.-])")
+TOOL_NAMED = re.compile(r"(?<![\w/.-])tools/([a-z][a-z-]*)(?![\w/-]|\.\w)")
+
+
+class Fault(Exception):
+    """Bad input or usage; its text is the one line that the user gets."""
+
+
+class Parser(argparse.ArgumentParser):
+    """A parser of the command line that reports a fault in one line. Its help is the tool's description, with the
+    usage, in which commands are named as the user calls them."""
+
+    def __init__(self, description: str | None = None, **more: Any) -> None:
+        super().__init__(description=description, **more)
+
+    def format_help(self) -> str:
+        return with_commands((self.description or "").strip(), *called_by()) + "\n"
+
+    def error(self, message: str) -> NoReturn:
+        raise Fault(f"{message} (--help tells the usage)")
+
+
+def library(name: str, package: str) -> Any:
+    """A library that a package of Debian has; a fault if it is missing."""
+    try:
+        return importlib.import_module(name)
+    except ImportError:
+        pass
+    if DEBIAN_LIBRARIES not in sys.path:
+        sys.path.append(DEBIAN_LIBRARIES)
+    try:
+        return importlib.import_module(name)
+    except ImportError:
+        raise missing_library(name, package) from None
+
+
+def missing_library(name: str, package: str) -> Fault:
+    return Fault(f"the library {name} is missing: Debian's package {package} has it for Debian's python3, and "
+                 f"{command_of('setup')} installs it")
+
+
+def check_library(name: str, package: str) -> None:
+    """Makes sure, before the work begins, that a library is there; to look is quicker than to read it."""
+    if importlib.util.find_spec(name) is None:
+        if DEBIAN_LIBRARIES not in sys.path:
+            sys.path.append(DEBIAN_LIBRARIES)
+        if importlib.util.find_spec(name) is None:
+            raise missing_library(name, package)
+
+
+def read_bytes(path: str) -> bytes:
+    """The contents of a file, or of standard input if the path is -."""
+    try:
+        with open(0 if path == "-" else path, "rb", closefd=path != "-") as file:
+            return file.read()
+    except OSError as error:
+        raise Fault(f"cannot read {path}: {error.strerror}") from None
+    except ValueError:
+        raise Fault(f"cannot read {shown(path)}: no file has such a name") from None
+
+
+def read_text(path: str) -> str:
+    """The text of a file in UTF-8, or of standard input if the path is -, with its line ends as they are."""
+    try:
+        return read_bytes(path).decode("utf-8")
+    except UnicodeDecodeError:
+        raise Fault(f"{path} is not UTF-8") from None
+
+
+def shown(text: str) -> str:
+    """A text of the input for a message: in one line, and not too long."""
+    return text[:100] if text and text.isprintable() else f"{text[:100]!a}"
+
+
+def check_title(title: str | None) -> None:
+    """Makes sure that a title is one line of printable characters."""
+    if title is not None and not title.isprintable():
+        raise Fault(f"a title is one line of printable characters: {shown(title)}")
+
+
+def check_output(path: str | None) -> None:
+    """Checks, before the work begins, that the output file can be written. Its folder may be made."""
+    if path is None:
+        return
+    folder = os.path.dirname(os.path.abspath(path))
+    try:
+        if os.path.lexists(folder) and not os.path.isdir(folder):
+            raise OSError(errno.ENOTDIR, os.strerror(errno.ENOTDIR))
+        os.makedirs(folder, exist_ok=True)
+        if os.path.isdir(path):
+            raise OSError(errno.EISDIR, os.strerror(errno.EISDIR))
+        if not is_special(path):
+            with tempfile.TemporaryFile(dir=folder):
+                pass
+    except OSError as error:
+        raise Fault(f"cannot write {path}: {error.strerror}") from None
+
+
+def is_special(path: str) -> bool:
+    """Whether there is something at a path that is no plain file, as /dev/null or a pipe."""
+    return os.path.exists(path) and not stat.S_ISREG(os.stat(path).st_mode)
+
+
+def write_text(path: str | None, text: str) -> None:
+    """Writes a file, or standard output if `path` is None. A file appears whole, or not at all."""
+    if path is None:
+        print_text(text)
+    else:
+        write_bytes(path, text.encode("utf-8", "backslashreplace"))
+
+
+def write_bytes(path: str, data: bytes) -> None:
+    partial = path if is_special(path) else f"{path}.{os.getpid()}.part"
+    try:
+        with open(partial, "wb") as file:
+            file.write(data)
+        if partial != path:
+            os.replace(partial, path)
+    except OSError as error:
+        raise Fault(f"cannot write {path}: {error.strerror}") from None
+
+
+def print_text(text: str) -> None:
+    """Writes standard output, and makes sure that it is written."""
+    if sys.stdout is None:
+        raise Fault("standard output is closed")
+    Progress.clear()
+    sys.stdout.write(text)
+    sys.stdout.flush()
+
+
+def abandon_output() -> None:
+    """Keeps Python from writing once more, as it ends, what could not be written."""
+    os.dup2(os.open(os.devnull, os.O_WRONLY), sys.stdout.fileno())
+
+
+class Progress:
+    """Shows on a terminal, once a second, how much of a file has been read, in one line that is removed in the end."""
+
+    is_shown = False
+
+    @classmethod
+    def show(cls, line: str) -> None:
+        """Replaces the last line by this one."""
+        cls.is_shown = True
+        print(f"\r{tool()}: {line}\033[K", end="", file=sys.stderr, flush=True)
+
+    def __init__(self, path: str, file: TextIO) -> None:
+        self.read, self.told = 0, time.monotonic()
+        self.is_told = is_terminal(sys.stderr)
+        status = os.fstat(file.fileno())
+        self.size = status.st_size if stat.S_ISREG(status.st_mode) else 0
+        self.name = "standard input" if path == "-" else path
+
+    def look(self, length: int) -> None:
+        """Notes that `length` more bytes have been read."""
+        self.read += length
+        if self.is_told and time.monotonic() >= self.told + 1:
+            self.told = time.monotonic()
+            share = f"{min(100, 100 * self.read // self.size)} %" if self.size else f"{self.read / 1e6:,.0f} MB"
+            self.show(f"{share} of {self.name} read")
+
+    @classmethod
+    def clear(cls) -> None:
+        if cls.is_shown:
+            cls.is_shown = False
+            print("\r\033[K", end="", file=sys.stderr, flush=True)
+
+
+def is_terminal(stream: TextIO | None) -> bool:
+    return stream is not None and stream.isatty()
+
+
+def called_by() -> tuple[str, str]:
+    """The user's command for the program, and the text before a tool's name in the user's command for the tool.
+
+    ./sqs_rehearse sets SQS_REHEARSE_TOOL for a tool that it runs, for example to `sqs_rehearse summary`.
+    """
+    own = os.path.basename(sys.argv[0])
+    wrapper, space, name = os.environ.get("SQS_REHEARSE_TOOL", "").rpartition(" ")
+    if space and name == own:
+        return wrapper, f"{wrapper} "
+    return ("sqs_rehearse", COMMAND) if own.startswith(COMMAND) else ("./sqs_rehearse", "tools/")
+
+
+def command_of(name: str) -> str:
+    """The user's command for a tool."""
+    return called_by()[1] + name
+
+
+def path_of(name: str) -> str:
+    """The path of the file by which a tool was called, or of that in tools/ if it was called otherwise."""
+    called, own = os.path.abspath(sys.argv[0]), os.path.join(TOOLS, name)
+    return called if os.path.realpath(called) == os.path.realpath(own) else own
+
+
+def with_commands(text: str, wrapper: str, before: str, tools: Container[str] | None = None) -> str:
+    """A text with `wrapper` in place of ./sqs_rehearse, and with `before` in place of tools/ if the name of a tool
+    follows. Without `tools` those are the commands in tools/."""
+    def named(match: re.Match[str]) -> str:
+        is_tool = match[1] in tools if tools is not None else os.access(os.path.join(TOOLS, match[1]), os.X_OK)
+        return before + match[1] if is_tool else match[0]
+
+    return TOOL_NAMED.sub(named, WRAPPER_NAMED.sub(lambda _: wrapper, text))
+
+
+def tool() -> str:
+    """The name by which the tool was called, as its lines on standard error begin."""
+    own, (wrapper, before) = os.path.basename(sys.argv[0]), called_by()
+    return f"{os.path.basename(wrapper)} {own}" if before.endswith(" ") else own
+
+
+def note(text: str) -> None:
+    """Prints one line on standard error, whatever is in the text."""
+    Progress.clear()
+    line = "".join(letter if letter.isprintable() else f"{letter!a}"[1:-1] for letter in text)
+    print(f"{tool()}: {line}", file=sys.stderr)
+
+
+def told(fault: str) -> int:
+    """Prints a fault on standard error in one line, whatever is in it; returns the status."""
+    note(fault)
+    return 2
+
+
+def ended(main: Callable[[list[str]], int]) -> int:
+    """Runs `main` on the words of the command line and returns the status of the tool."""
+    try:
+        return ended_as_told(main)
+    finally:
+        Progress.clear()
+
+
+def ended_as_told(main: Callable[[list[str]], int]) -> int:
+    if isinstance(sys.stdout, io.TextIOWrapper):
+        sys.stdout.reconfigure(encoding="utf-8", errors="backslashreplace")
+    if isinstance(sys.stderr, io.TextIOWrapper):
+        sys.stderr.reconfigure(encoding="utf-8", errors="backslashreplace")
+    try:
+        status = main(sys.argv[1:])
+        if sys.stdout is not None:
+            sys.stdout.flush()
+        return status
+    except Fault as fault:
+        return told(str(fault))
+    except BrokenPipeError:
+        abandon_output()
+        return 1
+    except OSError as error:
+        # all reading and writing of files tells its own faults, so that only standard output is left
+        abandon_output()
+        return told(f"cannot write standard output: {error.strerror}")
+    except KeyboardInterrupt:
+        return 130
+    except (MemoryError, RecursionError) as error:
+        return told(f"the input is too {'deep' if isinstance(error, RecursionError) else 'large'}")

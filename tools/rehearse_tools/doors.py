@@ -1,0 +1,122 @@
+"""Ages from door to door: since the first send of a message, over redrives, moves and forwards. The tools import it; it
+is not a command.
+
+Messages are followed by their origins and by the order of forwards, as origins.py has it. Where that order leaves open
+which message was forwarded, the ages behind it are open too.
+"""
+from collections import Counter
+from typing import NamedTuple
+
+from .logs import Head, Take
+from .origins import Forwards, Origins
+from .replay import BadRow, handlers_of, is_forward
+from .statistics import at_rank, rank_of
+
+# What is printed of the ages since the first send, by the shares of their percentiles.
+DOOR_SHARES = {"door_age_p50": 0.5, "door_age_p95": 0.95, "door_age_max": 1.0}
+
+
+class Door(NamedTuple):
+    """When a message was first sent, and the consumers and queues whose forwards leave that open."""
+    at: int
+    doubts: frozenset[tuple[str, str]] = frozenset()
+
+
+class Doors:
+    """Follows all messages of a log, row by row, and counts by queue the ages since the first send of those that are
+    deleted from a moment on. `served` has what each consumer serves."""
+
+    def __init__(self, first: int = 0) -> None:
+        self.first = first
+        self.origins, self.forwards = Origins[Door](), Forwards[Door]()
+        self.served: dict[tuple[str, str], Door] = {}
+        self.ages: dict[str, dict[frozenset[tuple[str, str]], Counter[int]]] = {}
+
+    def take_of(self, head: Head) -> Take | None:
+        """What takes in the rows with a head, after they have been used; None if they say nothing here."""
+        name = HANDLERS.names.get((head.call, head.answer))
+        take: Take | None = getattr(self, name) if name else None
+        return take
+
+    def sent(self, at: int, head: Head, message: str, receipt: str, detail: str) -> None:
+        self.origins.enters(head, message, detail, Door(at))
+
+    def arrived(self, at: int, head: Head, message: str, receipt: str, detail: str) -> None:
+        is_new = is_forward(message, detail)
+        door = self.forwarded_as(at, head) if is_new else self.origins.arrived(head, message, detail)
+        if door is None:
+            raise BadRow(f"{detail} was not on its way to {head.queue}: is this the whole log?")
+        self.origins.enters(head, message, detail, door)
+
+    def arrived_again(self, at: int, head: Head, message: str, receipt: str, detail: str) -> None:
+        self.forwarded_as(at, head)
+
+    def forwarded_as(self, at: int, head: Head) -> Door | None:
+        """What the oldest forward under way was of; its consumer leaves that open where others were under way with it.
+        """
+        found = self.forwards.arrived(at, head)
+        if found is None or not found.may_be_other:
+            return found and found.known
+        return found.known._replace(doubts=found.known.doubts | {(head.agent, head.queue)})
+
+    def received(self, at: int, head: Head, message: str, receipt: str, detail: str) -> None:
+        self.served[head.agent, message] = self.origins.of(head, message)
+
+    def forwarded(self, at: int, head: Head, message: str, receipt: str, to: str) -> None:
+        door = self.served.get((head.agent, message))
+        if door is None:
+            raise BadRow(f"{head.agent} did not receive {message}: is this the whole log?")
+        self.forwards.sent(at, head, to, door)
+
+    def failed(self, at: int, head: Head, message: str, receipt: str, detail: str) -> None:
+        """The end of a service, whose receipt tells the message even if that is gone."""
+        self.served.pop((head.agent, f"m{receipt[1:].rpartition('-')[0]}"), None)
+
+    delete_called = delete_refused = failed
+
+    def deleted(self, at: int, head: Head, message: str, receipt: str, detail: str) -> None:
+        self.failed(at, head, message, receipt, detail)
+        self.count(head.queue, at, self.origins.leaves(head, message, detail))
+
+    def leaves(self, at: int, head: Head, message: str, receipt: str, detail: str) -> None:
+        self.origins.leaves(head, message, detail)
+
+    def count(self, queue: str, at: int, door: Door) -> None:
+        if at >= self.first:
+            ages = self.ages.setdefault(queue, {}).setdefault(door.doubts, Counter())
+            ages[at - door.at] += 1
+
+    def open_of(self, queue: str) -> tuple[int, list[str]]:
+        """The number of deleted messages of a queue whose first send is open, and the consumers who leave it so."""
+        number, agents = 0, set()
+        for doubts, counts in self.ages.get(queue, {}).items():
+            open_doubts = {edge[0] for edge in doubts if not self.forwards.edges[edge].keeps_order}
+            if open_doubts:
+                number += counts.total()
+                agents |= open_doubts
+        return number, sorted(agents)
+
+    def ages_of(self, queue: str) -> Counter[int]:
+        """How many messages were deleted from a queue at each age since the first send."""
+        together: Counter[int] = Counter()
+        for counts in self.ages.get(queue, {}).values():
+            together.update(counts)
+        return together
+
+    def columns(self, queue: str) -> dict[str, int | None]:
+        """The percentiles of the ages of a queue; None if no message was deleted, or if the first send of one is
+        open."""
+        ages = self.ages_of(queue)
+        is_known = bool(ages) and not self.open_of(queue)[0]
+        return {column: at_rank(ages, rank_of(ages.total(), share)) if is_known else None
+                for column, share in DOOR_SHARES.items()}
+
+    def left(self, end: int) -> dict[str, list[int]]:
+        """How long ago each message was first sent that is left at the end, by queue."""
+        found: dict[str, list[int]] = {}
+        for door, _, queue in self.origins.there.values():
+            found.setdefault(queue, []).append(end - door.at)
+        return found
+
+
+HANDLERS = handlers_of(Doors)

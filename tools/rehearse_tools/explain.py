@@ -1,0 +1,377 @@
+"""Says why the program refuses a scenario, and where in its text:
+
+    tools/explain SCENARIO [--scripts DIR] [--program P]
+
+The first line has the file, line and column, and after them the program's own line. Below are the line of the text,
+and in whole sentences what is wrong: which queue or actor it is, what the range is, which key or name was meant, which
+other key belongs to it. - is standard input, and --scripts the folder of the scenario's scripts, as for the program.
+The program is that of --program, else of SQS_REHEARSE of the environment, else sqs_rehearse beside this folder. The
+status is 0 if the program accepts the scenario, 1 if it refuses it, and 2 for any other fault.
+
+Examples:
+
+    tools/explain examples/first.toml
+    sed 's/horizon = .*/horizon = 0/' examples/first.toml | tools/explain -
+"""
+import difflib
+import os
+import re
+import subprocess
+import tempfile
+import tomllib
+from collections.abc import Sequence
+from typing import Any
+
+from .console import Fault, Parser, print_text, read_bytes, read_text, shown
+from .keys import ACTORS, FIFO, NUMBER, REQUIRED, TABLES, Key, keys_of
+from .positions import Lost, Path, Positions
+from .programs import program_of
+from .scripts import fault_of_script
+
+REFUSED = re.compile(r"refused ([0-9]+) ([A-Za-z]+)(?: at (.*))?", re.S)
+PLACE = re.compile(r"(queue|actor|task)\[([0-9]+)\](?:\.(.*))?", re.S)
+RECORD = re.compile(r"(calls|script)(?::([0-9]+))?")
+TOML_PLACE = re.compile(r"(.*) \(at (?:line ([0-9]+), column ([0-9]+)|end of document)\)")
+KINDS = {str: "a text", bool: "true or false", int: "a whole number", float: "a number with a fraction", list: "a list",
+         dict: "a table"}
+NAMES = {"queue": "A queue's name has 1 to 80 ASCII letters, digits, - and _, and for a FIFO queue .fifo at its end, "
+                  "which counts among the 80.",
+         "actor": "A name has 1 to 80 ASCII letters, digits, - and _."}
+LINE_MOST = 160
+
+
+class Scenario:
+    """The text of a scenario, its contents and their positions, and the place of the error in it."""
+
+    def __init__(self, text: str, place: str | None) -> None:
+        self.text, self.positions = text, Positions("")
+        self.found: dict[str, Any] = {}
+        try:
+            self.found = tomllib.loads(text.removeprefix("\ufeff"))
+            self.positions = Positions(text)
+        except (ValueError, RecursionError, Lost):
+            pass
+        match = PLACE.fullmatch(place or "")
+        self.of, self.number = (match[1], int(match[2])) if match else ("", 0)
+        # a text, or None where the refusal is of a table as a whole
+        self.key: Any = match[3] if match else place or ""
+        self.table: Any = self.found
+        if match:
+            items = self.found.get(self.of, [])
+            self.table = items[self.number] if isinstance(items, list) and self.number < len(items) else {}
+        self.record: int | None = None
+        found = RECORD.fullmatch(self.key or "")
+        if match and found:
+            self.key, self.record = found[1], int(found[2] or 0)
+        self.is_table = isinstance(self.table, dict)
+
+    @property
+    def path(self) -> Path:
+        head: Path = (self.of, self.number) if self.of else ()
+        return head if self.key is None else (*head, self.key)
+
+    @property
+    def kind(self) -> str | None:
+        return self.value("kind") if isinstance(self.value("kind"), str) else None
+
+    @property
+    def version(self) -> int:
+        return 2 if self.found.get("version") == 2 else 1
+
+    def value(self, key: str | None) -> Any:
+        return self.table.get(key) if self.is_table else None
+
+    def keys(self) -> dict[str, Key]:
+        return {key.name: key for key in keys_of(self.of, self.kind, self.version)}
+
+    def is_fifo(self) -> bool:
+        """Whether the queue, or the home of the actor or task, is a FIFO queue."""
+        return str(self.value("name" if self.of == "queue" else "queue")).endswith(".fifo")
+
+    def tasks(self) -> list[str]:
+        """The names of the tasks at the home of the actor."""
+        tasks = self.found.get("task", [])
+        return [str(task.get("name")) for task in tasks if isinstance(task, dict)
+                and task.get("queue") == self.value("queue")] if isinstance(tasks, list) else []
+
+    def title(self) -> str:
+        """The name of the table for messages: its kind and its name."""
+        if not self.of:
+            return "the scenario"
+        name, kind = self.value("name"), self.kind if self.of == "actor" and self.kind in ACTORS else self.of
+        return f"the {kind} {shown(name)}" if isinstance(name, str) else f"{kind} number {self.number + 1}"
+
+    def offset(self, path: Path, is_value: bool = False) -> int | None:
+        """The position in the text of a value or of its key, else of its table; None if that is not known."""
+        if is_value and path in self.positions.values:
+            return self.positions.values[path][0]
+        for length in range(len(path), 0, -1):
+            found = self.positions.keys.get(path[:length])
+            if found is not None:
+                return found
+        return None
+
+
+def value_text(value: Any) -> str:
+    return shown(str(value).lower() if isinstance(value, bool) else str(value))
+
+
+def nearest(word: Any, words: Sequence[str]) -> str:
+    """A question that names the nearest of some words; empty if none is near."""
+    found = difflib.get_close_matches(str(word), words, 1, 0.6)
+    return f" Did you mean {found[0]}?" if found else ""
+
+
+def unknown_key(scenario: Scenario) -> str:
+    """A key that its table does not have: of another kind of queue, beside another key, or none at all."""
+    key, title = scenario.key, scenario.title()
+    found = scenario.keys().get(key)
+    if found and found.queues:
+        what = "is" if scenario.of == "queue" else "is at"
+        other = "a standard queue" if found.queues == FIFO else "a FIFO queue"
+        return f"{key} is a key of {found.queues} queues alone, and {title} {what} {other}."
+    if key in ("calls", "script") and found:
+        return f"{title} has both calls and script; one of them is enough."
+    if found and found.beside:
+        return f"{key} stands only together with {found.beside}, which {title} does not have."
+    version = 3 - scenario.version
+    if key in {known.name for known in keys_of(scenario.of, scenario.kind, version)}:
+        wanted = "latency_ms" if scenario.version == 1 else "latency_min_ms and latency_max_ms"
+        return f"{key} is a key of version {version}; version {scenario.version} has {wanted}."
+    for kind in ACTORS if scenario.of == "actor" else ():
+        if key in {known.name for known in keys_of("actor", kind, scenario.version)}:
+            return f"{key} is a key of a {kind}, and {title} is none."
+    known = [name for name, found in scenario.keys().items()
+             if not found.queues or (found.queues == FIFO) == scenario.is_fifo()]
+    return f"{shown(key or '')} is no key of {title}; it has {', '.join(known)}.{nearest(key, known)}"
+
+
+def missing_key(scenario: Scenario) -> str:
+    key, title = scenario.key, scenario.title()
+    found = scenario.keys().get(key)
+    if key == "calls":
+        return f"{title} has neither calls nor script, and needs one of them."
+    text = f"{title} has no {key}, which is required"
+    if found and found.beside:
+        text += f" beside {found.beside}"
+    if found and found.queues:
+        text += f" at a {found.queues} queue"
+    return f"{text}.{range_text(found)}{nearest_key(scenario)}"
+
+
+def nearest_key(scenario: Scenario) -> str:
+    """A key that may have been meant for one that is missing."""
+    unknown = [name for name in scenario.table if name not in scenario.keys()] if scenario.is_table else []
+    found = difflib.get_close_matches(scenario.key, unknown, 1, 0.6)
+    return f" Is {shown(found[0])} meant to be it?" if found else ""
+
+
+def range_text(key: Key | None) -> str:
+    if key is None:
+        return ""
+    if key.words:
+        return f" It is {', '.join(key.words[:-1])} or {key.words[-1]}."
+    if key.kind != NUMBER:
+        return f" It is {key.kind}."
+    default = "" if key.default in (None, REQUIRED) else f", and {key.default:,} where it is not given"
+    return f" It has {key.low:,} to {key.high:,}{default}."
+
+
+def wrong_type(scenario: Scenario) -> str:
+    found, key = scenario.keys().get(scenario.key), scenario.key
+    if scenario.key is None:
+        return f"Item number {scenario.number + 1} of {scenario.of} is " \
+               f"{KINDS.get(type(scenario.table), 'a date or time')}, and has to be a table."
+    value = scenario.value(key)
+    kind = KINDS.get(type(value), "a date or time")
+    hint = ""
+    if found and found.kind == NUMBER and isinstance(value, str) and value.strip().isdigit():
+        hint = " A number stands without quotes."
+    elif found and found.kind == TABLES:
+        hint = f" Each begins with [[{key}]]."
+    return f"{key} of {scenario.title()} is {kind}, and has to be {found.kind if found else 'of another kind'}.{hint}" \
+           f"{range_text(found) if found and found.kind != TABLES else ''}"
+
+
+def out_of_range(scenario: Scenario) -> str:
+    key, value, title = scenario.key, scenario.value(scenario.key), scenario.title()
+    found = scenario.keys().get(key)
+    text = f"{key} of {title} is {value_text(value)}." if scenario.of else f"{key} is {value_text(value)}."
+    if key == "queue" and not scenario.of:
+        return "A scenario has at least one queue."
+    if key == "kind":
+        return f"{text}{range_text(found)}{nearest(value, list(ACTORS))}"
+    if key == "body":
+        return f"{text} It has 1 byte at least for the first message, and 1,024 at most for the last."
+    if key == "script":
+        return f"{text} The name of a script has 1 to 80 ASCII letters, digits, ., - and _, and no dot first."
+    if key == "sampled":
+        return f"{text} It has 1 to hosts, which is {scenario.value('hosts') or 1}."
+    least = scenario.value(found.least) if found and found.least else None
+    if found and isinstance(least, int) and isinstance(value, int) and value < least:
+        return f"{text} It may not be less than {found.least}, which is {least:,}."
+    return f"{text}{range_text(found)}{nearest(value, found.words) if found and found.words else ''}"
+
+
+def bad_name(scenario: Scenario) -> str:
+    value = str(scenario.value("name"))
+    return f"The name {shown(value)} will not do. {NAMES['queue' if scenario.of == 'queue' else 'actor']}"
+
+
+def name_twice(scenario: Scenario) -> str:
+    name = scenario.value("name")
+    for of in ("queue", "actor", "task"):
+        items = scenario.found.get(of, [])
+        for number, item in enumerate(items if isinstance(items, list) else []):
+            if isinstance(item, dict) and item.get("name") == name and (of, number) != (scenario.of, scenario.number):
+                line, _ = line_of(scenario, (of, number, "name"))
+                return f"The {of} in line {line} has the name {shown(str(name))} already; queues, actors and tasks " \
+                       "share their names."
+    return f"The name {shown(str(name))} stands twice."
+
+
+def unknown_queue(scenario: Scenario) -> str:
+    value, key = str(scenario.value(scenario.key)), scenario.key
+    names = [item.get("name") for item in scenario.found.get("queue", []) if isinstance(item, dict)]
+    queues = [name for name in names if isinstance(name, str)]
+    title = scenario.title()
+    if value not in queues:
+        return f"{key} of {title} is {shown(value)}, and there is no queue of this name.{nearest(value, queues)}"
+    if scenario.of == "task" and key == "queue":
+        return f"{title} is at {value}, which is no queue's dead_letter; a task moves dead letters alone."
+    return f"{key} of {title} is the queue itself; it has to be another one."
+
+
+def kind_mismatch(scenario: Scenario) -> str:
+    value, home = str(scenario.value(scenario.key)), scenario.value("name" if scenario.of == "queue" else "queue")
+    kinds = ["a FIFO queue" if str(name).endswith(".fifo") else "a standard queue" for name in (value, home)]
+    return f"{scenario.key} of {scenario.title()} is {shown(value)}, {kinds[0]}, and {shown(str(home))} is " \
+           f"{kinds[1]}; both have to be of one kind."
+
+
+def too_many(scenario: Scenario) -> str:
+    if not scenario.of and scenario.key in ("actor", "task"):
+        return "Actors and tasks together are at most 10,000."
+    if scenario.record is not None:
+        return "A script has at most 100,000 records after the first, and 16,777,216 bytes."
+    return "A scenario has at most 1,000 queues." if scenario.key else "A scenario has at most 16,777,216 bytes."
+
+
+def not_toml(scenario: Scenario) -> tuple[tuple[int, int] | None, str]:
+    """What Python's reader of TOML says, which need not be what stopped the program's."""
+    try:
+        tomllib.loads(scenario.text.removeprefix("\ufeff"))
+    except RecursionError:
+        return None, "The text is nested too deep."
+    except ValueError as error:
+        match = TOML_PLACE.fullmatch(str(error))
+        if not match:
+            return None, f"{shown(str(error))}."
+        if match[2]:
+            return (int(match[2]), int(match[3])), f"{match[1]}."
+        lines = scenario.text.removeprefix("\ufeff").split("\n")
+        return (len(lines), len(lines[-1]) + 1), f"{match[1]}, as the text ends."
+    return None, "It may be a number past 64 bits, or a key that is given twice."
+
+
+EXPLAINED = {"UnknownKey": unknown_key, "MissingKey": missing_key, "WrongType": wrong_type, "OutOfRange": out_of_range,
+             "BadName": bad_name, "NameTwice": name_twice, "UnknownQueue": unknown_queue,
+             "KindMismatch": kind_mismatch, "TooMany": too_many}
+
+
+def line_of(scenario: Scenario, path: Path) -> tuple[int | str, int | str]:
+    at = scenario.offset(path)
+    if at is None:
+        return "?", "?"
+    return scenario.positions.line_and_column(at)
+
+
+def shown_line(line: str, column: int) -> str:
+    """A line of a text with a mark below the column."""
+    line, column = line.replace("\t", " "), column - 1
+    start = max(0, column - LINE_MOST // 2)
+    part = re.sub(r"[^\x20-\x7e\xa0-\uffff]", "?", line[start:start + LINE_MOST])
+    return f"  {part}\n  {' ' * (column - start)}^\n"
+
+
+def explained_script(scenario: Scenario, path: str, folder: str, line: str) -> str:
+    """An error in a record of a script: its position, and what is wrong with it."""
+    text, number = scenario.value(scenario.key), scenario.record or 1
+    if scenario.key == "script":
+        file = os.path.join(folder, text)
+        if not os.path.isfile(file):
+            return f"{path}:{line_of(scenario, scenario.path)[0]}: {line}\nThe script of {scenario.title()} is to be " \
+                   f"in {shown(file)}, and there is no such file; --scripts names the folder.\n"
+        path, text = file, read_text(file)
+        first: int | None = 1
+    else:
+        first = first_line_of_script(scenario)
+    at, record, reason = fault_of_script(text, number, scenario.is_fifo(), scenario.tasks())
+    row = line_of(scenario, scenario.path)[0] if first is None or at is None else first + at - 1
+    quoted = f"  {shown(record)}\n" if record else ""
+    return f"{path}:{row}: {line}\n{quoted}Record {number} of {scenario.title()}: {reason}\n"
+
+
+def first_line_of_script(scenario: Scenario) -> int | None:
+    """The line of the text in which a script begins; None if the script is in one line with escapes."""
+    start, end = scenario.positions.values[scenario.path]
+    quoted = scenario.positions.text[start:end]
+    if not quoted.startswith(('"""', "'''")):
+        return None
+    row, _ = scenario.positions.line_and_column(start)
+    return row + (1 if quoted[3:5] == "\r\n" or quoted[3:4] == "\n" else 0)
+
+
+def explanation(text: str, path: str, folder: str, refusal: re.Match[str]) -> str:
+    """The lines that explain a refusal."""
+    line, kind, scenario = refusal[0], refusal[2], Scenario(text, refusal[3])
+    if kind == "NotToml":
+        place, reason = not_toml(scenario)
+        if place is None:
+            return f"{path}: {line}\n{reason}\n"
+        lines = text.removeprefix("\ufeff").split("\n")
+        row, column = place
+        return f"{path}:{row}:{column}: {line}\n{shown_line(lines[row - 1], column)}{reason}\n"
+    if kind == "BadScript" and scenario.path in scenario.positions.values and isinstance(
+            scenario.value(scenario.key), str):
+        return explained_script(scenario, path, folder, line)
+    reason = EXPLAINED.get(kind, lambda _: "")(scenario)
+    reason = reason[:1].upper() + reason[1:] if not reason.startswith(scenario.key or "\0") else reason
+    at = scenario.offset(scenario.path, kind not in ("UnknownKey", "MissingKey"))
+    if at is None:
+        return f"{path}: {line}\n{reason}\n"
+    row, column = scenario.positions.line_and_column(at)
+    return f"{path}:{row}:{column}: {line}\n{shown_line(scenario.positions.line_at(at), column)}{reason}\n"
+
+
+def checked(program: str, data: bytes, scripts: str) -> tuple[int, str, str]:
+    """Status and lines of the program's check of a scenario's bytes."""
+    with tempfile.TemporaryFile() as file:
+        file.write(data)
+        file.seek(0)
+        run = subprocess.run([program, "check", "--scripts", scripts], stdin=file, capture_output=True)
+    return run.returncode, run.stdout.decode("utf-8", "replace"), run.stderr.decode("utf-8", "replace")
+
+
+def main(words: Sequence[str]) -> int:
+    parser = Parser(__doc__)
+    parser.add_argument("scenario", metavar="SCENARIO")
+    parser.add_argument("--scripts", default=".", metavar="DIR")
+    parser.add_argument("--program", metavar="P")
+    options = parser.parse_args(words)
+    data = read_bytes(options.scenario)
+    status, out, err = checked(program_of(options.program), data, options.scripts)
+    if status == 0:
+        print_text(out)
+        return 0
+    line, path = err.strip("\n"), "standard input" if options.scenario == "-" else options.scenario
+    refusal = REFUSED.fullmatch(line)
+    if not refusal:
+        raise Fault(shown(line.split("\n")[0]) or f"the program ended with status {status}")
+    try:
+        text = data.decode("utf-8")
+    except UnicodeDecodeError as error:
+        print_text(f"{path}: {line}\nThe text is not UTF-8 from byte {error.start + 1:,} on.\n")
+        return 1
+    print_text(explanation(text, path, options.scripts, refusal))
+    return 1

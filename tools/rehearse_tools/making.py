@@ -1,0 +1,74 @@
+"""Writes a scenario that is made of queues and actors. from-queue and from-plan import it; it is not a command."""
+from argparse import ArgumentParser, Namespace
+from collections.abc import Iterable, Sequence
+
+from .actors import Actors, Wiring, plain
+from .console import Fault, check_output, note, write_text
+from .queues import Queue
+
+QUEUES_MOST = 1_000
+HEAD = """# Queues from {source}. Each DEFAULT marks what is not told there: check it.
+# DEFAULT of every queue: in_flight of 120000, the quota of SQS, and for standard queues hosts of 1, so that a short
+# poll sees every message; bodies have at most 1,024 bytes.
+{actors}
+version = 1
+horizon = {horizon} # DEFAULT: how long to rehearse, in milliseconds.
+"""
+NO_ACTORS = "# To rehearse them, add actors that send and receive."
+SKELETONS = "# Each SKELETON marks actors that were made up: give them the rates and times of your own."
+
+
+def note_waits(queues: Iterable[Queue]) -> None:
+    """Adds notes on how long receives wait at queues to which no consumers are added."""
+    for queue in queues:
+        if queue.wait:
+            queue.note(f"{queue.title('ReceiveMessageWaitTimeSeconds')} is left out: give its consumers wait_s = "
+                       f"{queue.wait}")
+
+
+def scenario_text(queues: Sequence[Queue], source: str, horizon: int, notes: Sequence[str], actors: str) -> str:
+    """The text of a scenario; `notes` are of no queue, and `actors` is the text of the actors."""
+    text = HEAD.format(source=source, actors=SKELETONS if "# SKELETON" in actors else NO_ACTORS, horizon=horizon)
+    for queue in queues:
+        text += "\n".join(["", "[[queue]]", *queue.lines, *(f"# {note}." for note in queue.notes)]) + "\n"
+    return text + ("\n" if notes else "") + "".join(f"# {note}.\n" for note in notes) + actors
+
+
+def add_options(parser: ArgumentParser) -> None:
+    """The options that from-queue and from-plan share."""
+    parser.add_argument("--horizon", type=int, default=3_600_000, metavar="MS")
+    parser.add_argument("--latency", type=int, default=100, metavar="MS")
+    parser.add_argument("--output", metavar="FILE.toml")
+
+
+def check_options(options: Namespace) -> None:
+    if not 1 <= options.horizon <= 2_592_000_000 or not 1 <= options.latency <= 900_000:
+        raise Fault("a horizon has 1 to 2592000000 ms, a latency 1 to 900000 ms")
+    check_output(options.output)
+
+
+def tell_and_write(queues: list[Queue], options: Namespace, source: str, wiring: Wiring | None = None) -> int:
+    """Prints the notes on all queues and writes the scenario, or prints the faults; returns the status.
+
+    With `wiring` it has actors; with --depth those that send what is there in the beginning.
+    """
+    if len(queues) > QUEUES_MOST:
+        raise Fault(f"{len(queues)} queues are too many: a scenario has at most {QUEUES_MOST}")
+    faults = [f"{queue.name}: {fault}" for queue in queues for fault in queue.faults]
+    if faults:
+        for line in faults:
+            note(line)
+        return 2
+    actors = Actors(queues, options.horizon)
+    for queue in queues:
+        for attribute, count in queue.present.items():
+            actors.depth(queue, attribute, count)
+    if wiring is not None:
+        actors.of_wiring(queues, wiring)
+    note_waits(queue for queue in queues if queue.name not in actors.received)
+    notes = [plain(text) for text in wiring.notes] if wiring else []
+    for line in [*(f"{queue.name}: {text}" for queue in queues for text in queue.notes), *notes,
+                 *(f"{place}: {text}" for place, text in actors.notes)]:
+        note(line)
+    write_text(options.output, scenario_text(queues, source, options.horizon, notes, actors.text))
+    return 0

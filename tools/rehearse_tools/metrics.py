@@ -1,0 +1,300 @@
+"""Prints what CloudWatch would show of a run: the metrics of SQS by their names, for each queue and period, as CSV:
+
+    tools/metrics LOG [--period S] [--queue NAME ...] [--output FILE.csv]
+    tools/metrics LOG [--period S] [--queue NAME ...] --alarm 'ApproximateAgeOfOldestMessage>300 for 5'
+    tools/metrics LOG [--period S] [--queue NAME ...] --against FILE.json [--origin TIME] [--output FILE.csv]
+
+LOG is a file made by `run --log`, or what `run` prints without it; - is standard input. A period has 60 seconds unless
+--period says otherwise; the first one begins at the beginning of the run, and the last one has the last row.
+
+The four numbers of messages count what happened within a period. NumberOfMessagesSent counts messages added by a send
+or a forward, but not repeats, dead letters and what a move task brings. NumberOfMessagesReceived counts each message of
+a receive. NumberOfEmptyReceives counts the receives that got none, a long poll when it ends. NumberOfMessagesDeleted
+counts every deletion that succeeds, also a second one of the same message. The four approximate ones are those at the
+end of a period. ApproximateAgeOfOldestMessage is in seconds, since the message came into this queue, rounded down, and
+0 if the queue is empty. CloudWatch leaves out a message that was received more than three times and not deleted, as the
+SQS guide on this metric says (general knowledge, not looked up). Here its age counts, so a message that fails again and
+again makes the age climb. A log does not show a delay when it begins: a message counts as delayed if its release is in
+the log, or if the final queues follow the log and say so.
+
+--alarm prints, in place of the CSV, when an alarm would ring: when a metric is beyond a bound at the ends of that many
+periods in a row. With a queue before the metric, as in orders.ApproximateAgeOfOldestMessage, only that queue is
+watched; without one each queue is. It may be given several times. The status is 0 if none rang, 1 if one did, 2 for a
+fault.
+
+--against compares the rehearsal with what CloudWatch measured, for example to rehearse last Tuesday first. FILE.json is
+what `aws cloudwatch get-metric-data` or get-metric-statistics printed for periods of --period seconds. The label of
+each result has the name of its metric and of its queue, as in "orders NumberOfMessagesSent"; if only one queue is
+looked at, the label needs no queue. The run began at --origin, such as 2024-05-07T00:00:00Z, else at the earliest
+measured moment. The statistic is Sum for the four numbers of messages. For the approximate ones CloudWatch has one
+value a minute, and this tool that at the end of the period. There is a row for each period of both, with the
+difference, which is the rehearsed value minus the measured one. A line on standard error for each metric has the means
+of both.
+
+Examples:
+
+    ./sqs_rehearse run examples/dead_letters.toml | tools/metrics - --queue orders --output metrics.csv
+    ./sqs_rehearse run examples/dead_letters.toml
+        | tools/metrics - --alarm 'failed.ApproximateAgeOfOldestMessage>60 for 3'
+"""
+import operator
+import re
+import sys
+from collections import Counter, defaultdict, deque
+from collections.abc import Iterable, Iterator, Sequence
+
+from .console import Fault, Parser, check_output, note, print_text, shown, write_text
+from .logs import NUMBER, Head, Log
+from .measured import csv_of, differences_of, series_in, sums_of
+from .replay import (DELAYED, IN_FLIGHT, MESSAGE, NOWHERE, NUMBERED, VISIBLE, Checked, Places, UnknownKind, What,
+                     handlers_of, is_forward, replay, take_finals)
+from .units import NUMBER as MEASURE
+from .units import clock
+
+COUNTS = ("NumberOfMessagesSent", "NumberOfMessagesReceived", "NumberOfMessagesDeleted", "NumberOfEmptyReceives")
+SENT, RECEIVED, DELETED, EMPTY = range(len(COUNTS))
+# The metrics of the numbers of messages in places.
+PLACES = {VISIBLE: "ApproximateNumberOfMessagesVisible", IN_FLIGHT: "ApproximateNumberOfMessagesNotVisible",
+          DELAYED: "ApproximateNumberOfMessagesDelayed"}
+AGE = "ApproximateAgeOfOldestMessage"
+METRICS = (*COUNTS, *PLACES.values(), AGE)
+PERIODS_MOST = 86_400
+VALUES_MOST = 20_000_000
+COMPARISONS = {">": operator.gt, ">=": operator.ge, "<": operator.lt, "<=": operator.le}
+ALARM = re.compile(rf"(?:(.+)\.)?([A-Za-z]+) ?(>=|<=|>|<) ?({MEASURE})(?: for ([1-9][0-9]{{0,4}}))?")
+
+
+class Queue(Places):
+    """What the rows of a queue have told, by the number of a period of so many milliseconds: `counts` has what happened
+    in it, `steps` by how many messages more are in each place at its end, and `oldest` when the oldest one had come.
+
+    `now` is the period of the last row, which ends at `until`; `happened` and `moved` have its counts and steps so far.
+    `stands` has the place of each message that is there, or, if it has not moved since it came, `-1 - period` with the
+    period of that. `order` has the messages in the order in which they entered, with the time.
+    """
+
+    # These methods look at their rows themselves.
+    SURE = frozenset(("sent", "arrived", "received", "released", "deleted", "leaves"))
+
+    def __init__(self, name: str, path: str, period: int) -> None:
+        self.name, self.path, self.period, self.kinds = name, path, period, Counter[What]()
+        self.counts: list[defaultdict[int, int]] = [defaultdict(int) for _ in COUNTS]
+        self.steps: list[defaultdict[int, int]] = [defaultdict(int) for _ in (*PLACES, NOWHERE)]
+        self.stands: dict[str, int] = {}
+        self.order: deque[tuple[str, int]] = deque()
+        self.oldest: dict[int, int | None] = {}
+        self.now, self.until = 0, period
+        self.happened, self.moved = [0] * len(self.counts), [0] * len(self.steps)
+
+    def pass_to(self, at: int) -> None:
+        """Takes in that a period has ended, as a moment is in a later one."""
+        self.end_period()
+        self.now = at // self.period
+        self.until = (self.now + 1) * self.period
+
+    def end_period(self) -> None:
+        """Notes what happened in a period, and when the oldest message came that is there at its end."""
+        for totals, numbers in ((self.counts, self.happened), (self.steps, self.moved)):
+            for place, number in enumerate(numbers):
+                if number:
+                    totals[place][self.now] += number
+                    numbers[place] = 0
+        while self.order and self.order[0][0] not in self.stands:
+            self.order.popleft()
+        self.oldest[self.now] = self.order[0][1] if self.order else None
+
+    def put(self, at: int, message: str, place: int) -> None:
+        if at >= self.until:
+            self.pass_to(at)
+        try:
+            stands = self.stands[message]
+        except KeyError:
+            raise self.not_here(at, message) from None
+        self.moved[stands if stands >= 0 else VISIBLE] -= 1
+        self.moved[place] += 1
+        self.stands[message] = place
+
+    def not_here(self, at: int, message: str) -> Exception:
+        """What is wrong with a row whose message is not there."""
+        if not MESSAGE.fullmatch(message):
+            return UnknownKind(message)
+        return Fault(f"{self.path}: {message} at {at} never came into {self.name}: is this the whole log?")
+
+    def was_delayed(self, message: str) -> None:
+        stands = self.stands.get(message, VISIBLE)
+        if stands < 0:
+            self.steps[VISIBLE][-1 - stands] -= 1
+            self.steps[DELAYED][-1 - stands] += 1
+            self.stands[message] = DELAYED
+
+    def sent(self, at: int, head: Head, message: str, receipt: str, detail: str) -> None:
+        self.enters(at, message)
+        self.happened[SENT] += 1
+
+    def arrived(self, at: int, head: Head, message: str, receipt: str, detail: str) -> None:
+        self.enters(at, message)
+        if is_forward(message, detail):
+            self.happened[SENT] += 1
+
+    def enters(self, at: int, message: str) -> None:
+        if at >= self.until:
+            self.pass_to(at)
+        if not message or not MESSAGE.fullmatch(message):
+            raise UnknownKind(message)
+        self.moved[VISIBLE] += 1
+        self.stands[message] = -1 - self.now
+        self.order.append((message, at))
+
+    def received(self, at: int, head: Head, message: str, receipt: str, detail: str) -> None:
+        self.put(at, message, IN_FLIGHT)
+        self.happened[RECEIVED] += 1
+
+    def received_nothing(self, at: int, head: Head, message: str, receipt: str, detail: str) -> None:
+        self.count(at, EMPTY)
+
+    def delete_called(self, at: int, head: Head, message: str, receipt: str, detail: str) -> None:
+        self.count(at, DELETED)
+
+    def count(self, at: int, what: int) -> None:
+        if at >= self.until:
+            self.pass_to(at)
+        self.happened[what] += 1
+
+    def leaves(self, at: int, head: Head, message: str, receipt: str, detail: str) -> None:
+        if (head.call, head.answer) in NUMBERED and not NUMBER.fullmatch(detail):
+            raise UnknownKind(message)
+        if at >= self.until:
+            self.pass_to(at)
+        stands = self.stands.pop(message, NOWHERE)
+        if stands == NOWHERE:
+            raise self.not_here(at, message)
+        self.moved[stands if stands >= 0 else VISIBLE] -= 1
+
+    def deleted(self, at: int, head: Head, message: str, receipt: str, detail: str) -> None:
+        self.leaves(at, head, message, receipt, detail)
+        self.happened[DELETED] += 1
+
+
+HANDLERS = handlers_of(Queue)
+
+
+class Metrics:
+    """The queues of a log by name, and how many periods of so many milliseconds it has."""
+
+    def __init__(self, log: Log, period: int) -> None:
+        self.period, self.queues = period, dict[str, Queue]()
+
+        def named(name: str) -> Queue:
+            return self.queues.setdefault(name, Queue(name, log.path, period))
+
+        last = replay(log, Checked(self.queues, named, HANDLERS))
+        self.periods = 0 if last is None else last // period + 1
+        for queue in self.queues.values():
+            queue.end_period()
+        take_finals(log, self.queues)
+
+    def values(self, queue: Queue) -> Iterator[list[int]]:
+        """The values of all metrics, period by period."""
+        levels = dict.fromkeys(PLACES, 0)
+        since: int | None = None
+        for period in range(self.periods):
+            for place in PLACES:
+                levels[place] += queue.steps[place].get(period, 0)
+            since = queue.oldest.get(period, since)
+            age = 0 if since is None else ((period + 1) * self.period - since) // 1_000
+            yield [*(counts.get(period, 0) for counts in queue.counts), *levels.values(), age]
+
+
+class Alarm:
+    """A metric, a bound, and how many periods in a row must end with the metric beyond the bound."""
+
+    def __init__(self, text: str) -> None:
+        match = ALARM.fullmatch(text.strip())
+        if not match or match[2] not in METRICS:
+            raise Fault(f"{shown(text)} is no alarm, as 'ApproximateAgeOfOldestMessage>300 for 5'; the metrics are "
+                        + ", ".join(METRICS))
+        self.text, self.queue, self.place = text.strip(), match[1], METRICS.index(match[2])
+        self.is_beyond, self.bound = COMPARISONS[match[3]], float(match[4])
+        self.periods = int(match[5] or 1)
+
+    def rings(self, values: Iterable[Sequence[float]]) -> Iterator[tuple[int, int | None]]:
+        """The first and the last period of each time that it rings; the last is None if it still rings at the end."""
+        count, since = 0, None
+        for period, found in enumerate(values):
+            if self.is_beyond(found[self.place], self.bound):
+                count += 1
+                if count == self.periods:
+                    since = period
+            else:
+                if since is not None:
+                    yield since, period
+                count, since = 0, None
+        if since is not None:
+            yield since, None
+
+
+def ringing(alarms: Iterable[Alarm], metrics: Metrics, queues: Sequence[Queue]) -> Iterator[str]:
+    """A line for each time that an alarm rings."""
+    for alarm in alarms:
+        name = alarm.text.removeprefix(f"{alarm.queue}.")
+        for queue in queues if alarm.queue is None else [metrics.queues[alarm.queue]]:
+            for since, until in alarm.rings(metrics.values(queue)):
+                end = "" if until is None else f", until {clock((until + 1) * metrics.period)}"
+                yield f"{queue.name}: {name} rings at {clock((since + 1) * metrics.period)}{end}\n"
+
+
+def write_csv(metrics: Metrics, queues: Sequence[Queue], path: str | None) -> None:
+    rows = (",".join(map(str, [period * metrics.period // 1_000, queue.name, *values])) + "\n"
+            for queue in queues for period, values in enumerate(metrics.values(queue)))
+    header = ",".join(["second", "queue", *METRICS]) + "\n"
+    if path is None:
+        print_text(header)
+        for row in rows:
+            sys.stdout.write(row)
+        print_text("")
+    else:
+        write_text(path, header + "".join(rows))
+
+
+def check_queues(metrics: Metrics, names: Iterable[str]) -> None:
+    for name in names:
+        if name not in metrics.queues:
+            raise Fault(f"no row of the log is of queue {shown(name)}")
+
+
+def main(words: Sequence[str]) -> int:
+    parser = Parser(__doc__)
+    parser.add_argument("log", metavar="LOG")
+    parser.add_argument("--period", type=int, default=60, metavar="S")
+    parser.add_argument("--queue", action="append", default=[], metavar="NAME")
+    parser.add_argument("--alarm", action="append", default=[], metavar="ALARM")
+    parser.add_argument("--against", metavar="FILE.json")
+    parser.add_argument("--origin", metavar="TIME")
+    parser.add_argument("--output", metavar="FILE.csv")
+    options = parser.parse_args(words)
+    if options.against and options.alarm:
+        raise Fault("--against and --alarm do not go together")
+    if options.origin and not options.against:
+        raise Fault("--origin goes with --against")
+    if not 1 <= options.period <= PERIODS_MOST:
+        raise Fault(f"a period has 1 to {PERIODS_MOST} seconds")
+    alarms = [Alarm(text) for text in options.alarm]
+    check_output(options.output)
+    series = series_in(options.against) if options.against else []
+    metrics = Metrics(Log(options.log), options.period * 1_000)
+    check_queues(metrics, [*options.queue, *(alarm.queue for alarm in alarms if alarm.queue)])
+    queues = [metrics.queues[name] for name in dict.fromkeys(options.queue or metrics.queues)]
+    if len(queues) * metrics.periods > VALUES_MOST:
+        raise Fault(f"{metrics.periods:,} periods of {len(queues):,} queues are too many: a longer --period is needed")
+    if options.against:
+        differences = list(differences_of(metrics, [queue.name for queue in queues], METRICS, series, options.origin))
+        write_text(options.output, csv_of(differences, metrics.period))
+        for line in sums_of(differences, metrics.period):
+            note(line)
+        return 0
+    if not alarms:
+        write_csv(metrics, queues, options.output)
+        return 0
+    lines = list(ringing(alarms, metrics, queues))
+    write_text(options.output, "".join(lines) or "no alarm rings\n")
+    return 1 if lines else 0

@@ -1,0 +1,140 @@
+"""What must hold of the report of a run. tools/sweep and tools/report import it; it is not a command."""
+import fnmatch
+import math
+import operator
+import re
+from collections import Counter
+from collections.abc import Sequence
+from fractions import Fraction
+from typing import NamedTuple
+
+from .console import Fault, shown
+from .doors import DOOR_SHARES
+from .further import BACKLOG_GONE, CENSORED, MOVED_SHARES, NEW_SHARES
+from .runs import ALL_COLUMNS, COLUMNS, EXTRA_COLUMNS, PERCENTILES, PLACES, Ages
+from .statistics import Interval, censored_percentile, holds_within, rank_of, share_left
+from .units import duration, number_of, quantity
+
+# Which percentile a column of ages is.
+SHARES = {**PERCENTILES, **DOOR_SHARES}
+
+# What a sweep tells of a column over several runs.
+FOLDED = ("mean", "deviation", "least", "median", "greatest", "half_width", "median_low", "median_high")
+
+
+class Failure(NamedTuple):
+    """That a requirement fails, or is undecided because of the messages that are left, and why."""
+    word: str
+    reason: str
+
+
+class Requirement:
+    """What must hold in each variant, such as orders.age_p95<60s, or in a share of its runs, such as orders.age_p95<60s
+    in 95%.
+
+    `share` is that share, or None if it must hold in all.
+    """
+
+    COMPARISONS = {"<": operator.lt, "<=": operator.le, ">": operator.gt, ">=": operator.ge, "=": operator.eq,
+                   "==": operator.eq, "!=": operator.ne}
+    WORDS = re.compile(r"([^<>=!]+)\.([A-Za-z0-9_]+)\s*(<=|>=|==|!=|<|>|=)\s*(.*)")
+    SHARE = re.compile(r"(.*\S)\s+in\s+([0-9]{1,2}(?:\.[0-9]{1,6})?)\s*%")
+
+    def __init__(self, text: str) -> None:
+        shared = self.SHARE.fullmatch(text.strip())
+        self.share = float(Fraction(shared[2]) / 100) if shared else None
+        match = self.WORDS.fullmatch(shared[1] if shared else text.strip())
+        if not match or self.share == 0:
+            raise Fault(f"{shown(text)} is no requirement, as orders.age_p95<60s")
+        self.text, self.queue, self.column = text.strip(), match[1], match[2]
+        if self.column not in ALL_COLUMNS:
+            raise Fault(f"{shown(text)}: there is no column {self.column}; there are {', '.join(ALL_COLUMNS)}")
+        found = quantity(match[4])
+        if found is None or found[1] and not self.is_time:
+            wanted = "a number with a unit, as 60s" if self.is_time else "a number without a unit"
+            raise Fault(f"{shown(text)}: {shown(match[4])} is not {wanted}")
+        self.bound, self.holds = found[0], self.COMPARISONS[match[3]]
+
+    @property
+    def is_age(self) -> bool:
+        """Whether it is on an age when messages were deleted, as a report has them or since the first send."""
+        return self.column.startswith("age_") or self.column in DOOR_SHARES
+
+    @property
+    def is_time(self) -> bool:
+        return self.is_age or self.column in CENSORED or self.column == BACKLOG_GONE
+
+    @property
+    def is_extra(self) -> bool:
+        """Whether it is on a column that a report does not have."""
+        return self.column in EXTRA_COLUMNS
+
+    def is_of(self, name: str) -> bool:
+        return fnmatch.fnmatchcase(name, self.queue)
+
+    def told_of(self, name: str) -> str:
+        """The requirement, with the queue for which it was checked if its own words leave that open."""
+        return self.text if name == self.queue else f"{self.text} of {name}"
+
+    def failure(self, numbers: Sequence[str], ages: Ages | None = None) -> Failure | None:
+        """Why it does not hold for a queue with these numbers of the report; None if it holds.
+
+        Messages that are left may get any age from the one that they have on. `ages` has those, if they are known.
+        """
+        text = numbers[ALL_COLUMNS.index(self.column)]
+        if not text:
+            return Failure("fails", self.why_empty())
+        number, left = number_of(text), left_of(numbers)
+        if not left or self.column not in (*SHARES, *CENSORED):
+            return None if self.holds(number, self.bound) else Failure("fails", self.told_number(number))
+        interval = bounds_by_report(self.column, numbers) if ages is None else bounds_by_ages(self.column, ages)
+        is_held = holds_within(interval, self.holds, self.bound)
+        if is_held:
+            return None
+        share = 100 * share_left(int(numbers[COLUMNS.index("deletes")]), left)
+        bounds = f"{interval.low} ms or more" if math.isinf(interval.high) else f"{interval.low} to {interval.high} ms"
+        return Failure("fails" if is_held is False else "is undecided",
+                       f"{self.told_number(number)}, of those deleted, and {bounds} with the {left:,} that are left "
+                       f"({share:.3g} %)")
+
+    def why_empty(self) -> str:
+        """Why there is no number."""
+        if self.column == BACKLOG_GONE:
+            return "a backlog is there at the end"
+        kind = "new " if self.column in NEW_SHARES else "moved " if self.column in MOVED_SHARES else ""
+        return f"no {kind}message was deleted" + (self.column in DOOR_SHARES) * (
+            ", or of one it is open when it was first sent (summary --door tells)")
+
+    def told_number(self, number: float) -> str:
+        return f"it is {number} ms, {duration(int(number))}" if self.is_time else f"it is {number}"
+
+    def is_open(self, numbers: Sequence[str]) -> bool:
+        """Whether the report leaves open if it holds, so that the ages of the messages have to be known."""
+        if self.column not in PERCENTILES or not numbers[ALL_COLUMNS.index(self.column)] or not left_of(numbers):
+            return False
+        return holds_within(bounds_by_report(self.column, numbers), self.holds, self.bound) is None
+
+
+def left_of(numbers: Sequence[str]) -> int:
+    """How many messages a report says are left in a queue."""
+    return sum(int(numbers[COLUMNS.index(place)]) for place in PLACES.values())
+
+
+def bounds_by_report(column: str, numbers: Sequence[str]) -> Interval:
+    """The bounds of a percentile of ages if any message that is left may get any age, by the ranks of a report in which
+    some messages were deleted."""
+    deleted, left = int(numbers[COLUMNS.index("deletes")]), left_of(numbers)
+    shares = PERCENTILES if column in PERCENTILES else DOOR_SHARES
+    ranks = [(rank_of(deleted, share), int(numbers[ALL_COLUMNS.index(of)])) for of, share in shares.items()]
+    rank = rank_of(deleted + left, SHARES[column])
+    return Interval(max((age for place, age in ranks if place <= rank - left), default=0),
+                    min((age for place, age in ranks if place >= rank), default=math.inf))
+
+
+def bounds_by_ages(column: str, ages: Ages) -> Interval:
+    """The same if it is known how old each message is that is left."""
+    if column in ages.bounds:
+        return ages.bounds[column]
+    known = ages.since_first_send or ages if column in DOOR_SHARES else ages
+    deleted = list(Counter(known.deleted).elements())
+    return censored_percentile(deleted, known.left, SHARES[column]) or Interval(0, math.inf)

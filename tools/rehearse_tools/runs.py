@@ -1,0 +1,288 @@
+"""Runs the program once over a scenario, and counts what happened between two moments of the run.
+
+The tools import it; it is not a command. It needs nothing but the program, so that a worker of a cluster runs it as
+well.
+"""
+import csv
+import io
+import os
+import subprocess
+import tempfile
+from collections import Counter
+from collections.abc import Callable, Iterable, Iterator, Mapping, Sequence
+from contextlib import AbstractContextManager, nullcontext
+from functools import partial
+from typing import Any, NamedTuple, TextIO
+
+from .console import Fault
+from .doors import DOOR_SHARES, Doors
+from .further import COLUMNS as FURTHER
+from .further import WINDOW, Further
+from .logs import FINAL_HEADER, REPORT_HEADER, Block, Head, Log, Take as TakeRow, blocks_in
+from .replay import KINDS, REFUSALS, Replay, What, both, handlers_of, replay
+from .statistics import Interval, at_rank, rank_of
+
+COLUMNS = REPORT_HEADER[2:]
+# With those that a report does not have, and for which the log is read.
+EXTRA_COLUMNS = [*DOOR_SHARES, *FURTHER]
+ALL_COLUMNS = [*COLUMNS, *EXTRA_COLUMNS]
+# The columns of the places of messages that are left, by what the final queues call them.
+PLACES = {"visible": "visible", "inflight": "in_flight", "delayed": "delayed"}
+PERCENTILES = {"age_p50": 0.5, "age_p95": 0.95, "age_p99": 0.99, "age_max": 1.0}
+Watch = Callable[["subprocess.Popen[bytes]"], AbstractContextManager[object]]
+# What takes something from what the program prints, and what runs the program for that: a command, the scenario's text
+# and what takes.
+Take = Callable[[TextIO], Any]
+Engine = Callable[[list[str], str, Take], "Ended"]
+
+
+class Ages(NamedTuple):
+    """The ages of a queue's messages in milliseconds: how many were deleted at each, and how old each one that is left
+    is at the end. `since_first_send` has the same since the first send, and `bounds` those of further columns, if they
+    are asked for."""
+    deleted: Mapping[int, int]
+    left: list[int]
+    since_first_send: "Ages | None" = None
+    bounds: Mapping[str, Interval] = {}
+
+
+class Ran(NamedTuple):
+    """The result of a run: the program's status; the records of the report, each from its queue's name on, or None if
+    there is none; the first line on standard error; and, if the log was read, the ages by queue."""
+    status: int
+    records: list[list[str]] | None
+    told: str
+    ages: dict[str, Ages]
+
+
+# The columns that count rows, by their calls and answers.
+KINDS_OF_COLUMNS: dict[str, set[What]] = {
+    "sends": {("send", "new")}, "repeats": {("send", "repeat"), ("arrive", "repeat")}, "receives": {("receive", "ok")},
+    "empties": {("receive", "empty")}, "deletes": {("delete", "deleted")}, "expiries": {("expire", "expired")},
+    "redrives": {("redrive", "out")}, "moves": {("move", "out")}, "arrivals": {("arrive", "new")},
+    **{refusal: {what for what in KINDS if what[1] == refusal} for refusal in REFUSALS}}
+
+
+class QueueCounts:
+    """What is counted of one queue: its rows by their kinds, the messages in it, and the ages of those deleted."""
+
+    def __init__(self) -> None:
+        self.depth = self.depth_max = 0
+        self.kinds: Counter[What] = Counter()
+        self.ages: dict[str, int] = {}
+        self.enqueued: list[int] = []
+        self.places = dict.fromkeys(PLACES.values(), 0)
+
+    def begin(self) -> None:
+        """Forgets what was counted before; the messages in the queue are still there."""
+        self.depth_max = self.depth
+        self.kinds.clear()
+        self.ages.clear()
+
+    def enters(self, at: int, head: Head, message: str, receipt: str, detail: str) -> None:
+        self.depth += 1
+        if self.depth > self.depth_max:
+            self.depth_max = self.depth
+
+    def deleted(self, at: int, head: Head, message: str, receipt: str, age: str) -> None:
+        self.depth -= 1
+        self.ages[age] = self.ages.get(age, 0) + 1
+
+    def leaves(self, at: int, head: Head, message: str, receipt: str, detail: str) -> None:
+        self.depth -= 1
+
+    def left(self, place: str, enqueued: int) -> None:
+        """Takes in a message that is left, with where it is as the final queues say, and when it came."""
+        self.places[PLACES[place]] += 1
+        self.enqueued.append(enqueued)
+
+    def columns(self) -> list[str]:
+        """The texts of the columns of a report."""
+        ages = self.deleted_at_age()
+        numbers = {**{column: sum(self.kinds[what] for what in of) for column, of in KINDS_OF_COLUMNS.items()},
+                   **self.places, "depth_max": self.depth_max,
+                   "age_sum": sum(age * count for age, count in ages.items())}
+        ranks = {column: str(at_rank(ages, rank_of(numbers["deletes"], share))) if ages else ""
+                 for column, share in PERCENTILES.items()}
+        return [ranks[column] if column in ranks else str(numbers[column]) for column in COLUMNS]
+
+    def deleted_at_age(self) -> dict[int, int]:
+        """How many messages were deleted at each age."""
+        return {int(age): count for age, count in self.ages.items()}
+
+
+HANDLERS = handlers_of(QueueCounts)
+
+
+class Output(Log):
+    """What a run prints into a pipe. It may end anywhere, if the program was ended; `rest` has what follows the log."""
+
+    def __init__(self, stream: TextIO) -> None:
+        super().__init__("-")
+        self.stream = stream
+        self.rest: Iterator[list[str]] = iter(())
+
+    def blocks(self) -> Iterator[Block]:
+        return blocks_in(self.stream, self.path)
+
+    def read_parts(self, lines: Iterator[str]) -> None:
+        self.rest = csv.reader(lines)
+
+    def is_whole(self, rows: Replay[Any]) -> bool:
+        """Gives the rows, and whether none of them is cut."""
+        try:
+            replay(self, rows)
+        except Fault:
+            return False
+        return True
+
+
+class Extra(NamedTuple):
+    """What is counted beside the report: the ages since the first send, further columns, the length of a window in
+    milliseconds, and the price of a million requests."""
+    with_doors: bool = False
+    with_further: bool = False
+    window: int = WINDOW
+    price: float | None = None
+
+    @property
+    def is_any(self) -> bool:
+        return self.with_doors or self.with_further
+
+
+def extra_of(columns: Iterable[str], window: int = WINDOW, price: float | None = None) -> Extra:
+    """What is to be counted for some columns."""
+    wanted = set(columns)
+    return Extra(not wanted.isdisjoint(DOOR_SHARES), not wanted.isdisjoint(FURTHER), window, price)
+
+
+class Counting(NamedTuple):
+    """How a report is counted from the log: from a moment on, of a run that ends at another, in milliseconds, and what
+    is counted beside it."""
+    first: int
+    end: int
+    extra: Extra = Extra()
+
+
+class Counts:
+    """What the rows of a log say of each queue from a moment on, as `counting` has it."""
+
+    def __init__(self, counting: Counting) -> None:
+        first, self.end, extra = counting
+        self.queues: dict[str, QueueCounts] = {}
+        self.doors = Doors(first) if extra.with_doors else None
+        self.further = Further(first, extra.window, extra.price) if extra.with_further else None
+        self.rows = Replay(self.queues, lambda name: self.queues.setdefault(name, QueueCounts()), HANDLERS,
+                           self.follower)
+        self.rows.moments = [(first, self.begin)]
+
+    def follower(self, head: Head) -> TakeRow | None:
+        """What takes the rows with a head beside their queue."""
+        takes = [take for of in (self.doors, self.further) if of and (take := of.take_of(head))]
+        return both(*takes) if len(takes) == 2 else takes[0] if takes else None
+
+    def begin(self) -> None:
+        """Forgets what was counted before."""
+        self.rows.count()
+        for queue in self.queues.values():
+            queue.begin()
+        if self.further:
+            self.further.begin()
+
+    def left(self, name: str, message: str, place: str, enqueued: int) -> None:
+        """Takes in a message that is left, by the final queues."""
+        self.queues.setdefault(name, QueueCounts()).left(place, enqueued)
+        if self.further:
+            self.further.of(name).is_left(message, self.end - enqueued)
+
+    def reported(self, names: Iterable[str]) -> tuple[list[list[str]], dict[str, Ages]]:
+        """The records of a report on queues with these names, each with the extra columns if some are counted, and the
+        ages by queue; messages that are left are as old as they are at the end of the run."""
+        records, ages = [], {}
+        left = self.doors.left(self.end) if self.doors else {}
+        for name in names:
+            queue = self.queues.get(name) or QueueCounts()
+            record = [name, *queue.columns()]
+            of_queue = Ages(queue.deleted_at_age(), [self.end - enqueued for enqueued in queue.enqueued])
+            if self.doors:
+                of_queue = of_queue._replace(since_first_send=Ages(self.doors.ages_of(name), left.get(name, [])))
+            if self.doors or self.further:
+                record += text_of(self.doors.columns(name) if self.doors else dict.fromkeys(DOOR_SHARES))
+            if self.further:
+                numbers = self.further.numbers_of(name, queue.kinds, self.end)
+                record, of_queue = [*record, *numbers.texts], of_queue._replace(bounds=numbers.bounds)
+            elif self.doors:
+                record += [""] * len(FURTHER)
+            records.append(record)
+            ages[name] = of_queue
+        return records, ages
+
+
+def text_of(columns: Mapping[str, int | None]) -> list[str]:
+    return ["" if number is None else str(number) for number in columns.values()]
+
+
+def reported(stream: TextIO, counting: Counting) -> tuple[list[list[str]], dict[str, Ages]] | None:
+    """The records of a report that are counted from what a run prints, in its order, and the ages by queue; None if
+    that is no log with its report."""
+    counts, output = Counts(counting), Output(stream)
+    if not output.is_whole(counts.rows):
+        return None
+    for record in output.rest:
+        if record[0] == "final" and len(record) == len(FINAL_HEADER):
+            counts.left(record[1], record[2], record[4], int(record[6]))
+        elif record == REPORT_HEADER:
+            return counts.reported(record[1] for record in output.rest if len(record) > 1)
+    return None
+
+
+def columns_in(header: Sequence[str]) -> list[str]:
+    """The columns of a report at the end of a header of rows."""
+    return ALL_COLUMNS if header[-1] == ALL_COLUMNS[-1] else COLUMNS
+
+
+def report_of(stream: TextIO) -> list[list[str]] | None:
+    """The records of the report that a run prints, each from its queue's name on; None if there is no report."""
+    rest = csv.reader(stream)
+    return [record[1:] for record in rest] if REPORT_HEADER in rest else None
+
+
+class Ended(NamedTuple):
+    """How the program ended: its status, the first line on standard error, and what was taken from its output."""
+    status: int
+    told: str
+    taken: Any
+
+
+def piped(command: list[str], text: str, take: Take, watch: Watch = nullcontext, folder: str | None = None) -> Ended:
+    """Runs a scenario's text by a command of the program in a folder, and gives the records that it prints to `take`.
+    `watch` is entered while it runs."""
+    with tempfile.TemporaryFile() as scenario, tempfile.TemporaryFile() as told:
+        scenario.write(text.encode("utf-8", "replace"))
+        scenario.seek(0)
+        with subprocess.Popen(command, stdin=scenario, stdout=subprocess.PIPE, stderr=told,
+                              cwd=folder) as process, watch(process):
+            assert process.stdout is not None
+            stream = io.TextIOWrapper(process.stdout, "utf-8", "replace", newline="")
+            taken = take(stream)
+            stream.read()
+        told.seek(0)
+        return Ended(process.returncode, first_line(told.read()), taken)
+
+
+def first_line(told: bytes) -> str:
+    """The first line on standard error, which says why there is no report."""
+    return next(filter(None, told.decode("utf-8", "replace").split("\n")), "no report")
+
+
+def run(command: list[str], text: str, counting: Counting | None, engine: Engine = piped) -> Ran:
+    """Runs a scenario's text by the command of the program. Where nothing is to be counted the report is the program's,
+    which then writes no log, and no ages are known."""
+    if counting is None:
+        status, told, report = engine([*command, "--log", os.devnull], text, report_of)
+        return Ran(status, None if status else report, told, {})
+    status, told, counts = engine(command, text, partial(reported, counting=counting))
+    if not counts:
+        return Ran(status, None, told, {})
+    records, ages = counts
+    return Ran(status, None if status else records, told, ages)

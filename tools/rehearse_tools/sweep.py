@@ -1,0 +1,456 @@
+"""Runs a scenario with settings varied, and prints a CSV row for each variant and queue:
+
+    tools/sweep SCENARIO --vary queue.orders.visibility_s=2,5,10 --vary seed=1..20 [--spread seed]
+        [--require 'orders.age_p95<60s in 95%' ..] [--columns NAMES] [--table] [--output FILE]
+        [--against queue.orders.visibility_s=5 | --against OTHER] [--until 5% | --until decided] [--most N]
+        [--from TIME] [--to TIME] [--settling FILE.svg] [--window TIME] [--price N] [--program P]
+        [--scripts DIR] [--jobs N] [--cluster tcp://HOST:8786]
+    tools/sweep SCENARIO --least count.worker=1..64 --vary seed=1..200 --spread seed
+        --require 'orders.age_p95<60s in 95%'
+    tools/sweep SCENARIO --vary .. --print-scenario
+    tools/sweep SCENARIO --vary .. --print-jobs DIR [--shares N] [--rest]
+    tools/sweep SCENARIO --vary .. --share K/N --results DIR [--mark MARK]
+    tools/sweep --collect DIR [--mark MARK] [--spread seed] [--require ..] [--columns NAMES] [--table] [--output FILE]
+
+--vary    a setting and its values. A setting is queue.NAME.KEY, actor.NAME.KEY, task.NAME.KEY, or a key of the top such
+          as seed. A NAME with asterisks ties all tables whose names match it: actor.worker-*.batch sets the batch of
+          each. count.NAME copies the table of an actor: with count.worker=3 worker-1 takes the place of worker, and
+          worker-2 and worker-3 come after all actors, so that the random numbers of others stay. A setting may name
+          worker or its copies. The values are words between commas, 1..20 for all whole numbers from 1 to 20, and
+          0..100..10 for every tenth. A word with a comma is put in double quotes. If --vary is given several times, all
+          combinations are run. A key that the scenario does not have is added.
+--zip     a setting that goes with the --vary before it, its first value with the first and so on, as in
+          --vary seed=1..3 --zip actor.shop.script=a.csv,b.csv,c.csv
+--require what must hold in each variant: a column of the report of a queue, one of < <= > >= = !=, and a number, for
+          ages with a unit (ms, s, m, h, d; without one milliseconds). A queue's name may have asterisks. Each one that
+          fails has a line on standard error, and the status is 1. The last line says which variants meet all, with
+          --spread those that do in each run. A requirement on an age also fails if no message was deleted, because
+          there is no age. Messages that are left are at least as old as they are now. If they could turn a requirement
+          on age_p50, age_p95, age_p99 or age_max, it fails or is undecided, which counts as a failure, and the share
+          that is left is printed. Without --vary the scenario runs as it is. With `in 95%` after it, which goes with
+          --spread, that share of all runs must meet it: it is shown, refuted or undecided with 95 % confidence, and
+          holds if it is shown.
+--spread  puts the runs together that differ only in this setting, and gives for each number of the report its mean,
+          sample standard deviation, least, median and greatest, the half-width of the mean's 95 % interval, and the
+          interval of the median; numbers that a run's report leaves empty are left out. If the runs of the variant
+          with the deepest queues settle late by MSER-5 over ten of them, a line advises a --from. There is no such line
+          if the traffic is not steady, or if this can't be decided.
+--against prints differences from the variant with this value, or from another scenario with the same settings, run by
+          run over the setting of --spread: their mean with its 95 % interval, in how many runs each is greater and
+          less, its probability by Holm's correction over all differences printed, and whether it is shown.
+          docs/STATISTICS.md says what that means.
+--until   goes on with the values of --spread, ten at first, until the mean of each of --columns is known to within this
+          part of it, or (decided) until each requirement is shown or refuted; at most --most runs of a variant
+--least   finds by bisection the least value of a setting with which all requirements hold
+--from    counts each run from this time on, such as 90s or 1.5h, so that a warm-up is left out. Messages that are in a
+          queue by then are there, with the age that they have. Each run then writes its log, which takes longer.
+--settling draws into a file, SVG, PNG or PDF, the mean depth of each queue over the runs that the advice looks at, its
+          moving mean by Welch, and from when on to count. It goes with --spread.
+--to      ends each run at this time, including what happens at it
+--columns the columns that are printed, between commas: those of the report, and some for which the log is read:
+          door_age_p50, door_age_p95, door_age_max: ages since the first send of messages that were deleted, empty if
+            they are open, as `summary --help` says under --door
+          new_age_p50 .. new_age_max, moved_age_p50 .. moved_age_max: ages of messages that a move task did not bring
+            into the queue, and of those that one brought
+          window_age_p95: the greatest 95th percentile of age among windows of --window (5min), by time of deletion
+          backlog_gone: when a backlog ended last, as `summary --help` has it: 0 if there was none, empty at its end
+          requests, cost: API requests as `summary` counts them, and what they cost at --price a million
+--table   prints a table for people in place of CSV, without columns, and rows of queues, that have no number
+--program the program; without it SQS_REHEARSE of the environment, else sqs_rehearse beside this folder
+--scripts the folder of the scenario's scripts, as for the program
+--jobs    how many runs at once; without it one for each processor
+--cluster runs the variants on the workers of a Dask cluster, by the address of its scheduler. Workers need Dask and the
+          same kind of machine, and no common folder: program and scripts are sent to them. Another worker does what a
+          lost one had to do. docs/SWEEPS.md says how.
+--output  the file that is written, in place of standard output
+--print-scenario  runs nothing and prints the scenario of one variant, to be run and looked at on its own
+--print-jobs  runs nothing and prints a shell command for each variant, or for each of --shares N shares of them, which
+          writes a file in DIR. They may run in any order and on several machines that have the same paths;
+          docs/SWEEPS.md says how. With --rest only those of which something is left are printed.
+--share   runs every N-th variant from number K on, and writes one file into --results, unless it is there. With --mark
+          it refuses a sweep of another scenario, program, scripts or settings than the one that has this mark.
+--collect puts the files of such a folder together, as if one sweep had run all. A file that is cut, changed, doubled or
+          of another sweep is refused, and what is left is reported. --mark names the sweep, if there are several.
+
+Columns: the varied settings; failed, which is empty or has the line with which a variant was refused; queue; the
+columns of the report. Progress goes to standard error. An interrupt keeps the rows so far; that of a share leaves no
+file. The status is 0, 1 if a variant or a requirement failed, something is left or --until is not reached, 2 for
+usage and unreadable input, 130 after an interrupt.
+
+Examples:
+
+    tools/sweep examples/short_timeout.toml --vary queue.jobs.visibility_s=2,5,10 --vary seed=1..20 --spread seed
+        --columns deletes,age_p95 --table
+    tools/sweep examples/short_timeout.toml --least queue.jobs.visibility_s=1..10 --vary seed=1..100 --spread seed
+        --require 'jobs.age_p95<15s in 80%'
+"""
+import argparse
+import os
+import re
+from collections.abc import Callable, Iterable, Iterator, Sequence
+
+from .clusters import PROGRAM, SCRIPTS, Cluster
+from .console import (Fault, Parser, check_library, check_output, print_text, shown, write_bytes,
+                      write_text)
+from .decisions import Requirements
+from .drawing import FORMATS, bytes_of
+from .further import COST, WINDOW
+from .jobs import Jobs, collect, head_of, print_jobs, run_share, scripts_of
+from .programs import named_program, program_of
+from .runs import ALL_COLUMNS, COLUMNS, EXTRA_COLUMNS, Extra, columns_in, extra_of
+from .results import share_of
+from .scenarios import names_of
+from .searches import Groups, check_ascending, least, until
+from .settling import advise, looked_at, picture_of
+from .tables import Table, against, csv_text, folded, selected, table_text
+from .units import moment_of, window_of
+from .variants import Given, Settings, Sweep, Told, Window, tell
+
+JOBS_MOST = 1_024
+SHARES_MOST = 1_000_000
+PRICE_MOST = 1_000_000
+PERCENT = re.compile(r"([0-9]{1,3}(?:\.[0-9]{1,3})?)\s*%")
+# The column of the scenarios if there are two.
+SCENARIO = "scenario"
+# What goes with runs alone, what with a scenario, and the modes that run none or collect.
+OF_RUNS = ("require", "spread", "against", "until", "most", "least", "settling")
+MODES = ("print_jobs", "print_scenario", "share", "collect")
+
+
+def columns_of(text: str | None) -> list[str]:
+    """The columns that were asked for, all of them if none are named."""
+    columns = text.split(",") if text is not None else COLUMNS
+    for column in columns:
+        if column not in ALL_COLUMNS:
+            raise Fault(f"there is no column {shown(column)}; there are {', '.join(ALL_COLUMNS)}")
+    return list(dict.fromkeys(columns))
+
+
+def given(kind: str) -> Callable[[str], Given]:
+    """What takes a word of the command line as a setting that is given by an option."""
+    return lambda words: Given(kind, words)
+
+
+def options_of(words: Sequence[str]) -> argparse.Namespace:
+    parser = Parser(__doc__)
+    parser.add_argument("scenario", nargs="?", metavar="SCENARIO")
+    parser.add_argument("--vary", action="append", default=[], type=given("vary"), metavar="SETTING=VALUES")
+    parser.add_argument("--zip", action="append", dest="vary", type=given("zip"), metavar="SETTING=VALUES")
+    parser.add_argument("--require", action="append", default=[], metavar="QUEUE.COLUMN<NUMBER")
+    parser.add_argument("--spread", metavar="SETTING")
+    parser.add_argument("--against", metavar="SETTING=VALUE|OTHER")
+    parser.add_argument("--until", metavar="PART")
+    parser.add_argument("--most", type=int, metavar="N")
+    parser.add_argument("--least", metavar="SETTING=VALUES")
+    parser.add_argument("--from", dest="first", metavar="TIME")
+    parser.add_argument("--to", dest="last", metavar="TIME")
+    parser.add_argument("--settling", metavar="FILE.svg")
+    parser.add_argument("--window", metavar="TIME")
+    parser.add_argument("--price", type=float, metavar="NUMBER")
+    parser.add_argument("--columns", metavar="NAMES")
+    parser.add_argument("--table", action="store_true")
+    parser.add_argument("--program", metavar="P")
+    parser.add_argument("--scripts", default=".", metavar="DIR")
+    parser.add_argument("--jobs", type=int, metavar="N")
+    parser.add_argument("--cluster", metavar="ADDRESS")
+    parser.add_argument("--output", metavar="FILE")
+    parser.add_argument("--print-jobs", metavar="DIR")
+    parser.add_argument("--shares", type=int, metavar="N")
+    parser.add_argument("--rest", action="store_true")
+    parser.add_argument("--share", metavar="K/N")
+    parser.add_argument("--results", metavar="DIR")
+    parser.add_argument("--mark", metavar="MARK")
+    parser.add_argument("--print-scenario", action="store_true")
+    parser.add_argument("--collect", metavar="DIR")
+    options = parser.parse_args(words)
+    check_mode(options)
+    check_runs(options)
+    return options
+
+
+def check_mode(options: argparse.Namespace) -> None:
+    """Makes sure that what is asked for is one thing."""
+    if options.collect and (options.scenario or options.vary or options.least or options.until
+                            or options.first or options.last
+                            or any(getattr(options, mode) for mode in MODES[:-1])):
+        raise Fault("--collect reads what was run, and takes no SCENARIO, --vary, --print-jobs or --print-scenario")
+    if not options.collect and not (options.scenario and (options.vary or options.require)):
+        raise Fault("a SCENARIO and at least one --vary or --require are needed (--help tells the usage)")
+    if options.print_scenario and (options.first or options.last):
+        raise Fault("--from and --to go with runs, and nothing is run")
+    if any(getattr(options, mode) for mode in MODES[:-1]) and any(getattr(options, of) for of in OF_RUNS):
+        raise Fault("--require and --spread go with runs, and nothing is run" if not options.share else
+                    "a share writes all rows: --require and --spread go with --collect")
+    for name, wanted in (("shares", "print_jobs"), ("rest", "print_jobs"), ("results", "share")):
+        if getattr(options, name) and not getattr(options, wanted):
+            raise Fault(f"--{name} goes with --{wanted.replace('_', '-')} (--help tells the usage)")
+    if options.mark and not (options.share or options.collect):
+        raise Fault("--mark goes with --share or --collect (--help tells the usage)")
+    if options.share and not options.results:
+        raise Fault("--share goes with --results (--help tells the usage)")
+    if options.cluster and (options.collect or any(getattr(options, mode) for mode in MODES)):
+        raise Fault("--cluster goes with runs (--help tells the usage)")
+    if options.price is not None and not 0 <= options.price <= PRICE_MOST:
+        raise Fault(f"--price is 0 to {PRICE_MOST:,}")
+    if options.window and not moment_of("--window", options.window):
+        raise Fault("--window is a time over 0")
+    if not 1 <= (options.jobs or 1) <= JOBS_MOST or options.jobs == 0:
+        raise Fault(f"--jobs is 1 to {JOBS_MOST}")
+    if options.shares is not None and not 1 <= options.shares <= SHARES_MOST:
+        raise Fault(f"--shares is 1 to {SHARES_MOST}")
+
+
+def check_runs(options: argparse.Namespace) -> None:
+    """Makes sure that what is decided over runs has runs to be decided over."""
+    if options.settling and os.path.splitext(options.settling)[1].lower() not in FORMATS:
+        raise Fault(f"{options.settling} ends in none of {', '.join(FORMATS)}")
+    for name in ("against", "until", "settling"):
+        if getattr(options, name) and not options.spread:
+            raise Fault(f"--{name} goes with --spread (--help tells the usage)")
+    if options.until and options.until != "decided" and not (PERCENT.fullmatch(options.until) and options.columns):
+        raise Fault("--until is decided, or a part as 5% of the means of --columns")
+    if options.least and not options.require:
+        raise Fault("--least goes with --require (--help tells the usage)")
+    if options.settling and options.least:
+        raise Fault("--settling goes with all runs of a variant, and not with --least")
+    if options.until and options.least:
+        raise Fault("--least goes on until each value is decided, and takes no --until")
+    if options.most is not None and not (options.most >= 1 and (options.until or options.least)):
+        raise Fault("--most is a number of runs from 1 on, and goes with --until or --least")
+
+
+def print_scenario(sweep: Sweep, output: str | None) -> None:
+    if len(sweep.settings) != 1:
+        raise Fault(f"--print-scenario prints one variant, and these are {len(sweep.settings):,}")
+    check_output(output)
+    write_text(output, sweep.text(sweep.settings.words(1)))
+
+
+def write_rows(table: Table, rows: Iterable[list[str]], options: argparse.Namespace) -> bool:
+    """Writes the rows, as CSV to standard output as they come; returns whether one of them reports a failure."""
+    place, has_failed, kept = table.header.index("failed"), False, []
+    is_stream = options.output is None and not options.table
+    if is_stream:
+        print_text(csv_text([table.header]))
+    for row in rows:
+        has_failed = has_failed or bool(row[place])
+        if is_stream:
+            print_text(csv_text([row]))
+        else:
+            kept.append(row)
+    if not is_stream:
+        text = table_text(table.header, kept) if options.table else csv_text([table.header, *kept])
+        write_text(options.output, text)
+    return has_failed
+
+
+def write_table(table: Table, settings: Settings, options: argparse.Namespace) -> bool:
+    """Writes rows that are all there, put together or compared with one another as is asked for; returns whether one of
+    them reports a failure."""
+    has_failed = any(row[len(table.settings)] for row in table.rows)
+    tied = settings.tied(options.spread)
+    if options.against:
+        table = against(table, tied, *base_of(options))
+    else:
+        table = folded(table, tied)
+    return write_rows(table, table.rows, options) or has_failed
+
+
+def has_other_scenario(options: argparse.Namespace) -> bool:
+    """Whether what is run is compared with another scenario, and not with one of its own variants."""
+    return bool(options.against) and "=" not in options.against
+
+
+def base_of(options: argparse.Namespace) -> tuple[str, str]:
+    """The column in which what is compared with has a word, and this word."""
+    if has_other_scenario(options):
+        return SCENARIO, options.against
+    setting, _, word = options.against.partition("=")
+    return setting, word
+
+
+def check_spread(settings: Settings, options: argparse.Namespace, requirements: Requirements) -> None:
+    """Makes sure that what is put together, and what is set against, is varied."""
+    if options.spread:
+        if not settings.tied(options.spread):
+            raise Fault(f"{options.spread} is not varied, so that nothing spreads over it")
+        check_library("scipy", "python3-scipy")
+        requirements.spread = settings.tied(options.spread)
+    elif requirements.in_share:
+        raise Fault(f"{requirements.in_share[0].text}: a share of runs goes with --spread")
+    if has_other_scenario(options):
+        if options.collect or options.until or options.least or options.against == options.scenario:
+            raise Fault(f"--against {shown(options.against)}: another scenario is run as often as this one, which goes "
+                        "with no --collect, --until or --least")
+    elif options.against:
+        setting, word = base_of(options)
+        if setting not in settings.values or setting in requirements.spread:
+            raise Fault(f"--against {shown(options.against)}: {shown(setting)} is no setting that is varied")
+        if word not in [value.strip('"') for value in settings.values[setting]]:
+            raise Fault(f"--against {shown(options.against)}: {shown(word)} is none of the values of {setting}")
+
+
+def finish(header: list[str], rows: Iterator[list[str]], settings: Settings, options: argparse.Namespace) -> bool:
+    """Writes the rows as they are asked for; returns whether one of them reports a failure."""
+    columns = columns_of(options.columns)
+    if options.spread:
+        return write_table(selected(Table(header, list(rows), columns_in(header)), columns), settings, options)
+    known = columns_in(header)
+    places = [*range(len(header) - len(known)), *(header.index(column, -len(known)) for column in columns)]
+    table = Table([header[place] for place in places], [], columns)
+    return write_rows(table, ([row[place] for place in places] for row in rows), options)
+
+
+def status_of(requirements: Requirements, is_interrupted: bool, has_failed: bool) -> int:
+    """The status of the tool, once all is written."""
+    if requirements.all:
+        requirements.tell()
+    if is_interrupted:
+        return 130
+    return 1 if has_failed or requirements.failed else 0
+
+
+def main_of_collect(options: argparse.Namespace, requirements: Requirements) -> int:
+    if extra_wanted(requirements, options).is_any:
+        raise Fault(f"shares and jobs have the columns of the report alone, and none of {', '.join(EXTRA_COLUMNS)}")
+    collection, head = collect(options.collect, options.mark)
+    settings = Settings(Given(kind, words) for kind, words in head.settings)
+    requirements.check_names(dict.fromkeys(row[len(head.settings) + 1] for row in collection.rows
+                                           if not row[len(head.settings)]))
+    check_spread(settings, options, requirements)
+    check_output(options.output)
+    rows = requirements.looked_at(collection.columns, collection.rows, {})
+    has_failed = finish(collection.columns, rows, settings, options)
+    return status_of(requirements, False, has_failed or bool(collection.left or collection.faults))
+
+
+def extra_wanted(requirements: Requirements, options: argparse.Namespace) -> Extra:
+    """What is asked for beside the report."""
+    columns = [*columns_of(options.columns), *(requirement.column for requirement in requirements.all)]
+    if COST in columns and options.price is None:
+        raise Fault(f"the column {COST} needs --price, what a million requests cost")
+    window = moment_of("--window", options.window)
+    return extra_of(columns, WINDOW if window is None else window, options.price)
+
+
+def check_window(sweep: Sweep) -> None:
+    """Makes sure that something is counted, unless the horizon is varied."""
+    first, horizon = sweep.window.first, sweep.scenario.get("horizon")
+    if first is not None and isinstance(horizon, int) and first > horizon and "horizon" not in sweep.settings.values:
+        raise Fault(f"--from {first} ms is after the horizon of {horizon} ms")
+
+
+def rows_of_all(sweep: Sweep, requirements: Requirements, options: argparse.Namespace) -> Iterator[list[str]]:
+    """The rows of all variants, each looked at as it comes."""
+    numbers, header = range(1, len(sweep.settings) + 1), sweep.header()
+    for _, outcome in sweep.outcomes(numbers, options.jobs, Told(len(numbers))):
+        yield from requirements.looked_at(header, outcome.rows, outcome.ages)
+
+
+def run_groups(groups: Groups, requirements: Requirements, options: argparse.Namespace) -> bool:
+    """Runs what is put together, as far as is asked for; whether what was to be reached has been."""
+    total = len(groups.sweep.settings)
+    most = min(max(map(len, groups.numbers.values())), options.most or total)
+    if options.least:
+        return least(groups, options.least.partition("=")[0], most, requirements)
+    if options.until:
+        part = PERCENT.fullmatch(options.until)
+        wanted = float(part[1]) / 100 if part else None
+        return until(groups, wanted, columns_of(options.columns), most, requirements)
+    groups.progress = Told(total)
+    groups.run(groups.numbers, 0, total, requirements)
+    return True
+
+
+def main_of_runs(sweep: Sweep, requirements: Requirements, options: argparse.Namespace) -> int:
+    requirements.check_names(names_of(sweep.scenario, "queue"))
+    sweep.needs_ages = requirements.are_open
+    sweep.extra = extra_wanted(requirements, options)
+    check_spread(sweep.settings, options, requirements)
+    check_output(options.output)
+    check_output(options.settling)
+    if options.settling:
+        check_library("matplotlib", "python3-matplotlib")
+    if not options.spread and not options.least:
+        has_failed = finish(sweep.header(), rows_of_all(sweep, requirements, options), sweep.settings, options)
+        return status_of(requirements, sweep.interrupted, has_failed)
+    if options.least:
+        name = options.least.partition("=")[0]
+        check_ascending(name, sweep.settings.values[name])
+    groups = Groups(sweep, requirements.spread, options.jobs)
+    other = Groups(sweep.of(options.against), requirements.spread, options.jobs) if has_other_scenario(options) \
+        else None
+    is_reached = run_groups(groups, requirements, options)
+    header, rows = sweep.header(), groups.all_rows()
+    if other and not sweep.interrupted:
+        run_groups(other, Requirements([]), options)
+        sweep.interrupted = other.sweep.interrupted
+        header = [SCENARIO, *header]
+        rows = [[path, *row] for path, of in ((options.scenario, rows), (options.against, other.all_rows()))
+                for row in of]
+    has_failed = finish(header, iter(rows), sweep.settings, options)
+    if options.least:
+        requirements.tell_variants()
+        return 130 if sweep.interrupted else 0 if is_reached else 1
+    if (sweep.window.first is None or options.settling) and not sweep.interrupted:
+        look_at_settling(groups, options.settling)
+    return status_of(requirements, sweep.interrupted, has_failed or not is_reached)
+
+
+def look_at_settling(groups: Groups, output: str | None) -> None:
+    """Prints from when on to count, if the runs have not settled by their beginning, and draws that if it is asked
+    for."""
+    looked = looked_at(groups)
+    if looked is None:
+        if output:
+            tell("--settling draws nothing: it needs five runs of one variant that end together and are not too long")
+        return
+    line = advise(looked)
+    if line is not None and groups.sweep.window.first is None:
+        tell(line)
+    if output:
+        write_bytes(output, bytes_of(picture_of(looked), FORMATS[os.path.splitext(output)[1].lower()]))
+
+
+def main(words: Sequence[str]) -> int:
+    options = options_of(words)
+    requirements = Requirements(options.require)
+    columns_of(options.columns)
+    if options.collect:
+        return main_of_collect(options, requirements)
+    searched = [Given("vary", options.least)] if options.least else []
+    window = Window(*window_of(options.first, options.last))
+    sweep = Sweep(options.scenario, Settings([*searched, *options.vary]), options.scripts, window)
+    check_window(sweep)
+    if options.print_scenario:
+        print_scenario(sweep, options.output)
+        return 0
+    if options.print_jobs:
+        sweep.program = named_program(options.program)
+        jobs = Jobs(options.print_jobs, options.shares, options.rest)
+        print_jobs(sweep, head_of(sweep, program_of(options.program)), jobs)
+        return 0
+    sweep.program = program_of(options.program)
+    cluster = cluster_of(sweep, options)
+    options.jobs = options.jobs or (cluster.jobs() if cluster else os.cpu_count() or 1)
+    if options.share:
+        head = head_of(sweep, sweep.program)
+        if options.mark not in (None, head.mark):
+            raise Fault(f"the scenario, its scripts, the settings and the program here are those of the sweep "
+                        f"{head.mark}, and not of {shown(options.mark)}")
+        return run_share(sweep, head, share_of(options.share), options.results, options.jobs)
+    try:
+        return main_of_runs(sweep, requirements, options)
+    finally:
+        if cluster:
+            cluster.close()
+
+
+def cluster_of(sweep: Sweep, options: argparse.Namespace) -> Cluster | None:
+    """The cluster that is asked for, on whose workers the sweep then runs."""
+    if not options.cluster:
+        return None
+    cluster = Cluster(options.cluster, sweep.program, scripts_of(sweep))
+    sweep.program, sweep.scripts = PROGRAM, SCRIPTS
+    sweep.engine, sweep.cancel = cluster.engine, cluster.cancel
+    return cluster

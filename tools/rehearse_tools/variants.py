@@ -1,0 +1,299 @@
+"""The variants of a scenario that a sweep runs, and how they are run. The tools import it; it is not a command."""
+import itertools
+import math
+import re
+import signal
+import subprocess
+import sys
+import threading
+import time
+from collections import deque
+from collections.abc import Callable, Iterable, Iterator, Mapping, Sequence
+from concurrent.futures import Future, ThreadPoolExecutor
+from contextlib import contextmanager
+from typing import Any, NamedTuple
+
+from .console import Fault, Progress, is_terminal, tool
+from .runs import ALL_COLUMNS, COLUMNS, Ages, Counting, Ended, Engine, Extra, Ran, Take, piped, run
+from .scenarios import Setting, scenario_at, varied, written
+
+VARIANTS_MOST = 1_000_000
+# How far lines of progress are apart in a file or pipe.
+SECONDS_APART = 10
+# How many runs are asked for ahead of the one whose turn it is.
+AHEAD = 256
+WORDS = re.compile(r'("[^"]*"|[^",]+)(?:,(?!$)|$)')
+RANGE = re.compile(r"(-?[0-9]+)\.\.(-?[0-9]+)(?:\.\.([1-9][0-9]*))?")
+
+
+def tell(line: str) -> None:
+    """Prints a line on standard error."""
+    Progress.clear()
+    print(f"{tool()}: {line}", file=sys.stderr)
+
+
+def values_of(text: str) -> list[str]:
+    """The words of a list of values, with ranges written out."""
+    words: list[str] = []
+    at = 0
+    while at < len(text):
+        match = WORDS.match(text, at)
+        if not match:
+            raise Fault(f"{text} is no list of values, as 2,5,10 or 1..20")
+        bounds = RANGE.fullmatch(match[1])
+        if bounds:
+            numbers = range(int(bounds[1]), int(bounds[2]) + 1, int(bounds[3] or 1))
+            if not 0 < len(numbers) <= VARIANTS_MOST:
+                raise Fault(f"{match[1]} has no values or over {VARIANTS_MOST}")
+            words += map(str, numbers)
+        else:
+            words.append(match[1])
+        at = match.end()
+    return words
+
+
+class Given(NamedTuple):
+    """A setting with its values as the command line has it: by --vary, or by --zip with the one before it."""
+    kind: str
+    words: str
+
+
+class Settings:
+    """What is varied: axes, of which all combinations are run, each of one setting or of several that go together.
+
+    Variants have numbers from 1 on; the last axis changes first.
+    """
+
+    def __init__(self, given: Iterable[Given]) -> None:
+        self.given = list(given)
+        self.values: dict[str, list[str]] = {}
+        self.axes: list[list[str]] = []
+        for kind, words in self.given:
+            self.add(kind, words)
+        if len(self) > VARIANTS_MOST:
+            raise Fault(f"over {VARIANTS_MOST} variants")
+
+    def add(self, kind: str, words: str) -> None:
+        path, equals, values = words.partition("=")
+        if not equals or not values:
+            raise Fault(f"{words} is no setting with values, as seed=1..20")
+        if path in self.values:
+            raise Fault(f"{path} is given twice")
+        self.values[path] = values_of(values)
+        if kind == "vary":
+            self.axes.append([path])
+            return
+        if not self.axes:
+            raise Fault(f"--zip {words} goes with the --vary before it, and there is none")
+        first = self.axes[-1][0]
+        if len(self.values[path]) != len(self.values[first]):
+            raise Fault(f"{path} has {len(self.values[path])} values, and {first}, with which it goes, has "
+                        f"{len(self.values[first])}")
+        self.axes[-1].append(path)
+
+    def __len__(self) -> int:
+        return math.prod(len(self.values[axis[0]]) for axis in self.axes)
+
+    def names(self) -> list[str]:
+        return list(self.values)
+
+    def tied(self, name: str) -> list[str]:
+        """The settings that go with one, including itself; none if it is not varied."""
+        return next((axis for axis in self.axes if name in axis), [])
+
+    def words(self, number: int) -> list[str]:
+        """The words of all settings in the variant of a number."""
+        rest, found = number - 1, {}
+        for axis in reversed(self.axes):
+            rest, place = divmod(rest, len(self.values[axis[0]]))
+            found.update({name: self.values[name][place] for name in axis})
+        return [found[name] for name in self.values]
+
+
+class Window(NamedTuple):
+    """What is counted of each run: from a moment in milliseconds to another, both included; None if nothing is cut at
+    that end."""
+    first: int | None = None
+    last: int | None = None
+
+
+class Outcome(NamedTuple):
+    """The rows of a variant: one for each queue, or one with the reason why it failed; and the ages of its messages by
+    queue, if the log was read. A variant is lost if the program was ended by a signal, which says nothing of the
+    variant: it must be run again."""
+    rows: list[list[str]]
+    ages: Mapping[str, Ages]
+    is_lost: bool = False
+
+    def is_failed(self, settings: int) -> bool:
+        return bool(self.rows[0][settings])
+
+
+def horizon_of(scenario: Mapping[str, Any]) -> int:
+    """The last moment of a run in milliseconds; 0 if the scenario gives none, which the program refuses."""
+    horizon = scenario.get("horizon")
+    return horizon if isinstance(horizon, int) else 0
+
+
+class Sweep:
+    """A scenario, the settings to vary, and how a variant is run.
+
+    `needs_ages` says of a report if the ages of the messages are wanted as well, for which the log is read. If `extra`
+    wants any columns beside those of the report, it is read for each run, and the rows have all such columns.
+    """
+
+    def __init__(self, path: str, settings: Settings, scripts: str, window: Window = Window()) -> None:
+        self.path, self.settings, self.scripts, self.program = path, settings, scripts, ""
+        self.window, self.extra = window, Extra()
+        self.needs_ages: Callable[[list[list[str]]], bool] = lambda _: False
+        self.engine: Engine = self.here
+        self.cancel: Callable[[], None] = lambda: None
+        self.scenario: dict[str, Any] = scenario_at(path)
+        self.places = [Setting(place) for place in settings.names()]
+        self.check_places()
+        self.interrupted, self.lock = False, threading.Lock()
+        self.running: set[subprocess.Popen[bytes]] = set()
+
+    def check_places(self) -> None:
+        """Makes sure that each setting names something, whatever the numbers of copies are."""
+        choices = [words if place.is_count else words[:1]
+                   for place, words in zip(self.places, self.settings.values.values())]
+        for words in itertools.product(*choices):
+            varied(self.scenario, dict(zip(self.places, words)))
+
+    def of(self, path: str) -> "Sweep":
+        """The same sweep of another scenario."""
+        other = Sweep(path, self.settings, self.scripts, self.window)
+        other.program, other.extra, other.cancel = self.program, self.extra, self.cancel
+        other.engine = other.here if self.engine == self.here else self.engine
+        return other
+
+    def header(self) -> list[str]:
+        return [*self.settings.names(), "failed", "queue", *self.columns()]
+
+    def columns(self) -> list[str]:
+        return ALL_COLUMNS if self.extra.is_any else COLUMNS
+
+    @contextmanager
+    def watched(self, process: "subprocess.Popen[bytes]") -> Iterator[None]:
+        """An interrupt kills the process while it is in here."""
+        with self.lock:
+            self.running.add(process)
+        if self.interrupted:
+            process.kill()
+        try:
+            yield
+        finally:
+            with self.lock:
+                self.running.remove(process)
+
+    def varied(self, words: Sequence[str]) -> dict[str, Any]:
+        """The scenario with all settings put to words, which ends with what is counted."""
+        scenario: dict[str, Any] = varied(self.scenario, dict(zip(self.places, words)))
+        if self.window.last is not None and isinstance(scenario.get("horizon"), int):
+            scenario["horizon"] = min(scenario["horizon"], self.window.last)
+        return scenario
+
+    def text(self, words: Sequence[str]) -> str:
+        """The scenario with all settings put to words."""
+        text: str = written(self.varied(words))
+        return text
+
+    def here(self, command: list[str], text: str, take: Take) -> Ended:
+        """Runs the program on this machine."""
+        return piped(command, text, take, self.watched)
+
+    def command(self) -> list[str]:
+        return [self.program, "run", "--scripts", self.scripts]
+
+    def run(self, words: Sequence[str], is_counted: bool) -> Ran:
+        """Runs the variant of some words, of which the log may be counted."""
+        scenario = self.varied(words)
+        counting = Counting(self.window.first or 0, horizon_of(scenario), self.extra)
+        return run(self.command(), written(scenario), counting if is_counted else None, self.engine)
+
+    def taken(self, scenarios: Sequence[dict[str, Any]], take: Take, jobs: int) -> list[Any]:
+        """What `take` makes of the output of each of some scenarios, all of which the program accepts."""
+        def taken_of(scenario: dict[str, Any]) -> Any:
+            return self.engine(self.command(), written(scenario), take).taken
+
+        with ThreadPoolExecutor(jobs) as pool:
+            return list(pool.map(taken_of, scenarios))
+
+    def outcome(self, number: int) -> Outcome:
+        """Runs the variant of a number."""
+        words = self.settings.words(number)
+        if self.interrupted:
+            return Outcome([], {}, True)
+        ran = self.run(words, self.extra.is_any or self.window.first is not None)
+        if ran.records is not None and not ran.ages and self.needs_ages(ran.records):
+            ran = self.run(words, True)
+        words = [word.strip('"') for word in words]
+        if ran.records is None:
+            reason = ran.told if ran.status >= 0 else f"ended by signal {-ran.status}"
+            return Outcome([[*words, reason, *[""] * (1 + len(self.columns()))]], {}, ran.status < 0)
+        return Outcome([[*words, "", *record] for record in ran.records], ran.ages)
+
+    def outcomes(self, numbers: Sequence[int], jobs: int, progress: "Told") -> Iterator[tuple[int, Outcome]]:
+        """The outcomes of variants in the order of their numbers, each as soon as those before it are there. They end
+        early if there is an interrupt."""
+        signal.signal(signal.SIGINT, self.interrupt)
+        signal.signal(signal.SIGTERM, self.interrupt)
+        pool = ThreadPoolExecutor(jobs)
+        waiting: deque[tuple[int, Future[Outcome]]] = deque()
+        rest = iter(numbers)
+        try:
+            while True:
+                for number in itertools.islice(rest, AHEAD + jobs - len(waiting)):
+                    waiting.append((number, pool.submit(self.outcome, number)))
+                if not waiting:
+                    return
+                number, future = waiting.popleft()
+                outcome = future.result()
+                if self.interrupted:
+                    tell(f"interrupted after {progress}")
+                    return
+                progress.look(outcome.is_failed(len(self.places)))
+                yield number, outcome
+        finally:
+            pool.shutdown(cancel_futures=True)
+
+    def interrupt(self, *_: object) -> None:
+        """Ends the runs that are under way, so that the rows before them can be written; a second one ends all."""
+        self.interrupted = True
+        signal.signal(signal.SIGINT, signal.default_int_handler)
+        signal.signal(signal.SIGTERM, signal.SIG_DFL)
+        for process in list(self.running):
+            process.kill()
+        self.cancel()
+
+
+class Told:
+    """Shows how many variants have been run: on a terminal in one line, of which only the last text stays. If it is not
+    known how many there will be, `total` is None."""
+
+    def __init__(self, total: int | None) -> None:
+        self.total, self.done, self.failed = total, 0, 0
+        self.at: float | None = None
+
+    def __str__(self) -> str:
+        return f"{self.done} variants" if self.total is None else f"{self.done} of {self.total} variants"
+
+    def look(self, is_failed: bool) -> None:
+        """Notes that one more variant has been run."""
+        self.done, self.failed = self.done + 1, self.failed + is_failed
+        apart = 1 if is_terminal(sys.stderr) else SECONDS_APART
+        if self.done == self.total:
+            self.tell()
+        elif self.at is None or time.monotonic() >= self.at + apart:
+            self.at = time.monotonic()
+            if is_terminal(sys.stderr):
+                Progress.show(self.line())
+            else:
+                self.tell()
+
+    def line(self) -> str:
+        return f"{self} run, {self.failed} failed"
+
+    def tell(self) -> None:
+        tell(self.line())
