@@ -8,6 +8,8 @@ if [ $# = 0 ]; then
   echo "usage: examples/sweeps/parallel.sh JOBS [HOSTS]" >&2
   exit 2
 fi
+# The shell of each job. Without this, parallel takes SHELL on a host; if that is not set, it runs nothing and reports 0.
+export PARALLEL_SHELL=${PARALLEL_SHELL:-/bin/sh}
 if [ $# = 1 ]; then exec parallel --retries 3 < "$1"; fi
 # ssh gives up a host that hangs after 45 seconds, and parallel then gives its jobs to others
 export PARALLEL_SSH=${PARALLEL_SSH:-ssh -o ServerAliveInterval=15 -o ServerAliveCountMax=3 -o ConnectTimeout=15}

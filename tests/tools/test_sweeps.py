@@ -86,12 +86,15 @@ class Sweeps(ToolCase):
         self.assert_collected()
 
     def run_on_hosts(self, *hosts):
-        """Runs parallel.sh with a stand-in for ssh that runs all here, and returns its status and its errors."""
+        """Runs parallel.sh with a stand-in for ssh that runs all here, and returns its status and its errors.
+
+        SHELL is not set, as in many containers."""
         self.write("hosts", "".join(f"{host}\n" for host in hosts))
         os.chmod(self.write("ssh", SSH), 0o755)
+        environment = {**os.environ, "PARALLEL_SSH": self.path("ssh"), "CALLS": self.path("calls")}
+        environment.pop("SHELL", None)
         ran = subprocess.run([f"{FILES}/parallel.sh", "jobs", "hosts"], cwd=self.folder, stdin=subprocess.DEVNULL,
-                             capture_output=True, text=True, env={
-                                 **os.environ, "PARALLEL_SSH": self.path("ssh"), "CALLS": self.path("calls")})
+                             capture_output=True, text=True, env=environment)
         return ran.returncode, ran.stderr
 
     @unittest.skipUnless(shutil.which("parallel"), "GNU parallel is not here")
