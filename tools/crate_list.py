@@ -9,8 +9,9 @@ def read(path: str) -> dict[str, list[str]]:
     named = {}
     with open(path, encoding="utf-8") as lines:
         for line in lines:
+            # a static library has the word for that behind its name
             name, _, below = line.partition(":")
-            named[name.strip()] = below.split()
+            named["".join(name.split()[:1])] = below.split()
     return {name: [one for one in below if one in named] for name, below in named.items()}
 
 

@@ -4,6 +4,7 @@ pub mod Outcomes
 pub mod Writers
 pub mod Logs
 pub mod Rehearsals
+pub mod FaultLines
 pub mod Left
 pub mod Limited
 pub mod LimitLaws

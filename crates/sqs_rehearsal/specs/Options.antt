@@ -14,6 +14,10 @@ pub record Options : Type 0 where
   pub map : Option (List ℕ)
   pub workers : ℕ
 
+-- those of a run on one list
+abbrev pub unsplit : Options
+unsplit = record { window = None; parts = None; map = None; workers = 1 }
+
 -- one more than the greatest of some partitions; none for an empty list
 abbrev pub partitions_in : List ℕ → ℕ
 partitions_in ps = fold (λ n p. max n (p + 1)) 0 ps

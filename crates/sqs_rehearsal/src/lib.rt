@@ -2,7 +2,9 @@
 //! final queues and the report. Also the world of sites with which a scenario opens, and its runs.
 #![tactic(auto)]
 
+mod alone;
 mod counter;
+mod fault_lines;
 mod finals;
 mod limited;
 mod logging;
@@ -14,7 +16,9 @@ mod rehearsal;
 mod running;
 mod watch;
 
+pub use alone::rehearse_alone;
 pub use counter::Counter;
+pub use fault_lines::{fault_line, scenario_line};
 pub use finals::finals_of;
 pub use opening::open_world;
 pub use options::{Options, Split};

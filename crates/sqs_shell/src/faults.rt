@@ -1,14 +1,12 @@
 //! What stops the program: a line on standard error, and the status that it ends with.
-ghost use Rattle.std.specs.Prelude.{◌≡◌, ◌++◌, IfOk, codes};
-ghost use Rattle.sqs_formats.specs.Output.{at_place, fault_line as the_fault_line};
+ghost use Rattle.std.specs.Prelude.{◌≡◌};
 ghost use Rattle.std.specs.IoError.{error_kind};
 ghost use Rattle.std.specs.Process.{exit_status};
 ghost use Rattle.sqs_shell.specs.Statuses.{fault_status, status_of, stop_status, write_refusal};
 
 use sim_clock::Refusal;
 use sim_scenario::ReadError;
-use sqs_formats::ScenarioFault;
-use sqs_rehearsal::Fault;
+use sqs_rehearsal::{Fault, scenario_line};
 use std::alloc::{AllocError, AllocFailed, Global};
 use std::io::{self, ErrorKind, Write};
 use std::process::ExitCode;
@@ -85,32 +83,6 @@ impl<'a> From<ReadError> for Stop<'a> {
     }
 }
 
-// A fault's place as it follows the fault's name, if it has one.
-fn at_place(alloc: Global, place: &[u8]) -> Result<Vec<u8>, AllocError>
-    ensures { IfOk result (λ v. v.items ≡ at_place place.now) }
-{
-    let mut text = Vec::new(alloc);
-    if !place.is_empty() {
-        text.extend_from_slice(b" at ")?;
-        text.extend_from_slice(place)?;
-    }
-    Ok(text)
-}
-
-// The line of a scenario's fault, for example `refused 14 OutOfRange at queue[0].delay_s`.
-fn fault_line(alloc: Global, fault: &ScenarioFault) -> Result<Vec<u8>, AllocError>
-    ensures { IfOk result (λ v. v.items ≡ the_fault_line fault.now) }
-{
-    let code = fault.refusal.code();
-    let name = fault.refusal.name();
-    let front = format!(in alloc; "refused {code} {name}")?;
-    let mut text = front.into_bytes();
-    let place = at_place(alloc, fault.place.as_bytes())?;
-    text.extend_from_slice(place.as_slice())?;
-    text.extend_from_slice(b"\n")?;
-    Ok(text)
-}
-
 // The status of an error: 1 for a scenario, 4 for a writer that failed, 3 for a run.
 fn status(refusal: Refusal) -> u8
     ensures { result ≡ status_of refusal }
@@ -143,7 +115,7 @@ fn tell_fault(rt: &HostRuntime, fault: Fault) -> ExitCode
 {
     match fault {
         Fault::Scenario(fault) => {
-            if let Ok(line) = fault_line(rt.alloc(), &fault) {
+            if let Ok(line) = scenario_line(rt.alloc(), &fault) {
                 let _ = rt.stderr().write_all(line.as_slice());
             }
             ExitCode::from(1)

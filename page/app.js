@@ -1,0 +1,279 @@
+// The page: puts the parts together. DATA, which tools/page writes, has the examples, the keys and the versions.
+
+// So long the page waits after a change before it runs again what took long.
+const PAUSE = 350;
+// A run that takes longer than this is reported with its seconds, and is broken off by a change.
+const LONG = 500;
+// The log and the link follow so long after the pictures, so that a slider moves them alone.
+const SETTLED = 100;
+
+const EXAMPLES = DATA.examples;
+let sides = [], active = null, timer = null, settling = null, linked = 0;
+
+const editor = new Editor(text => edited(text, 'typed'));
+const numbers = new NumberPanel(changeNumber);
+const pictures = new Pictures(() => {});
+const log = new LogView();
+
+// A change of the text of the variant that is edited: it runs at once if the last run was quick.
+function edited(text, how) {
+  active.text = text;
+  if (how !== 'slid') numbers.show(new Scenario(text), false);
+  tellDifference();
+  if (!byId('live').checked) {
+    setText(byId('status'), 'The text has changed: Run shows what comes out.');
+    return;
+  }
+  clearTimeout(timer);
+  const side = active, wasQuick = !side.isRunning && (side.result?.took ?? 0) + (side.result?.read ?? 0) < LONG;
+  timer = setTimeout(() => side.run(), wasQuick ? (how === 'typed' ? 150 : 0) : PAUSE);
+}
+
+// A slider has been moved. Of a pair of bounds the other one goes along, so that the first is not above the second.
+function changeNumber(place, node, value) {
+  editor.replace(node.from, node.to, String(value));
+  const pair = /_min_ms$/.test(place) ? place.replace(/_min_ms$/, '_max_ms') : place.replace(/_max_ms$/, '_min_ms');
+  if (pair !== place) {
+    const other = nodeAt(new Scenario(editor.text), pair), isLow = place.endsWith('_min_ms');
+    if (other && (isLow ? Number(other.value) < value : Number(other.value) > value)) {
+      editor.replace(other.from, other.to, String(value));
+    }
+  }
+  numbers.show(new Scenario(editor.text), false);
+  edited(editor.text, 'slid');
+}
+
+function nodeAt(scenario, place) {
+  const match = PLACE.exec(place);
+  const table = match ? scenario.items(match[1])[Number(match[2])] : scenario.top;
+  return table?.value.get(match ? match[3] : place);
+}
+
+// Each number, text and word of a scenario by its place, for what differs between two.
+function placesIn(text) {
+  const scenario = new Scenario(text), found = new Map();
+  const take = (table, title) => {
+    for (const [key, node] of table.value) {
+      if (!['table', 'list'].includes(node.type)) found.set(`${key}${title}`, String(node.value));
+    }
+  };
+  take(scenario.top, '');
+  for (const of of ['queue', 'actor', 'task']) {
+    scenario.items(of).forEach((item, i) => {
+      if (item.type === 'table') take(item, ` of ${said(item, 'name') ?? `${of} ${i + 1}`}`);
+    });
+  }
+  return found;
+}
+
+function tellDifference() {
+  if (sides.length < 2) {
+    setText(byId('difference'), '');
+    return;
+  }
+  const [before, after] = sides.map(side => placesIn(side.text)), changes = [];
+  for (const key of new Set([...before.keys(), ...after.keys()])) {
+    const [a, b] = [before, after].map(found => found.get(key)?.slice(0, 40) ?? 'none');
+    if (before.get(key) !== after.get(key)) changes.push(`${key}: ${a} → ${b}`);
+  }
+  setText(byId('difference'), changes.length === 0 ? 'A and B are the same so far.'
+    : `From A to B: ${changes.slice(0, 5).join('; ')}${changes.length > 5 ? `; and ${changes.length - 5} more` : ''}.`);
+}
+
+// What is shown as a run begins or ends.
+function changed(side) {
+  byId('stop').disabled = !sides.some(it => it.isRunning);
+  if (side.isRunning) {
+    tickWhileRunning();
+    return;
+  }
+  if (side === active) showFault();
+  if (sides.some(it => it.isRunning)) return;
+  showAll();
+}
+
+function tickWhileRunning() {
+  const running = sides.find(side => side.isRunning);
+  if (!running) return;
+  const seconds = (performance.now() - running.began) / 1000;
+  if (seconds * 1000 > LONG) {
+    setText(byId('status'), `Running for ${Math.floor(seconds)} s. Stop, or the key Escape, ends it.`);
+  }
+  setTimeout(tickWhileRunning, seconds < 1 ? 100 : 500);
+}
+
+// Shows why the variant that is edited was refused, and marks the place in its text.
+function showFault() {
+  const box = byId('fault'), isRefused = active.result && active.result.code !== 0 && active.ran === active.text;
+  box.hidden = !isRefused;
+  if (!isRefused) {
+    editor.markFault(null);
+    return;
+  }
+  const fault = new Fault(active.text, active.result.line), { place } = fault;
+  editor.markFault(place);
+  const parts = [element('strong', { textContent: fault.reason }),
+    element('code', { textContent: active.result.line })];
+  if (place) {
+    const [line] = fault.scenario.lineAndColumn(place[0]);
+    parts.push(element('button', { type: 'button', textContent: `Go to line ${line}`,
+      onclick: () => editor.goTo(...place) }));
+  }
+  box.replaceChildren(...parts);
+}
+
+async function showAll() {
+  const done = sides.filter(side => side.isDone), refused = sides.filter(side => !side.isDone);
+  const isCurrent = refused.length === 0;
+  byId('results').classList.toggle('stale', !isCurrent);
+  setText(byId('status'), statusOf(refused));
+  if (!isCurrent) return;
+  const loss = lossOf(done);
+  byId('loss').hidden = !loss;
+  setText(byId('loss'), loss && loss[0].toUpperCase() + loss.slice(1));
+  byId('results').hidden = false;
+  clearTimeout(settling);
+  showTables(done);
+  await pictures.show(done);
+  settling = setTimeout(settle, SETTLED);
+}
+
+// Shows the log and the link to what came out, if nothing else runs by then.
+async function settle() {
+  if (!sides.every(side => side.isDone && !side.isRunning)) return;
+  showLog();
+  await showLink();
+  document.body.dataset.shown = String(Number(document.body.dataset.shown ?? 0) + 1);
+}
+
+function statusOf(refused) {
+  if (refused.length) {
+    const side = refused[0], name = sides.length > 1 ? `${side.name}: ` : '';
+    if (side.error) return `${name}${side.error}`;
+    return side.result ? `${name}The scenario is refused; below is what came out before.` : '';
+  }
+  return sides.map(({ name, result }) => `${sides.length > 1 ? `${name}: ` : ''}`
+    + `${several(result.starts.length, 'row')}, the last at ${duration(result.last ?? 0)}, in `
+    + `${fixed(result.took / 1000, 3)} s`).join('; ');
+}
+
+function showLog() {
+  const choice = byId('log-side');
+  choice.parentElement.hidden = sides.length < 2;
+  choice.replaceChildren(...sides.map(({ name }) => element('option', { value: name, textContent: name,
+    selected: name === log.side?.name })));
+  log.show(sides.find(({ name }) => name === choice.value) ?? sides[0]);
+}
+
+// Puts the link to the scenarios into the address of the page.
+async function showLink() {
+  const link = await linkOf(sides.map(side => side.text)), status = byId('link-status');
+  byId('copy').disabled = !link;
+  if (!link) setText(status, 'The scenario is too long for a link: save it as a file.');
+  else setText(status, '');
+  try {
+    history.replaceState(null, '', link ?? '#');
+  } catch {
+    linked++;
+    location.hash = link ?? '';
+  }
+}
+
+async function copyLink() {
+  await showLink();
+  const field = byId('link');
+  field.value = location.href;
+  try {
+    await navigator.clipboard.writeText(location.href);
+    setText(byId('link-status'), `Copied: a link of ${grouped(location.href.length)} letters, which holds the scenario.`);
+  } catch {
+    field.hidden = false;
+    field.focus();
+    field.select();
+    setText(byId('link-status'), 'Copy the link from the field.');
+  }
+}
+
+// Opens texts, as variant A or as A and B.
+function open(texts) {
+  for (const side of sides) side.stop('');
+  sides = texts.map((text, i) => Object.assign(new Side('AB'[i], changed), { text }));
+  edit(sides.at(-1));
+  pictures.zoom = null;
+  for (const side of sides) side.run();
+}
+
+// Shows a variant in the editor.
+function edit(side) {
+  active = side;
+  editor.open(side.text);
+  numbers.show(new Scenario(side.text), true);
+  byId('variants').hidden = sides.length < 2;
+  byId('compare').hidden = sides.length > 1;
+  for (const it of document.querySelectorAll('[name=variant]')) it.checked = it.value === side.name;
+  tellDifference();
+  if (side.result) showFault();
+}
+
+function compare() {
+  const copy = Object.assign(new Side('B', changed), { text: active.text });
+  sides = [sides[0], copy];
+  edit(copy);
+  copy.run();
+}
+
+// Keeps one of two variants, as A.
+function keep(name) {
+  const kept = sides.find(side => side.name === name);
+  for (const side of sides) if (side !== kept) side.stop('');
+  kept.name = 'A';
+  sides = [kept];
+  edit(kept);
+  if (kept.isDone) showAll();
+  else kept.run();
+}
+
+async function start() {
+  const groups = new Map();
+  for (const [i, { folder, title }] of EXAMPLES.entries()) {
+    if (!groups.has(folder)) groups.set(folder, element('optgroup', { label: folder || 'to begin with' }));
+    groups.get(folder).append(element('option', { value: i, textContent: title }));
+  }
+  byId('example').append(...groups.values());
+  const texts = await textsOf(location.hash);
+  const first = EXAMPLES.findIndex(({ name }) => name === DATA.first);
+  byId('example').value = String(first);
+  open(texts ?? [EXAMPLES[first].text]);
+}
+
+byId('open').onclick = () => open([EXAMPLES[byId('example').value].text]);
+byId('file').onchange = async ({ target }) => {
+  if (target.files[0]) open([await target.files[0].text()]);
+  target.value = '';
+};
+byId('run').onclick = () => { for (const side of sides) side.run(); };
+byId('stop').onclick = () => { for (const side of sides) if (side.isRunning) side.stop('The run was stopped.'); };
+byId('save').onclick = () => saveAs('scenario.toml', [active.text], 'text/plain');
+byId('copy').onclick = copyLink;
+byId('compare').onclick = compare;
+byId('keep-a').onclick = () => keep('A');
+byId('keep-b').onclick = () => keep('B');
+byId('log-side').onchange = () => log.show(sides.find(({ name }) => name === byId('log-side').value));
+byId('log-here').onclick = () => {
+  log.goTo(pictures.moment);
+  byId('log').focus();
+};
+for (const it of document.querySelectorAll('[name=variant]')) {
+  it.onchange = () => edit(sides.find(({ name }) => name === it.value));
+}
+document.addEventListener('keydown', event => {
+  if (event.key === 'Enter' && (event.ctrlKey || event.metaKey)) byId('run').click();
+  if (event.key === 'Escape' && !byId('stop').disabled) byId('stop').click();
+});
+window.addEventListener('hashchange', async () => {
+  if (linked-- > 0) return;
+  linked = 0;
+  const texts = await textsOf(location.hash);
+  if (texts) open(texts);
+});
+start();

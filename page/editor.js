@@ -1,0 +1,167 @@
+// The text to edit, with its lines' numbers, colours, the marked fault, and help on the key where one types. The page
+// has this file. Below the text area, whose letters are clear, lies the same text in colours.
+
+// Longer texts have no colours, no help and no sliders.
+const COLOURED_MOST = 200000;
+const TOKEN_FORMS = [/"""[^]*?"""|'''[^]*?'''|"(?:[^"\\\n]|\\.)*"|'[^'\n]*'/, /#[^\n]*/, /^[ \t]*\[\[?[^\]\n]*\]\]?/,
+  /^[ \t]*[\w-]+(?=[ \t]*=)/];
+const TOKENS = new RegExp(TOKEN_FORMS.map(({ source }) => `(${source})`).join('|'), 'gm');
+const TOKEN_NAMES = ['text', 'comment', 'header', 'key'];
+const HEADER = /^\s*\[\[?\s*(queue|actor|task)\s*\]\]?/;
+
+class Editor {
+  // `changed` is called with the text as it changes.
+  constructor(changed) {
+    this.area = byId('text');
+    this.colours = byId('colours');
+    this.lines = byId('lines');
+    this.mark = null;
+    this.area.addEventListener('input', () => {
+      this.mark = null;
+      this.draw();
+      changed(this.text);
+    });
+    this.area.addEventListener('scroll', () => this.follow());
+    document.addEventListener('selectionchange', () => {
+      if (document.activeElement === this.area) this.help();
+    });
+    this.area.addEventListener('focus', () => this.help());
+    this.changed = changed;
+  }
+
+  get text() {
+    return this.area.value;
+  }
+
+  get isShort() {
+    return this.text.length <= COLOURED_MOST;
+  }
+
+  // Puts another text in the place of all.
+  open(text) {
+    this.area.value = text;
+    this.area.setSelectionRange(0, 0);
+    this.area.scrollTop = this.area.scrollLeft = 0;
+    this.mark = null;
+    this.draw();
+    this.help();
+  }
+
+  replace(from, to, text) {
+    this.area.setRangeText(text, from, to, 'preserve');
+    this.mark = null;
+    this.draw();
+  }
+
+  // Marks a part of the text as faulty; null marks nothing.
+  markFault(place) {
+    this.mark = place;
+    this.area.setAttribute('aria-invalid', String(place !== null));
+    this.draw();
+  }
+
+  goTo(from, to) {
+    this.area.focus();
+    this.area.setSelectionRange(from, to);
+    const height = parseFloat(getComputedStyle(this.area).lineHeight);
+    this.area.scrollTop = Math.max(0, (this.lineOf(from) - 4) * height);
+    this.follow();
+  }
+
+  follow() {
+    const { scrollTop, scrollLeft } = this.area;
+    this.colours.style.transform = `translate(${-scrollLeft}px, ${-scrollTop}px)`;
+    this.lines.style.transform = `translateY(${-scrollTop}px)`;
+  }
+
+  draw() {
+    const { text, mark } = this, count = text.split('\n').length;
+    this.area.classList.toggle('plain', !this.isShort);
+    if (!this.isShort) {
+      this.colours.replaceChildren();
+      this.lines.textContent = '';
+      return;
+    }
+    const fault = mark ? this.lineOf(mark[0]) : 0;
+    this.lines.replaceChildren(...Array.from({ length: count }, (_, i) =>
+      element('span', { className: i + 1 === fault ? 'fault' : '', textContent: `${i + 1}\n` })));
+    const end = mark ? Math.max(mark[1], mark[0] + 1) : 0;
+    const parts = mark ? [...this.coloured(text.slice(0, mark[0])),
+      element('mark', {}, ...this.coloured(text.slice(mark[0], end) || ' ')), ...this.coloured(text.slice(end))]
+      : this.coloured(text);
+    this.colours.replaceChildren(...parts, '\n');
+  }
+
+  lineOf(at) {
+    return this.text.slice(0, at).split('\n').length;
+  }
+
+  coloured(text) {
+    const parts = [];
+    let last = 0;
+    for (const match of text.matchAll(TOKENS)) {
+      const name = TOKEN_NAMES[match.slice(1).findIndex(group => group !== undefined)];
+      parts.push(text.slice(last, match.index), element('span', { className: `token-${name}`, textContent: match[0] }));
+      last = match.index + match[0].length;
+    }
+    parts.push(text.slice(last));
+    return parts;
+  }
+
+  // The table in which the cursor is: its kind as KEYS has it, and the keys that it has.
+  tableAtCursor() {
+    const lines = this.text.split('\n'), at = this.lineOf(this.area.selectionStart) - 1;
+    let first = at, last = at + 1;
+    while (first >= 0 && !HEADER.test(lines[first])) first--;
+    while (last < lines.length && !HEADER.test(lines[last])) last++;
+    const block = lines.slice(Math.max(0, first), last), of = first >= 0 ? HEADER.exec(lines[first])[1] : '';
+    const kinds = /^\s*kind\s*=\s*["'](script|producer|consumer)["']/m;
+    const kind = of === 'actor' ? kinds.exec(block.join('\n'))?.[1] ?? '' : '';
+    const version = /^\s*version\s*=\s*2\b/m.test(this.text) ? 2 : 1;
+    const there = block.map(line => /^\s*([\w-]+)\s*=/.exec(line)?.[1]).filter(it => it);
+    return { keys: KEYS[`${of}/${kind}/${version}`], what: kind || of || 'scenario', there, line: lines[at] };
+  }
+
+  // Shows what the key at the cursor means; on a line without one, the keys that may begin as it does.
+  help() {
+    const help = byId('help');
+    if (!this.isShort) {
+      help.replaceChildren('This text is long, so it has no colours and no sliders.');
+      return;
+    }
+    const { keys, what, there, line } = this.tableAtCursor(), word = /^\s*([\w-]*)/.exec(line)[1];
+    const found = line.includes('=') && keys.find(key => key.name === word);
+    const state = found ? `${what} ${word}` : `${what} ${word} ${there.join()} ${line.includes('=')}`;
+    if (help.dataset.state === state) return;
+    help.dataset.state = state;
+    help.replaceChildren(...(found ? this.aboutKey(found) : this.keysToAdd(keys, what, there, word)));
+  }
+
+  aboutKey(key) {
+    return [element('code', { textContent: key.name }), ` ${key.about}${rangeText(key)}`];
+  }
+
+  keysToAdd(keys, what, there, word) {
+    const open = keys.filter(key => key.kind !== TABLES && !there.includes(key.name) && key.name.startsWith(word));
+    if (!open.length) return [`Keys of a ${what}: ${keys.map(key => key.name).join(', ')}.`];
+    const buttons = open.map(key => element('button', { type: 'button', textContent: key.name,
+      title: `${key.about}${rangeText(key)}`, onclick: () => this.addKey(key) }));
+    return [`Keys that this ${what} may still have: `, ...buttons];
+  }
+
+  // Writes a key with a value on the line of the cursor, or on one below it.
+  addKey(key) {
+    const { area } = this, from = area.value.lastIndexOf('\n', area.selectionStart - 1) + 1;
+    const end = area.value.indexOf('\n', area.selectionStart), to = end < 0 ? area.value.length : end;
+    const isOver = area.value.slice(from, to).includes('=') || HEADER.test(area.value.slice(from, to));
+    const first = key.default !== null && key.default !== REQUIRED ? key.default : key.low ?? '';
+    const value = key.kind === NUMBER || key.kind === 'true or false' ? String(first).toLowerCase() : `"${first}"`;
+    const text = `${key.name} = ${value}`;
+    this.replace(isOver ? to : from, to, isOver ? `\n${text}` : text);
+    const start = (isOver ? to + 1 : from) + key.name.length + 3;
+    area.focus();
+    area.setSelectionRange(start, start + value.length);
+    this.changed(this.text);
+    this.help();
+  }
+}

@@ -1,0 +1,139 @@
+// The rows of a log, read from its bytes. The worker has this file.
+//
+// A row is given on as numbers: its time, its head (queue, agent, call and answer), the number of its message, its
+// receipt as one number, where its detail begins, and where it ends. -1 stands for none.
+
+const COMMA = 44, DASH = 45, ZERO = 48, NINE = 57, QUOTE = 34, LINE_END = 10;
+const REFUSALS = ['OverLimit', 'MessageNotInflight', 'ReceiptHandleIsInvalid', 'BadTimeout', 'MissingGroup',
+  'MissingDeduplication', 'BadDelay', 'TaskRunning', 'NoTask'];
+// A receipt is one number: that of the message times this, and the number of its receive.
+const RECEIVES = 2 ** 21;
+
+// Numbers of one kind that grow as they are added to.
+class Numbers {
+  constructor(kind) {
+    this.items = new kind(64);
+    this.length = 0;
+  }
+
+  push(number) {
+    if (this.length === this.items.length) {
+      const longer = new this.items.constructor(2 * this.length);
+      longer.set(this.items);
+      this.items = longer;
+    }
+    this.items[this.length++] = number;
+  }
+
+  get whole() {
+    return this.items.subarray(0, this.length);
+  }
+}
+
+const isDigit = byte => byte >= ZERO && byte <= NINE;
+
+// The fields of a line without quotes in it.
+const fieldsOf = line => line.split(',');
+
+// Where the line that begins at a place ends, its line feed counted.
+const afterLine = (bytes, at) => {
+  const end = bytes.indexOf(LINE_END, at);
+  return end < 0 ? bytes.length : end + 1;
+};
+
+// Where the text after a field and its comma begins. A field may be in quotes.
+function afterField(bytes, from) {
+  if (bytes[from] === QUOTE) {
+    let end = from + 1;
+    while (bytes[end] !== QUOTE || bytes[end + 1] === QUOTE) end += bytes[end] === QUOTE ? 2 : 1;
+    return end + 2;
+  }
+  let end = from;
+  while (bytes[end] !== COMMA) end++;
+  return end + 1;
+}
+
+// The heads of rows, each once: a row has the bytes of one that was there before, as nearly all have.
+class Heads {
+  constructor(bytes, made) {
+    this.bytes = bytes;
+    this.made = made;
+    this.byHash = new Map();
+  }
+
+  at(from, to, hash) {
+    let heads = this.byHash.get(hash);
+    if (!heads) this.byHash.set(hash, heads = []);
+    for (const head of heads) if (this.isSame(head, from, to)) return head;
+    const [queue, agent, call, answer] = fieldsOf(textOf(this.bytes, from, to - 1));
+    const head = { ...this.made(queue, agent, call, answer), from, length: to - from, rows: 0 };
+    heads.push(head);
+    return head;
+  }
+
+  isSame(head, from, to) {
+    if (head.length !== to - from) return false;
+    for (let i = 0; i < head.length; i++) if (this.bytes[head.from + i] !== this.bytes[from + i]) return false;
+    return true;
+  }
+
+  get all() {
+    return [...this.byHash.values()].flat();
+  }
+}
+
+// Reads the rows of a log and gives each to the function of its head. `made` makes a head of four texts, whose `take`
+// is called with a row. Gives where each row begins, where the log ends, the heads, and the last time.
+function readRows(bytes, made) {
+  const heads = new Heads(bytes, made), starts = new Numbers(Uint32Array);
+  let at = afterLine(bytes, 0), time = 0;
+  // the last number that was read, and where the text after it begins
+  let number = 0, next = 0;
+  const readNumber = from => {
+    number = 0;
+    for (next = from; isDigit(bytes[next]); next++) number = number * 10 + bytes[next] - ZERO;
+    return next > from && (next === from + 1 || bytes[from] !== ZERO);
+  };
+  // the number of a message `m-Q-N`; its queue is that of the row
+  const messageAt = from => readNumber(from + 2) && readNumber(next + 1) ? number : -1;
+  // a receipt `r-Q-N-C` of the queue of the row, whose number in the scenario is `queue`, as one number
+  const receiptAt = (from, queue) => {
+    if (bytes[from] !== 114 || bytes[from + 1] !== DASH || !readNumber(from + 2) || number !== queue
+      || bytes[next] !== DASH || !readNumber(next + 1) || bytes[next] !== DASH) return -1;
+    const message = number;
+    return readNumber(next + 1) && bytes[next] === COMMA ? message * RECEIVES + number : -1;
+  };
+  while (at < bytes.length && isDigit(bytes[at])) {
+    starts.push(at);
+    time = 0;
+    while (bytes[at] !== COMMA) time = time * 10 + bytes[at++] - ZERO;
+    const from = ++at;
+    let hash = 0;
+    for (let commas = 0; commas < 4; at++) {
+      const byte = bytes[at];
+      hash = Math.imul(hash, 31) + byte | 0;
+      if (byte === COMMA) commas++;
+    }
+    const head = heads.at(from, at, hash), message = bytes[at] === COMMA ? -1 : messageAt(at);
+    const receiptFrom = message < 0 ? at + 1 : next + 1;
+    const receipt = receiptAt(receiptFrom, head.number), detail = afterField(bytes, receiptFrom);
+    at = detail;
+    while (bytes[at] !== LINE_END) at++;
+    head.rows++;
+    head.take(time, head, message, receipt, detail, at);
+    at++;
+  }
+  return { starts: starts.whole, end: at, heads: heads.all, last: starts.length ? time : null };
+}
+
+// The records after a log whose first field is a word, as `report`, their header first; each is its fields.
+function recordsOf(bytes, from, word) {
+  const records = [];
+  const sign = new TextEncoder().encode(`${word},`);
+  for (let at = from; at < bytes.length; at = afterLine(bytes, at)) {
+    if (sign.every((byte, i) => bytes[at + i] === byte)) {
+      records.push(fieldsOf(textOf(bytes, at, afterLine(bytes, at) - 1)));
+    }
+  }
+  return records;
+}

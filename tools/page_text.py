@@ -1,0 +1,111 @@
+"""The text of the page: the files of page/ in one, with the module, the examples and the help on each key. tools/page
+imports it; it is not a command."""
+import base64
+import binascii
+import gzip
+import hashlib
+import json
+import os
+import re
+from typing import Any
+
+import release
+from rehearse_tools.console import Fault, read_text
+from rehearse_tools.keys import ACTORS, Key, keys_of
+from rehearse_tools.programs import TOP
+
+PARTS = os.path.join(TOP, "page")
+# The scripts of the worker and of the page, in the order in which they need one another.
+WORKER = ("units", "log", "queue", "run", "overtime", "worker")
+PAGE = ("units", "dom", "scenario", "faults", "side", "link", "editor", "numbers", "pictures", "tables", "log_view",
+        "app")
+FIRST = "dead_letters.toml"
+MODULE = re.compile(rb'<script type="text/plain" id="module">([A-Za-z0-9+/=]*)</script>')
+MARK = re.compile("@([A-Z]+)@")
+# What the page may do: its own script and style, compiled code, and a worker of its own text. Nothing is loaded.
+POLICY = ("default-src 'none'; script-src 'sha256-{script}' 'wasm-unsafe-eval'; worker-src blob:; "
+          "style-src 'sha256-{style}'; img-src data:; base-uri 'none'; form-action 'none'")
+SCHEMA_OF = {"": "", "queue": "queue", "task": "task", "script": "script", "producer": "producer",
+             "consumer": "consumer"}
+
+
+def module_in(path: str, page: bytes) -> bytes:
+    """The module that a page has."""
+    found = MODULE.search(page)
+    if not found:
+        raise Fault(f"{path} is no module of WebAssembly, and no page with one")
+    try:
+        return gzip.decompress(base64.b64decode(found[1]))
+    except (binascii.Error, OSError, EOFError):
+        raise Fault(f"{path} is a page whose module cannot be unpacked") from None
+
+
+def examples() -> list[dict[str, str]]:
+    """The scenarios in examples/, each with its folder, its title and its text."""
+    found = []
+    for place, folders, names in os.walk(os.path.join(TOP, "examples")):
+        folders.sort()
+        folder = os.path.relpath(place, os.path.join(TOP, "examples"))
+        for name in sorted(name for name in names if name.endswith(".toml")):
+            title = name.removesuffix(".toml").replace("_", " ")
+            found.append({"folder": "" if folder == "." else folder, "name": name, "title": title,
+                          "text": read_text(os.path.join(place, name))})
+    return found
+
+
+def abouts() -> dict[str, dict[str, str]]:
+    """What the schema says of each key, by the kind of its table, the top one being without a name."""
+    schema = json.loads(read_text(os.path.join(TOP, "docs", "scenario.schema.json")))
+    tables = {"": schema, **schema["definitions"]}
+    return {name: {key: about["description"] for key, about in tables[name]["properties"].items()
+                   if isinstance(about, dict) and "description" in about} for name in SCHEMA_OF}
+
+
+def key_of(key: Key, about: str) -> dict[str, Any]:
+    return {**{name: value for name, value in key._asdict().items()}, "about": about}
+
+
+def keys() -> dict[str, list[dict[str, Any]]]:
+    """The keys of each kind of table, by its kind, that of an actor, and the version."""
+    told, found = abouts(), {}
+    for version in (1, 2):
+        for of, kind in (("", ""), ("queue", ""), ("task", ""), ("actor", ""), *(("actor", kind) for kind in ACTORS)):
+            about = told[kind or ("producer" if of == "actor" else of)]
+            found[f"{of}/{kind}/{version}"] = [key_of(key, about.get(key.name, ""))
+                                               for key in keys_of(of, kind or None, version)]
+    return found
+
+
+def scripts(names: tuple[str, ...]) -> str:
+    return "".join(read_text(os.path.join(PARTS, f"{name}.js")) for name in names)
+
+
+def as_json(value: Any) -> str:
+    """JSON as a script takes it, with nothing in it that could end the script."""
+    return json.dumps(value, separators=(",", ":"), sort_keys=True).replace("<", "\\u003c")
+
+
+def checked(text: str, what: str) -> str:
+    """A text that stands between tags as it is."""
+    if re.search("</(script|style)|<!--", text, re.I):
+        raise Fault(f"{what} has a text that ends the script of the page")
+    return text
+
+
+def sum_of(text: str) -> str:
+    """A checksum as a policy of a page names it."""
+    return base64.b64encode(hashlib.sha256(text.encode()).digest()).decode()
+
+
+def page_of(module: bytes) -> bytes:
+    """The page with a module in it."""
+    data = f"const KEYS={as_json(keys())};\nconst DATA={as_json({'examples': examples(), 'first': FIRST})};\n"
+    script = checked(f"\n(() => {{\n'use strict';\n{data}{scripts(PAGE)}}})();\n", "page/")
+    style = checked(f"\n{read_text(os.path.join(PARTS, 'page.css'))}", "page/page.css")
+    version = read_text(os.path.join(TOP, "tools", "VERSION")).strip()
+    parts = {"STYLE": style, "SCRIPT": script, "WORKER": checked(f"\n'use strict';\n{scripts(WORKER)}", "page/"),
+             "POLICY": POLICY.format(script=sum_of(script), style=sum_of(style)),
+             "MODULE": base64.b64encode(release.packed(module)).decode(),
+             "VERSIONS": f"version {version}, module {release.sum_of(module)}"}
+    page = MARK.sub(lambda mark: parts[mark[1]], read_text(os.path.join(PARTS, "page.html")))
+    return page.encode()
