@@ -117,7 +117,7 @@ class Editor {
     const block = lines.slice(Math.max(0, first), last), of = first >= 0 ? HEADER.exec(lines[first])[1] : '';
     const kinds = /^\s*kind\s*=\s*["'](script|producer|consumer)["']/m;
     const kind = of === 'actor' ? kinds.exec(block.join('\n'))?.[1] ?? '' : '';
-    const version = /^\s*version\s*=\s*2\b/m.test(this.text) ? 2 : 1;
+    const version = Number(/^\s*version\s*=\s*([123])\b/m.exec(this.text)?.[1] ?? 1);
     const there = block.map(line => /^\s*([\w-]+)\s*=/.exec(line)?.[1]).filter(it => it);
     return { keys: KEYS[`${of}/${kind}/${version}`], what: kind || of || 'scenario', there, line: lines[at] };
   }
@@ -154,8 +154,9 @@ class Editor {
     const { area } = this, from = area.value.lastIndexOf('\n', area.selectionStart - 1) + 1;
     const end = area.value.indexOf('\n', area.selectionStart), to = end < 0 ? area.value.length : end;
     const isOver = area.value.slice(from, to).includes('=') || HEADER.test(area.value.slice(from, to));
-    const first = key.default !== null && key.default !== REQUIRED ? key.default : key.low ?? '';
-    const value = key.kind === NUMBER || key.kind === 'true or false' ? String(first).toLowerCase() : `"${first}"`;
+    const first = key.default !== null && key.default !== REQUIRED ? key.default : key.kind === NUMBER ? key.low : '';
+    const value = LISTS[key.kind]?.first
+      ?? (key.kind === NUMBER || key.kind === 'true or false' ? String(first).toLowerCase() : `"${first}"`);
     const text = `${key.name} = ${value}`;
     this.replace(isOver ? to : from, to, isOver ? `\n${text}` : text);
     const start = (isOver ? to + 1 : from) + key.name.length + 3;

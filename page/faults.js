@@ -8,12 +8,22 @@ const KINDS = { text: 'a text', truth: 'true or false', integer: 'a whole number
 const ACTORS = ['script', 'producer', 'consumer'];
 const NUMBER = 'a whole number', TABLES = 'a list of tables';
 const REQUIRED = 'required';
+// What is in a list that is the value of a key, and the first of it that one may write.
+const LISTS = { 'a list of whole numbers': { items: 'whole numbers', first: '[1]' },
+  'a list of pairs [permille, ms]': { items: 'pairs [permille, ms]', first: '[[0, 1], [1000, 1]]' },
+  'a list of pairs [group, weight]': { items: 'pairs [group, weight]', first: '[["g", 1]]' } };
 const NAME_RULES = { queue: "A queue's name has 1 to 80 ASCII letters, digits, - and _, and for a FIFO queue .fifo at "
   + 'its end, which counts among the 80.', other: 'A name has 1 to 80 ASCII letters, digits, - and _.' };
 const SCRIPT_HEADER = 'at,call,body,group,id,delay,receipt,max,wait,timeout,task';
 
 // A value for a message.
 const shown = value => value === '' ? "''" : String(value).slice(0, 100);
+
+// The version of a scenario whose keys are looked at; that of a text without one is 1.
+function versionOf(scenario) {
+  const version = said(scenario.top, 'version');
+  return [2n, 3n].includes(version) ? Number(version) : 1;
+}
 
 // How alike two words are, from 0 to 1: twice the letters of their longest common parts, of all letters.
 function likeness(one, other) {
@@ -62,7 +72,7 @@ class Fault {
   }
 
   get version() {
-    return said(this.scenario.top, 'version') === 2n ? 2 : 1;
+    return versionOf(this.scenario);
   }
 
   get kindOfActor() {
@@ -128,7 +138,9 @@ class Fault {
 
 function rangeText(key) {
   if (!key) return '';
+  if (LISTS[key.kind]) return ` It has ${key.low} to ${key.high} ${LISTS[key.kind].items}.`;
   if (key.words) return ` It is ${key.words.slice(0, -1).join(', ')} or ${key.words.at(-1)}.`;
+  if (key.kind === KINDS.text && key.high) return ` It has ${key.low} to ${key.high} bytes.`;
   if (key.kind !== NUMBER) return ` It is ${key.kind}.`;
   const byDefault = [null, REQUIRED].includes(key.default) ? ''
     : `, and ${grouped(key.default)} where it is not given`;
@@ -146,9 +158,11 @@ function unknownKey(fault) {
     return `${title} has both calls and script; one of them is enough.`;
   }
   if (found?.beside) return `${key} stands only together with ${found.beside}, which ${title} does not have.`;
-  if (fault.keysIn(fault.kindOfActor, 3 - fault.version).some(({ name }) => name === key)) {
-    const wanted = fault.version === 1 ? 'latency_ms' : 'latency_min_ms and latency_max_ms';
-    return `${key} is a key of version ${3 - fault.version}; version ${fault.version} has ${wanted}.`;
+  const of = [1, 2, 3].find(it => fault.keysIn(fault.kindOfActor, it).some(({ name }) => name === key));
+  if (!found && of) {
+    const latency = fault.version === 1 ? 'latency_ms' : 'latency_min_ms and latency_max_ms';
+    const wanted = key.startsWith('latency_') ? latency : 'no such key';
+    return `${key} is a key of version ${of}; version ${fault.version} has ${wanted}.`;
   }
   for (const kind of fault.of === 'actor' ? ACTORS : []) {
     if (fault.keysIn(kind, fault.version).some(({ name }) => name === key)) {
@@ -188,6 +202,9 @@ function outOfRange(fault) {
   const { key, found, node } = fault, value = shown(node?.value);
   const text = fault.of ? `${key} of ${fault.title()} is ${value}.` : `${key} is ${value}.`;
   if (key === 'queue' && !fault.of) return 'A scenario has at least one queue.';
+  if (key === 'version' && !fault.of && value === '3') {
+    return `${text} It is a preview, which is read only for the word --preview. This page does not read it.`;
+  }
   if (key === 'kind') return `${text}${rangeText(found ?? KEYS['actor//1'][1])}${nearest(value, ACTORS)}`;
   if (key === 'body') return `${text} It has 1 byte at least for the first message, and 1,024 at most for the last.`;
   if (key === 'script') {

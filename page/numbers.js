@@ -37,7 +37,7 @@ class NumberPanel {
   }
 
   numbersIn(scenario) {
-    const found = [], version = said(scenario.top, 'version') === 2n ? 2 : 1;
+    const found = [], version = versionOf(scenario);
     const look = (table, prefix, of, title) => {
       const kind = of === 'actor' ? said(table, 'kind') : '';
       for (const key of KEYS[`${of}/${kind}/${version}`] ?? []) {

@@ -11,8 +11,9 @@ from typing import Any
 
 import release
 from rehearse_tools.console import Fault, read_text
-from rehearse_tools.keys import ACTORS, Key, keys_of
+from rehearse_tools.keys import ACTORS, PREVIEW, VERSIONS, Key, keys_of
 from rehearse_tools.programs import TOP
+from rehearse_tools.scenarios import parsed
 
 PARTS = os.path.join(TOP, "page")
 # The scripts of the worker and of the page, in the order in which they need one another.
@@ -41,15 +42,15 @@ def module_in(path: str, page: bytes) -> bytes:
 
 
 def examples() -> list[dict[str, str]]:
-    """The scenarios in examples/, each with its folder, its title and its text."""
+    """The scenarios in examples/ whose version the module reads, each with its folder, its title and its text."""
     found = []
     for place, folders, names in os.walk(os.path.join(TOP, "examples")):
         folders.sort()
         folder = os.path.relpath(place, os.path.join(TOP, "examples"))
         for name in sorted(name for name in names if name.endswith(".toml")):
-            title = name.removesuffix(".toml").replace("_", " ")
-            found.append({"folder": "" if folder == "." else folder, "name": name, "title": title,
-                          "text": read_text(os.path.join(place, name))})
+            title, text = name.removesuffix(".toml").replace("_", " "), read_text(os.path.join(place, name))
+            if parsed(text, name).get("version") != PREVIEW:
+                found.append({"folder": "" if folder == "." else folder, "name": name, "title": title, "text": text})
     return found
 
 
@@ -68,7 +69,7 @@ def key_of(key: Key, about: str) -> dict[str, Any]:
 def keys() -> dict[str, list[dict[str, Any]]]:
     """The keys of each kind of table, by its kind, that of an actor, and the version."""
     told, found = abouts(), {}
-    for version in (1, 2):
+    for version in VERSIONS:
         for of, kind in (("", ""), ("queue", ""), ("task", ""), ("actor", ""), *(("actor", kind) for kind in ACTORS)):
             about = told[kind or ("producer" if of == "actor" else of)]
             found[f"{of}/{kind}/{version}"] = [key_of(key, about.get(key.name, ""))

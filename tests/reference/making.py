@@ -45,10 +45,10 @@ def record(**fields: object) -> str:
 
 
 class Maker:
-    """Makes a scenario of a version, always the same one of a seed."""
+    """Makes a scenario of a version without some keys, always the same one of a seed."""
 
-    def __init__(self, seed: str, version: int) -> None:
-        self.random, self.version = random.Random(seed), version
+    def __init__(self, seed: str, version: int, without: Sequence[str] = ()) -> None:
+        self.random, self.version, self.without = random.Random(seed), version, without
 
     def one(self, values: Sequence[X]) -> X:
         return self.random.choice(values)
@@ -134,7 +134,8 @@ class Maker:
             calls = ["send"] * 4 + ["receive"] * 4 + ["delete", "delete", "change"]
             return self.script(name, home, calls + (["start", "start", "cancel"] if self.tasks.get(home) else []))
         keys: dict[str, object] = {"name": name, "kind": kind, "queue": self.names[home]}
-        return table("actor", keys | (self.producer(home) if kind == "producer" else self.consumer(home)))
+        own = self.producer(home) if kind == "producer" else self.consumer(home)
+        return table("actor", {key: value for key, value in (keys | own).items() if key not in self.without})
 
     def quantiles(self, times: Sequence[int]) -> list[list[int]]:
         """Two to five pairs whose times are among these, with equal ones."""
@@ -159,7 +160,7 @@ class Maker:
             **self.time("gap", [1, 1, 10, 100, 1000], [0, 0, 1, 50]), "body": self.one(PRODUCER_BODIES)}
         if not is_fifo:
             keys["delay_s"] = self.rarely(0.4, [0, 1, 2])
-        elif self.version == 3 and self.random.random() < 0.5:
+        elif self.version == 3 and self.random.random() < 0.5 and "key_groups" not in self.without:
             keys["key_groups"] = [[self.one(["g0", "g1", "hot"]), self.one([1, 1, 2, 90])]
                                   for _ in range(self.one([1, 2, 3]))]
         else:
@@ -254,7 +255,7 @@ class Maker:
             if edit == "line":
                 lines[place] = self.edited_line(lines[place])
             elif edit == "new":
-                lines.insert(place, self.one(EDITED_LINES))
+                lines.insert(place, self.one([it for it in EDITED_LINES if it.split(" ")[0] not in self.without]))
             elif edit == "gone":
                 del lines[place]
             elif edit == "order":
@@ -271,6 +272,6 @@ PROFILES: dict[str, tuple[int, Callable[[Maker], str]]] = {
     "faulty-3": (3, Maker.faulty)}
 
 
-def scenario_text(profile: str, seed: int) -> str:
+def scenario_text(profile: str, seed: int, without: Sequence[str] = ()) -> str:
     version, make = PROFILES[profile]
-    return make(Maker(f"{profile} {seed}", version))
+    return make(Maker(f"{profile} {seed}", version, without))

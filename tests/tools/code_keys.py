@@ -4,7 +4,7 @@ import re
 from collections.abc import Iterator
 
 from tool import ROOT
-from rehearse_tools.keys import NUMBER, REQUIRED, TABLES, TEXT, TRUTH, Key
+from rehearse_tools.keys import ITEMS, NUMBER, NUMBERS, QUANTILES, REQUIRED, TABLES, TEXT, TRUTH, WEIGHTS, Key
 
 SOURCES = os.path.join(ROOT, "crates", "sim_scenario", "src")
 # A function of a file, or of an implementation of a trait for a type.
@@ -15,9 +15,18 @@ READ = re.compile(
     r'section\s*\.(bounds)\(\s*"(\w+)",\s*"(\w+)",\s*([\d_]+)|'
     r'section\s*\.(required_list)\("(\w+)"\)|'
     r'(agent_list)\([^"()]*(?:\(\))?[^"()]*"(\w+)"\)|'
-    r'\b(queue_list|kind|policy|latency|sending|forward|calls)\(')
+    r'\btime\(\s*section\.has\("(\w+)"\),\s*"\w+",\s*"(\w+)",\s*"(\w+)",\s*section,?\s*\)|'
+    r'\b(queue_list|kind|policy|latency|sending|forward|calls|gap|service|stopping|failing|outage|groups)\(')
+# What the two bounds of a time and the pairs of its quantiles have at most, and how many pairs there are.
+TIME = re.compile(r'section\.bounds\(low, high, ([\d_]+)\)')
+PAIRS = re.compile(r'list_of\(section, value, key, ([\d_]+), ([\d_]+), &Pair\)')
 LIST = re.compile(r'(?:_KEYS: &\[&str\] = &\[|&\[)((?:\s*"\w+",?)+)\s*\]')
-WORDS = {"ScopeName": ("queue", "group"), "KindName": ("script", "producer", "consumer")}
+WORDS = {"ScopeName": ("queue", "group"), "KindName": ("script", "producer", "consumer"),
+         "FailureName": ("each", "whole")}
+# The keys whose values are the least values of others, by their names in the code; each may be 0.
+LEAST = {"start": "start_ms", "from": "fails_from_ms"}
+# The functions that several files use, with their files.
+SHARED = {"latency": "queues.rt", "stopping": "producers.rt"}
 
 
 def functions(file: str) -> dict[str, str]:
@@ -53,16 +62,44 @@ def key_of(how: str, name: str, type_: str, bounds: str | None, text: str | None
     default = default_of(how, type_, text)
     if type_ == "Boolean":
         return Key(name, TRUTH, default=default)
+    words = [bound.strip() for bound in (bounds or "").split(",")]
+    numbers = [number(word) for word in words]
+    if type_ == "Integers":
+        assert ITEMS[name] == (numbers[2], numbers[3]), name
+        return Key(name, NUMBERS, numbers[0], numbers[1])
+    if type_ == "WeightedGroups":
+        return Key(name, WEIGHTS, *pairs_in("groups.rt"), default=default)
+    if type_ == "SizedText":
+        return Key(name, TEXT, numbers[0], numbers[1], default)
     if type_ not in ("Integer", "Seconds"):
         return Key(name, TEXT, default=default, words=WORDS.get(type_))
-    low, high = (number(bound.strip()) for bound in (bounds or "").split(","))
-    return Key(name, NUMBER, low, high, default)
+    least = LEAST.get(words[0])
+    return Key(name, NUMBER, 0 if least else numbers[0], numbers[1], default, least=least)
+
+
+def pairs_in(file: str) -> tuple[int | None, int | None]:
+    """How many pairs the list has that a file reads."""
+    with open(os.path.join(SOURCES, file), encoding="utf-8") as source:
+        pairs = PAIRS.search(source.read())
+    assert pairs
+    return number(pairs[1]), number(pairs[2])
+
+
+def times_of(quantiles: str, low: str, high: str) -> Iterator[Key]:
+    """The keys of a time: quantiles, or two bounds."""
+    with open(os.path.join(SOURCES, "distributions.rt"), encoding="utf-8") as file:
+        most = TIME.search(file.read())
+    assert most
+    yield Key(quantiles, QUANTILES, *pairs_in("distributions.rt"))
+    yield Key(low, NUMBER, 1, number(most[1]), REQUIRED)
+    yield Key(high, NUMBER, 1, number(most[1]), REQUIRED, least=low)
 
 
 def keys_in(body: str, others: dict[str, str]) -> Iterator[Key]:
     """The keys that a function reads, in order, with those of the functions that it calls."""
     for match in READ.finditer(body[body.index("{"):]):
-        how, name, type_, bounds, default, pair, low, high, most, _, several, _, agents, call = match.groups()
+        (how, name, type_, bounds, default, pair, low, high, most, _, several, _, agents, quantiles, least, greatest,
+         call) = match.groups()
         if how:
             yield key_of(how, name, type_, bounds, default)
         elif pair:
@@ -72,14 +109,23 @@ def keys_in(body: str, others: dict[str, str]) -> Iterator[Key]:
             yield Key(several, TABLES, default=REQUIRED)
         elif agents:
             yield Key(agents, TABLES)
+        elif quantiles:
+            yield from times_of(quantiles, least, greatest)
         elif call in others and f"fn {call}" not in body:
             yield from keys_in(others[call], others)
 
 
 def code_keys(file: str, function: str) -> list[Key]:
     """The keys of a table, which a function in a file reads."""
-    others = {"latency": functions("queues.rt")["latency"], **functions(file)}
+    others = {**{name: functions(at)[name] for name, at in SHARED.items()}, **functions(file)}
     return list(keys_in(others[function], others))
+
+
+def constant(file: str, name: str) -> int | None:
+    """A number that a file has by this name."""
+    with open(os.path.join(SOURCES, file), encoding="utf-8") as source:
+        found = re.search(rf"const {name}: u64 = ([\d_]+);", source.read())
+    return number(found[1]) if found else None
 
 
 def listed_keys(file: str) -> set[str]:

@@ -88,6 +88,74 @@ REASONS = (
      "of one kind."),
     (TOP + "x = [1,\n  ,]\n", "10 NotToml", "4:3", "Invalid value."),
     (TOP + 'x = """a', "10 NotToml", "3:9", "Unterminated string, as the text ends."))
+# The same of version 3, which has to be asked for.
+NEW = TOP.replace("version = 1", "version = 3") + '[[queue]]\nname = "orders"\n[[actor]]\nname = "packer"\n' \
+    'kind = "consumer"\nqueue = "orders"\n'
+SERVED = NEW + "service_min_ms = 1\nservice_max_ms = 1\n"
+SENT = NEW[:NEW.index("[[actor]]")] + '[[actor]]\nname = "shop"\nkind = "producer"\nqueue = "orders"\ncount = 1\n' \
+    'gap_min_ms = 1\ngap_max_ms = 1\nbody = "m"\n'
+PAIR = "It is a pair [permille, ms]. The first permille is 0 and the last 1,000; each other one is greater than the " \
+    "one before it, and at most 999. Times have 1 to 86,400,000, and none is less than the one before it."
+REASONS_OF_3 = (
+    (NEW, "14 OutOfRange at version", "1:11",
+     "version is 3. It is a preview, which is read only for the word --preview."),
+    (NEW.replace("= 3\n", "= 4\n", 1), "14 OutOfRange at version", "1:11", "version is 4. It has 1 to 3."),
+    (SERVED.replace("= 3\n", "= 2\n", 1) + "heartbeat_s = 5\n", "11 UnknownKey at actor[0].heartbeat_s", "11:1",
+     "heartbeat_s is a key of version 3; version 2 has no such key."),
+    (SERVED.replace("= 3\n", "= 1\n", 1) + "latency_max_ms = 5\n", "11 UnknownKey at actor[0].latency_max_ms", "11:1",
+     "latency_max_ms is a key of version 2; version 1 has latency_ms."),
+    (SERVED + "service = 3\n", "11 UnknownKey at actor[0].service_max_ms", "10:1",
+     "The consumer packer has both service_max_ms and service; service takes its place."),
+    (NEW, "12 MissingKey at actor[0].service_min_ms", "5:1",
+     "The consumer packer has no service_min_ms, which is required; service may be there in its place. It has 1 to "
+     "86,400,000."),
+    (SERVED + "fails_to_ms = 5\n", "11 UnknownKey at actor[0].fails_to_ms", "11:1",
+     "fails_to_ms stands only together with fails_from_ms, which the consumer packer does not have."),
+    (SERVED + "fails_from_ms = 5\n", "12 MissingKey at actor[0].fails_to_ms", "5:1",
+     "The consumer packer has no fails_to_ms, which is required beside fails_from_ms. It has 0 to 2,592,000,000."),
+    (SERVED + "fails_from_ms = 5\nfails_to_ms = 4\n", "14 OutOfRange at actor[0].fails_to_ms", "12:15",
+     "fails_to_ms of the consumer packer is 4. It may not be less than fails_from_ms, which is 5."),
+    (SERVED + "start_ms = 5\nstop_ms = 4\n", "14 OutOfRange at actor[0].stop_ms", "12:11",
+     "stop_ms of the consumer packer is 4. It may not be less than start_ms, which is 5."),
+    (SERVED + 'fails_on = ""\n', "14 OutOfRange at actor[0].fails_on", "11:12",
+     "fails_on of the consumer packer is ''. It has 1 to 128 bytes."),
+    (SERVED + 'batch_fails = "all"\n', "14 OutOfRange at actor[0].batch_fails", "11:15",
+     "batch_fails of the consumer packer is all. It is each or whole."),
+    (SERVED + "backoff_s = 5\n", "13 WrongType at actor[0].backoff_s", "11:13",
+     "backoff_s of the consumer packer is a whole number, and has to be a list of whole numbers. It has 1 to 12 whole "
+     "numbers, each from 0 to 43,200."),
+    (SERVED + "backoff_s = []\n", "14 OutOfRange at actor[0].backoff_s", "11:13",
+     "backoff_s of the consumer packer has 0 items. It has 1 to 12 whole numbers, each from 0 to 43,200."),
+    (SERVED + f"backoff_s = {[1] * 13}\n", "19 TooMany at actor[0].backoff_s", "11:13",
+     "backoff_s of the consumer packer has 13 items. It has 1 to 12 whole numbers, each from 0 to 43,200."),
+    (SERVED + "backoff_s = [5, 43201]\n", "14 OutOfRange at actor[0].backoff_s[1]", "11:17",
+     "Item number 2 of backoff_s of the consumer packer is 43201. It has 0 to 43,200."),
+    (SERVED + 'backoff_s = [5, "6"]\n', "13 WrongType at actor[0].backoff_s[1]", "11:17",
+     'Item number 2 of backoff_s of the consumer packer is "6", and has to be a whole number.'),
+    (NEW + "service = [[0, 5], [1000, 4]]\n", "14 OutOfRange at actor[0].service[1]", "9:20",
+     f"Item number 2 of service of the consumer packer is [1000, 4]. {PAIR}"),
+    (NEW + "service = [[0, 5], 9]\n", "13 WrongType at actor[0].service[1]", "9:20",
+     "Item number 2 of service of the consumer packer is 9, and has to be a pair of two whole numbers, as [500, 120]."),
+    (SERVED.replace('"packer"', f'"{"p" * 79}"') + "copies = 3\n", "15 BadName at actor[0].copies", "11:10",
+     f"The name {'p' * 79}-1 of a copy has 81 characters, and may have 80."),
+    (SERVED.replace('name = "orders"', 'name = "packer-2"', 1) + "copies = 3\n", "16 NameTwice at actor[0].copies",
+     "11:10",
+     "The queue in line 4 has the name packer-2 already; queues, actors and tasks share their names."),
+    (SERVED + "copies = 3\n" + SERVED[SERVED.index("[[actor]]"):].replace("packer", "packer-3"),
+     "16 NameTwice at actor[1].name", "13:8",
+     "A copy of the consumer in line 6 has the name packer-3 already; queues, actors and tasks share their names."),
+    (SERVED + "copies = 3\n", "19 TooMany at actor[0].copies", "11:10",
+     "Actors with all their copies, and tasks, are at most 10,000 together."),
+    (SENT.replace("orders", "orders.fifo") + 'groups = 3\nkey_groups = [["g", 1]]\n',
+     "11 UnknownKey at actor[0].groups", "13:1",
+     "The producer shop has both groups and key_groups; key_groups takes its place."),
+    (SENT + 'key_groups = [["g", 1]]\n', "11 UnknownKey at actor[0].key_groups", "13:1",
+     "key_groups is a key of FIFO queues alone, and the producer shop is at a standard queue."),
+    (SENT.replace("orders", "orders.fifo") + 'key_groups = [["g", 0]]\n', "14 OutOfRange at actor[0].key_groups[0]",
+     "13:15", 'Item number 1 of key_groups of the producer shop is ["g", 0]. It is a pair [group, weight]. The group '
+              "has 1 to 128 bytes of 0x21 to 0x7E, and the weight has 1 to 1,000,000."),
+    (NEW + "service = [[0, 5]]\n", "14 OutOfRange at actor[0].service", "9:11",
+     "service of the consumer packer has 1 item. It has 2 to 32 pairs [permille, ms]."))
 explain = module_of("explain")
 
 
@@ -111,11 +179,18 @@ class Explain(ToolCase):
                          "given.\n")
 
     def test_reasons(self):
-        for text, refusal, place, reason in REASONS:
+        for text, refusal, place, reason in REASONS + REASONS_OF_3:
             with self.subTest(refusal=refusal):
                 lines = self.explained(text, f"refused {refusal}").splitlines()
                 self.assertEqual((lines[0], lines[-1]), (f"s.toml:{place}: refused {refusal}", reason))
                 self.assertEqual(lines[2].index("^") - 1, int(place.split(":")[1]))
+
+    def test_version_3_is_asked_for(self):
+        """--preview is the program's word, before the folder of scripts."""
+        self.write("program", STAND_IN.replace('assert sys.argv[1] == "check"',
+                                               'assert sys.argv[1:] == ["check", "--preview", "--scripts", "."]'))
+        refusal = "refused 14 OutOfRange at actor[0].fails_on"
+        self.assertIn("fails_on", self.explained(SERVED + 'fails_on = ""\n', refusal, "--preview"))
 
     def test_a_script_in_the_scenario(self):
         """The record after the blank line and the text of two lines is the fourth, in the second line after them."""
@@ -174,15 +249,16 @@ class Explain(ToolCase):
     @needs_program
     def test_all_stored_faults(self):
         """Each case that is refused has its refusal in the first line, and a sentence in the last."""
-        paths = [path for folder in ("faults", "faulty")
+        paths = [path for folder in ("faults", "faulty", "faults-3")
                  for path in glob.glob(os.path.join(ROOT, "tests", "cases", folder, "*.err"))]
-        self.assertGreater(len(paths), 70)
+        self.assertGreater(len(paths), 135)
         for path in paths:
             with open(path, encoding="utf-8") as file:
                 refusal = file.read().strip("\n")
+            words = [path.replace(".err", ".toml"), *(["--preview"] if "faults-3" in path else [])]
             with self.subTest(path=path), contextlib.redirect_stdout(io.StringIO()) as out, \
                     contextlib.redirect_stderr(io.StringIO()) as err:
-                self.assertEqual((explain.main([path.replace(".err", ".toml")]), err.getvalue()), (1, ""))
+                self.assertEqual((explain.main(words), err.getvalue()), (1, ""))
                 lines = out.getvalue().splitlines()
                 self.assertTrue(lines[0].endswith(f": {refusal}"), lines)
                 self.assertTrue(lines[-1].endswith((".", "?")) and len(lines) > 1, lines)

@@ -311,6 +311,29 @@ class FromPlan(ToolCase):
             self.assertIn("from-plan: aws_lambda_event_source_mapping.elsewhere is left out: ", err)
             self.assertNotIn("work: it does not report", err)
 
+    def test_mappings_in_version_3(self):
+        """By main.tf the function of orders reports batch item failures, and that of audit does not."""
+        path = os.path.join(HERE, "plans", "wiring", "plan.json")
+        without, plain_err = self.stored("wiring/plan.json")
+        status, out, err = self.run_tool("from-plan", path, "--preview")
+        scenario = tomllib.loads(out)
+        self.assertEqual((status, scenario["version"], without["version"]), (0, 3, 1))
+        self.assertIn("# Version 3 is a preview: run this with --preview.\n", out)
+        self.assertEqual({actor["queue"]: actor.get("batch_fails") for actor in scenario["actor"]
+                          if actor["kind"] == "consumer"}, {"audit": "whole", "orders": "each", "plain": None})
+        self.assertEqual([(queue["latency_min_ms"], queue["latency_max_ms"]) for queue in scenario["queue"]
+                          if "dead_letter" in queue], [(100, 100)])
+        # What is told otherwise, and what else the scenarios have, is the same.
+        self.assertEqual([line for line in plain_err.splitlines() if "latency" not in line and
+                          "does not report" not in line], [line for line in err.splitlines() if "latency" not in line])
+        for actor in scenario["actor"]:
+            actor.pop("batch_fails", None)
+        self.assertEqual(scenario["actor"], without["actor"])
+        if PROGRAM:
+            self.write("s.toml", out)
+            told = subprocess.run([PROGRAM, "check", "--preview", self.path("s.toml")], capture_output=True, text=True)
+            self.assertEqual(told.stdout + told.stderr, "ok queues=4 actors=12 tasks=0 least=100\n")
+
     def test_a_policy_that_cannot_be_placed(self):
         """Standard error names it, and the queues are made without it."""
         queues = [resource(f"aws_sqs_queue.{name}", name=name) for name in "ab"]

@@ -83,6 +83,20 @@ class Lists(ToolCase):
         self.assertEqual(first, notebook.rehearse(SWEPT, {"seed": 5}, as_lists=True))
         self.assertNotEqual(first.rows, notebook.rehearse(SWEPT, {"seed": 6}, as_lists=True).rows)
 
+    def test_version_3_is_asked_for(self) -> None:
+        path = os.path.join(ROOT, "tests", "cases", "version-3", "backoff_by_receive_count.toml")
+        for call in (lambda: notebook.rehearse(path, as_lists=True),
+                     lambda: notebook.sweep(path, {"seed": [1]}, as_lists=True)):
+            with self.assertRaisesRegex(Fault, "version"):
+                call()
+        # The second backoff is 3 s, and each later one: receives at 10, 1110, 4210 and 7310.
+        run = notebook.rehearse(path, as_lists=True, preview=True)
+        self.assertEqual([row["at"] for row in run.rows if row["call"] == "receive" and row["answer"] == "ok"],
+                         [10, 1110, 4210, 7310])
+        swept, _ = told(notebook.sweep, path, {"actor.c.backoff_s": [[1, 3], [4]]}, columns=["receives"],
+                        as_lists=True, preview=True)
+        self.assertEqual([row["receives"] for row in swept.rows], [4, 2])
+
     def test_a_sweep_is_that_of_the_command(self) -> None:
         words = ["--vary", "queue.jobs.visibility_s=2,5", "--vary", "seed=1..6"]
         for options, more, is_met in (

@@ -218,7 +218,7 @@ class Package(PackageCase):
         self.assertEqual(completed(f"{root}/usr/share/bash-completion/completions/sqs_rehearse", self.folder, [
             ["sqs_rehearse", "co"], ["sqs_rehearse", "su"], ["sqs_rehearse", "run", "--w"],
             ["sqs_rehearse", "run", "--scripts", "ro"], ["sqs_rehearse", "compare", "a.toml", "--"]]),
-            [["compare"], ["summary"], ["--window", "--workers"], ["root"], ["--help", "--scripts"]])
+            [["compare"], ["summary"], ["--window", "--workers"], ["root"], ["--help", "--preview", "--scripts"]])
 
     @needs_program
     def test_first_scenario(self):

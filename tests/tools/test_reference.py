@@ -1,5 +1,5 @@
-"""Tests the reference in tests/reference: versions 1 and 2 against stored cases, and against the program over random
-scenarios; version 3 against docs/VERSION3.md, by logs, faults and times that were written by hand."""
+"""Tests the reference in tests/reference: against stored cases, against the program over random scenarios, and for
+version 3 against docs/FORMATS.md and docs/MODEL.md, by logs, faults and times that were written by hand."""
 import glob
 import os
 import pathlib
@@ -22,8 +22,10 @@ from words import MASK, Draws, place_by_weight, time_at  # noqa: E402
 
 SEEDS, MOST_HANDLINGS = range(1, 21), 1_000
 OLD_PROFILES = [name for name, (version, _) in PROFILES.items() if version < 3]
+NEW_PROFILES = [name for name, (version, _) in PROFILES.items() if version == 3]
 STORED = sorted(glob.glob(os.path.join(ROOT, "tests", "cases", "*", "*.toml")))
-WRITTEN = sorted(glob.glob(os.path.join(REFERENCE, "cases", "*.toml")))
+STORED_3 = [path for path in STORED if os.path.dirname(path).endswith("-3")]
+OLD_STORED = sorted(set(STORED) - set(STORED_3))
 VERSION_2 = re.compile(rb"^version = 2$", re.MULTILINE)
 HEAD = 'version = 3\nhorizon = 9\n[[queue]]\nname = "q"\n[[queue]]\nname = "w-1"\n[[queue]]\nname = "f.fifo"\n'
 CONSUMER = HEAD + '[[actor]]\nname = "c"\nkind = "consumer"\nqueue = "q"\n'
@@ -164,13 +166,13 @@ class OldVersions(unittest.TestCase):
         self.assertEqual(first_difference(wanted, found), "")
 
     def test_stored_cases(self):
-        for path in STORED:
+        for path in OLD_STORED:
             with self.subTest(case=os.path.relpath(path, ROOT)):
                 self.assert_same(stored_outcome(path), referred(pathlib.Path(path).read_bytes()))
 
     @needs_program
     def test_the_program_agrees_on_stored_cases(self):
-        for path in STORED:
+        for path in OLD_STORED:
             with self.subTest(case=os.path.relpath(path, ROOT)):
                 source = pathlib.Path(path).read_bytes()
                 self.assert_same(referred(source), answered(PROGRAM, source))
@@ -184,7 +186,7 @@ class OldVersions(unittest.TestCase):
                     self.assert_same(wanted, answered(PROGRAM, source, *split_words(source)))
 
     def test_a_text_of_version_2_is_the_same_in_version_3(self):
-        sources = [pathlib.Path(path).read_bytes() for path in STORED]
+        sources = [pathlib.Path(path).read_bytes() for path in OLD_STORED]
         sources += [source for _, source, _ in random_texts("version-2")]
         sources = [source for source in sources if VERSION_2.search(source)]
         self.assertGreater(len(sources), 50)
@@ -194,22 +196,47 @@ class OldVersions(unittest.TestCase):
 
 
 class VersionThree(unittest.TestCase):
-    def test_logs_that_were_written_by_hand(self):
-        self.assertGreaterEqual(len(WRITTEN), 20)
-        for path in WRITTEN:
+    def test_stored_cases(self):
+        self.assertGreaterEqual(len(STORED_3), 110)
+        for path in STORED_3:
+            with self.subTest(case=os.path.relpath(path, ROOT)):
+                found = referred(pathlib.Path(path).read_bytes(), 3)
+                self.assertEqual(first_difference(stored_outcome(path), found), "")
+
+    @needs_program
+    def test_the_program_agrees_on_stored_cases(self):
+        for path in STORED_3:
+            source, wanted = pathlib.Path(path).read_bytes(), stored_outcome(path)
             with self.subTest(case=os.path.basename(path)):
-                found, log = referred(pathlib.Path(path).read_bytes(), 3), with_end(path, ".log.csv")
-                self.assertEqual((found.status, found.error), (0, b""))
-                self.assertEqual(found.output[:found.output.index(b"final,queue")].decode(), log.decode())
+                for words in ([], split_words(source)):
+                    self.assertEqual(first_difference(wanted, answered(PROGRAM, source, "--preview", *words)), "")
+                self.assertEqual(answered(PROGRAM, source), referred(source))
+
+    @needs_program
+    def test_the_program_agrees_on_random_scenarios(self):
+        for profile in NEW_PROFILES:
+            for seed, source, wanted in random_texts(profile):
+                with self.subTest(profile=profile, seed=seed):
+                    for words in ([], split_words(source)):
+                        found = answered(PROGRAM, source, "--preview", *words)
+                        self.assertEqual(first_difference(wanted, found), "")
+
+    @needs_program
+    def test_the_program_agrees_on_faults(self):
+        for text, added, line in FAULTS:
+            with self.subTest(added=added, line=line):
+                ran = subprocess.run([PROGRAM, "check", "--preview"], input=f"{text}{added}\n".encode(),
+                                     capture_output=True)
+                self.assertEqual(ran.stderr.decode(), f"refused {line}\n" if line else "")
 
     def test_it_is_read_only_if_it_is_asked_for(self):
-        text = pathlib.Path(WRITTEN[0]).read_bytes()
+        case = os.path.join(ROOT, "tests", "cases", "version-3", "heartbeat.toml")
+        text = pathlib.Path(case).read_bytes()
         wanted = Outcome(1, b"", b"refused 14 OutOfRange at version\n")
         self.assertEqual(referred(text), wanted)
         self.assertEqual(referred(text.replace(b"version = 3", b"version = 4"), 3), wanted)
         program = os.path.join(REFERENCE, "sqs_reference")
-        for words, line in ([], wanted.error), (["--preview"], b"ok queues=1 actors=3 tasks=0 least=2001\n"):
-            case = os.path.join(REFERENCE, "cases", "copies.toml")
+        for words, line in ([], wanted.error), (["--preview"], b"ok queues=1 actors=2 tasks=0 least=8001\n"):
             ran = subprocess.run([sys.executable, program, "check", *words, case], capture_output=True)
             self.assertEqual(ran.stdout + ran.stderr, line)
 

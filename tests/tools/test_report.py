@@ -255,6 +255,17 @@ class Report(ToolCase):
                       "orders|42|40|2|0|0|146 ms|10.2 s|8|failed|2|0|0|0|0|-|-|2|2 dead letters|", told)
 
     @needs_program
+    def test_version_3_is_asked_for(self):
+        with open(os.path.join(ROOT, "tests", "cases", "version-3", "heartbeat.toml"), encoding="utf-8") as file:
+            scenario = self.write("h.toml", file.read())
+        words = scenario, "--output", "h.html"
+        self.assertEqual(self.run_tool("report", *words, SQS_REHEARSE=PROGRAM),
+                         (1, "", "report: refused 14 OutOfRange at version; tools/explain tells more\n"))
+        self.assertEqual(self.run_tool("report", *words, "--preview", SQS_REHEARSE=PROGRAM), (0, "", ""))
+        with open(self.path("h.html"), encoding="utf-8") as file:
+            self.assertIn("h.html --preview", "|".join(Page(file.read()).texts))
+
+    @needs_program
     def test_a_dead_letter_queue_without_rows(self):
         """It stands in the table of all queues, though nothing of it can be drawn."""
         scenario = self.write("d.toml", DEAD_LETTERS)

@@ -45,7 +45,7 @@ class Written(unittest.TestCase):
         self.assertEqual(tomllib.loads(written(odd)), odd)
 
     def test_stored_scenarios(self):
-        paths = [path for folder in ("worked", "by-hand", "one-queue", "networks", "version-2")
+        paths = [path for folder in ("worked", "by-hand", "one-queue", "networks", "version-2", "version-3")
                  for path in glob.glob(os.path.join(tool.ROOT, "tests", "cases", folder, "*.toml"))]
         self.assertGreater(len(paths), 50)
         for path in paths:

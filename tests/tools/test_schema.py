@@ -6,21 +6,23 @@ import re
 import tomllib
 import unittest
 
-from code_keys import code_keys, listed_keys
+from code_keys import code_keys, constant, listed_keys
 from tool import ROOT
 from rehearse_tools.console import Fault, library
-from rehearse_tools.keys import (CONSUMER, FIFO, HEAD, NUMBER, PRODUCER, QUEUE, REQUIRED, SCRIPT, STANDARD, TASK, TOP,
-                                 TRUTH, latency)
+from rehearse_tools.keys import (CONSUMER, FIFO, HEAD, ITEMS, NUMBER, NUMBERS, PREVIEW, PRODUCER, QUANTILES, QUEUE,
+                                 REQUIRED, SCRIPT, STANDARD, TASK, TOP, TRUTH, VERSIONS, WEIGHTS, consumer_keys,
+                                 keys_of, latency)
 
 try:
     jsonschema = library("jsonschema", "python3-jsonschema")
 except Fault:
     jsonschema = None
-GOOD = ("worked", "by-hand", "one-queue", "networks", "version-2")
-FAULTY = ("faults", "faulty")
+GOOD = ("worked", "by-hand", "one-queue", "networks", "version-2", "version-3")
+FAULTY = ("faults", "faulty", "faults-3")
 # What a schema cannot say, by the line of the refusal; docs/FORMATS.md has it in words.
-UNSAID = re.compile(r"refused (?:10 NotToml|16 .*|17 .*|18 .*|20 .*|12 MissingKey at .*\.script|"
-                    r"14 OutOfRange at .*\.(?:gap_max_ms|service_max_ms|latency_max_ms|sampled|body))\n")
+UNSAID = re.compile(r"refused (?:10 NotToml|(?:15|19) .*\.copies|16 .*|17 .*|18 .*|20 .*|12 MissingKey at .*\.script|"
+                    r"14 OutOfRange at (?:version|.*\.(?:gap_max_ms|service_max_ms|latency_max_ms|sampled|body|stop_ms|"
+                    r"fails_on|fails_to_ms|(?:gap|service)\[[0-9]+\])))\n")
 with open(os.path.join(ROOT, "docs", "scenario.schema.json"), encoding="utf-8") as schema_file:
     SCHEMA = json.load(schema_file)
 # The tables of keys in docs/FORMATS.md, by the first cell of their heads.
@@ -30,11 +32,13 @@ DOCUMENTED = {"Top": TOP, "queue": QUEUE, "actor": HEAD, "script": SCRIPT[len(HE
 LATENCY = latency(1) + latency(2)
 CODE = {("top.rt", "top_table"): TOP, ("queues.rt", "Queues::read"): QUEUE + LATENCY, ("actors.rt", "Actors::read"): HEAD,
         ("scripted.rt", "scripted"): SCRIPT[len(HEAD):], ("producers.rt", "producer"): PRODUCER[len(HEAD):],
-        ("consumers.rt", "consumer"): CONSUMER[len(HEAD):] + LATENCY, ("tasks.rt", "Tasks::read"): TASK + LATENCY}
+        ("consumers.rt", "consumer"): consumer_keys(LATENCY)[len(HEAD):], ("tasks.rt", "Tasks::read"): TASK + LATENCY}
 LISTS = {"top.rt": TOP, "queues.rt": QUEUE + LATENCY, "section.rt": HEAD, "scripted.rt": SCRIPT[len(HEAD):],
          "producers.rt": PRODUCER[len(HEAD):], "consumers.rt": CONSUMER[len(HEAD):], "tasks.rt": TASK}
 # These are read only where they are there, so that they are required then.
-WHERE_THERE = {"calls", "script", "dead_letter", "forward"}
+WHERE_THERE = {"calls", "script", "dead_letter", "forward", "fails_from_ms", "key_groups"}
+# A key that is read apart from the others of its table, by another function: behind what its actor does.
+APART = {("consumers.rt", "consumer"): ("actors.rt", "copies")}
 
 
 def cases(folders):
@@ -103,10 +107,17 @@ class Documents(unittest.TestCase):
     def range_of(self, key):
         if key.kind == NUMBER:
             if key.name == "version":
-                return "1, 2"
+                return ", ".join(map(str, VERSIONS))
             low = key.least or f"{key.low:,}"
             high = "hosts" if key.name == "sampled" else f"{key.high:,}"
             return f"{low}..{high}"
+        if key.kind == NUMBERS:
+            low, high = ITEMS[key.name]
+            return f"{key.low}..{key.high} numbers, each {low}..{high:,}"
+        if key.kind == QUANTILES:
+            return "quantiles"
+        if key.kind == WEIGHTS:
+            return f"{key.low}..{key.high} pairs"
         return "true, false" if key.kind == TRUTH else ", ".join(key.words or ())
 
     def test_tables_of_the_document(self):
@@ -115,8 +126,9 @@ class Documents(unittest.TestCase):
         for head, keys in DOCUMENTED.items():
             rows = [row for row in tables[head] if row[0] != "latency"]
             self.assertEqual([row[0] for row in rows], [key.name for key in keys], head)
-            for key, (name, default, found, *_) in zip(keys, rows):
+            for key, (name, default, found, about) in zip(keys, rows):
                 with self.subTest(table=head, key=name):
+                    self.assertEqual(about.startswith("(3) "), key.since == 3)
                     wanted = {None: "none", REQUIRED: REQUIRED, True: "true", False: "false"}.get(key.default)
                     if isinstance(key.default, int) and not isinstance(key.default, bool):
                         wanted = f"{key.default:,}"
@@ -128,7 +140,8 @@ class Documents(unittest.TestCase):
     def test_code_reads_the_same_keys(self):
         """With the same types, ranges and defaults, and in the same order, for each kind of queue and each version."""
         for (file, function), keys in CODE.items():
-            found = {key.name: key for key in code_keys(file, function)}
+            apart = APART.get((file, function))
+            found = {key.name: key for key in code_keys(file, function) + (code_keys(*apart) if apart else [])}
             self.assertEqual(set(found), {key.name for key in keys}, file)
             for key in keys:
                 with self.subTest(file=file, key=key.name):
@@ -141,15 +154,22 @@ class Documents(unittest.TestCase):
 
     def check_code(self, found, key):
         self.assertEqual(found.kind, key.kind)
+        # 0 copies are none.
+        default = 0 if key.name == "copies" else key.default
         self.assertEqual(found.default, REQUIRED if key.name in WHERE_THERE else
-                         "hosts" if key.name == "sampled" else key.default)
-        if key.kind == NUMBER:
-            self.assertEqual((found.low, found.high), (key.low, None if key.name == "sampled" else key.high))
+                         "hosts" if key.name == "sampled" else default)
+        if key.kind in (NUMBER, NUMBERS, QUANTILES, WEIGHTS) or key.name == "fails_on":
+            self.assertEqual((found.low, found.high),
+                             (key.low, None if key.name in ("sampled", "version") else key.high))
         self.assertEqual((found.words, found.least), (key.words, key.least))
 
     def test_code_lists_the_same_keys(self):
         for file, keys in LISTS.items():
             self.assertEqual(listed_keys(file), {key.name for key in keys}, file)
+
+    def test_code_reads_the_same_versions(self):
+        self.assertEqual((constant("draft.rt", "RELEASED"), constant("draft.rt", "PREVIEW")), VERSIONS[-2:])
+        self.assertEqual(VERSIONS[-1], PREVIEW)
 
     def test_schema_has_the_same_keys(self):
         tables = {"queue": QUEUE, "script": SCRIPT, "producer": PRODUCER, "consumer": CONSUMER, "task": TASK}
@@ -160,12 +180,23 @@ class Documents(unittest.TestCase):
             self.check_properties(found, keys + more)
         self.check_properties(SCHEMA["properties"], TOP)
 
+    def test_keys_of_version_3_alone(self):
+        new = {key.name for keys in (PRODUCER, CONSUMER) for key in keys if key.since == 3}
+        self.assertEqual(set(SCHEMA["definitions"]["before_version_3"]["properties"]), new)
+        for kind in ("script", "producer", "consumer"):
+            self.assertFalse(new & {key.name for key in keys_of("actor", kind, 2)})
+
     def check_properties(self, found, keys):
         for key in keys:
             with self.subTest(key=key.name):
                 given = found[key.name]
                 if key.kind == NUMBER:
                     self.assertEqual((given["minimum"], given["maximum"]), (key.low, key.high))
+                if key.kind in (NUMBERS, QUANTILES, WEIGHTS):
+                    of = SCHEMA["definitions"]["quantiles"] if key.kind == QUANTILES else given
+                    self.assertEqual((of["minItems"], of["maxItems"]), (key.low, key.high))
+                if key.name in ITEMS:
+                    self.assertEqual((given["items"]["minimum"], given["items"]["maximum"]), ITEMS[key.name])
                 self.assertEqual(given.get("default", REQUIRED), REQUIRED if key.default is None else key.default)
                 self.assertTrue(given["description"])
 

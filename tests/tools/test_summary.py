@@ -585,7 +585,7 @@ class Program(SummaryCase):
         paths = glob.glob(os.path.join(ROOT, "examples", "**", "*.toml"), recursive=True)
         self.assertGreater(len(paths), 10)
         for scenario in paths:
-            run = subprocess.run([PROGRAM, "run", scenario], capture_output=True, check=True, text=True)
+            run = subprocess.run([PROGRAM, "run", "--preview", scenario], capture_output=True, check=True, text=True)
             for values in self.queues(run.stdout).values():
                 self.assertIsNotNone(values["left_visible"], scenario)
 

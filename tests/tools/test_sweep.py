@@ -136,6 +136,29 @@ class Sweep(ToolCase):
         self.assert_fault(self.sweep(self.scenario, "--vary", "seed=1", "--print-scenario", "--spread", "seed"),
                           "sweep: --require and --spread go with runs, and nothing is run")
 
+    def test_version_3_is_asked_for(self):
+        """Without --preview nothing is run. With it the program gets this word, and so do the commands of jobs."""
+        old, new = self.scenario, self.write("3.toml", SCENARIO.replace("version = 1", "version = 3"))
+        told = "has version 3, a preview, which is read only for the word --preview"
+        self.assert_fault(self.sweep(new, "--vary", "seed=1"), f"sweep: {new} {told}")
+        self.assert_fault(self.sweep(old, "--vary", "version=2,3"), f"sweep: {old} {told}")
+        self.write("program", STAND_IN.replace('["run", "--scripts", sys.argv[3]',
+                                               '["run", "--preview", "--scripts", sys.argv[4]'))
+        words = new, "--preview", "--vary", "seed=1..2", "--columns", "sends"
+        self.assertEqual(self.sweep(*words)[:2], (0, "seed,failed,queue,sends\n1,,q,101\n1,,r,0\n2,,q,102\n2,,r,0\n"))
+        status, jobs, err = self.sweep(*words, "--print-jobs", "jobs")
+        self.assertEqual((status, [" --preview " in job for job in jobs.splitlines()], err), (0, [True, True], ""))
+        first = subprocess.run(["sh", "-c", f"{shlex.quote(sys.executable)} {jobs.splitlines()[0]}"])
+        self.assertEqual(first.returncode, 0)
+
+    def test_values_that_are_lists(self):
+        words = self.scenario, "--vary", "queue.q.x=[5, 30],[[0, 1], [9, 2]],[],\"[a]\",[b]", "--vary", "seed=1"
+        ran = [self.sweep(*words[:2], f"queue.q.x={word}", "--print-scenario") for word in
+               ("[5, 30]", "[[0, 1], [9, 2]]", "[]", '"[a]"', "[b]")]
+        self.assertEqual([tomllib.loads(out)["queue"][0]["x"] for _, out, _ in ran],
+                         [[5, 30], [[0, 1], [9, 2]], [], "[a]", "[b]"])
+        self.assertEqual(self.sweep(*words)[2].splitlines()[-1], "sweep: 5 of 5 variants run, 0 failed")
+
     def test_faults(self):
         known = (f"{COLUMNS},door_age_p50,door_age_p95,door_age_max,requests,cost,backlog_gone,new_age_p50,new_age_p95,"
                  "new_age_max,moved_age_p50,moved_age_p95,moved_age_max,window_age_p95").replace(",", ", ")

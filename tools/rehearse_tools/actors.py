@@ -62,8 +62,9 @@ class Mapping:
         """How many consumers replace it."""
         return min(self.most or CONSUMERS, CONSUMERS_MOST) if self.is_enabled else 0
 
-    def told(self) -> list[str]:
-        """What the model does not have of it, or the file does not say."""
+    def told(self, is_preview: bool) -> list[str]:
+        """What the model does not have of it, or the file does not say. Version 3, a preview, has batches that fail as
+        a whole."""
         if not self.is_enabled:
             return [*self.notes, "it is not enabled, so that nobody receives"]
         notes = list(self.notes)
@@ -76,7 +77,7 @@ class Mapping:
             notes.append(f"a batch of {BATCH_MOST}, the most of a scenario, in place of {self.batch}")
         if self.window:
             notes.append(f"its batching window of {self.window} s is left out: a consumer takes what is there")
-        if self.batch > 1 and not self.is_partial:
+        if self.batch > 1 and not self.is_partial and not is_preview:
             notes.append("it does not report batch item failures, so that a message that fails brings its whole batch "
                          "back; here each message fails by itself")
         if self.is_filtered:
@@ -134,7 +135,8 @@ def commented(lines: Iterable[str]) -> str:
 class Actors:
     """The tables of actors for some queues, as a text, and notes on them, each with the place that it is about."""
 
-    def __init__(self, queues: list[Queue], horizon: int) -> None:
+    def __init__(self, queues: list[Queue], horizon: int, is_preview: bool) -> None:
+        self.is_preview = is_preview
         self.taken, self.text = {queue.name for queue in queues}, ""
         self.notes: list[tuple[str, str]] = []
         self.received: set[str] = set()
@@ -163,11 +165,12 @@ class Actors:
 
     def of_mapping(self, queue: Queue, mapping: Mapping) -> None:
         self.begin(f"SKELETON: the function {mapping.function} takes messages of {queue.name}, by {mapping.place}",
-                   mapping.place, mapping.told())
+                   mapping.place, mapping.told(self.is_preview))
         names = [f"{mapping.function[:NAME_MOST - 8]}-{number}" for number in range(1, mapping.consumers() + 1)]
         for place, name in enumerate(names):
             self.text += "\n" if place else ""
             self.consumer(queue, name_apart(name, "", self.taken), max(1, min(mapping.batch, BATCH_MOST)))
+            self.text += f'batch_fails = "{"each" if mapping.is_partial else "whole"}"\n' if self.is_preview else ""
 
     def of_subscription(self, queue: Queue, subscription: Subscription, others: Iterable[str]) -> None:
         self.begin(f"SKELETON: what the topic {subscription.topic} sends to {queue.name}, by {subscription.place}",

@@ -1,12 +1,13 @@
 """Says why the program refuses a scenario, and where in its text:
 
-    tools/explain SCENARIO [--scripts DIR] [--program P]
+    tools/explain SCENARIO [--preview] [--scripts DIR] [--program P]
 
 The first line has the file, line and column, and after them the program's own line. Below are the line of the text,
 and in whole sentences what is wrong: which queue or actor it is, what the range is, which key or name was meant, which
 other key belongs to it. - is standard input, and --scripts the folder of the scenario's scripts, as for the program.
-The program is that of --program, else of SQS_REHEARSE of the environment, else sqs_rehearse beside this folder. The
-status is 0 if the program accepts the scenario, 1 if it refuses it, and 2 for any other fault.
+With --preview the program reads version 3 too, as `run --preview` does. The program is that of --program, else of
+SQS_REHEARSE of the environment, else sqs_rehearse beside this folder. The status is 0 if the program accepts the
+scenario, 1 if it refuses it, and 2 for any other fault.
 
 Examples:
 
@@ -19,24 +20,38 @@ import re
 import subprocess
 import tempfile
 import tomllib
-from collections.abc import Sequence
+from collections.abc import Iterator, Sequence
 from typing import Any
 
 from .console import Fault, Parser, print_text, read_bytes, read_text, shown
-from .keys import ACTORS, FIFO, NUMBER, REQUIRED, TABLES, Key, keys_of
+from .keys import (ACTORS, FIFO, ITEMS, NUMBER, NUMBERS, PREVIEW, QUANTILES, REQUIRED, TABLES, TEXT, VERSIONS, WEIGHTS,
+                   Key, keys_of)
 from .positions import Lost, Path, Positions
-from .programs import program_of
+from .programs import program_of, reading_words
+from .scenarios import text_of_value as text_of
 from .scripts import fault_of_script
 
 REFUSED = re.compile(r"refused ([0-9]+) ([A-Za-z]+)(?: at (.*))?", re.S)
 PLACE = re.compile(r"(queue|actor|task)\[([0-9]+)\](?:\.(.*))?", re.S)
 RECORD = re.compile(r"(calls|script)(?::([0-9]+))?")
+ITEM = re.compile(r"(\w+)\[([0-9]+)\]")
 TOML_PLACE = re.compile(r"(.*) \(at (?:line ([0-9]+), column ([0-9]+)|end of document)\)")
 KINDS = {str: "a text", bool: "true or false", int: "a whole number", float: "a number with a fraction", list: "a list",
          dict: "a table"}
 NAMES = {"queue": "A queue's name has 1 to 80 ASCII letters, digits, - and _, and for a FIFO queue .fifo at its end, "
                   "which counts among the 80.",
          "actor": "A name has 1 to 80 ASCII letters, digits, - and _."}
+# What a list that is the value of a key has.
+LISTS = {NUMBERS: "whole numbers", QUANTILES: "pairs [permille, ms]", WEIGHTS: "pairs [group, weight]"}
+QUANTILES_RULE = "It is a pair [permille, ms]. The first permille is 0 and the last 1,000; each other one is greater " \
+    "than the one before it, and at most 999. Times have 1 to 86,400,000, and none is less than the one before it."
+WEIGHTS_RULE = "It is a pair [group, weight]. The group has 1 to 128 bytes of 0x21 to 0x7E, and the weight has 1 to " \
+    "1,000,000."
+ITEM_FORMS = {QUANTILES: "a pair of two whole numbers, as [500, 120]",
+              WEIGHTS: 'a pair of a text and a whole number, as ["customer-7", 90]'}
+ITEM_RULES = {QUANTILES: QUANTILES_RULE, WEIGHTS: WEIGHTS_RULE}
+NAME_MOST = 80
+COPIES_MOST = 1_000
 LINE_MOST = 160
 
 
@@ -63,12 +78,20 @@ class Scenario:
         found = RECORD.fullmatch(self.key or "")
         if match and found:
             self.key, self.record = found[1], int(found[2] or 0)
+        # the number of an item of the list at the key, or None
+        self.item: int | None = None
+        found = ITEM.fullmatch(self.key or "")
+        if match and found:
+            self.key, self.item = found[1], int(found[2])
         self.is_table = isinstance(self.table, dict)
 
     @property
     def path(self) -> Path:
         head: Path = (self.of, self.number) if self.of else ()
-        return head if self.key is None else (*head, self.key)
+        if self.key is None:
+            return head
+        path: Path = (*head, self.key)
+        return path if self.item is None or (*path, self.item) not in self.positions.values else (*path, self.item)
 
     @property
     def kind(self) -> str | None:
@@ -76,7 +99,8 @@ class Scenario:
 
     @property
     def version(self) -> int:
-        return 2 if self.found.get("version") == 2 else 1
+        found = self.found.get("version")
+        return found if type(found) is int and found in VERSIONS else 1
 
     def value(self, key: str | None) -> Any:
         return self.table.get(key) if self.is_table else None
@@ -126,7 +150,7 @@ def unknown_key(scenario: Scenario) -> str:
     """A key that its table does not have: of another kind of queue, beside another key, or none at all."""
     key, title = scenario.key, scenario.title()
     found = scenario.keys().get(key)
-    if found and found.queues:
+    if found and found.queues and (found.queues == FIFO) != scenario.is_fifo():
         what = "is" if scenario.of == "queue" else "is at"
         other = "a standard queue" if found.queues == FIFO else "a FIFO queue"
         return f"{key} is a key of {found.queues} queues alone, and {title} {what} {other}."
@@ -134,16 +158,30 @@ def unknown_key(scenario: Scenario) -> str:
         return f"{title} has both calls and script; one of them is enough."
     if found and found.beside:
         return f"{key} stands only together with {found.beside}, which {title} does not have."
-    version = 3 - scenario.version
-    if key in {known.name for known in keys_of(scenario.of, scenario.kind, version)}:
-        wanted = "latency_ms" if scenario.version == 1 else "latency_min_ms and latency_max_ms"
-        return f"{key} is a key of version {version}; version {scenario.version} has {wanted}."
+    other = replaced_by(scenario, key)
+    if other:
+        return f"{title} has both {key} and {other}; {other} takes its place."
+    version = next((it for it in VERSIONS if key in {known.name for known in
+                                                     keys_of(scenario.of, scenario.kind, it)}), scenario.version)
+    if not found and version != scenario.version:
+        wanted = f" has {latency_keys(scenario.version)}" if key.startswith("latency_") else " has no such key"
+        return f"{key} is a key of version {version}; version {scenario.version}{wanted}."
     for kind in ACTORS if scenario.of == "actor" else ():
         if key in {known.name for known in keys_of("actor", kind, scenario.version)}:
             return f"{key} is a key of a {kind}, and {title} is none."
     known = [name for name, found in scenario.keys().items()
              if not found.queues or (found.queues == FIFO) == scenario.is_fifo()]
     return f"{shown(key or '')} is no key of {title}; it has {', '.join(known)}.{nearest(key, known)}"
+
+
+def replaced_by(scenario: Scenario, key: str) -> str:
+    """The key of the table that stands in the place of a key, if there is one."""
+    return next((other.name for other in scenario.keys().values()
+                 if key in other.replaces and scenario.is_table and other.name in scenario.table), "")
+
+
+def latency_keys(version: int) -> str:
+    return "latency_ms" if version == 1 else "latency_min_ms and latency_max_ms"
 
 
 def missing_key(scenario: Scenario) -> str:
@@ -156,7 +194,13 @@ def missing_key(scenario: Scenario) -> str:
         text += f" beside {found.beside}"
     if found and found.queues:
         text += f" at a {found.queues} queue"
-    return f"{text}.{range_text(found)}{nearest_key(scenario)}"
+    return f"{text}{in_its_place(scenario, key)}.{range_text(found)}{nearest_key(scenario)}"
+
+
+def in_its_place(scenario: Scenario, key: str) -> str:
+    """The key that may be there in place of one that is missing, which has no other."""
+    found = next((other.name for other in scenario.keys().values() if key in other.replaces), "")
+    return f"; {found} may be there in its place" if found else ""
 
 
 def nearest_key(scenario: Scenario) -> str:
@@ -166,11 +210,20 @@ def nearest_key(scenario: Scenario) -> str:
     return f" Is {shown(found[0])} meant to be it?" if found else ""
 
 
+def of_each(key: Key) -> str:
+    low, high = ITEMS.get(key.name, (0, 0))
+    return f", each from {low:,} to {high:,}" if high else ""
+
+
 def range_text(key: Key | None) -> str:
     if key is None:
         return ""
     if key.words:
         return f" It is {', '.join(key.words[:-1])} or {key.words[-1]}."
+    if key.kind in LISTS:
+        return f" It has {key.low:,} to {key.high:,} {LISTS[key.kind]}{of_each(key)}."
+    if key.kind == TEXT and key.high:
+        return f" It has {key.low:,} to {key.high:,} bytes."
     if key.kind != NUMBER:
         return f" It is {key.kind}."
     default = "" if key.default in (None, REQUIRED) else f", and {key.default:,} where it is not given"
@@ -184,6 +237,8 @@ def wrong_type(scenario: Scenario) -> str:
                f"{KINDS.get(type(scenario.table), 'a date or time')}, and has to be a table."
     value = scenario.value(key)
     kind = KINDS.get(type(value), "a date or time")
+    if scenario.item is not None:
+        return item_of_wrong_type(scenario)
     hint = ""
     if found and found.kind == NUMBER and isinstance(value, str) and value.strip().isdigit():
         hint = " A number stands without quotes."
@@ -193,12 +248,47 @@ def wrong_type(scenario: Scenario) -> str:
            f"{range_text(found) if found and found.kind != TABLES else ''}"
 
 
+def item_text(scenario: Scenario) -> str:
+    """An item of a list, as it begins a sentence."""
+    value, place = scenario.value(scenario.key), scenario.item or 0
+    item = value[place] if isinstance(value, list) and place < len(value) else ""
+    return f"Item number {place + 1} of {scenario.key} of {scenario.title()} is {shown(text_of(item))}"
+
+
+def item_of_wrong_type(scenario: Scenario) -> str:
+    found = scenario.keys().get(scenario.key)
+    if found and found.kind == NUMBERS:
+        return f"{item_text(scenario)}, and has to be a whole number."
+    return f"{item_text(scenario)}, and has to be {ITEM_FORMS[found.kind] if found else 'of another kind'}."
+
+
+def item_out_of_range(scenario: Scenario) -> str:
+    found = scenario.keys().get(scenario.key)
+    if found and found.kind == NUMBERS:
+        low, high = ITEMS[found.name]
+        return f"{item_text(scenario)}. It has {low:,} to {high:,}."
+    return f"{item_text(scenario)}. {ITEM_RULES[found.kind] if found else ''}"
+
+
+def wrong_length(scenario: Scenario, found: Key) -> str:
+    """A list with too few or too many items."""
+    value = scenario.value(found.name)
+    count = len(value) if isinstance(value, list) else 0
+    return f"{found.name} of {scenario.title()} has {count:,} item{'s' if count != 1 else ''}.{range_text(found)}"
+
+
 def out_of_range(scenario: Scenario) -> str:
     key, value, title = scenario.key, scenario.value(scenario.key), scenario.title()
     found = scenario.keys().get(key)
     text = f"{key} of {title} is {value_text(value)}." if scenario.of else f"{key} is {value_text(value)}."
     if key == "queue" and not scenario.of:
         return "A scenario has at least one queue."
+    if key == "version" and not scenario.of and value == PREVIEW:
+        return f"{text} It is a preview, which is read only for the word --preview."
+    if scenario.item is not None:
+        return item_out_of_range(scenario)
+    if found and found.kind in LISTS:
+        return wrong_length(scenario, found)
     if key == "kind":
         return f"{text}{range_text(found)}{nearest(value, list(ACTORS))}"
     if key == "body":
@@ -213,21 +303,49 @@ def out_of_range(scenario: Scenario) -> str:
     return f"{text}{range_text(found)}{nearest(value, found.words) if found and found.words else ''}"
 
 
+def copies_of(scenario: Scenario, item: Any) -> list[str]:
+    """The names of the copies of an actor's table, if it has some."""
+    if not isinstance(item, dict) or item.get("kind") != "consumer" or scenario.version < PREVIEW:
+        return []
+    count = item.get("copies")
+    return [f"{item.get('name')}-{number}" for number in range(1, count + 1)] \
+        if isinstance(count, int) and 1 <= count <= COPIES_MOST else []
+
+
+def names_in(scenario: Scenario, of: str, number: int, item: Any) -> dict[str, str]:
+    """The names that a table takes, each with what has it."""
+    line, _ = line_of(scenario, (of, number, "name"))
+    copies = copies_of(scenario, item) if of == "actor" else []
+    return {**{name: f"A copy of the consumer in line {line}" for name in copies},
+            str(item.get("name")): f"The {of} in line {line}"}
+
+
+def tables_before(scenario: Scenario) -> Iterator[dict[str, str]]:
+    """What the names of the tables are before the place of the fault, table by table."""
+    for of in ("queue", "actor", "task"):
+        items = scenario.found.get(of, [])
+        for number, item in enumerate(items if isinstance(items, list) else []):
+            if (of, number) == (scenario.of, scenario.number):
+                return
+            if isinstance(item, dict):
+                yield names_in(scenario, of, number, item)
+
+
 def bad_name(scenario: Scenario) -> str:
     value = str(scenario.value("name"))
+    if scenario.key == "copies":
+        longest = max(copies_of(scenario, scenario.table), key=len, default=value)
+        return f"The name {shown(longest)} of a copy has {len(longest)} characters, and may have {NAME_MOST}."
     return f"The name {shown(value)} will not do. {NAMES['queue' if scenario.of == 'queue' else 'actor']}"
 
 
 def name_twice(scenario: Scenario) -> str:
-    name = scenario.value("name")
-    for of in ("queue", "actor", "task"):
-        items = scenario.found.get(of, [])
-        for number, item in enumerate(items if isinstance(items, list) else []):
-            if isinstance(item, dict) and item.get("name") == name and (of, number) != (scenario.of, scenario.number):
-                line, _ = line_of(scenario, (of, number, "name"))
-                return f"The {of} in line {line} has the name {shown(str(name))} already; queues, actors and tasks " \
-                       "share their names."
-    return f"The name {shown(str(name))} stands twice."
+    names = [str(scenario.value("name"))] if scenario.key == "name" else copies_of(scenario, scenario.table)
+    for taken in tables_before(scenario):
+        for name in names:
+            if name in taken:
+                return f"{taken[name]} has the name {shown(name)} already; queues, actors and tasks share their names."
+    return f"The name {shown(names[0])} stands twice."
 
 
 def unknown_queue(scenario: Scenario) -> str:
@@ -252,8 +370,13 @@ def kind_mismatch(scenario: Scenario) -> str:
 def too_many(scenario: Scenario) -> str:
     if not scenario.of and scenario.key in ("actor", "task"):
         return "Actors and tasks together are at most 10,000."
+    if scenario.key == "copies":
+        return "Actors with all their copies, and tasks, are at most 10,000 together."
     if scenario.record is not None:
         return "A script has at most 100,000 records after the first, and 16,777,216 bytes."
+    found = scenario.keys().get(scenario.key)
+    if found and found.kind in LISTS:
+        return wrong_length(scenario, found)
     return "A scenario has at most 1,000 queues." if scenario.key else "A scenario has at most 16,777,216 bytes."
 
 
@@ -344,23 +467,24 @@ def explanation(text: str, path: str, folder: str, refusal: re.Match[str]) -> st
     return f"{path}:{row}:{column}: {line}\n{shown_line(scenario.positions.line_at(at), column)}{reason}\n"
 
 
-def checked(program: str, data: bytes, scripts: str) -> tuple[int, str, str]:
-    """Status and lines of the program's check of a scenario's bytes."""
+def checked(program: str, data: bytes, words: Sequence[str]) -> tuple[int, str, str]:
+    """Status and lines of the program's check of a scenario's bytes, with some options."""
     with tempfile.TemporaryFile() as file:
         file.write(data)
         file.seek(0)
-        run = subprocess.run([program, "check", "--scripts", scripts], stdin=file, capture_output=True)
+        run = subprocess.run([program, "check", *words], stdin=file, capture_output=True)
     return run.returncode, run.stdout.decode("utf-8", "replace"), run.stderr.decode("utf-8", "replace")
 
 
 def main(words: Sequence[str]) -> int:
     parser = Parser(__doc__)
     parser.add_argument("scenario", metavar="SCENARIO")
+    parser.add_argument("--preview", action="store_true")
     parser.add_argument("--scripts", default=".", metavar="DIR")
     parser.add_argument("--program", metavar="P")
     options = parser.parse_args(words)
     data = read_bytes(options.scenario)
-    status, out, err = checked(program_of(options.program), data, options.scripts)
+    status, out, err = checked(program_of(options.program), data, reading_words(options))
     if status == 0:
         print_text(out)
         return 0

@@ -7,6 +7,7 @@ import shlex
 from typing import NamedTuple
 
 from .console import Fault, check_output, path_of, print_text, read_bytes, shown
+from .programs import preview_words
 from .results import (WINDOW, Collection, Head, Share, checksum, checksum_of_scripts, collected, files_in, left_of,
                       name_of, ranges_of, read_result, shares_left, write_result)
 from .scenarios import items_of, names_of
@@ -53,7 +54,8 @@ def command(sweep: Sweep, share: Share, folder: str, mark: str) -> str:
     words = [path_of("sweep"), os.path.abspath(sweep.path)]
     for kind, setting in (*sweep.settings.given, *window_of(sweep)):
         words += [f"--{kind}", setting]
-    return shlex.join([*words, "--program", sweep.program, "--scripts", os.path.abspath(sweep.scripts),
+    words += [*preview_words(sweep.is_preview), "--program", sweep.program]
+    return shlex.join([*words, "--scripts", os.path.abspath(sweep.scripts),
                        "--share", f"{share.number}/{share.of}", "--mark", mark, "--results", os.path.abspath(folder)])
 
 

@@ -1,20 +1,24 @@
 """Writes a scenario that is made of queues and actors. from-queue and from-plan import it; it is not a command."""
+import re
 from argparse import ArgumentParser, Namespace
 from collections.abc import Iterable, Sequence
 
 from .actors import Actors, Wiring, plain
 from .console import Fault, check_output, note, write_text
+from .keys import PREVIEW
 from .queues import Queue
 
 QUEUES_MOST = 1_000
+LATENCY = re.compile(r"latency_ms = ([0-9]+)")
 HEAD = """# Queues from {source}. Each DEFAULT marks what is not told there: check it.
 # DEFAULT of every queue: in_flight of 120000, the quota of SQS, and for standard queues hosts of 1, so that a short
 # poll sees every message; bodies have at most 1,024 bytes.
 {actors}
-version = 1
+version = {version}
 horizon = {horizon} # DEFAULT: how long to rehearse, in milliseconds.
 """
 NO_ACTORS = "# To rehearse them, add actors that send and receive."
+PREVIEW_TEXT = "# Version 3 is a preview: run this with --preview.\n"
 SKELETONS = "# Each SKELETON marks actors that were made up: give them the rates and times of your own."
 
 
@@ -26,9 +30,18 @@ def note_waits(queues: Iterable[Queue]) -> None:
                        f"{queue.wait}")
 
 
-def scenario_text(queues: Sequence[Queue], source: str, horizon: int, notes: Sequence[str], actors: str) -> str:
+def with_two_latencies(queue: Queue) -> None:
+    """Gives the latency of a queue's redrives by two bounds, as scenarios from version 2 on have it."""
+    queue.lines = [LATENCY.sub(r"latency_min_ms = \1\nlatency_max_ms = \1", line) for line in queue.lines]
+    queue.notes = [note.replace("latency_ms of", "latency_min_ms and latency_max_ms of") for note in queue.notes]
+
+
+def scenario_text(queues: Sequence[Queue], source: str, horizon: int, notes: Sequence[str], actors: str,
+                  is_preview: bool) -> str:
     """The text of a scenario; `notes` are of no queue, and `actors` is the text of the actors."""
-    text = HEAD.format(source=source, actors=SKELETONS if "# SKELETON" in actors else NO_ACTORS, horizon=horizon)
+    title = SKELETONS if "# SKELETON" in actors else NO_ACTORS
+    text = HEAD.format(source=source, actors=(PREVIEW_TEXT if is_preview else "") + title, horizon=horizon,
+                       version=PREVIEW if is_preview else 1)
     for queue in queues:
         text += "\n".join(["", "[[queue]]", *queue.lines, *(f"# {note}." for note in queue.notes)]) + "\n"
     return text + ("\n" if notes else "") + "".join(f"# {note}.\n" for note in notes) + actors
@@ -47,10 +60,12 @@ def check_options(options: Namespace) -> None:
     check_output(options.output)
 
 
-def tell_and_write(queues: list[Queue], options: Namespace, source: str, wiring: Wiring | None = None) -> int:
+def tell_and_write(queues: list[Queue], options: Namespace, source: str, wiring: Wiring | None = None,
+                   is_preview: bool = False) -> int:
     """Prints the notes on all queues and writes the scenario, or prints the faults; returns the status.
 
-    With `wiring` it has actors; with --depth those that send what is there in the beginning.
+    With `wiring` it has actors; with --depth those that send what is there in the beginning. With `is_preview` it has
+    version 3.
     """
     if len(queues) > QUEUES_MOST:
         raise Fault(f"{len(queues)} queues are too many: a scenario has at most {QUEUES_MOST}")
@@ -59,7 +74,9 @@ def tell_and_write(queues: list[Queue], options: Namespace, source: str, wiring:
         for line in faults:
             note(line)
         return 2
-    actors = Actors(queues, options.horizon)
+    for queue in queues if is_preview else ():
+        with_two_latencies(queue)
+    actors = Actors(queues, options.horizon, is_preview)
     for queue in queues:
         for attribute, count in queue.present.items():
             actors.depth(queue, attribute, count)
@@ -70,5 +87,5 @@ def tell_and_write(queues: list[Queue], options: Namespace, source: str, wiring:
     for line in [*(f"{queue.name}: {text}" for queue in queues for text in queue.notes), *notes,
                  *(f"{place}: {text}" for place, text in actors.notes)]:
         note(line)
-    write_text(options.output, scenario_text(queues, source, options.horizon, notes, actors.text))
+    write_text(options.output, scenario_text(queues, source, options.horizon, notes, actors.text, is_preview))
     return 0

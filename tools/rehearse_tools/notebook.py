@@ -22,9 +22,9 @@ from typing import Any, NamedTuple
 from . import sweep as tool
 from .console import Fault, library
 from .logs import FINAL_HEADER, HEADERS, LOG_HEADER, Log
-from .programs import program_of
+from .programs import preview_words, program_of
 from .runs import first_line
-from .scenarios import Setting, scenario_at, varied, written
+from .scenarios import Setting, scenario_at, text_of_value, varied, written
 from .summaries import Reading, read_runs, values_of
 from .units import window_of
 
@@ -42,7 +42,7 @@ OPTIONS = {"zip": "--zip", "require": "--require", "spread": "--spread", "agains
 JOINED = ("columns",)
 INTERRUPTED = 130
 # A value of a setting, and the words of an option.
-Value = str | int | bool
+Value = str | int | bool | list[Any]
 Words = str | float | Sequence[str]
 
 
@@ -65,11 +65,11 @@ class Swept(NamedTuple):
 
 
 def rehearse(scenario: str, settings: Mapping[str, Value] | None = None, scripts: str = ".",
-             program: str | None = None, as_lists: bool = False) -> Rehearsal:
-    """Runs a scenario with some settings, as {"seed": 7, "queue.orders.visibility_s": 60}; `scripts` and `program` are
-    as for tools/sweep."""
+             program: str | None = None, as_lists: bool = False, preview: bool = False) -> Rehearsal:
+    """Runs a scenario with some settings, as {"seed": 7, "queue.orders.visibility_s": 60}; `scripts`, `program` and
+    `preview` are as for tools/sweep."""
     check_tables(as_lists)
-    command = [program_of(program), "run", "--scripts", scripts]
+    command = [program_of(program), "run", *preview_words(preview), "--scripts", scripts]
     with file_of(scenario) as path, tempfile.TemporaryDirectory() as folder:
         words = {Setting(name): word_of(value) for name, value in (settings or {}).items()}
         text = written(varied(scenario_at(path), words))
@@ -98,17 +98,19 @@ def summary(paths: str | Sequence[str], first: str | None = None, last: str | No
     return values if as_lists else pandas().DataFrame(values)
 
 
-def sweep(scenario: str, vary: Mapping[str, str | Iterable[Value]], as_lists: bool = False, **options: Words) -> Swept:
+def sweep(scenario: str, vary: Mapping[str, str | Iterable[Value]], as_lists: bool = False, preview: bool = False,
+          **options: Words) -> Swept:
     """Runs a scenario with settings varied, as {"queue.jobs.visibility_s": [2, 5], "seed": range(1, 21)}; a text is
     taken as tools/sweep has it, as "1..20".
 
     The options are those of tools/sweep, by the names of OPTIONS: what may be given several times is a list, and
-    `columns` a list of names. Standard error reports what is settled over runs, and what fails.
+    `columns` a list of names; `preview` lets scenarios have version 3. Standard error reports what is settled over
+    runs, and what fails.
     """
     check_tables(as_lists)
     with file_of(scenario) as path, tempfile.TemporaryDirectory() as folder:
         output = os.path.join(folder, "rows.csv")
-        words = [f"--vary={name}={values_word(values)}" for name, values in vary.items()]
+        words = [*preview_words(preview), *(f"--vary={name}={values_word(values)}" for name, values in vary.items())]
         with called_as("sweep"):
             status = tool.main([path, *words, *option_words(options), f"--output={output}"])
         if status == INTERRUPTED:
@@ -163,11 +165,12 @@ def called_as(name: str) -> Iterator[None]:
 
 
 def word_of(value: Value) -> str:
-    """A value as a word of a sweep; a text with a comma, or with what looks like a range, stands in quotes."""
-    if isinstance(value, bool):
-        return str(value).lower()
+    """A value as a word of a sweep; a text with a comma, or with what looks like a range or a list, stands in
+    quotes."""
+    if isinstance(value, (bool, list)):
+        return text_of_value(value)
     text = str(value)
-    return f'"{text}"' if isinstance(value, str) and ("," in text or ".." in text) else text
+    return f'"{text}"' if isinstance(value, str) and ("," in text or ".." in text or text[:1] == "[") else text
 
 
 def values_word(values: str | Iterable[Value]) -> str:

@@ -3,6 +3,7 @@ import os
 import shutil
 import subprocess
 import sys
+from argparse import Namespace
 
 from .console import TOOLS, Fault, read_bytes
 
@@ -56,3 +57,14 @@ def program_itself(given: str | None) -> str:
     if not read_bytes(found).startswith(b"\x7fELF"):
         raise Fault(f"{found} is a script, and not the program itself")
     return found
+
+
+def preview_words(is_preview: bool) -> list[str]:
+    """The program's word for version 3, if that is asked for."""
+    return ["--preview"] if is_preview else []
+
+
+def reading_words(options: Namespace) -> list[str]:
+    """The program's options of how a scenario is read, from those of a tool: --scripts, and --preview if it is given.
+    """
+    return [*preview_words(options.preview), "--scripts", options.scripts]

@@ -1,7 +1,7 @@
 """Runs a scenario and reports it in one HTML file, which opens in a browser without a network:
 
     tools/report SCENARIO --output FILE.html [--require 'orders.age_p95<60s' ..] [--queue NAME ..] [--title TEXT]
-        [--from TIME] [--to TIME] [--scripts DIR] [--program P]
+        [--from TIME] [--to TIME] [--preview] [--scripts DIR] [--program P]
 
 The page has the requirements and whether they hold, a table of all queues, pictures over time that can be zoomed with
 the mouse, all numbers of each queue, the settings with their seed, and the command that made it. Its head has the
@@ -9,9 +9,9 @@ version, the date, which is that of SOURCE_DATE_EPOCH if the environment has it,
 scripts. --require is as for tools/sweep: a column of the report of a queue, a comparison and a number; one that fails
 or is undecided has a line on standard error. Without --queue the 20 queues with the most rows are shown.
 --from counts the run from this time on, such as 90s or 1.5h, so that a warm-up is left out, and --to ends it. --title
-is the title of the page, and --scripts the folder of the scenario's scripts, as for the program. The program is that of
---program, else of SQS_REHEARSE of the environment, else sqs_rehearse beside this folder. The status is 0, 1 if
-a requirement does not hold or the program refuses the scenario, 2 for a fault.
+is the title of the page, --scripts the folder of the scenario's scripts, and --preview the word for version 3, as for
+the program. The program is that of --program, else of SQS_REHEARSE of the environment, else sqs_rehearse beside this
+folder. The status is 0, 1 if a requirement does not hold or the program refuses the scenario, 2 for a fault.
 
 Examples:
 
@@ -45,7 +45,7 @@ from .histories import (PLACES, Course, Histories, History, ages_are_spread, age
 from .logs import Log
 from .overview import COLUMNS as OVERVIEW
 from .overview import cells_of
-from .programs import TOP, program_of
+from .programs import TOP, program_of, reading_words
 from .requirements import Failure, Requirement
 from .runs import COLUMNS, Ages, Counting, extra_of, reported
 from .scenarios import names_of, parsed, written
@@ -113,10 +113,11 @@ function draw(id, traces, layout, options) {{
 """
 
 
-def run_program(program: str, text: str, scripts: str, path: str) -> str | None:
-    """Runs the scenario and writes its log and what follows into a file; returns the refusal, or None."""
+def run_program(program: str, text: str, words: Sequence[str], path: str) -> str | None:
+    """Runs the scenario with some options and writes its log and what follows into a file; returns the refusal, or
+    None."""
     with open(path, "wb") as out:
-        run = subprocess.run([program, "run", "--quiet", "--scripts", scripts], input=text.encode("utf-8"), stdout=out,
+        run = subprocess.run([program, "run", "--quiet", *words], input=text.encode("utf-8"), stdout=out,
                              stderr=subprocess.PIPE)
     if run.returncode == 0:
         return None
@@ -398,6 +399,7 @@ def options_of(words: Sequence[str]) -> Namespace:
     parser.add_argument("--from", dest="first", metavar="TIME")
     parser.add_argument("--to", dest="last", metavar="TIME")
     parser.add_argument("--title")
+    parser.add_argument("--preview", action="store_true")
     parser.add_argument("--scripts", default=".", metavar="DIR")
     parser.add_argument("--program", metavar="P")
     options = parser.parse_args(words)
@@ -440,7 +442,7 @@ def main(words: Sequence[str]) -> int:
     program = program_of(options.program)
     with tempfile.TemporaryDirectory() as folder:
         path = os.path.join(folder, "log")
-        refusal = run_program(program, cut_text, options.scripts, path)
+        refusal = run_program(program, cut_text, reading_words(options), path)
         if refusal:
             print(f"{tool()}: {shown(refusal)}; {command_of('explain')} tells more", file=sys.stderr)
             return 1

@@ -79,10 +79,22 @@ def written(scenario: Mapping[str, Any]) -> str:
     return "\n".join(lines) + "\n"
 
 
-def value_of(word: str) -> int | str:
-    """The value of a setting's word: a whole number, true, false, or a text, which may be in double quotes."""
+def list_of(word: str) -> list[Any] | None:
+    """The list that a word is, as TOML has it, or None."""
+    try:
+        found = tomllib.loads(f"word = {word}")["word"]
+    except (ValueError, RecursionError):
+        return None
+    return found if isinstance(found, list) else None
+
+
+def value_of(word: str) -> int | str | list[Any]:
+    """The value of a setting's word: a whole number, true, false, a list, or a text, which may be in double quotes."""
     if WHOLE_NUMBER.fullmatch(word):
         return int(word)
+    found = list_of(word) if word.startswith("[") else None
+    if found is not None:
+        return found
     if word in ("true", "false"):
         return word == "true"
     if re.fullmatch(r'"[^"]*"', word):

@@ -3,7 +3,7 @@
     tools/sweep SCENARIO --vary queue.orders.visibility_s=2,5,10 --vary seed=1..20 [--spread seed]
         [--require 'orders.age_p95<60s in 95%' ..] [--columns NAMES] [--table] [--output FILE]
         [--against queue.orders.visibility_s=5 | --against OTHER] [--until 5% | --until decided] [--most N]
-        [--from TIME] [--to TIME] [--settling FILE.svg] [--window TIME] [--price N] [--program P]
+        [--from TIME] [--to TIME] [--settling FILE.svg] [--window TIME] [--price N] [--preview] [--program P]
         [--scripts DIR] [--jobs N] [--cluster tcp://HOST:8786]
     tools/sweep SCENARIO --least count.worker=1..64 --vary seed=1..200 --spread seed
         --require 'orders.age_p95<60s in 95%'
@@ -17,8 +17,9 @@
           each. count.NAME copies the table of an actor: with count.worker=3 worker-1 takes the place of worker, and
           worker-2 and worker-3 come after all actors, so that the random numbers of others stay. A setting may name
           worker or its copies. The values are words between commas, 1..20 for all whole numbers from 1 to 20, and
-          0..100..10 for every tenth. A word with a comma is put in double quotes. If --vary is given several times, all
-          combinations are run. A key that the scenario does not have is added.
+          0..100..10 for every tenth. A word with a comma is put in double quotes; a list has its brackets, as
+          actor.worker.backoff_s=[1],[1,60]. If --vary is given several times, all combinations are run. A key that the
+          scenario does not have is added.
 --zip     a setting that goes with the --vary before it, its first value with the first and so on, as in
           --vary seed=1..3 --zip actor.shop.script=a.csv,b.csv,c.csv
 --require what must hold in each variant: a column of the report of a queue, one of < <= > >= = !=, and a number, for
@@ -56,6 +57,7 @@
           backlog_gone: when a backlog ended last, as `summary --help` has it: 0 if there was none, empty at its end
           requests, cost: API requests as `summary` counts them, and what they cost at --price a million
 --table   prints a table for people in place of CSV, without columns, and rows of queues, that have no number
+--preview reads version 3 of scenarios too, as `run --preview` does
 --program the program; without it SQS_REHEARSE of the environment, else sqs_rehearse beside this folder
 --scripts the folder of the scenario's scripts, as for the program
 --jobs    how many runs at once; without it one for each processor
@@ -149,6 +151,7 @@ def options_of(words: Sequence[str]) -> argparse.Namespace:
     parser.add_argument("--price", type=float, metavar="NUMBER")
     parser.add_argument("--columns", metavar="NAMES")
     parser.add_argument("--table", action="store_true")
+    parser.add_argument("--preview", action="store_true")
     parser.add_argument("--program", metavar="P")
     parser.add_argument("--scripts", default=".", metavar="DIR")
     parser.add_argument("--jobs", type=int, metavar="N")
@@ -171,7 +174,7 @@ def options_of(words: Sequence[str]) -> argparse.Namespace:
 def check_mode(options: argparse.Namespace) -> None:
     """Makes sure that what is asked for is one thing."""
     if options.collect and (options.scenario or options.vary or options.least or options.until
-                            or options.first or options.last
+                            or options.first or options.last or options.preview
                             or any(getattr(options, mode) for mode in MODES[:-1])):
         raise Fault("--collect reads what was run, and takes no SCENARIO, --vary, --print-jobs or --print-scenario")
     if not options.collect and not (options.scenario and (options.vary or options.require)):
@@ -420,7 +423,7 @@ def main(words: Sequence[str]) -> int:
         return main_of_collect(options, requirements)
     searched = [Given("vary", options.least)] if options.least else []
     window = Window(*window_of(options.first, options.last))
-    sweep = Sweep(options.scenario, Settings([*searched, *options.vary]), options.scripts, window)
+    sweep = Sweep(options.scenario, Settings([*searched, *options.vary]), options.scripts, window, options.preview)
     check_window(sweep)
     if options.print_scenario:
         print_scenario(sweep, options.output)

@@ -14,6 +14,8 @@ from contextlib import contextmanager
 from typing import Any, NamedTuple
 
 from .console import Fault, Progress, is_terminal, tool
+from .keys import PREVIEW
+from .programs import preview_words
 from .runs import ALL_COLUMNS, COLUMNS, Ages, Counting, Ended, Engine, Extra, Ran, Take, piped, run
 from .scenarios import Setting, scenario_at, varied, written
 
@@ -22,7 +24,8 @@ VARIANTS_MOST = 1_000_000
 SECONDS_APART = 10
 # How many runs are asked for ahead of the one whose turn it is.
 AHEAD = 256
-WORDS = re.compile(r'("[^"]*"|[^",]+)(?:,(?!$)|$)')
+# A word of a list of values: a text in quotes, a list with no list in its lists, or anything else.
+WORDS = re.compile(r'("[^"]*"|\[(?:[^\[\]]|\[[^\[\]]*\])*\]|[^",]+)(?:,(?!$)|$)')
 RANGE = re.compile(r"(-?[0-9]+)\.\.(-?[0-9]+)(?:\.\.([1-9][0-9]*))?")
 
 
@@ -139,20 +142,30 @@ class Sweep:
     """A scenario, the settings to vary, and how a variant is run.
 
     `needs_ages` says of a report if the ages of the messages are wanted as well, for which the log is read. If `extra`
-    wants any columns beside those of the report, it is read for each run, and the rows have all such columns.
+    wants any columns beside those of the report, it is read for each run, and the rows have all such columns. With
+    `is_preview` scenarios of version 3 may be run.
     """
 
-    def __init__(self, path: str, settings: Settings, scripts: str, window: Window = Window()) -> None:
+    def __init__(self, path: str, settings: Settings, scripts: str, window: Window = Window(),
+                 is_preview: bool = False) -> None:
         self.path, self.settings, self.scripts, self.program = path, settings, scripts, ""
+        self.is_preview = is_preview
         self.window, self.extra = window, Extra()
         self.needs_ages: Callable[[list[list[str]]], bool] = lambda _: False
         self.engine: Engine = self.here
         self.cancel: Callable[[], None] = lambda: None
         self.scenario: dict[str, Any] = scenario_at(path)
+        self.check_preview()
         self.places = [Setting(place) for place in settings.names()]
         self.check_places()
         self.interrupted, self.lock = False, threading.Lock()
         self.running: set[subprocess.Popen[bytes]] = set()
+
+    def check_preview(self) -> None:
+        """Makes sure that version 3 is asked for, before all variants fail for it."""
+        versions = [str(self.scenario.get("version")), *self.settings.values.get("version", [])]
+        if str(PREVIEW) in versions and not self.is_preview:
+            raise Fault(f"{self.path} has version {PREVIEW}, a preview, which is read only for the word --preview")
 
     def check_places(self) -> None:
         """Makes sure that each setting names something, whatever the numbers of copies are."""
@@ -163,7 +176,7 @@ class Sweep:
 
     def of(self, path: str) -> "Sweep":
         """The same sweep of another scenario."""
-        other = Sweep(path, self.settings, self.scripts, self.window)
+        other = Sweep(path, self.settings, self.scripts, self.window, self.is_preview)
         other.program, other.extra, other.cancel = self.program, self.extra, self.cancel
         other.engine = other.here if self.engine == self.here else self.engine
         return other
@@ -204,7 +217,7 @@ class Sweep:
         return piped(command, text, take, self.watched)
 
     def command(self) -> list[str]:
-        return [self.program, "run", "--scripts", self.scripts]
+        return [self.program, "run", *preview_words(self.is_preview), "--scripts", self.scripts]
 
     def run(self, words: Sequence[str], is_counted: bool) -> Ran:
         """Runs the variant of some words, of which the log may be counted."""

@@ -1,16 +1,19 @@
 -- What an actor always keeps, and how a decision that may return an error agrees with the definitions.
 use Rattle.std.specs.Prelude.{Err, List, None, Ok, Option, Result, Some, [], length, max, ℕ, ◌<◌, ◌≡◌, ◌≤◌, ◌∷◌}
-use Rattle.sim_actor.specs.declared.actor.LastAct.{LastAct as OwnStage}
-use Rattle.sim_actor.specs.declared.actor.LastAct.TheVariants as own
+use Rattle.sim_actor.specs.declared.life.LastAct.{LastAct as OwnStage}
+use Rattle.sim_actor.specs.declared.life.LastAct.TheVariants as own
 use Rattle.sim_clock.specs.declared.refusal.Refusal.{Refusal}
 use Rattle.sim_clock.specs.declared.refusal.Refusal.TheVariants as refusals
 use Rattle.sqs_message.specs.declared.calls.ScriptCall.{ScriptCall}
 use Rattle.sqs_model.specs.declared.acts.Act.{Act}
+use Rattle.sqs_model.specs.declared.agents.ActorSettings.{ActorSettings}
 use Rattle.sqs_model.specs.declared.agents.Role.{Role}
 use Rattle.sqs_model.specs.declared.agents.Role.TheVariants.{Consumer, Producer, Script}
-use Rattle.sqs_model.specs.Actor.{Actor, Asked, Ended, Served, LastAct, act_of, first_at}
+use Rattle.sqs_model.specs.Actor.{Actor, Asked, Beat, Ended, Failed, Served, LastAct, act_of, first_at}
 use Rattle.sqs_model.specs.Answers.{most_count}
+use Rattle.sqs_model.specs.Draw.{Draws}
 use Rattle.sqs_model.specs.Valid.{IsConsumer, IsProducer}
+use Rattle.sqs_redrive.specs.declared.answers.Got.{Got}
 
 -- a role whose settings are in range; a script has at most 100,000 calls
 abbrev pub IsRole : Role → Type 0
@@ -23,6 +26,40 @@ abbrev pub last_act_of : OwnStage → LastAct
 last_act_of own.Asked = Asked
 last_act_of (own.Served receipt) = Served receipt
 last_act_of own.Ended = Ended
+last_act_of own.Failed = Failed
+last_act_of own.Beat = Beat
+
+-- an actor without its settings
+pub record Life : Type 0 where
+  pub number : ℕ
+  pub held : List Got
+  pub done : List Got
+  pub failed : List Got
+  pub ends : ℕ
+  pub last_act : LastAct
+  pub wake : Option ℕ
+  pub wakes : ℕ
+  pub polls : ℕ
+  pub sent : ℕ
+  pub draws : Draws
+
+-- the actor with these settings and this life
+abbrev pub lived : ActorSettings → Life → Actor
+lived settings l =
+    record {
+      number = l.number;
+      settings = settings;
+      held = l.held;
+      done = l.done;
+      failed = l.failed;
+      ends = l.ends;
+      last_act = l.last_act;
+      wake = l.wake;
+      wakes = l.wakes;
+      polls = l.polls;
+      sent = l.sent;
+      draws = l.draws;
+    }
 
 -- the greatest of the counts that a decision may move: wakes, transfers and words
 abbrev pub greatest_count : Actor → ℕ

@@ -4,59 +4,34 @@ ghost use Rattle.sqs_model.specs.Answers.{most_count};
 ghost use Rattle.sim_actor.specs.Lives.{IsFramed, IsRole};
 ghost use Rattle.sqs_model.specs.Scenario.{first_wake as the_first_wake};
 
-mod consumer;
 mod counts;
 mod decision;
-mod producer;
-mod script;
 
+use crate::holding::Holding;
+use crate::life::{LastAct, Life};
 use sim_clock::Refusal;
 use sim_draw::Draws;
-use sqs_message::Receipt;
 use sqs_model::{ActorSettings, MOST_COUNT, Role};
-use sqs_redrive::Got;
 use std::alloc::Global;
-use std::collections::VecDeque;
 use std::marker::Model;
-
-/// The last act of a consumer.
-#[derive(Clone, Copy)]
-enum LastAct {
-    /// It asked for messages.
-    Asked,
-    /// It served the message with this receipt, and the service ended well.
-    Served(Receipt),
-    /// It ended a service and did what follows one.
-    Ended,
-}
 
 /// A script, a producer or a consumer: what it holds and counts, when it wakes, and its draws.
 /// Contracts see it as the definitions' record of these.
 #[derive(Drop)]
 pub struct Actor {
-    alloc: Global,
-    number: u32,
     settings: ActorSettings,
-    held: VecDeque<Got>,
-    last_act: LastAct,
-    wake: Option<u64>,
-    wakes: u64,
-    polls: u64,
-    sent: u64,
-    draws: Draws,
+    life: Life,
 }
 
 impl Model for Actor {
-    ghost use Rattle.std.specs.Prelude.{◌≤◌};
     ghost use Rattle.sqs_model.specs.Actor.{Actor};
-    ghost use Rattle.sqs_model.specs.Answers.{most_count};
-    ghost use Rattle.sim_actor.specs.Lives.{IsRole, last_act_of};
+    ghost use Rattle.sim_actor.specs.Lives.{IsRole, lived};
 
     ghost Value = { Actor };
 
-    ghost view = { λ a. record { number = a.number; settings = a.settings; held = a.held.items; last_act = last_act_of a.last_act; wake = a.wake; wakes = a.wakes; polls = a.polls; sent = a.sent; draws = a.draws } };
+    ghost view = { λ a. lived a.settings a.life };
 
-    ghost invariant = { λ a. IsRole a.settings.role × (a.wakes ≤ most_count) × (a.polls ≤ most_count) × (a.sent ≤ most_count) × (a.draws.taken ≤ most_count) };
+    ghost invariant = { λ a. IsRole a.settings.role };
 }
 
 // When an actor with a role first wakes, in milliseconds.
@@ -80,16 +55,19 @@ impl Actor {
     {
         let wake = first_wake(&settings.role);
         Actor {
-            alloc,
-            number,
             settings,
-            held: VecDeque::new(alloc),
-            last_act: LastAct::Asked,
-            wake,
-            wakes: 0,
-            polls: 0,
-            sent: 0,
-            draws: Draws::new(seed, number),
+            life: Life {
+                alloc,
+                number,
+                holding: Holding::new(alloc),
+                ends: 0,
+                last_act: LastAct::Asked,
+                wake,
+                wakes: 0,
+                polls: 0,
+                sent: 0,
+                draws: Draws::new(seed, number),
+            },
         }
     }
 
@@ -97,14 +75,14 @@ impl Actor {
     pub fn wake(&self) -> Option<u64>
         ensures { result ≡ self.now.wake }
     {
-        self.wake
+        self.life.wake
     }
 
     /// Its number among the agents.
     pub fn number(&self) -> u32
         ensures { result ≡ self.now.number }
     {
-        self.number
+        self.life.number
     }
 
     /// Its settings.
@@ -122,10 +100,10 @@ impl Actor {
         ensures unchanged { OnErr result (self.new ≡ self.old) }
         ensures framed { IsFramed self.old self.new }
     {
-        if self.polls == MOST_COUNT {
+        if self.life.polls == MOST_COUNT {
             return Err(Refusal::CountLimit);
         }
-        self.polls += 1;
+        self.life.polls += 1;
         Ok(())
     }
 }

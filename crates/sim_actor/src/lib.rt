@@ -5,6 +5,8 @@
 
 mod actor;
 mod bodies;
+mod holding;
+mod life;
 
 pub use actor::Actor;
 pub use sqs_model::{Act, Answer};

@@ -1,11 +1,16 @@
 //! The draws of one agent.
-ghost use Rattle.std.specs.Prelude.{◌≡◌, ◌+◌, ◌<◌, ◌≤◌, ◌^◌};
+ghost use Rattle.std.specs.Prelude.{◌≡◌, ◌+◌, ◌<◌, ◌≤◌, ◌^◌, IfOk, OnErr};
 ghost use Rattle.sqs_model.specs.Answers.{most_count};
-ghost use Rattle.sqs_model.specs.Draw.{moved_on, next_word, uniform as the_uniform, chance as the_chance, drawn_between};
+ghost use Rattle.sqs_model.specs.Draw.{moved_on, next_word, uniform as the_uniform, chance as the_chance, drawn_between, drawn_group, drawn_time};
+ghost use Rattle.sqs_model.specs.Valid.{AreWeighted, IsDistribution};
 
+use crate::groups::group_at;
+use crate::quantiles::time_at;
 use rand_chacha::ChaCha20Rng;
 use rand_core::SeedableRng;
 use rand_core::utils::NextWord;
+use sqs_model::{Distribution, WeightedGroup};
+use std::alloc::{AllocError, Global};
 use std::marker::Model;
 
 /// The random words of one agent under a seed, and how many of them were taken. Contracts see it as
@@ -106,5 +111,46 @@ impl Draws {
         } else {
             low
         }
+    }
+
+    /// A time in milliseconds by a distribution. It always takes one word.
+    pub fn time(&mut self, distribution: &Distribution) -> u64
+        requires words { self.old.taken ≤ most_count }
+        requires range { IsDistribution distribution.now }
+        ensures drawn { drawn_time distribution.now self.old ≡ (result, self.new) }
+        ensures greatest { result ≤ 86400000 }
+    {
+        match distribution {
+            Distribution::Uniform(low, high) => self.uniform(*low, *high),
+            Distribution::Quantiles(quantiles) => {
+                let word = self.word();
+                time_at(quantiles.as_slice(), word)
+            }
+        }
+    }
+
+    // Gives the last word back, as if it had not been taken.
+    fn give_back(&mut self)
+        requires { 1 ≤ self.old.taken }
+        ensures { moved_on self.new ≡ self.old }
+    {
+        self.taken -= 1;
+        self.words.set_word_pos(u128::from(self.taken));
+    }
+
+    /// A copy of one of some groups, each as likely as its weight says. It takes one word, but none
+    /// if the copy lacks memory.
+    pub fn group(&mut self, alloc: Global, groups: &[WeightedGroup]) -> Result<Vec<u8>, AllocError>
+        requires words { self.old.taken ≤ most_count }
+        requires range { AreWeighted groups.now }
+        ensures drawn { IfOk result (λ g. drawn_group groups.now self.old ≡ (g.items, self.new)) }
+        ensures unchanged { OnErr result (self.new ≡ self.old) }
+    {
+        let word = self.word();
+        let group = group_at(groups, word).to_vec(alloc);
+        if group.is_err() {
+            self.give_back();
+        }
+        group
     }
 }

@@ -3,5 +3,7 @@
 #![tactic(auto)]
 
 mod draws;
+mod groups;
+mod quantiles;
 
 pub use draws::Draws;

@@ -1,31 +1,42 @@
 -- What each actor of a text says: its name, its ranges, its home, and what it does there.
-use Rattle.std.proofs.Common.{◌≡◌, ◌∙◌, ℕ, ◌+◌, ◌<◌, ◌≤◌, Bool, true, false, codes, List, length, map, Option, Some, None, Result, Ok, Err, refl, sym, ap, lit≤}
+use Rattle.std.proofs.Common.{◌≡◌, ◌∙◌, ℕ, zero, suc, ◌<◌, ◌≤◌, Bool, true, false, codes, List, [], ◌∷◌, length, get_or, map, Option, Some, None, Result, Ok, Err, refl, sym, subst, ap, arith, lit≤}
 use Rattle.std.specs.Prelude.{All}
+use Rattle.std.proofs.lemmas.Bool.Decides.{Decides-eqb}
+use Rattle.std.proofs.lemmas.List.Elements.{All-cons, All-head, All-nil, All-tail}
+use Rattle.std.proofs.lemmas.List.FromFn.{length-map-range_with_len}
+use Rattle.std.proofs.lemmas.List.Sums.{AllPass-from_list_all}
 use Rattle.std.specs.Result.{result_map_both}
 use Rattle.sqs_message.specs.declared.calls.ScriptCall.{ScriptCall}
 use Rattle.sqs_formats.specs.declared.actor_kind.ActorKind.{ActorKind}
 use Rattle.sqs_formats.specs.declared.actor_kind.ActorKind.TheVariants as kinds
 use Rattle.sqs_formats.specs.declared.home.Home.{Home}
-use Rattle.sqs_formats.specs.Keys.{Table, at, has, place_of, text_when}
+use Rattle.sqs_formats.specs.Keys.{Table, at, has, integer, optional, place_of, seconds, text_when}
+use Rattle.sqs_formats.specs.Copies.{copy_name, copy_names}
 use Rattle.sqs_formats.specs.Names.{is_agent_name}
-use Rattle.sqs_formats.specs.Outline.{Outline, kin_named, kind_at, queue_named, queue_number}
-use Rattle.sqs_formats.specs.Actors.{Files, actor, calls, calls_by, calls_in, consuming, forward, home_of, producing, role, script_fault, script_file, scripted, sending}
+use Rattle.sqs_formats.specs.Outline.{Outline, actor_place, is_fresh, kin_named, kind_at, queue_named, queue_number}
+use Rattle.sqs_formats.specs.Actors.{Files, actor, agents_of, copies, calls, calls_by, calls_in, consuming, failing, forward, gap, home_of, producing, role, script_fault, script_file, scripted, sending, service, stopping}
 use Rattle.sqs_formats.specs.Script.{script}
 use Rattle.sqs_model.specs.declared.agents.ActorSettings.{ActorSettings}
+use Rattle.sqs_model.specs.declared.agents.Distribution.{Distribution}
 use Rattle.sqs_model.specs.declared.agents.Forwarding.{Forwarding}
+use Rattle.sqs_model.specs.declared.agents.Groups.{Groups}
 use Rattle.sqs_model.specs.declared.agents.ProducerSettings.{ProducerSettings}
 use Rattle.sqs_model.specs.declared.agents.Role.{Role}
 use Rattle.sqs_model.specs.declared.agents.Role.TheVariants.{Consumer, Producer, Script}
+use Rattle.sqs_model.specs.declared.agents.Stretch.{Stretch}
 use Rattle.sqs_model.specs.Longest.{longest_delay, longest_timeout}
-use Rattle.sqs_model.specs.Valid.{MayBeForward, MayBeTimeout}
+use Rattle.sqs_model.specs.Valid.{IsDistribution, MayBeForward, MayBeGroups, MayBeHeartbeat, MayBeMoment, MayBeTimeout}
+use Rattle.sqs_formats.specs.Lists.{integers}
 use Rattle.sim_script.specs.Ranges.{IsCallAt, IsScriptOf}
 use Rattle.sim_scenario.specs.AtHome.{IsSendingAt, MayDelay}
 use Rattle.sim_scenario.specs.Ranges.{IsRoleInRange}
-use Rattle.sim_scenario.proofs.KinRead.{IsNamed, name_says, queue_says_number, same_kind_says}
+use Rattle.sim_scenario.proofs.KinRead.{name_says, queue_says_number, same_kind_says}
 use Rattle.sim_scenario.proofs.Links.{below}
-use Rattle.sqs_formats.proofs.Readings.{parts, same_ok}
-use Rattle.sim_scenario.proofs.Admits.{Admits, bounds_within, maybe_within, optional_within, required_admits, required_read, required_within}
+use Rattle.sqs_formats.proofs.Readings.{parts, picked, same_ok}
+use Rattle.sim_scenario.proofs.Admits.{Admits, integer_admits, maybe_admits, maybe_within, optional_admits, optional_within, required_admits, required_read, required_within, seconds_admits}
 use Rattle.sim_scenario.proofs.QueueRanges.{latency_in_range}
+use Rattle.sim_scenario.proofs.GroupsRead.{groups_in_range}
+use Rattle.sim_scenario.proofs.QuantilesRead.{integers_hold, time_in_range}
 use Rattle.sim_script.proofs.ScriptRanges.{script_in_range}
 
 -- a script in the scenario
@@ -68,12 +79,28 @@ RoleSays o home (Consumer c) = ForwardKin o home c.forward
 abbrev RoleReads : Outline → ℕ → Role → Type 0
 RoleReads o home r = RoleSays o home r × IsRoleInRange r
 
--- an actor: its name, its home, what it does there, and its ranges
-pub record ActorSays (o : Outline) (index : ℕ) (t : Table) (a : List ℕ × ActorSettings) : Type 0 where
-  pub named : IsNamed is_agent_name o (length o.queues + index) t a.0
-  pub home : queue_number o (text_when (at t (codes "queue"))) ≡ Some a.1.home
-  pub role : RoleSays o a.1.home a.1.role
-  pub range : IsRoleInRange a.1.role
+-- an agent of an actor: its home, what it does there, and its ranges
+pub record AgentSays (o : Outline) (t : Table) (a : ActorSettings) : Type 0 where
+  pub home : queue_number o (text_when (at t (codes "queue"))) ≡ Some a.home
+  pub role : RoleSays o a.home a.role
+  pub range : IsRoleInRange a.role
+
+-- the name of an actor's table
+abbrev pub own_name : Table → List ℕ
+own_name t = text_when (at t (codes "name"))
+
+-- the names of an actor's agents: its own, or those of its copies
+abbrev pub agent_names : List ℕ → ℕ → List (List ℕ)
+agent_names name zero = name ∷ []
+agent_names name (suc copies) = copy_names name (suc copies)
+
+-- an actor: its name and those of its copies, which are fresh, and its agents
+pub record ActorSays (o : Outline) (index : ℕ) (t : Table) (agents : List (List ℕ × ActorSettings)) : Type 0 where
+  pub few : get_or o.copies index 0 ≤ 1000
+  pub fresh : All (λ s. is_fresh o (actor_place o index) s ≡ true) (own_name t ∷ copy_names (own_name t) (get_or o.copies index 0))
+  pub names : map (λ a. a.0) agents ≡ agent_names (own_name t) (get_or o.copies index 0)
+  pub formed : All (λ a. is_agent_name a.0 ≡ true) agents
+  pub each : All (λ a. AgentSays o t a.1) agents
 
 kin_says : (o : Outline) (home : ℕ) → Admits (λ n. (n < length o.queues) × (kind_at o n ≡ kind_at o home)) (kin_named o home)
 unfolding kin_named
@@ -92,6 +119,35 @@ forward_reads o home true t f e =
     let says = required_admits (λ n. (n < length o.queues) × (kind_at o n ≡ kind_at o home)) (kin_named o home) (kin_says o home) t (codes "forward") to.0 to.1 in
     rw (← same_ok _ _ within.2) (says, latency_in_range o.version t within.0 within.1)
 
+-- an actor stops within the longest run
+stop_reads : (start : ℕ) (t : Table) (s : Option ℕ) → stopping start t ≡ Ok s → MayBeMoment s
+unfolding stopping
+stop_reads start t s e =
+    maybe_admits MayBeMoment (integer start 2592000000) tt (λ place d n e. (integer_admits start 2592000000 place d n e).1) t (codes "stop_ms") s e
+
+-- the backoff and the heartbeat of a consumer
+failing_reads : (t : Table) (f : Option (List ℕ) × Option Stretch × Bool × List ℕ × Option ℕ) → failing t ≡ Ok f → All (λ s. s ≤ longest_timeout) f.3 × MayBeHeartbeat f.4
+unfolding failing
+failing_reads t f e =
+    let fails_on = parts _ _ _ e in
+    let outage = parts _ _ _ fails_on.2 in
+    let whole = parts _ _ _ outage.2 in
+    let backoff = parts _ _ _ whole.2 in
+    let heartbeat = parts _ _ _ backoff.2 in
+    let waits = integers_hold (λ s. s ≤ longest_timeout) 1 12 0 43200 (λ n h. h.1) in
+    rw (← same_ok _ _ heartbeat.2) (
+      optional_admits (All (λ s. s ≤ longest_timeout)) [] (integers 1 12 0 43200) (All-nil (λ s. s ≤ longest_timeout)) waits t (codes "backoff_s") backoff.0 backoff.1,
+      maybe_admits MayBeHeartbeat (seconds 1 43200) tt (seconds_admits 1 43200) t (codes "heartbeat_s") heartbeat.0 heartbeat.1,
+    )
+
+service_reads : (t : Table) (d : Distribution) → service t ≡ Ok d → IsDistribution d
+unfolding service
+service_reads t d e = time_in_range (has t (codes "service")) (codes "service") (codes "service_min_ms") (codes "service_max_ms") t d e
+
+gap_reads : (t : Table) (d : Distribution) → gap t ≡ Ok d → IsDistribution d
+unfolding gap
+gap_reads t d e = time_in_range (has t (codes "gap")) (codes "gap") (codes "gap_min_ms") (codes "gap_max_ms") t d e
+
 consumer_reads : (o : Outline) (home : ℕ) (t : Table) (r : Role) → consuming o home t ≡ Ok r → RoleReads o home r
 consumer_reads o home t r e =
     let known = parts _ _ _ e in
@@ -103,43 +159,54 @@ consumer_reads o home t r e =
     let failures = parts _ _ _ service.2 in
     let idle = parts _ _ _ failures.2 in
     let forward = parts _ _ _ idle.2 in
-    let within = bounds_within 86400000 t (codes "service_min_ms") (codes "service_max_ms") service.0 service.1 in
+    let stop = parts _ _ _ forward.2 in
+    let fails = parts _ _ _ stop.2 in
+    let lasting = failing_reads t fails.0 fails.1 in
     let onward = forward_reads o home (has t (codes "forward")) t forward.0 forward.1 in
-    rw (← same_ok _ _ forward.2) (
+    rw (← same_ok _ _ fails.2) (
       onward.0,
       record {
         start = (optional_within 0 2592000000 0 t (codes "start_ms") start.0 (lit≤ tt, lit≤ tt) start.1).1;
         batch = optional_within 1 10 1 t (codes "batch") batch.0 (lit≤ tt, lit≤ tt) batch.1;
         wait = (optional_within 0 20 0 t (codes "wait_s") wait.0 (lit≤ tt, lit≤ tt) wait.1).1;
         timeout = maybe_within MayBeTimeout longest_timeout t (codes "timeout_s") timeout.0 tt (λ n h. h) timeout.1;
-        service_min = within.0;
-        ordered = within.1;
-        service_max = within.2;
+        service = service_reads t service.0 service.1;
         failures = (optional_within 0 1000 0 t (codes "fail_permille") failures.0 (lit≤ tt, lit≤ tt) failures.1).1;
         idle = optional_within 1 86400000 1000 t (codes "idle_ms") idle.0 (lit≤ tt, lit≤ tt) idle.1;
         forward = onward.1;
+        stop = stop_reads start.0 t stop.0 stop.1;
+        backoff = lasting.0;
+        heartbeat = lasting.1;
       },
     )
 
 -- what a producer gives at a home of its kind
-sending_says : (b : Bool) (t : Table) (own : Option ℕ × Bool × Option ℕ) (p : ProducerSettings) → p.groups ≡ own.0 → p.ids ≡ own.1 → p.delay ≡ own.2 → sending b t ≡ Ok own → IsSendingAt b p
+sending_says : (b : Bool) (t : Table) (own : Option Groups × Bool × Option ℕ) (p : ProducerSettings) → p.groups ≡ own.0 → p.ids ≡ own.1 → p.delay ≡ own.2 → sending b t ≡ Ok own → IsSendingAt b p
 unfolding sending
 sending_says true t own p g i d e =
     let groups = parts _ _ _ e in
     let ids = parts _ _ _ groups.2 in
     let is = same_ok _ _ ids.2 in
-    let same : p.groups ≡ Some groups.0 = g ∙ ap (λ (x : Option ℕ × Bool × Option ℕ). x.0) (sym is) in
-    (rw same (required_within 1 1000 t (codes "groups") groups.0 groups.1), d ∙ ap (λ (x : Option ℕ × Bool × Option ℕ). x.2) (sym is))
+    let same : p.groups ≡ Some groups.0 = g ∙ ap (λ (x : Option Groups × Bool × Option ℕ). x.0) (sym is) in
+    (rw same tt, d ∙ ap (λ (x : Option Groups × Bool × Option ℕ). x.2) (sym is))
 sending_says false t own p g i d e =
     let delay = parts _ _ _ e in
     let is = same_ok _ _ delay.2 in
-    let same : p.delay ≡ delay.0 = d ∙ ap (λ (x : Option ℕ × Bool × Option ℕ). x.2) (sym is) in (
-      g ∙ ap (λ (x : Option ℕ × Bool × Option ℕ). x.0) (sym is),
-      i ∙ ap (λ (x : Option ℕ × Bool × Option ℕ). x.1) (sym is),
+    let same : p.delay ≡ delay.0 = d ∙ ap (λ (x : Option Groups × Bool × Option ℕ). x.2) (sym is) in (
+      g ∙ ap (λ (x : Option Groups × Bool × Option ℕ). x.0) (sym is),
+      i ∙ ap (λ (x : Option Groups × Bool × Option ℕ). x.1) (sym is),
       rw same (maybe_within MayDelay longest_delay t (codes "delay_s") delay.0 tt (λ n h. h) delay.1),
     )
 
-producer_reads : (o : Outline) (home : ℕ) (t : Table) (r : Role) → producing (kind_at o home) t ≡ Ok r → RoleReads o home r
+sending_in_range : (b : Bool) (t : Table) (own : Option Groups × Bool × Option ℕ) → sending b t ≡ Ok own → MayBeGroups own.0
+unfolding sending
+sending_in_range true t own e =
+    let groups = parts _ _ _ e in
+    let ids = parts _ _ _ groups.2 in
+    rw (← same_ok _ _ ids.2) (groups_in_range (has t (codes "key_groups")) t groups.0 groups.1)
+sending_in_range false t own e = let delay = parts _ _ _ e in rw (← same_ok _ _ delay.2) tt
+
+producer_reads : (o : Outline) (home : ℕ) (t : Table) (r : Role) → producing o.version (kind_at o home) t ≡ Ok r → RoleReads o home r
 producer_reads o home t r e =
     let known = parts _ _ _ e in
     let count = parts _ _ _ known.2 in
@@ -147,15 +214,15 @@ producer_reads o home t r e =
     let gap = parts _ _ _ start.2 in
     let body = parts _ _ _ gap.2 in
     let own = parts _ _ _ body.2 in
-    let within = bounds_within 86400000 t (codes "gap_min_ms") (codes "gap_max_ms") gap.0 gap.1 in
-    rw (← same_ok _ _ own.2) (
+    let stop = parts _ _ _ own.2 in
+    rw (← same_ok _ _ stop.2) (
       sending_says (kind_at o home) t own.0 _ refl refl refl own.1,
       record {
         count = required_within 1 1000000 t (codes "count") count.0 count.1;
         start = (optional_within 0 2592000000 0 t (codes "start_ms") start.0 (lit≤ tt, lit≤ tt) start.1).1;
-        gap_min = within.0;
-        ordered = within.1;
-        gap_max = within.2;
+        gap = gap_reads t gap.0 gap.1;
+        groups = sending_in_range (kind_at o home) t own.0 own.1;
+        stop = stop_reads start.0 t stop.0 stop.1;
       },
     )
 
@@ -171,18 +238,80 @@ role_reads kinds.Script files o home t r e = scripted_reads files o home t r e
 role_reads kinds.Producer files o home t r e = producer_reads o home t r e
 role_reads kinds.Consumer files o home t r e = consumer_reads o home t r e
 
-pub actor_says : (files : Files) (o : Outline) (index : ℕ) (t : Table) (a : List ℕ × ActorSettings) → actor files o index t ≡ Ok a → ActorSays o index t a
+-- the names of copies are well-formed and fresh, and have room
+record CopiesSay (o : Outline) (index : ℕ) (name : List ℕ) (names : List (List ℕ)) : Type 0 where
+  is : names ≡ copy_names name (get_or o.copies index 0)
+  few : get_or o.copies index 0 ≤ 1000
+  formed : All (λ s. is_agent_name s ≡ true) names
+  fresh : All (λ s. is_fresh o (actor_place o index) s ≡ true) names
+
+pub copies_most : (t : Table) (n : ℕ) → optional 0 (integer 1 1000) t (codes "copies") ≡ Ok n → n ≤ 1000
+copies_most t n e = optional_admits (λ n. n ≤ 1000) 0 (integer 1 1000) (omega arith) (λ place d n e. (integer_admits 1 1000 place d n e).1) t (codes "copies") n e
+
+copies_say : (o : Outline) (index : ℕ) (name : List ℕ) (t : Table) (names : List (List ℕ)) → copies o index name t ≡ Ok names → CopiesSay o index name names
+unfolding copies
+copies_say o index name t names e =
+    let n = parts _ _ _ e in
+    let formed = parts _ _ _ n.2 in
+    let fresh = parts _ _ _ formed.2 in
+    let all : List (List ℕ) = copy_names name n.0 in
+    let well = picked _ _ all formed.0 formed.1 in
+    let new = picked _ _ all fresh.0 fresh.1 in
+    let room = picked _ _ all names fresh.2 in
+    let most : n.0 ≤ 1000 = copies_most t n.0 n.1 in
+    let count : get_or o.copies index 0 ≡ n.0 = (Decides-eqb (get_or o.copies index 0) (length all)).0 room.0 ∙ length-map-range_with_len (copy_name name) 1 n.0 in
+    rw (← room.1) (record {
+      is = ap (copy_names name) (sym count);
+      few = omega arith;
+      formed = AllPass-from_list_all is_agent_name all well.0;
+      fresh = AllPass-from_list_all (is_fresh o (actor_place o index)) all new.0;
+    })
+
+-- what holds of each name with an actor's settings holds of its agents
+named_all : (P : List ℕ × ActorSettings → Type 0) (settings : ActorSettings) (names : List (List ℕ)) → All (λ n. P (n, settings)) names → All P (map (λ n. (n, settings)) names)
+named_all P settings [] h = All-nil P
+named_all P settings (n ∷ ns) h =
+    All-cons P (n, settings) (map (λ n. (n, settings)) ns) (All-head (λ n. P (n, settings)) n ns h) (named_all P settings ns (All-tail (λ n. P (n, settings)) n ns h))
+
+agents_all : (P : List ℕ × ActorSettings → Type 0) (name : List ℕ) (settings : ActorSettings) (names : List (List ℕ)) → P (name, settings) → All (λ n. P (n, settings)) names → All P (agents_of name settings names)
+agents_all P name settings [] own h = All-cons P (name, settings) [] own (All-nil P)
+agents_all P name settings (n ∷ ns) own h = named_all P settings (n ∷ ns) h
+
+names_back : (settings : ActorSettings) (names : List (List ℕ)) → map (λ (a : List ℕ × ActorSettings). a.0) (map (λ n. (n, settings)) names) ≡ names
+names_back settings [] = refl
+names_back settings (n ∷ ns) = ap (λ ns. n ∷ ns) (names_back settings ns)
+
+agents_named : (name : List ℕ) (settings : ActorSettings) (copies : ℕ) (names : List (List ℕ)) → names ≡ copy_names name copies → map (λ a. a.0) (agents_of name settings names) ≡ agent_names name copies
+agents_named name settings zero names e = rw e refl
+agents_named name settings (suc copies) names e = rw e (names_back settings (copy_names name (suc copies)))
+
+same_for_all : (P : Type 0) (names : List (List ℕ)) → P → All (λ n. P) names
+same_for_all P [] h = All-nil (λ n. P)
+same_for_all P (n ∷ ns) h = All-cons (λ n. P) n ns h (same_for_all P ns h)
+
+pub actor_says : (files : Files) (o : Outline) (index : ℕ) (t : Table) (agents : List (List ℕ × ActorSettings)) → actor files o index t ≡ Ok agents → ActorSays o index t agents
 unfolding actor
-actor_says files o index t a e =
+actor_says files o index t agents e =
     let name = parts _ _ _ e in
     let kind = parts _ _ _ name.2 in
     let home = parts _ _ _ kind.2 in
     let role = parts _ _ _ home.2 in
+    let names = parts _ _ _ role.2 in
+    let settings : ActorSettings = record { home = home.0; role = role.0 } in
     let named = required_read (queue_named o) t (codes "queue") home.0 home.1 in
     let reads = role_reads kind.0 files o home.0 t role.0 role.1 in
-    rw (← same_ok _ _ role.2) (record {
-      named = name_says is_agent_name o (length o.queues + index) t name.0 name.1;
+    let own = name_says is_agent_name o (actor_place o index) t name.0 name.1 in
+    let copied = copies_say o index name.0 t names.0 names.1 in
+    let says : AgentSays o t settings = record {
       home = ap (λ x. queue_number o (text_when x)) named.1 ∙ queue_says_number o (place_of t (codes "queue")) named.0 home.0 named.2;
       role = reads.0;
       range = reads.1;
+    } in
+    let F : List ℕ → Type 0 = λ s. is_fresh o (actor_place o index) s ≡ true in
+    rw (← same_ok _ _ names.2) (record {
+      few = copied.few;
+      fresh = subst (λ s. All F (s ∷ copy_names s (get_or o.copies index 0))) own.text (All-cons F name.0 (copy_names name.0 (get_or o.copies index 0)) own.first (subst (All F) copied.is copied.fresh));
+      names = agents_named name.0 settings (get_or o.copies index 0) names.0 copied.is ∙ ap (λ s. agent_names s (get_or o.copies index 0)) own.text;
+      formed = agents_all (λ a. is_agent_name a.0 ≡ true) name.0 settings names.0 own.form copied.formed;
+      each = agents_all (λ a. AgentSays o t a.1) name.0 settings names.0 says (same_for_all (AgentSays o t settings) names.0 says);
     })

@@ -17,9 +17,9 @@ use Rattle.sqs_formats.specs.declared.faults.ScenarioFault.{ScenarioFault}
 use Rattle.sqs_formats.specs.Keys.{fault_at}
 use Rattle.sqs_formats.specs.Reading.{and_then, needs}
 use Rattle.sqs_formats.specs.Actors.{Files}
-use Rattle.sqs_formats.specs.Scenario.{actors_in, document, document_when, is_small, names_when, scenario_in, scenario_of, script_name, script_names}
+use Rattle.sqs_formats.specs.Scenario.{actors_in, document, document_when, is_small, names_when, scenario_in, scenario_upto, script_name, script_names}
 use Rattle.sqs_model.specs.Scenario.{Scenario}
-use Rattle.sim_scenario.specs.Drafts.{IsDraftOf, draft_of}
+use Rattle.sim_scenario.specs.Drafts.{IsDraftUpto, draft_of}
 use Rattle.sim_scenario.specs.declared.draft.Draft.{Draft}
 
 -- the draft of a document, and of a text that is none
@@ -38,32 +38,33 @@ no_draft text h n =
     rw yes (ap (λ (o : Option Members). ok_or o NotToml) (none_by text (is_utf8 text) refl n))
 
 -- the scenario of a draft with its script files, or its first fault
-abbrev drafted : Files → Result Members Refusal → Result Scenario ScenarioFault
-drafted files (Ok ms) = scenario_in files ms
-drafted files (Err refusal) = Err (fault_at refusal [])
+abbrev drafted : ℕ → Files → Result Members Refusal → Result Scenario ScenarioFault
+drafted newest files (Ok ms) = scenario_in newest files ms
+drafted newest files (Err refusal) = Err (fault_at refusal [])
 
-reads_drafted : (files : Files) (o : Option Members) → and_then (ok_or o (fault_at NotToml [])) (scenario_in files) ≡ drafted files (ok_or o NotToml)
-unfolding and_then
-reads_drafted files None = refl
-reads_drafted files (Some ms) = refl
+module _ (newest : ℕ) (files : Files) where
+  reads_drafted : (o : Option Members) → and_then (ok_or o (fault_at NotToml [])) (scenario_in newest files) ≡ drafted newest files (ok_or o NotToml)
+  unfolding and_then
+  reads_drafted None = refl
+  reads_drafted (Some ms) = refl
 
-sized : (b : Bool) (files : Files) (text : List ℕ)
-    → and_then (needs b (fault_at TooMany []) text) (λ small. and_then (ok_or (document text) (fault_at NotToml [])) (scenario_in files)) ≡ drafted files (if b then ok_or (document text) NotToml else Err TooMany)
-unfolding and_then
-sized true files text = reads_drafted files (document text)
-sized false files text = refl
+  sized : (b : Bool) (text : List ℕ)
+      → and_then (needs b (fault_at TooMany []) text) (λ small. and_then (ok_or (document text) (fault_at NotToml [])) (scenario_in newest files)) ≡ drafted newest files (if b then ok_or (document text) NotToml else Err TooMany)
+  unfolding and_then
+  sized true text = reads_drafted (document text)
+  sized false text = refl
 
-scenario_of_draft : (files : Files) (text : List ℕ) → scenario_of files text ≡ drafted files (draft_of text)
-unfolding scenario_of
-scenario_of_draft files text = sized (is_small text) files text
+  scenario_of_draft : (text : List ℕ) → scenario_upto newest files text ≡ drafted newest files (draft_of text)
+  unfolding scenario_upto
+  scenario_of_draft text = sized (is_small text) text
 
-pub scenario_of_table : (files : Files) (text : List ℕ) (draft : Draft) (table : BTreeMap (String Global) Value) → IsDraftOf text draft → draft.table ≡ Ok table
-    → scenario_of files text ≡ scenario_in files (table_view table)
-scenario_of_table files text draft table of is = rw (scenario_of_draft files text, ← of, is) refl
+  pub scenario_of_table : (text : List ℕ) (draft : Draft) (table : BTreeMap (String Global) Value) → IsDraftUpto newest text draft → draft.table ≡ Ok table
+      → scenario_upto newest files text ≡ scenario_in draft.newest files (table_view table)
+  scenario_of_table text draft table of is = rw (scenario_of_draft text, ← of.table, is, of.upto) refl
 
-pub scenario_refused : (files : Files) (text : List ℕ) (draft : Draft) (refusal : Refusal) → IsDraftOf text draft → draft.table ≡ Err refusal
-    → scenario_of files text ≡ Err (fault_at refusal [])
-scenario_refused files text draft refusal of is = rw (scenario_of_draft files text, ← of, is) refl
+  pub scenario_refused : (text : List ℕ) (draft : Draft) (refusal : Refusal) → IsDraftUpto newest text draft → draft.table ≡ Err refusal
+      → scenario_upto newest files text ≡ Err (fault_at refusal [])
+  scenario_refused text draft refusal of is = rw (scenario_of_draft text, ← of.table, is) refl
 
 -- the names of script files that a draft asks for
 abbrev asked : Result Members Refusal → List (List ℕ)

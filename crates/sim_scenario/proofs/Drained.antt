@@ -19,7 +19,7 @@ use Rattle.sqs_formats.specs.Actors.{Files}
 use Rattle.sqs_formats.specs.Tasks.{task}
 use Rattle.sqs_formats.specs.Scenario.{Top}
 use Rattle.sim_scenario.specs.Kinds.{TasksDrain, dead_letter_of}
-use Rattle.sqs_formats.specs.Scenario.{whole}
+use Rattle.sqs_formats.specs.Scenario.{by_number, whole}
 use Rattle.sim_scenario.proofs.ItemsRead.{each_named, item_text}
 use Rattle.sim_script.proofs.Listing.{contains_next}
 use Rattle.sim_scenario.proofs.KinRead.{led_to, queue_says, task_says}
@@ -77,8 +77,8 @@ named_some names s n h e = λ empty.
     let form : is_queue_name (get_or names n []) ≡ true = h n [] found.0 in
     true≢false (sym form ∙ ap is_queue_name name)
 
-pub whole_drains : (files : Files) (top : Top) (o : Outline) (queues : List (List ℕ × QueueSettings)) (judged : List (Option ℕ)) (actors : List (List ℕ × ActorSettings)) (tasks : List (List ℕ × TaskSettings))
-    → AreRead files top o queues judged actors tasks → TasksDrain (whole top queues actors tasks)
+pub whole_drains : (files : Files) (top : Top) (o : Outline) (queues : List (List ℕ × QueueSettings)) (judged : List (Option ℕ)) (actors : List (List (List ℕ × ActorSettings))) (tasks : List (List ℕ × TaskSettings))
+    → AreRead files top o queues judged actors tasks → TasksDrain (whole top queues (by_number actors) tasks)
 whole_drains files top o queues judged actors tasks are =
     let leads : List (Option ℕ) = map (λ (q : QueueSettings). dead_letter_of q.policy) (map (λ (q : List ℕ × QueueSettings). q.1) queues) in
     let names : map (λ (q : List ℕ × QueueSettings). q.0) queues ≡ o.queues =

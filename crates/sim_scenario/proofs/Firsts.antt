@@ -63,7 +63,7 @@ firsts_new entries texts t key firsts is s =
     ∙ sym (place_push (λ x. bytes_eq x s) texts t)
 
 -- a test that some pass has a first place
-some_place : {X : Type 0} (p : X → Bool) (xs : List X) → is_some (position p xs) ≡ list_any p xs
+pub some_place : {X : Type 0} (p : X → Bool) (xs : List X) → is_some (position p xs) ≡ list_any p xs
 some_place p [] = refl
 some_place p (x ∷ xs) = by (p x) refl (some_place p xs)
   where

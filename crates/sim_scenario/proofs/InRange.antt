@@ -6,23 +6,28 @@ use Rattle.sqs_redrive.specs.declared.settings.Policy.{Policy}
 use Rattle.sqs_redrive.specs.declared.settings.QueueSettings.{QueueSettings}
 use Rattle.sqs_redrive.specs.declared.settings.TaskSettings.{TaskSettings}
 use Rattle.sqs_model.specs.declared.agents.ActorSettings.{ActorSettings}
+use Rattle.sqs_model.specs.declared.agents.Distribution.{Distribution}
+use Rattle.sqs_model.specs.declared.agents.Distribution.TheVariants.{Quantiles, Uniform}
 use Rattle.sqs_model.specs.declared.agents.Forwarding.{Forwarding}
 use Rattle.sqs_model.specs.declared.agents.Role.{Role}
 use Rattle.sqs_model.specs.declared.agents.Role.TheVariants.{Consumer, Producer, Script}
-use Rattle.sqs_model.specs.Progress.{IsSoundForward, IsSoundPolicy, IsSoundRole, IsSoundSettings, TakesTime}
+use Rattle.sqs_model.specs.Progress.{IsSoundDistribution, IsSoundForward, IsSoundPolicy, IsSoundRole, IsSoundSettings, TakesTime}
 use Rattle.sqs_model.specs.Scenario.{LeadsWithin, MayBeWithin, Scenario}
-use Rattle.sqs_model.specs.Valid.{IsQueueSettings, IsTaskSettings, MayBeForward, MayBePolicy}
+use Rattle.sqs_model.specs.Valid.{Between, IsDistribution, IsQueueSettings, IsTaskSettings, MayBeForward, MayBePolicy}
 use Rattle.sqs_formats.specs.Keys.{text_in}
 use Rattle.sqs_formats.specs.Outline.{Outline}
 use Rattle.sqs_formats.specs.Queues.{queue}
-use Rattle.sqs_formats.specs.Actors.{Files, actor}
+use Rattle.sqs_formats.specs.Actors.{Files}
 use Rattle.sqs_formats.specs.Tasks.{task}
-use Rattle.sqs_formats.specs.Scenario.{Top, whole}
+use Rattle.sqs_formats.specs.Scenario.{Top, by_number, whole}
 use Rattle.std.proofs.lemmas.List.{length-map}
 use Rattle.sim_scenario.specs.Ranges.{ForwardsWithin, IsInRange, IsLinked, IsRoleInRange, RoleWithin}
 use Rattle.sim_scenario.proofs.Links.{below, each_length}
 use Rattle.sim_scenario.proofs.KinRead.{IsOtherKin, queue_says, task_says}
-use Rattle.sim_scenario.proofs.ActorsRead.{ForwardKin, RoleSays, actor_says}
+use Rattle.sim_scenario.proofs.ActorsRead.{ForwardKin, RoleSays}
+use Rattle.sim_scenario.proofs.Copying.{beside}
+use Rattle.sim_scenario.proofs.Families.{each_agent}
+use Rattle.sim_scenario.proofs.WholeFamilies.{agents_count, agents_few}
 use Rattle.sim_scenario.proofs.QueueRanges.{each_holds}
 use Rattle.sim_scenario.proofs.Drained.{whole_drains}
 use Rattle.sim_scenario.proofs.WholeNames.{whole_named}
@@ -42,10 +47,14 @@ forward_sound : (f : Option Forwarding) → MayBeForward f → IsSoundForward f
 forward_sound None h = tt
 forward_sound (Some f) h = h.least
 
+distribution_sound : (d : Distribution) → IsDistribution d → IsSoundDistribution d
+distribution_sound (Uniform low high) h = h.0
+distribution_sound (Quantiles quantiles) h = All-weaker (λ q. Between 1 86400000 q.time) (λ q. 1 ≤ q.time) (λ q h. h.0) quantiles h.times
+
 role_sound : (r : Role) → IsRoleInRange r → IsSoundRole r
 role_sound (Script calls) h = h.ascending
-role_sound (Producer p) h = h.gap_min
-role_sound (Consumer c) h = (h.service_min, h.idle.0, forward_sound c.forward h.forward)
+role_sound (Producer p) h = distribution_sound p.gap h.gap
+role_sound (Consumer c) h = (distribution_sound c.service h.service, h.idle.0, forward_sound c.forward h.forward)
 
 names_count : (queues : List (List ℕ × QueueSettings)) (actors : List (List ℕ × ActorSettings)) (tasks : List (List ℕ × TaskSettings))
     → length (map (λ x. x.0) queues ++ (map (λ x. x.0) actors ++ map (λ x. x.0) tasks)) ≡ length (map (λ x. x.1) queues) + length (map (λ x. x.1) actors) + length (map (λ x. x.1) tasks)
@@ -73,26 +82,26 @@ linked_by count s same q a t = record {
   tasks = subst (λ (n : ℕ). All (λ (t : TaskSettings). (t.home < n) × MayBeWithin n t.to) s.tasks) (sym same) t;
 }
 
-pub whole_in_range : (files : Files) (top : Top) (o : Outline) (queues : List (List ℕ × QueueSettings)) (judged : List (Option ℕ)) (actors : List (List ℕ × ActorSettings)) (tasks : List (List ℕ × TaskSettings))
-    → IsTop top → AreRead files top o queues judged actors tasks → IsInRange (whole top queues actors tasks)
+pub whole_in_range : (files : Files) (top : Top) (o : Outline) (queues : List (List ℕ × QueueSettings)) (judged : List (Option ℕ)) (actors : List (List (List ℕ × ActorSettings))) (tasks : List (List ℕ × TaskSettings))
+    → IsTop top → AreRead files top o queues judged actors tasks → IsInRange (whole top queues (by_number actors) tasks)
 whole_in_range files top o queues judged actors tasks numbers are =
     let outlined : length o.queues ≡ length top.queues = ap (λ (o : Outline). length o.queues) are.outlined ∙ length-map top.queues (text_in (codes "name")) in
     let q = each_holds (λ (x : List ℕ × QueueSettings). IsQueueSettings x.1) (codes "queue") (queue o) 0 top.queues queues (λ n t x e. (queue_says o n t x e).range) are.queues_are in
-    let a = each_holds (λ (x : List ℕ × ActorSettings). IsRoleInRange x.1.role) (codes "actor") (actor files o) 0 top.actors actors (λ n t x e. (actor_says files o n t x e).range) are.actors_are in
+    let a = each_agent (λ (x : List ℕ × ActorSettings). IsRoleInRange x.1.role) files o top.actors actors are.actors_are (λ t x says. says.range) in
     let t = each_holds (λ (x : List ℕ × TaskSettings). IsTaskSettings x.1) (codes "task") (task o) 0 top.tasks tasks (λ n t x e. (task_says o n t x e).range) are.tasks_are in
     let settings = All-map IsQueueSettings (λ (x : List ℕ × QueueSettings). x.1) queues q in
-    let roles = All-map (λ (a : ActorSettings). IsRoleInRange a.role) (λ (x : List ℕ × ActorSettings). x.1) actors a in
+    let roles = All-map (λ (a : ActorSettings). IsRoleInRange a.role) (λ (x : List ℕ × ActorSettings). x.1) (by_number actors) a in
     let moves = All-map IsTaskSettings (λ (x : List ℕ × TaskSettings). x.1) tasks t in
     let count : ℕ = length o.queues in
     let queue_count : length (map (λ (x : List ℕ × QueueSettings). x.1) queues) ≡ length top.queues =
     length-map queues (λ (x : List ℕ × QueueSettings). x.1) ∙ each_length (codes "queue") (queue o) 0 top.queues queues are.queues_are in
-    let actor_count : length (map (λ (x : List ℕ × ActorSettings). x.1) actors) ≡ length top.actors =
-    length-map actors (λ (x : List ℕ × ActorSettings). x.1) ∙ each_length (codes "actor") (actor files o) 0 top.actors actors are.actors_are in
+    let actor_count : length (map (λ (x : List ℕ × ActorSettings). x.1) (by_number actors)) ≡ length o.copies + beside o.copies =
+    length-map (by_number actors) (λ (x : List ℕ × ActorSettings). x.1) ∙ agents_count files top o queues judged actors tasks are in
     let task_count : length (map (λ (x : List ℕ × TaskSettings). x.1) tasks) ≡ length top.tasks =
     length-map tasks (λ (x : List ℕ × TaskSettings). x.1) ∙ each_length (codes "task") (task o) 0 top.tasks tasks are.tasks_are in
     let some : 1 ≤ length o.queues = omega (arith, numbers.few_queues.0) in
     let lq = each_holds (λ (x : List ℕ × QueueSettings). LeadsWithin count x.1.policy) (codes "queue") (queue o) 0 top.queues queues (λ n t x e. (queue_says o n t x e).leads some) are.queues_are in
-    let la = each_holds (λ (x : List ℕ × ActorSettings). (x.1.home < count) × RoleWithin count x.1.role) (codes "actor") (actor files o) 0 top.actors actors (λ n t x e. let says = actor_says files o n t x e in (below o _ x.1.home says.home, role_within o x.1.home x.1.role says.role)) are.actors_are in
+    let la = each_agent (λ (x : List ℕ × ActorSettings). (x.1.home < count) × RoleWithin count x.1.role) files o top.actors actors are.actors_are (λ t x says. (below o _ x.1.home says.home, role_within o x.1.home x.1.role says.role)) in
     let lt = each_holds (λ (x : List ℕ × TaskSettings). (x.1.home < count) × MayBeWithin count x.1.to) (codes "task") (task o) 0 top.tasks tasks (λ n t x e. let says = task_says o n t x e in (below o _ x.1.home says.home, other_within o x.1.home x.1.to says.to)) are.tasks_are in
     record {
       horizon = numbers.horizon;
@@ -107,11 +116,11 @@ whole_in_range files top o queues judged actors tasks numbers are =
         tasks = All-weaker IsTaskSettings (λ (t : TaskSettings). TakesTime t.latency) (λ t h. h.latency.least) _ moves;
       };
       few_queues = rw queue_count numbers.few_queues;
-      few_agents = rw (actor_count, task_count) numbers.few_agents;
-      named = names_count queues actors tasks;
+      few_agents = rw (actor_count, task_count) (agents_few files top o queues judged actors tasks are numbers.few_agents);
+      named = names_count queues (by_number actors) tasks;
       linked = linked_by count _ (queue_count ∙ sym outlined)
           (All-map (λ (q : QueueSettings). LeadsWithin count q.policy) (λ (x : List ℕ × QueueSettings). x.1) queues lq)
-          (All-map (λ (a : ActorSettings). (a.home < count) × RoleWithin count a.role) (λ (x : List ℕ × ActorSettings). x.1) actors la)
+          (All-map (λ (a : ActorSettings). (a.home < count) × RoleWithin count a.role) (λ (x : List ℕ × ActorSettings). x.1) (by_number actors) la)
           (All-map (λ (t : TaskSettings). (t.home < count) × MayBeWithin count t.to) (λ (x : List ℕ × TaskSettings). x.1) tasks lt);
       kin = whole_names_kin files top o queues judged actors tasks are;
       names = whole_named files top o queues judged actors tasks are;

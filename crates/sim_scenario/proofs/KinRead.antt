@@ -1,5 +1,5 @@
 -- What each queue and each move task of a text says: its name, its ranges, and the queues that it names.
-use Rattle.std.proofs.Common.{◌≡◌, ◌∙◌, ℕ, zero, suc, ◌+◌, ◌<◌, ◌≤◌, ◌==◌, Bool, true, false, not, codes, List, [], ◌∷◌, length, Option, Some, None, Ok, refl, sym, ap, arith, lit≤}
+use Rattle.std.proofs.Common.{◌≡◌, ◌∙◌, ℕ, zero, suc, ◌<◌, ◌≤◌, ◌==◌, Bool, true, false, not, codes, List, [], ◌∷◌, length, Option, Some, None, Ok, refl, sym, ap, arith, lit≤}
 use Rattle.std.specs.Prelude.{All, get_or, if◌then◌else◌, map, unwrap_or, ◌≢◌}
 use Rattle.std.proofs.lemmas.Bool.{true≢false}
 use Rattle.std.proofs.lemmas.Bool.Decides.{Decides-eqb}
@@ -14,7 +14,7 @@ use Rattle.sqs_model.specs.Scenario.{LeadsWithin}
 use Rattle.sqs_model.specs.Valid.{IsKind, IsQueueSettings, IsTaskSettings}
 use Rattle.sqs_formats.specs.Keys.{Table, at, has, is_among, is_there, optional, optional_when, place_of, required, text_when}
 use Rattle.sqs_formats.specs.Names.{is_agent_name, is_fifo, is_queue_name}
-use Rattle.sqs_formats.specs.Outline.{Outline, all_names, dead_letter_named, is_first_of, kind_at, name_of, other_kin_named, place_among, queue_named, queue_number, same_kind, source_named}
+use Rattle.sqs_formats.specs.Outline.{Outline, dead_letter_named, is_fresh, kind_at, name_of, other_kin_named, queue_named, queue_number, same_kind, source_named, task_place}
 use Rattle.sqs_formats.specs.Queues.{dead_letter, kind, policy, queue}
 use Rattle.sqs_formats.specs.Tasks.{task}
 use Rattle.sim_scenario.specs.Kinds.{dead_letter_of, is_fifo_kind}
@@ -29,7 +29,7 @@ use Rattle.sqs_formats.specs.Reading.{and_then}
 pub record IsNamed (is_well_formed : List ℕ → Bool) (o : Outline) (number : ℕ) (t : Table) (s : List ℕ) : Type 0 where
   pub text : s ≡ text_when (at t (codes "name"))
   pub form : is_well_formed s ≡ true
-  pub first : is_first_of number (place_among (all_names o) s) ≡ true
+  pub first : is_fresh o number s ≡ true
 
 pub name_says : (f : List ℕ → Bool) (o : Outline) (number : ℕ) (t : Table) (s : List ℕ) → required (name_of f o number) t (codes "name") ≡ Ok s → IsNamed f o number t s
 unfolding name_of
@@ -159,7 +159,7 @@ queue_kin o number t q v e k = let says = queue_says o number t q e in leads o n
 
 -- a move task: its name, its home, which some queue names as its dead-letter queue, where it moves messages, and its ranges
 pub record TaskSays (o : Outline) (index : ℕ) (t : Table) (k : List ℕ × TaskSettings) : Type 0 where
-  pub named : IsNamed is_agent_name o (length o.queues + length o.actors + index) t k.0
+  pub named : IsNamed is_agent_name o (task_place o index) t k.0
   pub home : queue_number o (text_when (at t (codes "queue"))) ≡ Some k.1.home
   pub source : is_among o.dead_letters (text_when (at t (codes "queue"))) ≡ true
   pub to : IsOtherKin o k.1.home k.1.to
@@ -189,7 +189,7 @@ task_says o index t k e =
     let within = parts _ _ _ rate.2 in
     let source = source_says o t home.0 home.1 in
     rw (← same_ok _ _ within.2) (record {
-      named = name_says is_agent_name o (length o.queues + length o.actors + index) t name.0 name.1;
+      named = name_says is_agent_name o (task_place o index) t name.0 name.1;
       home = source.0;
       source = source.1;
       to = maybe_admits (IsOtherKin o home.0) (other_kin_named o home.0) tt (other_kin_is o home.0) t (codes "to") to.0 to.1;

@@ -1,10 +1,14 @@
 pub mod UnknownKeys
 pub mod Suffixes
 pub mod Listing
+pub mod Copying
 pub mod HomeTasks
 pub mod ProducerBody
 pub mod Admits
 pub mod ListItems
+pub mod ListsRead
+pub mod QuantilesRead
+pub mod GroupsRead
 pub mod TopRanges
 pub mod QueueRanges
 pub mod InRange
@@ -16,7 +20,11 @@ pub mod Links
 pub mod ItemsRead
 pub mod KinRead
 pub mod ActorsRead
+pub mod Once
+pub mod Families
+pub mod CopiesRead
 pub mod WholeKin
+pub mod WholeFamilies
 pub mod Naming
 pub mod WholeNames
 pub mod Drained

@@ -24,7 +24,8 @@ pub item_read : {X : Type 0} (key : List ℕ) (read : ℕ → Table → Says X) 
 unfolding and_then
 item_read key read vs i v xs t x within here table ok = rw (drop_more vs i v within, here, table, ok) (behind_more xs x (each key read (i + 1) (map view (drop (i + 1) vs))))
 
-fails_first : {X Y : Type 0} (e : ReadError) (part : Says X) (rest : X → Says Y) → Fails e part → Fails e (and_then part rest)
+-- a part that has a fault
+pub fails_first : {X Y : Type 0} (e : ReadError) (part : Says X) (rest : X → Says Y) → Fails e part → Fails e (and_then part rest)
 unfolding and_then
 fails_first errors.Memory part rest h = tt
 fails_first (errors.Fault f) part rest h = rw h refl

@@ -26,13 +26,13 @@ two_in_range t l e =
     let w = bounds_within 900000 t (codes "latency_min_ms") (codes "latency_max_ms") both.0 both.1 in
     rw (← same_ok _ _ both.2) (record { least = w.0; ordered = w.1; greatest = w.2 })
 
-latency_by_version : (b : Bool) (version : ℕ) (t : Table) (l : Latency) → (version == 2) ≡ b → latency version t ≡ Ok l → IsLatency l
+latency_by_version : (b : Bool) (version : ℕ) (t : Table) (l : Latency) → (version == 1) ≡ b → latency version t ≡ Ok l → IsLatency l
 unfolding latency
-latency_by_version true version t l is e = two_in_range t l (rw is at e)
-latency_by_version false version t l is e = one_in_range t l (rw is at e)
+latency_by_version true version t l is e = one_in_range t l (rw is at e)
+latency_by_version false version t l is e = two_in_range t l (rw is at e)
 
 pub latency_in_range : (version : ℕ) (t : Table) (l : Latency) → latency version t ≡ Ok l → IsLatency l
-latency_in_range version t l e = latency_by_version (version == 2) version t l refl e
+latency_in_range version t l e = latency_by_version (version == 1) version t l refl e
 
 -- a policy leads to a queue
 lead_within : (x : Option ℕ) (m : ℕ) → 1 ≤ m → ((n : ℕ) → x ≡ Some n → n < m) → unwrap_or x 0 < m

@@ -1,18 +1,18 @@
 -- What an actor does at its home.
 use Rattle.std.specs.Prelude.{All, Bool, List, None, Option, Some, false, filter, map, true, ℕ, ◌==◌, ◌≡◌, ◌≤◌}
+use Rattle.sqs_model.specs.declared.agents.Groups.{Groups}
 use Rattle.sqs_model.specs.declared.agents.ProducerSettings.{ProducerSettings}
 use Rattle.sqs_model.specs.declared.agents.Role.{Role}
 use Rattle.sqs_model.specs.declared.agents.Role.TheVariants.{Consumer, Producer, Script}
 use Rattle.sqs_model.specs.Longest.{longest_delay}
 use Rattle.sqs_model.specs.Scenario.{Scenario, numbered_tasks}
-use Rattle.sqs_model.specs.Valid.{Between}
 use Rattle.sim_script.specs.Ranges.{IsCallAt}
 use Rattle.sim_scenario.specs.Kinds.{is_fifo_queue}
 
--- 1 to 1,000 groups
-abbrev pub HasGroups : Option ℕ → Type 0
+-- whether there are groups
+abbrev pub HasGroups : Option Groups → Type 0
 HasGroups None = ⊥
-HasGroups (Some n) = Between 1 1000 n
+HasGroups (Some groups) = Unit {0}
 
 -- a delay in seconds that is not too long, if there is one
 abbrev pub MayDelay : Option ℕ → Type 0

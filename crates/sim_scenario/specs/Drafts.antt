@@ -5,13 +5,18 @@ use Rattle.toml.specs.Data.{Members}
 use Rattle.toml.specs.View.{table_view}
 use Rattle.sim_clock.specs.declared.refusal.Refusal.{Refusal}
 use Rattle.sim_clock.specs.declared.refusal.Refusal.TheVariants.{NotToml, TooMany}
-use Rattle.sqs_formats.specs.Scenario.{document, is_small}
+use Rattle.sqs_formats.specs.Scenario.{document, is_small, released}
 use Rattle.sim_scenario.specs.declared.draft.Draft.{Draft}
 
 -- the document of a text, or why none is read in it
 abbrev pub draft_of : List ℕ → Result Members Refusal
 draft_of text = if is_small text then ok_or (document text) NotToml else Err TooMany
 
--- whether a draft is that of a text: it has the document's table, or that error
+-- a draft of a text, of which versions up to the newest one may be read: it has the document's table, or that error
+pub record IsDraftUpto (newest : ℕ) (text : List ℕ) (draft : Draft) : Type 0 where
+  pub upto : draft.newest ≡ newest
+  pub table : result_map_both table_view (λ refusal. refusal) draft.table ≡ draft_of text
+
+-- a draft of a text, of which released versions alone may be read
 abbrev pub IsDraftOf : List ℕ → Draft → Type 0
-IsDraftOf text draft = result_map_both table_view (λ refusal. refusal) draft.table ≡ draft_of text
+IsDraftOf = IsDraftUpto released

@@ -9,3 +9,4 @@ pub mod Ranges
 pub mod Lowest
 pub mod Drafts
 pub mod Firsts
+pub mod Counted

@@ -20,7 +20,6 @@ top_view h =
 
 -- the numbers of the top table are in range
 pub record IsTop (t : Top) : Type 0 where
-  pub version : Between 1 2 t.version
   pub horizon : Between 1 2592000000 t.horizon
   pub seed : t.seed ≤ 9223372036854775807
   pub sample : t.sample ≤ 2592000000

@@ -1,17 +1,23 @@
 //! A consumer of a scenario's text.
-ghost use Rattle.std.specs.Prelude.{◌≡◌, ◌++◌, codes, map};
-ghost use Rattle.sqs_formats.specs.Actors.{actor_keys, consumer_keys, consuming, forward as the_forward, forward_keys};
-ghost use Rattle.sqs_formats.specs.Keys.{has, only};
+ghost use Rattle.std.specs.Prelude.{◌≡◌, map};
+ghost use Rattle.sqs_formats.specs.Actors.{all_consumer_keys, consuming, failing, forward as the_forward, forward_keys, newer_consumer_keys, outage as the_outage, outage_keys, service, service_keys};
+ghost use Rattle.sqs_formats.specs.Keys.{only};
 ghost use Rattle.sim_scenario.specs.Gives.{Gives};
 ghost use Rattle.sim_scenario.specs.Sections.{table_of};
 
+use crate::distributions::time;
 use crate::fault::ReadError;
-use crate::key_type::Integer;
+use crate::key_type::{Integer, KeyType, Seconds, SizedText};
+use crate::lists::{Integers, no_integers};
 use crate::named::KinQueue;
 use crate::outline::Outline;
+use crate::producers::stopping;
 use crate::queues::{latency, latency_keys};
 use crate::section::{ACTOR_KEYS, Section};
-use sqs_model::{ConsumerSettings, Forwarding, Role};
+use sim_clock::Refusal;
+use sqs_message::{Listed, Text};
+use sqs_model::{ConsumerSettings, Distribution, Forwarding, Role, Stretch};
+use toml::Value;
 
 /// The keys of every consumer.
 const CONSUMER_KEYS: &[&str] = &[
@@ -19,12 +25,21 @@ const CONSUMER_KEYS: &[&str] = &[
     "batch",
     "wait_s",
     "timeout_s",
-    "service_min_ms",
-    "service_max_ms",
     "fail_permille",
     "idle_ms",
     "forward",
 ];
+
+/// The keys of the time of a service.
+fn service_keys(by_quantiles: bool) -> &'static [&'static str]
+    ensures { map (λ k. k.now) result.now ≡ service_keys by_quantiles }
+{
+    if by_quantiles {
+        &["service"]
+    } else {
+        &["service_min_ms", "service_max_ms"]
+    }
+}
 
 /// The keys that a consumer that forwards has, too.
 fn forward_keys(version: u64, forwards: bool) -> &'static [&'static str]
@@ -33,14 +48,56 @@ fn forward_keys(version: u64, forwards: bool) -> &'static [&'static str]
     if forwards { latency_keys(version) } else { &[] }
 }
 
+/// The keys that a consumer has from version 3 on.
+fn newer_consumer_keys(version: u64) -> &'static [&'static str]
+    ensures { map (λ k. k.now) result.now ≡ newer_consumer_keys version }
+{
+    if version >= 3 {
+        &[
+            "stop_ms",
+            "fails_on",
+            "fails_from_ms",
+            "batch_fails",
+            "backoff_s",
+            "heartbeat_s",
+            "copies",
+        ]
+    } else {
+        &[]
+    }
+}
+
+/// The key that a consumer with an outage has, too.
+fn outage_keys(has_outage: bool) -> &'static [&'static str]
+    ensures { map (λ k. k.now) result.now ≡ outage_keys has_outage }
+{
+    if has_outage { &["fails_to_ms"] } else { &[] }
+}
+
 /// Checks that a consumer has known keys alone.
 fn known_consumer_keys(version: u64, section: &Section<'_>) -> Result<(), ReadError>
-    ensures { Gives (λ u. u) result (only (actor_keys
-        ++ (consumer_keys ++ forward_keys version (has (table_of section.now) (codes "forward"))))
-        (table_of section.now)) }
+    ensures { Gives (λ u. u) result
+        (only (all_consumer_keys version (table_of section.now)) (table_of section.now)) }
 {
+    let service = service_keys(section.has_newer(version, "service"));
     let forward = forward_keys(version, section.has("forward"));
-    section.only(&[ACTOR_KEYS, CONSUMER_KEYS, forward])
+    let newer = newer_consumer_keys(version);
+    let outage = outage_keys(section.has_newer(version, "fails_from_ms"));
+    section.only(&[ACTOR_KEYS, CONSUMER_KEYS, service, forward, newer, outage])
+}
+
+/// The time of a service.
+#[tactic(auto, unfolding(sqs_formats::specs::Actors::service))]
+fn service(section: &Section<'_>) -> Result<Distribution, ReadError>
+    ensures { Gives (λ d. d) result (service (table_of section.now)) }
+{
+    time(
+        section.has("service"),
+        "service",
+        "service_min_ms",
+        "service_max_ms",
+        section,
+    )
 }
 
 /// The queue to which a consumer forwards, if it does.
@@ -62,6 +119,74 @@ fn forward(
     Ok(Some(Forwarding { to, latency }))
 }
 
+/// When each service that ends fails, if there is such a time.
+#[tactic(auto, unfolding(sqs_formats::specs::Actors::outage, sqs_formats::specs::Reading::and_then))]
+fn outage(has_outage: bool, section: &Section<'_>) -> Result<Option<Stretch>, ReadError>
+    ensures { Gives (λ o. o) result (the_outage has_outage (table_of section.now)) }
+{
+    if !has_outage {
+        return Ok(None);
+    }
+    let from = section.required("fails_from_ms", &Integer(0, 2_592_000_000))?;
+    let to = section.required("fails_to_ms", &Integer(from, 2_592_000_000))?;
+    Ok(Some(Stretch { from, to }))
+}
+
+/// A failed service fails its message alone.
+const EACH: bool = false;
+
+/// A failed service fails its batch as a whole.
+const WHOLE: bool = true;
+
+/// What a failed service fails.
+#[derive(Drop)]
+struct FailureName;
+
+impl KeyType for FailureName {
+    type Value = bool;
+
+    ghost use Rattle.sqs_formats.specs.Actors.{failures_named};
+    ghost use Rattle.sqs_formats.specs.Keys.{one_of};
+
+    ghost says = { λ k. one_of failures_named };
+
+    #[tactic(auto, unfolding(sqs_formats::specs::Keys::one_of, sqs_formats::specs::Reading::and_then))]
+    fn read(&self, section: &Section<'_>, value: &Value, key: &str) -> Result<bool, ReadError> {
+        let name = section.text(value, key)?;
+        if name == "each" {
+            Ok(EACH)
+        } else if name == "whole" {
+            Ok(WHOLE)
+        } else {
+            Err(section.blame(Refusal::OutOfRange, key))
+        }
+    }
+}
+
+/// What version 3 says of services that fail and of changes of visibility.
+type Failing = (
+    Option<Text>,
+    Option<Stretch>,
+    bool,
+    Listed<u64>,
+    Option<u64>,
+);
+
+/// Which services fail, and what follows: the text, the outage, whether the whole batch fails, the
+/// backoff, and the heartbeat.
+#[tactic(auto, unfolding(sqs_formats::specs::Actors::failing, sqs_formats::specs::Reading::and_then))]
+fn failing(section: &Section<'_>) -> Result<Failing, ReadError>
+    ensures { Gives (λ f. f) result (failing (table_of section.now)) }
+{
+    let fails_on = section.maybe("fails_on", &SizedText(1, 128))?;
+    let outage = outage(section.has("fails_from_ms"), section)?;
+    let whole = section.optional("batch_fails", &FailureName, EACH)?;
+    let none = no_integers(section.alloc);
+    let backoff = section.optional("backoff_s", &Integers(1, 12, 0, 43_200), none)?;
+    let heartbeat = section.maybe("heartbeat_s", &Seconds(1, 43_200))?;
+    Ok((fails_on, outage, whole, backoff, heartbeat))
+}
+
 /// A consumer of a queue.
 #[tactic(auto, unfolding(sqs_formats::specs::Reading::and_then))]
 pub(crate) fn consumer(
@@ -76,23 +201,26 @@ pub(crate) fn consumer(
     let batch = section.optional("batch", &Integer(1, 10), 1)?;
     let wait = section.optional("wait_s", &Integer(0, 20), 0)?;
     let timeout = section.maybe("timeout_s", &Integer(0, 43_200))?;
-    let (service_min, service_max) = section.bounds(
-        "service_min_ms",
-        "service_max_ms",
-        86_400_000,
-    )?;
+    let service = service(section)?;
     let fail_permille = section.optional("fail_permille", &Integer(0, 1000), 0)?;
     let idle = section.optional("idle_ms", &Integer(1, 86_400_000), 1000)?;
     let forward = forward(section.has("forward"), outline, home, section)?;
+    let stop = stopping(start, section)?;
+    let (fails_on, outage, whole, backoff, heartbeat) = failing(section)?;
     Ok(Role::Consumer(ConsumerSettings {
         start,
         batch,
         wait,
         timeout,
-        service_min,
-        service_max,
+        service,
         fail_permille,
         idle,
         forward,
+        stop,
+        fails_on,
+        outage,
+        whole,
+        backoff,
+        heartbeat,
     }))
 }

@@ -1,7 +1,9 @@
 //! A scenario's text, parsed, before its script files are known.
 ghost use Rattle.std.specs.Prelude.{◌≡◌, IfOk, List, ℕ};
-ghost use Rattle.sqs_formats.specs.Scenario.{scenario_of, script_names as the_script_names};
-ghost use Rattle.sim_scenario.specs.Drafts.{IsDraftOf};
+ghost use Rattle.std.specs.Result.{result_map_both};
+ghost use Rattle.toml.specs.View.{table_view};
+ghost use Rattle.sqs_formats.specs.Scenario.{scenario_of, scenario_upto, script_names as the_script_names};
+ghost use Rattle.sim_scenario.specs.Drafts.{IsDraftOf, IsDraftUpto, draft_of};
 ghost use Rattle.sim_scenario.specs.Gives.{Gives};
 ghost use Rattle.sim_scenario.specs.Ranges.{IsInRange};
 
@@ -16,16 +18,43 @@ use sqs_message::Text;
 use std::alloc::{AllocError, Global};
 use toml::Table;
 
+/// The newest version of scenarios that is released.
+pub const RELEASED: u64 = 2;
+
+/// The newest version of scenarios that may be previewed.
+pub const PREVIEW: u64 = 3;
+
 /// A scenario's text, parsed once: first for the names of its script files, and then, with these
 /// files, for the scenario. A text that is too long or not TOML has a draft, too; `read` returns
 /// its fault. In contracts `IsDraftOf` says of which text it is the draft.
 #[derive(Drop)]
 pub struct Draft {
     table: Result<Table, Refusal>,
+    // The newest version that may be read.
+    newest: u64,
+}
+
+// The table of a text's document, or why none is read in it.
+fn table_of(alloc: Global, text: &[u8]) -> Result<Result<Table, Refusal>, AllocError>
+    ensures { IfOk result (λ table.
+        result_map_both table_view (λ refusal. refusal) table ≡ draft_of text.now) }
+{
+    if text.len() > 16_777_216 {
+        return Ok(Err(Refusal::TooMany));
+    }
+    match toml::table_from_slice(alloc, text) {
+        Ok(table) => Ok(Ok(table)),
+        Err(e) => {
+            if e.is_memory() {
+                return Err(AllocError);
+            }
+            Ok(Err(Refusal::NotToml))
+        }
+    }
 }
 
 impl Draft {
-    /// The draft of a text.
+    /// The draft of a text, of which released versions may be read.
     ///
     /// # Errors
     ///
@@ -33,22 +62,19 @@ impl Draft {
     pub fn parse(alloc: Global, text: &[u8]) -> Result<Draft, AllocError>
         ensures { IfOk result (IsDraftOf text.now) }
     {
-        if text.len() > 16_777_216 {
-            return Ok(Draft {
-                table: Err(Refusal::TooMany),
-            });
-        }
-        match toml::table_from_slice(alloc, text) {
-            Ok(table) => Ok(Draft { table: Ok(table) }),
-            Err(e) => {
-                if e.is_memory() {
-                    return Err(AllocError);
-                }
-                Ok(Draft {
-                    table: Err(Refusal::NotToml),
-                })
-            }
-        }
+        Draft::parse_upto(alloc, RELEASED, text)
+    }
+
+    /// The draft of a text, of which versions up to the newest one may be read.
+    ///
+    /// # Errors
+    ///
+    /// `AllocError` if memory runs out.
+    pub fn parse_upto(alloc: Global, newest: u64, text: &[u8]) -> Result<Draft, AllocError>
+        ensures { IfOk result (IsDraftUpto newest text.now) }
+    {
+        let table = table_of(alloc, text)?;
+        Ok(Draft { table, newest })
     }
 
     /// The names of the script files that the actors of the text name, in their order; none if the
@@ -58,7 +84,7 @@ impl Draft {
     ///
     /// `AllocError` if memory runs out.
     pub fn script_names(&self, alloc: Global) -> Result<Vec<Text>, AllocError>
-        ensures { (text : List ℕ) → IsDraftOf text self.now
+        ensures { (newest : ℕ) (text : List ℕ) → IsDraftUpto newest text self.now
             → IfOk result (λ v. v.items ≡ the_script_names text) }
     {
         match &self.table {
@@ -74,14 +100,16 @@ impl Draft {
     ///
     /// The first fault of the text. It is `TooMany` without a place if the text has more than 16
     /// MiB, and `NotToml` if it is no TOML document in UTF-8. Else it is the fault at the first
-    /// place in the order of reading. `Memory` if a growth is refused.
+    /// place in the order of reading, such as `OutOfRange` at `version` if its version is newer
+    /// than may be read. `Memory` if a growth is refused.
     pub fn read(self, alloc: Global, scripts: &Scripts) -> Result<Scenario, ReadError>
         ensures range { IfOk result IsInRange }
-        ensures value { (text : List ℕ) → IsDraftOf text self
-            → Gives (λ s. s) result (scenario_of scripts.now text) }
+        ensures value { (newest : ℕ) (text : List ℕ) → IsDraftUpto newest text self
+            → Gives (λ s. s) result (scenario_upto newest scripts.now text) }
     {
-        match self.table {
-            Ok(table) => document(alloc, scripts, &table),
+        let Draft { table, newest } = self;
+        match table {
+            Ok(table) => document(alloc, newest, scripts, &table),
             Err(refusal) => Err(blame(alloc, refusal, &Place::top(), "")),
         }
     }

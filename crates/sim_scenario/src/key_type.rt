@@ -8,6 +8,7 @@ ghost use Rattle.sim_scenario.specs.Sections.{table_of};
 use crate::fault::ReadError;
 use crate::section::Section;
 use sim_clock::Refusal;
+use sqs_message::Text;
 use toml::Value;
 
 /// A type of key.
@@ -92,6 +93,27 @@ impl KeyType for Seconds {
     fn read(&self, section: &Section<'_>, value: &Value, key: &str) -> Result<u64, ReadError> {
         let seconds = number(section, value, key, self.0 as u64, self.1 as u64)?;
         Ok(1000 * seconds)
+    }
+}
+
+/// A text of a number of bytes, from the first number to the second.
+#[derive(Drop)]
+pub(crate) struct SizedText(pub(crate) usize, pub(crate) usize);
+
+impl KeyType for SizedText {
+    type Value = Text;
+
+    ghost use Rattle.sqs_formats.specs.Keys.{sized_text};
+
+    ghost says = { λ k. sized_text k.0 k.1 };
+
+    #[tactic(auto, unfolding(sqs_formats::specs::Keys::sized_text, sqs_formats::specs::Reading::and_then))]
+    fn read(&self, section: &Section<'_>, value: &Value, key: &str) -> Result<Text, ReadError> {
+        let text = section.text(value, key)?.as_bytes();
+        if text.len() < self.0 || self.1 < text.len() {
+            return Err(section.blame(Refusal::OutOfRange, key));
+        }
+        Ok(Text::new(text.to_vec(section.alloc)?))
     }
 }
 

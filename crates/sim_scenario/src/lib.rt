@@ -4,11 +4,15 @@
 
 mod actors;
 mod consumers;
+mod copies;
+mod distributions;
 mod draft;
 mod fault;
+mod groups;
 mod items;
 mod key_type;
 mod least;
+mod lists;
 mod named;
 mod names;
 mod outline;
@@ -25,7 +29,7 @@ mod tasks;
 mod top;
 mod ways;
 
-pub use draft::{Draft, read};
+pub use draft::{Draft, PREVIEW, RELEASED, read};
 pub use fault::ReadError;
 pub use least::least_latency;
 pub use scenario::{Scenario, ScenarioParts};

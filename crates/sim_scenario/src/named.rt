@@ -14,33 +14,34 @@ use sim_clock::Refusal;
 use sqs_message::Text;
 use toml::Value;
 
-/// A name, if it is well-formed and no earlier agent has it.
+/// A name, if it is well-formed and no name before its place is the same.
 #[tactic(auto, unfolding(sqs_formats::specs::Reading::and_then))]
 fn fresh_name(
     section: &Section<'_>,
     key: &str,
     outline: &Outline,
-    number: usize,
+    place: usize,
     name: &str,
     is_well_formed: bool,
 ) -> Result<Text, ReadError>
-    ensures { Gives (λ t. t) result (fresh_name is_well_formed outline.now number
+    ensures { Gives (λ t. t) result (fresh_name is_well_formed outline.now place
         (place_of (table_of section.now) key.now) name.now) }
 {
     if !is_well_formed {
         return Err(section.blame(Refusal::BadName, key));
     }
-    if !outline.is_first(number, name.as_bytes()) {
+    if !outline.is_fresh(place, name.as_bytes()) {
         return Err(section.blame(Refusal::NameTwice, key));
     }
     Ok(Text::new(name.as_bytes().to_vec(section.alloc)?))
 }
 
-/// The name of an agent, by its number: of a queue, or else of an actor or a move task.
+/// The name of an agent, by its place among all names: of a queue, or else of an actor or a move
+/// task.
 #[derive(Drop)]
 pub(crate) struct AgentName<'o> {
     pub(crate) outline: &'o Outline,
-    pub(crate) number: usize,
+    pub(crate) place: usize,
     pub(crate) is_queue: bool,
 }
 
@@ -52,7 +53,7 @@ impl KeyType for AgentName<'_> {
     ghost use Rattle.sqs_formats.specs.Outline.{name_of};
 
     ghost says = { λ k. name_of (if k.is_queue then is_queue_name else is_agent_name)
-        k.outline.now k.number };
+        k.outline.now k.place };
 
     #[tactic(auto, unfolding(sqs_formats::specs::Outline::name_of, sqs_formats::specs::Reading::and_then))]
     fn read(&self, section: &Section<'_>, value: &Value, key: &str) -> Result<Text, ReadError> {
@@ -62,14 +63,7 @@ impl KeyType for AgentName<'_> {
         } else {
             is_agent_name(name.as_bytes())
         };
-        fresh_name(
-            section,
-            key,
-            self.outline,
-            self.number,
-            name,
-            is_well_formed,
-        )
+        fresh_name(section, key, self.outline, self.place, name, is_well_formed)
     }
 }
 

@@ -1,4 +1,4 @@
-//! What every part of a scenario's text may refer to: the names of all agents, and their kinds.
+//! What every part of a scenario's text may refer to: all names, and who has them.
 ghost use Rattle.std.specs.Prelude.{◌≡◌, ◌+◌, ◌≤◌, ◌++◌, IfOk, OnOk, map, length};
 ghost use Rattle.std.specs.List.{enumerate_from, zip};
 ghost use Rattle.std.specs.Str.{bytes_eq};
@@ -6,6 +6,7 @@ ghost use Rattle.toml.specs.View.{view};
 ghost use Rattle.sqs_formats.specs.Keys.{text_in};
 ghost use Rattle.sqs_formats.specs.Actors.{tasks_at};
 
+use crate::copies::{copies_within, push_names_taken, total, total_beside};
 use crate::names::is_fifo;
 use crate::roster::Roster;
 use crate::section::member;
@@ -15,27 +16,35 @@ use std::alloc::{AllocError, Global};
 use std::marker::Model;
 use toml::Value;
 
-/// The texts that are given as names, well-formed or not. Agents are numbered: queues, then actors,
-/// then tasks.
+/// How many actors and tasks there may be.
+const MOST_AGENTS: usize = 10_000;
+
+/// The texts that are given as names, well-formed or not. All names are in the order of the text,
+/// behind that of an actor those of its copies. Agents are numbered: queues, then the first of each
+/// actor's copies, then all other copies, then tasks.
 #[derive(Drop)]
 pub(crate) struct Outline {
     version: u64,
     names: Roster,
     queue_count: usize,
-    actor_count: usize,
+    /// The number of copies of each actor.
+    copies: Vec<u64>,
+    /// The place of the first task's name among all names.
+    first_task_place: usize,
     task_homes: Vec<Text>,
     dead_letters: Roster,
 }
 
 impl Model for Outline {
-    ghost use Rattle.std.specs.Prelude.{◌+◌, ◌≤◌, drop, length, take};
+    ghost use Rattle.std.specs.Prelude.{drop, length, take};
     ghost use Rattle.sqs_formats.specs.Outline.{Outline};
+    ghost use Rattle.sim_scenario.specs.Counted.{AreCounted};
 
     ghost Value = { Outline };
 
-    ghost view = { λ o. record { version = o.version; queues = take o.queue_count o.names; actors = take o.actor_count (drop o.queue_count o.names); tasks = drop (o.queue_count + o.actor_count) o.names; task_homes = o.task_homes.items; dead_letters = o.dead_letters } };
+    ghost view = { λ o. record { version = o.version; names = o.names; queues = take o.queue_count o.names; copies = o.copies.items; tasks = drop o.first_task_place o.names; task_homes = o.task_homes.items; dead_letters = o.dead_letters } };
 
-    ghost invariant = { λ o. (o.queue_count + o.actor_count ≤ length o.names) × (length o.names ≤ 11000) };
+    ghost invariant = { λ o. AreCounted o.queue_count o.copies.items o.first_task_place (length o.names) };
 }
 
 /// The text at a key of an item, or none.
@@ -87,7 +96,7 @@ fn tasks_at(
     first: usize,
     home: &[u8],
 ) -> Result<Vec<HomeTask>, AllocError>
-    requires { first + length names.now ≤ 11000 }
+    requires { first + length names.now ≤ 32000 }
     ensures { IfOk result
         (λ v. v.items ≡ tasks_at home.now (enumerate_from first (zip names.now homes.now))) }
 {
@@ -105,10 +114,10 @@ fn tasks_at(
 }
 
 impl Outline {
-    ghost use Rattle.std.specs.Prelude.{◌≡◌, ◌+◌, ◌≤◌, IfOk, map, length};
+    ghost use Rattle.std.specs.Prelude.{◌≡◌, ◌+◌, ◌<◌, ◌≤◌, IfOk, get_or, map, length};
     ghost use Rattle.toml.specs.View.{view};
     ghost use Rattle.sqs_formats.specs.Keys.{is_among};
-    ghost use Rattle.sqs_formats.specs.Outline.{all_names, is_first_of, kind_at, outline_of, place_among, queue_number, queue_text};
+    ghost use Rattle.sqs_formats.specs.Outline.{actor_place, first_task, is_fresh, kind_at, outline_of, queue_number, queue_text, task_place};
     ghost use Rattle.sqs_formats.specs.Actors.{home_of};
 
     /// The outline of three lists of items.
@@ -125,9 +134,12 @@ impl Outline {
             ≡ outline_of version (map view queues.now) (map view actors.now)
             (map view tasks.now)) }
     {
+        let room = MOST_AGENTS.saturating_sub(actors.len() + tasks.len());
+        let copies = copies_within(alloc, version, room as u64, actors)?;
         let mut names = Vec::new(alloc);
         push_texts(alloc, &mut names, queues, "name")?;
-        push_texts(alloc, &mut names, actors, "name")?;
+        push_names_taken(alloc, &mut names, actors, copies.as_slice())?;
+        let first_task_place = names.len();
         push_texts(alloc, &mut names, tasks, "name")?;
         let names = Roster::new(alloc, names)?;
         let mut task_homes = Vec::new(alloc);
@@ -139,7 +151,8 @@ impl Outline {
             version,
             names,
             queue_count: queues.len(),
-            actor_count: actors.len(),
+            copies,
+            first_task_place,
             task_homes,
             dead_letters,
         })
@@ -152,29 +165,45 @@ impl Outline {
         self.version
     }
 
-    /// The number of queues.
-    pub(crate) fn queue_count(&self) -> usize
-        ensures count { result ≡ length self.now.queues }
-        ensures few { result ≤ 11000 }
+    /// The place of an actor's name among all names.
+    pub(crate) fn actor_place(&self, index: usize) -> usize
+        requires { index < 11000 }
+        ensures { result ≡ actor_place self.now index }
     {
-        self.queue_count
+        let earlier = index.min(self.copies.len());
+        self.queue_count + index + total(&self.copies[..earlier])
     }
 
-    /// The number of actors.
-    pub(crate) fn actor_count(&self) -> usize
-        ensures count { result ≡ length self.now.actors }
-        ensures few { result ≤ 11000 }
+    /// The place of a task's name among all names.
+    pub(crate) fn task_place(&self, index: usize) -> usize
+        requires { index < 11000 }
+        ensures { result ≡ task_place self.now index }
     {
-        self.actor_count
+        self.first_task_place + index
     }
 
-    /// Whether no agent before this one has a name.
-    pub(crate) fn is_first(&self, number: usize, name: &[u8]) -> bool
-        ensures { result ≡ is_first_of number (place_among (all_names self.now) name.now) }
+    /// The number of copies of an actor; 0 if it is no copy, or if its copies have no room.
+    pub(crate) fn copies(&self, index: usize) -> u64
+        ensures { result ≡ get_or self.now.copies index 0 }
+    {
+        self.copies.get(index).copied().unwrap_or(0)
+    }
+
+    /// The number of the first task.
+    fn first_task(&self) -> usize
+        ensures number { result ≡ first_task self.now }
+        ensures few { result + length self.now.tasks ≤ 32000 }
+    {
+        self.queue_count + self.copies.len() + total_beside(self.copies.as_slice())
+    }
+
+    /// Whether no name before a place is this one.
+    pub(crate) fn is_fresh(&self, place: usize, name: &[u8]) -> bool
+        ensures { result ≡ is_fresh self.now place name.now }
     {
         match self.names.place(name) {
             None => true,
-            Some(n) => n == number,
+            Some(first) => place <= first,
         }
     }
 
@@ -224,10 +253,10 @@ impl Outline {
     {
         let is_fifo = self.is_fifo_at(number);
         let name = self.queue_text(number);
-        let first = self.queue_count + self.actor_count;
+        let first = self.first_task();
         let tasks = tasks_at(
             alloc,
-            &self.names.as_slice()[first..],
+            &self.names.as_slice()[self.first_task_place..],
             &self.task_homes,
             first,
             name,

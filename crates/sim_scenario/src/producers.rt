@@ -1,40 +1,92 @@
 //! A producer of a scenario's text.
-ghost use Rattle.std.specs.Prelude.{◌≡◌, ◌++◌, IfOk, length, map, nat_le};
-ghost use Rattle.sqs_formats.specs.Actors.{actor_keys, is_producer_body, producer_keys, producing, sending as the_sending, sending_keys};
+ghost use Rattle.std.specs.Prelude.{◌≡◌, IfOk, length, map, nat_le};
+ghost use Rattle.sqs_formats.specs.Actors.{all_producer_keys, gap, gap_keys, is_producer_body, newer_producer_keys, producing, sending as the_sending, sending_keys, stopping};
+ghost use Rattle.sqs_formats.specs.Groups.{groups as the_groups};
 ghost use Rattle.sqs_formats.specs.Keys.{only};
 ghost use Rattle.sqs_model.specs.Actor.{filled};
 ghost use Rattle.sim_scenario.specs.Gives.{Gives};
 ghost use Rattle.sim_scenario.specs.Sections.{table_of};
 
+use crate::distributions::time;
 use crate::fault::ReadError;
+use crate::groups::WeightedGroups;
 use crate::key_type::{Boolean, Integer, KeyType};
 use crate::section::{ACTOR_KEYS, Section};
 use sim_clock::Refusal;
 use sqs_message::Text;
-use sqs_model::{ProducerSettings, Role, has_mark};
+use sqs_model::{Distribution, Groups, ProducerSettings, Role, has_mark};
 use std::alloc::{AllocError, Global};
 use toml::Value;
 
 /// The keys of every producer.
-const PRODUCER_KEYS: &[&str] = &["count", "start_ms", "gap_min_ms", "gap_max_ms", "body"];
+const PRODUCER_KEYS: &[&str] = &["count", "start_ms", "body"];
 
-/// The keys that only a producer of a queue of this kind has.
-fn sending_keys(is_fifo: bool) -> &'static [&'static str]
-    ensures { map (λ k. k.now) result.now ≡ sending_keys is_fifo }
+/// The keys of the time from one send to the next.
+fn gap_keys(by_quantiles: bool) -> &'static [&'static str]
+    ensures { map (λ k. k.now) result.now ≡ gap_keys by_quantiles }
 {
-    if is_fifo {
-        &["groups", "ids"]
+    if by_quantiles {
+        &["gap"]
     } else {
-        &["delay_s"]
+        &["gap_min_ms", "gap_max_ms"]
     }
 }
 
-/// Checks that a producer has known keys alone.
-fn known_producer_keys(is_fifo: bool, section: &Section<'_>) -> Result<(), ReadError>
-    ensures { Gives (λ u. u) result
-        (only (actor_keys ++ (producer_keys ++ sending_keys is_fifo)) (table_of section.now)) }
+/// The keys that only a producer of a queue of this kind has.
+fn sending_keys(is_fifo: bool, by_weight: bool) -> &'static [&'static str]
+    ensures { map (λ k. k.now) result.now ≡ sending_keys is_fifo by_weight }
 {
-    section.only(&[ACTOR_KEYS, PRODUCER_KEYS, sending_keys(is_fifo)])
+    match (is_fifo, by_weight) {
+        (true, true) => &["key_groups", "ids"],
+        (true, false) => &["groups", "ids"],
+        (false, _) => &["delay_s"],
+    }
+}
+
+/// The keys that a producer has from version 3 on.
+fn newer_producer_keys(version: u64) -> &'static [&'static str]
+    ensures { map (λ k. k.now) result.now ≡ newer_producer_keys version }
+{
+    if version >= 3 { &["stop_ms"] } else { &[] }
+}
+
+/// Checks that a producer has known keys alone.
+fn known_producer_keys(version: u64, is_fifo: bool, section: &Section<'_>) -> Result<(), ReadError>
+    ensures { Gives (λ u. u) result (only
+        (all_producer_keys version is_fifo (table_of section.now)) (table_of section.now)) }
+{
+    let gap = gap_keys(section.has_newer(version, "gap"));
+    let own = sending_keys(is_fifo, section.has_newer(version, "key_groups"));
+    let newer = newer_producer_keys(version);
+    section.only(&[ACTOR_KEYS, PRODUCER_KEYS, gap, own, newer])
+}
+
+/// The time from one send to the next.
+#[tactic(auto, unfolding(sqs_formats::specs::Actors::gap))]
+fn gap(section: &Section<'_>) -> Result<Distribution, ReadError>
+    ensures { Gives (λ d. d) result (gap (table_of section.now)) }
+{
+    time(
+        section.has("gap"),
+        "gap",
+        "gap_min_ms",
+        "gap_max_ms",
+        section,
+    )
+}
+
+/// The groups to which a producer sends, in turn or by weight.
+#[tactic(auto, unfolding(sqs_formats::specs::Groups::groups, sqs_formats::specs::Reading::and_then))]
+fn groups(by_weight: bool, section: &Section<'_>) -> Result<Groups, ReadError>
+    ensures { Gives (λ g. g) result (the_groups by_weight (table_of section.now)) }
+{
+    if by_weight {
+        let weighted = section.required("key_groups", &WeightedGroups)?;
+        Ok(Groups::ByWeight(weighted))
+    } else {
+        let count = section.required("groups", &Integer(1, 1000))?;
+        Ok(Groups::InTurn(count))
+    }
 }
 
 /// The groups, the ids and the delay of a producer, by the kind of its queue.
@@ -42,11 +94,11 @@ fn known_producer_keys(is_fifo: bool, section: &Section<'_>) -> Result<(), ReadE
 fn sending(
     is_fifo: bool,
     section: &Section<'_>,
-) -> Result<(Option<u64>, bool, Option<u64>), ReadError>
+) -> Result<(Option<Groups>, bool, Option<u64>), ReadError>
     ensures { Gives (λ s. s) result (the_sending is_fifo (table_of section.now)) }
 {
     if is_fifo {
-        let groups = section.required("groups", &Integer(1, 1000))?;
+        let groups = groups(section.has("key_groups"), section)?;
         let ids = section.optional("ids", &Boolean, true)?;
         Ok((Some(groups), ids, None))
     } else {
@@ -114,25 +166,38 @@ impl KeyType for Body {
     }
 }
 
+/// The moment from which on an actor does nothing new, which is not before its start.
+#[tactic(auto, unfolding(sqs_formats::specs::Actors::stopping))]
+pub(crate) fn stopping(start: u64, section: &Section<'_>) -> Result<Option<u64>, ReadError>
+    ensures { Gives (λ s. s) result (stopping start (table_of section.now)) }
+{
+    section.maybe("stop_ms", &Integer(start, 2_592_000_000))
+}
+
 /// A producer of a queue of a kind.
 #[tactic(auto, unfolding(sqs_formats::specs::Reading::and_then))]
-pub(crate) fn producer(is_fifo: bool, section: &Section<'_>) -> Result<Role, ReadError>
-    ensures { Gives (λ p. p) result (producing is_fifo (table_of section.now)) }
+pub(crate) fn producer(
+    version: u64,
+    is_fifo: bool,
+    section: &Section<'_>,
+) -> Result<Role, ReadError>
+    ensures { Gives (λ p. p) result (producing version is_fifo (table_of section.now)) }
 {
-    known_producer_keys(is_fifo, section)?;
+    known_producer_keys(version, is_fifo, section)?;
     let count = section.required("count", &Integer(1, 1_000_000))?;
     let start = section.optional("start_ms", &Integer(0, 2_592_000_000), 0)?;
-    let (gap_min, gap_max) = section.bounds("gap_min_ms", "gap_max_ms", 86_400_000)?;
+    let gap = gap(section)?;
     let body = section.required("body", &Body { count })?;
     let (groups, ids, delay) = sending(is_fifo, section)?;
+    let stop = stopping(start, section)?;
     Ok(Role::Producer(ProducerSettings {
         count,
         start,
-        gap_min,
-        gap_max,
+        gap,
         body,
         groups,
         ids,
         delay,
+        stop,
     }))
 }

@@ -17,20 +17,20 @@ use sqs_message::Text;
 use sqs_redrive::{Kind, Latency, Policy, QueueSettings, Scope};
 use toml::Value;
 
-/// The latency of a version: one number in version 1, which is both bounds, and else two.
+/// The latency of a version: one number in version 1, which is both bounds, and two from then on.
 #[tactic(auto, unfolding(sqs_formats::specs::Queues::latency, sqs_formats::specs::Reading::and_then))]
 pub(crate) fn latency(version: u64, section: &Section<'_>) -> Result<Latency, ReadError>
     ensures { Gives (λ l. l) result (the_latency version (table_of section.now)) }
 {
-    if version == 2 {
-        let (least, greatest) = section.bounds("latency_min_ms", "latency_max_ms", 900_000)?;
-        return Ok(Latency { least, greatest });
+    if version == 1 {
+        let both = section.required("latency_ms", &Integer(1, 900_000))?;
+        return Ok(Latency {
+            least: both,
+            greatest: both,
+        });
     }
-    let both = section.required("latency_ms", &Integer(1, 900_000))?;
-    Ok(Latency {
-        least: both,
-        greatest: both,
-    })
+    let (least, greatest) = section.bounds("latency_min_ms", "latency_max_ms", 900_000)?;
+    Ok(Latency { least, greatest })
 }
 
 /// The scope of deduplication ids.
@@ -124,10 +124,10 @@ fn kind_keys(is_fifo: bool) -> &'static [&'static str]
 pub(crate) fn latency_keys(version: u64) -> &'static [&'static str]
     ensures { map (λ k. k.now) result.now ≡ latency_keys version }
 {
-    if version == 2 {
-        &["latency_min_ms", "latency_max_ms"]
-    } else {
+    if version == 1 {
         &["latency_ms"]
+    } else {
+        &["latency_min_ms", "latency_max_ms"]
     }
 }
 
@@ -137,10 +137,10 @@ fn policy_keys(version: u64, leads: bool) -> &'static [&'static str]
 {
     if !leads {
         &[]
-    } else if version == 2 {
-        &["max_receives", "latency_min_ms", "latency_max_ms"]
-    } else {
+    } else if version == 1 {
         &["max_receives", "latency_ms"]
+    } else {
+        &["max_receives", "latency_min_ms", "latency_max_ms"]
     }
 }
 
@@ -178,7 +178,7 @@ impl ItemType for Queues<'_> {
             "name",
             &AgentName {
                 outline,
-                number,
+                place: number,
                 is_queue: true,
             },
         )?;

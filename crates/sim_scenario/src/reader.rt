@@ -1,8 +1,8 @@
 //! The reader of a scenario: from a TOML document it makes a scenario, or returns the first fault.
-ghost use Rattle.std.specs.Prelude.{◌≡◌, ◌≤◌, ◌+◌, ◌++◌, IfOk, OnOk, length, map};
+ghost use Rattle.std.specs.Prelude.{◌≡◌, ◌≤◌, ◌+◌, ◌++◌, IfOk, OnOk, drop, length, map, take};
 ghost use Rattle.toml.specs.View.{table_view, view};
 ghost use Rattle.sqs_formats.specs.Outline.{outline_of};
-ghost use Rattle.sqs_formats.specs.Scenario.{agents as the_agents, scenario_in, whole};
+ghost use Rattle.sqs_formats.specs.Scenario.{agents as the_agents, by_number, scenario_in, whole};
 ghost use Rattle.sim_scenario.specs.Gives.{Gives};
 ghost use Rattle.sim_scenario.specs.Ranges.{IsInRange};
 ghost use Rattle.sim_scenario.specs.Tops.{IsTop, top_view};
@@ -17,7 +17,7 @@ use crate::scripted::Scripts;
 use crate::section::Section;
 use crate::tasks::Tasks;
 use crate::top::{Top, top_table};
-use sqs_message::Text;
+use sqs_message::{Listed, Text};
 use sqs_model::ActorSettings;
 use sqs_redrive::{QueueSettings, TaskSettings};
 use std::alloc::{AllocError, Global};
@@ -39,6 +39,41 @@ fn part<T: Drop>(
         settings.push(setting)?;
     }
     Ok(settings)
+}
+
+/// Appends the first of an actor's agents to other firsts, and the rest of them to other agents.
+fn place_agents(
+    agents: Vec<(Text, ActorSettings)>,
+    firsts: &mut Vec<(Text, ActorSettings)>,
+    others: &mut Vec<(Text, ActorSettings)>,
+) -> Result<(), AllocError>
+    ensures firsts { OnOk result (firsts.new.items ≡ firsts.old.items ++ take 1 agents.items) }
+    ensures others { OnOk result (others.new.items ≡ others.old.items ++ drop 1 agents.items) }
+{
+    let mut agents = agents.into_iter();
+    if let Some(first) = agents.next() {
+        firsts.push(first)?;
+    }
+    for agent in agents {
+        others.push(agent)?;
+    }
+    Ok(())
+}
+
+/// The agents of all actors: the first of each, and behind them the others.
+fn by_number(
+    alloc: Global,
+    actors: Vec<Listed<(Text, ActorSettings)>>,
+) -> Result<Vec<(Text, ActorSettings)>, AllocError>
+    ensures { IfOk result (λ v. v.items ≡ by_number actors.items) }
+{
+    let mut firsts = Vec::with_capacity(alloc, actors.len())?;
+    let mut others = Vec::new(alloc);
+    for agents in actors {
+        place_agents(agents.into_vec(), &mut firsts, &mut others)?;
+    }
+    firsts.append(&mut others)?;
+    Ok(firsts)
 }
 
 /// The scenario of these agents.
@@ -90,22 +125,24 @@ fn agents(
     each(alloc, "queue", top.queues, &DeadLetters { outline })?;
     let actors = each(alloc, "actor", top.actors, &Actors { scripts, outline })?;
     let tasks = each(alloc, "task", top.tasks, &Tasks { outline })?;
+    let actors = by_number(alloc, actors)?;
     let scenario = assembled(alloc, top, queues, actors, tasks)?;
     Ok(scenario)
 }
 
-/// The scenario in a document.
+/// The scenario in a document of a version up to the newest one.
 #[tactic(auto, unfolding(sqs_formats::specs::Scenario::scenario_in, sqs_formats::specs::Reading::and_then))]
 pub(crate) fn document(
     alloc: Global,
+    newest: u64,
     scripts: &Scripts,
     table: &Table,
 ) -> Result<Scenario, ReadError>
     ensures range { IfOk result IsInRange }
-    ensures value { Gives (λ s. s) result (scenario_in scripts.now (table_view table.now)) }
+    ensures value { Gives (λ s. s) result (scenario_in newest scripts.now (table_view table.now)) }
 {
     let section = Section::top(alloc, table);
-    let top = top_table(&section)?;
+    let top = top_table(newest, &section)?;
     let outline = Outline::new(alloc, top.version, top.queues, top.actors, top.tasks)?;
     agents(alloc, scripts, &top, &outline)
 }

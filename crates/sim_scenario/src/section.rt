@@ -4,7 +4,7 @@ ghost use Rattle.std.specs.List.{list_any};
 ghost use Rattle.std.specs.Str.{bytes_eq};
 ghost use Rattle.toml.specs.Data.{as_table, get_member};
 ghost use Rattle.toml.specs.View.{table_view, view};
-ghost use Rattle.sqs_formats.specs.Keys.{bounds, fault_at, has, item_place, item_table, list as a_list, maybe, only, optional, place_of, required, text as a_text};
+ghost use Rattle.sqs_formats.specs.Keys.{bounds, fault_at, has, has_newer, item_place, item_table, list as a_list, maybe, only, optional, place_of, required, text as a_text};
 ghost use Rattle.sim_scenario.specs.Gives.{Gives, Names, table as the_table};
 ghost use Rattle.sim_scenario.specs.Sections.{table_of};
 
@@ -117,6 +117,13 @@ impl<'a> Section<'a> {
         member(self.table, key).is_some()
     }
 
+    /// Whether there is a value at a key that is known from version 3 on.
+    pub(crate) fn has_newer(&self, version: u64, key: &str) -> bool
+        ensures { result ≡ has_newer version (table_of self.now) key.now }
+    {
+        version >= 3 && self.has(key)
+    }
+
     /// Checks that the table has none but the keys in these lists.
     pub(crate) fn only(&self, known: &[&[&str]]) -> Result<(), ReadError>
         ensures { Gives (λ u. u) result
@@ -138,7 +145,7 @@ impl<'a> Section<'a> {
 
     /// The items of the list that a value at a key is.
     #[tactic(auto, using(crate::proofs::ListItems::in_order_is), unfolding(sqs_formats::specs::Reading::and_then))]
-    fn items<'v>(&self, value: &'v Value, key: &str) -> Result<&'v [Value], ReadError>
+    pub(crate) fn items<'v>(&self, value: &'v Value, key: &str) -> Result<&'v [Value], ReadError>
         ensures { Gives (λ vs. map view vs.now) result
             (a_list (place_of (table_of self.now) key.now) (view value.now)) }
     {

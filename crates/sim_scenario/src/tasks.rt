@@ -44,12 +44,12 @@ impl ItemType for Tasks<'_> {
         section: &Section<'_>,
     ) -> Result<(Text, TaskSettings), ReadError> {
         let outline = self.outline;
-        let number = outline.queue_count() + outline.actor_count() + number;
+        let place = outline.task_place(number);
         let name = section.required(
             "name",
             &AgentName {
                 outline,
-                number,
+                place,
                 is_queue: false,
             },
         )?;

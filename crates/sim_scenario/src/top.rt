@@ -60,15 +60,15 @@ const TOP_KEYS: &[&str] = &[
     "version", "horizon", "seed", "sample", "queue", "actor", "task",
 ];
 
-/// The contents of the top table.
+/// The contents of the top table, of a version up to the newest one.
 #[tactic(auto, unfolding(sqs_formats::specs::Scenario::top, sqs_formats::specs::Reading::and_then))]
-pub(crate) fn top_table<'a>(section: &Section<'a>) -> Result<Top<'a>, ReadError>
-    ensures value { Gives top_view result (the_top (table_of section.now)) }
+pub(crate) fn top_table<'a>(newest: u64, section: &Section<'a>) -> Result<Top<'a>, ReadError>
+    ensures value { Gives top_view result (the_top newest (table_of section.now)) }
     ensures few { IfOk result
         (λ t. length t.queues.now + length t.actors.now + length t.tasks.now ≤ 11000) }
 {
     section.only(&[TOP_KEYS])?;
-    let version = section.required("version", &Integer(1, 2))?;
+    let version = section.required("version", &Integer(1, newest))?;
     let horizon = section.required("horizon", &Integer(1, 2_592_000_000))?;
     let seed = section.optional("seed", &Integer(0, 9_223_372_036_854_775_807), 0)?;
     let sample = section.optional("sample", &Integer(0, 2_592_000_000), 0)?;

@@ -5,5 +5,6 @@
 mod records;
 mod script;
 
+pub use records::is_token;
 pub use script::{ScriptError, read_script};
 pub use sqs_formats::ScriptFault;

@@ -126,7 +126,7 @@ fn are_printed(bytes: &[u8]) -> bool
 }
 
 /// Whether a field is an id, a group or a receipt.
-fn is_token(most: usize, field: &[u8]) -> bool
+pub fn is_token(most: usize, field: &[u8]) -> bool
     ensures { result ≡ is_token most field.now }
 {
     let length = field.len();

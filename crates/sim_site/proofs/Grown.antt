@@ -1,5 +1,5 @@
 -- What an actor does at its site adds polls after those that wait, and takes none away.
-use Rattle.std.specs.Prelude.{Bool, Err, List, None, Ok, Option, Result, Some, [], drop, false, get_or, length, suc, true, zero, ℕ, ◌++◌, ◌+◌, ◌<◌, ◌∷◌, ◌≡◌}
+use Rattle.std.specs.Prelude.{Bool, Err, List, None, Ok, Option, Result, Some, [], drop, false, get_or, length, suc, true, zero, ℕ, ◌++◌, ◌+◌, ◌<◌, ◌∷◌, ◌≡◌, unwrap_or, ◌/◌}
 use Rattle.std.proofs.Common.{add-one, ap, append-nil, append_assoc, arith, drop-cons, length-append, length-drop, subst, sym, ◌∙◌}
 use Rattle.sim_clock.specs.declared.key.Key.{Key}
 use Rattle.sim_clock.specs.declared.refusal.Refusal.{Refusal}
@@ -111,6 +111,7 @@ module _ (P : List Poll → Type 0) (grows : (ps : List Poll) (p : Poll) → P p
   act_stays key a c (acts.Receive max wait timeout) h = receive_stays c.queue.settings.kind key a c max wait timeout h
   act_stays key a c (acts.Delete text) h = delete_stays key a c text (read_receipt text) h
   act_stays key a c (acts.Change text timeout) h = change_stays key a c text timeout (read_receipt text) h
+  act_stays key a c (acts.Prolong text timeout) h = change_stays key a c text (unwrap_or timeout (c.queue.settings.visibility / 1000)) (read_receipt text) h
   act_stays key a c (acts.Start task) h = start_stays key a c task (task_numbered task c) h
   act_stays key a c (acts.Cancel task) h = cancel_stays key a c task (task_numbered task c) h
   act_stays key a c (acts.Serve id r failed forward) h = serve_stays key a c id r failed forward h
@@ -123,6 +124,7 @@ module _ (P : List Poll → Type 0) (grows : (ps : List Poll) (p : Poll) → P p
   next_stays more key c (acts.Receive max wait timeout) a f h = f _ _ (act_stays key a (with_actor c a) (acts.Receive max wait timeout) h)
   next_stays more key c (acts.Delete text) a f h = f _ _ (act_stays key a (with_actor c a) (acts.Delete text) h)
   next_stays more key c (acts.Change text timeout) a f h = f _ _ (act_stays key a (with_actor c a) (acts.Change text timeout) h)
+  next_stays more key c (acts.Prolong text timeout) a f h = f _ _ (act_stays key a (with_actor c a) (acts.Prolong text timeout) h)
   next_stays more key c (acts.Start task) a f h = f _ _ (act_stays key a (with_actor c a) (acts.Start task) h)
   next_stays more key c (acts.Cancel task) a f h = f _ _ (act_stays key a (with_actor c a) (acts.Cancel task) h)
   next_stays more key c (acts.Serve id r failed forward) a f h = f _ _ (act_stays key a (with_actor c a) (acts.Serve id r failed forward) h)

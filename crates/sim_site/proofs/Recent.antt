@@ -36,6 +36,7 @@ turn_by_made (acts.Send body delay group id) m = refl
 turn_by_made (acts.Receive max wait timeout) m = refl
 turn_by_made (acts.Delete text) m = refl
 turn_by_made (acts.Change text timeout) m = refl
+turn_by_made (acts.Prolong text timeout) m = refl
 turn_by_made (acts.Start task) m = refl
 turn_by_made (acts.Cancel task) m = refl
 turn_by_made (acts.Serve id receipt failed forward) m = refl

@@ -26,6 +26,7 @@ next_follows more key c (acts.Send body delay group id) a = refl
 next_follows more key c (acts.Receive max wait timeout) a = refl
 next_follows more key c (acts.Delete text) a = refl
 next_follows more key c (acts.Change text timeout) a = refl
+next_follows more key c (acts.Prolong text timeout) a = refl
 next_follows more key c (acts.Start task) a = refl
 next_follows more key c (acts.Cancel task) a = refl
 next_follows more key c (acts.Serve id receipt failed forward) a = refl

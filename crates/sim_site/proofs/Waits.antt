@@ -1,5 +1,5 @@
 -- No act of an actor waits for longer than its settings let it.
-use Rattle.std.proofs.Common.{ℕ, Bool, true, false, List, [], ◌∷◌, Option, Some, None}
+use Rattle.std.proofs.Common.{ℕ, ◌≤◌, List, [], ◌∷◌, Option, Some, None}
 use Rattle.std.specs.Prelude.{All, drop, nat_lt}
 use Rattle.std.proofs.lemmas.List.Elements.{All-head, All-drop}
 use Rattle.sqs_message.specs.declared.calls.ScriptCall.{ScriptCall}
@@ -13,10 +13,11 @@ use Rattle.sqs_model.specs.declared.agents.ProducerSettings.{ProducerSettings}
 use Rattle.sqs_model.specs.declared.agents.Role.{Role}
 use Rattle.sqs_model.specs.declared.agents.Role.TheVariants.{Consumer, Producer, Script}
 use Rattle.sqs_redrive.specs.declared.answers.Got.{Got}
-use Rattle.sqs_model.specs.Actor.{Actor, Asked, Ended, Served, LastAct, consumer_got, consumer_told, consumer_wake, ends_service, next, next_as, producer_sent, script_wake, serves, wakes_after, woken}
-use Rattle.sqs_model.specs.Draw.{Draws, drawn_chance, drawn_uniform}
+use Rattle.sqs_model.specs.Actor.{Actor, Asked, Beat, Ended, Failed, Served, LastAct, consumer_got, consumer_told, consumer_wake, has_come, has_failed, next, next_as, producer_sent, script_wake, wakes_after, woken}
+use Rattle.sqs_model.specs.Draw.{drawn_time}
 use Rattle.sqs_model.proofs.Branches.{either}
-use Rattle.sim_site.specs.Kept.{HasShortWaits, WaitsShortly, WaitsWithin}
+use Rattle.sqs_model.proofs.ConsumerWakes.{IsServiceAct, consumer_woke}
+use Rattle.sim_site.specs.Kept.{HasShortWaits, WaitsShortly, WaitsWithin, most_wait}
 
 script_waits : (a : Actor) (cs : List ScriptCall) → All (λ c. WaitsWithin c.call) cs → WaitsShortly (script_wake a cs).0
 script_waits a [] h = tt
@@ -24,32 +25,42 @@ script_waits a (c ∷ cs) h = All-head (λ (x : ScriptCall). WaitsWithin x.call)
 
 producer_waits : (a : Actor) (p : ProducerSettings) (now : ℕ) → WaitsShortly (producer_sent a p now).0
 producer_waits a p now =
-    either (λ (x : Act × Actor). WaitsShortly x.0) (nat_lt a.wakes p.count) (acts.Nothing, wakes_after a now (drawn_uniform p.gap_min p.gap_max a.draws)) (acts.Nothing, a) tt tt
+    either (λ (x : Act × Actor). WaitsShortly x.0) (nat_lt a.wakes p.count) (acts.Nothing, wakes_after a now (drawn_time p.gap a.draws)) (acts.Nothing, a) tt tt
 
-serves_waits : (a : Actor) (now : ℕ) (g : Got) (f : Option Forwarding) → WaitsShortly (serves a now g f).0
-serves_waits a now g None = tt
-serves_waits a now g (Some f) = tt
-
-ends_waits : (a : Actor) (c : ConsumerSettings) (now : ℕ) (g : Got) (x : Bool × Draws) → WaitsShortly (ends_service a c now g x).0
-ends_waits a c now g (true, draws) = tt
-ends_waits a c now g (false, draws) = serves_waits (record a { last_act = Served g.receipt; draws = draws }) now g c.forward
+-- what a consumer does when it wakes waits for no longer than its settings say
+service_waits : (now : ℕ) (b : Actor) (wait : ℕ) (f : Option Forwarding) (act : Act) → wait ≤ most_wait → IsServiceAct now b wait f act → WaitsShortly act
+service_waits now b wait f (acts.Send body delay group id) h k = absurd k
+service_waits now b wait f (acts.Receive most waits timeout) h k = rw k h
+service_waits now b wait f (acts.Delete text) h k = tt
+service_waits now b wait f (acts.Change text timeout) h k = tt
+service_waits now b wait f (acts.Prolong text timeout) h k = tt
+service_waits now b wait f (acts.Start task) h k = absurd k
+service_waits now b wait f (acts.Cancel task) h k = absurd k
+service_waits now b wait f (acts.Serve id receipt failed forward) h k = tt
+service_waits now b wait f acts.Nothing h k = tt
 
 wake_waits : (a : Actor) (c : ConsumerSettings) (now : ℕ) (gs : List Got) → HasShortWaits (Consumer c) → WaitsShortly (consumer_wake a c now gs).0
-wake_waits a c now [] h = h
-wake_waits a c now (g ∷ gs) h = ends_waits (record a { held = gs }) c now g (drawn_chance c.fail_permille a.draws)
+wake_waits a c now gs h = service_waits now a c.wait c.forward (consumer_wake a c now gs).0 h (consumer_woke now a c gs).act
 
 got_waits : (a : Actor) (c : ConsumerSettings) (now : ℕ) (gs : List Got) → WaitsShortly (consumer_got a c now gs).0
 got_waits a c now [] = tt
 got_waits a c now (g ∷ gs) = tt
 
+failed_waits : (a : Actor) (c : ConsumerSettings) (now : ℕ) (gs : List Got) → WaitsShortly (has_failed a c now gs).0
+failed_waits a c now [] = tt
+failed_waits a c now (g ∷ gs) = tt
+
 told_waits : (a : Actor) (c : ConsumerSettings) (now : ℕ) (last_act : LastAct) → WaitsShortly (consumer_told a c now last_act).0
 told_waits a c now Asked = tt
 told_waits a c now (Served receipt) = tt
 told_waits a c now Ended = tt
+told_waits a c now Failed = failed_waits a c now a.failed
+told_waits a c now Beat = tt
 
 role_waits : (r : Role) (a : Actor) (now : ℕ) (answer : Answer) → HasShortWaits r → WaitsShortly (next_as r a now answer).0
 role_waits (Script script) a now told_by.Wake h = script_waits a (drop a.wakes script) (All-drop (λ (x : ScriptCall). WaitsWithin x.call) a.wakes script h)
 role_waits (Script script) a now answer h = tt
+role_waits (Producer p) a now told_by.Wake h = either (λ (x : Act × Actor). WaitsShortly x.0) (has_come p.stop now) _ _ tt tt
 role_waits (Producer p) a now told_by.Other h = producer_waits a p now
 role_waits (Producer p) a now answer h = tt
 role_waits (Consumer c) a now told_by.Wake h = wake_waits (woken a) c now a.held h

@@ -25,6 +25,7 @@ WaitsShortly (acts.Send body delay group id) = Unit {0}
 WaitsShortly (acts.Receive max wait timeout) = wait ≤ most_wait
 WaitsShortly (acts.Delete receipt) = Unit {0}
 WaitsShortly (acts.Change receipt timeout) = Unit {0}
+WaitsShortly (acts.Prolong receipt timeout) = Unit {0}
 WaitsShortly (acts.Start task) = Unit {0}
 WaitsShortly (acts.Cancel task) = Unit {0}
 WaitsShortly (acts.Serve id receipt failed forward) = Unit {0}

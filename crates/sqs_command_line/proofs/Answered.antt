@@ -1,5 +1,5 @@
 -- What the reading of a line answers, over plain values.
-use Rattle.std.proofs.Common.{Err, IfErr, List, None, Ok, Option, Result, Some, ap, refl, subst, true, ℕ, ◌≡◌}
+use Rattle.std.proofs.Common.{Bool, Err, IfErr, List, None, Ok, Option, Result, Some, ap, codes, false, refl, subst, true, ℕ, ◌≡◌}
 use Rattle.std.specs.Result.{IsErrAnd}
 use Rattle.std.specs.Str.Parse.{ExplainsUnsignedError, HasUnsignedDigitsIfOk, ParsesUnsigned}
 use Rattle.std.specs.declared.num.ParseIntError.{ParseIntError}
@@ -10,7 +10,7 @@ use Rattle.clap.specs.Matches.{TriesOne}
 use Rattle.clap.specs.declared.parser.matches.Found.{Found}
 use Rattle.clap.proofs.OnLiterals.{clap_on_literals}
 use Rattle.clap.proofs.WalkLemmas.{one_text-rows}
-use Rattle.sqs_command_line.specs.Lines.{IsFaultOf, TellsNumber}
+use Rattle.sqs_command_line.specs.Lines.{IsFaultOf, IsFlag, TellsNumber}
 use Rattle.sqs_command_line.specs.Programs.{program}
 use Rattle.sqs_command_line.specs.declared.asked.LineFault.{LineFault}
 use Rattle.sqs_command_line.specs.declared.asked.LineFault.TheVariants as faults
@@ -45,6 +45,14 @@ pub told_number :
     → (one_text found id ≡ None → r ≡ Ok None) → ((t : List ℕ) → one_text found id ≡ Some t → TriesOne (Reads k) t r)
     → TellsNumber k (one_of id (rows_of found)) r
 told_number k found id r none value = subst (λ (t : Option Text). TellsNumber k t r) (one_text-rows found id) (told_text k (one_text found id) r none value)
+
+-- whether an option without a value was given, by what `get_flag` ensures
+pub flag_given :
+    (found : Found) (id : Text) (flag : Bool)
+    → (one_text found id ≡ None → flag ≡ false) → (one_text found id ≡ Some (codes "true") → flag ≡ true) → (one_text found id ≡ Some (codes "false") → flag ≡ false)
+    → IsFlag (one_of id (rows_of found)) flag
+flag_given found id flag none value other =
+    subst (λ (t : Option Text). IsFlag t flag) (one_text-rows found id) (record { absent = none; given = value; left_out = other })
 
 -- the fault that a `?` hands on is the one that the rules find
 pub handed_fault : {X : Type 0} (words : List Text) (r : Result X LineFault) (e : Error) → IsErrAnd r (λ met. met ≡ faults.Words e) → HasKind (fault_of program words) e → IfErr r (IsFaultOf words)

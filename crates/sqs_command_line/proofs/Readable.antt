@@ -92,7 +92,7 @@ abbrev run_built : Shape
 run_built = head (built program).subs
 
 run_owns : Each (IsOwn run_built.rules) run_built.rules
-run_owns = (refl, (refl, (refl, (refl, (refl, (refl, (refl, (refl, (refl, tt)))))))))
+run_owns = (refl, (refl, (refl, (refl, (refl, (refl, (refl, (refl, (refl, (refl, tt))))))))))
 
 run_reads : (words : List Text) → level_fault run_built [] nothing_held words false [] ≡ [] → IsReadable (rows_at run_built words)
 run_reads words e =

@@ -44,17 +44,20 @@ pub record IsRun (rows : List Row) (l : RunLine) : Type 0 where
   pub workers : l.workers ≡ number_of (one_of (codes "workers") rows)
   pub log : told l.log ≡ first_of (codes "log") rows
   pub scripts : told l.scripts ≡ first_of (codes "scripts") rows
+  pub preview : IsFlag (one_of (codes "preview") rows) l.preview
   pub quiet : IsFlag (one_of (codes "quiet") rows) l.quiet
   pub scenario : told l.scenario ≡ first_of (codes "scenario") rows
 
 -- a reading by its arguments
 pub record IsCheck (rows : List Row) (l : CheckLine) : Type 0 where
   pub scripts : told l.scripts ≡ first_of (codes "scripts") rows
+  pub preview : IsFlag (one_of (codes "preview") rows) l.preview
   pub scenario : told l.scenario ≡ first_of (codes "scenario") rows
 
 -- a comparison by its arguments
 pub record IsCompare (rows : List Row) (l : CompareLine) : Type 0 where
   pub scripts : told l.scripts ≡ first_of (codes "scripts") rows
+  pub preview : IsFlag (one_of (codes "preview") rows) l.preview
   pub first : told l.first ≡ first_of (codes "first") rows
   pub second : told l.second ≡ first_of (codes "second") rows
 

@@ -33,18 +33,23 @@ run_options =
 abbrev pub run_files : App
 run_files = with_rule (with_rule run_options (option_rule (codes "log"))) (option_rule (codes "scripts"))
 
--- .. [--quiet] [SCENARIO]
+-- .. [--preview]
+abbrev pub with_preview : App → App
+with_preview app = with_rule app (flag_rule (codes "preview"))
+
+-- .. [--preview] [--quiet] [SCENARIO]
 abbrev pub run_app : App
-run_app = with_rule (with_rule run_files (flag_rule (codes "quiet"))) (place_rule false (codes "scenario"))
+run_app = with_rule (with_rule (with_preview run_files) (flag_rule (codes "quiet"))) (place_rule false (codes "scenario"))
 
--- check [--scripts DIR] [SCENARIO]
+-- check [--scripts DIR] [--preview] [SCENARIO]
 abbrev pub check_app : App
-check_app = with_rule (with_rule (new_app (codes "check")) (option_rule (codes "scripts"))) (place_rule false (codes "scenario"))
+check_app = with_rule (with_preview (with_rule (new_app (codes "check")) (option_rule (codes "scripts")))) (place_rule false (codes "scenario"))
 
--- compare [--scripts DIR] FIRST SECOND
+-- compare [--scripts DIR] [--preview] FIRST SECOND
 abbrev pub compare_app : App
 compare_app =
-    with_rule (with_rule (with_rule (new_app (codes "compare")) (option_rule (codes "scripts"))) (place_rule true (codes "first"))) (place_rule true (codes "second"))
+    with_rule (with_rule (with_preview (with_rule (new_app (codes "compare")) (option_rule (codes "scripts")))) (place_rule true (codes "first")))
+    (place_rule true (codes "second"))
 
 -- sqs_rehearse, which asks for a subcommand
 abbrev pub bare : App

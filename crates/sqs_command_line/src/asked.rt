@@ -15,6 +15,8 @@ pub struct RunLine<'a> {
     pub log: Option<&'a str>,
     /// The folder of the scripts.
     pub scripts: Option<&'a str>,
+    /// Whether version 3 of scenarios is read, too.
+    pub preview: bool,
     /// Whether no progress is shown.
     pub quiet: bool,
     /// The file of the scenario.
@@ -26,6 +28,8 @@ pub struct RunLine<'a> {
 pub struct CheckLine<'a> {
     /// The folder of the scripts.
     pub scripts: Option<&'a str>,
+    /// Whether version 3 of scenarios is read, too.
+    pub preview: bool,
     /// The file of the scenario.
     pub scenario: Option<&'a str>,
 }
@@ -35,6 +39,8 @@ pub struct CheckLine<'a> {
 pub struct CompareLine<'a> {
     /// The folder of the scripts.
     pub scripts: Option<&'a str>,
+    /// Whether version 3 of scenarios is read, too.
+    pub preview: bool,
     /// The files of the two scenarios.
     pub first: Option<&'a str>,
     pub second: Option<&'a str>,

@@ -10,6 +10,9 @@ use std::alloc::{AllocError, Global};
 /// The help of the scripts' folder.
 const SCRIPTS_HELP: &str = "The folder of the scripts [default: .]";
 
+/// The help of the newest version.
+const PREVIEW_HELP: &str = "Read version 3 of scenarios, too, which may still change";
+
 /// The help of the scenario.
 const SCENARIO_HELP: &str = "The scenario's file [default: standard input]";
 
@@ -172,6 +175,7 @@ fn run_command<'a>(alloc: Global) -> Result<Command<'a>, AllocError>
     ensures local { IfOk result (λ c. (fields_of c).has_globals ≡ false) }
 {
     let command = run_files(alloc)?;
+    let command = command.arg(flag(alloc, "preview", PREVIEW_HELP))?;
     let command = command.arg(flag(alloc, "quiet", "Show no progress, even on a terminal"))?;
     let command = command.arg(place(alloc, "scenario", false, SCENARIO_HELP))?;
     Ok(command)
@@ -189,6 +193,7 @@ fn check_command<'a>(alloc: Global) -> Result<Command<'a>, AllocError>
         CHECK_HELP,
     );
     let command = command.arg(option(alloc, "scripts", SCRIPTS_HELP))?;
+    let command = command.arg(flag(alloc, "preview", PREVIEW_HELP))?;
     let command = command.arg(place(alloc, "scenario", false, SCENARIO_HELP))?;
     Ok(command)
 }
@@ -205,6 +210,7 @@ fn compare_command<'a>(alloc: Global) -> Result<Command<'a>, AllocError>
         COMPARE_HELP,
     );
     let command = command.arg(option(alloc, "scripts", SCRIPTS_HELP))?;
+    let command = command.arg(flag(alloc, "preview", PREVIEW_HELP))?;
     let command = command.arg(place(alloc, "first", true, "The scenario to compare with"))?;
     let command = command.arg(place(alloc, "second", true, "The scenario to compare"))?;
     Ok(command)

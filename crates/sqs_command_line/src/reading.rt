@@ -48,6 +48,7 @@ fn run_line<'a>(matches: &ArgMatches<'a>) -> Result<RunLine<'a>, Unread>
         workers,
         log: matches.get_str("log"),
         scripts: matches.get_str("scripts"),
+        preview: matches.get_flag("preview"),
         quiet: matches.get_flag("quiet"),
         scenario: matches.get_str("scenario"),
     })
@@ -59,6 +60,7 @@ fn check_line<'a>(matches: &ArgMatches<'a>) -> CheckLine<'a>
 {
     CheckLine {
         scripts: matches.get_str("scripts"),
+        preview: matches.get_flag("preview"),
         scenario: matches.get_str("scenario"),
     }
 }
@@ -69,6 +71,7 @@ fn compare_line<'a>(matches: &ArgMatches<'a>) -> CompareLine<'a>
 {
     CompareLine {
         scripts: matches.get_str("scripts"),
+        preview: matches.get_flag("preview"),
         first: matches.get_str("first"),
         second: matches.get_str("second"),
     }

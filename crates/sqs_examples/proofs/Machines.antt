@@ -7,6 +7,7 @@ use Rattle.rand_chacha.specs.Block.{block_word, double_rounds, column_round, dia
 use Rattle.rand_core.specs.Steps.{u32_at}
 use Rattle.sqs_message.specs.declared.calls.Call.TheVariants as calls
 use Rattle.sqs_model.specs.declared.agents.ActorSettings.{ActorSettings}
+use Rattle.sqs_model.specs.declared.agents.Distribution.TheVariants.{Uniform}
 use Rattle.sqs_model.specs.declared.agents.Role.TheVariants.{Consumer, Script}
 use Rattle.sqs_redrive.specs.declared.settings.Kind.TheVariants.{Standard}
 use Rattle.sqs_redrive.specs.declared.settings.QueueSettings.{QueueSettings}
@@ -54,11 +55,16 @@ consumer home start to =
             batch = 1;
             wait = 0;
             timeout = None;
-            service_min = 14;
-            service_max = 14;
+            service = Uniform 14 14;
             fail_permille = 0;
             idle = 86400000;
             forward = Some (record { to = to; latency = record { least = 10; greatest = 10 } });
+            stop = None;
+            fails_on = None;
+            outage = None;
+            whole = false;
+            backoff = [];
+            heartbeat = None;
           });
     }
 
@@ -183,11 +189,16 @@ relay home start wait to =
             batch = 1;
             wait = wait;
             timeout = None;
-            service_min = 100;
-            service_max = 100;
+            service = Uniform 100 100;
             fail_permille = 0;
             idle = 86400000;
             forward = Some (record { to = to; latency = record { least = 10; greatest = 10 } });
+            stop = None;
+            fails_on = None;
+            outage = None;
+            whole = false;
+            backoff = [];
+            heartbeat = None;
           });
     }
 

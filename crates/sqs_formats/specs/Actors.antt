@@ -1,10 +1,10 @@
 -- An actor of a scenario's text.
-use Rattle.std.specs.Prelude.{ℕ, ◌+◌, ◌-◌, ◌&&◌, nat_le, Bool, true, false, codes, List, [], ◌∷◌, ◌++◌, length, find, filter, map, zip, Option, None, Some, Ok, ok_or}
-use Rattle.std.specs.List.{enumerate_from}
+use Rattle.std.specs.Prelude.{ℕ, ◌-◌, ◌==◌, ◌&&◌, nat_le, get_or, Bool, true, false, codes, if◌then◌else◌, List, [], ◌∷◌, ◌++◌, length, find, filter, map, zip, Option, None, Some, Ok, ok_or}
+use Rattle.std.specs.List.{enumerate_from, list_all}
 use Rattle.std.specs.Fmt.{decimal}
 use Rattle.std.specs.Result.{result_map_both}
 use Rattle.std.specs.Str.{bytes_eq}
-use Rattle.sim_clock.specs.declared.refusal.Refusal.TheVariants.{OutOfRange, BadScript}
+use Rattle.sim_clock.specs.declared.refusal.Refusal.TheVariants.{OutOfRange, BadName, NameTwice, BadScript, TooMany}
 use Rattle.sqs_message.specs.declared.calls.ScriptCall.{ScriptCall}
 use Rattle.sqs_formats.specs.declared.actor_kind.ActorKind.{ActorKind}
 use Rattle.sqs_formats.specs.declared.actor_kind.ActorKind.TheVariants as kinds
@@ -13,13 +13,20 @@ use Rattle.sqs_formats.specs.declared.faults.ScriptFault.{ScriptFault}
 use Rattle.sqs_formats.specs.declared.home.Home.{Home}
 use Rattle.sqs_formats.specs.declared.home.HomeTask.{HomeTask}
 use Rattle.sqs_model.specs.declared.agents.ActorSettings.{ActorSettings}
+use Rattle.sqs_model.specs.declared.agents.Distribution.{Distribution}
 use Rattle.sqs_model.specs.declared.agents.Forwarding.{Forwarding}
+use Rattle.sqs_model.specs.declared.agents.Groups.{Groups}
 use Rattle.sqs_model.specs.declared.agents.Role.{Role}
 use Rattle.sqs_model.specs.declared.agents.Role.TheVariants.{Script, Producer, Consumer}
+use Rattle.sqs_model.specs.declared.agents.Stretch.{Stretch}
 use Rattle.sqs_formats.specs.Reading.{needs, ◌>>=◌}
-use Rattle.sqs_formats.specs.Keys.{Says, Table, KeyType, bounds, fault_at, has, only, text, boolean, integer, one_of, required, optional, maybe}
+use Rattle.sqs_formats.specs.Keys.{Says, Table, KeyType, fault_at, place_of, has, has_newer, only, text, sized_text, boolean, integer, seconds, one_of, required, optional, maybe}
+use Rattle.sqs_formats.specs.Lists.{integers}
+use Rattle.sqs_formats.specs.Distributions.{time, time_keys}
+use Rattle.sqs_formats.specs.Groups.{groups, groups_key}
 use Rattle.sqs_formats.specs.Names.{is_agent_name, is_script_name}
-use Rattle.sqs_formats.specs.Outline.{Outline, name_of, queue_named, kin_named, kind_at, queue_text}
+use Rattle.sqs_formats.specs.Copies.{copy_names}
+use Rattle.sqs_formats.specs.Outline.{Outline, actor_place, first_task, is_fresh, name_of, queue_named, kin_named, kind_at, queue_text}
 use Rattle.sqs_formats.specs.Queues.{latency_keys, latency}
 use Rattle.sqs_formats.specs.Script.{script}
 use Rattle.sqs_model.specs.Actor.{filled}
@@ -41,7 +48,7 @@ abbrev pub home_of : Outline → ℕ → Home
 home_of o home =
     record {
       is_fifo = kind_at o home;
-      tasks = tasks_at (queue_text o home) (enumerate_from (length o.queues + length o.actors) (zip o.tasks o.task_homes));
+      tasks = tasks_at (queue_text o home) (enumerate_from (first_task o) (zip o.tasks o.task_homes));
     }
 
 -- the place of a script's fault, as in actor[0].calls:3
@@ -99,14 +106,14 @@ unfoldable pub producer_body : ℕ → KeyType (List ℕ)
 producer_body count place d = text place d >>= (λ s. needs (is_producer_body count s) (fault_at OutOfRange place) s)
 
 -- what a producer has at one kind of home alone: groups, ids, delay
-abbrev pub sending_keys : Bool → List (List ℕ)
-sending_keys true = codes "groups" ∷ codes "ids" ∷ []
-sending_keys false = codes "delay_s" ∷ []
+abbrev pub sending_keys : Bool → Bool → List (List ℕ)
+sending_keys true by_weight = groups_key by_weight ∷ codes "ids" ∷ []
+sending_keys false by_weight = codes "delay_s" ∷ []
 
 -- those keys of a producer
-unfoldable pub sending : Bool → Table → Says (Option ℕ × Bool × Option ℕ)
+unfoldable pub sending : Bool → Table → Says (Option Groups × Bool × Option ℕ)
 sending true t = do
-  groups ← required (integer 1 1000) t (codes "groups")
+  groups ← groups (has t (codes "key_groups")) t
   ids ← optional true boolean t (codes "ids")
   Ok (Some groups, ids, None)
 sending false t = do
@@ -115,18 +122,52 @@ sending false t = do
 
 -- the keys of every producer
 abbrev pub producer_keys : List (List ℕ)
-producer_keys = codes "count" ∷ codes "start_ms" ∷ codes "gap_min_ms" ∷ codes "gap_max_ms" ∷ codes "body" ∷ []
+producer_keys = codes "count" ∷ codes "start_ms" ∷ codes "body" ∷ []
+
+-- the time from one send to the next, and its keys
+unfoldable pub gap : Table → Says Distribution
+gap t = time (has t (codes "gap")) (codes "gap") (codes "gap_min_ms") (codes "gap_max_ms") t
+
+abbrev pub gap_keys : Bool → List (List ℕ)
+gap_keys by_quantiles = time_keys by_quantiles (codes "gap") (codes "gap_min_ms") (codes "gap_max_ms")
+
+-- the moment from which on an actor does nothing new, if there is one
+unfoldable pub stopping : ℕ → Table → Says (Option ℕ)
+stopping start t = maybe (integer start 2592000000) t (codes "stop_ms")
+
+-- the keys that producers have from version 3 on
+abbrev pub newer_producer_keys : ℕ → List (List ℕ)
+newer_producer_keys version = if nat_le 3 version then codes "stop_ms" ∷ [] else []
+
+-- all keys of a producer
+abbrev pub all_producer_keys : ℕ → Bool → Table → List (List ℕ)
+all_producer_keys version fifo t =
+    actor_keys
+    ++ (producer_keys
+    ++ (gap_keys (has_newer version t (codes "gap"))
+    ++ (sending_keys fifo (has_newer version t (codes "key_groups"))
+    ++ newer_producer_keys version)))
 
 -- an actor that sends messages of its own
-abbrev pub producing : Bool → Table → Says Role
-producing fifo t = do
-  known ← only (actor_keys ++ (producer_keys ++ sending_keys fifo)) t
+abbrev pub producing : ℕ → Bool → Table → Says Role
+producing version fifo t = do
+  known ← only (all_producer_keys version fifo t) t
   count ← required (integer 1 1000000) t (codes "count")
   start ← optional 0 (integer 0 2592000000) t (codes "start_ms")
-  gap ← bounds 86400000 t (codes "gap_min_ms") (codes "gap_max_ms")
+  gap ← gap t
   body ← required (producer_body count) t (codes "body")
   own ← sending fifo t
-  Ok (Producer (record { count = count; start = start; gap_min = gap.0; gap_max = gap.1; body = body; groups = own.0; ids = own.1; delay = own.2 }))
+  stop ← stopping start t
+  Ok (Producer (record {
+    count = count;
+    start = start;
+    gap = gap;
+    body = body;
+    groups = own.0;
+    ids = own.1;
+    delay = own.2;
+    stop = stop;
+  }))
 
 -- a consumer's forward, with the latency that goes with it
 abbrev pub forward_keys : ℕ → Bool → List (List ℕ)
@@ -144,31 +185,86 @@ forward true o home t = do
 -- the keys of every consumer
 abbrev pub consumer_keys : List (List ℕ)
 consumer_keys =
-    codes "start_ms" ∷ codes "batch" ∷ codes "wait_s" ∷ codes "timeout_s" ∷ codes "service_min_ms" ∷ codes "service_max_ms" ∷ codes "fail_permille"
-    ∷ codes "idle_ms" ∷ codes "forward" ∷ []
+    codes "start_ms" ∷ codes "batch" ∷ codes "wait_s" ∷ codes "timeout_s" ∷ codes "fail_permille" ∷ codes "idle_ms" ∷ codes "forward"
+    ∷ []
+
+-- the time of a service, and its keys
+unfoldable pub service : Table → Says Distribution
+service t = time (has t (codes "service")) (codes "service") (codes "service_min_ms") (codes "service_max_ms") t
+
+abbrev pub service_keys : Bool → List (List ℕ)
+service_keys by_quantiles = time_keys by_quantiles (codes "service") (codes "service_min_ms") (codes "service_max_ms")
+
+-- the keys that consumers have from version 3 on
+abbrev pub newer_consumer_keys : ℕ → List (List ℕ)
+newer_consumer_keys version =
+    if nat_le 3 version then codes "stop_ms" ∷ codes "fails_on" ∷ codes "fails_from_ms" ∷ codes "batch_fails" ∷ codes "backoff_s" ∷ codes "heartbeat_s" ∷ codes "copies" ∷ [] else []
+
+-- the end of an outage goes with its begin
+abbrev pub outage_keys : Bool → List (List ℕ)
+outage_keys true = codes "fails_to_ms" ∷ []
+outage_keys false = []
+
+-- all keys of a consumer
+abbrev pub all_consumer_keys : ℕ → Table → List (List ℕ)
+all_consumer_keys version t =
+    actor_keys
+    ++ (consumer_keys
+    ++ (service_keys (has_newer version t (codes "service"))
+    ++ (forward_keys version (has t (codes "forward"))
+    ++ (newer_consumer_keys version ++ outage_keys (has_newer version t (codes "fails_from_ms"))))))
+
+-- when each service that ends fails, if there is such a time
+unfoldable pub outage : Bool → Table → Says (Option Stretch)
+outage false t = Ok None
+outage true t = do
+  from ← required (integer 0 2592000000) t (codes "fails_from_ms")
+  to ← required (integer from 2592000000) t (codes "fails_to_ms")
+  Ok (Some (record { from = from; to = to }))
+
+-- whether a failed service fails its batch as a whole
+abbrev pub failures_named : List (List ℕ × Bool)
+failures_named = (codes "each", false) ∷ (codes "whole", true) ∷ []
+
+-- which services fail, and what follows: the text, the outage, whether the whole batch fails, the backoff, the heartbeat
+unfoldable pub failing : Table → Says (Option (List ℕ) × Option Stretch × Bool × List ℕ × Option ℕ)
+failing t = do
+  fails_on ← maybe (sized_text 1 128) t (codes "fails_on")
+  outage ← outage (has t (codes "fails_from_ms")) t
+  whole ← optional false (one_of failures_named) t (codes "batch_fails")
+  backoff ← optional [] (integers 1 12 0 43200) t (codes "backoff_s")
+  heartbeat ← maybe (seconds 1 43200) t (codes "heartbeat_s")
+  Ok (fails_on, outage, whole, backoff, heartbeat)
 
 -- an actor that receives, serves and deletes
 abbrev pub consuming : Outline → ℕ → Table → Says Role
 consuming o home t = do
-  known ← only (actor_keys ++ (consumer_keys ++ forward_keys o.version (has t (codes "forward")))) t
+  known ← only (all_consumer_keys o.version t) t
   start ← optional 0 (integer 0 2592000000) t (codes "start_ms")
   batch ← optional 1 (integer 1 10) t (codes "batch")
   wait ← optional 0 (integer 0 20) t (codes "wait_s")
   timeout ← maybe (integer 0 43200) t (codes "timeout_s")
-  service ← bounds 86400000 t (codes "service_min_ms") (codes "service_max_ms")
+  service ← service t
   fail_permille ← optional 0 (integer 0 1000) t (codes "fail_permille")
   idle ← optional 1000 (integer 1 86400000) t (codes "idle_ms")
   forward ← forward (has t (codes "forward")) o home t
+  stop ← stopping start t
+  fails ← failing t
   Ok (Consumer (record {
     start = start;
     batch = batch;
     wait = wait;
     timeout = timeout;
-    service_min = service.0;
-    service_max = service.1;
+    service = service;
     fail_permille = fail_permille;
     idle = idle;
     forward = forward;
+    stop = stop;
+    fails_on = fails.0;
+    outage = fails.1;
+    whole = fails.2;
+    backoff = fails.3;
+    heartbeat = fails.4;
   }))
 
 -- the kinds of actors, by their names
@@ -178,14 +274,34 @@ kinds_named = (codes "script", kinds.Script) ∷ (codes "producer", kinds.Produc
 -- what an actor of a kind does
 abbrev pub role : ActorKind → Files → Outline → ℕ → Table → Says Role
 role kinds.Script files o home t = scripted files o home t
-role kinds.Producer files o home t = producing (kind_at o home) t
+role kinds.Producer files o home t = producing o.version (kind_at o home) t
 role kinds.Consumer files o home t = consuming o home t
 
--- an actor: its name and its settings
-unfoldable pub actor : Files → Outline → ℕ → Table → Says (List ℕ × ActorSettings)
+-- the names of copies have to be well-formed, no name before that of their actor may be one of them, and they have to
+-- have room
+abbrev pub fresh_names : Outline → ℕ → List ℕ → List (List ℕ) → Says (List (List ℕ))
+fresh_names o index place names = do
+  formed ← needs (list_all is_agent_name names) (fault_at BadName place) names
+  fresh ← needs (list_all (is_fresh o (actor_place o index)) names) (fault_at NameTwice place) names
+  needs (get_or o.copies index 0 == length names) (fault_at TooMany place) names
+
+-- the names of an actor's copies; none if it has no copies
+unfoldable pub copies : Outline → ℕ → List ℕ → Table → Says (List (List ℕ))
+copies o index name t = do
+  copies ← optional 0 (integer 1 1000) t (codes "copies")
+  fresh_names o index (place_of t (codes "copies")) (copy_names name copies)
+
+-- the agents of an actor: itself, or its copies
+abbrev pub agents_of : List ℕ → ActorSettings → List (List ℕ) → List (List ℕ × ActorSettings)
+agents_of name settings [] = (name, settings) ∷ []
+agents_of name settings (n ∷ ns) = map (λ name. (name, settings)) (n ∷ ns)
+
+-- an actor: its agents, each with its name and its settings
+unfoldable pub actor : Files → Outline → ℕ → Table → Says (List (List ℕ × ActorSettings))
 actor files o index t = do
-  name ← required (name_of is_agent_name o (length o.queues + index)) t (codes "name")
+  name ← required (name_of is_agent_name o (actor_place o index)) t (codes "name")
   kind ← required (one_of kinds_named) t (codes "kind")
   home ← required (queue_named o) t (codes "queue")
   role ← role kind files o home t
-  Ok (name, record { home = home; role = role })
+  copies ← copies o index name t
+  Ok (agents_of name (record { home = home; role = role }) copies)

@@ -1,5 +1,5 @@
 -- Tables of a scenario's text and the values at their keys, each with its place.
-use Rattle.std.specs.Prelude.{ℕ, ◌+◌, ◌*◌, ◌&&◌, not, nat_le, ℤ, pos, negsuc, Bool, true, false, codes, if◌then◌else◌, List, [], ◌∷◌, ◌++◌, filter, Option, Some, None, Result, Ok, Err, ok_or}
+use Rattle.std.specs.Prelude.{ℕ, ◌+◌, ◌*◌, ◌&&◌, not, nat_le, ℤ, pos, negsuc, Bool, true, false, codes, if◌then◌else◌, List, [], ◌∷◌, ◌++◌, length, filter, Option, Some, None, Result, Ok, Err, ok_or}
 use Rattle.std.specs.List.{list_any}
 use Rattle.std.specs.Fmt.{decimal}
 use Rattle.std.specs.Str.{bytes_eq}
@@ -39,6 +39,10 @@ is_there (Some d) = true
 abbrev pub has : Table → List ℕ → Bool
 has t key = is_there (at t key)
 
+-- whether there is one at a key that is known from version 3 on
+abbrev pub has_newer : ℕ → Table → List ℕ → Bool
+has_newer version t key = nat_le 3 version && has t key
+
 -- whether a list has a text
 abbrev pub is_among : List (List ℕ) → List ℕ → Bool
 is_among texts text = list_any (λ t. bytes_eq t text) texts
@@ -69,13 +73,17 @@ typed place o = ok_or o (fault_at WrongType place)
 abbrev pub text : KeyType (List ℕ)
 text place d = typed place (as_str d)
 
--- true or false
-abbrev pub boolean : KeyType Bool
-boolean place d = typed place (as_bool d)
-
 -- whether a number is from the one to the other
 abbrev pub within : ℕ → ℕ → ℕ → Bool
 within low high n = nat_le low n && nat_le n high
+
+-- a text of a number of bytes from the one to the other
+unfoldable pub sized_text : ℕ → ℕ → KeyType (List ℕ)
+sized_text low high place d = text place d >>= (λ s. needs (within low high (length s)) (fault_at OutOfRange place) s)
+
+-- true or false
+abbrev pub boolean : KeyType Bool
+boolean place d = typed place (as_bool d)
 
 -- a number between two
 abbrev pub ranged : ℕ → ℕ → List ℕ → ℤ → Says ℕ

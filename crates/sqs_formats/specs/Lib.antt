@@ -1,9 +1,13 @@
 pub mod Reading
 pub mod Keys
+pub mod Lists
+pub mod Distributions
 pub mod Names
+pub mod Copies
 pub mod Outline
 pub mod Queues
 pub mod Script
+pub mod Groups
 pub mod Actors
 pub mod Tasks
 pub mod Scenario

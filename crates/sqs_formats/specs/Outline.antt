@@ -1,36 +1,60 @@
--- What every part of a scenario's text may refer to: the names of all agents, and who they are.
-use Rattle.std.specs.Prelude.{ℕ, Bool, true, not, ◌==◌, codes, if◌then◌else◌, List, [], ◌++◌, map, position, Option, Some, None, Ok, get_or, ok_or, unwrap_or}
+-- What every part of a scenario's text may refer to: all names, and who has them.
+use Rattle.std.specs.Prelude.{ℕ, ◌+◌, ◌-◌, nat_le, Bool, true, not, ◌==◌, codes, if◌then◌else◌, List, [], ◌++◌, length, map, position, take, Option, Some, None, Ok, get_or, ok_or, unwrap_or}
+use Rattle.std.specs.List.{sum, sum_by}
 use Rattle.std.specs.Str.{bytes_eq}
 use Rattle.toml.specs.Data.{Data}
 use Rattle.sim_clock.specs.declared.refusal.Refusal.TheVariants.{BadName, NameTwice, UnknownQueue, KindMismatch}
 use Rattle.sqs_formats.specs.Reading.{needs, ◌>>=◌}
 use Rattle.sqs_formats.specs.Keys.{Says, KeyType, fault_at, is_among, text, text_in}
 use Rattle.sqs_formats.specs.Names.{is_fifo}
+use Rattle.sqs_formats.specs.Copies.{copies_asked, copies_within, names_taken}
 
--- The texts that are given as names, well-formed or not. Agents are numbered: queues, then actors, then tasks.
+-- The texts that are given as names, well-formed or not. All names are in the order of the text, which is that of faults.
+-- Agents are numbered: queues, then the first of each actor's copies, then all other copies, then tasks.
 pub record Outline : Type 0 where
   pub version : ℕ
+  pub names : List (List ℕ)
   pub queues : List (List ℕ)
-  pub actors : List (List ℕ)
+  pub copies : List ℕ
   pub tasks : List (List ℕ)
   pub task_homes : List (List ℕ)
   pub dead_letters : List (List ℕ)
 
--- the outline of three lists of items
-abbrev pub outline_of : ℕ → List Data → List Data → List Data → Outline
-outline_of version queues actors tasks =
+-- the outline of three lists of items, where actors have so many copies
+abbrev pub outline_with : ℕ → List Data → List Data → List Data → List ℕ → Outline
+outline_with version queues actors tasks copies =
     record {
       version = version;
+      names =
+          map (text_in (codes "name")) queues
+          ++ (names_taken (map (text_in (codes "name")) actors) copies ++ map (text_in (codes "name")) tasks);
       queues = map (text_in (codes "name")) queues;
-      actors = map (text_in (codes "name")) actors;
+      copies = copies;
       tasks = map (text_in (codes "name")) tasks;
       task_homes = map (text_in (codes "queue")) tasks;
       dead_letters = map (text_in (codes "dead_letter")) queues;
     }
 
--- all names, by the agents' numbers
-abbrev pub all_names : Outline → List (List ℕ)
-all_names o = o.queues ++ (o.actors ++ o.tasks)
+-- how many copies besides the first ones there may be, since actors and tasks are at most 10,000
+abbrev pub room_beside : List Data → List Data → ℕ
+room_beside actors tasks = 10000 - (length actors + length tasks)
+
+-- the outline of three lists of items
+abbrev pub outline_of : ℕ → List Data → List Data → List Data → Outline
+outline_of version queues actors tasks =
+    outline_with version queues actors tasks (copies_within (room_beside actors tasks) (map (copies_asked version) actors))
+
+-- the place of an actor's name among all names: those of the queues, of earlier actors and of their copies are before it
+abbrev pub actor_place : Outline → ℕ → ℕ
+actor_place o index = length o.queues + (index + sum (take index o.copies))
+
+-- the place of a task's name among all names
+abbrev pub task_place : Outline → ℕ → ℕ
+task_place o index = length o.queues + (length o.copies + sum o.copies) + index
+
+-- the number of the first task
+abbrev pub first_task : Outline → ℕ
+first_task o = length o.queues + (length o.copies + sum_by (λ n. n - 1) o.copies)
 
 -- the first place of a text
 abbrev pub place_among : List (List ℕ) → List ℕ → Option ℕ
@@ -48,18 +72,22 @@ queue_text o n = get_or o.queues n []
 abbrev pub kind_at : Outline → ℕ → Bool
 kind_at o n = is_fifo (queue_text o n)
 
--- the name of an agent, which none before it may have
-abbrev pub is_first_of : ℕ → Option ℕ → Bool
-is_first_of number None = true
-is_first_of number (Some n) = n == number
+-- whether a text that first stands at one place, if at all, does not stand before another
+abbrev pub is_not_before : ℕ → Option ℕ → Bool
+is_not_before place None = true
+is_not_before place (Some first) = nat_le place first
 
--- the name of an agent has to be well-formed, and no earlier agent may have it
+-- whether no name before a place is this text
+abbrev pub is_fresh : Outline → ℕ → List ℕ → Bool
+is_fresh o place s = is_not_before place (place_among o.names s)
+
+-- a name has to be well-formed, and none before it may be the same
 abbrev pub fresh_name : Bool → Outline → ℕ → List ℕ → List ℕ → Says (List ℕ)
 fresh_name is_well_formed o number place s = do
   formed ← needs is_well_formed (fault_at BadName place) s
-  needs (is_first_of number (place_among (all_names o) s)) (fault_at NameTwice place) s
+  needs (is_fresh o number s) (fault_at NameTwice place) s
 
--- a key whose value is such a name
+-- a key whose value is such a name, with its place among all names
 unfoldable pub name_of : (List ℕ → Bool) → Outline → ℕ → KeyType (List ℕ)
 name_of is_well_formed o number place d = text place d >>= (λ s. fresh_name (is_well_formed s) o number place s)
 

@@ -12,10 +12,10 @@ use Rattle.sqs_formats.specs.Keys.{Says, Table, bounds, has, only, boolean, inte
 use Rattle.sqs_formats.specs.Names.{is_queue_name, is_fifo}
 use Rattle.sqs_formats.specs.Outline.{Outline, name_of, dead_letter_named, other_kin_named}
 
--- a latency: one number in version 1, two bounds in version 2
+-- a latency: one number in version 1, two bounds from version 2 on
 abbrev pub latency_keys : ℕ → List (List ℕ)
 latency_keys version =
-    if version == 2 then codes "latency_min_ms" ∷ codes "latency_max_ms" ∷ [] else codes "latency_ms" ∷ []
+    if version == 1 then codes "latency_ms" ∷ [] else codes "latency_min_ms" ∷ codes "latency_max_ms" ∷ []
 
 -- the one latency of version 1, which is both bounds
 abbrev pub one_latency : Table → Says Latency
@@ -23,7 +23,7 @@ one_latency t = do
   both ← required (integer 1 900000) t (codes "latency_ms")
   Ok (record { least = both; greatest = both })
 
--- the two bounds of version 2
+-- the two bounds from version 2 on
 abbrev pub two_bounds : Table → Says Latency
 two_bounds t = do
   both ← bounds 900000 t (codes "latency_min_ms") (codes "latency_max_ms")
@@ -31,7 +31,7 @@ two_bounds t = do
 
 -- the latency of a version
 unfoldable pub latency : ℕ → Table → Says Latency
-latency version t = if version == 2 then two_bounds t else one_latency t
+latency version t = if version == 1 then one_latency t else two_bounds t
 
 -- what only one kind of queue has
 abbrev pub kind_keys : Bool → List (List ℕ)

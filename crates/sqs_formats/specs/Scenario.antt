@@ -1,5 +1,5 @@
--- The scenario of a text, or the first fault in it.
-use Rattle.std.specs.Prelude.{map, ◌++◌, ℕ, ◌+◌, nat_le, Bool, true, false, codes, if◌then◌else◌, List, [], ◌∷◌, length, filter_map, Option, Some, None, Result, Ok, ok_or}
+-- The scenario of a text, or the first fault in it. Versions 1 and 2 are released; a caller may ask for a newer one.
+use Rattle.std.specs.Prelude.{map, take, drop, flat_map, ◌++◌, ℕ, ◌+◌, nat_le, Bool, true, false, codes, if◌then◌else◌, List, [], ◌∷◌, length, filter_map, Option, Some, None, Result, Ok, ok_or}
 use Rattle.std.specs.Str.{is_utf8}
 use Rattle.toml.specs.Data.{Data, Items, Members, get_member, as_array}
 use Rattle.toml.specs.Parse.{parse_document}
@@ -44,11 +44,11 @@ agent_list before t key = do
   ds ← optional [] list t key
   needs (nat_le (before + length ds) 10000) (fault_at TooMany (place_of t key)) ds
 
--- what the top table says
-unfoldable pub top : Table → Says Top
-top t = do
+-- what the top table says, if versions up to the newest one may be read
+unfoldable pub top : ℕ → Table → Says Top
+top newest t = do
   known ← only top_keys t
-  version ← required (integer 1 2) t (codes "version")
+  version ← required (integer 1 newest) t (codes "version")
   horizon ← required (integer 1 2592000000) t (codes "horizon")
   seed ← optional 0 (integer 0 9223372036854775807) t (codes "seed")
   sample ← optional 0 (integer 0 2592000000) t (codes "sample")
@@ -70,6 +70,10 @@ whole top queues actors tasks =
       names = map (λ x. x.0) queues ++ (map (λ x. x.0) actors ++ map (λ x. x.0) tasks);
     }
 
+-- the agents of all actors: the first of each, and behind them the others
+abbrev pub by_number : List (List (List ℕ × ActorSettings)) → List (List ℕ × ActorSettings)
+by_number actors = flat_map (take 1) actors ++ flat_map (drop 1) actors
+
 -- all queues, then their dead-letter queues, then all actors, then all tasks
 unfoldable pub agents : Files → Top → Outline → Says Scenario
 agents files top o = do
@@ -77,12 +81,12 @@ agents files top o = do
   judged ← each (codes "queue") (dead_letter o) 0 top.queues
   actors ← each (codes "actor") (actor files o) 0 top.actors
   tasks ← each (codes "task") (task o) 0 top.tasks
-  Ok (whole top queues actors tasks)
+  Ok (whole top queues (by_number actors) tasks)
 
 -- what the whole document says
-unfoldable pub scenario_in : Files → Members → Says Scenario
-scenario_in files ms = do
-  top ← top (record { prefix = []; members = ms })
+unfoldable pub scenario_in : ℕ → Files → Members → Says Scenario
+scenario_in newest files ms = do
+  top ← top newest (record { prefix = []; members = ms })
   agents files top (outline_of top.version top.queues top.actors top.tasks)
 
 -- the document of a text that isn't too long
@@ -98,12 +102,20 @@ document text = document_when (is_utf8 text) text
 abbrev pub is_small : List ℕ → Bool
 is_small text = nat_le (length text) 16777216
 
--- the scenario of a text with its script files, or its first fault
-unfoldable pub scenario_of : Files → List ℕ → Result Scenario ScenarioFault
-scenario_of files text = do
+-- the scenario of a text of a version up to the newest one, with its script files, or its first fault
+unfoldable pub scenario_upto : ℕ → Files → List ℕ → Result Scenario ScenarioFault
+scenario_upto newest files text = do
   small ← needs (is_small text) (fault_at TooMany []) text
   ms ← ok_or (document text) (fault_at NotToml [])
-  scenario_in files ms
+  scenario_in newest files ms
+
+-- the newest version that is released
+abbrev pub released : ℕ
+released = 2
+
+-- the scenario of a text of a released version
+abbrev pub scenario_of : Files → List ℕ → Result Scenario ScenarioFault
+scenario_of = scenario_upto released
 
 -- the names of script files that a text asks for
 abbrev pub list_or_none : Option Items → List Data

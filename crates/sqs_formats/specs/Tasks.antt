@@ -1,10 +1,10 @@
 -- A move task of a scenario's text.
-use Rattle.std.specs.Prelude.{ℕ, ◌+◌, codes, List, ◌∷◌, length, Ok}
+use Rattle.std.specs.Prelude.{ℕ, codes, List, ◌∷◌, Ok}
 use Rattle.sqs_redrive.specs.declared.settings.TaskSettings.{TaskSettings}
 use Rattle.sqs_formats.specs.Reading.{◌>>=◌}
 use Rattle.sqs_formats.specs.Keys.{Says, Table, only, integer, required, optional, maybe}
 use Rattle.sqs_formats.specs.Names.{is_agent_name}
-use Rattle.sqs_formats.specs.Outline.{Outline, name_of, source_named, other_kin_named}
+use Rattle.sqs_formats.specs.Outline.{Outline, task_place, name_of, source_named, other_kin_named}
 use Rattle.sqs_formats.specs.Queues.{latency_keys, latency}
 
 -- the keys of a task
@@ -14,7 +14,7 @@ task_keys version = codes "name" ∷ codes "queue" ∷ codes "to" ∷ codes "per
 -- a move task: its name and its settings
 unfoldable pub task : Outline → ℕ → Table → Says (List ℕ × TaskSettings)
 task o index t = do
-  name ← required (name_of is_agent_name o (length o.queues + length o.actors + index)) t (codes "name")
+  name ← required (name_of is_agent_name o (task_place o index)) t (codes "name")
   home ← required (source_named o) t (codes "queue")
   known ← only (task_keys o.version) t
   to ← maybe (other_kin_named o home) t (codes "to")

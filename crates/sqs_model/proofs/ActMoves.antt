@@ -1,6 +1,6 @@
 -- An act of a sound actor at its sound site makes nothing due by the present, and sends only what arrives later.
 use Rattle.std.specs.List.{list_any}
-use Rattle.std.specs.Prelude.{Bool, Err, List, None, Ok, Option, Result, Some, [], false, map, true, ℕ, ◌*◌, ◌+◌, ◌++◌, ◌-◌, ◌<◌, ◌==◌, ◌∷◌, ◌≡◌, ◌≤◌}
+use Rattle.std.specs.Prelude.{Bool, Err, List, None, Ok, Option, Result, Some, [], false, map, true, ℕ, ◌*◌, ◌+◌, ◌++◌, ◌-◌, ◌<◌, ◌==◌, ◌∷◌, ◌≡◌, ◌≤◌, unwrap_or, ◌/◌}
 use Rattle.std.proofs.Common.{arith, refl, subst, sym}
 use Rattle.std.proofs.lemmas.Bool.{eqb-false, eqb-true}
 use Rattle.std.proofs.lemmas.List.Elements.{All-cons, All-nil}
@@ -204,6 +204,7 @@ module _ (key : Key) (e : ℕ) (l : e ≤ key.at) where
   act_keeps a c (acts.Receive max wait timeout) s k h t = receive_as_keeps c.queue.settings.kind a c max wait timeout s k h
   act_keeps a c (acts.Delete text) s k h t = delete_made_keeps a c text (read_receipt text) s
   act_keeps a c (acts.Change text timeout) s k h t = change_made_keeps a c text timeout (read_receipt text) s
+  act_keeps a c (acts.Prolong text timeout) s k h t = change_made_keeps a c text (unwrap_or timeout (c.queue.settings.visibility / 1000)) (read_receipt text) s
   act_keeps a c (acts.Start task) s k h t = start_keeps a c task (task_numbered task c) s refl
   act_keeps a c (acts.Cancel task) s k h t = cancel_keeps a c task (task_numbered task c) s refl
   act_keeps a c (acts.Serve id receipt failed forward) s k h t = serve_keeps a c id receipt failed forward s t

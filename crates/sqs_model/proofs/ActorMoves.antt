@@ -1,5 +1,5 @@
 -- What an actor does next leaves it sound, makes it wake later or as before, and sends only what arrives later.
-use Rattle.std.specs.Prelude.{Bool, List, None, Option, Some, [], drop, false, nat_lt, suc, true, zero, ℕ, ◌+◌, ◌<◌, ◌∷◌, ◌≡◌, ◌≤◌, ◌⊎◌}
+use Rattle.std.specs.Prelude.{List, None, Option, Some, [], drop, max, nat_lt, suc, zero, ℕ, ◌+◌, ◌<◌, ◌∷◌, ◌≡◌, ◌≤◌, ◌⊎◌}
 use Rattle.std.proofs.Common.{add-one, ap, arith, inl, inr, refl, subst, sym, ◌∙◌}
 use Rattle.sqs_message.specs.declared.calls.ScriptCall.{ScriptCall}
 use Rattle.sqs_model.specs.declared.acts.Act.{Act}
@@ -14,11 +14,12 @@ use Rattle.sqs_model.specs.declared.agents.Role.{Role}
 use Rattle.sqs_model.specs.declared.agents.Role.TheVariants.{Consumer, Producer, Script}
 use Rattle.sqs_redrive.specs.declared.answers.Got.{Got}
 use Rattle.sqs_redrive.specs.declared.transfers.Outbound.{Outbound}
-use Rattle.sqs_model.specs.Actor.{Actor, Asked, Ended, Served, LastAct, consumer_got, consumer_told, consumer_wake, ends_service, first_at, idle, next, next_as, producer_sent, producer_wake, script_wake, serves, serving, wakes_after, woken}
-use Rattle.sqs_model.specs.Draw.{Draws, drawn_chance, drawn_latency, drawn_uniform}
-use Rattle.sqs_model.specs.Progress.{Ascends, IsSoundActor, IsSoundForward, IsSoundRole, WakesFor}
+use Rattle.sqs_model.specs.Actor.{Actor, Asked, Beat, Ended, Failed, Served, LastAct, consumer_got, consumer_told, consumer_wake, first_at, has_come, has_failed, idle, in_service, next, next_as, next_beat, producer_sent, producer_wake, script_wake, serving, wakes_after, woken}
+use Rattle.sqs_model.specs.Draw.{Draws, drawn_time}
+use Rattle.sqs_model.specs.Progress.{Ascends, IsSoundActor, IsSoundDistribution, IsSoundForward, IsSoundRole, WakesFor}
 use Rattle.sqs_model.proofs.Counts.{ascends_lower, tick, tick_if, tick_less, tick_past}
-use Rattle.sqs_model.proofs.Effects.{latency_least, uniform_least}
+use Rattle.sqs_model.proofs.ConsumerWakes.{IsForwardBy, consumer_woke, service_sends}
+use Rattle.sqs_model.proofs.Effects.{time_least}
 use Rattle.sqs_model.proofs.Branches.{either}
 use Rattle.sqs_model.proofs.Sending.{Sends, call_sends}
 
@@ -111,72 +112,70 @@ module _ (now e : ℕ) (l : e ≤ now) where
   same_steps r a w = record { number = refl; settings = refl; wakes = w; wake = omega arith; sends = tt }
 
   -- producers
-  producer_wake_steps : (gone : ℕ) (p : ProducerSettings) (a : Actor) → IsGone now e gone a → Steps now e gone (Producer p) a (producer_wake a p)
-  producer_wake_steps gone p a g = record { number = refl; settings = refl; wakes = tt; wake = omega (arith, gone_at_most gone a g); sends = tt }
+  producer_wake_steps : (gone : ℕ) (p : ProducerSettings) (a : Actor) → IsGone now e gone a → Steps now e gone (Producer p) a (producer_wake a p now)
+  producer_wake_steps gone p a g =
+      either (Steps now e gone (Producer p) a) (has_come p.stop now) _ _
+      (record { number = refl; settings = refl; wakes = tt; wake = omega (arith, gone_at_most gone a g); sends = tt })
+      (record { number = refl; settings = refl; wakes = tt; wake = omega (arith, gone_at_most gone a g); sends = tt })
 
   late_wake : (at gap : ℕ) → 1 ≤ gap → tick e (now + gap) + 0 ≤ at
   late_wake at gap h = let t : tick e (now + gap) ≡ 0 = tick_past e (now + gap) (omega arith) in omega arith
 
-  producer_sent_steps : (p : ProducerSettings) (a : Actor) → 1 ≤ p.gap_min → Steps now e 0 (Producer p) a (producer_sent a p now)
+  producer_sent_steps : (p : ProducerSettings) (a : Actor) → IsSoundDistribution p.gap → Steps now e 0 (Producer p) a (producer_sent a p now)
   producer_sent_steps p a h =
-      let t : p.gap_min ≤ (drawn_uniform p.gap_min p.gap_max a.draws).0 = uniform_least p.gap_min p.gap_max a.draws in
       either (λ (x : Act × Actor). Steps now e 0 (Producer p) a x) (nat_lt a.wakes p.count)
-      (acts.Nothing, wakes_after a now (drawn_uniform p.gap_min p.gap_max a.draws)) (acts.Nothing, a)
-      (record { number = refl; settings = refl; wakes = tt; wake = late_wake (tick_if e a.wake) (drawn_uniform p.gap_min p.gap_max a.draws).0 (omega arith); sends = tt })
+      (acts.Nothing, wakes_after a now (drawn_time p.gap a.draws)) (acts.Nothing, a)
+      (record { number = refl; settings = refl; wakes = tt; wake = late_wake (tick_if e a.wake) (drawn_time p.gap a.draws).0 (time_least p.gap a.draws h); sends = tt })
       (same_steps (Producer p) a tt)
 
   -- consumers
-  serves_steps :
-      (gone : ℕ) (c : ConsumerSettings) (a b : Actor) (g : Got) (f : Option Forwarding) → IsSoundForward f
-      → b.number ≡ a.number → b.settings ≡ a.settings → b.wake ≡ None → gone ≤ tick_if e a.wake → Steps now e gone (Consumer c) a (serves b now g f)
-  serves_steps gone c a b g None s n t w m =
-      let u : tick_if e b.wake ≡ 0 = ap (tick_if e) w in
-      record { number = n; settings = t; wakes = tt; wake = omega arith; sends = tt }
-  serves_steps gone c a b g (Some f) s n t w m =
-      let u : tick_if e b.wake ≡ 0 = ap (tick_if e) w in
-      let v : f.latency.least ≤ (drawn_latency f.latency b.draws).0 = latency_least f.latency b.draws in
-      let one : 1 ≤ f.latency.least = s in
-      record { number = n; settings = t; wakes = tt; wake = omega arith; sends = omega arith }
-
-  ends_steps :
-      (gone : ℕ) (c : ConsumerSettings) (a b : Actor) (g : Got) (x : Bool × Draws) → IsSoundForward c.forward
-      → b.number ≡ a.number → b.settings ≡ a.settings → b.wake ≡ None → gone ≤ tick_if e a.wake → Steps now e gone (Consumer c) a (ends_service b c now g x)
-  ends_steps gone c a b g (true, draws) s n t w m =
-      let u : tick_if e b.wake ≡ 0 = ap (tick_if e) w in
-      record { number = n; settings = t; wakes = tt; wake = omega arith; sends = tt }
-  ends_steps gone c a b g (false, draws) s n t w m =
-      serves_steps gone c a (record b { last_act = Served g.receipt; draws = draws }) g c.forward s n t w m
-
   consumer_wake_steps :
       (gone : ℕ) (c : ConsumerSettings) (a : Actor) (gs : List Got) → IsSoundForward c.forward → IsGone now e gone a
       → Steps now e gone (Consumer c) a (consumer_wake (woken a) c now gs)
-  consumer_wake_steps gone c a [] s g = record { number = refl; settings = refl; wakes = tt; wake = omega (arith, gone_at_most gone a g); sends = tt }
-  consumer_wake_steps gone c a (x ∷ xs) s g =
-      ends_steps gone c a (record (woken a) { held = xs }) x (drawn_chance c.fail_permille a.draws) s refl refl refl (gone_at_most gone a g)
-
-  serving_steps : (c : ConsumerSettings) (a : Actor) (gs : List Got) → 1 ≤ c.service_min → Steps now e 0 (Consumer c) a (acts.Nothing, serving a c now gs)
-  serving_steps c a [] h = record { number = refl; settings = refl; wakes = tt; wake = late_wake (tick_if e a.wake) 1 (omega arith); sends = tt }
-  serving_steps c a (g ∷ gs) h =
-      let t : c.service_min ≤ (drawn_uniform c.service_min c.service_max a.draws).0 = uniform_least c.service_min c.service_max a.draws in
+  consumer_wake_steps gone c a gs s g =
+      let w = consumer_woke now (woken a) c gs in
+      let none : tick_if e (consumer_wake (woken a) c now gs).1.wake ≡ 0 = ap (tick_if e) w.stays.wake in
       record {
-        number = refl;
-        settings = refl;
+        number = w.stays.number;
+        settings = w.stays.settings;
         wakes = tt;
-        wake = late_wake (tick_if e a.wake) (drawn_uniform c.service_min c.service_max a.draws).0 (omega arith);
-        sends = tt;
+        wake = omega (arith, gone_at_most gone a g);
+        sends = service_sends now (woken a) c.wait (IsLater now) tt c.forward _ (λ f o is by. forward_later f o (subst IsSoundForward is s) by) w.act;
       }
+    where
+      forward_later : (f : Forwarding) (o : Outbound) → IsSoundForward (Some f) → IsForwardBy now (woken a) f o → now < o.at
+      forward_later f o one by = let late : now + f.latency.least ≤ o.at = by.late in omega arith
+
+  in_service_steps : (c : ConsumerSettings) (a b : Actor) → b.number ≡ a.number → b.settings ≡ a.settings → Steps now e 0 (Consumer c) a (acts.Nothing, in_service b c now)
+  in_service_steps c a b n s =
+      let past : tick e (max (now + 1) (next_beat c.heartbeat now b.ends)) ≡ 0 = tick_past e (max (now + 1) (next_beat c.heartbeat now b.ends)) (omega arith) in
+      record { number = n; settings = s; wakes = tt; wake = omega arith; sends = tt }
+
+  serving_steps : (c : ConsumerSettings) (a : Actor) (gs : List Got) → Steps now e 0 (Consumer c) a (acts.Nothing, serving a c now gs)
+  serving_steps c a [] = record { number = refl; settings = refl; wakes = tt; wake = late_wake (tick_if e a.wake) 1 (omega arith); sends = tt }
+  serving_steps c a (g ∷ gs) =
+      let drawn : ℕ × Draws = drawn_time c.service a.draws in
+      in_service_steps c a (record a { held = g ∷ gs; ends = now + drawn.0; draws = drawn.1 }) refl refl
 
   idle_steps : (c : ConsumerSettings) (a : Actor) → 1 ≤ c.idle → Steps now e 0 (Consumer c) a (idle a c now)
   idle_steps c a h = record { number = refl; settings = refl; wakes = tt; wake = late_wake (tick_if e a.wake) c.idle h; sends = tt }
 
   consumer_got_steps : (c : ConsumerSettings) (a : Actor) (gs : List Got) → IsSoundRole (Consumer c) → Steps now e 0 (Consumer c) a (consumer_got a c now gs)
   consumer_got_steps c a [] s = idle_steps c a s.1
-  consumer_got_steps c a (g ∷ gs) s = serving_steps c a (g ∷ gs) s.0
+  consumer_got_steps c a (g ∷ gs) s =
+      let drawn : ℕ × Draws = drawn_time c.service a.draws in
+      in_service_steps c a (record a { held = g ∷ gs; done = []; failed = []; ends = now + drawn.0; draws = drawn.1 }) refl refl
+
+  failed_steps : (c : ConsumerSettings) (a : Actor) (gs : List Got) → Steps now e 0 (Consumer c) a (has_failed a c now gs)
+  failed_steps c a [] = serving_steps c a a.held
+  failed_steps c a (g ∷ gs) = record { number = refl; settings = refl; wakes = tt; wake = omega arith; sends = tt }
 
   consumer_told_steps : (c : ConsumerSettings) (a : Actor) (last_act : LastAct) → IsSoundRole (Consumer c) → Steps now e 0 (Consumer c) a (consumer_told a c now last_act)
   consumer_told_steps c a Asked s = idle_steps c a s.1
   consumer_told_steps c a (Served receipt) s = record { number = refl; settings = refl; wakes = tt; wake = omega arith; sends = tt }
-  consumer_told_steps c a Ended s = serving_steps c a a.held s.0
+  consumer_told_steps c a Ended s = serving_steps c a a.held
+  consumer_told_steps c a Failed s = failed_steps c a a.failed
+  consumer_told_steps c a Beat s = in_service_steps c a a refl refl
 
   role_steps : (gone : ℕ) (r : Role) (a : Actor) (answer : Answer) → IsSoundRole r → WakesFor r a → IsWakeWhere now e gone a answer → Steps now e gone r a (next_as r a now answer)
   role_steps gone (Script script) a told_by.Wake s w g = script_steps gone script a (drop a.wakes script) refl (drop_ascends 0 a.wakes script s) w g

@@ -1,8 +1,8 @@
 -- What happens at a sound site leaves it sound, makes nothing due by the present, and sends only what arrives later.
-use Rattle.std.specs.Prelude.{All, List, None, Option, Some, [], nat_lt, ℕ, ◌+◌, ◌<◌, ◌∷◌, ◌≡◌, ◌≤◌}
-use Rattle.std.proofs.Common.{arith, sym}
+use Rattle.std.specs.Prelude.{All, List, None, Option, Some, [], nat_lt, ℕ, ◌*◌, ◌+◌, ◌<◌, ◌^◌, ◌∷◌, ◌≡◌, ◌≤◌}
+use Rattle.std.proofs.Common.{arith, refl, sym}
 use Rattle.std.proofs.lemmas.Bool.{eqb-true}
-use Rattle.std.proofs.lemmas.List.Elements.{All-append, All-cons, All-nil}
+use Rattle.std.proofs.lemmas.List.Elements.{All-append, All-cons, All-head, All-nil, All-tail}
 use Rattle.sim_clock.specs.declared.key.Key.{Key}
 use Rattle.sqs_message.specs.declared.row.Row.{Row}
 use Rattle.sqs_redrive.specs.declared.answers.Got.{Got}
@@ -10,10 +10,15 @@ use Rattle.sqs_redrive.specs.declared.settings.Latency.{Latency}
 use Rattle.sqs_redrive.specs.declared.settings.Policy.{Policy}
 use Rattle.sqs_redrive.specs.declared.transfers.Load.{Load}
 use Rattle.sqs_redrive.specs.declared.transfers.Outbound.{Outbound}
-use Rattle.sqs_model.specs.Actor.{Actor}
+use Rattle.sqs_model.specs.declared.agents.Distribution.{Distribution}
+use Rattle.sqs_model.specs.declared.agents.Distribution.TheVariants.{Quantiles, Uniform}
+use Rattle.sqs_model.specs.declared.agents.Groups.{Groups}
+use Rattle.sqs_model.specs.declared.agents.Groups.TheVariants.{ByWeight, InTurn}
+use Rattle.sqs_model.specs.declared.agents.Quantile.{Quantile}
+use Rattle.sqs_model.specs.Actor.{Actor, group_of}
 use Rattle.sqs_model.specs.Acts.{all_came_back, came_back, redrive_by}
-use Rattle.sqs_model.specs.Draw.{Draws, drawn_latency, drawn_uniform}
-use Rattle.sqs_model.specs.Progress.{IsSound, IsSoundActor, IsSoundPolicy, TakesTime}
+use Rattle.sqs_model.specs.Draw.{Draws, drawn_latency, drawn_time, drawn_uniform, next_word, time_at, time_between}
+use Rattle.sqs_model.specs.Progress.{IsSound, IsSoundActor, IsSoundDistribution, IsSoundPolicy, TakesTime}
 use Rattle.sqs_model.specs.Queue.{Queue}
 use Rattle.sqs_model.specs.Site.{Core, Effect, Poll, actor_numbered, and_then, is_actor, is_task, no_effect, says, task_numbered, with_actor, with_queue, with_task}
 use Rattle.sqs_model.specs.Task.{Task}
@@ -29,6 +34,33 @@ uniform_least low high d = omega arith
 pub latency_least : (t : Latency) (d : Draws) → t.least ≤ (drawn_latency t d).0
 latency_least t d =
     either (λ (x : ℕ × Draws). t.least ≤ x.0) (nat_lt t.least t.greatest) (drawn_uniform t.least t.greatest d) (t.least, d) (uniform_least t.least t.greatest d) (omega arith)
+
+-- a latency takes a word or none
+pub latency_words : (l : Latency) (n : ℕ) (d : Draws) → n ≤ d.taken → n ≤ (drawn_latency l d).1.taken
+latency_words l n d h =
+    either (λ (x : ℕ × Draws). n ≤ x.1.taken) (nat_lt l.least l.greatest) (drawn_uniform l.least l.greatest d) (l.least, d) (omega (arith, h)) h
+
+-- what is drawn by a distribution of a millisecond at least is a millisecond at least, and takes a word
+time_some : (qs : List Quantile) (w : ℕ) → All (λ q. 1 ≤ q.time) qs → 1 ≤ time_at qs w
+time_some [] w h = omega arith
+time_some (p ∷ []) w h = All-head (λ (q : Quantile). 1 ≤ q.time) p [] h
+time_some (p ∷ (q ∷ rest)) w h =
+    either (λ (n : ℕ). 1 ≤ n) (nat_lt (w * 1000) (q.permille * 2 ^ 32)) (time_between p q w) (time_at (q ∷ rest) w)
+    (omega (arith, All-head (λ (x : Quantile). 1 ≤ x.time) p (q ∷ rest) h)) (time_some (q ∷ rest) w (All-tail (λ (x : Quantile). 1 ≤ x.time) p (q ∷ rest) h))
+
+pub time_least : (x : Distribution) (d : Draws) → IsSoundDistribution x → 1 ≤ (drawn_time x d).0
+time_least (Uniform low high) d h = omega (arith, uniform_least low high d)
+time_least (Quantiles qs) d h = time_some qs (next_word d) h
+
+pub time_words : (x : Distribution) (d : Draws) → (drawn_time x d).1.taken ≡ d.taken + 1
+time_words (Uniform low high) d = refl
+time_words (Quantiles qs) d = refl
+
+-- a group in turn takes no word, one by weight takes one
+pub group_words : (groups : Option Groups) (n : ℕ) (d : Draws) → d.taken ≤ (group_of groups n d).1.taken
+group_words None n d = omega arith
+group_words (Some (InTurn groups)) n d = omega arith
+group_words (Some (ByWeight groups)) n d = omega arith
 
 -- soundness of a site with another queue, and with more drawn and sent
 sound_with : (c : Core) (sent : ℕ) (draws : Draws) → IsSound c → IsSound (record c { sent = sent; draws = draws })

@@ -1,5 +1,5 @@
 -- The counts of a site only grow, whatever is handled there.
-use Rattle.std.specs.Prelude.{Bool, Err, List, None, Ok, Option, Result, Some, [], cond, drop, false, find, length, map, max, min, nat_lt, suc, take, true, zero, ℕ, ◌+◌, ◌-◌, ◌==◌, ◌∷◌, ◌≡◌, ◌≤◌}
+use Rattle.std.specs.Prelude.{Bool, Err, List, None, Ok, Option, Result, Some, [], cond, drop, false, find, length, map, max, min, suc, take, true, zero, ℕ, ◌+◌, ◌-◌, ◌==◌, ◌∷◌, ◌≡◌, ◌≤◌, unwrap_or, ◌/◌}
 use Rattle.std.proofs.Common.{ap, arith, refl, sym, ◌∙◌}
 use Rattle.std.proofs.lemmas.Bool.{eq-eqb, eqb-true}
 use Rattle.sim_clock.specs.declared.key.Class.{Class}
@@ -21,7 +21,6 @@ use Rattle.sqs_model.specs.declared.acts.Act.TheVariants as acts
 use Rattle.sqs_model.specs.declared.acts.Answer.{Answer}
 use Rattle.sqs_model.specs.declared.acts.Answer.TheVariants as told_by
 use Rattle.sqs_model.specs.declared.agents.ConsumerSettings.{ConsumerSettings}
-use Rattle.sqs_model.specs.declared.agents.Forwarding.{Forwarding}
 use Rattle.sqs_model.specs.declared.agents.ProducerSettings.{ProducerSettings}
 use Rattle.sqs_model.specs.declared.agents.Role.{Role}
 use Rattle.sqs_model.specs.declared.agents.Role.TheVariants.{Consumer, Producer, Script}
@@ -30,15 +29,14 @@ use Rattle.sqs_redrive.specs.declared.answers.Got.{Got}
 use Rattle.sqs_redrive.specs.declared.answers.Rest.{Rest}
 use Rattle.sqs_redrive.specs.declared.settings.Kind.{Kind}
 use Rattle.sqs_redrive.specs.declared.settings.Kind.TheVariants.{Fifo, Standard}
-use Rattle.sqs_redrive.specs.declared.settings.Latency.{Latency}
 use Rattle.sqs_redrive.specs.declared.settings.Policy.{Policy}
 use Rattle.sqs_redrive.specs.declared.transfers.Load.{Load}
 use Rattle.sqs_redrive.specs.declared.transfers.Outbound.{Outbound}
 use Rattle.sqs_redrive.specs.MoveTasks.{MoveTask, task_started, task_stepped}
-use Rattle.sqs_model.specs.Actor.{Actor, Asked, Ended, Served, LastAct, consumer_got, consumer_told, consumer_wake, ends_service, next, next_as, producer_sent, script_wake, serves, serving, woken}
+use Rattle.sqs_model.specs.Actor.{Actor, Asked, Beat, Ended, Failed, Served, LastAct, consumer_got, consumer_told, consumer_wake, has_come, has_failed, next, next_as, producer_sent, producer_wake, script_wake, serving, woken}
 use Rattle.sqs_model.specs.Acts.{Made, act_made, made, runs, receive_row, task_row, with_poll, all_came_back, came_back, cancel_done, cancel_made, change_answered, change_made, delete_made, given, long_poll, receive_as, receive_made, receive_none, receive_some, redrive_by, serve_made, short_poll, start_made}
 use Rattle.sqs_model.specs.Available.{all_available, all_hosts, available}
-use Rattle.sqs_model.specs.Draw.{Draws, drawn_chance, drawn_latency, drawn_uniform}
+use Rattle.sqs_model.specs.Draw.{Draws, drawn_latency, drawn_uniform}
 use Rattle.sqs_model.specs.Limits.{CountsOnlyGrow}
 use Rattle.sqs_model.specs.Counts.{actor_count, greatest, site_count, task_count}
 use Rattle.sqs_model.specs.Polls.{acts_found, acts_most, acts_next, answer_polls, answer_when, poll_given, told, without_poll}
@@ -49,6 +47,8 @@ use Rattle.sqs_model.specs.Site.{Core, Effect, Poll, Site, actor_numbered, has_k
 use Rattle.sqs_model.specs.Step.{handle_arrival, handle_class, handle_step, handled, handled_when, moves, one_sent, with_polls}
 use Rattle.sqs_model.specs.Task.{Task, take_movable}
 use Rattle.sqs_model.proofs.Branches.{either}
+use Rattle.sqs_model.proofs.ConsumerWakes.{consumer_woke}
+use Rattle.sqs_model.proofs.Effects.{group_words, latency_words, time_words}
 use Rattle.sqs_model.proofs.Counts.{find_picked}
 use Rattle.sqs_model.proofs.Kept.{arrived_up, change_up, delete_up, expired_up, give_up, receive_up, released_up, sends_up, taken_up}
 
@@ -106,60 +106,54 @@ turned a b t = max_up _ _ _ _ t.wakes (max_up _ _ _ _ t.polls (max_up _ _ _ _ t.
 turns : (a b : Actor) → b.number ≡ a.number → a.wakes ≤ b.wakes → b.polls ≡ a.polls → a.sent ≤ b.sent → a.draws.taken ≤ b.draws.taken → Turns a b
 turns a b n w p s d = record { number = n; wakes = w; polls = omega (arith, p); sent = s; words = d }
 
-latency_up : (l : Latency) (n : ℕ) (d : Draws) → n ≤ d.taken → n ≤ (drawn_latency l d).1.taken
-latency_up l n d h =
-    either (λ (x : ℕ × Draws). n ≤ x.1.taken) (nat_lt l.least l.greatest) (drawn_uniform l.least l.greatest d) (l.least, d) (omega (arith, h)) h
-
 script_up : (a : Actor) (cs : List ScriptCall) → Turns a (script_wake a cs).1
 script_up a [] = turns a _ refl (omega arith) refl (omega arith) (omega arith)
 script_up a (c ∷ cs) = turns a _ refl (omega arith) refl (omega arith) (omega arith)
 
+producer_up : (a : Actor) (p : ProducerSettings) (now : ℕ) → Turns a (producer_wake a p now).1
+producer_up a p now =
+    either (λ (x : Act × Actor). Turns a x.1) (has_come p.stop now) _ _ (turns a _ refl (omega arith) refl (omega arith) (omega arith))
+    (turns a _ refl (omega arith) refl (omega arith) (omega (arith, group_words p.groups a.wakes a.draws)))
+
 sent_up : (a : Actor) (p : ProducerSettings) (now : ℕ) → Turns a (producer_sent a p now).1
 sent_up a p now =
-    either (λ (x : Act × Actor). Turns a x.1) _ _ _ (turns a _ refl (omega arith) refl (omega arith) (omega arith))
+    either (λ (x : Act × Actor). Turns a x.1) _ _ _ (turns a _ refl (omega arith) refl (omega arith) (omega (arith, time_words p.gap a.draws)))
     (turns a a refl (omega arith) refl (omega arith) (omega arith))
 
-serves_up : (a b : Actor) (now : ℕ) (g : Got) (o : Option Forwarding) → Turns a b → Turns a (serves b now g o).1
-serves_up a b now g None t = t
-serves_up a b now g (Some f) t =
-    record { number = t.number; wakes = t.wakes; polls = t.polls; sent = omega (arith, t.sent); words = latency_up f.latency a.draws.taken b.draws t.words }
-
-ends_up : (a b : Actor) (c : ConsumerSettings) (now : ℕ) (g : Got) (fails : Bool) (d : Draws) → Turns a b → a.draws.taken ≤ d.taken → Turns a (ends_service b c now g (fails, d)).1
-ends_up a b c now g true d t w = record { number = t.number; wakes = t.wakes; polls = t.polls; sent = t.sent; words = w }
-ends_up a b c now g false d t w =
-    serves_up a (record b { last_act = Served g.receipt; draws = d }) now g c.forward
-    (record { number = t.number; wakes = t.wakes; polls = t.polls; sent = t.sent; words = w })
-
-woke_up : (a b : Actor) (c : ConsumerSettings) (now : ℕ) (gs : List Got) → Turns a b → Turns a (consumer_wake b c now gs).1
-woke_up a b c now [] t = record { number = t.number; wakes = t.wakes; polls = t.polls; sent = t.sent; words = t.words }
-woke_up a b c now (g ∷ gs) t =
-    let drawn : Bool × Draws = drawn_chance c.fail_permille b.draws in
-    ends_up a (record b { held = gs }) c now g drawn.0 drawn.1
-    (record { number = t.number; wakes = t.wakes; polls = t.polls; sent = t.sent; words = t.words }) (omega (arith, t.words))
+woke_up : (a : Actor) (c : ConsumerSettings) (now : ℕ) (gs : List Got) → Turns a (consumer_wake (woken a) c now gs).1
+woke_up a c now gs =
+    let w = (consumer_woke now (woken a) c gs).stays in
+    turns a _ w.number (omega (arith, w.wakes)) w.polls w.sent w.words
 
 serving_up : (a : Actor) (c : ConsumerSettings) (now : ℕ) (gs : List Got) → Turns a (serving a c now gs)
 serving_up a c now [] = turns a _ refl (omega arith) refl (omega arith) (omega arith)
-serving_up a c now (g ∷ gs) = turns a _ refl (omega arith) refl (omega arith) (omega arith)
+serving_up a c now (g ∷ gs) = turns a _ refl (omega arith) refl (omega arith) (omega (arith, time_words c.service a.draws))
 
 got_up : (a : Actor) (c : ConsumerSettings) (now : ℕ) (gs : List Got) → Turns a (consumer_got a c now gs).1
 got_up a c now [] = turns a _ refl (omega arith) refl (omega arith) (omega arith)
-got_up a c now (g ∷ gs) = serving_up a c now (g ∷ gs)
+got_up a c now (g ∷ gs) = turns a _ refl (omega arith) refl (omega arith) (omega (arith, time_words c.service a.draws))
+
+failed_up : (a : Actor) (c : ConsumerSettings) (now : ℕ) (gs : List Got) → Turns a (has_failed a c now gs).1
+failed_up a c now [] = serving_up a c now a.held
+failed_up a c now (g ∷ gs) = turns a _ refl (omega arith) refl (omega arith) (omega arith)
 
 told_up : (a : Actor) (c : ConsumerSettings) (now : ℕ) (s : LastAct) → Turns a (consumer_told a c now s).1
 told_up a c now Asked = turns a _ refl (omega arith) refl (omega arith) (omega arith)
 told_up a c now (Served r) = turns a _ refl (omega arith) refl (omega arith) (omega arith)
 told_up a c now Ended = serving_up a c now a.held
+told_up a c now Failed = failed_up a c now a.failed
+told_up a c now Beat = turns a _ refl (omega arith) refl (omega arith) (omega arith)
 
 as_up : (r : Role) (a : Actor) (now : ℕ) (w : Answer) → Turns a (next_as r a now w).1
 as_up (Script script) a now told_by.Wake = script_up a (drop a.wakes script)
 as_up (Script script) a now (told_by.Got gots) = turns a a refl (omega arith) refl (omega arith) (omega arith)
 as_up (Script script) a now told_by.Waiting = turns a a refl (omega arith) refl (omega arith) (omega arith)
 as_up (Script script) a now told_by.Other = turns a a refl (omega arith) refl (omega arith) (omega arith)
-as_up (Producer p) a now told_by.Wake = turns a _ refl (omega arith) refl (omega arith) (omega arith)
+as_up (Producer p) a now told_by.Wake = producer_up a p now
 as_up (Producer p) a now (told_by.Got gots) = turns a a refl (omega arith) refl (omega arith) (omega arith)
 as_up (Producer p) a now told_by.Waiting = turns a a refl (omega arith) refl (omega arith) (omega arith)
 as_up (Producer p) a now told_by.Other = sent_up a p now
-as_up (Consumer c) a now told_by.Wake = woke_up a (woken a) c now a.held (turns a (woken a) refl (omega arith) refl (omega arith) (omega arith))
+as_up (Consumer c) a now told_by.Wake = woke_up a c now a.held
 as_up (Consumer c) a now (told_by.Got gots) = got_up a c now gots
 as_up (Consumer c) a now told_by.Waiting = turns a a refl (omega arith) refl (omega arith) (omega arith)
 as_up (Consumer c) a now told_by.Other = told_up a c now a.last_act
@@ -216,7 +210,7 @@ module _ (from : Core) where
       record {
         arrivals = h.arrivals;
         sent = omega (arith, h.sent);
-        words = latency_up p.latency from.draws.taken c.draws h.words;
+        words = latency_words p.latency from.draws.taken c.draws h.words;
         samples = h.samples;
         actors = h.actors;
         tasks = h.tasks;
@@ -312,6 +306,7 @@ module _ (from : Core) where
   act_up key a c (acts.Receive max wait timeout) m h = receive_to c.queue.settings.kind key a c max wait timeout m h
   act_up key a c (acts.Delete text) m h = delete_to key a c text (read_receipt text) h
   act_up key a c (acts.Change text timeout) m h = change_to key a c text timeout (read_receipt text) h
+  act_up key a c (acts.Prolong text timeout) m h = change_to key a c text (unwrap_or timeout (c.queue.settings.visibility / 1000)) (read_receipt text) h
   act_up key a c (acts.Start task) m h = start_to key a c task (task_numbered task c) refl h
   act_up key a c (acts.Cancel task) m h = cancel_to key a c task (task_numbered task c) refl h
   act_up key a c (acts.Serve id r failed forward) m h = serve_to key a c id r failed forward h
@@ -324,6 +319,7 @@ module _ (from : Core) where
   next_to more key c (acts.Receive max wait timeout) a f m h = f _ _ (act_up key a _ (acts.Receive max wait timeout) m h)
   next_to more key c (acts.Delete text) a f m h = f _ _ (act_up key a _ (acts.Delete text) m h)
   next_to more key c (acts.Change text timeout) a f m h = f _ _ (act_up key a _ (acts.Change text timeout) m h)
+  next_to more key c (acts.Prolong text timeout) a f m h = f _ _ (act_up key a _ (acts.Prolong text timeout) m h)
   next_to more key c (acts.Start task) a f m h = f _ _ (act_up key a _ (acts.Start task) m h)
   next_to more key c (acts.Cancel task) a f m h = f _ _ (act_up key a _ (acts.Cancel task) m h)
   next_to more key c (acts.Serve id r failed forward) a f m h = f _ _ (act_up key a _ (acts.Serve id r failed forward) m h)
@@ -377,7 +373,7 @@ module _ (from : Core) where
       let up : task_count t ≤ task_count u =
       max_up t.move.steps t.move.steps _ _ (omega arith)
       (max_up t.sent (t.sent + 1) _ _ (omega arith)
-      (max_up t.draws.taken drawn.1.taken 0 0 (latency_up t.move.settings.latency t.draws.taken t.draws (omega arith)) (omega arith))) in
+      (max_up t.draws.taken drawn.1.taken 0 0 (latency_words t.move.settings.latency t.draws.taken t.draws (omega arith)) (omega arith))) in
       let others = moves_up key c u rest in
       (others.0, others.1, omega (arith, up, others.2))
 

@@ -1,5 +1,5 @@
 -- A handling changes a queue's number never, and its entries only by entering one at its own moment: what such an entry keeps, a handling keeps.
-use Rattle.std.specs.Prelude.{Bool, Err, List, None, Ok, Option, Result, Some, [], false, find, min, nat_lt, suc, take, true, zero, ℕ, ◌+◌, ◌∷◌, ◌≡◌}
+use Rattle.std.specs.Prelude.{Bool, Err, List, None, Ok, Option, Result, Some, [], false, find, min, nat_lt, suc, take, true, zero, ℕ, ◌+◌, ◌∷◌, ◌≡◌, unwrap_or, ◌/◌}
 use Rattle.std.proofs.Common.{arith, refl, ◌++◌, ◌≤◌}
 use Rattle.std.proofs.lemmas.List.Elements.{All-filter, All-push}
 use Rattle.std.specs.Prelude.{All}
@@ -223,6 +223,7 @@ module _ (Q : ℕ → ℕ → List Entry → ℕ → Type 0)
   act_stays key a c (acts.Receive max wait timeout) h = receive_stays c.queue.settings.kind key a c max wait timeout h
   act_stays key a c (acts.Delete text) h = delete_stays key a c text (read_receipt text) h
   act_stays key a c (acts.Change text timeout) h = change_stays key a c text timeout (read_receipt text) h
+  act_stays key a c (acts.Prolong text timeout) h = change_stays key a c text (unwrap_or timeout (c.queue.settings.visibility / 1000)) (read_receipt text) h
   act_stays key a c (acts.Start task) h = start_stays key a c task (task_numbered task c) h
   act_stays key a c (acts.Cancel task) h = cancel_stays key a c task (task_numbered task c) h
   act_stays key a c (acts.Serve id r failed forward) h = serve_stays key a c id r failed forward h
@@ -235,6 +236,7 @@ module _ (Q : ℕ → ℕ → List Entry → ℕ → Type 0)
   next_stays more key c (acts.Receive max wait timeout) a f h = f _ _ (act_stays key a _ (acts.Receive max wait timeout) h)
   next_stays more key c (acts.Delete text) a f h = f _ _ (act_stays key a _ (acts.Delete text) h)
   next_stays more key c (acts.Change text timeout) a f h = f _ _ (act_stays key a _ (acts.Change text timeout) h)
+  next_stays more key c (acts.Prolong text timeout) a f h = f _ _ (act_stays key a _ (acts.Prolong text timeout) h)
   next_stays more key c (acts.Start task) a f h = f _ _ (act_stays key a _ (acts.Start task) h)
   next_stays more key c (acts.Cancel task) a f h = f _ _ (act_stays key a _ (acts.Cancel task) h)
   next_stays more key c (acts.Serve id r failed forward) a f h = f _ _ (act_stays key a _ (acts.Serve id r failed forward) h)

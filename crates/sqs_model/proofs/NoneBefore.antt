@@ -1,6 +1,6 @@
 -- A handling of a key leaves nothing due that comes before the key, where nothing that was due came before it, and makes
 -- nothing due that is not later.
-use Rattle.std.specs.Prelude.{All, Bool, Err, List, None, Ok, Option, Result, Some, [], cond, false, find, flat_map, if◌then◌else◌, length, map, min, suc, take, drop, true, zero, ℕ, ◌*◌, ◌+◌, ◌-◌, ◌++◌, ◌<◌, ◌==◌, ◌∷◌, ◌≡◌, ◌≤◌}
+use Rattle.std.specs.Prelude.{All, Bool, Err, List, None, Ok, Option, Result, Some, [], cond, false, find, flat_map, if◌then◌else◌, length, map, min, suc, take, drop, true, zero, ℕ, ◌*◌, ◌+◌, ◌-◌, ◌++◌, ◌<◌, ◌==◌, ◌∷◌, ◌≡◌, ◌≤◌, unwrap_or, ◌/◌}
 use Rattle.std.proofs.Common.{arith, inl, inr, refl, subst, sym, true≢false}
 use Rattle.std.proofs.Math.Nat.{mul-add}
 use Rattle.std.proofs.lemmas.Bool.{cases_lt, eqb-false, eqb-true, leb-false}
@@ -370,6 +370,7 @@ module _ (key : Key) (site : ℕ) (Comes : Key → Type 0) (later_comes : (j : K
   act_stays a c (acts.Receive max wait timeout) k h = receive_stays c.queue.settings.kind a c max wait timeout k h
   act_stays a c (acts.Delete text) k h = delete_stays a c text (read_receipt text) h
   act_stays a c (acts.Change text timeout) k h = change_stays a c text timeout (read_receipt text) h
+  act_stays a c (acts.Prolong text timeout) k h = change_stays a c text (unwrap_or timeout (c.queue.settings.visibility / 1000)) (read_receipt text) h
   act_stays a c (acts.Start task) k h = start_stays a c task (task_numbered task c) h
   act_stays a c (acts.Cancel task) k h = cancel_stays a c task (task_numbered task c) refl h
   act_stays a c (acts.Serve id r failed forward) k h = serve_stays a c id r failed forward h
@@ -431,6 +432,7 @@ module _ (key : Key) (site : ℕ) (Comes : Key → Type 0) (later_comes : (j : K
   next_stays more c (acts.Receive max wait timeout) a f k h = on more a _ (acts.Receive max wait timeout) f k (still_actor c a h k)
   next_stays more c (acts.Delete text) a f k h = on more a _ (acts.Delete text) f k (still_actor c a h k)
   next_stays more c (acts.Change text timeout) a f k h = on more a _ (acts.Change text timeout) f k (still_actor c a h k)
+  next_stays more c (acts.Prolong text timeout) a f k h = on more a _ (acts.Prolong text timeout) f k (still_actor c a h k)
   next_stays more c (acts.Start task) a f k h = on more a _ (acts.Start task) f k (still_actor c a h k)
   next_stays more c (acts.Cancel task) a f k h = on more a _ (acts.Cancel task) f k (still_actor c a h k)
   next_stays more c (acts.Serve id r failed forward) a f k h = on more a _ (acts.Serve id r failed forward) f k (still_actor c a h k)

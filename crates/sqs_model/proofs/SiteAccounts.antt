@@ -1,6 +1,6 @@
 -- What happens at a site keeps it in balance with the rows made and the transfers sent.
 use Rattle.std.specs.List.{list_any}
-use Rattle.std.specs.Prelude.{All, Bool, Err, List, None, Ok, Option, Result, Some, [], false, length, map, min, suc, take, true, zero, ℕ, ◌+◌, ◌++◌, ◌-◌, ◌<◌, ◌==◌, ◌∷◌, ◌≡◌}
+use Rattle.std.specs.Prelude.{All, Bool, Err, List, None, Ok, Option, Result, Some, [], false, length, map, min, suc, take, true, zero, ℕ, ◌+◌, ◌++◌, ◌-◌, ◌<◌, ◌==◌, ◌∷◌, ◌≡◌, unwrap_or, ◌/◌}
 use Rattle.std.proofs.Common.{ap, arith, refl, subst, sym, ◌∙◌}
 use Rattle.std.proofs.lemmas.List.{append-nil, append_assoc}
 use Rattle.std.proofs.lemmas.List.Elements.{All-append, All-cons, All-nil}
@@ -56,7 +56,8 @@ use Rattle.sqs_model.proofs.Balance.{Holds, holds_as, holds_idle}
 use Rattle.sqs_model.proofs.Branches.{either, either_by}
 use Rattle.sqs_model.proofs.Chosen.{first_apart, first_stand}
 use Rattle.sqs_model.proofs.Counts.{all_changed, find_all, total, total_append}
-use Rattle.sqs_model.proofs.Forwards.{IsForward, MayForward, SendsForwards, next_forwards}
+use Rattle.sqs_model.proofs.Forwards.{MayForward, SendsForwards, next_forwards}
+use Rattle.sqs_model.proofs.Sending.{IsForward}
 use Rattle.sqs_model.proofs.Ledger.{bit, marks}
 use Rattle.sqs_model.proofs.QueueAccounts.{Answers, AreBound, Changes, Comes, Deletes, Gives, IsKnown, IsThere, MayAllLeave, MayLeave, Releases, Sends, Takes, arrived_balances, carried, change_balances, delete_balances, ends_one, give_balances, left_bit, lefts, moved_bits, receive_balances, released_balances, same_timeout, sends_balance, take_balances}
 
@@ -311,6 +312,7 @@ module _ (o : Origin) (top : ℕ) (base : List Row) where
     act_goes rows elsewhere a c (acts.Receive max wait timeout) f h = receive_goes c.queue.settings.kind rows elsewhere a c max wait timeout h
     act_goes rows elsewhere a c (acts.Delete text) f h = delete_goes rows elsewhere a c text (read_receipt text) h
     act_goes rows elsewhere a c (acts.Change text timeout) f h = change_goes rows elsewhere a c text timeout (read_receipt text) h
+    act_goes rows elsewhere a c (acts.Prolong text timeout) f h = change_goes rows elsewhere a c text (unwrap_or timeout (c.queue.settings.visibility / 1000)) (read_receipt text) h
     act_goes rows elsewhere a c (acts.Start task) f h = start_goes rows elsewhere a c task (task_numbered task c) refl h
     act_goes rows elsewhere a c (acts.Cancel task) f h = cancel_goes rows elsewhere a c task (task_numbered task c) refl h
     act_goes rows elsewhere a c (acts.Serve id r failed forward) f h = serve_goes rows elsewhere a c id r failed forward f h
@@ -328,6 +330,7 @@ module _ (o : Origin) (top : ℕ) (base : List Row) where
     next_goes more rows elsewhere c (acts.Receive max wait timeout) a k f h = on more rows elsewhere a _ (acts.Receive max wait timeout) k f h
     next_goes more rows elsewhere c (acts.Delete text) a k f h = on more rows elsewhere a _ (acts.Delete text) k f h
     next_goes more rows elsewhere c (acts.Change text timeout) a k f h = on more rows elsewhere a _ (acts.Change text timeout) k f h
+    next_goes more rows elsewhere c (acts.Prolong text timeout) a k f h = on more rows elsewhere a _ (acts.Prolong text timeout) k f h
     next_goes more rows elsewhere c (acts.Start task) a k f h = on more rows elsewhere a _ (acts.Start task) k f h
     next_goes more rows elsewhere c (acts.Cancel task) a k f h = on more rows elsewhere a _ (acts.Cancel task) k f h
     next_goes more rows elsewhere c (acts.Serve id r failed forward) a k f h = on more rows elsewhere a _ (acts.Serve id r failed forward) k f h

@@ -1,5 +1,5 @@
 -- Nothing at a site was enqueued after the present.
-use Rattle.std.specs.Prelude.{Bool, Err, IfSome, List, None, Ok, Option, Result, Some, [], false, find, map, min, suc, take, true, zero, ℕ, ◌*◌, ◌+◌, ◌==◌, ◌∷◌, ◌≡◌, ◌≤◌}
+use Rattle.std.specs.Prelude.{Bool, Err, IfSome, List, None, Ok, Option, Result, Some, [], false, find, map, min, suc, take, true, zero, ℕ, ◌*◌, ◌+◌, ◌==◌, ◌∷◌, ◌≡◌, ◌≤◌, unwrap_or, ◌/◌}
 use Rattle.std.proofs.Common.{ap, arith, refl}
 use Rattle.std.proofs.lemmas.List.Elements.{All-append, All-cons, All-nil, All-push}
 use Rattle.sim_clock.specs.declared.key.Class.{Class}
@@ -49,7 +49,8 @@ use Rattle.sqs_model.specs.Task.{Taken, Task, destination, take_each, take_movab
 use Rattle.sqs_model.proofs.Answered.{change_by, delete_by, receive_by}
 use Rattle.sqs_model.proofs.Branches.{either}
 use Rattle.sqs_model.proofs.Counts.{all_changed, all_without, find_all, find_picked}
-use Rattle.sqs_model.proofs.Forwards.{IsForward, MayForward, SendsForwards, next_forwards}
+use Rattle.sqs_model.proofs.Forwards.{MayForward, SendsForwards, next_forwards}
+use Rattle.sqs_model.proofs.Sending.{IsForward}
 
 -- whether a load, if there is one, was enqueued by a moment
 abbrev IsPast : ℕ → Option Load → Type 0
@@ -327,6 +328,7 @@ module _ (key : Key) where
   act_timely a c (acts.Receive max wait timeout) l h = receive_timely c.queue.settings.kind a c max wait timeout h
   act_timely a c (acts.Delete text) l h = delete_timely a c text (read_receipt text) h
   act_timely a c (acts.Change text timeout) l h = change_timely a c text timeout (read_receipt text) h
+  act_timely a c (acts.Prolong text timeout) l h = change_timely a c text (unwrap_or timeout (c.queue.settings.visibility / 1000)) (read_receipt text) h
   act_timely a c (acts.Start task) l h = start_timely a c task (task_numbered task c) h
   act_timely a c (acts.Cancel task) l h = cancel_timely a c task (task_numbered task c) h
   act_timely a c (acts.Serve id r failed forward) l h = serve_timely a c id r failed forward l h
@@ -345,6 +347,7 @@ module _ (key : Key) where
   next_timely more c (acts.Receive max wait timeout) a f l h = on more a _ (acts.Receive max wait timeout) f l h
   next_timely more c (acts.Delete text) a f l h = on more a _ (acts.Delete text) f l h
   next_timely more c (acts.Change text timeout) a f l h = on more a _ (acts.Change text timeout) f l h
+  next_timely more c (acts.Prolong text timeout) a f l h = on more a _ (acts.Prolong text timeout) f l h
   next_timely more c (acts.Start task) a f l h = on more a _ (acts.Start task) f l h
   next_timely more c (acts.Cancel task) a f l h = on more a _ (acts.Cancel task) f l h
   next_timely more c (acts.Serve id r failed forward) a f l h = on more a _ (acts.Serve id r failed forward) f l h

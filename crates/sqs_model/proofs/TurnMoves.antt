@@ -54,6 +54,7 @@ module _ (key : Key) (e : ℕ) (l : e ≤ key.at) where
   next_keeps gone more c a b (acts.Receive max wait timeout) m h d n s t = continued_keeps gone more c a b (acts.Receive max wait timeout) m h d n s t
   next_keeps gone more c a b (acts.Delete text) m h d n s t = continued_keeps gone more c a b (acts.Delete text) m h d n s t
   next_keeps gone more c a b (acts.Change text timeout) m h d n s t = continued_keeps gone more c a b (acts.Change text timeout) m h d n s t
+  next_keeps gone more c a b (acts.Prolong text timeout) m h d n s t = continued_keeps gone more c a b (acts.Prolong text timeout) m h d n s t
   next_keeps gone more c a b (acts.Start task) m h d n s t = continued_keeps gone more c a b (acts.Start task) m h d n s t
   next_keeps gone more c a b (acts.Cancel task) m h d n s t = continued_keeps gone more c a b (acts.Cancel task) m h d n s t
   next_keeps gone more c a b (acts.Serve id receipt failed forward) m h d n s t = continued_keeps gone more c a b (acts.Serve id receipt failed forward) m h d n s t

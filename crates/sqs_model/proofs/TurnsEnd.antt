@@ -1,5 +1,5 @@
 -- An actor's turn ends within three decisions, the last of which is to do nothing.
-use Rattle.std.specs.Prelude.{Bool, Err, List, None, Ok, Option, Result, Some, [], drop, false, find, nat_lt, suc, true, zero, ℕ, ◌+◌, ◌==◌, ◌∷◌, ◌≡◌, ◌≤◌, ◌⊎◌}
+use Rattle.std.specs.Prelude.{Bool, Err, List, None, Ok, Option, Result, Some, [], drop, false, find, nat_lt, suc, true, zero, ℕ, ◌+◌, ◌==◌, ◌∷◌, ◌≡◌, ◌≤◌, ◌⊎◌, unwrap_or, ◌/◌}
 use Rattle.std.proofs.Common.{ap, arith, inl, inr, refl, subst, sym, ◌∙◌}
 use Rattle.std.proofs.lemmas.Bool.{eq-eqb, eqb-true}
 use Rattle.sim_clock.specs.declared.key.Key.{Key}
@@ -16,8 +16,8 @@ use Rattle.sqs_model.specs.declared.acts.Act.{Act}
 use Rattle.sqs_model.specs.declared.acts.Act.TheVariants as acts
 use Rattle.sqs_model.specs.declared.acts.Answer.{Answer}
 use Rattle.sqs_model.specs.declared.acts.Answer.TheVariants as told_by
+use Rattle.sqs_model.specs.declared.agents.ActorSettings.{ActorSettings}
 use Rattle.sqs_model.specs.declared.agents.ConsumerSettings.{ConsumerSettings}
-use Rattle.sqs_model.specs.declared.agents.Forwarding.{Forwarding}
 use Rattle.sqs_model.specs.declared.agents.ProducerSettings.{ProducerSettings}
 use Rattle.sqs_model.specs.declared.agents.Role.{Role}
 use Rattle.sqs_model.specs.declared.agents.Role.TheVariants.{Consumer, Producer, Script}
@@ -29,13 +29,13 @@ use Rattle.sqs_redrive.specs.declared.settings.Kind.TheVariants.{Fifo, Standard}
 use Rattle.sqs_redrive.specs.declared.settings.Policy.{Policy}
 use Rattle.sqs_redrive.specs.declared.transfers.Load.{Load}
 use Rattle.sqs_redrive.specs.declared.transfers.Outbound.{Outbound}
-use Rattle.sqs_model.specs.Actor.{Actor, Asked, Ended, Served, LastAct, act_of, consumer_got, consumer_told, consumer_wake, ends_service, next, next_as, script_wake, serves, woken}
+use Rattle.sqs_model.specs.Actor.{Actor, Asked, Beat, Ended, Failed, Served, LastAct, act_of, consumer_got, consumer_told, consumer_wake, has_come, has_failed, next, next_as, producer_wake, script_wake, woken}
 use Rattle.std.specs.List.{list_any}
 use Rattle.sim_clock.specs.declared.refusal.Refusal.TheVariants as refusals
 use Rattle.sqs_message.specs.declared.row.RowAnswer.TheVariants as answers
 use Rattle.sqs_message.specs.declared.row.RowKind.TheVariants as kinds
 use Rattle.sqs_model.specs.Acts.{Made, act_made, made, runs, task_row, all_came_back, came_back, cancel_done, cancel_made, change_answered, change_made, delete_done, delete_made, given, long_poll, receive_as, receive_made, receive_none, receive_some, redrive_by, send_made, serve_made, short_poll, start_made}
-use Rattle.sqs_model.specs.Draw.{Draws, drawn_chance}
+use Rattle.sqs_model.specs.Draw.{Draws}
 use Rattle.sqs_model.specs.Polls.{acts_found, acts_most, acts_next, continued}
 use Rattle.sqs_model.specs.Queue.{Queue}
 use Rattle.sqs_model.specs.Receive.{timeout_of}
@@ -43,6 +43,7 @@ use Rattle.sqs_model.specs.Site.{Core, Effect, actor_numbered, is_actor, joined,
 use Rattle.sqs_model.specs.Task.{Task}
 use Rattle.sqs_model.specs.Turns.{TurnsEnd}
 use Rattle.sqs_model.proofs.Branches.{either}
+use Rattle.sqs_model.proofs.ConsumerWakes.{consumer_woke}
 use Rattle.sqs_model.proofs.Counts.{find_picked}
 use Rattle.sqs_model.proofs.Growth.{Turns, changed_found, next_up}
 
@@ -156,6 +157,7 @@ act_leaves key a c (acts.Send body delay group id) = send_leaves key a c body _
 act_leaves key a c (acts.Receive max wait timeout) = poll_leaves key c.queue.settings.kind a c max wait timeout
 act_leaves key a c (acts.Delete text) = delete_leaves key a c text (read_receipt text)
 act_leaves key a c (acts.Change text timeout) = change_leaves key a c text timeout (read_receipt text)
+act_leaves key a c (acts.Prolong text timeout) = change_leaves key a c text (unwrap_or timeout (c.queue.settings.visibility / 1000)) (read_receipt text)
 act_leaves key a c (acts.Start task) = start_leaves key a c task (task_numbered task c)
 act_leaves key a c (acts.Cancel task) = cancel_leaves key a c task (task_numbered task c)
 act_leaves key a c (acts.Serve id r failed forward) = serve_leaves key a c id r failed forward
@@ -201,6 +203,7 @@ next_same f g more key n c (acts.Send body delay group id) a e h o = on_same f g
 next_same f g more key n c (acts.Receive max wait timeout) a e h o = on_same f g more key n c (acts.Receive max wait timeout) a e h o
 next_same f g more key n c (acts.Delete text) a e h o = on_same f g more key n c (acts.Delete text) a e h o
 next_same f g more key n c (acts.Change text timeout) a e h o = on_same f g more key n c (acts.Change text timeout) a e h o
+next_same f g more key n c (acts.Prolong text timeout) a e h o = on_same f g more key n c (acts.Prolong text timeout) a e h o
 next_same f g more key n c (acts.Start task) a e h o = on_same f g more key n c (acts.Start task) a e h o
 next_same f g more key n c (acts.Cancel task) a e h o = on_same f g more key n c (acts.Cancel task) a e h o
 next_same f g more key n c (acts.Serve id r failed forward) a e h o = on_same f g more key n c (acts.Serve id r failed forward) a e h o
@@ -258,11 +261,15 @@ abbrev IsIdle : LastAct → Type 0
 IsIdle Asked = Unit {0}
 IsIdle (Served r) = ⊥
 IsIdle Ended = Unit {0}
+IsIdle Failed = ⊥
+IsIdle Beat = Unit {0}
 
 idle_over : (more : Actor → Answer → Type 0) (c : ConsumerSettings) (now : ℕ) (x : Actor) (s : LastAct) → IsIdle s → IsOverAfter more (consumer_told x c now s)
 idle_over more c now x Asked h = tt
 idle_over more c now x (Served r) h = absurd h
 idle_over more c now x Ended h = tt
+idle_over more c now x Failed h = absurd h
+idle_over more c now x Beat h = tt
 
 consumer_over : (more : Actor → Answer → Type 0) (c : ConsumerSettings) (now : ℕ) (x : Actor) (w : Answer) → IsIdle x.last_act → IsAnswer w → IsOverAfter more (next_as (Consumer c) x now w)
 consumer_over more c now x told_by.Wake i h = absurd h
@@ -275,12 +282,20 @@ over_by : (k now : ℕ) (x : Actor) (w : Answer) (r : Role) → x.settings.role 
 unfolding next
 over_by k now x w r e h = subst (λ q. IsOverAfter (IsOver k now) (next_as q x now w)) (sym e) h
 
--- one decision more, by a consumer that served a message
+-- one decision more, by a consumer that served a message or failed to
+failed_over : (k now : ℕ) (c : ConsumerSettings) (x : Actor) (gs : List Got) → x.settings.role ≡ Consumer c → IsOverAfter (IsOver (suc k) now) (has_failed x c now gs)
+failed_over k now c x [] e = tt
+failed_over k now c x (g ∷ gs) e =
+    λ y w h l. over_by k now y w (Consumer c) (role_left (record x { failed = gs; last_act = Ended }) y l ∙ e)
+    (consumer_over (IsOver k now) c now y w (subst IsIdle (sym (stage_left (record x { failed = gs; last_act = Ended }) y l)) tt) h)
+
 told_over : (k now : ℕ) (c : ConsumerSettings) (x : Actor) (s : LastAct) → x.settings.role ≡ Consumer c → IsOverAfter (IsOver (suc k) now) (consumer_told x c now s)
 told_over k now c x Asked e = tt
 told_over k now c x (Served r) e =
     λ y w h l. over_by k now y w (Consumer c) (role_left (record x { last_act = Ended }) y l ∙ e) (consumer_over (IsOver k now) c now y w (subst IsIdle (sym (stage_left (record x { last_act = Ended }) y l)) tt) h)
 told_over k now c x Ended e = tt
+told_over k now c x Failed e = failed_over k now c x x.failed e
+told_over k now c x Beat e = tt
 
 answer_over : (k now : ℕ) (c : ConsumerSettings) (x : Actor) (w : Answer) → x.settings.role ≡ Consumer c → IsAnswer w → IsOver (suc (suc k)) now x w
 answer_over k now c x told_by.Wake e h = absurd h
@@ -288,18 +303,28 @@ answer_over k now c x (told_by.Got gots) e h = over_by (suc k) now x (told_by.Go
 answer_over k now c x told_by.Waiting e h = over_by (suc k) now x told_by.Waiting (Consumer c) e tt
 answer_over k now c x told_by.Other e h = over_by (suc k) now x told_by.Other (Consumer c) e (told_over k now c x x.last_act e)
 
--- a service that ends
-serves_over : (now at : ℕ) (c : ConsumerSettings) (a : Actor) (g : Got) (o : Option Forwarding) → a.settings.role ≡ Consumer c → IsOverAfter (IsOver 2 now) (serves a at g o)
-serves_over now at c a g None e = λ x w h l. answer_over 0 now c x w (role_left a x l ∙ e) h
-serves_over now at c a g (Some f) e = λ x w h l. answer_over 0 now c x w (role_left _ x l ∙ e) h
-
-ends_over : (now : ℕ) (c : ConsumerSettings) (a : Actor) (g : Got) (y : Bool × Draws) → a.settings.role ≡ Consumer c → IsOverAfter (IsOver 2 now) (ends_service a c now g y)
-ends_over now c a g (true, draws) e = λ x w h l. answer_over 0 now c x w (role_left _ x l ∙ e) h
-ends_over now c a g (false, draws) e = serves_over now now c (record a { last_act = Served g.receipt; draws = draws }) g c.forward e
+-- whatever a consumer does when it wakes
+any_over : (now : ℕ) (c : ConsumerSettings) (act : Act) (a : Actor) → a.settings.role ≡ Consumer c → IsOverAfter (IsOver 2 now) (act, a)
+any_over now c (acts.Send body delay group id) a e = λ x w h l. answer_over 0 now c x w (role_left a x l ∙ e) h
+any_over now c (acts.Receive most wait timeout) a e = λ x w h l. answer_over 0 now c x w (role_left a x l ∙ e) h
+any_over now c (acts.Delete text) a e = λ x w h l. answer_over 0 now c x w (role_left a x l ∙ e) h
+any_over now c (acts.Change text timeout) a e = λ x w h l. answer_over 0 now c x w (role_left a x l ∙ e) h
+any_over now c (acts.Prolong text timeout) a e = λ x w h l. answer_over 0 now c x w (role_left a x l ∙ e) h
+any_over now c (acts.Start task) a e = λ x w h l. answer_over 0 now c x w (role_left a x l ∙ e) h
+any_over now c (acts.Cancel task) a e = λ x w h l. answer_over 0 now c x w (role_left a x l ∙ e) h
+any_over now c (acts.Serve id receipt failed forward) a e = λ x w h l. answer_over 0 now c x w (role_left a x l ∙ e) h
+any_over now c acts.Nothing a e = tt
 
 wake_over : (now : ℕ) (c : ConsumerSettings) (a : Actor) (gs : List Got) → a.settings.role ≡ Consumer c → IsOverAfter (IsOver 2 now) (consumer_wake a c now gs)
-wake_over now c a [] e = λ x w h l. answer_over 0 now c x w (role_left _ x l ∙ e) h
-wake_over now c a (g ∷ gs) e = ends_over now c (record a { held = gs }) g (drawn_chance c.fail_permille a.draws) e
+wake_over now c a gs e =
+    let x : Act × Actor = consumer_wake a c now gs in
+    any_over now c x.0 x.1 (ap (λ (s : ActorSettings). s.role) (consumer_woke now a c gs).stays.settings ∙ e)
+
+-- a producer that sends or stops
+sends_over : (now : ℕ) (p : ProducerSettings) (a : Actor) → a.settings.role ≡ Producer p → IsOverAfter (IsOver 2 now) (producer_wake a p now)
+sends_over now p a e =
+    either (IsOverAfter (IsOver 2 now)) (has_come p.stop now) _ _ tt
+    (λ x w h l. over_by 1 now x w (Producer p) (role_left _ x l ∙ e) (producer_over (IsOver 1 now) p now x w h))
 
 -- a call of a script
 call_over : (now : ℕ) (s : List ScriptCall) (a : Actor) (call : Call) → a.settings.role ≡ Script s → IsOverAfter (IsOver 2 now) (act_of call, a)
@@ -317,8 +342,7 @@ calls_over now s a (c ∷ cs) e = call_over now s _ c.call e
 -- any actor that is told anything
 three_as : (now : ℕ) (a : Actor) (w : Answer) (r : Role) → a.settings.role ≡ r → IsOver 3 now a w
 three_as now a told_by.Wake (Script s) e = over_by 2 now a told_by.Wake (Script s) e (calls_over now s a (drop a.wakes s) e)
-three_as now a told_by.Wake (Producer p) e =
-    over_by 2 now a told_by.Wake (Producer p) e (λ x w h l. over_by 1 now x w (Producer p) (role_left _ x l ∙ e) (producer_over (IsOver 1 now) p now x w h))
+three_as now a told_by.Wake (Producer p) e = over_by 2 now a told_by.Wake (Producer p) e (sends_over now p a e)
 three_as now a told_by.Wake (Consumer c) e = over_by 2 now a told_by.Wake (Consumer c) e (wake_over now c (woken a) a.held e)
 three_as now a (told_by.Got gots) (Script s) e = over_by 2 now a (told_by.Got gots) (Script s) e tt
 three_as now a (told_by.Got gots) (Producer p) e = over_by 2 now a (told_by.Got gots) (Producer p) e tt

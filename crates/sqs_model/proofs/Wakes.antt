@@ -1,5 +1,5 @@
 -- What an actor does next leaves its wake as it was, number and all, or takes it away, or makes it a later one.
-use Rattle.std.specs.Prelude.{Bool, List, None, Option, Some, [], drop, false, nat_lt, true, ℕ, ◌+◌, ◌<◌, ◌∷◌, ◌≡◌}
+use Rattle.std.specs.Prelude.{List, None, Option, Some, [], drop, nat_lt, ℕ, ◌+◌, ◌<◌, ◌∷◌, ◌≡◌}
 use Rattle.std.proofs.Common.{arith, refl, subst, sym}
 use Rattle.sqs_message.specs.declared.calls.ScriptCall.{ScriptCall}
 use Rattle.sqs_model.specs.declared.acts.Act.{Act}
@@ -7,16 +7,16 @@ use Rattle.sqs_model.specs.declared.acts.Act.TheVariants as acts
 use Rattle.sqs_model.specs.declared.acts.Answer.{Answer}
 use Rattle.sqs_model.specs.declared.acts.Answer.TheVariants as told_by
 use Rattle.sqs_model.specs.declared.agents.ConsumerSettings.{ConsumerSettings}
-use Rattle.sqs_model.specs.declared.agents.Forwarding.{Forwarding}
 use Rattle.sqs_model.specs.declared.agents.ProducerSettings.{ProducerSettings}
 use Rattle.sqs_model.specs.declared.agents.Role.{Role}
 use Rattle.sqs_model.specs.declared.agents.Role.TheVariants.{Consumer, Producer, Script}
 use Rattle.sqs_redrive.specs.declared.answers.Got.{Got}
-use Rattle.sqs_model.specs.Actor.{Actor, Asked, Ended, Served, LastAct, consumer_got, consumer_told, consumer_wake, ends_service, first_at, next, next_as, producer_sent, script_wake, serves, wakes_after, woken}
-use Rattle.sqs_model.specs.Draw.{Draws, drawn_chance, drawn_uniform}
+use Rattle.sqs_model.specs.Actor.{Actor, Asked, Beat, Ended, Failed, Served, LastAct, consumer_got, consumer_told, first_at, has_come, has_failed, next, next_as, producer_sent, producer_wake, script_wake, wakes_after, woken}
+use Rattle.sqs_model.specs.Draw.{drawn_time}
 use Rattle.sqs_model.specs.Progress.{Ascends, IsSoundActor, IsSoundRole, WakesFor}
 use Rattle.sqs_model.proofs.ActorMoves.{drop_ascends}
 use Rattle.sqs_model.proofs.Branches.{either}
+use Rattle.sqs_model.proofs.ConsumerWakes.{consumer_woke}
 
 -- whether the second of two wakes, where there is one, is later than the first
 abbrev pub IsLaterWake : Option ℕ → Option ℕ → Type 0
@@ -42,43 +42,41 @@ script_keeps a (c ∷ cs) h w = subst (λ o. IsLaterWake o (first_at cs)) (sym w
 none_after : (o x : Option ℕ) → x ≡ None → IsLaterWake o x
 none_after o x e = subst (IsLaterWake o) (sym e) tt
 
-serves_none : (b : Actor) (now : ℕ) (g : Got) (f : Option Forwarding) → b.wake ≡ None → (serves b now g f).1.wake ≡ None
-serves_none b now g None w = w
-serves_none b now g (Some f) w = w
-
-ends_none : (b : Actor) (c : ConsumerSettings) (now : ℕ) (g : Got) (x : Bool × Draws) → b.wake ≡ None → (ends_service b c now g x).1.wake ≡ None
-ends_none b c now g (true, draws) w = w
-ends_none b c now g (false, draws) w = serves_none (record b { last_act = Served g.receipt; draws = draws }) now g c.forward w
-
-woken_none : (a : Actor) (c : ConsumerSettings) (now : ℕ) (gs : List Got) → (consumer_wake (woken a) c now gs).1.wake ≡ None
-woken_none a c now [] = refl
-woken_none a c now (g ∷ gs) = ends_none (record (woken a) { held = gs }) c now g (drawn_chance c.fail_permille a.draws) refl
+producer_none : (a : Actor) (p : ProducerSettings) (now : ℕ) → (producer_wake a p now).1.wake ≡ None
+producer_none a p now = either (λ (x : Act × Actor). x.1.wake ≡ None) (has_come p.stop now) _ _ refl refl
 
 sent_keeps : (a : Actor) (p : ProducerSettings) (now : ℕ) → (producer_sent a p now).1.wakes ≡ a.wakes
 sent_keeps a p now =
     either (λ (x : Act × Actor). x.1.wakes ≡ a.wakes) (nat_lt a.wakes p.count)
-    (acts.Nothing, wakes_after a now (drawn_uniform p.gap_min p.gap_max a.draws)) (acts.Nothing, a) refl refl
+    (acts.Nothing, wakes_after a now (drawn_time p.gap a.draws)) (acts.Nothing, a) refl refl
 
 got_keeps : (a : Actor) (c : ConsumerSettings) (now : ℕ) (gs : List Got) → (consumer_got a c now gs).1.wakes ≡ a.wakes
 got_keeps a c now [] = refl
 got_keeps a c now (g ∷ gs) = refl
+
+failed_keeps : (a : Actor) (c : ConsumerSettings) (now : ℕ) (failed held : List Got) → a.held ≡ held → (has_failed a c now failed).1.wakes ≡ a.wakes
+failed_keeps a c now [] [] e = rw e refl
+failed_keeps a c now [] (g ∷ gs) e = rw e refl
+failed_keeps a c now (g ∷ gs) held e = refl
 
 told_keeps : (a : Actor) (c : ConsumerSettings) (now : ℕ) (last_act : LastAct) (held : List Got) → a.held ≡ held → (consumer_told a c now last_act).1.wakes ≡ a.wakes
 told_keeps a c now Asked held e = refl
 told_keeps a c now (Served receipt) held e = refl
 told_keeps a c now Ended [] e = rw e refl
 told_keeps a c now Ended (g ∷ gs) e = rw e refl
+told_keeps a c now Failed held e = failed_keeps a c now a.failed held e
+told_keeps a c now Beat held e = refl
 
 role_keeps : (r : Role) (a : Actor) (now : ℕ) (w : Answer) → IsSoundRole r → WakesFor r a → KeepsWake a w (next_as r a now w).1
 role_keeps (Script script) a now told_by.Wake s w = script_keeps a (drop a.wakes script) (drop_ascends 0 a.wakes script s) w
 role_keeps (Script script) a now (told_by.Got gots) s w = refl
 role_keeps (Script script) a now told_by.Waiting s w = refl
 role_keeps (Script script) a now told_by.Other s w = refl
-role_keeps (Producer p) a now told_by.Wake s w = none_after a.wake None refl
+role_keeps (Producer p) a now told_by.Wake s w = none_after a.wake _ (producer_none a p now)
 role_keeps (Producer p) a now (told_by.Got gots) s w = refl
 role_keeps (Producer p) a now told_by.Waiting s w = refl
 role_keeps (Producer p) a now told_by.Other s w = sent_keeps a p now
-role_keeps (Consumer c) a now told_by.Wake s w = none_after a.wake _ (woken_none a c now a.held)
+role_keeps (Consumer c) a now told_by.Wake s w = none_after a.wake _ (consumer_woke now (woken a) c a.held).stays.wake
 role_keeps (Consumer c) a now (told_by.Got gots) s w = got_keeps a c now gots
 role_keeps (Consumer c) a now told_by.Waiting s w = refl
 role_keeps (Consumer c) a now told_by.Other s w = told_keeps a c now a.last_act a.held refl

@@ -1,5 +1,5 @@
 -- A handling keeps a site's ways, sends over them alone and at least their latencies later, and its rows carry its key and its site.
-use Rattle.std.specs.Prelude.{All, Bool, Err, IfSome, List, None, Ok, Option, Result, Some, [], false, find, length, map, min, nat_lt, suc, take, drop, true, zero, ℕ, ◌&&◌, ◌%◌, ◌*◌, ◌+◌, ◌==◌, ◌∷◌, ◌≡◌, ◌≤◌}
+use Rattle.std.specs.Prelude.{All, Bool, Err, IfSome, List, None, Ok, Option, Result, Some, [], false, find, length, map, min, nat_lt, suc, take, drop, true, zero, ℕ, ◌&&◌, ◌%◌, ◌*◌, ◌+◌, ◌==◌, ◌∷◌, ◌≡◌, ◌≤◌, unwrap_or, ◌/◌}
 use Rattle.std.proofs.Common.{ap, arith, refl, subst, sym, ◌∙◌}
 use Rattle.std.proofs.lemmas.List.Elements.{All-filter, All-head, All-push, All-tail, All-take}
 use Rattle.std.specs.List.{list_any}
@@ -43,12 +43,12 @@ use Rattle.sqs_redrive.specs.declared.settings.Scope.{Scope}
 use Rattle.sqs_redrive.specs.declared.transfers.Load.{Load}
 use Rattle.sqs_redrive.specs.declared.transfers.Load.TheVariants.{Forward, Move, Redrive}
 use Rattle.sqs_redrive.specs.declared.transfers.Outbound.{Outbound}
-use Rattle.sqs_model.specs.Actor.{Actor, Asked, Ended, Served, LastAct, consumer_got, consumer_told, consumer_wake, ends_service, next, next_as, script_wake, serves, serving, wakes_after, woken}
+use Rattle.sqs_model.specs.Actor.{Actor, Asked, Beat, Ended, Failed, Served, LastAct, consumer_got, consumer_told, consumer_wake, has_come, has_failed, next, next_as, script_wake, serving, wakes_after, woken}
 use Rattle.sqs_model.specs.Acts.{Made, act_made, change_row, deleted_row, got_row, made, receive_row, runs, send_row, task_row, with_poll, all_came_back, came_back, cancel_done, cancel_made, change_answered, change_made, delete_done, delete_made, given, long_poll, receive_as, receive_made, receive_none, receive_some, redrive_by, sends, send_made, serve_made, short_poll, start_made}
 use Rattle.sqs_model.specs.Arrive.{arrived, expired_found, forwarded, forwarded_group, sent_of, settled_when}
 use Rattle.sqs_model.specs.Available.{all_available, all_hosts, available, available_at, firsts, has_host, open_from}
 use Rattle.sqs_model.specs.Calls.{change, delete, delete_as, in_flight_until, living, scope_of, send_standard, send_unless, send_with, with_message}
-use Rattle.sqs_model.specs.Draw.{Draws, drawn_chance, drawn_latency, drawn_uniform}
+use Rattle.sqs_model.specs.Draw.{Draws, drawn_latency, drawn_time}
 use Rattle.sqs_model.specs.Polls.{acts_found, acts_most, acts_next, answer_polls, answer_when, poll_given, told, without_poll}
 use Rattle.sqs_model.specs.Queue.{Entry, Queue, has_number, id_of, is_visible, numbered, room, taken_out, with_change}
 use Rattle.sqs_model.specs.Receive.{give, given_one, receive, received, timeout_of}
@@ -58,7 +58,8 @@ use Rattle.sqs_model.specs.Step.{Handled, Moved, arrival_done, arrival_rows, end
 use Rattle.sqs_model.specs.Task.{Taken, Task, destination, take_each, take_movable, taken_one}
 use Rattle.sqs_model.proofs.Answered.{change_by, delete_by, receive_by}
 use Rattle.sqs_model.proofs.Branches.{either}
-use Rattle.sqs_model.proofs.Sending.{Sends, call_sends}
+use Rattle.sqs_model.proofs.ConsumerWakes.{IsForwardBy, consumer_woke, service_sends}
+use Rattle.sqs_model.proofs.Sending.{IsForward, Sends, call_sends}
 use Rattle.sqs_model.proofs.Chosen.{open_all}
 use Rattle.sqs_model.proofs.Grouped.{all_groups}
 use Rattle.sqs_model.proofs.Counts.{all_changed, all_without, find_all}
@@ -452,6 +453,7 @@ module _ (edges : List Edge) (home : ℕ → ℕ) (leads : ℕ → ℕ → Type 
   act_goes a c (acts.Receive max wait timeout) k l h = receive_goes c.queue.settings.kind a c max wait timeout k h
   act_goes a c (acts.Delete text) k l h = delete_goes a c text (read_receipt text) h
   act_goes a c (acts.Change text timeout) k l h = change_goes a c text timeout (read_receipt text) h
+  act_goes a c (acts.Prolong text timeout) k l h = change_goes a c text (unwrap_or timeout (c.queue.settings.visibility / 1000)) (read_receipt text) h
   act_goes a c (acts.Start task) k l h = start_goes a c task (task_numbered task c) refl h
   act_goes a c (acts.Cancel task) k l h = cancel_goes a c task (task_numbered task c) refl h
   act_goes a c (acts.Serve id r failed forward) k l h = serve_goes a c id r failed forward l h
@@ -467,24 +469,23 @@ module _ (edges : List Edge) (home : ℕ → ℕ) (leads : ℕ → ℕ → Type 
   script_over a [] = record { number = refl; settings = refl; sends = tt }
   script_over a (c ∷ cs) = record { number = refl; settings = refl; sends = call_sends MaySend c.call }
 
-  serve_over : (a b : Actor) (g : Got) (o : Option Forwarding) → b.number ≡ a.number → b.settings ≡ a.settings → home a.number ≡ site → HasForwardWay edges site o → ActGoes a (serves b key.at g o)
-  serve_over a b g None n t h w = record { number = n; settings = t; sends = tt }
-  serve_over a b g (Some f) n t h w =
-      let drawn : ℕ × Draws = drawn_latency f.latency b.draws in
-      let l : f.latency.least ≤ drawn.0 = latency_least f.latency b.draws in
+  forward_fits : (to : ℕ) (load : Load) → IsForward load → ComesOver leads to load
+  forward_fits to (Redrive id origin body group enqueued) h = absurd h
+  forward_fits to (Move id origin body group) h = absurd h
+  forward_fits to (Forward id body group) h = tt
+
+  woke_over : (a : Actor) (c : ConsumerSettings) (gs : List Got) → home a.number ≡ site → HasForwardWay edges site c.forward → ActGoes a (consumer_wake (woken a) c key.at gs)
+  woke_over a c gs h w =
+      let x = consumer_woke key.at (woken a) c gs in
       record {
-        number = n;
-        settings = t;
-        sends = (record { sender = ap home n ∙ h; way = edge site f.to f.latency; there = w; from = refl; to = refl; late = omega arith }, tt);
+        number = x.stays.number;
+        settings = x.stays.settings;
+        sends = service_sends key.at (woken a) c.wait MaySend tt c.forward _ (λ f o is by. forward_goes f o (subst (HasForwardWay edges site) is w) by) x.act;
       }
-
-  ends_over : (a b : Actor) (c : ConsumerSettings) (g : Got) (x : Bool × Draws) → b.number ≡ a.number → b.settings ≡ a.settings → home a.number ≡ site → HasForwardWay edges site c.forward → ActGoes a (ends_service b c key.at g x)
-  ends_over a b c g (true, d) n t h w = record { number = n; settings = t; sends = tt }
-  ends_over a b c g (false, d) n t h w = serve_over a (record b { last_act = Served g.receipt; draws = d }) g c.forward n t h w
-
-  woke_over : (a b : Actor) (c : ConsumerSettings) (gs : List Got) → b.number ≡ a.number → b.settings ≡ a.settings → home a.number ≡ site → HasForwardWay edges site c.forward → ActGoes a (consumer_wake b c key.at gs)
-  woke_over a b c [] n t h w = record { number = n; settings = t; sends = tt }
-  woke_over a b c (g ∷ gs) n t h w = ends_over a (record b { held = gs }) c g (drawn_chance c.fail_permille b.draws) n t h w
+    where
+      forward_goes : (f : Forwarding) (o : Outbound) → HasForwardWay edges site (Some f) → IsForwardBy key.at (woken a) f o → MaySend (Some o)
+      forward_goes f o there by =
+          (record { sender = ap home by.sender ∙ h; way = edge site f.to f.latency; there = there; from = refl; to = sym by.to; late = by.late }, forward_fits o.to o.load by.load)
 
   serving_same : (a : Actor) (c : ConsumerSettings) (gs : List Got) → ActGoes a (acts.Nothing, serving a c key.at gs)
   serving_same a c [] = record { number = refl; settings = refl; sends = tt }
@@ -492,25 +493,32 @@ module _ (edges : List Edge) (home : ℕ → ℕ) (leads : ℕ → ℕ → Type 
 
   got_over : (a : Actor) (c : ConsumerSettings) (gs : List Got) → ActGoes a (consumer_got a c key.at gs)
   got_over a c [] = record { number = refl; settings = refl; sends = tt }
-  got_over a c (g ∷ gs) = serving_same a c (g ∷ gs)
+  got_over a c (g ∷ gs) = record { number = refl; settings = refl; sends = tt }
+
+  failed_over : (a : Actor) (c : ConsumerSettings) (gs : List Got) → ActGoes a (has_failed a c key.at gs)
+  failed_over a c [] = serving_same a c a.held
+  failed_over a c (g ∷ gs) = record { number = refl; settings = refl; sends = tt }
 
   told_over : (a : Actor) (c : ConsumerSettings) (s : LastAct) → ActGoes a (consumer_told a c key.at s)
   told_over a c Asked = record { number = refl; settings = refl; sends = tt }
   told_over a c (Served r) = record { number = refl; settings = refl; sends = tt }
   told_over a c Ended = serving_same a c a.held
+  told_over a c Failed = failed_over a c a.failed
+  told_over a c Beat = record { number = refl; settings = refl; sends = tt }
 
   as_over : (r : Role) (a : Actor) (w : Answer) → home a.number ≡ site → HasRoleWay edges site r → ActGoes a (next_as r a key.at w)
   as_over (Script script) a told_by.Wake h k = script_over a (drop a.wakes script)
   as_over (Script script) a (told_by.Got gots) h k = record { number = refl; settings = refl; sends = tt }
   as_over (Script script) a told_by.Waiting h k = record { number = refl; settings = refl; sends = tt }
   as_over (Script script) a told_by.Other h k = record { number = refl; settings = refl; sends = tt }
-  as_over (Producer p) a told_by.Wake h k = record { number = refl; settings = refl; sends = tt }
+  as_over (Producer p) a told_by.Wake h k =
+      either (ActGoes a) (has_come p.stop key.at) _ _ (record { number = refl; settings = refl; sends = tt }) (record { number = refl; settings = refl; sends = tt })
   as_over (Producer p) a (told_by.Got gots) h k = record { number = refl; settings = refl; sends = tt }
   as_over (Producer p) a told_by.Waiting h k = record { number = refl; settings = refl; sends = tt }
   as_over (Producer p) a told_by.Other h k =
-      either (ActGoes a) (nat_lt a.wakes p.count) (acts.Nothing, wakes_after a key.at (drawn_uniform p.gap_min p.gap_max a.draws)) (acts.Nothing, a)
+      either (ActGoes a) (nat_lt a.wakes p.count) (acts.Nothing, wakes_after a key.at (drawn_time p.gap a.draws)) (acts.Nothing, a)
       (record { number = refl; settings = refl; sends = tt }) (record { number = refl; settings = refl; sends = tt })
-  as_over (Consumer c) a told_by.Wake h k = woke_over a (woken a) c a.held refl refl h k
+  as_over (Consumer c) a told_by.Wake h k = woke_over a c a.held h k
   as_over (Consumer c) a (told_by.Got gots) h k = got_over a c gots
   as_over (Consumer c) a told_by.Waiting h k = record { number = refl; settings = refl; sends = tt }
   as_over (Consumer c) a told_by.Other h k = told_over a c a.last_act
@@ -535,6 +543,7 @@ module _ (edges : List Edge) (home : ℕ → ℕ) (leads : ℕ → ℕ → Type 
   next_goes more c (acts.Receive max wait timeout) a f k l h = on more a _ (acts.Receive max wait timeout) f k l (fine_actor c a h k)
   next_goes more c (acts.Delete text) a f k l h = on more a _ (acts.Delete text) f k l (fine_actor c a h k)
   next_goes more c (acts.Change text timeout) a f k l h = on more a _ (acts.Change text timeout) f k l (fine_actor c a h k)
+  next_goes more c (acts.Prolong text timeout) a f k l h = on more a _ (acts.Prolong text timeout) f k l (fine_actor c a h k)
   next_goes more c (acts.Start task) a f k l h = on more a _ (acts.Start task) f k l (fine_actor c a h k)
   next_goes more c (acts.Cancel task) a f k l h = on more a _ (acts.Cancel task) f k l (fine_actor c a h k)
   next_goes more c (acts.Serve id r failed forward) a f k l h = on more a _ (acts.Serve id r failed forward) f k l (fine_actor c a h k)

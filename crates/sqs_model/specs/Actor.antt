@@ -1,6 +1,7 @@
 -- Scripts, producers and consumers: what an actor does next, and when it wakes.
 use Rattle.std.specs.Fmt.{decimal}
-use Rattle.std.specs.Prelude.{Bool, List, None, Option, Some, [], drop, false, if◌then◌else◌, max, nat_lt, true, ℕ, ◌%◌, ◌++◌, ◌+◌, ◌∷◌}
+use Rattle.std.specs.Prelude.{Bool, List, None, Option, Some, [], drop, false, get_or, if◌then◌else◌, length, max, min, nat_le, nat_lt, take, true, ℕ, ◌%◌, ◌&&◌, ◌++◌, ◌+◌, ◌-◌, ◌||◌, ◌∷◌}
+use Rattle.std.specs.Str.{bytes_eq}
 use Rattle.sqs_message.specs.declared.calls.Call.{Call}
 use Rattle.sqs_message.specs.declared.calls.ScriptCall.{ScriptCall}
 use Rattle.sqs_message.specs.declared.ids.Receipt.{Receipt}
@@ -9,30 +10,41 @@ use Rattle.sqs_model.specs.declared.acts.Answer.{Answer}
 use Rattle.sqs_model.specs.declared.agents.ActorSettings.{ActorSettings}
 use Rattle.sqs_model.specs.declared.agents.ConsumerSettings.{ConsumerSettings}
 use Rattle.sqs_model.specs.declared.agents.Forwarding.{Forwarding}
+use Rattle.sqs_model.specs.declared.agents.Groups.{Groups}
+use Rattle.sqs_model.specs.declared.agents.Groups.TheVariants.{ByWeight, InTurn}
 use Rattle.sqs_model.specs.declared.agents.ProducerSettings.{ProducerSettings}
 use Rattle.sqs_model.specs.declared.agents.Role.{Role}
+use Rattle.sqs_model.specs.declared.agents.Stretch.{Stretch}
 use Rattle.sqs_model.specs.declared.agents.Role.TheVariants.{Consumer, Producer, Script}
 use Rattle.sqs_redrive.specs.declared.answers.Got.{Got}
 use Rattle.sqs_redrive.specs.declared.transfers.Outbound.{Outbound}
 use Rattle.sqs_message.specs.Ids.{receipt_text}
 use Rattle.sqs_model.specs.Marks.{has_mark}
-use Rattle.sqs_model.specs.Draw.{Draws, drawn_chance, drawn_latency, drawn_uniform}
+use Rattle.sqs_model.specs.Draw.{Draws, drawn_chance, drawn_group, drawn_latency, drawn_time}
 use Rattle.sqs_model.specs.declared.acts.Act.TheVariants as acts
 use Rattle.sqs_message.specs.declared.calls.Call.TheVariants as calls
 use Rattle.sqs_redrive.specs.declared.transfers.Load.TheVariants as loads
 use Rattle.sqs_model.specs.declared.acts.Answer.TheVariants as told_by
 
--- what a consumer did last: it asked for messages, served one, or ended a service
+-- what a consumer did last: it asked for messages, served one, ended a service or did what follows one, failed to serve
+-- one, or set a visibility timeout anew while it serves
 pub data LastAct : Type 0 where
   Asked : LastAct
   Served : Receipt → LastAct
   Ended : LastAct
+  Failed : LastAct
+  Beat : LastAct
 
--- an actor: the messages that it holds and has not served; its numbers of wakes, waiting polls and transfers; its draws
+-- an actor: the messages that it holds and has not served; those that it served and will delete when all of their
+-- receive are served; those whose timeouts it will change since a service failed; when the service ends; its numbers of
+-- wakes, waiting polls and transfers; its draws
 pub record Actor : Type 0 where
   pub number : ℕ
   pub settings : ActorSettings
   pub held : List Got
+  pub done : List Got
+  pub failed : List Got
+  pub ends : ℕ
   pub last_act : LastAct
   pub wake : Option ℕ
   pub wakes : ℕ
@@ -74,19 +86,34 @@ filled n (a ∷ (b ∷ (c ∷ rest))) =
       | false ↦ a ∷ filled n (b ∷ (c ∷ rest))
     ]
 
--- the group of a producer's message n, as g1
-abbrev pub group_of : Option ℕ → ℕ → Option (List ℕ)
-group_of None n = None
-group_of (Some groups) n = Some (103 ∷ decimal (n % groups))
+-- a group that was drawn
+abbrev pub some_group : List ℕ × Draws → Option (List ℕ) × Draws
+some_group (group, draws) = (Some group, draws)
+
+-- the group of a producer's message n: in turn, as g1, or by weight
+abbrev pub group_of : Option Groups → ℕ → Draws → Option (List ℕ) × Draws
+group_of None n draws = (None, draws)
+group_of (Some (InTurn groups)) n draws = (Some (103 ∷ decimal (n % groups)), draws)
+group_of (Some (ByWeight groups)) n draws = some_group (drawn_group groups draws)
 
 -- the deduplication id that a producer gives its message n, as 4-17
 abbrev pub id_given : ProducerSettings → ℕ → ℕ → Option (List ℕ)
 id_given p agent n = if p.ids then Some (decimal agent ++ 45 ∷ decimal n) else None
 
--- a producer sends at each wake
-abbrev pub producer_wake : Actor → ProducerSettings → Act × Actor
-producer_wake a p =
-    (acts.Send (filled (decimal a.wakes) p.body) p.delay (group_of p.groups a.wakes) (id_given p a.number a.wakes), woken a)
+-- whether a stop, if there is one, has come
+abbrev pub has_come : Option ℕ → ℕ → Bool
+has_come None now = false
+has_come (Some stop) now = nat_le stop now
+
+-- a producer's next message, with its group
+abbrev pub producer_sends : Actor → ProducerSettings → Option (List ℕ) × Draws → Act × Actor
+producer_sends a p (group, draws) =
+    (acts.Send (filled (decimal a.wakes) p.body) p.delay group (id_given p a.number a.wakes), record (woken a) { draws = draws })
+
+-- a producer sends at each wake, until it stops
+abbrev pub producer_wake : Actor → ProducerSettings → ℕ → Act × Actor
+producer_wake a p now =
+    if has_come p.stop now then (acts.Nothing, woken a) else producer_sends a p (group_of p.groups a.wakes a.draws)
 
 -- an actor that wakes after a time drawn
 abbrev pub wakes_after : Actor → ℕ → ℕ × Draws → Actor
@@ -95,13 +122,25 @@ wakes_after a now (gap, draws) = record a { wake = Some (now + gap); draws = dra
 -- after its send a producer wakes again, while there is a message to send
 abbrev pub producer_sent : Actor → ProducerSettings → ℕ → Act × Actor
 producer_sent a p now =
-    if nat_lt a.wakes p.count then (acts.Nothing, wakes_after a now (drawn_uniform p.gap_min p.gap_max a.draws)) else (acts.Nothing, a)
+    if nat_lt a.wakes p.count then (acts.Nothing, wakes_after a now (drawn_time p.gap a.draws)) else (acts.Nothing, a)
+
+-- a service goes on to its end, or to the heartbeat before it
+abbrev pub next_beat : Option ℕ → ℕ → ℕ → ℕ
+next_beat None now ends = ends
+next_beat (Some every) now ends = min ends (now + every)
+
+-- a consumer that serves wakes then, and never at once
+abbrev pub in_service : Actor → ConsumerSettings → ℕ → Actor
+in_service a c now = record a { wake = Some (max (now + 1) (next_beat c.heartbeat now a.ends)) }
+
+-- a consumer that begins a service, whose time was drawn
+abbrev pub begins : Actor → ConsumerSettings → ℕ → ℕ × Draws → Actor
+begins a c now (time, draws) = in_service (record a { ends = now + time; draws = draws }) c now
 
 -- a consumer that serves the first of the messages that it holds; without any it wakes 1 ms later
 abbrev pub serving : Actor → ConsumerSettings → ℕ → List Got → Actor
 serving a c now [] = record a { held = []; wake = Some (now + 1) }
-serving a c now (g ∷ gs) =
-    wakes_after (record a { held = g ∷ gs }) now (drawn_uniform c.service_min c.service_max a.draws)
+serving a c now (g ∷ gs) = begins (record a { held = g ∷ gs }) c now (drawn_time c.service a.draws)
 
 -- a consumer that rests
 abbrev pub idle : Actor → ConsumerSettings → ℕ → Act × Actor
@@ -122,26 +161,121 @@ abbrev pub serves : Actor → ℕ → Got → Option Forwarding → Act × Actor
 serves a now g None = (acts.Serve g.id g.receipt false None, a)
 serves a now g (Some f) = forwards a now g f.to (drawn_latency f.latency a.draws)
 
--- the end of a service, which fails or not by a draw
-abbrev pub ends_service : Actor → ConsumerSettings → ℕ → Got → Bool × Draws → Act × Actor
-ends_service a c now g (true, draws) = (acts.Serve g.id g.receipt true None, record a { last_act = Ended; draws = draws })
-ends_service a c now g (false, draws) = serves (record a { last_act = Served g.receipt; draws = draws }) now g c.forward
+-- whether a body contains a text
+abbrev pub contains : List ℕ → List ℕ → Bool
+contains part [] = bytes_eq [] part
+contains part (a ∷ rest) = bytes_eq part (take (length part) (a ∷ rest)) || contains part rest
 
--- a consumer that wakes with nothing held asks for messages; else the service of the first ends
+-- whether a message is one that a consumer fails to serve
+abbrev pub is_poison : Option (List ℕ) → List ℕ → Bool
+is_poison None body = false
+is_poison (Some part) body = contains part body
+
+-- whether a dependency is down
+abbrev pub is_down : Option Stretch → ℕ → Bool
+is_down None now = false
+is_down (Some outage) now = nat_le outage.from now && nat_lt now outage.to
+
+-- a consumer that does nothing more of a failed service; if its receives fail as a whole, it lets all of this one go
+abbrev pub lets_go : Bool → Actor → Actor
+lets_go false a = a
+lets_go true a = record a { held = []; done = [] }
+
+-- one that will change the timeout of the message; if its receives fail as a whole, those of all messages of this one
+abbrev pub will_back_off : Bool → Actor → Got → Actor
+will_back_off false a g = record a { done = []; failed = a.failed ++ (a.done ++ g ∷ []) }
+will_back_off true a g = record a { held = []; done = []; failed = a.failed ++ (a.done ++ g ∷ a.held) }
+
+-- a consumer after a failed service, by its timeouts
+abbrev pub after_failure : List ℕ → ConsumerSettings → Actor → Got → Actor
+after_failure [] c a g = lets_go c.whole a
+after_failure (s ∷ timeouts) c a g = will_back_off c.whole a g
+
+-- the end of a service that failed
+abbrev pub fails_service : Actor → ConsumerSettings → Got → Act × Actor
+fails_service a c g = (acts.Serve g.id g.receipt true None, record (after_failure c.backoff c a g) { last_act = Failed })
+
+-- the first of the messages that were served is forwarded and then deleted
+abbrev pub settles : Actor → ConsumerSettings → ℕ → Got → List Got → Act × Actor
+settles a c now g gs = serves (record a { done = gs; last_act = Served g.receipt }) now g c.forward
+
+-- a message of a receive was served well, and others of it are to be served
+abbrev pub served_one : Actor → Got → Act × Actor
+served_one a g = (acts.Serve g.id g.receipt false None, record a { done = a.done ++ g ∷ []; last_act = Ended })
+
+-- the last message of a receive was served well
+abbrev pub served_all : Actor → ConsumerSettings → ℕ → List Got → Act × Actor
+served_all a c now [] = (acts.Nothing, a)
+served_all a c now (g ∷ gs) = settles a c now g gs
+
+-- the end of a service that ended well, of a consumer whose receives end well as a whole or not
+abbrev pub ends_well : Bool → Actor → ConsumerSettings → ℕ → Got → List Got → Act × Actor
+ends_well false a c now g gs = serves (record a { last_act = Served g.receipt }) now g c.forward
+ends_well true a c now g [] = served_all a c now (a.done ++ g ∷ [])
+ends_well true a c now g (h ∷ hs) = served_one a g
+
+-- the end of the service of the first message held, which fails or not
+abbrev pub ends_service : Actor → ConsumerSettings → ℕ → Got → Bool → Act × Actor
+ends_service a c now g true = fails_service a c g
+ends_service a c now g false = ends_well c.whole a c now g a.held
+
+-- whether a service fails: by chance, by its message, or since a dependency is down
+abbrev pub fails : ConsumerSettings → ℕ → Got → Bool → Bool
+fails c now g by_chance = by_chance || is_poison c.fails_on g.body || is_down c.outage now
+
+-- the end of the service of the first message held, after a draw
+abbrev pub ends_drawn : Actor → ConsumerSettings → ℕ → Got → Bool × Draws → Act × Actor
+ends_drawn a c now g (by_chance, draws) = ends_service (record a { draws = draws }) c now g (fails c now g by_chance)
+
+-- whether a service goes on, of a consumer that has a heartbeat
+abbrev pub goes_on : Option ℕ → ℕ → ℕ → Bool
+goes_on None ends now = false
+goes_on (Some every) ends now = nat_lt now ends
+
+-- the timeout that follows a failed service: the entry of the receive, or else the last
+abbrev pub backoff_at : List ℕ → ℕ → ℕ
+backoff_at timeouts count = get_or timeouts (min count (length timeouts) - 1) 0
+
+-- the first of the messages of a failed service gets another visibility timeout
+abbrev pub backs_off : Actor → ConsumerSettings → Got → List Got → Act × Actor
+backs_off a c g gs =
+    (acts.Change (receipt_text g.receipt) (backoff_at c.backoff g.receipt.count), record a { failed = gs; last_act = Ended })
+
+-- a consumer that holds nothing to serve changes a timeout, deletes a message, or asks for messages until it stops
+abbrev pub rests : Actor → ConsumerSettings → ℕ → List Got → List Got → Act × Actor
+rests a c now (g ∷ gs) done = backs_off a c g gs
+rests a c now [] (g ∷ gs) = settles a c now g gs
+rests a c now [] [] =
+    if has_come c.stop now then (acts.Nothing, a) else (acts.Receive c.batch c.wait c.timeout, record a { last_act = Asked })
+
+-- a consumer that wakes while it serves sets the timeout of the message anew, or the service ends
+abbrev pub serves_on : Actor → ConsumerSettings → ℕ → Got → List Got → Act × Actor
+serves_on a c now g gs =
+    if goes_on c.heartbeat a.ends now then (acts.Prolong (receipt_text g.receipt) c.timeout, record a { last_act = Beat })
+    else ends_drawn (record a { held = gs }) c now g (drawn_chance c.fail_permille a.draws)
+
+-- a consumer that wakes
 abbrev pub consumer_wake : Actor → ConsumerSettings → ℕ → List Got → Act × Actor
-consumer_wake a c now [] = (acts.Receive c.batch c.wait c.timeout, record a { last_act = Asked })
-consumer_wake a c now (g ∷ gs) = ends_service (record a { held = gs }) c now g (drawn_chance c.fail_permille a.draws)
+consumer_wake a c now [] = rests a c now a.failed a.done
+consumer_wake a c now (g ∷ gs) = serves_on a c now g gs
 
 -- a consumer that got messages serves the first; without any it rests
 abbrev pub consumer_got : Actor → ConsumerSettings → ℕ → List Got → Act × Actor
 consumer_got a c now [] = idle a c now
-consumer_got a c now (g ∷ gs) = (acts.Nothing, serving a c now (g ∷ gs))
+consumer_got a c now (g ∷ gs) = (acts.Nothing, serving (record a { done = []; failed = [] }) c now (g ∷ gs))
+
+-- after a failed service the first of its messages gets another timeout, if it is to have one
+abbrev pub has_failed : Actor → ConsumerSettings → ℕ → List Got → Act × Actor
+has_failed a c now [] = (acts.Nothing, serving a c now a.held)
+has_failed a c now (g ∷ gs) = backs_off a c g gs
 
 -- after a refused receive a consumer waits; a message served is deleted; after a service comes the next one
 abbrev pub consumer_told : Actor → ConsumerSettings → ℕ → LastAct → Act × Actor
 consumer_told a c now Asked = idle a c now
 consumer_told a c now (Served receipt) = (acts.Delete (receipt_text receipt), record a { last_act = Ended })
 consumer_told a c now Ended = (acts.Nothing, serving a c now a.held)
+consumer_told a c now Failed = has_failed a c now a.failed
+consumer_told a c now Beat = (acts.Nothing, in_service a c now)
 
 -- what an actor of a role does when it gets an answer
 abbrev pub next_as : Role → Actor → ℕ → Answer → Act × Actor
@@ -149,7 +283,7 @@ next_as (Script script) a now told_by.Wake = script_wake a (drop a.wakes script)
 next_as (Script script) a now (told_by.Got gots) = (acts.Nothing, a)
 next_as (Script script) a now told_by.Waiting = (acts.Nothing, a)
 next_as (Script script) a now told_by.Other = (acts.Nothing, a)
-next_as (Producer p) a now told_by.Wake = producer_wake a p
+next_as (Producer p) a now told_by.Wake = producer_wake a p now
 next_as (Producer p) a now (told_by.Got gots) = (acts.Nothing, a)
 next_as (Producer p) a now told_by.Waiting = (acts.Nothing, a)
 next_as (Producer p) a now told_by.Other = producer_sent a p now

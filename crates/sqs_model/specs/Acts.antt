@@ -1,6 +1,6 @@
 -- What an actor's acts do at its site, with the rows that they make.
 use Rattle.std.specs.List.{list_any, range_with_len}
-use Rattle.std.specs.Prelude.{Bool, Err, List, None, Ok, Option, Result, Some, [], false, if◌then◌else◌, map, max, nat_lt, sum, true, ℕ, ◌%◌, ◌*◌, ◌++◌, ◌+◌, ◌-◌, ◌==◌, ◌^◌, ◌∷◌}
+use Rattle.std.specs.Prelude.{Bool, Err, List, None, Ok, Option, Result, Some, [], false, if◌then◌else◌, map, max, nat_lt, sum, true, unwrap_or, ℕ, ◌%◌, ◌*◌, ◌++◌, ◌+◌, ◌-◌, ◌/◌, ◌==◌, ◌^◌, ◌∷◌}
 use Rattle.sim_clock.specs.declared.key.Key.{Key}
 use Rattle.sim_clock.specs.declared.refusal.Refusal.{Refusal}
 use Rattle.sqs_message.specs.declared.ids.MessageId.{MessageId}
@@ -246,6 +246,8 @@ act_made key a c (acts.Send body delay group id) =
 act_made key a c (acts.Receive max wait timeout) = receive_as c.queue.settings.kind key a c max wait timeout
 act_made key a c (acts.Delete text) = delete_made key a c text (read_receipt text)
 act_made key a c (acts.Change text timeout) = change_made key a c text timeout (read_receipt text)
+act_made key a c (acts.Prolong text timeout) =
+    change_made key a c text (unwrap_or timeout (c.queue.settings.visibility / 1000)) (read_receipt text)
 act_made key a c (acts.Start task) = start_made key a c task (task_numbered task c)
 act_made key a c (acts.Cancel task) = cancel_made key a c task (task_numbered task c)
 act_made key a c (acts.Serve id receipt failed forward) = serve_made key a c id receipt failed forward

@@ -6,6 +6,8 @@ pub use Rattle.sim_engine.specs.Members.{Ascends, count_due}
 use Rattle.sqs_model.specs.declared.agents.Forwarding.{Forwarding}
 use Rattle.sqs_model.specs.declared.agents.Role.{Role}
 use Rattle.sqs_model.specs.declared.agents.Role.TheVariants.{Consumer, Producer, Script}
+use Rattle.sqs_model.specs.declared.agents.Distribution.{Distribution}
+use Rattle.sqs_model.specs.declared.agents.Distribution.TheVariants.{Quantiles, Uniform}
 use Rattle.sqs_redrive.specs.declared.settings.Latency.{Latency}
 use Rattle.sqs_redrive.specs.declared.settings.Policy.{Policy}
 use Rattle.sqs_redrive.specs.declared.settings.QueueSettings.{QueueSettings}
@@ -44,11 +46,16 @@ pub record IsSoundSettings (s : QueueSettings) : Type 0 where
   pub retention : 1 ≤ s.retention
   pub policy : IsSoundPolicy s.policy
 
+-- a distribution of times of a millisecond at least
+abbrev pub IsSoundDistribution : Distribution → Type 0
+IsSoundDistribution (Uniform low high) = 1 ≤ low
+IsSoundDistribution (Quantiles quantiles) = All (λ q. 1 ≤ q.time) quantiles
+
 -- a script's calls have ascending times, and an actor that wakes by a draw or after a rest does so later
 abbrev pub IsSoundRole : Role → Type 0
 IsSoundRole (Script script) = Ascends (λ c. c.at) 0 script
-IsSoundRole (Producer p) = 1 ≤ p.gap_min
-IsSoundRole (Consumer c) = (1 ≤ c.service_min) × (1 ≤ c.idle) × IsSoundForward c.forward
+IsSoundRole (Producer p) = IsSoundDistribution p.gap
+IsSoundRole (Consumer c) = IsSoundDistribution c.service × (1 ≤ c.idle) × IsSoundForward c.forward
 
 -- a scenario in which time moves on
 pub record IsSoundScenario (s : Scenario) : Type 0 where

@@ -1,8 +1,14 @@
 -- The ranges of settings. Times are milliseconds.
-use Rattle.std.specs.Prelude.{None, Option, Some, ℕ, ◌*◌, ◌≤◌}
+use Rattle.std.specs.Prelude.{All, List, None, Option, Some, [], length, ℕ, ◌*◌, ◌<◌, ◌≤◌, ◌∷◌}
 use Rattle.sqs_model.specs.declared.agents.ConsumerSettings.{ConsumerSettings}
 use Rattle.sqs_model.specs.declared.agents.Forwarding.{Forwarding}
+use Rattle.sqs_model.specs.declared.agents.Groups.{Groups}
+use Rattle.sqs_model.specs.declared.agents.Groups.TheVariants.{ByWeight, InTurn}
 use Rattle.sqs_model.specs.declared.agents.ProducerSettings.{ProducerSettings}
+use Rattle.sqs_model.specs.declared.agents.Quantile.{Quantile}
+use Rattle.sqs_model.specs.declared.agents.Distribution.{Distribution}
+use Rattle.sqs_model.specs.declared.agents.Distribution.TheVariants.{Quantiles, Uniform}
+use Rattle.sqs_model.specs.declared.agents.WeightedGroup.{WeightedGroup}
 use Rattle.sqs_redrive.specs.declared.settings.Kind.{Kind}
 use Rattle.sqs_redrive.specs.declared.settings.Kind.TheVariants.{Fifo, Standard}
 use Rattle.sqs_redrive.specs.declared.settings.Latency.{Latency}
@@ -56,13 +62,60 @@ pub record IsQueueSettings (s : QueueSettings) : Type 0 where
   pub limit : Between 1 120000 s.in_flight_limit
   pub policy : MayBePolicy s.policy
 
+-- a quantile after another one: its permille is greater, its time no less
+abbrev pub Follows : Quantile → Quantile → Type 0
+Follows p q = (p.permille < q.permille) × (p.time ≤ q.time)
+
+-- whether each quantile follows the one before
+abbrev pub AreAscending : Quantile → List Quantile → Type 0
+AreAscending p [] = Unit {0}
+AreAscending p (q ∷ qs) = Follows p q × AreAscending q qs
+
+-- whether quantiles ascend
+abbrev pub AscendsAll : List Quantile → Type 0
+AscendsAll [] = Unit {0}
+AscendsAll (q ∷ qs) = AreAscending q qs
+
+-- 2 to 32 quantiles of 1 ms to a day, from 0 to 1,000 in a thousand
+pub record AreQuantiles (qs : List Quantile) : Type 0 where
+  pub count : Between 2 32 (length qs)
+  pub times : All (λ q. Between 1 86400000 q.time) qs
+  pub permilles : All (λ q. q.permille ≤ 1000) qs
+  pub ascending : AscendsAll qs
+
+-- a distribution of times of 1 ms to a day
+abbrev pub IsDistribution : Distribution → Type 0
+IsDistribution (Uniform low high) = (1 ≤ low) × (low ≤ high) × (high ≤ 86400000)
+IsDistribution (Quantiles quantiles) = AreQuantiles quantiles
+
+-- a time within the longest run, if there is one
+abbrev pub MayBeMoment : Option ℕ → Type 0
+MayBeMoment None = Unit {0}
+MayBeMoment (Some at) = at ≤ 2592000000
+
+-- 1 to 100 groups of 1 to 128 bytes, each of a weight from 1 to 1,000,000
+pub record AreWeighted (gs : List WeightedGroup) : Type 0 where
+  pub count : Between 1 100 (length gs)
+  pub groups : All (λ g. Between 1 128 (length g.group)) gs
+  pub weights : All (λ g. Between 1 1000000 g.weight) gs
+
+-- 1 to 1,000 groups in turn, or groups by weight
+abbrev pub AreGroups : Groups → Type 0
+AreGroups (InTurn groups) = Between 1 1000 groups
+AreGroups (ByWeight groups) = AreWeighted groups
+
+-- groups, if there are any
+abbrev pub MayBeGroups : Option Groups → Type 0
+MayBeGroups None = Unit {0}
+MayBeGroups (Some groups) = AreGroups groups
+
 -- a producer of 1 to 1,000,000 messages
 pub record IsProducer (p : ProducerSettings) : Type 0 where
   pub count : Between 1 1000000 p.count
   pub start : p.start ≤ 2592000000
-  pub gap_min : 1 ≤ p.gap_min
-  pub ordered : p.gap_min ≤ p.gap_max
-  pub gap_max : p.gap_max ≤ 86400000
+  pub gap : IsDistribution p.gap
+  pub groups : MayBeGroups p.groups
+  pub stop : MayBeMoment p.stop
 
 -- a forward, if there is one
 abbrev pub MayBeForward : Option Forwarding → Type 0
@@ -74,18 +127,24 @@ abbrev pub MayBeTimeout : Option ℕ → Type 0
 MayBeTimeout None = Unit {0}
 MayBeTimeout (Some s) = s ≤ longest_timeout
 
+-- a heartbeat of 1 second to 12 hours, if there is one
+abbrev pub MayBeHeartbeat : Option ℕ → Type 0
+MayBeHeartbeat None = Unit {0}
+MayBeHeartbeat (Some every) = Between 1000 (1000 * longest_timeout) every
+
 -- a consumer that asks for 1 to 10 messages and waits for at most 20 seconds
 pub record IsConsumer (c : ConsumerSettings) : Type 0 where
   pub start : c.start ≤ 2592000000
   pub batch : Between 1 10 c.batch
   pub wait : c.wait ≤ 20
   pub timeout : MayBeTimeout c.timeout
-  pub service_min : 1 ≤ c.service_min
-  pub ordered : c.service_min ≤ c.service_max
-  pub service_max : c.service_max ≤ 86400000
+  pub service : IsDistribution c.service
   pub failures : c.fail_permille ≤ 1000
   pub idle : Between 1 86400000 c.idle
   pub forward : MayBeForward c.forward
+  pub stop : MayBeMoment c.stop
+  pub backoff : All (λ s. s ≤ longest_timeout) c.backoff
+  pub heartbeat : MayBeHeartbeat c.heartbeat
 
 -- a move task of 1 to 500 messages a second
 pub record IsTaskSettings (t : TaskSettings) : Type 0 where

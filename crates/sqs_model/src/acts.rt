@@ -36,6 +36,11 @@ pub enum Act {
         receipt: ReceiptHandle,
         timeout: u64,
     },
+    /// A change whose timeout is that of the queue if none is given.
+    Prolong {
+        receipt: ReceiptHandle,
+        timeout: Option<u64>,
+    },
     Start {
         task: u32,
     },

@@ -1,6 +1,46 @@
 //! Settings of actors.
-use sqs_message::{Script, Text};
+use sqs_message::{Listed, Script, Text};
 use sqs_redrive::Latency;
+
+/// A point of a distribution of times: so many times in a thousand are below this one.
+#[derive(Clone, Copy, Debug, PartialEq, Eq)]
+pub struct Quantile {
+    pub permille: u64,
+    /// In milliseconds.
+    pub time: u64,
+}
+
+/// How long something takes, by one random word.
+#[derive(Drop)]
+pub enum Distribution {
+    /// From the one to the other, in milliseconds, each time with the same chance.
+    Uniform(u64, u64),
+    /// By quantiles from 0 to 1,000 in a thousand; linear from each to the next.
+    Quantiles(Listed<Quantile>),
+}
+
+/// A group of messages, with its weight among others.
+#[derive(Drop)]
+pub struct WeightedGroup {
+    pub group: Text,
+    pub weight: u64,
+}
+
+/// The groups to which a producer sends.
+#[derive(Drop)]
+pub enum Groups {
+    /// So many groups in turn: g0, g1 and so on.
+    InTurn(u64),
+    /// One of these for each message, by one random word; each is as likely as its weight says.
+    ByWeight(Listed<WeightedGroup>),
+}
+
+/// A stretch of time, in milliseconds from the start of the run, whose end is not in it.
+#[derive(Clone, Copy, Debug, PartialEq, Eq)]
+pub struct Stretch {
+    pub from: u64,
+    pub to: u64,
+}
 
 /// Settings of a producer, which sends messages of its own. Times are milliseconds, but the delay
 /// is in seconds.
@@ -10,18 +50,18 @@ pub struct ProducerSettings {
     pub count: u64,
     /// When it sends the first message.
     pub start: u64,
-    /// The least time from one send to the next.
-    pub gap_min: u64,
-    /// The greatest time from one send to the next.
-    pub gap_max: u64,
+    /// The time from one send to the next.
+    pub gap: Distribution,
     /// The body. Each `{n}` in it is replaced by the message's number, from 0.
     pub body: Text,
-    /// The number of groups to which it sends in turn; only if its queue is FIFO.
-    pub groups: Option<u64>,
+    /// The groups to which it sends; only if its queue is FIFO.
+    pub groups: Option<Groups>,
     /// Whether it gives a deduplication id; only if its queue is FIFO.
     pub ids: bool,
     /// The message timer in seconds, if any; only if its queue is standard.
     pub delay: Option<u64>,
+    /// From when on it sends nothing.
+    pub stop: Option<u64>,
 }
 
 /// The queue to which a consumer forwards what it served.
@@ -34,7 +74,7 @@ pub struct Forwarding {
 
 /// Settings of a consumer, which receives, serves and deletes messages. Times are milliseconds, but
 /// wait and timeout are in seconds.
-#[derive(Clone, Copy, Debug, PartialEq, Eq)]
+#[derive(Drop)]
 pub struct ConsumerSettings {
     /// When it first receives.
     pub start: u64,
@@ -44,15 +84,26 @@ pub struct ConsumerSettings {
     pub wait: u64,
     /// The visibility timeout that it asks for; none for the queue's.
     pub timeout: Option<u64>,
-    /// The least time that it serves a message.
-    pub service_min: u64,
-    /// The greatest time that it serves a message.
-    pub service_max: u64,
+    /// The time that it serves a message.
+    pub service: Distribution,
     /// The number of services in a thousand that fail.
     pub fail_permille: u64,
     /// How long it waits after it got nothing.
     pub idle: u64,
     pub forward: Option<Forwarding>,
+    /// From when on it asks for nothing.
+    pub stop: Option<u64>,
+    /// The text that makes a service fail if the message's body contains it.
+    pub fails_on: Option<Text>,
+    /// When each service that ends fails, as while a dependency is down.
+    pub outage: Option<Stretch>,
+    /// Whether a failed service fails all messages of its receive.
+    pub whole: bool,
+    /// The visibility timeouts in seconds that follow a failed service, by the message's receive
+    /// count; none if the message's timeout is left as it is.
+    pub backoff: Listed<u64>,
+    /// How often the visibility timeout of the message in service is set anew.
+    pub heartbeat: Option<u64>,
 }
 
 /// The kind of an actor, with what it does.

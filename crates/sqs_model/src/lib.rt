@@ -11,7 +11,10 @@ mod limits;
 mod marks;
 
 pub use acts::{Act, Answer};
-pub use agents::{ActorSettings, ConsumerSettings, Forwarding, ProducerSettings, Role};
+pub use agents::{
+    ActorSettings, ConsumerSettings, Distribution, Forwarding, Groups, ProducerSettings, Quantile,
+    Role, Stretch, WeightedGroup,
+};
 pub use finals::{
     FinalMessage, FinalMessages, FinalTask, FinalTasks, FinalTransfer, FinalTransfers, Finals,
     TransferKind,

@@ -5,7 +5,7 @@ use Rattle.sim_clock.specs.declared.refusal.Refusal.{Refusal}
 use Rattle.sim_exchange.specs.Layout.{is_layout}
 use Rattle.sim_scenario.specs.Gives.{Fails}
 use Rattle.sim_scenario.specs.declared.fault.ReadError.{ReadError}
-use Rattle.sqs_formats.specs.Scenario.{scenario_of}
+use Rattle.sqs_formats.specs.Scenario.{scenario_upto}
 use Rattle.sqs_model.specs.Scenario.{Scenario, least_latency}
 use Rattle.sqs_rehearsal.specs.Rehearsals.{Bars, Request, Stated, fault_of_reading}
 use Rattle.sqs_rehearsal.specs.Options.{IsUnsplit, Options, is_within, layout_of, or_else, split_fault, window_fault, workers_fault}

@@ -7,7 +7,7 @@ use Rattle.sim_report.specs.declared.queue.QueueCounts.{QueueCounts}
 use Rattle.sim_scenario.specs.Ranges.{IsInRange}
 use Rattle.sqs_formats.specs.Output.{ending_of, log_of}
 use Rattle.sqs_formats.specs.Rows.{line, log_header}
-use Rattle.sqs_formats.specs.Scenario.{scenario_of}
+use Rattle.sqs_formats.specs.Scenario.{scenario_upto}
 use Rattle.sqs_model.specs.Run.{IsRunOf, Run}
 use Rattle.sqs_model.specs.Scenario.{Scenario}
 use Rattle.sqs_model.specs.Site.{Site}
@@ -22,7 +22,7 @@ use Rattle.sqs_rehearsal.specs.declared.rehearsal.Fault.TheVariants as faults
 use Rattle.sim_clock.specs.declared.refusal.Refusal.TheVariants as refusals
 
 -- a scenario that a request states, which is to be split as it asks
-module _ (q : Request) (x : Scenario) (stated : scenario_of q.scripts q.text ≡ Ok x) (o : Options) (asked : q.options ≡ o) where
+module _ (q : Request) (x : Scenario) (stated : scenario_upto q.newest q.scripts q.text ≡ Ok x) (o : Options) (asked : q.options ≡ o) where
   -- it can't be split so
   pub refused_splitting : (log report : Writer) (e : Refusal) → IsUnsplit x o e → IsUnwritten log report → IsRefused q log report (faults.Refused e)
   refused_splitting log report e unsplit none =

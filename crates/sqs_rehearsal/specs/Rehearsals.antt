@@ -3,7 +3,7 @@ use Rattle.std.specs.Prelude.{Bool, Err, List, None, Ok, Some, false, true, ℕ,
 use Rattle.sim_clock.specs.declared.refusal.Refusal.{Refusal}
 use Rattle.sqs_formats.specs.Output.{ending_of, log_of}
 use Rattle.sqs_formats.specs.Rows.{line, log_header}
-use Rattle.sqs_formats.specs.Scenario.{scenario_of}
+use Rattle.sqs_formats.specs.Scenario.{released, scenario_upto}
 use Rattle.sqs_model.specs.Accounts.{EachHasOnePlace, NoOtherHasPlace}
 use Rattle.sqs_model.specs.Limits.{IsOver}
 use Rattle.sqs_model.specs.Run.{IsRunOf, Run}
@@ -16,21 +16,27 @@ use Rattle.sim_clock.specs.declared.refusal.Refusal.TheVariants as refusals
 use Rattle.sim_scenario.specs.declared.fault.ReadError.TheVariants as errors
 use Rattle.sqs_rehearsal.specs.declared.rehearsal.Fault.TheVariants as faults
 
--- what was asked for: the scenario's text with its scripts by their names, and how the run is split
+-- what was asked for: the newest version that may be read, the scenario's text with its scripts by their names, and how
+-- the run is split
 pub record Request : Type 0 where
+  pub newest : ℕ
   pub text : List ℕ
   pub scripts : List (List ℕ × List ℕ)
   pub options : Options
 
--- a request for these
+-- a request for these, of versions up to the newest one
+abbrev pub request_upto : ℕ → List ℕ → List (List ℕ × List ℕ) → Options → Request
+request_upto newest text scripts options = record { newest = newest; text = text; scripts = scripts; options = options }
+
+-- a request for these, of released versions
 abbrev pub request : List ℕ → List (List ℕ × List ℕ) → Options → Request
-request text scripts options = record { text = text; scripts = scripts; options = options }
+request = request_upto released
 
 -- a request's scenario, split as asked, and its one-list run: each accepted message is in one place, no other in any
 pub record Rehearsed (q : Request) : Type 0 where
   pub scenario : Scenario
   pub run : Run
-  pub stated : scenario_of q.scripts q.text ≡ Ok scenario
+  pub stated : scenario_upto q.newest q.scripts q.text ≡ Ok scenario
   pub allowed : split_fault scenario q.options ≡ None
   pub is_run : IsRunOf scenario run
   pub one_place : EachHasOnePlace run.sites run.rows
@@ -79,7 +85,7 @@ pub record IsUnwritten (log report : Writer) : Type 0 where
 -- a scenario that a request states
 pub record Stated (q : Request) : Type 0 where
   pub scenario : Scenario
-  pub stated : scenario_of q.scripts q.text ≡ Ok scenario
+  pub stated : scenario_upto q.newest q.scripts q.text ≡ Ok scenario
 
 -- the fault of a scenario that could not be read
 abbrev pub fault_of_reading : ReadError → Fault
@@ -96,7 +102,7 @@ IsBarred q r = ⊥
 
 -- the same, of a scenario's own fault too
 abbrev pub Bars : Request → Fault → Type 0
-Bars q (faults.Scenario f) = scenario_of q.scripts q.text ≡ Err f
+Bars q (faults.Scenario f) = scenario_upto q.newest q.scripts q.text ≡ Err f
 Bars q (faults.Refused r) = IsBarred q r
 
 -- why a request is refused, and what was written by then

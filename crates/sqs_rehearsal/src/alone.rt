@@ -6,7 +6,7 @@ ghost use Rattle.std.specs.Prelude.{◌≡◌, ◌≢◌, [], false, true, IfErr
 ghost use Rattle.sim_report.specs.Running.{running};
 ghost use Rattle.sqs_formats.specs.Output.{log_of, queue_names};
 ghost use Rattle.sqs_formats.specs.Rows.{line, log_header};
-ghost use Rattle.sqs_formats.specs.Scenario.{scenario_of};
+ghost use Rattle.sqs_formats.specs.Scenario.{scenario_upto};
 ghost use Rattle.sqs_model.specs.Run.{IsRunOf, Run};
 ghost use Rattle.sqs_rehearsal.specs.Logs.{HasLogged, StopsLogging, rows_text};
 ghost use Rattle.sqs_rehearsal.specs.Options.{unsplit};
@@ -97,12 +97,12 @@ fn rehearse_scenario<L: Out, R: Out>(
 ) -> Result<(), Refusal>
     requires log { L.failed log.old ≡ false }
     requires report { R.failed report.old ≡ false }
-    ensures written { (q : Request) → scenario_of q.scripts q.text ≡ Ok scenario
+    ensures written { (q : Request) → scenario_upto q.newest q.scripts q.text ≡ Ok scenario
         → q.options ≡ options.now
         → OnOk result (IsWritten q (seen L.held L.failed log.old log.new)
         (seen R.held R.failed report.old report.new)) }
     ensures flushed { OnOk result ((L.flushed log.new ≡ true) × (R.flushed report.new ≡ true)) }
-    ensures refused { (q : Request) → scenario_of q.scripts q.text ≡ Ok scenario
+    ensures refused { (q : Request) → scenario_upto q.newest q.scripts q.text ≡ Ok scenario
         → q.options ≡ options.now
         → IfErr result (λ refusal.
         IsRefused q (seen L.held L.failed log.old log.new)

@@ -24,7 +24,7 @@ pub use opening::open_world;
 pub use options::{Options, Split};
 pub use outcome::{Outcome, compare};
 pub use recorder::Recorder;
-pub use rehearsal::{Fault, rehearse, rehearse_watched};
+pub use rehearsal::{Fault, rehearse, rehearse_upto, rehearse_watched};
 pub use running::{Done, Piece, Running, open_machine, run_alone, run_workers};
 pub use sim_workers::{Gate, Open};
 pub use watch::{Unwatched, Watch};

@@ -1,8 +1,8 @@
 //! A rehearsal, from bytes to bytes.
 ghost use Rattle.std.specs.Prelude.{◌≡◌, false, true, IfErr, List, Ok, OnOk, ℕ};
-ghost use Rattle.sqs_formats.specs.Scenario.{scenario_of};
-ghost use Rattle.sim_scenario.specs.Drafts.{IsDraftOf};
-ghost use Rattle.sqs_rehearsal.specs.Rehearsals.{IsRefused, IsWritten, Request, request};
+ghost use Rattle.sqs_formats.specs.Scenario.{scenario_upto};
+ghost use Rattle.sim_scenario.specs.Drafts.{IsDraftUpto};
+ghost use Rattle.sqs_rehearsal.specs.Rehearsals.{IsRefused, IsWritten, Request, request, request_upto};
 ghost use Rattle.sqs_rehearsal.specs.declared.rehearsal.Fault.TheVariants.{Refused};
 ghost use Rattle.sqs_rehearsal.specs.Writers.{seen};
 
@@ -13,7 +13,7 @@ use crate::running::Running;
 use crate::watch::{Unwatched, Watch};
 use sim_clock::Refusal;
 use sim_records::{Names, Out};
-use sim_scenario::{Draft, ReadError, Scenario, Scripts};
+use sim_scenario::{Draft, RELEASED, ReadError, Scenario, Scripts};
 use sim_workers::Gate;
 use sqs_formats::ScenarioFault;
 use std::alloc::Global;
@@ -68,12 +68,12 @@ fn rehearse_scenario<G: Gate<Running> + Sync, L: Out, R: Out, P: Watch, W: Threa
 ) -> Result<(), Refusal>
     requires log { L.failed log.old ≡ false }
     requires report { R.failed report.old ≡ false }
-    ensures written { (q : Request) → scenario_of q.scripts q.text ≡ Ok scenario
+    ensures written { (q : Request) → scenario_upto q.newest q.scripts q.text ≡ Ok scenario
         → q.options ≡ options.now
         → OnOk result (IsWritten q (seen L.held L.failed log.old log.new)
         (seen R.held R.failed report.old report.new)) }
     ensures flushed { OnOk result ((L.flushed log.new ≡ true) × (R.flushed report.new ≡ true)) }
-    ensures refused { (q : Request) → scenario_of q.scripts q.text ≡ Ok scenario
+    ensures refused { (q : Request) → scenario_upto q.newest q.scripts q.text ≡ Ok scenario
         → q.options ≡ options.now
         → IfErr result (λ refusal.
         IsRefused q (seen L.held L.failed log.old log.new)
@@ -122,12 +122,12 @@ pub fn rehearse_watched<
 ) -> Result<(), Fault>
     requires log { L.failed log.old ≡ false }
     requires report { R.failed report.old ≡ false }
-    ensures written { (text : List ℕ) → IsDraftOf text draft
-        → OnOk result (IsWritten (request text scripts.now options.now)
+    ensures written { (newest : ℕ) (text : List ℕ) → IsDraftUpto newest text draft
+        → OnOk result (IsWritten (request_upto newest text scripts.now options.now)
         (seen L.held L.failed log.old log.new) (seen R.held R.failed report.old report.new)) }
     ensures flushed { OnOk result ((L.flushed log.new ≡ true) × (R.flushed report.new ≡ true)) }
-    ensures refused { (text : List ℕ) → IsDraftOf text draft
-        → IfErr result (IsRefused (request text scripts.now options.now)
+    ensures refused { (newest : ℕ) (text : List ℕ) → IsDraftUpto newest text draft
+        → IfErr result (IsRefused (request_upto newest text scripts.now options.now)
         (seen L.held L.failed log.old log.new) (seen R.held R.failed report.old report.new)) }
 {
     let scenario = draft.read(alloc, scripts)?;
@@ -169,7 +169,38 @@ pub fn rehearse<G: Gate<Running> + Sync, L: Out, R: Out, W: Threads + Wait + Syn
     ensures refused { IfErr result (IsRefused (request text.now scripts.now options.now)
         (seen L.held L.failed log.old log.new) (seen R.held R.failed report.old report.new)) }
 {
-    let Ok(draft) = Draft::parse(alloc, text) else {
+    rehearse_upto(
+        rt, alloc, RELEASED, text, scripts, options, gate, log, report,
+    )
+}
+
+/// Rehearses a scenario as `rehearse` does, of a version up to the newest one.
+///
+/// # Errors
+///
+/// Those of `rehearse`.
+pub fn rehearse_upto<G: Gate<Running> + Sync, L: Out, R: Out, W: Threads + Wait + Sync>(
+    rt: &W,
+    alloc: Global,
+    newest: u64,
+    text: &[u8],
+    scripts: &Scripts,
+    options: &Options,
+    gate: &G,
+    log: &mut L,
+    report: &mut R,
+) -> Result<(), Fault>
+    requires log { L.failed log.old ≡ false }
+    requires report { R.failed report.old ≡ false }
+    ensures written { OnOk result
+        (IsWritten (request_upto newest text.now scripts.now options.now)
+        (seen L.held L.failed log.old log.new) (seen R.held R.failed report.old report.new)) }
+    ensures flushed { OnOk result ((L.flushed log.new ≡ true) × (R.flushed report.new ≡ true)) }
+    ensures refused { IfErr result
+        (IsRefused (request_upto newest text.now scripts.now options.now)
+        (seen L.held L.failed log.old log.new) (seen R.held R.failed report.old report.new)) }
+{
+    let Ok(draft) = Draft::parse_upto(alloc, newest, text) else {
         return Err(Fault::Refused(Refusal::Memory));
     };
     let mut watch = Unwatched;

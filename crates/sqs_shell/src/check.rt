@@ -7,7 +7,8 @@ use std::process::ExitCode;
 
 // Reads a scenario and prints how many queues, actors and tasks it has.
 fn checked<'a>(rt: &HostRuntime, asked: CheckLine<'a>) -> Result<(), Stop<'a>> {
-    let Inputs { draft, scripts } = read_inputs(rt, asked.scenario, asked.scripts)?;
+    let inputs = read_inputs(rt, asked.scenario, asked.scripts, asked.preview)?;
+    let Inputs { draft, scripts } = inputs;
     let scenario = draft.read(rt.alloc(), &scripts)?;
     let queues = scenario.queues().len();
     let actors = scenario.actors().len();

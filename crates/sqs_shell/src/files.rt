@@ -1,12 +1,12 @@
 //! The files of the program: a scenario and its scripts, and buffered writers.
 ghost use Rattle.std.specs.Prelude.{◌≡◌, IfOk, IfSome, false, option_map, string_bytes};
 ghost use Rattle.sim_records.specs.Writers.{has_failed};
-ghost use Rattle.sqs_shell.specs.Inputs.{input_stop, script_path};
+ghost use Rattle.sqs_shell.specs.Inputs.{input_stop, newest_of, script_path};
 
 use crate::faults::{Stop, write_refusal};
 use sim_clock::Refusal;
 use sim_records::ToWriter;
-use sim_scenario::{Draft, Scripts};
+use sim_scenario::{Draft, PREVIEW, RELEASED, Scripts};
 use sqs_message::Text;
 use std::alloc::{AllocError, Global};
 use std::fs::File;
@@ -145,14 +145,23 @@ fn scripts<'a>(
     Ok(Scripts::new(files))
 }
 
+/// The newest version of scenarios that is read, by whether the preview is asked for.
+fn newest(preview: bool) -> u64
+    ensures { result ≡ newest_of preview }
+{
+    if preview { PREVIEW } else { RELEASED }
+}
+
 /// Reads a scenario from a file or else from standard input, and its scripts from a folder.
+/// Version 3 is read only if the preview is asked for.
 pub fn read_inputs<'a>(
     rt: &HostRuntime,
     path: Option<&'a str>,
     folder: Option<&str>,
+    preview: bool,
 ) -> Result<Inputs, Stop<'a>> {
     let text = scenario(rt, path)?;
-    let draft = Draft::parse(rt.alloc(), text.as_slice())?;
+    let draft = Draft::parse_upto(rt.alloc(), newest(preview), text.as_slice())?;
     let names = draft.script_names(rt.alloc())?;
     let scripts = scripts(rt, names, folder)?;
     Ok(Inputs { draft, scripts })

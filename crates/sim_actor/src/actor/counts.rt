@@ -10,14 +10,14 @@ impl Actor {
     pub fn wakes(&self) -> u64
         ensures { result ≡ self.now.wakes }
     {
-        self.wakes
+        self.life.wakes
     }
 
     /// The number of its polls that have waited.
     pub fn polls(&self) -> u64
         ensures { result ≡ self.now.polls }
     {
-        self.polls
+        self.life.polls
     }
 
     /// The greatest of its counts: of its wakes, polls, transfers and words.
@@ -25,7 +25,9 @@ impl Actor {
         ensures count { result ≡ actor_count self.now }
         ensures limit { result ≤ most_count }
     {
-        let words = self.draws.taken();
-        self.wakes.max(self.polls.max(self.sent.max(words)))
+        let words = self.life.draws.taken();
+        self.life
+            .wakes
+            .max(self.life.polls.max(self.life.sent.max(words)))
     }
 }

@@ -1,45 +1,15 @@
 //! The decisions of an actor.
-ghost use Rattle.std.specs.Prelude.{◌≡◌, ◌≤◌, ◌<◌, ◌^◌};
-ghost use Rattle.sqs_model.specs.Actor.{next as the_next, next_as, wakes_after, woken};
+ghost use Rattle.std.specs.Prelude.{◌≤◌};
+ghost use Rattle.sqs_model.specs.Actor.{next as the_next, next_as};
 ghost use Rattle.sqs_model.specs.Answers.{most_count};
-ghost use Rattle.sqs_model.specs.Draw.{drawn_uniform};
-ghost use Rattle.sim_actor.specs.Lives.{Becomes, Decides, IsFramed, Meets, greatest_count};
+ghost use Rattle.sim_actor.specs.Lives.{Decides, IsFramed, Meets, greatest_count};
 
 use super::Actor;
-use super::producer::message;
-use super::script::call_made;
 use sim_clock::Refusal;
-use sqs_model::{Act, Answer, MOST_COUNT, Role};
+use sqs_model::{Act, Answer, Role};
 use sqs_redrive::Batch;
 
 impl Actor {
-    // Wakes after a time drawn between two bounds.
-    pub(super) fn wake_after(&mut self, now: u64, least: u64, greatest: u64) -> Result<(), Refusal>
-        requires moment { now ≤ most_count }
-        requires order { least ≤ greatest }
-        requires span { greatest < 2 ^ 32 }
-        ensures actor { Becomes result self.new
-            (wakes_after self.old now (drawn_uniform least greatest self.old.draws)) }
-        ensures framed { IsFramed self.old self.new }
-    {
-        if self.draws.taken() == MOST_COUNT {
-            return Err(Refusal::CountLimit);
-        }
-        let time = self.draws.uniform(least, greatest);
-        self.wake = Some(now + time);
-        Ok(())
-    }
-
-    // Counts a wake that has come.
-    fn count_wake(&mut self)
-        requires { self.old.wakes < most_count }
-        ensures actor { self.new ≡ woken self.old }
-        ensures framed { IsFramed self.old self.new }
-    {
-        self.wake = None;
-        self.wakes += 1;
-    }
-
     // Decides when its wake has come.
     fn next_woken(&mut self, now: u64) -> Result<Act, Refusal>
         requires { now ≤ most_count }
@@ -48,32 +18,10 @@ impl Actor {
         ensures framed { IsFramed self.old self.new }
     {
         match &self.settings.role {
-            Role::Script(script) => match call_made(self.alloc, script.as_slice(), self.wakes)? {
-                None => {
-                    self.wake = None;
-                    Ok(Act::Nothing)
-                }
-                Some((act, wake)) => {
-                    self.count_wake();
-                    self.wake = wake;
-                    Ok(act)
-                }
-            },
-            Role::Producer(producer) => {
-                if self.wakes == MOST_COUNT {
-                    return Err(Refusal::CountLimit);
-                }
-                let act = message(self.alloc, producer, self.number, self.wakes)?;
-                self.count_wake();
-                Ok(act)
-            }
+            Role::Script(script) => self.life.script_wake(script.as_slice()),
+            Role::Producer(producer) => self.life.producer_wake(producer, now),
             Role::Consumer(consumer) => {
-                let consumer = *consumer;
-                if self.wakes == MOST_COUNT {
-                    return Err(Refusal::CountLimit);
-                }
-                self.count_wake();
-                self.consumer_wake(consumer, now)
+                self.life.consumer_wake(consumer, self.settings.home, now)
             }
         }
     }
@@ -87,10 +35,7 @@ impl Actor {
     {
         match &self.settings.role {
             Role::Script(_) | Role::Producer(_) => Ok(Act::Nothing),
-            Role::Consumer(consumer) => {
-                let consumer = *consumer;
-                self.consumer_got(consumer, now, batch)
-            }
+            Role::Consumer(consumer) => self.life.consumer_got(consumer, now, batch),
         }
     }
 
@@ -103,17 +48,8 @@ impl Actor {
     {
         match &self.settings.role {
             Role::Script(_) => Ok(Act::Nothing),
-            Role::Producer(producer) => {
-                let (least, greatest) = (producer.gap_min, producer.gap_max);
-                if self.wakes < producer.count {
-                    self.wake_after(now, least, greatest)?;
-                }
-                Ok(Act::Nothing)
-            }
-            Role::Consumer(consumer) => {
-                let consumer = *consumer;
-                self.consumer_told(consumer, now)
-            }
+            Role::Producer(producer) => self.life.producer_sent(producer, now),
+            Role::Consumer(consumer) => self.life.consumer_told(consumer, now),
         }
     }
 
@@ -147,7 +83,7 @@ impl Actor {
     {
         let act = self.decide(now, answer);
         // The type's invariant says that its counts are within the limit.
-        let _ = &self.alloc;
+        let _ = &self.life.wakes;
         act
     }
 }

@@ -1,5 +1,5 @@
 //! Deletes and changes of visibility by actors, and ends of services.
-ghost use Rattle.std.specs.Prelude.{IfErr, None, OnOk, Option, ◌≡◌, ◌≤◌};
+ghost use Rattle.std.specs.Prelude.{IfErr, None, OnOk, Option, ◌≡◌, ◌≤◌, unwrap_or, ◌/◌};
 ghost use Rattle.sqs_message.specs.Ids.{read_receipt};
 ghost use Rattle.sqs_message.specs.declared.row.Detail.TheVariants as details;
 ghost use Rattle.sqs_message.specs.declared.row.RowAnswer.TheVariants as answers;
@@ -185,6 +185,32 @@ impl Core {
             }
             Some(receipt) => self.change_by(key, agent, handle, timeout, receipt, effects),
         }
+    }
+
+    /// An actor sets a visibility timeout anew, in seconds, by a receipt handle. Without a timeout it
+    /// is the queue's.
+    pub fn prolong(
+        &mut self,
+        key: Key,
+        agent: u32,
+        handle: ReceiptHandle,
+        timeout: Option<u64>,
+        effects: &mut Effects,
+    ) -> Result<(), Refusal>
+        requires { key.at ≤ most_count }
+        ensures did { (a : Actor) → a.number ≡ agent
+            → OnOk result (Did effects.old effects.new self.new
+            (change_made key a self.old handle
+            (unwrap_or timeout (self.old.queue.settings.visibility / 1000))
+            (read_receipt handle)).effect) }
+        ensures stops { (a : Actor) → a.number ≡ agent
+            → IfErr result (Stops
+            (change_made key a self.old handle
+            (unwrap_or timeout (self.old.queue.settings.visibility / 1000))
+            (read_receipt handle)).effect) }
+    {
+        let own = self.queue.settings().visibility / 1000;
+        self.change(key, agent, handle, timeout.unwrap_or(own), effects)
     }
 
     /// An actor ends the service of a message. If the service failed, this makes a row. If not, and

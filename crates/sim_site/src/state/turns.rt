@@ -53,6 +53,9 @@ impl Core {
             Act::Change { receipt, timeout } => {
                 self.change(key, agent, receipt, timeout, effects)?;
             }
+            Act::Prolong { receipt, timeout } => {
+                self.prolong(key, agent, receipt, timeout, effects)?;
+            }
             Act::Start { task } => self.start(key, agent, task, effects)?,
             Act::Cancel { task } => self.cancel(key, agent, task, effects)?,
             Act::Serve {

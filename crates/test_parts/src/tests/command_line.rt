@@ -8,24 +8,24 @@ type Numbers = (Option<u64>, Option<u32>, Option<u32>);
 
 const NONE: Numbers = (None, None, None);
 
-// What a line asks for: its command, its numbers, whether it is quiet, and its words; or the status
-// with which it is refused.
-type Asked<'a> = Result<(&'static str, Numbers, bool, [Option<&'a str>; 4]), i32>;
+// What a line asks for: its command, its numbers, whether it asks for the preview and whether it is
+// quiet, and its words; or the status with which it is refused.
+type Asked<'a> = Result<(&'static str, Numbers, (bool, bool), [Option<&'a str>; 4]), i32>;
 
 fn asked<'a>(alloc: Global, words: &'a [&'a str]) -> Asked<'a> {
     match line(alloc, words) {
         Ok(Line::Run(run)) => {
             let numbers = (run.window, run.parts, run.workers);
             let words = [run.map, run.log, run.scripts, run.scenario];
-            Ok(("run", numbers, run.quiet, words))
+            Ok(("run", numbers, (run.preview, run.quiet), words))
         }
         Ok(Line::Check(check)) => {
             let words = [None, None, check.scripts, check.scenario];
-            Ok(("check", NONE, false, words))
+            Ok(("check", NONE, (check.preview, false), words))
         }
         Ok(Line::Compare(compare)) => {
             let words = [compare.first, compare.second, compare.scripts, None];
-            Ok(("compare", NONE, false, words))
+            Ok(("compare", NONE, (compare.preview, false), words))
         }
         Err(LineFault::Words(error)) => Err(error.exit_code()),
     }
@@ -42,10 +42,10 @@ const ALL: [Option<&str>; 4] = [
 const TWO: [Option<&str>; 4] = [Some("a.toml"), Some("b.toml"), None, None];
 
 // Lines, and what they ask for.
-const LINES: [(&str, Asked); 10] = [
+const LINES: [(&str, Asked); 13] = [
     (
         "sqs_rehearse run --window 500 --parts 2 --map 0,1 --workers 4 --log out.csv --scripts calls --quiet network.toml",
-        Ok(("run", (Some(500), Some(2), Some(4)), true, ALL)),
+        Ok(("run", (Some(500), Some(2), Some(4)), (false, true), ALL)),
     ),
     // Numbers as clap reads them.
     (
@@ -53,14 +53,29 @@ const LINES: [(&str, Asked); 10] = [
         Ok((
             "run",
             (Some(4_294_967_296), Some(4_294_967_295), Some(0)),
-            false,
+            (false, false),
             [None; 4],
         )),
     ),
-    ("sqs_rehearse check", Ok(("check", NONE, false, [None; 4]))),
+    (
+        "sqs_rehearse run --preview",
+        Ok(("run", NONE, (true, false), [None; 4])),
+    ),
+    (
+        "sqs_rehearse check",
+        Ok(("check", NONE, (false, false), [None; 4])),
+    ),
+    (
+        "sqs_rehearse check --preview",
+        Ok(("check", NONE, (true, false), [None; 4])),
+    ),
     (
         "sqs_rehearse compare a.toml b.toml",
-        Ok(("compare", NONE, false, TWO)),
+        Ok(("compare", NONE, (false, false), TWO)),
+    ),
+    (
+        "sqs_rehearse compare --preview a.toml b.toml",
+        Ok(("compare", NONE, (true, false), TWO)),
     ),
     // Words that are no command line.
     ("sqs_rehearse", Err(2)),

@@ -1,14 +1,17 @@
 //! Lives of actors, step by step: the answers that they get and what they do.
 ghost use Rattle.std.specs.Prelude.{◌≤◌, length};
-ghost use Rattle.sqs_model.specs.Valid.{IsLatency};
+ghost use Rattle.sqs_model.specs.Valid.{AreGroups, IsLatency, MayBeGroups};
 ghost use Rattle.sim_actor.specs.Lives.{IsRole};
 
 use crate::tests::same::same;
 use sim_actor::Actor;
 use sqs_message::{
-    Call, HandleForm, MessageId, Origin, Receipt, ReceiptHandle, Script, ScriptCall, Text,
+    Call, HandleForm, Listed, MessageId, Origin, Receipt, ReceiptHandle, Script, ScriptCall, Text,
 };
-use sqs_model::{Act, ActorSettings, Answer, ConsumerSettings, Forwarding, ProducerSettings, Role};
+use sqs_model::{
+    Act, ActorSettings, Answer, ConsumerSettings, Distribution, Forwarding, Groups,
+    ProducerSettings, Role, WeightedGroup,
+};
 use sqs_redrive::{Batch, Got, Latency, Load, Outbound};
 use std::alloc::{AllocError, Global};
 use std::fmt::Write;
@@ -108,6 +111,11 @@ fn show(out: &mut String, act: &Act) -> Shown {
             out.push_str("change ")?;
             show_handle(out, receipt)?;
             write!(out, " {timeout}")
+        }
+        Act::Prolong { receipt, timeout } => {
+            out.push_str("prolong ")?;
+            show_handle(out, receipt)?;
+            write!(out, " {:?}", *timeout)
         }
         Act::Start { task } => write!(out, "start {task}"),
         Act::Cancel { task } => write!(out, "cancel {task}"),
@@ -218,7 +226,8 @@ fn every_call(rt: &impl Abort, alloc: Global) -> Script
 }
 
 // A producer of three messages.
-fn producer(body: Text, gap_min: u32, groups: Option<u64>, ids: bool) -> ActorSettings
+fn producer(body: Text, gap_min: u32, groups: Option<Groups>, ids: bool) -> ActorSettings
+    requires groups { MayBeGroups groups }
     requires most { gap_min ≤ 100 }
     requires some { 1 ≤ gap_min }
     ensures { IsRole result.role }
@@ -228,19 +237,19 @@ fn producer(body: Text, gap_min: u32, groups: Option<u64>, ids: bool) -> ActorSe
         role: Role::Producer(ProducerSettings {
             count: 3,
             start: 5,
-            gap_min: u64::from(gap_min),
-            gap_max: 100,
+            gap: Distribution::Uniform(u64::from(gap_min), 100),
             body,
             groups,
             ids,
             delay: Some(9),
+            stop: None,
         }),
     }
 }
 
 // A consumer at queue 2 that serves for 1 to 100 ms and waits for 1,000 after it got nothing. Its
 // forwards take from `least` to `greatest` milliseconds.
-fn consumer(fail_permille: u64, least: u64, greatest: u64) -> ActorSettings
+fn consumer(alloc: Global, fail_permille: u64, least: u64, greatest: u64) -> ActorSettings
     requires failures { fail_permille ≤ 1000 }
     requires latency { IsLatency (record { least = least; greatest = greatest }) }
     ensures { IsRole result.role }
@@ -253,11 +262,16 @@ fn consumer(fail_permille: u64, least: u64, greatest: u64) -> ActorSettings
             batch: 2,
             wait: 5,
             timeout: Some(30),
-            service_min: 1,
-            service_max: 100,
+            service: Distribution::Uniform(1, 100),
             fail_permille,
             idle: 1000,
             forward: Some(Forwarding { to: 3, latency }),
+            stop: None,
+            fails_on: None,
+            outage: None,
+            whole: false,
+            backoff: Listed::new(Vec::new(alloc)),
+            heartbeat: None,
         }),
     }
 }
@@ -297,7 +311,12 @@ fn produce(rt: &impl Abort, alloc: Global, number: u32, settings: ActorSettings,
 
 #[test]
 fn producer_sends_in_turn_and_stops(rt: HostRuntime) {
-    let settings = producer(text(&rt, rt.alloc(), "{n}"), 100, Some(2), true);
+    let settings = producer(
+        text(&rt, rt.alloc(), "{n}"),
+        100,
+        Some(Groups::InTurn(2)),
+        true,
+    );
     let life: &[Step] = &[
         (5, Told::Wake, "send 0 Some(9) g0 7-0", None),
         (5, Told::Other, "nothing", Some(105)),
@@ -320,6 +339,47 @@ fn producer_draws_its_gaps(rt: HostRuntime) {
         (73, Told::Other, "nothing", Some(130)),
     ];
     produce(&rt, rt.alloc(), 0, settings, life);
+}
+
+// Two groups, a and b, with weights from 1 to 99 that are 100 together.
+fn two_groups(rt: &impl Abort, alloc: Global, weight: u64) -> Groups
+    requires some { 1 ≤ weight }
+    requires most { weight ≤ 99 }
+    ensures { AreGroups result }
+{
+    let first = WeightedGroup {
+        group: Text::new(vec![in alloc; b'a'].expect(rt, "memory")),
+        weight,
+    };
+    let second = WeightedGroup {
+        group: Text::new(vec![in alloc; b'b'].expect(rt, "memory")),
+        weight: 100 - weight,
+    };
+    let groups = vec![in alloc; first, second];
+    Groups::ByWeight(Listed::new(groups.expect(rt, "memory")))
+}
+
+#[test]
+fn producer_draws_a_group_and_then_the_gap(rt: HostRuntime) {
+    // The first four words of agent 0 under seed 0 give 67, 56, 89 and 15 of 100.
+    let (body, groups) = (text(&rt, rt.alloc(), "c"), two_groups(&rt, rt.alloc(), 67));
+    let settings = producer(body, 1, Some(groups), false);
+    let life: &[Step] = &[
+        (5, Told::Wake, "send c Some(9) b -", None),
+        (5, Told::Other, "nothing", Some(62)),
+        (62, Told::Wake, "send c Some(9) b -", None),
+        (62, Told::Other, "nothing", Some(78)),
+    ];
+    produce(&rt, rt.alloc(), 0, settings, life);
+    let (body, groups) = (text(&rt, rt.alloc(), "c"), two_groups(&rt, rt.alloc(), 68));
+    let settings = producer(body, 1, Some(groups), false);
+    produce(
+        &rt,
+        rt.alloc(),
+        0,
+        settings,
+        &[(5, Told::Wake, "send c Some(9) a -", None)],
+    );
 }
 
 // Takes a consumer with number 0, under seed 0, through a life, and then counts a poll of it and
@@ -354,7 +414,13 @@ fn consumer_forwards_deletes_fails_and_rests(rt: HostRuntime) {
         (6166, Told::Wake, receive, None),
         (6166, Told::Other, "nothing", Some(7166)),
     ];
-    consume(&rt, rt.alloc(), consumer(563, 500, 500), life, 5);
+    consume(
+        &rt,
+        rt.alloc(),
+        consumer(rt.alloc(), 563, 500, 500),
+        life,
+        5,
+    );
 }
 
 #[test]
@@ -370,7 +436,53 @@ fn consumer_draws_the_latency_after_the_chance(rt: HostRuntime) {
         (68, Told::Other, "nothing", Some(84)),
         (84, Told::Wake, second, None),
     ];
-    consume(&rt, rt.alloc(), consumer(500, 1, 100), life, 2);
+    consume(&rt, rt.alloc(), consumer(rt.alloc(), 500, 1, 100), life, 2);
+}
+
+// A consumer at queue 2 that serves for 1,500 ms, with a heartbeat each second. Services of bodies
+// with an x fail, and their batches as a whole, which come back after 5 seconds and then after 60.
+// From 1,509 ms on it asks for nothing.
+fn failing_consumer(rt: &impl Abort, alloc: Global) -> ActorSettings
+    ensures { IsRole result.role }
+{
+    let timeouts = vec![in alloc; 5, 60].expect(rt, "memory");
+    ActorSettings {
+        home: 2,
+        role: Role::Consumer(ConsumerSettings {
+            start: 7,
+            batch: 2,
+            wait: 5,
+            timeout: Some(30),
+            service: Distribution::Uniform(1500, 1500),
+            fail_permille: 0,
+            idle: 1000,
+            forward: None,
+            stop: Some(1509),
+            fails_on: Some(text(rt, alloc, "x")),
+            outage: None,
+            whole: true,
+            backoff: Listed::new(timeouts),
+            heartbeat: Some(1000),
+        }),
+    }
+}
+
+#[test]
+fn consumer_prolongs_backs_off_as_a_whole_and_stops(rt: HostRuntime) {
+    let life: &[Step] = &[
+        (7, Told::Wake, "receive 2 5 Some(30)", None),
+        (7, Told::Two, "nothing", Some(1007)),
+        (1007, Told::Wake, "prolong r-2-4-1 Some(30)", None),
+        (1007, Told::Other, "nothing", Some(1507)),
+        (1507, Told::Wake, "serve r-2-4-1 true", None),
+        (1507, Told::Other, "change r-2-4-1 5", None),
+        (1507, Told::Other, "nothing", Some(1508)),
+        (1508, Told::Wake, "change r-2-6-1 5", None),
+        (1508, Told::Other, "nothing", Some(1509)),
+        (1509, Told::Wake, "nothing", None),
+    ];
+    let settings = failing_consumer(&rt, rt.alloc());
+    consume(&rt, rt.alloc(), settings, life, 5);
 }
 
 // What a producer of messages with this body sends first, with the number 0.

@@ -1,7 +1,7 @@
-use Rattle.std.proofs.Common.{Option, codes, subst, ◌∙◌}
-use Rattle.clap.specs.Words.{Text, found_of}
-use Rattle.clap.proofs.WalkLemmas.{first_value-rows, one_text-rows}
-use Rattle.sqs_command_line.specs.Lines.{IsFlag}
+use Rattle.std.proofs.Common.{codes, ◌∙◌}
+use Rattle.clap.specs.Words.{found_of}
+use Rattle.clap.proofs.WalkLemmas.{first_value-rows}
+use Rattle.sqs_command_line.proofs.Answered.{flag_given}
 use Rattle.sqs_command_line.proofs.reading.run_line.Goals as goal
 
 pub returns : goal.returns
@@ -14,8 +14,7 @@ returns c =
       workers = c.in_ok-workers.ensures;
       log = c.get_str-2.ensures ∙ first_value-rows found (codes "log");
       scripts = c.get_str-3.ensures ∙ first_value-rows found (codes "scripts");
-      quiet =
-          subst (λ (t : Option Text). IsFlag t c.get_flag.result) (one_text-rows found (codes "quiet"))
-          (record { absent = c.get_flag.ensures.none; given = c.get_flag.ensures.value; left_out = c.get_flag.ensures.other });
+      preview = flag_given found (codes "preview") c.get_flag.result c.get_flag.ensures.none c.get_flag.ensures.value c.get_flag.ensures.other;
+      quiet = flag_given found (codes "quiet") c.get_flag-2.result c.get_flag-2.ensures.none c.get_flag-2.ensures.value c.get_flag-2.ensures.other;
       scenario = c.get_str-4.ensures ∙ first_value-rows found (codes "scenario");
     }

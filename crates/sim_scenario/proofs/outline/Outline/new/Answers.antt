@@ -1,28 +1,69 @@
-use Rattle.std.proofs.Common.{◌≡◌, ◌++◌, ◌∙◌, ℕ, List, ap, codes, length, map}
+use Rattle.std.proofs.Common.{◌≡◌, ◌++◌, ◌∙◌, ◌+◌, ◌-◌, ℕ, List, ap, arith, codes, length, map, sym}
 use Rattle.std.proofs.lemmas.List.{length-map}
 use Rattle.toml.specs.Data.{Data}
 use Rattle.toml.specs.View.{view}
+use Rattle.sqs_formats.specs.Copies.{copies_asked, copies_within, names_taken}
 use Rattle.sqs_formats.specs.Keys.{text_in}
-use Rattle.sim_scenario.proofs.Listing.{made_of_parts}
+use Rattle.sqs_formats.specs.Outline.{room_beside}
+use Rattle.sim_scenario.proofs.Copying.{are_laid, within_few}
 use Rattle.sim_scenario.proofs.outline.Outline.new.Goals as goal
 
-pub returns : goal.returns
-returns c =
+pub push_names_taken-requires-clause-same : goal.push_names_taken-requires-clause-same
+push_names_taken-requires-clause-same c =
+    let few = within_few c.args.version _ c.args.actors.now c.in_ok-copies.copies.items c.in_ok-copies.ensures (omega (arith, c.saturating_sub-room.ensures)) (omega (arith, c.requires)) in
+    ap length c.as_slice.ensures.value ∙ few.each
+
+pub push_names_taken-requires-clause-few : goal.push_names_taken-requires-clause-few
+push_names_taken-requires-clause-few c =
+    let few = within_few c.args.version _ c.args.actors.now c.in_ok-copies.copies.items c.in_ok-copies.ensures (omega (arith, c.saturating_sub-room.ensures)) (omega (arith, c.requires)) in
+    rw c.as_slice.ensures.value (omega (arith, few.few))
+
+pub invariant_of-result : goal.invariant_of-result
+invariant_of-result c =
+    let named : List Data → List (List ℕ) = map (text_in (codes "name")) in
     let queues : List Data = map view c.args.queues.now in
     let actors : List Data = map view c.args.actors.now in
     let tasks : List Data = map view c.args.tasks.now in
+    let copies : List ℕ = c.in_ok-copies.copies.items in
+    let few = within_few c.args.version _ c.args.actors.now copies c.in_ok-copies.ensures (omega (arith, c.saturating_sub-room.ensures)) (omega (arith, c.requires)) in
+    let before : c.push_names_taken.new.names.items ≡ named queues ++ names_taken (named actors) copies =
+    c.in_ok-push_names_taken.ensures
+    ∙ (λ j. (c.in_ok-push_texts.ensures ∙ ap (λ ts. ts ++ named queues) c.new-names.ensures.items) j ++ names_taken (named actors) (c.as_slice.ensures.value j)) in
+    let made : c.in_ok-names.names ≡ (named queues ++ names_taken (named actors) copies) ++ named tasks =
+    c.in_ok-names.ensures ∙ c.in_ok-push_texts-2.ensures ∙ ap (λ ts. ts ++ named tasks) before in
+    let laid = are_laid (length c.args.queues.now) (length c.args.actors.now) c.len-first_task_place.result copies c.in_ok-names.names (named queues) (named actors) (named tasks) few made
+    (c.len-first_task_place.ensures ∙ c.push_names_taken.new.names.ok.0 ∙ ap length before)
+    (length-map queues (text_in (codes "name")) ∙ length-map c.args.queues.now view) (length-map actors (text_in (codes "name")) ∙ length-map c.args.actors.now view)
+    (rw (length-map tasks (text_in (codes "name")), length-map c.args.tasks.now view) (omega (arith, c.requires))) in
+    laid.counted
+
+pub returns : goal.returns
+returns c =
     let named : List Data → List (List ℕ) = map (text_in (codes "name")) in
-    let made : c.in_ok-names.names ≡ (named queues ++ named actors) ++ named tasks =
-    c.in_ok-names.ensures ∙ c.in_ok-push_texts-3.ensures
-    ∙ ap (λ ts. ts ++ named tasks)
-    (c.in_ok-push_texts-2.ensures ∙ ap (λ ts. ts ++ named actors) (c.in_ok-push_texts.ensures ∙ ap (λ ts. ts ++ named queues) c.new-names.ensures.items)) in
-    let parts = made_of_parts (length c.args.queues.now) (length c.args.actors.now) c.in_ok-names.names (named queues) (named actors) (named tasks) made
-    (length-map queues (text_in (codes "name")) ∙ length-map c.args.queues.now view) (length-map actors (text_in (codes "name")) ∙ length-map c.args.actors.now view) in
+    let queues : List Data = map view c.args.queues.now in
+    let actors : List Data = map view c.args.actors.now in
+    let tasks : List Data = map view c.args.tasks.now in
+    let copies : List ℕ = c.in_ok-copies.copies.items in
+    let few = within_few c.args.version _ c.args.actors.now copies c.in_ok-copies.ensures (omega (arith, c.saturating_sub-room.ensures)) (omega (arith, c.requires)) in
+    let before : c.push_names_taken.new.names.items ≡ named queues ++ names_taken (named actors) copies =
+    c.in_ok-push_names_taken.ensures
+    ∙ (λ j. (c.in_ok-push_texts.ensures ∙ ap (λ ts. ts ++ named queues) c.new-names.ensures.items) j ++ names_taken (named actors) (c.as_slice.ensures.value j)) in
+    let made : c.in_ok-names.names ≡ (named queues ++ names_taken (named actors) copies) ++ named tasks =
+    c.in_ok-names.ensures ∙ c.in_ok-push_texts-2.ensures ∙ ap (λ ts. ts ++ named tasks) before in
+    let laid = are_laid (length c.args.queues.now) (length c.args.actors.now) c.len-first_task_place.result copies c.in_ok-names.names (named queues) (named actors) (named tasks) few made
+    (c.len-first_task_place.ensures ∙ c.push_names_taken.new.names.ok.0 ∙ ap length before)
+    (length-map queues (text_in (codes "name")) ∙ length-map c.args.queues.now view) (length-map actors (text_in (codes "name")) ∙ length-map c.args.actors.now view)
+    (rw (length-map tasks (text_in (codes "name")), length-map c.args.tasks.now view) (omega (arith, c.requires))) in
+    let room : c.saturating_sub-room.result ≡ room_beside actors tasks =
+    c.saturating_sub-room.ensures ∙ (λ j. 10000 - (sym (length-map c.args.actors.now view) j + sym (length-map c.args.tasks.now view) j)) in
+    let counted : copies ≡ copies_within (room_beside actors tasks) (map (copies_asked c.args.version) actors) =
+    c.in_ok-copies.ensures ∙ ap (λ r. copies_within r (map (copies_asked c.args.version) actors)) room in
     λ j. record {
       version = c.args.version;
-      queues = parts.front j;
-      actors = parts.middle j;
-      tasks = parts.back j;
-      task_homes = (c.in_ok-push_texts-4.ensures ∙ ap (λ ts. ts ++ map (text_in (codes "queue")) tasks) c.new-task_homes.ensures.items) j;
-      dead_letters = (c.in_ok-dead_letters.ensures ∙ c.in_ok-push_texts-5.ensures ∙ ap (λ ts. ts ++ map (text_in (codes "dead_letter")) queues) c.new-dead_letters.ensures.items) j;
+      names = (laid.whole ∙ ap (λ cs. named queues ++ (names_taken (named actors) cs ++ named tasks)) counted) j;
+      queues = laid.front j;
+      copies = counted j;
+      tasks = laid.back j;
+      task_homes = (c.in_ok-push_texts-3.ensures ∙ ap (λ ts. ts ++ map (text_in (codes "queue")) tasks) c.new-task_homes.ensures.items) j;
+      dead_letters = (c.in_ok-dead_letters.ensures ∙ c.in_ok-push_texts-4.ensures ∙ ap (λ ts. ts ++ map (text_in (codes "dead_letter")) queues) c.new-dead_letters.ensures.items) j;
     }

@@ -1,4 +1,4 @@
-use Rattle.std.specs.Prelude.{IfErr, Some}
+use Rattle.std.specs.Prelude.{IfErr, Some, unwrap_or, ◌/◌}
 use Rattle.std.proofs.Common.{refl, subst, sym}
 use Rattle.sqs_model.specs.declared.acts.Act.{Act}
 use Rattle.sqs_model.specs.declared.acts.Answer.TheVariants as told_by
@@ -10,7 +10,7 @@ use Rattle.sqs_model.specs.Site.{task_numbered}
 use Rattle.sim_site.proofs.Passing.{stops_up}
 use Rattle.sim_site.proofs.Told.{cancel_done_is, change_done_is, delete_done_is, serve_done_is, start_done_is}
 use Rattle.sim_site.proofs.state.Core.act.Goals as goal
-use Rattle.sim_site.proofs.state.Core.act.Goals.{in-Send+in_ok-send-in-Send, in-Delete+in_ok-delete-in-Delete, in-Change+in_ok-change-in-Change, in-Start+in_ok-start-in-Start, in-Cancel+in_ok-cancel-in-Cancel, in-Serve+in_ok-serve-in-Serve}
+use Rattle.sim_site.proofs.state.Core.act.Goals.{in-Send+in_ok-send-in-Send, in-Delete+in_ok-delete-in-Delete, in-Change+in_ok-change-in-Change, in-Prolong+in_ok-prolong-in-Prolong, in-Start+in_ok-start-in-Start, in-Cancel+in_ok-cancel-in-Cancel, in-Serve+in_ok-serve-in-Serve}
 
 pub returns-in_err-send-in-Send-clause-stops : goal.returns-in_err-send-in-Send-clause-stops
 unfolding act_made
@@ -23,6 +23,12 @@ unfolding act_made
 returns-in_err-change-in-Change-clause-stops c = λ a e f.
     subst (λ (x : Act). IfErr c.from_residual-in_err-change-in-Change.result (Stops (act_made c.args.key a c.args.self.now x).effect)) (sym c.in-Change.is)
     (stops_up _ _ c.from_residual-in_err-change-in-Change.result c.in_err-change-in-Change.field-0.0 c.from_residual-in_err-change-in-Change.ensures.1 (λ h. h) (c.in_err-change-in-Change.ensures.stops a e))
+
+pub returns-in_err-prolong-in-Prolong-clause-stops : goal.returns-in_err-prolong-in-Prolong-clause-stops
+unfolding act_made
+returns-in_err-prolong-in-Prolong-clause-stops c = λ a e f.
+    subst (λ (x : Act). IfErr c.from_residual-in_err-prolong-in-Prolong.result (Stops (act_made c.args.key a c.args.self.now x).effect)) (sym c.in-Prolong.is)
+    (stops_up _ _ c.from_residual-in_err-prolong-in-Prolong.result c.in_err-prolong-in-Prolong.field-0.0 c.from_residual-in_err-prolong-in-Prolong.ensures.1 (λ h. h) (c.in_err-prolong-in-Prolong.ensures.stops a e))
 
 pub returns-clause-did : goal.returns-clause-did
 unfolding act_made
@@ -40,6 +46,10 @@ returns-clause-did c = λ a e f.
           rw (w.self-is, w.effects-is)
           (subst (λ (x : Act). DidTurn c.args.effects.now w.change.new.effects w.change.new.self (Some told_by.Other) (turn_by x (act_made c.args.key a c.args.self.now x))) (sym w.in-Change.is)
           (record { effect = w.in_ok-change-in-Change.ensures.did a e; answer = change_done_is c.args.key a c.args.self.now w.in-Change.receipt w.in-Change.timeout (read_receipt w.in-Change.receipt) }))
+      | in-Prolong+in_ok-prolong-in-Prolong w ↦
+          rw (w.self-is, w.effects-is)
+          (subst (λ (x : Act). DidTurn c.args.effects.now w.prolong.new.effects w.prolong.new.self (Some told_by.Other) (turn_by x (act_made c.args.key a c.args.self.now x))) (sym w.in-Prolong.is)
+          (record { effect = w.in_ok-prolong-in-Prolong.ensures.did a e; answer = change_done_is c.args.key a c.args.self.now w.in-Prolong.receipt (unwrap_or w.in-Prolong.timeout (c.args.self.now.queue.settings.visibility / 1000)) (read_receipt w.in-Prolong.receipt) }))
       | in-Start+in_ok-start-in-Start w ↦
           rw (w.self-is, w.effects-is)
           (subst (λ (x : Act). DidTurn c.args.effects.now w.start.new.effects w.start.new.self (Some told_by.Other) (turn_by x (act_made c.args.key a c.args.self.now x))) (sym w.in-Start.is)

@@ -1,0 +1,28 @@
+use Rattle.std.proofs.Common.{[], ap, arith, sym, ◌∙◌, ◌≡◌, ◌∷◌}
+use Rattle.sqs_model.specs.Actor.{woken}
+use Rattle.sqs_model.proofs.ConsumerWakes.{consumer_woke}
+use Rattle.sim_actor.specs.Lives.{Life, lived}
+use Rattle.sim_actor.proofs.Batches.{none_first, some_first}
+use Rattle.sim_actor.proofs.life.Life.consumer_wake.Goals as goal
+
+pub returns-then-self-eq-MOST_COUNT-clause-decision : goal.returns-then-self-eq-MOST_COUNT-clause-decision
+returns-then-self-eq-MOST_COUNT-clause-decision c s at_home =
+    let woke = (consumer_woke c.args.now (woken (lived s c.args.self.now)) c.args.consumer.now c.args.self.now.held).stays.wakes in
+    let at_most = ap (λ (l : Life). l.wakes) (sym c.self.view_is) ∙ c.if-self-eq-MOST_COUNT.true in
+    omega (arith, woke, at_most)
+
+pub returns-in_default-clause-decision : goal.returns-in_default-clause-decision
+returns-in_default-clause-decision c s at_home =
+    let same : c.count_wake.new.self.held ≡ c.args.self.now.held = ap (λ (l : Life). l.held) c.count_wake.ensures in
+    let none : c.args.self.now.held ≡ [] = sym same ∙ ap (λ (l : Life). l.held) (sym c.self-2.view_is) ∙ none_first c.self-2.inside.holding.held c.in_default.ensures in
+    rw none (rw (c.count_wake.ensures, none) at c.rest.ensures.decision s at_home)
+
+pub returns-clause-decision : goal.returns-clause-decision
+returns-clause-decision c s at_home =
+    let first = some_first c.self-2.inside.holding.held c.in-Some.got.now c.in-Some.ensures in
+    let counted : c.count_wake.new.self.held ≡ c.in-Some.got.now ∷ first.0 = ap (λ (l : Life). l.held) (sym c.self-2.view_is) ∙ first.1 in
+    let held : c.args.self.now.held ≡ c.in-Some.got.now ∷ first.0 = sym (ap (λ (l : Life). l.held) c.count_wake.ensures) ∙ counted in
+    let ends : c.self-2.inside.ends ≡ c.args.self.now.ends = ap (λ (l : Life). l.ends) (c.self-2.view_is ∙ c.count_wake.ensures) in
+    let not_on = rw ends at c.if-goes_on.ensures in
+    let ended = c.end_service.ensures.decision s c.in-Some.got.now first.0 at_home counted in
+    rw (held, ← not_on) (rw c.count_wake.ensures at ended)

@@ -1,0 +1,142 @@
+//! The messages that a consumer has.
+ghost use Rattle.std.specs.Prelude.{◌≡◌, ◌++◌, ◌∷◌, [], List, MatchOption};
+ghost use Rattle.std.specs.Option.{option_copied};
+ghost use Rattle.sqs_redrive.specs.declared.answers.Got.{Got as GotMessage};
+ghost use Rattle.sim_actor.specs.Holdings.{first_of, only_held};
+
+use sqs_redrive::Got;
+use std::alloc::Global;
+use std::collections::VecDeque;
+use std::marker::Model;
+
+/// The messages of one receive, in order. The first of them are those whose visibility timeouts
+/// will change, since a service failed. Then come those that were served and will be deleted when
+/// all are served, and then those that are held and not served yet. Contracts see the three lists.
+#[derive(Drop)]
+pub struct Holding {
+    messages: VecDeque<Got>,
+    failed: usize,
+    done: usize,
+}
+
+impl Model for Holding {
+    ghost use Rattle.std.specs.Prelude.{◌≤◌, ◌+◌, drop, length, take};
+    ghost use Rattle.sim_actor.specs.Holdings.{Holding};
+
+    ghost Value = { Holding };
+
+    ghost view = { λ h. record { failed = take h.failed h.messages.items; done = take h.done (drop h.failed h.messages.items); held = drop (h.failed + h.done) h.messages.items } };
+
+    ghost invariant = { λ h. h.failed + h.done ≤ length h.messages.items };
+}
+
+impl Holding {
+    /// No messages.
+    pub fn new(alloc: Global) -> Holding
+        ensures { result ≡ only_held [] }
+    {
+        Holding {
+            messages: VecDeque::new(alloc),
+            failed: 0,
+            done: 0,
+        }
+    }
+
+    /// These messages, of which none was served yet.
+    pub fn of(messages: Vec<Got>) -> Holding
+        ensures { result ≡ only_held messages.items }
+    {
+        Holding {
+            messages: VecDeque::from(messages),
+            failed: 0,
+            done: 0,
+        }
+    }
+
+    /// The first message that is not served yet.
+    pub fn first(&self) -> Option<&Got>
+        ensures { option_copied result ≡ first_of self.now.held }
+    {
+        self.messages.get(self.failed + self.done)
+    }
+
+    /// Takes the first message that is not served yet.
+    pub fn take_held(&mut self) -> Option<Got>
+        ensures { MatchOption result ((self.old.held ≡ []) × (self.new ≡ self.old))
+            (λ got. self.old ≡ record self.new { held = got ∷ self.new.held }) }
+    {
+        self.messages.remove(self.failed + self.done)
+    }
+
+    /// Takes the first message that will be deleted.
+    pub fn take_done(&mut self) -> Option<Got>
+        ensures { MatchOption result ((self.old.done ≡ []) × (self.new ≡ self.old))
+            (λ got. self.old ≡ record self.new { done = got ∷ self.new.done }) }
+    {
+        if self.done == 0 {
+            return None;
+        }
+        self.done -= 1;
+        self.messages.remove(self.failed)
+    }
+
+    /// Takes the first message whose timeout will change.
+    pub fn take_failed(&mut self) -> Option<Got>
+        ensures { MatchOption result ((self.old.failed ≡ []) × (self.new ≡ self.old))
+            (λ got. self.old ≡ record self.new { failed = got ∷ self.new.failed }) }
+    {
+        if self.failed == 0 {
+            return None;
+        }
+        self.failed -= 1;
+        self.messages.pop_front()
+    }
+
+    /// The first message that is not served yet was served, and will be deleted.
+    pub fn serve_first(&mut self)
+        ensures { (got : GotMessage) (others : List GotMessage) → self.old.held ≡ got ∷ others
+            → self.new ≡ record self.old { done = self.old.done ++ got ∷ []; held = others } }
+    {
+        if self.failed + self.done < self.messages.len() {
+            self.done += 1;
+        }
+    }
+
+    /// The service of the first message that is not served yet failed. Its timeout will change,
+    /// and those of the messages that were served before it.
+    pub fn fail_first(&mut self)
+        ensures { (got : GotMessage) (others : List GotMessage) → self.old.held ≡ got ∷ others
+            → self.new
+            ≡ record {
+              failed = self.old.failed ++ (self.old.done ++ got ∷ []);
+              done = [];
+              held = others;
+            } }
+    {
+        if self.failed + self.done < self.messages.len() {
+            self.failed += self.done + 1;
+            self.done = 0;
+        }
+    }
+
+    /// The timeouts of all messages will change.
+    pub fn fail_all(&mut self)
+        ensures { self.new
+            ≡ record {
+              failed = self.old.failed ++ (self.old.done ++ self.old.held);
+              done = [];
+              held = [];
+            } }
+    {
+        self.failed = self.messages.len();
+        self.done = 0;
+    }
+
+    /// Lets go the messages that were served and those that were not.
+    pub fn let_go(&mut self)
+        ensures { self.new ≡ record self.old { done = []; held = [] } }
+    {
+        self.messages.truncate(self.failed);
+        self.done = 0;
+    }
+}

@@ -1,0 +1,405 @@
+//! What a consumer does.
+ghost use Rattle.std.specs.Prelude.{◌≡◌, ◌≤◌, ◌∷◌, ◌+◌, List, Some, max, true};
+ghost use Rattle.sqs_model.specs.declared.agents.ActorSettings.{ActorSettings};
+ghost use Rattle.sqs_redrive.specs.declared.answers.Got.{Got as GotMessage};
+ghost use Rattle.sqs_model.specs.Actor.{next_beat, woken, idle as the_idle, serving as the_serving, serves as the_serves, settles as the_settles, fails_service as the_fails_service, ends_well as the_ends_well, ends_drawn as the_ends_drawn, backs_off as the_backs_off, backoff_at as the_backoff_at, goes_on as the_goes_on, has_failed as the_has_failed, rests as the_rests, consumer_wake as the_consumer_wake, consumer_got as the_consumer_got, consumer_told as the_consumer_told};
+ghost use Rattle.sqs_model.specs.Answers.{most_count};
+ghost use Rattle.sqs_model.specs.Draw.{drawn_chance};
+ghost use Rattle.sqs_model.specs.Valid.{IsConsumer, IsLatency, MayBeForward};
+ghost use Rattle.sim_actor.specs.Lives.{Becomes, Decides, Meets, lived};
+
+use super::failing::fails;
+use super::{LastAct, Life, has_come};
+use crate::holding::Holding;
+use sim_clock::Refusal;
+use sqs_message::{MessageId, Receipt, ReceiptHandle};
+use sqs_model::{Act, ConsumerSettings, Forwarding, MOST_COUNT};
+use sqs_redrive::{Batch, Got, Latency, Load, Outbound};
+
+// The timeout in seconds that follows a failed service: the entry of the receive, or else the last.
+fn backoff_at(timeouts: &[u64], count: u64) -> u64
+    ensures { result ≡ the_backoff_at timeouts.now count }
+{
+    let index = count.min(timeouts.len() as u64).saturating_sub(1);
+    timeouts.get(index as usize).copied().unwrap_or(0)
+}
+
+// Whether a service goes on, of a consumer that has a heartbeat.
+fn goes_on(heartbeat: Option<u64>, ends: u64, now: u64) -> bool
+    ensures { result ≡ the_goes_on heartbeat ends now }
+{
+    heartbeat.is_some() && now < ends
+}
+
+impl Life {
+    // Waits until it receives again.
+    fn idle(&mut self, consumer: &ConsumerSettings, now: u64) -> Act
+        requires moment { now ≤ most_count }
+        requires consumer { IsConsumer consumer.now }
+        ensures decision { (s : ActorSettings) →
+            the_idle (lived s self.old) consumer.now now ≡ (result, lived s self.new) }
+        ensures framed { self.new.number ≡ self.old.number }
+    {
+        self.wake = Some(now + consumer.idle);
+        Act::Nothing
+    }
+
+    // Serves until the service ends, or until its heartbeat before that.
+    fn in_service(&mut self, consumer: &ConsumerSettings, now: u64)
+        requires moment { now ≤ most_count }
+        requires consumer { IsConsumer consumer.now }
+        ensures { self.new
+            ≡ record self.old {
+              wake = Some (max (now + 1) (next_beat consumer.now.heartbeat now self.old.ends));
+            } }
+    {
+        let beat = match consumer.heartbeat {
+            None => self.ends,
+            Some(every) => self.ends.min(now + every),
+        };
+        self.wake = Some(beat.max(now + 1));
+    }
+
+    // Begins to serve the first of the messages that it holds. If it holds none, it wakes 1 ms
+    // later.
+    fn serve_held(&mut self, consumer: &ConsumerSettings, now: u64) -> Result<(), Refusal>
+        requires moment { now ≤ most_count }
+        requires consumer { IsConsumer consumer.now }
+        ensures life { (s : ActorSettings) → Becomes result (lived s self.new)
+            (the_serving (lived s self.old) consumer.now now self.old.held) }
+        ensures framed { self.new.number ≡ self.old.number }
+    {
+        if self.holding.first().is_none() {
+            self.wake = Some(now + 1);
+            return Ok(());
+        }
+        if self.draws.taken() == MOST_COUNT {
+            return Err(Refusal::CountLimit);
+        }
+        self.ends = now + self.draws.time(&consumer.service);
+        self.in_service(consumer, now);
+        Ok(())
+    }
+
+    // Forwards the message that it served.
+    fn forward(
+        &mut self,
+        home: u32,
+        now: u64,
+        got: Got,
+        forwarding: Forwarding,
+    ) -> Result<Act, Refusal>
+        requires moment { now ≤ most_count }
+        requires latency { IsLatency forwarding.latency }
+        ensures decision { (s : ActorSettings) → s.home ≡ home → Decides result (lived s self.new)
+            (the_serves (lived s self.old) now got (Some forwarding)) }
+        ensures framed { self.new.number ≡ self.old.number }
+    {
+        let varies = forwarding.latency.least < forwarding.latency.greatest;
+        if self.sent == MOST_COUNT || (varies && self.draws.taken() == MOST_COUNT) {
+            return Err(Refusal::CountLimit);
+        }
+        let Latency { least, greatest } = forwarding.latency;
+        let latency = self.draws.between(least, greatest);
+        let outbound = Outbound {
+            at: now + latency,
+            sender: self.number,
+            number: self.sent,
+            from: home,
+            to: forwarding.to,
+            load: Load::Forward {
+                id: got.id,
+                body: got.body,
+                group: got.group,
+            },
+        };
+        self.sent += 1;
+        Ok(Act::Serve {
+            id: got.id,
+            receipt: got.receipt,
+            failed: false,
+            forward: Some(outbound),
+        })
+    }
+
+    // Ends a service well.
+    fn serve(
+        &mut self,
+        home: u32,
+        now: u64,
+        got: Got,
+        forwarding: Option<Forwarding>,
+    ) -> Result<Act, Refusal>
+        requires moment { now ≤ most_count }
+        requires latency { MayBeForward forwarding }
+        ensures decision { (s : ActorSettings) → s.home ≡ home → Decides result (lived s self.new)
+            (the_serves (lived s self.old) now got forwarding) }
+        ensures framed { self.new.number ≡ self.old.number }
+    {
+        match forwarding {
+            None => Ok(Act::Serve {
+                id: got.id,
+                receipt: got.receipt,
+                failed: false,
+                forward: None,
+            }),
+            Some(forwarding) => self.forward(home, now, got, forwarding),
+        }
+    }
+
+    // A message that was served is forwarded and then deleted.
+    fn settle(
+        &mut self,
+        consumer: &ConsumerSettings,
+        home: u32,
+        now: u64,
+        got: Got,
+    ) -> Result<Act, Refusal>
+        requires moment { now ≤ most_count }
+        requires consumer { IsConsumer consumer.now }
+        ensures decision { (s : ActorSettings) → s.home ≡ home → Decides result (lived s self.new)
+            (the_settles (lived s self.old) consumer.now now got self.old.done) }
+        ensures framed { self.new.number ≡ self.old.number }
+    {
+        self.last_act = LastAct::Served(got.receipt);
+        self.serve(home, now, got, consumer.forward)
+    }
+
+    // The first of the messages of a failed service gets another visibility timeout.
+    fn back_off(&mut self, consumer: &ConsumerSettings, got: &Got) -> Act
+        ensures decision { (s : ActorSettings) →
+            the_backs_off (lived s self.old) consumer.now got.now self.old.failed
+            ≡ (result, lived s self.new) }
+        ensures framed { self.new.number ≡ self.old.number }
+    {
+        self.last_act = LastAct::Ended;
+        Act::Change {
+            receipt: ReceiptHandle::from(got.receipt),
+            timeout: backoff_at(consumer.backoff.as_slice(), got.receipt.count),
+        }
+    }
+
+    // Ends a service that failed.
+    fn fail_service(&mut self, consumer: &ConsumerSettings, id: MessageId, receipt: Receipt) -> Act
+        ensures decision { (s : ActorSettings) (g : GotMessage) (gs : List GotMessage) → self.old.held ≡ g ∷ gs
+            → g.id ≡ id → g.receipt ≡ receipt →
+            the_fails_service (record (lived s self.old) { held = gs }) consumer.now g
+            ≡ (result, lived s self.new) }
+        ensures framed { self.new.number ≡ self.old.number }
+    {
+        self.last_act = LastAct::Failed;
+        match (consumer.backoff.as_slice().is_empty(), consumer.whole) {
+            (true, true) => self.holding.let_go(),
+            (true, false) => {
+                self.holding.take_held();
+            }
+            (false, true) => self.holding.fail_all(),
+            (false, false) => self.holding.fail_first(),
+        }
+        Act::Serve {
+            id,
+            receipt,
+            failed: true,
+            forward: None,
+        }
+    }
+
+    // Ends a service well, of a consumer whose receives end as a whole.
+    fn end_in_whole(
+        &mut self,
+        consumer: &ConsumerSettings,
+        home: u32,
+        now: u64,
+        id: MessageId,
+        receipt: Receipt,
+    ) -> Result<Act, Refusal>
+        requires moment { now ≤ most_count }
+        requires consumer { IsConsumer consumer.now }
+        ensures decision { (s : ActorSettings) (g : GotMessage) (gs : List GotMessage) → s.home ≡ home
+            → self.old.held ≡ g ∷ gs → g.id ≡ id → g.receipt ≡ receipt
+            → Decides result (lived s self.new)
+            (the_ends_well true (record (lived s self.old) { held = gs }) consumer.now now g gs) }
+        ensures framed { self.new.number ≡ self.old.number }
+    {
+        self.holding.serve_first();
+        if self.holding.first().is_some() {
+            self.last_act = LastAct::Ended;
+            return Ok(Act::Serve {
+                id,
+                receipt,
+                failed: false,
+                forward: None,
+            });
+        }
+        match self.holding.take_done() {
+            None => Ok(Act::Nothing),
+            Some(got) => self.settle(consumer, home, now, got),
+        }
+    }
+
+    // Ends the service of the first message that it holds.
+    fn end_service(
+        &mut self,
+        consumer: &ConsumerSettings,
+        home: u32,
+        now: u64,
+    ) -> Result<Act, Refusal>
+        requires moment { now ≤ most_count }
+        requires consumer { IsConsumer consumer.now }
+        ensures decision { (s : ActorSettings) (g : GotMessage) (gs : List GotMessage) → s.home ≡ home
+            → self.old.held ≡ g ∷ gs
+            → Decides result (lived s self.new)
+            (the_ends_drawn (record (lived s self.old) { held = gs }) consumer.now now g
+            (drawn_chance consumer.now.fail_permille self.old.draws)) }
+        ensures framed { self.new.number ≡ self.old.number }
+    {
+        if self.draws.taken() == MOST_COUNT {
+            return Err(Refusal::CountLimit);
+        }
+        let by_chance = self.draws.chance(consumer.fail_permille);
+        let Some(got) = self.holding.first() else {
+            return Ok(Act::Nothing);
+        };
+        let (id, receipt) = (got.id, got.receipt);
+        if fails(consumer, now, got, by_chance) {
+            return Ok(self.fail_service(consumer, id, receipt));
+        }
+        if consumer.whole {
+            return self.end_in_whole(consumer, home, now, id, receipt);
+        }
+        match self.holding.take_held() {
+            None => Ok(Act::Nothing),
+            Some(got) => self.settle(consumer, home, now, got),
+        }
+    }
+
+    // Without a message to serve it changes a visibility timeout, deletes a message, or asks for
+    // messages until it stops.
+    fn rest(&mut self, consumer: &ConsumerSettings, home: u32, now: u64) -> Result<Act, Refusal>
+        requires moment { now ≤ most_count }
+        requires consumer { IsConsumer consumer.now }
+        ensures decision { (s : ActorSettings) → s.home ≡ home → Decides result (lived s self.new)
+            (the_rests (lived s self.old) consumer.now now self.old.failed self.old.done) }
+        ensures framed { self.new.number ≡ self.old.number }
+    {
+        if let Some(got) = self.holding.take_failed() {
+            return Ok(self.back_off(consumer, &got));
+        }
+        if let Some(got) = self.holding.take_done() {
+            return self.settle(consumer, home, now, got);
+        }
+        if has_come(consumer.stop, now) {
+            return Ok(Act::Nothing);
+        }
+        self.last_act = LastAct::Asked;
+        Ok(Act::Receive {
+            max: consumer.batch,
+            wait: consumer.wait,
+            timeout: consumer.timeout,
+        })
+    }
+
+    // A consumer's wake has come. While it serves, it sets the visibility timeout of the message
+    // anew, or the service ends.
+    pub(crate) fn consumer_wake(
+        &mut self,
+        consumer: &ConsumerSettings,
+        home: u32,
+        now: u64,
+    ) -> Result<Act, Refusal>
+        requires moment { now ≤ most_count }
+        requires consumer { IsConsumer consumer.now }
+        ensures decision { (s : ActorSettings) → s.home ≡ home → Decides result (lived s self.new)
+            (the_consumer_wake (woken (lived s self.old)) consumer.now now self.old.held) }
+        ensures framed { self.new.number ≡ self.old.number }
+    {
+        if self.wakes == MOST_COUNT {
+            return Err(Refusal::CountLimit);
+        }
+        self.count_wake();
+        let Some(got) = self.holding.first() else {
+            return self.rest(consumer, home, now);
+        };
+        if goes_on(consumer.heartbeat, self.ends, now) {
+            let receipt = got.receipt;
+            self.last_act = LastAct::Beat;
+            return Ok(Act::Prolong {
+                receipt: ReceiptHandle::from(receipt),
+                timeout: consumer.timeout,
+            });
+        }
+        self.end_service(consumer, home, now)
+    }
+
+    // Serves the first of the messages received. If there is none, it waits until it receives
+    // again.
+    pub(crate) fn consumer_got(
+        &mut self,
+        consumer: &ConsumerSettings,
+        now: u64,
+        batch: Batch,
+    ) -> Result<Act, Refusal>
+        requires moment { now ≤ most_count }
+        requires consumer { IsConsumer consumer.now }
+        ensures decision { (s : ActorSettings) → Decides result (lived s self.new)
+            (the_consumer_got (lived s self.old) consumer.now now batch) }
+        ensures framed { self.new.number ≡ self.old.number }
+    {
+        let messages = batch.into_vec();
+        if messages.is_empty() {
+            return Ok(self.idle(consumer, now));
+        }
+        self.holding = Holding::of(messages);
+        self.serve_held(consumer, now)?;
+        Ok(Act::Nothing)
+    }
+
+    // After a refused receive it waits, after a service that ended well it deletes the message, and
+    // else it serves the next message.
+    pub(crate) fn consumer_told(
+        &mut self,
+        consumer: &ConsumerSettings,
+        now: u64,
+    ) -> Result<Act, Refusal>
+        requires moment { now ≤ most_count }
+        requires consumer { IsConsumer consumer.now }
+        ensures decision { (s : ActorSettings) → Meets result (lived s self.old) (lived s self.new)
+            (the_consumer_told (lived s self.old) consumer.now now self.old.last_act) }
+        ensures framed { self.new.number ≡ self.old.number }
+    {
+        match self.last_act {
+            LastAct::Asked => Ok(self.idle(consumer, now)),
+            LastAct::Served(receipt) => {
+                self.last_act = LastAct::Ended;
+                Ok(Act::Delete {
+                    receipt: ReceiptHandle::from(receipt),
+                })
+            }
+            LastAct::Ended => {
+                self.serve_held(consumer, now)?;
+                Ok(Act::Nothing)
+            }
+            LastAct::Failed => self.told_of_failure(consumer, now),
+            LastAct::Beat => {
+                self.in_service(consumer, now);
+                Ok(Act::Nothing)
+            }
+        }
+    }
+
+    // After a failed service the first of its messages gets another visibility timeout, if it is to
+    // have one. Else it serves the next message.
+    fn told_of_failure(&mut self, consumer: &ConsumerSettings, now: u64) -> Result<Act, Refusal>
+        requires moment { now ≤ most_count }
+        requires consumer { IsConsumer consumer.now }
+        ensures decision { (s : ActorSettings) → Decides result (lived s self.new)
+            (the_has_failed (lived s self.old) consumer.now now self.old.failed) }
+        ensures framed { self.new.number ≡ self.old.number }
+    {
+        if let Some(got) = self.holding.take_failed() {
+            return Ok(self.back_off(consumer, &got));
+        }
+        self.serve_held(consumer, now)?;
+        Ok(Act::Nothing)
+    }
+}

@@ -1,0 +1,150 @@
+-- What a consumer does when it wakes, and what that leaves as it was.
+use Rattle.std.specs.Prelude.{Bool, List, None, Option, Some, [], false, true, ℕ, ◌++◌, ◌+◌, ◌∷◌, ◌≡◌, ◌≤◌}
+use Rattle.std.proofs.Common.{ap, arith, refl}
+use Rattle.sqs_model.specs.declared.acts.Act.{Act}
+use Rattle.sqs_model.specs.declared.acts.Act.TheVariants as acts
+use Rattle.sqs_model.specs.declared.agents.ActorSettings.{ActorSettings}
+use Rattle.sqs_model.specs.declared.agents.ConsumerSettings.{ConsumerSettings}
+use Rattle.sqs_model.specs.declared.agents.Forwarding.{Forwarding}
+use Rattle.sqs_redrive.specs.declared.answers.Got.{Got}
+use Rattle.sqs_redrive.specs.declared.transfers.Outbound.{Outbound}
+use Rattle.sqs_model.specs.Actor.{Actor, Asked, Beat, Ended, Failed, LastAct, Served, after_failure, consumer_wake, ends_drawn, ends_service, ends_well, fails, goes_on, has_come, rests, served_all, serves, settles}
+use Rattle.sqs_model.specs.Draw.{Draws, drawn_chance, drawn_latency}
+use Rattle.sqs_model.proofs.Branches.{either}
+use Rattle.sqs_model.proofs.Effects.{latency_least, latency_words}
+use Rattle.sqs_model.proofs.Sending.{IsForward, Sends}
+
+-- an actor that keeps its number, its settings, its wake and its counts but for transfers and words, which are no fewer
+pub record Stays (b d : Actor) : Type 0 where
+  pub number : d.number ≡ b.number
+  pub settings : d.settings ≡ b.settings
+  pub wake : d.wake ≡ b.wake
+  pub wakes : d.wakes ≡ b.wakes
+  pub polls : d.polls ≡ b.polls
+  pub sent : b.sent ≤ d.sent
+  pub words : b.draws.taken ≤ d.draws.taken
+
+-- a forward of an actor
+pub record IsForwardBy (now : ℕ) (b : Actor) (f : Forwarding) (o : Outbound) : Type 0 where
+  pub sender : o.sender ≡ b.number
+  pub from : o.from ≡ b.settings.home
+  pub to : o.to ≡ f.to
+  pub late : now + f.latency.least ≤ o.at
+  pub load : IsForward o.load
+
+abbrev pub MayForwardBy : ℕ → Actor → Option Forwarding → Option Outbound → Type 0
+MayForwardBy now b f None = Unit {0}
+MayForwardBy now b None (Some o) = ⊥
+MayForwardBy now b (Some f) (Some o) = IsForwardBy now b f o
+
+-- what a consumer with a wait and a forward may do when it wakes
+abbrev pub IsServiceAct : ℕ → Actor → ℕ → Option Forwarding → Act → Type 0
+IsServiceAct now b wait f (acts.Send body delay group id) = ⊥
+IsServiceAct now b wait f (acts.Receive most waits timeout) = waits ≡ wait
+IsServiceAct now b wait f (acts.Delete text) = Unit {0}
+IsServiceAct now b wait f (acts.Change text timeout) = Unit {0}
+IsServiceAct now b wait f (acts.Prolong text timeout) = Unit {0}
+IsServiceAct now b wait f (acts.Start task) = ⊥
+IsServiceAct now b wait f (acts.Cancel task) = ⊥
+IsServiceAct now b wait f (acts.Serve id receipt failed forward) = MayForwardBy now b f forward
+IsServiceAct now b wait f acts.Nothing = Unit {0}
+
+-- what holds of no transfer and of each forward holds of what such an act sends
+module _ (now : ℕ) (b : Actor) (wait : ℕ) (P : Option Outbound → Type 0) (none : P None) where
+  forward_sends : (f : Option Forwarding) (o : Option Outbound) → ((x : Forwarding) (y : Outbound) → f ≡ Some x → IsForwardBy now b x y → P (Some y)) → MayForwardBy now b f o → P o
+  forward_sends f None one h = none
+  forward_sends None (Some o) one h = absurd h
+  forward_sends (Some x) (Some o) one h = one x o refl h
+
+  pub service_sends : (f : Option Forwarding) (act : Act) → ((x : Forwarding) (y : Outbound) → f ≡ Some x → IsForwardBy now b x y → P (Some y)) → IsServiceAct now b wait f act → Sends P act
+  service_sends f (acts.Send body delay group id) one h = absurd h
+  service_sends f (acts.Receive most waits timeout) one h = tt
+  service_sends f (acts.Delete text) one h = tt
+  service_sends f (acts.Change text timeout) one h = tt
+  service_sends f (acts.Prolong text timeout) one h = tt
+  service_sends f (acts.Start task) one h = absurd h
+  service_sends f (acts.Cancel task) one h = absurd h
+  service_sends f (acts.Serve id receipt failed forward) one h = forward_sends f forward one h
+  service_sends f acts.Nothing one h = tt
+
+-- what a consumer does when it wakes
+pub record Woke (now : ℕ) (b : Actor) (wait : ℕ) (f : Option Forwarding) (x : Act × Actor) : Type 0 where
+  pub stays : Stays b x.1
+  pub act : IsServiceAct now b wait f x.0
+
+module _ (now : ℕ) (b : Actor) where
+  -- what it holds, when its service ends and what it did last may change
+  held_stays : (d : Actor) (held done failed : List Got) (ends : ℕ) (last_act : LastAct) → Stays b d → Stays b (record d { held = held; done = done; failed = failed; ends = ends; last_act = last_act })
+  held_stays d held done failed ends last_act s =
+      record { number = s.number; settings = s.settings; wake = s.wake; wakes = s.wakes; polls = s.polls; sent = s.sent; words = s.words }
+
+  drawn_stays : (d : Actor) (draws : Draws) → d.draws.taken ≤ draws.taken → Stays b d → Stays b (record d { draws = draws })
+  drawn_stays d draws more s =
+      record { number = s.number; settings = s.settings; wake = s.wake; wakes = s.wakes; polls = s.polls; sent = s.sent; words = omega (arith, s.words, more) }
+
+  pub serves_woke : (wait : ℕ) (d : Actor) (g : Got) (f : Option Forwarding) → Stays b d → Woke now b wait f (serves d now g f)
+  serves_woke wait d g None s = record { stays = s; act = tt }
+  serves_woke wait d g (Some f) s =
+      let later : f.latency.least ≤ (drawn_latency f.latency d.draws).0 = latency_least f.latency d.draws in
+      record {
+        stays = record {
+          number = s.number;
+          settings = s.settings;
+          wake = s.wake;
+          wakes = s.wakes;
+          polls = s.polls;
+          sent = omega (arith, s.sent);
+          words = latency_words f.latency b.draws.taken d.draws s.words;
+        };
+        act = record { sender = s.number; from = ap (λ (x : ActorSettings). x.home) s.settings; to = refl; late = omega arith; load = tt };
+      }
+
+  module _ (c : ConsumerSettings) where
+    -- what it does is what such a consumer may do
+    abbrev Wakes : Act × Actor → Type 0
+    Wakes x = Woke now b c.wait c.forward x
+
+    settles_woke : (d : Actor) (g : Got) (gs : List Got) → Stays b d → Wakes (settles d c now g gs)
+    settles_woke d g gs s = serves_woke c.wait _ g c.forward (held_stays d d.held gs d.failed d.ends (Served g.receipt) s)
+
+    all_woke : (d : Actor) (gs : List Got) → Stays b d → Wakes (served_all d c now gs)
+    all_woke d [] s = record { stays = s; act = tt }
+    all_woke d (g ∷ gs) s = settles_woke d g gs s
+
+    well_woke : (whole : Bool) (d : Actor) (g : Got) (gs : List Got) → Stays b d → Wakes (ends_well whole d c now g gs)
+    well_woke false d g gs s = serves_woke c.wait _ g c.forward (held_stays d d.held d.done d.failed d.ends (Served g.receipt) s)
+    well_woke true d g [] s = all_woke d (d.done ++ g ∷ []) s
+    well_woke true d g (h ∷ hs) s = record { stays = held_stays d d.held (d.done ++ g ∷ []) d.failed d.ends Ended s; act = tt }
+
+    failed_stays : (timeouts : List ℕ) (whole : Bool) (d : Actor) (g : Got) → c.whole ≡ whole → Stays b d → Stays b (record (after_failure timeouts c d g) { last_act = Failed })
+    failed_stays [] false d g e s = rw e (held_stays d d.held d.done d.failed d.ends Failed s)
+    failed_stays [] true d g e s = rw e (held_stays d [] [] d.failed d.ends Failed s)
+    failed_stays (t ∷ ts) false d g e s = rw e (held_stays d d.held [] (d.failed ++ (d.done ++ g ∷ [])) d.ends Failed s)
+    failed_stays (t ∷ ts) true d g e s = rw e (held_stays d [] [] (d.failed ++ (d.done ++ g ∷ d.held)) d.ends Failed s)
+
+    ends_woke : (d : Actor) (g : Got) (failed : Bool) → Stays b d → Wakes (ends_service d c now g failed)
+    ends_woke d g true s = record { stays = failed_stays c.backoff c.whole d g refl s; act = tt }
+    ends_woke d g false s = well_woke c.whole d g d.held s
+
+    drawn_woke : (d : Actor) (g : Got) → Stays b d → Wakes (ends_drawn d c now g (drawn_chance c.fail_permille d.draws))
+    drawn_woke d g s =
+        let drawn : Bool × Draws = drawn_chance c.fail_permille d.draws in
+        ends_woke (record d { draws = drawn.1 }) g (fails c now g drawn.0) (drawn_stays d drawn.1 (omega arith) s)
+
+    rests_woke : (d : Actor) (failed done : List Got) → Stays b d → Wakes (rests d c now failed done)
+    rests_woke d (g ∷ gs) done s = record { stays = held_stays d d.held d.done gs d.ends Ended s; act = tt }
+    rests_woke d [] (g ∷ gs) s = settles_woke d g gs s
+    rests_woke d [] [] s =
+        either Wakes (has_come c.stop now) _ _ (record { stays = s; act = tt })
+        (record { stays = held_stays d d.held d.done d.failed d.ends Asked s; act = refl })
+
+    woke_from : (d : Actor) (gs : List Got) → Stays b d → Wakes (consumer_wake d c now gs)
+    woke_from d [] s = rests_woke d d.failed d.done s
+    woke_from d (g ∷ gs) s =
+        either Wakes (goes_on c.heartbeat d.ends now) _ _
+        (record { stays = held_stays d d.held d.done d.failed d.ends Beat s; act = tt })
+        (drawn_woke (record d { held = gs }) g (held_stays d gs d.done d.failed d.ends d.last_act s))
+
+    pub consumer_woke : (gs : List Got) → Wakes (consumer_wake b c now gs)
+    consumer_woke gs =
+        woke_from b gs (record { number = refl; settings = refl; wake = refl; wakes = refl; polls = refl; sent = omega arith; words = omega arith })

@@ -1,0 +1,153 @@
+"""Compares what a poison message costs under Lambda with a small model that was written apart from all rules of ours.
+
+The model has servers that take up to ten messages, handle one after another, and let the whole batch come back if one
+fails. It knows nothing of polls, receipts or words: times are Python's random numbers. So its numbers are not ours, but
+over 30 seeds both must be of one size, and go the same way.
+"""
+import heapq
+import itertools
+import os
+import random
+import statistics
+import subprocess
+import unittest
+from collections.abc import Iterator
+
+from tool import PROGRAM, needs_program
+
+SEEDS = range(1, 31)
+COUNT, EVERY, SERVERS, BATCH, TIMEOUT, RECEIVES = 18_000, 1_000, 8, 10, 60_000, 3
+POISON = COUNT // EVERY
+SCENARIO = """version = 3
+horizon = 7200000
+seed = {seed}
+[[queue]]
+name = "q"
+visibility_s = 60
+dead_letter = "d"
+max_receives = 3
+latency_min_ms = 1
+latency_max_ms = 1
+[[queue]]
+name = "d"
+[[actor]]
+name = "p"
+kind = "producer"
+queue = "q"
+count = 18000
+gap_min_ms = 1
+gap_max_ms = {gap}
+body = "{{n}}."
+"""
+LAMBDA = """[[actor]]
+name = "c{number}"
+kind = "consumer"
+queue = "q"
+batch = 10
+wait_s = 20
+service_min_ms = {low}
+service_max_ms = {high}
+fails_on = "999."
+batch_fails = "{fails}"
+"""
+# By its name a load: the greatest gap, and the bounds of a service. An export of a minute and a half, and ten messages
+# a second for servers that are busy for 94 or 47 of 100 seconds.
+EXPORT = "an export"
+LOADS = {EXPORT: (9, 100, 500), "busy": (199, 500, 1000), "idle": (199, 250, 500)}
+
+
+class Model:
+    """A queue with servers, as one would draw it on a sheet of paper."""
+
+    def __init__(self, seed: int, gap: int, low: int, high: int, is_whole: bool) -> None:
+        self.random, self.low, self.high, self.is_whole = random.Random(seed), low, high, is_whole
+        self.receives = [0] * COUNT
+        self.dead = 0
+        # What is to come: a moment, and a message that is visible then.
+        gaps = (self.random.randint(1, gap) for _ in range(COUNT))
+        self.coming = [(moment, number) for number, moment in enumerate(itertools.accumulate(gaps))]
+        self.visible: list[int] = []
+
+    def take(self, moment: int) -> Iterator[int]:
+        """The messages that a server takes at a moment, in the order of their numbers."""
+        while self.coming and self.coming[0][0] <= moment:
+            heapq.heappush(self.visible, heapq.heappop(self.coming)[1])
+        for _ in range(min(BATCH, len(self.visible))):
+            yield heapq.heappop(self.visible)
+
+    def give_back(self, number: int, moment: int) -> None:
+        if self.receives[number] == RECEIVES:
+            self.dead += 1
+        else:
+            heapq.heappush(self.coming, (moment, number))
+
+    def handle(self, batch: list[int], moment: int) -> int:
+        """Handles a batch; returns when it is done."""
+        now, failed = moment, []
+        for number in batch:
+            self.receives[number] += 1
+            if self.is_whole and failed:
+                continue
+            now += self.random.randint(self.low, self.high)
+            if number % EVERY == EVERY - 1:
+                failed = batch if self.is_whole else [*failed, number]
+        for number in failed:
+            self.give_back(number, moment + TIMEOUT)
+        return now
+
+    def run(self) -> int:
+        """How many messages are dead in the end."""
+        servers = [0] * SERVERS
+        while self.coming or self.visible:
+            moment = heapq.heappop(servers)
+            batch = list(self.take(moment))
+            next_moment = self.handle(batch, moment) if batch else max(moment, self.coming[0][0])
+            heapq.heappush(servers, next_moment)
+        return self.dead
+
+
+def dead_letters(text: str) -> int:
+    """How many messages the program's report of a scenario counts as redriven from the first queue."""
+    ran = subprocess.run([str(PROGRAM), "run", "--preview", "--log", os.devnull], input=text.encode(), check=True,
+                         capture_output=True)
+    head, row = (line.split(",") for line in ran.stdout.decode().split("\n")
+                 if line.startswith(("report,queue", "report,q,")))
+    return int(row[head.index("redrives")])
+
+
+@needs_program
+class Poison(unittest.TestCase):
+    def model(self, load: str, is_whole: bool, seeds: range) -> list[int]:
+        return [Model(seed, *LOADS[load], is_whole).run() for seed in seeds]
+
+    def ours(self, load: str, fails: str, seeds: range) -> list[int]:
+        gap, low, high = LOADS[load]
+        actors = "".join(LAMBDA.format(number=number, low=low, high=high, fails=fails) for number in range(SERVERS))
+        return [dead_letters(SCENARIO.format(seed=seed, gap=gap) + actors) for seed in seeds]
+
+    def test_partial_responses_cost_poison_alone(self) -> None:
+        for load in LOADS:
+            with self.subTest(load=load):
+                few = SEEDS[:5]
+                self.assertEqual(set(self.model(load, False, few) + self.ours(load, "each", few)), {POISON})
+
+    def test_whole_batches_cost_the_innocent(self) -> None:
+        """Each run of a backlog costs the innocent more than the poison; busy servers cost fewer, idle ones hardly any.
+        """
+        means = {}
+        for load in LOADS:
+            found, ours = self.model(load, True, SEEDS), self.ours(load, "whole", SEEDS)
+            with self.subTest(load=load):
+                self.assertGreaterEqual(min(found + ours), POISON)
+                means[load] = mean, our_mean = statistics.mean(found), statistics.mean(ours)
+                self.assertTrue(mean / 2 < our_mean < 2 * mean, means)
+                if load == EXPORT:
+                    self.assertGreater(min(found + ours), 5 * POISON)
+        for side in zip(*means.values()):
+            self.assertEqual(sorted(side, reverse=True), list(side))
+            self.assertGreater(side[0], 3 * side[1])
+            self.assertGreater(side[1], 1.3 * side[2])
+
+
+if __name__ == "__main__":
+    unittest.main()
