@@ -42,6 +42,32 @@ class Arrivals(ToolCase):
                                    "2024-05-01T12:00:00")
         self.assertEqual((times, [record["body"] for record in records]), ([250, 1000], ["c 0", "a, b"]))
 
+    def test_message_groups_and_ids_of_a_file(self):
+        """Each message keeps the group and the id of its record, also where the times are not in order."""
+        path = self.write("t.csv", "t,group,id,what\n2,acct-1,c,x\n0,acct-1,a,y\n1,acct-2,b,z\n")
+        words = "times", path, "--queue", "q.fifo", "--group-ids", "group"
+        records, times = self.made(*words, "--deduplication-ids", "id", "--bodies", "what")
+        self.assertEqual([(at, *map(record.get, ("body", "group", "id"))) for at, record in zip(times, records)],
+                         [(0, "y", "acct-1", "a"), (1000, "z", "acct-2", "b"), (2000, "x", "acct-1", "c")])
+        records, _ = self.made(*words)
+        self.assertEqual([(record["group"], record["id"]) for record in records],
+                         [("acct-1", "m0"), ("acct-2", "m1"), ("acct-1", "m2")])
+
+    def test_message_groups_that_are_none(self):
+        path = self.write("t.csv", "t,group\n1,a b\n")
+        words = "times", path, "--queue", "q.fifo", "--group-ids", "group"
+        line = f"{path}: record 2 has an id that is not 1 to 128 ASCII characters without a space: "
+        self.assert_fault(self.run_tool("arrivals", *words), f"arrivals: {line}a b")
+        self.write("t.csv", "t,group\n1,\n")
+        self.assert_fault(self.run_tool("arrivals", *words), f"arrivals: {line}''")
+        self.write("t.csv", "t,group\n1\n")
+        self.assert_fault(self.run_tool("arrivals", *words),
+                          f"arrivals: {path}: record 2 lacks one of the columns")
+        for queue in ((), ("--queue", "q")):
+            self.assert_fault(
+                self.run_tool("arrivals", "times", path, *queue, "--group-ids", "group"),
+                "arrivals: message groups and deduplication ids are of a FIFO queue, which --queue names, as orders.fifo")
+
     def test_a_metric_of_cloudwatch(self):
         """In each period so many as it says, the first at the beginning of the run."""
         _, times = self.made("metric", self.write("m.json", json.dumps(METRIC)), "--id", "sent")
@@ -156,6 +182,7 @@ class Arrivals(ToolCase):
                 (("times",), "times needs a FILE (--help tells the usage)"),
                 (("times", "none"), "cannot read none: No such file or directory"),
                 (("times", times, "--column", "x"), f"{times} has no column x; it has when"),
+                (("times", times, "--group-ids", "x", "--queue", "q.fifo"), f"{times} has no column x; it has when"),
                 (("times", times, "--unit", "y"), "y is no unit; units are ms, s, m, min, h, d"),
                 (("times", times, "--origin", "2"), "a time is before the origin 2"),
                 (("times", times, "--origin", "x"), "x is no time"),

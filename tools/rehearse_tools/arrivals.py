@@ -1,6 +1,7 @@
 """Makes scripts of sends: when messages arrive, from what was measured or by chance.
 
-    tools/arrivals times FILE.csv [--column NAME] [--unit s] [--origin TIME] [--bodies NAME]
+    tools/arrivals times FILE.csv [--column NAME] [--unit s] [--origin TIME] [--bodies NAME] [--group-ids NAME]
+        [--deduplication-ids NAME]
     tools/arrivals metric FILE.json [--id ID] [--period S] [--origin TIME]
     tools/arrivals poisson --rate 5/s --duration 1h
     tools/arrivals bursts --size 100 --every 10min --over 5s --duration 1h
@@ -8,7 +9,8 @@
 
 times     a column of times of a CSV file, the first one if --column names none: numbers of seconds (or of --unit: ms,
           s, min, h), or moments such as 2024-05-01T12:00:00Z. The run begins at the earliest of them, or at --origin
-          if that is given. --bodies names the column with the messages' bodies.
+          if that is given. --bodies names the column with the messages' bodies, and for a FIFO queue --group-ids and
+          --deduplication-ids those with their message group ids and deduplication ids.
 metric    what `aws cloudwatch get-metric-data` or get-metric-statistics printed of NumberOfMessagesSent, as sums: the
           number of messages in each period of --period seconds (60). Each message gets a random moment of its period.
           --id names one of several results.
@@ -18,7 +20,8 @@ bursts    --size messages every --every, each at a random moment within --over. 
 hours     as poisson, with the number of messages in each hour of the day; the run begins at midnight
 
 Each also takes:
---queue NAME   the queue; a FIFO queue's messages get ids, and are in --groups N (10) message groups in turn
+--queue NAME   the queue; without columns of them a FIFO queue's messages get ids, and are in --groups N (10) message
+               groups in turn
 --body TEXT    the body; {n} in it is the number of the message from 0 on (message {n})
 --seed N       the seed of what is random (0); the same words make the same scripts
 --start MS     milliseconds that are added to each time
@@ -47,7 +50,7 @@ import sys
 from argparse import Namespace
 from collections.abc import Callable, Iterable, Iterator, Sequence
 from fractions import Fraction
-from typing import Any
+from typing import Any, NamedTuple
 
 from .console import Fault, Parser, check_output, note, print_text, shown, write_text
 from .queues import NAME, json_in, read_any
@@ -64,8 +67,17 @@ SIDE_BY_SIDE_MOST = 1_000
 # Milliseconds by which a message is put off before a line says so.
 PUT_OFF_TOLD = 10
 
-# When a message arrives, and its body, or None for the body that all have.
-Arrival = tuple[Fraction | int, str | None]
+# A group id or a deduplication id.
+ID = re.compile("[!-~]{1,128}")
+
+
+class Arrival(NamedTuple):
+    """When a message arrives, and its body, message group id and deduplication id, or None for those that are made."""
+
+    time: Fraction | int
+    body: str | None = None
+    group: str | None = None
+    id: str | None = None
 
 
 def duration_of(text: str) -> Fraction:
@@ -135,24 +147,31 @@ def column_of(header: Sequence[str], name: str, path: str) -> int:
 
 
 def times_of_file(options: Namespace) -> list[Arrival]:
-    """Pairs of a time and a body, or None for the body that all have, by a file of times."""
+    """The messages of a file of times, with what its columns say of them."""
     path, records = options.file, records_in(options.file)
     unit = UNITS.get(options.unit)
     if unit is None:
         raise Fault(f"{shown(options.unit)} is no unit; units are {', '.join(UNITS)}")
-    has_header = bool(options.column or options.bodies) or moment(records[0][0].strip(), unit) is None
-    place = column_of(records[0], options.column, path) if options.column else 0
-    bodies = column_of(records[0], options.bodies, path) if options.bodies else None
-    times, texts = [], []
+    names = options.column, options.bodies, options.group_ids, options.deduplication_ids
+    has_header = any(names) or moment(records[0][0].strip(), unit) is None
+    places = [column_of(records[0], name, path) if name else None for name in names]
+    times, others = [], []
     for number, record in enumerate(records[1:] if has_header else records, 2 if has_header else 1):
-        time = moment(record[place].strip(), unit) if place < len(record) else None
-        if time is None or bodies is not None and bodies >= len(record):
-            raise Fault(f"{path}: record {number} has no time as 12.5 or 2024-05-01T12:00:00Z, or no body")
+        if max(place or 0 for place in places) >= len(record):
+            raise Fault(f"{path}: record {number} lacks one of the columns")
+        time = moment(record[places[0] or 0].strip(), unit)
+        body, *ids = [None if place is None else record[place] for place in places[1:]]
+        if time is None:
+            raise Fault(f"{path}: record {number} has no time as 12.5 or 2024-05-01T12:00:00Z")
+        for name in ids:
+            if name is not None and not ID.fullmatch(name):
+                raise Fault(f"{path}: record {number} has an id that is not 1 to 128 ASCII characters without a space: "
+                            f"{shown(name)}")
         times.append(time)
-        texts.append(record[bodies] if bodies is not None else None)
+        others.append((body, *ids))
     if not times:
         raise Fault(f"{path} has no times")
-    return list(zip(counted_from(times, options.origin, unit), texts))
+    return [Arrival(time, *other) for time, other in zip(counted_from(times, options.origin, unit), others)]
 
 
 def points_of_metric(found: Any, name: str | None, path: str) -> list[tuple[Fraction, int]]:
@@ -250,20 +269,20 @@ def times_of_hours(options: Namespace) -> list[int]:
     return times
 
 
-def free_times(arrivals: Iterable[Arrival], start: int, side_by_side: int = 1) -> Iterator[tuple[int, str | None]]:
+def free_times(arrivals: Iterable[Arrival], start: int, side_by_side: int = 1) -> Iterator[tuple[int, Arrival]]:
     """The arrivals in their order, each put off to the next millisecond in which one of the scripts is free."""
     lasts = collections.deque([-1] * side_by_side, maxlen=side_by_side)
-    for time, body in sorted(arrivals, key=lambda arrival: arrival[0]):
-        at = max(int(time) + start, lasts[0] + 1)
+    for arrival in sorted(arrivals, key=lambda arrival: arrival.time):
+        at = max(int(arrival.time) + start, lasts[0] + 1)
         if at > AT_MOST:
             raise Fault(f"a message comes at {at:,} ms, and a script ends at {AT_MOST:,}")
         lasts.append(at)
-        yield at, body
+        yield at, arrival
 
 
 def tell_put_off(arrivals: list[Arrival], side_by_side: int) -> None:
     """Prints by how much messages are put off, and how many scripts side by side put off none."""
-    times = sorted(int(time) for time, _ in arrivals)
+    times = sorted(int(arrival.time) for arrival in arrivals)
     late = [at - time for (at, _), time in zip(free_times(arrivals, 0, side_by_side), times) if at > time]
     if max(late, default=0) >= PUT_OFF_TOLD:
         enough = max(collections.Counter(times).values())
@@ -274,12 +293,12 @@ def tell_put_off(arrivals: list[Arrival], side_by_side: int) -> None:
 def records_of(arrivals: Iterable[Arrival], options: Namespace) -> Iterator[list[Any]]:
     """The records of the sends."""
     is_fifo = bool(options.queue) and options.queue.endswith(".fifo")
-    for number, (at, body) in enumerate(free_times(arrivals, options.start, options.side_by_side)):
-        text = (options.body if body is None else body).replace("{n}", str(number))
+    for number, (at, arrival) in enumerate(free_times(arrivals, options.start, options.side_by_side)):
+        text = (options.body if arrival.body is None else arrival.body).replace("{n}", str(number))
         if not 1 <= len(text.encode("utf-8", "replace")) <= BODY_MOST:
             raise Fault(f"the body of message {number} has not 1 to {BODY_MOST:,} bytes: {shown(text)}")
         group, name = (f"g{number % options.groups}", f"m{number}") if is_fifo else ("", "")
-        yield [at, "send", text, group, name, "", "", "", "", "", ""]
+        yield [at, "send", text, arrival.group or group, arrival.id or name, "", "", "", "", "", ""]
 
 
 def script_text(records: Iterable[Sequence[Any]]) -> str:
@@ -309,7 +328,9 @@ def write_scripts(records: list[list[Any]], options: Namespace) -> None:
     print_text("\n".join(tables))
 
 
-# What makes the times of each kind; those of a file of times go with their bodies.
+# What a column of a file of times may have besides.
+OF_TIMES = "bodies", "group-ids", "deduplication-ids"
+# What makes the times of each kind; a file of times has whole messages.
 KINDS: dict[str, Callable[[Namespace], list[Any]]] = {
     "times": times_of_file, "metric": times_of_metric, "poisson": times_of_poisson, "bursts": times_of_bursts,
     "hours": times_of_hours}
@@ -324,7 +345,7 @@ def options_of(words: Sequence[str]) -> Namespace:
         if name in ("times", "metric"):
             kind.add_argument("file", nargs="?", metavar="FILE")
             kind.add_argument("--origin")
-        for option in {"times": ("column", "bodies"), "metric": ("id",)}.get(name, ()):
+        for option in {"times": ("column", *OF_TIMES), "metric": ("id",)}.get(name, ()):
             kind.add_argument(f"--{option}")
         wanted = {"poisson": ("rate",), "bursts": ("every", "over"), "hours": ("numbers",)}
         for option in (*wanted[name], "duration") if name in wanted else ():
@@ -359,9 +380,12 @@ def main(words: Sequence[str]) -> int:
         raise Fault(f"--side-by-side is 1 to {SIDE_BY_SIDE_MOST}, and needs --output")
     if options.queue and not NAME.fullmatch(options.queue):
         raise Fault(f"no queue of a scenario has the name {shown(options.queue)}")
+    if options.kind == "times" and (options.group_ids or options.deduplication_ids):
+        if not (options.queue or "").endswith(".fifo"):
+            raise Fault("message groups and deduplication ids are of a FIFO queue, which --queue names, as orders.fifo")
     check_output(options.output)
     found = KINDS[options.kind](options)
-    arrivals: list[Arrival] = found if options.kind == "times" else [(time, None) for time in found]
+    arrivals: list[Arrival] = found if options.kind == "times" else [Arrival(time) for time in found]
     tell_put_off(arrivals, options.side_by_side)
     records = list(records_of(arrivals, options))
     if options.output and records:
