@@ -41,5 +41,27 @@ class Examples(ToolCase):
                     self.assertIn(f"tools/{name} ", example)
 
 
+class Usages(unittest.TestCase):
+    """The help of each program in tools/, also of those for who works on this repository."""
+
+    def test_columns(self) -> None:
+        """No line has over 120 columns."""
+        names = [entry.name for entry in os.scandir(TOOLS) if entry.is_file() and os.access(entry.path, os.X_OK)]
+        self.assertLessEqual(set(USERS_TOOLS), set(names))
+        for name in names:
+            with self.subTest(tool=name):
+                run = subprocess.run([os.path.join(TOOLS, name), "--help"], capture_output=True, text=True)
+                self.assertEqual((run.returncode, run.stderr), (0, ""))
+                self.assertIn(f"tools/{name}", run.stdout)
+                self.assertEqual([line for line in run.stdout.splitlines() if len(line) > 120], [])
+
+    def test_words_that_are_none(self) -> None:
+        """Each refuses an option that there is not, in one line."""
+        for name in (*USERS_TOOLS, "bench", "build", "layers", "package", "page", "proof-times", "setup", "sources"):
+            with self.subTest(tool=name):
+                run = subprocess.run([os.path.join(TOOLS, name), "--nonsense"], capture_output=True, text=True)
+                self.assertEqual((run.returncode, run.stdout, len(run.stderr.splitlines())), (2, "", 1), run.stderr)
+
+
 if __name__ == "__main__":
     unittest.main()
