@@ -199,6 +199,16 @@ class Report(ToolCase):
         self.assertAlmostEqual(sum(mean["y"]) / len(mean["y"]), 0.5, places=3)
         self.assertEqual([trace.get("showlegend", True) for trace in panel.traces], [False, False, True])
 
+    def test_no_solid_blocks(self):
+        """A line that changes more often than there are columns is a mean; one with fewer changes is drawn as it is."""
+        for messages, points in ((370, 740), (380, 750 * 3)):
+            queue = History("q")
+            for number in range(messages):
+                queue.enters(*row_of(10 * number, f"m-0-{number}"))
+                queue.deleted(*row_of(10 * number + 5, f"m-0-{number}", "5"))
+            panel = drawn(panels_of(queue, 0, 10 * messages, 1_000))[0]
+            self.assertAlmostEqual(sum(len(trace["x"]) for trace in panel.traces), points, delta=2)
+
     def test_the_same_run_gives_the_same_page(self):
         self.assertEqual(self.page(), self.page())
 

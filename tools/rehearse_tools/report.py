@@ -58,8 +58,8 @@ CountedRun = tuple[dict[str, list[str]], dict[str, Ages]]
 Judged = tuple[Requirement, str, Failure | None]
 
 QUEUES_MOST = 20
-# Lines have so many points at most; those that change more often have so many columns.
-POINTS_MOST, COLUMNS_OF_LINES, BINS = 4_000, 750, 240
+# A line that changes more often than this is a mean over an extent, in so many columns.
+COLUMNS_OF_LINES, BINS = 750, 240
 # The height of a picture's panels, of the gaps between them in shares of it, and of what is around them, in pixels.
 HEIGHT_OF_SHARE, GAP, MARGINS = 62, 0.5, 110
 # The keys at the top of a scenario, with the defaults of those that need not be given.
@@ -82,6 +82,7 @@ table.queues td, table.queues th {{ white-space: nowrap; }}
 .holds {{ color: #00694a; }}
 .fails {{ color: #b00020; font-weight: bold; }}
 pre, code {{ background: #f4f4f4; padding: 2px 6px; overflow-x: auto; white-space: pre-wrap; overflow-wrap: anywhere; }}
+@media (max-width: 700px) {{ table {{ font-size: 13px; }} td, th {{ padding-right: 8px; }} }}
 </style>
 <script>
 const packed = "{library}";
@@ -93,6 +94,11 @@ const isLibraryThere = (async () => {{
   document.head.append(script);
 }})();
 function draw(id, traces, layout, options) {{
+  // on a narrow page the buttons would cover the names of the lines; a double click shows all again
+  if (innerWidth < 700) {{
+    layout.margin.l = 60;
+    options.displayModeBar = false;
+  }}
   isLibraryThere.then(() => Plotly.newPlot(id, traces, layout, options), () => {{
     document.getElementById(id).textContent = "This browser is too old to show the picture.";
   }});
@@ -271,7 +277,7 @@ def panels_of(queue: History, start: int, end: int, size: int, requirements: Ite
     places, ages, counts = [], [], []
     for name, place in PLACES.items():
         times, numbers = levels(queue, place, start, end)
-        if len(times) <= POINTS_MOST:
+        if len(times) <= COLUMNS_OF_LINES:
             places.append(line(times, numbers_of(numbers), name, size, shape="hv"))
         else:
             places += lines_of_means(course_of(times, numbers), name, size)
@@ -283,7 +289,7 @@ def panels_of(queue: History, start: int, end: int, size: int, requirements: Ite
     oldest_unit, oldest_size = unit_of(course.greatest())
     times, oldest_ages = course.corners()
     ages_of_oldest = [line(times, numbers_of(oldest_ages, oldest_size), "oldest", size)] \
-        if len(times) <= POINTS_MOST else lines_of_means(course, "oldest", size, oldest_size)
+        if len(times) <= COLUMNS_OF_LINES else lines_of_means(course, "oldest", size, oldest_size)
     for name, moments in (("redriven", queue.redrives), ("expired", queue.expiries)):
         counts.append({"type": "bar", "name": name, "x": numbers_of((bounds[1:] + bounds[:-1]) / 2, size),
                        "y": numbers_of(counts_in(moments, bounds)), "marker": {"color": COLOURS[name]}})
