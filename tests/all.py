@@ -8,7 +8,7 @@ tests/late and a part of tests/long are left out. --only runs the named parts. -
 by default one for each processor that this process may use. --quick takes less than a minute on 4 processors: it leaves
 out wrong-bodies, long, test_clusters, test_slurm, test_picture, memory, late, huge, test_console, test_sweep,
 test_package, test_poison, test_report, test_arrivals, test_sweeps, test_statistics, test_jobs, test_decisions,
-test_helps and page, the longest.
+test_helps, test_shown and page, the longest.
 
 A part is a program in tests/, tools/layers --check, tests/wrong-bodies/test_run.py or a file tests/tools/test_*.py. A
 program in tests/ is given PROGRAM, and its last line is `N passed, M failed`. The line of a part has what passed and
@@ -50,11 +50,11 @@ SECONDS = {"wrong-bodies": 90, "page": 70, "memory": 60, "test_clusters": 50, "t
            "test_slurm": 25, "test_statistics": 22, "late": 20, "test_console": 20, "test_sweep": 19, "test_poison": 18,
            "test_arrivals": 17, "test_all": 16, "test_jobs": 16, "test_sweeps": 16, "test_package": 15,
            "test_summary": 15, "test_report": 14, "huge": 13, "questions": 13, "test_decisions": 10, "test_runs": 10,
-           "test_helps": 10, "test_explain": 10, "test_life": 9, "fuzz": 9, "groups": 8, "run": 8, "test_reference": 8,
-           "terminal": 7, "bell": 7, "types": 7, "test_programs": 6}
+           "test_helps": 10, "test_shown": 10, "test_explain": 10, "test_life": 9, "fuzz": 9, "groups": 8, "run": 8,
+           "test_reference": 8, "terminal": 7, "bell": 7, "types": 7, "test_programs": 6}
 NOT_QUICK = ("wrong-bodies", "long", "test_clusters", "test_slurm", "test_picture", "memory", "late", "huge",
              "test_console", "test_sweep", "test_package", "test_poison", "test_report", "test_arrivals", "test_sweeps",
-             "test_statistics", "test_jobs", "test_decisions", "test_helps", "page")
+             "test_statistics", "test_jobs", "test_decisions", "test_helps", "test_shown", "page")
 SET_CHILD_SUBREAPER = 36    # of prctl(2)
 LOOK_SECONDS, GRACE_SECONDS = 0.02, 3
 ENDING = (signal.SIGINT, signal.SIGTERM, signal.SIGHUP)
