@@ -307,15 +307,16 @@ class Tool(ToolCase):
     def test_formats(self):
         log = self.write("log", LOG)
         self.write("s.toml", "version = 1\nseed = 5\nhorizon = 6020\n")
-        for name, head in (("p.svg", b"<?xml"), ("p.PNG", b"\x89PNG"), ("p.pdf", b"%PDF"), ("new/p.svg", b"<?xml")):
-            words = log, "--output", name, "--scenario", "s.toml", "--title", "My <queues>"
-            self.assertEqual(self.run_tool("picture", *words), (0, "", ""))
-            with open(self.path(name), "rb") as file:
-                data = file.read()
+        for name, head in (("p.PNG", b"\x89PNG"), ("p.pdf", b"%PDF"), ("p.svg", b"<?xml")):
+            made = []
+            for output in (name, f"new/{name}"):
+                words = log, "--output", output, "--scenario", "s.toml", "--title", "My <queues>"
+                self.assertEqual(self.run_tool("picture", *words), (0, "", ""))
+                with open(self.path(output), "rb") as file:
+                    made.append(file.read())
+            data, again = made
             self.assertTrue(data.startswith(head))
-            self.run_tool("picture", *words)
-            with open(self.path(name), "rb") as file:
-                self.assertEqual(file.read(), data, name)
+            self.assertEqual(data, again, name)
         text = data.decode()
         self.assertIn("My &lt;queues&gt;", text)
         self.assertIn("s.toml, version 1, seed 5", text)
