@@ -183,6 +183,7 @@ class Arrivals(ToolCase):
                 (("times", "none"), "cannot read none: No such file or directory"),
                 (("times", times, "--column", "x"), f"{times} has no column x; it has when"),
                 (("times", times, "--group-ids", "x", "--queue", "q.fifo"), f"{times} has no column x; it has when"),
+                (("times", times, "--group-ids", "", "--queue", "q.fifo"), f"{times} has no column ''; it has when"),
                 (("times", times, "--unit", "y"), "y is no unit; units are ms, s, m, min, h, d"),
                 (("times", times, "--origin", "2"), "a time is before the origin 2"),
                 (("times", times, "--origin", "x"), "x is no time"),

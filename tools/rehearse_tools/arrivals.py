@@ -153,8 +153,8 @@ def times_of_file(options: Namespace) -> list[Arrival]:
     if unit is None:
         raise Fault(f"{shown(options.unit)} is no unit; units are {', '.join(UNITS)}")
     names = options.column, options.bodies, options.group_ids, options.deduplication_ids
-    has_header = any(names) or moment(records[0][0].strip(), unit) is None
-    places = [column_of(records[0], name, path) if name else None for name in names]
+    has_header = any(name is not None for name in names) or moment(records[0][0].strip(), unit) is None
+    places = [None if name is None else column_of(records[0], name, path) for name in names]
     times, others = [], []
     for number, record in enumerate(records[1:] if has_header else records, 2 if has_header else 1):
         if max(place or 0 for place in places) >= len(record):
@@ -380,7 +380,7 @@ def main(words: Sequence[str]) -> int:
         raise Fault(f"--side-by-side is 1 to {SIDE_BY_SIDE_MOST}, and needs --output")
     if options.queue and not NAME.fullmatch(options.queue):
         raise Fault(f"no queue of a scenario has the name {shown(options.queue)}")
-    if options.kind == "times" and (options.group_ids or options.deduplication_ids):
+    if options.kind == "times" and not (options.group_ids is None and options.deduplication_ids is None):
         if not (options.queue or "").endswith(".fifo"):
             raise Fault("message groups and deduplication ids are of a FIFO queue, which --queue names, as orders.fifo")
     check_output(options.output)
