@@ -318,6 +318,7 @@ class FromPlan(ToolCase):
         status, out, err = self.run_tool("from-plan", path, "--preview")
         scenario = tomllib.loads(out)
         self.assertEqual((status, scenario["version"], without["version"]), (0, 3, 1))
+        self.assertIn("here each message fails by itself, and with --preview its batch does\n", plain_err)
         self.assertIn("# Version 3 is a preview: run this with --preview.\n", out)
         self.assertEqual({actor["queue"]: actor.get("batch_fails") for actor in scenario["actor"]
                           if actor["kind"] == "consumer"}, {"audit": "whole", "orders": "each", "plain": None})

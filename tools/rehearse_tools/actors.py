@@ -79,7 +79,7 @@ class Mapping:
             notes.append(f"its batching window of {self.window} s is left out: a consumer takes what is there")
         if self.batch > 1 and not self.is_partial and not is_preview:
             notes.append("it does not report batch item failures, so that a message that fails brings its whole batch "
-                         "back; here each message fails by itself")
+                         "back; here each message fails by itself, and with --preview its batch does")
         if self.is_filtered:
             notes.append("its filter is left out: all messages of the queue come")
         return notes
