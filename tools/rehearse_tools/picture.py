@@ -2,8 +2,8 @@
 
     tools/picture LOG [--output FILE.svg] [--queue NAME ...] [--from MS] [--to MS] [--title TEXT]
         [--scenario FILE.toml] [--require 'QUEUE.COLUMN<NUMBER' ..] [--width W] [--height H]
-    tools/picture --sweep ROWS.csv --column QUEUE.COLUMN ... [--setting NAME] [--output FILE.svg] [--title TEXT]
-        [--require 'QUEUE.COLUMN<NUMBER' ..] [--width W] [--height H]
+    tools/picture --sweep ROWS.csv --column QUEUE.COLUMN ... [--setting NAME] [--output FILE.svg]
+        [--title TEXT] [--require 'QUEUE.COLUMN<NUMBER' ..] [--width W] [--height H]
 
 For each queue it draws how many messages are visible, in flight and delayed over time. It draws the middle, 95 % and
 greatest age of messages when they were deleted, in steps, if any were; and the age of the oldest message in the queue.
@@ -16,8 +16,8 @@ without rows if the report of the run follows the log. --from and --to draw a pa
 
 If a line changes more than once a pixel, its mean is drawn over a paler extent from the least to the greatest number.
 Ages have a logarithmic axis if the greatest is over 100 times that in the middle. Without --to a picture ends with the
-traffic, if no message is left and the log goes on for long. --require, as for tools/sweep, draws the bound of an age,
-or of how many messages there are, as a dashed line.
+traffic, if no message is left and the log goes on for long. --require, as for tools/sweep, draws the bound
+of an age, or of how many messages there are, as a dashed line.
 
 A title is one line of printable characters. If the usual font lacks some of them, a PNG or PDF takes them from another
 font of the machine. If none has them, a line on standard error says so, and boxes replace them. An SVG leaves its texts
@@ -26,12 +26,12 @@ to the program that shows it.
 A log does not show a delay when it begins: a message counts as delayed if its release is in the log, or if the final
 queues follow the log and say so. A picture shows the counts at the end of each millisecond.
 
---sweep draws what tools/sweep has written, also with --spread: each column of the report that is named with its
-queue, such as orders.age_p95, against a setting. The setting is that of --setting, else the first that was varied and
-is no seed. A point is the mean of the runs of all seeds, with a bar for its 95 % interval by Student's distribution;
-the band around it goes from the least to the greatest run. If other settings were varied, each combination of them has
-a curve of its own. Numbers of a setting that are far apart have a logarithmic axis. --require draws the bound of a
-column that is drawn.
+--sweep draws what tools/sweep has written, also with --spread: each column of the report that is named with
+its queue, such as orders.age_p95, against a setting. The setting is that of --setting, else the first that was varied
+and is no seed. A point is the mean of the runs of all seeds, with a bar for its 95 % interval by Student's
+distribution; the band around it goes from the least to the greatest run. If other settings were varied, each
+combination of them has a curve of its own. Numbers of a setting that are far apart have a logarithmic axis. --require
+draws the bound of a column that is drawn.
 
 Examples:
 

@@ -1,13 +1,13 @@
 """Runs a scenario and reports it in one HTML file, which opens in a browser without a network:
 
-    tools/report SCENARIO --output FILE.html [--require 'orders.age_p95<60s' ..] [--queue NAME ..] [--title TEXT]
-        [--from TIME] [--to TIME] [--preview] [--scripts DIR] [--program P]
+    tools/report SCENARIO --output FILE.html [--require 'orders.age_p95<60s' ..] [--queue NAME ..]
+        [--title TEXT] [--from TIME] [--to TIME] [--preview] [--scripts DIR] [--program P]
 
 The page has the requirements and whether they hold, a table of all queues, pictures over time that can be zoomed with
 the mouse, all numbers of each queue, the settings with their seed, and the command that made it. Its head has the
 version, the date, which is that of SOURCE_DATE_EPOCH if the environment has it, and the SHA-256 of the scenario and its
-scripts. --require is as for tools/sweep: a column of the report of a queue, a comparison and a number; one that fails
-or is undecided has a line on standard error. Without --queue the 20 queues with the most rows are shown.
+scripts. --require is as for tools/sweep: a column of the report of a queue, a comparison and a number; one
+that fails or is undecided has a line on standard error. Without --queue the 20 queues with the most rows are shown.
 --from counts the run from this time on, such as 90s or 1.5h, so that a warm-up is left out, and --to ends it. --title
 is the title of the page, --scripts the folder of the scenario's scripts, and --preview the word for version 3, as for
 the program. The program is that of --program, else of SQS_REHEARSE of the environment, else sqs_rehearse beside this

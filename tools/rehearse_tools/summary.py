@@ -50,7 +50,8 @@ differences, which are the second run minus the first. Colours are used on a ter
 Examples:
 
     ./sqs_rehearse run examples/dead_letters.toml | tools/summary - --queue orders
-    ./sqs_rehearse run --log run.log examples/dead_letters.toml > run.out && tools/summary run.log run.out --from 1min
+    ./sqs_rehearse run --log run.log examples/dead_letters.toml > run.out
+        && tools/summary run.log run.out --from 1min
 """
 import json
 import os

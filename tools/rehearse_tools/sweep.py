@@ -10,7 +10,8 @@
     tools/sweep SCENARIO --vary .. --print-scenario
     tools/sweep SCENARIO --vary .. --print-jobs DIR [--shares N] [--rest]
     tools/sweep SCENARIO --vary .. --share K/N --results DIR [--mark MARK]
-    tools/sweep --collect DIR [--mark MARK] [--spread seed] [--require ..] [--columns NAMES] [--table] [--output FILE]
+    tools/sweep --collect DIR [--mark MARK] [--spread seed] [--require ..] [--columns NAMES] [--table]
+        [--output FILE]
 
 --vary    a setting and its values. A setting is queue.NAME.KEY, actor.NAME.KEY, task.NAME.KEY, or a key of the top such
           as seed. A NAME with asterisks ties all tables whose names match it: actor.worker-*.batch sets the batch of
@@ -81,10 +82,10 @@ usage and unreadable input, 130 after an interrupt.
 
 Examples:
 
-    tools/sweep examples/short_timeout.toml --vary queue.jobs.visibility_s=2,5,10 --vary seed=1..20 --spread seed
-        --columns deletes,age_p95 --table
-    tools/sweep examples/short_timeout.toml --least queue.jobs.visibility_s=1..10 --vary seed=1..100 --spread seed
-        --require 'jobs.age_p95<15s in 80%'
+    tools/sweep examples/short_timeout.toml --vary queue.jobs.visibility_s=2,5,10 --vary seed=1..20
+        --spread seed --columns deletes,age_p95 --table
+    tools/sweep examples/short_timeout.toml --least queue.jobs.visibility_s=1..10 --vary seed=1..100
+        --spread seed --require 'jobs.age_p95<15s in 80%'
 """
 import argparse
 import os
