@@ -147,6 +147,13 @@ module _ (failed done : ℕ) (gots : List Got) (within : failed + done ≤ lengt
       let left_is : parted (failed - 1) done left ≡ record now { failed = take (failed - 1) left } = failed_removed g (take (failed - 1) left) left failed_is is in
       ap (λ (xs : List Got). record now { failed = xs }) failed_is ∙ ap (λ (h : Holding). record h { failed = g ∷ h.failed }) (sym left_is)
 
+-- the first of all messages is the one with index 0
+pub popped :
+    (n : ℕ) (gots : List Got) (o : Option Got) (left : List Got) → n ≡ 0 → gots ≡ option_to_list o ++ left
+    → OnSome o (left ≡ remove gots n) × IfSome o (λ y. y ≡ get_or gots n y) × IfNone o (left ≡ gots)
+popped n gots None left zero is = (tt, tt, sym is)
+popped n gots (Some g) left zero is = rw (zero, is) (refl, refl, tt)
+
 -- the first of some messages, if there is one
 pub none_first : (gots : List Got) → None ≡ first_of gots → gots ≡ []
 none_first [] e = refl

@@ -2,10 +2,18 @@
 use Rattle.std.specs.Prelude.{Err, List, None, Ok, Option, Result, Some, [], length, max, ℕ, ◌<◌, ◌≡◌, ◌≤◌, ◌∷◌}
 use Rattle.sim_actor.specs.declared.life.LastAct.{LastAct as OwnStage}
 use Rattle.sim_actor.specs.declared.life.LastAct.TheVariants as own
+use Rattle.sim_actor.specs.declared.replies.FollowUp.{FollowUp}
+use Rattle.sim_actor.specs.declared.replies.FollowUp.TheVariants as follow_ups
+use Rattle.sim_actor.specs.declared.replies.Reply.{Reply}
+use Rattle.sim_actor.specs.declared.replies.Reply.TheVariants as replies
 use Rattle.sim_clock.specs.declared.refusal.Refusal.{Refusal}
 use Rattle.sim_clock.specs.declared.refusal.Refusal.TheVariants as refusals
 use Rattle.sqs_message.specs.declared.calls.ScriptCall.{ScriptCall}
+use Rattle.sqs_message.specs.Ids.{receipt_text}
 use Rattle.sqs_model.specs.declared.acts.Act.{Act}
+use Rattle.sqs_model.specs.declared.acts.Act.TheVariants as acts
+use Rattle.sqs_model.specs.declared.acts.Answer.{Answer}
+use Rattle.sqs_model.specs.declared.acts.Answer.TheVariants as told_by
 use Rattle.sqs_model.specs.declared.agents.ActorSettings.{ActorSettings}
 use Rattle.sqs_model.specs.declared.agents.Role.{Role}
 use Rattle.sqs_model.specs.declared.agents.Role.TheVariants.{Consumer, Producer, Script}
@@ -89,6 +97,30 @@ Meets (Ok act) old new model = model ≡ (act, new)
 Meets (Err refusals.CountLimit) old new model = most_count < greatest_count model.1
 Meets (Err refusals.Memory) old new model = (new ≡ old) × (greatest_count model.1 ≤ most_count)
 Meets (Err e) old new model = ⊥
+
+-- the definitions' word for a reply
+abbrev pub answer_of : Reply → Answer
+answer_of (replies.Got gots) = told_by.Got gots
+answer_of replies.Waiting = told_by.Waiting
+answer_of replies.Other = told_by.Other
+
+-- the act that an actor does on a reply
+abbrev pub act_following : FollowUp → Act
+act_following follow_ups.Nothing = acts.Nothing
+act_following (follow_ups.Delete receipt) = acts.Delete (receipt_text receipt)
+act_following (follow_ups.Change receipt timeout) = acts.Change (receipt_text receipt) timeout
+
+-- what an actor does on a reply and the actor after it are the definition's
+abbrev pub FollowsUp : Result FollowUp Refusal → Actor → Act × Actor → Type 0
+FollowsUp (Ok follow_up) new model = model ≡ (act_following follow_up, new)
+FollowsUp (Err refusals.CountLimit) new model = most_count < greatest_count model.1
+FollowsUp (Err e) new model = ⊥
+
+-- by the definition it does nothing, and the actor after it is the definition's
+abbrev pub DoesNothing : Result (Unit {0}) Refusal → Actor → Act × Actor → Type 0
+DoesNothing (Ok u) new model = model ≡ (acts.Nothing, new)
+DoesNothing (Err refusals.CountLimit) new model = most_count < greatest_count model.1
+DoesNothing (Err e) new model = ⊥
 
 -- the act that makes the first of some calls, and when the next is made
 abbrev pub made_of : List ScriptCall → Option (Act × Option ℕ)

@@ -1,5 +1,5 @@
 //! The messages that a consumer has.
-ghost use Rattle.std.specs.Prelude.{◌≡◌, ◌++◌, ◌∷◌, [], List, MatchOption};
+ghost use Rattle.std.specs.Prelude.{◌≡◌, ◌++◌, ◌∷◌, [], List, MatchOption, true};
 ghost use Rattle.std.specs.Option.{option_copied};
 ghost use Rattle.sqs_redrive.specs.declared.answers.Got.{Got as GotMessage};
 ghost use Rattle.sim_actor.specs.Holdings.{first_of, only_held};
@@ -53,6 +53,13 @@ impl Holding {
         }
     }
 
+    /// Whether there are no messages at all.
+    pub fn is_empty(&self) -> bool
+        ensures { result ≡ true → self.now ≡ only_held [] }
+    {
+        self.messages.is_empty()
+    }
+
     /// The first message that is not served yet.
     pub fn first(&self) -> Option<&Got>
         ensures { option_copied result ≡ first_of self.now.held }
@@ -65,7 +72,20 @@ impl Holding {
         ensures { MatchOption result ((self.old.held ≡ []) × (self.new ≡ self.old))
             (λ got. self.old ≡ record self.new { held = got ∷ self.new.held }) }
     {
-        self.messages.remove(self.failed + self.done)
+        let index = self.failed + self.done;
+        if index == 0 {
+            self.messages.pop_front()
+        } else {
+            self.messages.remove(index)
+        }
+    }
+
+    /// Drops the first message that is not served yet.
+    pub fn drop_held(&mut self)
+        ensures { (got : GotMessage) (others : List GotMessage) → self.old.held ≡ got ∷ others
+            → self.new ≡ record self.old { held = others } }
+    {
+        self.take_held();
     }
 
     /// Takes the first message that will be deleted.

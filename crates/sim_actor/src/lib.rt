@@ -7,6 +7,8 @@ mod actor;
 mod bodies;
 mod holding;
 mod life;
+mod replies;
 
 pub use actor::Actor;
-pub use sqs_model::{Act, Answer};
+pub use replies::{FollowUp, Reply};
+pub use sqs_model::Act;

@@ -1,5 +1,5 @@
 -- Actors whose numbers do not fall.
-use Rattle.std.specs.Prelude.{List, None, Some, false, get_or, length, map, position, true, ℕ, ◌<◌, ◌≡◌, ◌≢◌, ◌≤◌}
+use Rattle.std.specs.Prelude.{List, None, Some, false, get_or, length, map, position, true, ℕ, ◌-◌, ◌<◌, ◌≡◌, ◌≢◌, ◌≤◌}
 use Rattle.std.specs.List.{AllAdjacentBelow}
 use Rattle.std.specs.List.Sorted.{IsNonDecreasingBy, IsPartitionPoint}
 use Rattle.std.proofs.Common.{ap, arith, inl, inr, sym, ◌∙◌}
@@ -39,6 +39,16 @@ pub number_there :
     → a ≡ get_or xs i a → a.number ≡ n → Some i ≡ position (is_actor n) xs
 number_there n xs i a l p here same =
     first_picked (is_actor n) xs i a l (λ k w. other_number n (get_or xs k a) (ltb-true _ _ (p.0 k a (omega arith) w))) (its_number n (get_or xs i a) (ap number (sym here) ∙ same))
+
+-- the same by its own number and that of the one before it
+pub number_here :
+    (n : ℕ) (xs : List Actor) (i : ℕ) (a : Actor) → i < length xs → IsNonDecreasingBy number xs → (i ≢ 0 → (get_or xs (i - 1) a).number < n)
+    → (get_or xs i a).number ≡ n → position (is_actor n) xs ≡ Some i
+number_here n xs i a l o before here =
+    sym (first_picked (is_actor n) xs i a l (λ k w.
+    let le : (get_or xs k a).number ≤ (get_or xs (i - 1) a).number = o k (i - 1) a (omega (arith, w)) (omega (arith, w, l)) in
+    let less : (get_or xs (i - 1) a).number < n = before (λ e. omega (arith, w, e)) in
+    other_number n (get_or xs k a) (omega (arith, le, less))) (its_number n (get_or xs i a) here))
 
 past_by : (n : ℕ) (xs : List Actor) (i : ℕ) → IsNonDecreasingBy number xs → IsPartitionPoint (λ x. ltb x.number n ≡ true) (λ x. ltb x.number n ≡ false) xs i
     → ((d : Actor) → i < length xs → (get_or xs i d).number ≢ n) → (j : ℕ) (d : Actor) → i ≤ j → j < length xs → n < (get_or xs j d).number

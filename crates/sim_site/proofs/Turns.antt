@@ -1,5 +1,7 @@
 -- Turns of an actor, one after another.
 use Rattle.sqs_model.specs.Limits.{PassesCount}
+use Rattle.std.specs.Prelude.{Err, IfErr, Ok, OnOk, Result}
+use Rattle.sim_clock.specs.declared.refusal.Refusal.{Refusal}
 use Rattle.std.proofs.Common.{◌≡◌, ℕ, suc, Option, Some, None, refl, ap, subst, sym, ◌∙◌}
 use Rattle.sim_clock.specs.declared.key.Key.{Key}
 use Rattle.sqs_model.specs.declared.acts.Act.{Act}
@@ -9,10 +11,10 @@ use Rattle.sqs_model.specs.Actor.{Actor, next}
 use Rattle.sqs_model.specs.Acts.{act_made}
 use Rattle.sqs_model.specs.Polls.{acts_found, acts_most, acts_next}
 use Rattle.sqs_model.specs.Site.{Core, Effect, actor_numbered, and_then}
-use Rattle.sim_site.specs.Effects.{Did, Effects}
+use Rattle.sim_site.specs.Effects.{Did, Effects, Stops}
 use Rattle.sim_site.specs.Turns.{DidTurn, Turn, turn_next, turn_of}
 use Rattle.sqs_model.proofs.Growth.{Grows, most_up, same}
-use Rattle.sim_site.proofs.Passing.{passes_after, passes_before}
+use Rattle.sim_site.proofs.Passing.{passes_after, passes_before, stops_if}
 use Rattle.sim_site.proofs.Carried.{did_nothing, did_then}
 
 -- what comes of a turn, and of what its actor is told of it
@@ -54,6 +56,13 @@ module _ (key : Key) (n most : ℕ) (answer : Answer) (c : Core) (a b : Effects)
       found_follows (acts_most most key n) key answer c (actor_numbered n c) ∙ ap (followed_by (acts_most most key n) (turn_of key answer c (actor_numbered n c)).effect) (sym t.answer) in
       rw e (did_then a b end d f (turn_of key answer c (actor_numbered n c)).effect (acts_most most key n told) t.effect more)
 
+  -- the same of turns that may be refused
+  pub turn_goes_if :
+      (end : Effects) (f : Core) (told : Answer) → DidTurn a b d (Some told) (turn_of key answer c (actor_numbered n c)) → (r : Result (Unit {0}) Refusal)
+      → OnOk r (Did b end f (acts_most most key n told d)) → OnOk r (Did a end f (acts_most (suc most) key n answer c))
+  turn_goes_if end f told t (Ok u) more = turn_goes end f told t more
+  turn_goes_if end f told t (Err refusal) more = tt
+
 -- the last of the turns that are taken at most
 pub turn_last : (key : Key) (n : ℕ) (answer : Answer) (c : Core) (a b : Effects) (d : Core) (told : Option Answer) → DidTurn a b d told (turn_of key answer c (actor_numbered n c)) → Did a b d (acts_most 1 key n answer c)
 turn_last key n answer c a b d None t = turn_ends key n 0 answer c a b d t
@@ -84,3 +93,9 @@ module _ (key : Key) (n most : ℕ) (answer : Answer) (c : Core) where
       let more : Answer → Core → Effect = acts_most most key n in
       let e : acts_most (suc most) key n answer c ≡ followed_by more turn.effect (Some told) = found_follows more key answer c (actor_numbered n c) ∙ ap (followed_by more turn.effect) (sym t.answer) in
       subst PassesCount (sym e) (passes_after turn.effect (more told) (subst (λ (x : Core). PassesCount (more told x)) t.effect.core h))
+
+  -- the turns after it are not carried out
+  pub turns_stop :
+      (a b : Effects) (d : Core) (told : Answer) → DidTurn a b d (Some told) (turn_of key answer c (actor_numbered n c)) → (r : Result (Unit {0}) Refusal)
+      → IfErr r (Stops (acts_most most key n told d)) → IfErr r (Stops (acts_most (suc most) key n answer c))
+  turns_stop a b d told t r h = stops_if _ _ r (turns_limited a b d told t) h

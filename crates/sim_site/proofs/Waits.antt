@@ -1,5 +1,5 @@
 -- No act of an actor waits for longer than its settings let it.
-use Rattle.std.proofs.Common.{ℕ, ◌≤◌, List, [], ◌∷◌, Option, Some, None}
+use Rattle.std.proofs.Common.{ℕ, ◌≤◌, List, [], ◌∷◌, Option}
 use Rattle.std.specs.Prelude.{All, drop, nat_lt}
 use Rattle.std.proofs.lemmas.List.Elements.{All-head, All-drop}
 use Rattle.sqs_message.specs.declared.calls.ScriptCall.{ScriptCall}

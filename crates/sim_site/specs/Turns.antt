@@ -1,9 +1,10 @@
 -- One turn of an actor at its site: it gets an answer, decides, and acts.
-use Rattle.std.specs.Prelude.{List, None, Option, Some, find, ℕ, ◌+◌, ◌≡◌}
+use Rattle.std.specs.Prelude.{Bool, List, None, Option, Some, false, find, true, ℕ, ◌+◌, ◌≡◌}
 use Rattle.sim_clock.specs.declared.key.Key.{Key}
 use Rattle.sqs_model.specs.declared.acts.Act.{Act}
 use Rattle.sqs_model.specs.declared.acts.Answer.{Answer}
 use Rattle.sqs_model.specs.declared.acts.Act.TheVariants as acts
+use Rattle.sqs_model.specs.declared.acts.Answer.TheVariants as told_by
 use Rattle.sim_clock.specs.Firsts.{changed}
 use Rattle.sqs_model.specs.Actor.{Actor, next}
 use Rattle.sqs_model.specs.Acts.{Made, act_made}
@@ -31,6 +32,11 @@ pub record Polled (n polls : ℕ) (old new : List Actor) : Type 0 where
 pub record Turn : Type 0 where
   pub effect : Effect
   pub answer : Option Answer
+
+-- the answer to an act that is no receive, if there was one
+abbrev pub answer_if : Bool → Option Answer
+answer_if true = Some told_by.Other
+answer_if false = None
 
 -- a turn by its act
 abbrev pub turn_by : Act → Made → Turn

@@ -1,7 +1,7 @@
 //! The actors of a site; if there are many, with a tree of their wakes.
 ghost use Rattle.std.specs.Prelude.{All, IfErr, IfOk, IfSome, MatchOption, Some, find, flat_map, length, map, position, true, ◌<◌, ◌≡◌, ◌≤◌};
 ghost use Rattle.std.specs.List.Sorted.{IsNonDecreasingBy};
-ghost use Rattle.sim_actor.specs.Lives.{greatest_count};
+ghost use Rattle.sim_actor.specs.Lives.{act_following, answer_of, greatest_count};
 ghost use Rattle.sim_clock.specs.Order.{least};
 ghost use Rattle.sqs_model.specs.Actor.{Actor as TheActor, next};
 ghost use Rattle.sqs_model.specs.Answers.{most_count};
@@ -16,7 +16,7 @@ ghost use Rattle.sim_site.specs.Marked.{brought_up, wake_mark};
 ghost use Rattle.sim_site.specs.Turns.{Polled, Turned};
 
 use crate::agents::wake_of;
-use sim_actor::Actor;
+use sim_actor::{Actor, FollowUp, Reply};
 use sim_clock::{Key, Refusal};
 use sim_index::{Mark, MarkedList};
 use sqs_model::{Act, Answer};
@@ -74,6 +74,32 @@ fn first_in_order(actors: &[Actor], number: u32) -> Option<usize>
     }
 }
 
+// Whether the actor at `place` is the first with a number, among actors whose numbers never fall.
+fn is_first_with(actors: &[Actor], place: usize, number: u32) -> bool
+    requires within { place < length actors.now }
+    requires order { IsNonDecreasingBy (λ a. a.number) actors.now }
+    ensures { result ≡ true → position (is_actor number) actors.now ≡ Some place }
+{
+    if actors[place].number() != number {
+        return false;
+    }
+    place == 0 || actors[place - 1].number() < number
+}
+
+// The index of the first actor with a number, among actors whose numbers never fall. It tries the
+// one that wakes next before it searches.
+fn found_in_order(actors: &MarkedList<Actor>, number: u32) -> Option<usize>
+    requires { IsNonDecreasingBy (λ a. a.number) actors.now.values }
+    ensures { result ≡ position (is_actor number) actors.now.values }
+{
+    if let Some(place) = actors.place_of_least() {
+        if is_first_with(actors.values(), place, number) {
+            return Some(place);
+        }
+    }
+    first_in_order(actors.values(), number)
+}
+
 // Updates the mark of the actor that was called last, if there is one.
 fn bring_up(actors: &mut MarkedList<Actor>, told: Option<usize>)
     requires { IfSome told (λ place. place < length actors.old.values) }
@@ -97,32 +123,56 @@ fn turn_to(actors: &mut MarkedList<Actor>, told: Option<usize>, place: usize)
     }
 }
 
-// Calls the actor at `place` with an answer, on which it decides what it does. Its mark is not
-// updated.
-fn told_at(
+// The actor at `place` decides what it does when its wake has come. Its mark is not updated.
+fn woken_at(
     actors: &mut MarkedList<Actor>,
     place: usize,
     number: u32,
     now: u64,
-    answer: Answer,
 ) -> Result<Act, Refusal>
     requires place { Stands (is_actor number) actors.old.values place }
     requires moment { now ≤ most_count }
     requires marked { AreMarked wake_mark (brought_up (Some place) actors.old) }
     ensures turned { IfOk result
-        (λ act. Turned number now answer act actors.old.values actors.new.values) }
+        (λ act. Turned number now Answer.Wake act actors.old.values actors.new.values) }
     ensures settings { map (λ a. a.settings) actors.new.values
         ≡ map (λ a. a.settings) actors.old.values }
     ensures waits { All (λ a. HasShortWaits a.role) (map (λ a. a.settings) actors.old.values)
         → IfOk result WaitsShortly }
     ensures stops { IfErr result (StopsWhere ((a : TheActor)
         → find (is_actor number) actors.old.values ≡ Some a
-        → most_count < greatest_count (next a now answer).1)) }
+        → most_count < greatest_count (next a now Answer.Wake).1)) }
     ensures marked { AreMarked wake_mark (brought_up (Some place) actors.new) }
     ensures numbers { map (λ a. a.number) actors.new.values
         ≡ map (λ a. a.number) actors.old.values }
 {
-    actors.value_mut(place).next(now, answer)
+    actors.value_mut(place).woken(now)
+}
+
+// The actor at `place` decides what it does on a reply. Its mark is not updated.
+fn answered_at(
+    actors: &mut MarkedList<Actor>,
+    place: usize,
+    number: u32,
+    now: u64,
+    reply: Reply,
+) -> Result<FollowUp, Refusal>
+    requires place { Stands (is_actor number) actors.old.values place }
+    requires moment { now ≤ most_count }
+    requires marked { AreMarked wake_mark (brought_up (Some place) actors.old) }
+    ensures turned { IfOk result (λ follow_up.
+        Turned number now (answer_of reply) (act_following follow_up) actors.old.values
+        actors.new.values) }
+    ensures settings { map (λ a. a.settings) actors.new.values
+        ≡ map (λ a. a.settings) actors.old.values }
+    ensures stops { IfErr result (StopsWhere ((a : TheActor)
+        → find (is_actor number) actors.old.values ≡ Some a
+        → most_count < greatest_count (next a now (answer_of reply)).1)) }
+    ensures marked { AreMarked wake_mark (brought_up (Some place) actors.new) }
+    ensures numbers { map (λ a. a.number) actors.new.values
+        ≡ map (λ a. a.number) actors.old.values }
+{
+    actors.value_mut(place).answered(now, reply)
 }
 
 // Counts one more waiting poll of the actor at `place`. Returns how many it had before. Its wake
@@ -214,38 +264,58 @@ impl Actors {
             }
         }
         if self.is_in_order {
-            first_in_order(self.list.values(), number)
+            found_in_order(&self.list, number)
         } else {
             first_actor(self.list.values(), number)
         }
     }
 
-    /// Calls the actor at `place` with an answer, and returns what it decides to do. `now` is in
-    /// milliseconds.
+    /// The actor at `place` decides what it does when its wake has come. `now` is in milliseconds.
     ///
     /// # Errors
     ///
     /// `Memory`. `CountLimit` if the actor would count past the limit.
-    pub fn next_at(
-        &mut self,
-        place: usize,
-        number: u32,
-        now: u64,
-        answer: Answer,
-    ) -> Result<Act, Refusal>
+    pub fn woken_at(&mut self, place: usize, number: u32, now: u64) -> Result<Act, Refusal>
         requires place { Stands (is_actor number) self.old place }
         requires moment { now ≤ most_count }
-        ensures turned { IfOk result (λ act. Turned number now answer act self.old self.new) }
+        ensures turned { IfOk result
+            (λ act. Turned number now Answer.Wake act self.old self.new) }
         ensures settings { map (λ a. a.settings) self.new ≡ map (λ a. a.settings) self.old }
         ensures waits { All (λ a. HasShortWaits a.role) (map (λ a. a.settings) self.old)
             → IfOk result WaitsShortly }
         ensures stops { IfErr result (StopsWhere ((a : TheActor)
             → find (is_actor number) self.old ≡ Some a
-            → most_count < greatest_count (next a now answer).1)) }
+            → most_count < greatest_count (next a now Answer.Wake).1)) }
     {
         turn_to(&mut self.list, self.told, place);
         self.told = Some(place);
-        told_at(&mut self.list, place, number, now, answer)
+        woken_at(&mut self.list, place, number, now)
+    }
+
+    /// The actor at `place` decides what it does on a reply. `now` is in milliseconds.
+    ///
+    /// # Errors
+    ///
+    /// `CountLimit` if the actor would count past the limit.
+    pub fn answered_at(
+        &mut self,
+        place: usize,
+        number: u32,
+        now: u64,
+        reply: Reply,
+    ) -> Result<FollowUp, Refusal>
+        requires place { Stands (is_actor number) self.old place }
+        requires moment { now ≤ most_count }
+        ensures turned { IfOk result (λ follow_up.
+            Turned number now (answer_of reply) (act_following follow_up) self.old self.new) }
+        ensures settings { map (λ a. a.settings) self.new ≡ map (λ a. a.settings) self.old }
+        ensures stops { IfErr result (StopsWhere ((a : TheActor)
+            → find (is_actor number) self.old ≡ Some a
+            → most_count < greatest_count (next a now (answer_of reply)).1)) }
+    {
+        turn_to(&mut self.list, self.told, place);
+        self.told = Some(place);
+        answered_at(&mut self.list, place, number, now, reply)
     }
 
     /// Counts one more waiting poll of the actor at `place`. Returns how many it had before.

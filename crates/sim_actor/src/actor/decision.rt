@@ -2,9 +2,10 @@
 ghost use Rattle.std.specs.Prelude.{◌≤◌};
 ghost use Rattle.sqs_model.specs.Actor.{next as the_next, next_as};
 ghost use Rattle.sqs_model.specs.Answers.{most_count};
-ghost use Rattle.sim_actor.specs.Lives.{Decides, IsFramed, Meets, greatest_count};
+ghost use Rattle.sim_actor.specs.Lives.{DoesNothing, FollowsUp, IsFramed, Meets, answer_of, greatest_count};
 
 use super::Actor;
+use crate::replies::{FollowUp, Reply};
 use sim_clock::Refusal;
 use sqs_model::{Act, Answer, Role};
 use sqs_redrive::Batch;
@@ -27,63 +28,82 @@ impl Actor {
     }
 
     // Decides on the messages that it got.
-    fn next_got(&mut self, now: u64, batch: Batch) -> Result<Act, Refusal>
+    fn next_got(&mut self, now: u64, batch: Batch) -> Result<(), Refusal>
         requires { now ≤ most_count }
-        ensures decision { Decides result self.new
+        ensures decision { DoesNothing result self.new
             (next_as self.old.settings.role self.old now (Answer.Got batch)) }
         ensures framed { IsFramed self.old self.new }
     {
         match &self.settings.role {
-            Role::Script(_) | Role::Producer(_) => Ok(Act::Nothing),
+            Role::Script(_) | Role::Producer(_) => Ok(()),
             Role::Consumer(consumer) => self.life.consumer_got(consumer, now, batch),
         }
     }
 
     // Decides on any other answer.
-    fn next_told(&mut self, now: u64) -> Result<Act, Refusal>
+    fn next_told(&mut self, now: u64) -> Result<FollowUp, Refusal>
         requires { now ≤ most_count }
-        ensures decision { Meets result self.old self.new
+        ensures decision { FollowsUp result self.new
             (next_as self.old.settings.role self.old now Answer.Other) }
         ensures framed { IsFramed self.old self.new }
     {
         match &self.settings.role {
-            Role::Script(_) => Ok(Act::Nothing),
-            Role::Producer(producer) => self.life.producer_sent(producer, now),
-            Role::Consumer(consumer) => self.life.consumer_told(consumer, now),
+            Role::Script(_) => {}
+            Role::Producer(producer) => self.life.producer_sent(producer, now)?,
+            Role::Consumer(consumer) => return self.life.consumer_told(consumer, now),
         }
+        Ok(FollowUp::Nothing)
     }
 
-    // Decides on an answer of any kind.
+    // Decides on a reply of any kind.
     #[tactic(auto, unfolding(sqs_model::specs::Actor::next))]
-    fn decide(&mut self, now: u64, answer: Answer) -> Result<Act, Refusal>
+    fn follow_up(&mut self, now: u64, reply: Reply) -> Result<FollowUp, Refusal>
         requires { now ≤ most_count }
-        ensures decision { Meets result self.old self.new (the_next self.old now answer) }
+        ensures decision { FollowsUp result self.new (the_next self.old now (answer_of reply)) }
         ensures framed { IsFramed self.old self.new }
     {
-        match answer {
-            Answer::Wake => self.next_woken(now),
-            Answer::Got(batch) => self.next_got(now, batch),
-            Answer::Waiting => Ok(Act::Nothing),
-            Answer::Other => self.next_told(now),
+        match reply {
+            Reply::Got(batch) => self.next_got(now, batch)?,
+            Reply::Waiting => {}
+            Reply::Other => return self.next_told(now),
         }
+        Ok(FollowUp::Nothing)
     }
 
-    /// Decides what to do at a moment, in milliseconds, on an answer: that its wake has come, or
-    /// the result of its last act.
+    /// Decides what to do when its wake has come, at a moment in milliseconds.
     ///
     /// # Errors
     ///
     /// `Memory`: the actor is as it was. `CountLimit` exactly if the decision would count past the
     /// limit; nothing is promised of the actor after it.
-    pub fn next(&mut self, now: u64, answer: Answer) -> Result<Act, Refusal>
+    #[tactic(auto, unfolding(sqs_model::specs::Actor::next))]
+    pub fn woken(&mut self, now: u64) -> Result<Act, Refusal>
         requires { now ≤ most_count }
-        ensures decision { Meets result self.old self.new (the_next self.old now answer) }
+        ensures decision { Meets result self.old self.new (the_next self.old now Answer.Wake) }
         ensures counted { greatest_count self.new ≤ most_count }
         ensures framed { IsFramed self.old self.new }
     {
-        let act = self.decide(now, answer);
+        let act = self.next_woken(now);
         // The type's invariant says that its counts are within the limit.
         let _ = &self.life.wakes;
         act
+    }
+
+    /// Decides what to do on a reply, at a moment in milliseconds.
+    ///
+    /// # Errors
+    ///
+    /// `CountLimit` exactly if the decision would count past the limit; nothing is promised of the
+    /// actor after it.
+    pub fn answered(&mut self, now: u64, reply: Reply) -> Result<FollowUp, Refusal>
+        requires { now ≤ most_count }
+        ensures decision { FollowsUp result self.new (the_next self.old now (answer_of reply)) }
+        ensures counted { greatest_count self.new ≤ most_count }
+        ensures framed { IsFramed self.old self.new }
+    {
+        let follow_up = self.follow_up(now, reply);
+        // The type's invariant says that its counts are within the limit.
+        let _ = &self.life.wakes;
+        follow_up
     }
 }

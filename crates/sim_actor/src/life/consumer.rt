@@ -1,16 +1,18 @@
 //! What a consumer does.
-ghost use Rattle.std.specs.Prelude.{◌≡◌, ◌≤◌, ◌∷◌, ◌+◌, List, Some, max, true};
+ghost use Rattle.std.specs.Prelude.{◌≡◌, ◌≤◌, ◌∷◌, ◌+◌, [], List, Some, false, max, true};
 ghost use Rattle.sqs_model.specs.declared.agents.ActorSettings.{ActorSettings};
+ghost use Rattle.sqs_message.specs.Ids.{receipt_text};
 ghost use Rattle.sqs_redrive.specs.declared.answers.Got.{Got as GotMessage};
 ghost use Rattle.sqs_model.specs.Actor.{next_beat, woken, idle as the_idle, serving as the_serving, serves as the_serves, settles as the_settles, fails_service as the_fails_service, ends_well as the_ends_well, ends_drawn as the_ends_drawn, backs_off as the_backs_off, backoff_at as the_backoff_at, goes_on as the_goes_on, has_failed as the_has_failed, rests as the_rests, consumer_wake as the_consumer_wake, consumer_got as the_consumer_got, consumer_told as the_consumer_told};
 ghost use Rattle.sqs_model.specs.Answers.{most_count};
 ghost use Rattle.sqs_model.specs.Draw.{drawn_chance};
 ghost use Rattle.sqs_model.specs.Valid.{IsConsumer, IsLatency, MayBeForward};
-ghost use Rattle.sim_actor.specs.Lives.{Becomes, Decides, Meets, lived};
+ghost use Rattle.sim_actor.specs.Lives.{Becomes, Decides, DoesNothing, FollowsUp, lived};
 
 use super::failing::fails;
 use super::{LastAct, Life, has_come};
 use crate::holding::Holding;
+use crate::replies::FollowUp;
 use sim_clock::Refusal;
 use sqs_message::{MessageId, Receipt, ReceiptHandle};
 use sqs_model::{Act, ConsumerSettings, Forwarding, MOST_COUNT};
@@ -33,15 +35,14 @@ fn goes_on(heartbeat: Option<u64>, ends: u64, now: u64) -> bool
 
 impl Life {
     // Waits until it receives again.
-    fn idle(&mut self, consumer: &ConsumerSettings, now: u64) -> Act
+    fn idle(&mut self, consumer: &ConsumerSettings, now: u64)
         requires moment { now ≤ most_count }
         requires consumer { IsConsumer consumer.now }
         ensures decision { (s : ActorSettings) →
-            the_idle (lived s self.old) consumer.now now ≡ (result, lived s self.new) }
+            the_idle (lived s self.old) consumer.now now ≡ (Act.Nothing, lived s self.new) }
         ensures framed { self.new.number ≡ self.old.number }
     {
         self.wake = Some(now + consumer.idle);
-        Act::Nothing
     }
 
     // Serves until the service ends, or until its heartbeat before that.
@@ -165,18 +166,15 @@ impl Life {
         self.serve(home, now, got, consumer.forward)
     }
 
-    // The first of the messages of a failed service gets another visibility timeout.
-    fn back_off(&mut self, consumer: &ConsumerSettings, got: &Got) -> Act
+    // The first of the messages of a failed service gets another visibility timeout, in seconds.
+    fn back_off(&mut self, consumer: &ConsumerSettings, got: &Got) -> u64
         ensures decision { (s : ActorSettings) →
             the_backs_off (lived s self.old) consumer.now got.now self.old.failed
-            ≡ (result, lived s self.new) }
+            ≡ (Act.Change (receipt_text got.now.receipt) result, lived s self.new) }
         ensures framed { self.new.number ≡ self.old.number }
     {
         self.last_act = LastAct::Ended;
-        Act::Change {
-            receipt: ReceiptHandle::from(got.receipt),
-            timeout: backoff_at(consumer.backoff.as_slice(), got.receipt.count),
-        }
+        backoff_at(consumer.backoff.as_slice(), got.receipt.count)
     }
 
     // Ends a service that failed.
@@ -190,9 +188,7 @@ impl Life {
         self.last_act = LastAct::Failed;
         match (consumer.backoff.as_slice().is_empty(), consumer.whole) {
             (true, true) => self.holding.let_go(),
-            (true, false) => {
-                self.holding.take_held();
-            }
+            (true, false) => self.holding.drop_held(),
             (false, true) => self.holding.fail_all(),
             (false, false) => self.holding.fail_first(),
         }
@@ -237,6 +233,39 @@ impl Life {
         }
     }
 
+    // Ends a service well, of a consumer each of whose services ends by itself.
+    fn settle_held(
+        &mut self,
+        consumer: &ConsumerSettings,
+        home: u32,
+        now: u64,
+        id: MessageId,
+        receipt: Receipt,
+    ) -> Result<Act, Refusal>
+        requires moment { now ≤ most_count }
+        requires consumer { IsConsumer consumer.now }
+        ensures decision { (s : ActorSettings) (g : GotMessage) (gs : List GotMessage) → s.home ≡ home
+            → self.old.held ≡ g ∷ gs → g.id ≡ id → g.receipt ≡ receipt
+            → Decides result (lived s self.new)
+            (the_ends_well false (record (lived s self.old) { held = gs }) consumer.now now g gs) }
+        ensures framed { self.new.number ≡ self.old.number }
+    {
+        if consumer.forward.is_none() {
+            self.holding.drop_held();
+            self.last_act = LastAct::Served(receipt);
+            return Ok(Act::Serve {
+                id,
+                receipt,
+                failed: false,
+                forward: None,
+            });
+        }
+        match self.holding.take_held() {
+            None => Ok(Act::Nothing),
+            Some(got) => self.settle(consumer, home, now, got),
+        }
+    }
+
     // Ends the service of the first message that it holds.
     fn end_service(
         &mut self,
@@ -265,11 +294,26 @@ impl Life {
             return Ok(self.fail_service(consumer, id, receipt));
         }
         if consumer.whole {
-            return self.end_in_whole(consumer, home, now, id, receipt);
+            self.end_in_whole(consumer, home, now, id, receipt)
+        } else {
+            self.settle_held(consumer, home, now, id, receipt)
         }
-        match self.holding.take_held() {
-            None => Ok(Act::Nothing),
-            Some(got) => self.settle(consumer, home, now, got),
+    }
+
+    // Asks for messages, until it stops.
+    fn ask(&mut self, consumer: &ConsumerSettings, now: u64) -> Act
+        ensures decision { (s : ActorSettings) → the_rests (lived s self.old) consumer.now now [] []
+            ≡ (result, lived s self.new) }
+        ensures framed { self.new.number ≡ self.old.number }
+    {
+        if has_come(consumer.stop, now) {
+            return Act::Nothing;
+        }
+        self.last_act = LastAct::Asked;
+        Act::Receive {
+            max: consumer.batch,
+            wait: consumer.wait,
+            timeout: consumer.timeout,
         }
     }
 
@@ -282,21 +326,20 @@ impl Life {
             (the_rests (lived s self.old) consumer.now now self.old.failed self.old.done) }
         ensures framed { self.new.number ≡ self.old.number }
     {
+        if self.holding.is_empty() {
+            return Ok(self.ask(consumer, now));
+        }
         if let Some(got) = self.holding.take_failed() {
-            return Ok(self.back_off(consumer, &got));
+            let timeout = self.back_off(consumer, &got);
+            return Ok(Act::Change {
+                receipt: ReceiptHandle::from(got.receipt),
+                timeout,
+            });
         }
-        if let Some(got) = self.holding.take_done() {
-            return self.settle(consumer, home, now, got);
+        match self.holding.take_done() {
+            None => Ok(self.ask(consumer, now)),
+            Some(got) => self.settle(consumer, home, now, got),
         }
-        if has_come(consumer.stop, now) {
-            return Ok(Act::Nothing);
-        }
-        self.last_act = LastAct::Asked;
-        Ok(Act::Receive {
-            max: consumer.batch,
-            wait: consumer.wait,
-            timeout: consumer.timeout,
-        })
     }
 
     // A consumer's wake has come. While it serves, it sets the visibility timeout of the message
@@ -338,20 +381,20 @@ impl Life {
         consumer: &ConsumerSettings,
         now: u64,
         batch: Batch,
-    ) -> Result<Act, Refusal>
+    ) -> Result<(), Refusal>
         requires moment { now ≤ most_count }
         requires consumer { IsConsumer consumer.now }
-        ensures decision { (s : ActorSettings) → Decides result (lived s self.new)
+        ensures decision { (s : ActorSettings) → DoesNothing result (lived s self.new)
             (the_consumer_got (lived s self.old) consumer.now now batch) }
         ensures framed { self.new.number ≡ self.old.number }
     {
         let messages = batch.into_vec();
         if messages.is_empty() {
-            return Ok(self.idle(consumer, now));
+            self.idle(consumer, now);
+            return Ok(());
         }
         self.holding = Holding::of(messages);
-        self.serve_held(consumer, now)?;
-        Ok(Act::Nothing)
+        self.serve_held(consumer, now)
     }
 
     // After a refused receive it waits, after a service that ended well it deletes the message, and
@@ -360,46 +403,47 @@ impl Life {
         &mut self,
         consumer: &ConsumerSettings,
         now: u64,
-    ) -> Result<Act, Refusal>
+    ) -> Result<FollowUp, Refusal>
         requires moment { now ≤ most_count }
         requires consumer { IsConsumer consumer.now }
-        ensures decision { (s : ActorSettings) → Meets result (lived s self.old) (lived s self.new)
+        ensures decision { (s : ActorSettings) → FollowsUp result (lived s self.new)
             (the_consumer_told (lived s self.old) consumer.now now self.old.last_act) }
         ensures framed { self.new.number ≡ self.old.number }
     {
         match self.last_act {
-            LastAct::Asked => Ok(self.idle(consumer, now)),
+            LastAct::Asked => self.idle(consumer, now),
             LastAct::Served(receipt) => {
                 self.last_act = LastAct::Ended;
-                Ok(Act::Delete {
-                    receipt: ReceiptHandle::from(receipt),
-                })
+                return Ok(FollowUp::Delete(receipt));
             }
-            LastAct::Ended => {
-                self.serve_held(consumer, now)?;
-                Ok(Act::Nothing)
-            }
-            LastAct::Failed => self.told_of_failure(consumer, now),
-            LastAct::Beat => {
-                self.in_service(consumer, now);
-                Ok(Act::Nothing)
-            }
+            LastAct::Ended => self.serve_held(consumer, now)?,
+            LastAct::Failed => return self.told_of_failure(consumer, now),
+            LastAct::Beat => self.in_service(consumer, now),
         }
+        Ok(FollowUp::Nothing)
     }
 
     // After a failed service the first of its messages gets another visibility timeout, if it is to
     // have one. Else it serves the next message.
-    fn told_of_failure(&mut self, consumer: &ConsumerSettings, now: u64) -> Result<Act, Refusal>
+    fn told_of_failure(
+        &mut self,
+        consumer: &ConsumerSettings,
+        now: u64,
+    ) -> Result<FollowUp, Refusal>
         requires moment { now ≤ most_count }
         requires consumer { IsConsumer consumer.now }
-        ensures decision { (s : ActorSettings) → Decides result (lived s self.new)
+        ensures decision { (s : ActorSettings) → FollowsUp result (lived s self.new)
             (the_has_failed (lived s self.old) consumer.now now self.old.failed) }
         ensures framed { self.new.number ≡ self.old.number }
     {
         if let Some(got) = self.holding.take_failed() {
-            return Ok(self.back_off(consumer, &got));
+            let timeout = self.back_off(consumer, &got);
+            return Ok(FollowUp::Change {
+                receipt: got.receipt,
+                timeout,
+            });
         }
         self.serve_held(consumer, now)?;
-        Ok(Act::Nothing)
+        Ok(FollowUp::Nothing)
     }
 }

@@ -6,7 +6,7 @@ ghost use Rattle.sqs_model.specs.Actor.{group_of, id_given, producer_sent as the
 ghost use Rattle.sqs_model.specs.Answers.{most_count};
 ghost use Rattle.sqs_model.specs.Draw.{Draws};
 ghost use Rattle.sqs_model.specs.Valid.{IsProducer, MayBeGroups};
-ghost use Rattle.sim_actor.specs.Lives.{Meets, lived};
+ghost use Rattle.sim_actor.specs.Lives.{DoesNothing, Meets, lived};
 
 use super::{Life, has_come};
 use crate::bodies::filled;
@@ -124,17 +124,16 @@ impl Life {
         &mut self,
         producer: &ProducerSettings,
         now: u64,
-    ) -> Result<Act, Refusal>
+    ) -> Result<(), Refusal>
         requires moment { now ≤ most_count }
         requires producer { IsProducer producer.now }
-        ensures decision { (s : ActorSettings) → Meets result (lived s self.old) (lived s self.new)
+        ensures decision { (s : ActorSettings) → DoesNothing result (lived s self.new)
             (the_producer_sent (lived s self.old) producer.now now) }
         ensures framed { self.new.number ≡ self.old.number }
     {
         if self.wakes >= producer.count {
-            return Ok(Act::Nothing);
+            return Ok(());
         }
-        self.wake_after(now, &producer.gap)?;
-        Ok(Act::Nothing)
+        self.wake_after(now, &producer.gap)
     }
 }

@@ -14,9 +14,9 @@ use super::Core;
 use super::receives::{all_hosts_of, receive_row, received_by};
 use crate::agents::Poll;
 use crate::effects::Effects;
+use sim_actor::Reply;
 use sim_clock::{Key, Refusal};
 use sqs_message::RowAnswer;
-use sqs_model::Answer;
 use sqs_queue::Queue;
 use sqs_redrive::{Batch, Kind};
 
@@ -52,7 +52,7 @@ impl Core {
         };
         self.polls.drop_first();
         self.give(key, poll.actor, timeout, gots.as_slice(), effects)?;
-        self.told(key, poll.actor, Answer::Got(Batch::new(gots)), effects)
+        self.told(key, poll.actor, Reply::Got(Batch::new(gots)), effects)
     }
 
     // Answers waiting polls, oldest first, while there is something to give. It is apart from
@@ -113,7 +113,7 @@ impl Core {
         let site = self.queue.site();
         self.polls.end(key);
         effects.say(receive_row(key, site, key.agent, RowAnswer::Empty))?;
-        let nothing = Answer::Got(Batch::new(Vec::new(self.alloc)));
+        let nothing = Reply::Got(Batch::new(Vec::new(self.alloc)));
         self.told(key, key.agent, nothing, effects)
     }
 }

@@ -1,5 +1,6 @@
 //! Receives by actors.
 ghost use Rattle.std.specs.Prelude.{Any, Err, IfErr, IfOk, IfSome, IsOk, None, OnErr, Some, true, ℕ, ◌-◌, ◌<◌, ◌^◌, ◌≡◌, ◌≤◌};
+ghost use Rattle.sim_actor.specs.Lives.{answer_of};
 ghost use Rattle.sqs_model.specs.Actor.{Actor};
 ghost use Rattle.sqs_model.specs.Acts.{receive_row as the_receive_row, hosts_from as the_hosts_from, long_poll, receive_as, receive_none, receive_some, short_poll};
 ghost use Rattle.sqs_model.specs.Answers.{most_count};
@@ -20,9 +21,10 @@ use super::sends::told_refusal;
 use crate::agents::Poll;
 use crate::effects::Effects;
 use crate::rows::row;
+use sim_actor::Reply;
 use sim_clock::{Key, Refusal};
 use sqs_message::{Detail, Row, RowAnswer, RowKind};
-use sqs_model::{Answer, LONGEST_TIMEOUT, MOST_COUNT};
+use sqs_model::{LONGEST_TIMEOUT, MOST_COUNT};
 use sqs_queue::Queue;
 use sqs_redrive::{Batch, Got, Kind};
 
@@ -120,13 +122,13 @@ impl Core {
         wait: u64,
         timeout: Option<u64>,
         effects: &mut Effects,
-    ) -> Result<Answer, Refusal>
+    ) -> Result<Reply, Refusal>
         requires allowed { MayBeTimeout timeout }
         requires moment { key.at ≤ most_count }
         requires wait { wait ≤ most_wait }
         ensures did { (a : Actor) → a.number ≡ agent → actor_numbered agent self.old ≡ Some a
-            → IfOk result (λ answer.
-            DidMake effects.old effects.new self.new answer
+            → IfOk result (λ reply.
+            DidMake effects.old effects.new self.new (answer_of reply)
             (receive_none key a self.old max wait timeout)) }
         ensures stops { (a : Actor) → a.number ≡ agent → actor_numbered agent self.old ≡ Some a
             → IfErr result (Stops (receive_none key a self.old max wait timeout).effect) }
@@ -134,10 +136,10 @@ impl Core {
         let site = self.queue.site();
         if wait == 0 {
             effects.say(receive_row(key, site, agent, RowAnswer::Empty))?;
-            return Ok(Answer::Got(Batch::new(Vec::new(self.alloc))));
+            return Ok(Reply::Got(Batch::new(Vec::new(self.alloc))));
         }
         let Some(place) = self.actors.place_of(agent) else {
-            return Ok(Answer::Waiting);
+            return Ok(Reply::Waiting);
         };
         effects.say(receive_row(key, site, agent, RowAnswer::Wait))?;
         let number = self.actors.polled_at(place, agent)?;
@@ -149,7 +151,7 @@ impl Core {
             end: key.at + 1000 * wait,
         };
         self.polls.push(poll)?;
-        Ok(Answer::Waiting)
+        Ok(Reply::Waiting)
     }
 
     // The outcome of a receive, which may have found nothing. What it gave has left the queue
@@ -163,13 +165,13 @@ impl Core {
         timeout: Option<u64>,
         gots: Vec<Got>,
         effects: &mut Effects,
-    ) -> Result<Answer, Refusal>
+    ) -> Result<Reply, Refusal>
         requires allowed { MayBeTimeout timeout }
         requires moment { key.at ≤ most_count }
         requires wait { wait ≤ most_wait }
         ensures did { (a : Actor) → a.number ≡ agent → actor_numbered agent self.old ≡ Some a
-            → IfOk result (λ answer.
-            DidMake effects.old effects.new self.new answer
+            → IfOk result (λ reply.
+            DidMake effects.old effects.new self.new (answer_of reply)
             (receive_some key a self.old max wait timeout self.old.queue gots.items)) }
         ensures stops { (a : Actor) → a.number ≡ agent → actor_numbered agent self.old ≡ Some a
             → IfErr result (Stops
@@ -179,7 +181,7 @@ impl Core {
             return self.receive_none(key, agent, max, wait, timeout, effects);
         }
         self.give(key, agent, timeout, gots.as_slice(), effects)?;
-        Ok(Answer::Got(Batch::new(gots)))
+        Ok(Reply::Got(Batch::new(gots)))
     }
 
     // A short poll, from a first host that is drawn. If it is refused, it draws no word.
@@ -192,15 +194,15 @@ impl Core {
         hosts: u64,
         sampled: u64,
         effects: &mut Effects,
-    ) -> Result<Answer, Refusal>
+    ) -> Result<Reply, Refusal>
         requires moment { key.at ≤ most_count }
         requires some { 1 ≤ hosts }
         requires few { hosts ≤ 16 }
         requires sampled { sampled ≤ hosts }
         requires standard { IsStandard self.old.queue.settings.kind }
         ensures did { (a : Actor) → a.number ≡ agent → actor_numbered agent self.old ≡ Some a
-            → IfOk result (λ answer.
-            DidMake effects.old effects.new self.new answer (short_poll key a self.old max
+            → IfOk result (λ reply.
+            DidMake effects.old effects.new self.new (answer_of reply) (short_poll key a self.old max
             timeout hosts sampled (drawn_uniform 0 (hosts - 1) self.old.draws))) }
         ensures stops { (a : Actor) → a.number ≡ agent → actor_numbered agent self.old ≡ Some a
             → IfErr result (Stops
@@ -211,7 +213,7 @@ impl Core {
         if let Some(refusal) = short_refusal(&self.queue, timeout) {
             let answer = RowAnswer::Refused(refusal);
             effects.say(receive_row(key, site, agent, answer))?;
-            return Ok(Answer::Other);
+            return Ok(Reply::Other);
         }
         if self.draws.taken() >= MOST_COUNT {
             return Err(Refusal::CountLimit);
@@ -234,14 +236,14 @@ impl Core {
         timeout: Option<u64>,
         hosts: u64,
         effects: &mut Effects,
-    ) -> Result<Answer, Refusal>
+    ) -> Result<Reply, Refusal>
         requires moment { key.at ≤ most_count }
         requires wait { wait ≤ most_wait }
         requires few { hosts ≤ 16 }
         requires all { all_hosts self.old.queue.settings.kind ≡ 2 ^ hosts - 1 }
         ensures did { (a : Actor) → a.number ≡ agent → actor_numbered agent self.old ≡ Some a
-            → IfOk result (λ answer.
-            DidMake effects.old effects.new self.new answer
+            → IfOk result (λ reply.
+            DidMake effects.old effects.new self.new (answer_of reply)
             (long_poll key a self.old max wait timeout)) }
         ensures stops { (a : Actor) → a.number ≡ agent → actor_numbered agent self.old ≡ Some a
             → IfErr result (Stops (long_poll key a self.old max wait timeout).effect) }
@@ -253,7 +255,7 @@ impl Core {
             Err(refusal) => {
                 let answer = RowAnswer::Refused(refusal);
                 effects.say(receive_row(key, site, agent, answer))?;
-                Ok(Answer::Other)
+                Ok(Reply::Other)
             }
         }
     }
@@ -267,12 +269,12 @@ impl Core {
         wait: u64,
         timeout: Option<u64>,
         effects: &mut Effects,
-    ) -> Result<Answer, Refusal>
+    ) -> Result<Reply, Refusal>
         requires moment { key.at ≤ most_count }
         requires wait { wait ≤ most_wait }
         ensures did { (a : Actor) → a.number ≡ agent → actor_numbered agent self.old ≡ Some a
-            → IfOk result (λ answer.
-            DidMake effects.old effects.new self.new answer
+            → IfOk result (λ reply.
+            DidMake effects.old effects.new self.new (answer_of reply)
             (receive_as self.old.queue.settings.kind key a self.old max wait timeout)) }
         ensures stops { (a : Actor) → a.number ≡ agent → actor_numbered agent self.old ≡ Some a
             → IfErr result (Stops

@@ -1,23 +1,26 @@
 //! What an actor does at its site, act after act.
-ghost use Rattle.std.specs.Prelude.{IfErr, IfOk, OnOk, Some, ◌≡◌, ◌≤◌};
+ghost use Rattle.std.specs.Prelude.{IfErr, IfOk, OnOk, Some, option_map, ◌≡◌, ◌≤◌};
+ghost use Rattle.sim_actor.specs.Lives.{act_following, answer_of};
 ghost use Rattle.sqs_model.specs.Actor.{Actor};
 ghost use Rattle.sqs_model.specs.Acts.{act_made};
 ghost use Rattle.sqs_model.specs.Answers.{most_count};
 ghost use Rattle.sqs_model.specs.Progress.{IsRecent};
-ghost use Rattle.sqs_model.specs.Polls.{told as the_told};
+ghost use Rattle.sqs_model.specs.Polls.{acts_most, told as the_told};
 ghost use Rattle.sqs_model.specs.Site.{actor_numbered};
 ghost use Rattle.sqs_model.specs.Step.{handle_wake};
 ghost use Rattle.sim_site.specs.Effects.{Did, Stops};
 ghost use Rattle.sim_site.specs.Kept.{WaitsShortly};
-ghost use Rattle.sim_site.specs.Turns.{DidTurn, turn_by, turn_of};
+ghost use Rattle.sim_site.specs.Turns.{DidTurn, answer_if, turn_by, turn_of};
 
 use super::Core;
 use crate::effects::Effects;
+use sim_actor::{FollowUp, Reply};
 use sim_clock::{Key, Refusal};
+use sqs_message::ReceiptHandle;
 use sqs_model::{Act, Answer};
 
 impl Core {
-    // An actor acts. Returns the answer that it gets, if it did anything.
+    // An actor acts. Returns the reply that it gets, if it did anything.
     #[tactic(auto, unfolding(sqs_model::specs::Acts::act_made))]
     fn act(
         &mut self,
@@ -25,13 +28,13 @@ impl Core {
         agent: u32,
         act: Act,
         effects: &mut Effects,
-    ) -> Result<Option<Answer>, Refusal>
+    ) -> Result<Option<Reply>, Refusal>
         requires moment { key.at ≤ most_count }
         requires recent { IsRecent key.at self.old.queue }
         requires wait { WaitsShortly act }
         ensures did { (a : Actor) → a.number ≡ agent → actor_numbered agent self.old ≡ Some a
-            → IfOk result (λ told.
-            DidTurn effects.old effects.new self.new told
+            → IfOk result (λ reply.
+            DidTurn effects.old effects.new self.new (option_map answer_of reply)
             (turn_by act (act_made key a self.old act))) }
         ensures stops { (a : Actor) → a.number ≡ agent → actor_numbered agent self.old ≡ Some a
             → IfErr result (Stops (act_made key a self.old act).effect) }
@@ -46,8 +49,8 @@ impl Core {
                 self.send(key, agent, body, delay, group, id, effects)?;
             }
             Act::Receive { max, wait, timeout } => {
-                let answer = self.receive(key, agent, max, wait, timeout, effects)?;
-                return Ok(Some(answer));
+                let reply = self.receive(key, agent, max, wait, timeout, effects)?;
+                return Ok(Some(reply));
             }
             Act::Delete { receipt } => self.delete(key, agent, receipt, effects)?,
             Act::Change { receipt, timeout } => {
@@ -66,59 +69,132 @@ impl Core {
             } => self.serve(key, agent, id, receipt, failed, forward, effects)?,
             Act::Nothing => return Ok(None),
         }
-        Ok(Some(Answer::Other))
+        Ok(Some(Reply::Other))
     }
 
-    // An actor gets an answer, decides and acts. Returns the answer to what it did, if it did
-    // anything.
-    fn take_turn(
+    // An actor does what follows a reply. Returns whether it did anything.
+    #[tactic(auto, unfolding(sqs_model::specs::Acts::act_made))]
+    fn follow_up(
         &mut self,
         key: Key,
         agent: u32,
-        answer: Answer,
+        follow_up: FollowUp,
         effects: &mut Effects,
-    ) -> Result<Option<Answer>, Refusal>
+    ) -> Result<bool, Refusal>
         requires moment { key.at ≤ most_count }
         requires recent { IsRecent key.at self.old.queue }
-        ensures did { IfOk result (λ told.
-            DidTurn effects.old effects.new self.new told
-            (turn_of key answer self.old (actor_numbered agent self.old))) }
+        ensures did { (a : Actor) → a.number ≡ agent → actor_numbered agent self.old ≡ Some a
+            → IfOk result (λ acted.
+            DidTurn effects.old effects.new self.new (answer_if acted)
+            (turn_by (act_following follow_up)
+            (act_made key a self.old (act_following follow_up)))) }
+        ensures stops { (a : Actor) → a.number ≡ agent → actor_numbered agent self.old ≡ Some a
+            → IfErr result (Stops (act_made key a self.old (act_following follow_up)).effect) }
+    {
+        match follow_up {
+            FollowUp::Nothing => return Ok(false),
+            FollowUp::Delete(receipt) => {
+                self.delete(key, agent, ReceiptHandle::from(receipt), effects)?;
+            }
+            FollowUp::Change { receipt, timeout } => {
+                self.change(key, agent, ReceiptHandle::from(receipt), timeout, effects)?;
+            }
+        }
+        Ok(true)
+    }
+
+    // An actor's wake has come: it decides and acts. Returns the reply to what it did, if it did
+    // anything.
+    fn first_turn(
+        &mut self,
+        key: Key,
+        agent: u32,
+        effects: &mut Effects,
+    ) -> Result<Option<Reply>, Refusal>
+        requires moment { key.at ≤ most_count }
+        requires recent { IsRecent key.at self.old.queue }
+        ensures did { IfOk result (λ reply.
+            DidTurn effects.old effects.new self.new (option_map answer_of reply)
+            (turn_of key Answer.Wake self.old (actor_numbered agent self.old))) }
         ensures stops { IfErr result
-            (Stops (turn_of key answer self.old (actor_numbered agent self.old)).effect) }
+            (Stops (turn_of key Answer.Wake self.old (actor_numbered agent self.old)).effect) }
     {
         let Some(place) = self.actors.place_of(agent) else {
             return Ok(None);
         };
-        let act = self.actors.next_at(place, agent, key.at, answer)?;
+        let act = self.actors.woken_at(place, agent, key.at)?;
         self.act(key, agent, act, effects)
     }
 
-    /// An actor gets an answer and acts. It then gets the answer to each act in turn, until it does
+    // An actor gets a reply, decides and acts. Returns whether it did anything.
+    fn next_turn(
+        &mut self,
+        key: Key,
+        agent: u32,
+        reply: Reply,
+        effects: &mut Effects,
+    ) -> Result<bool, Refusal>
+        requires moment { key.at ≤ most_count }
+        requires recent { IsRecent key.at self.old.queue }
+        ensures did { IfOk result (λ acted.
+            DidTurn effects.old effects.new self.new (answer_if acted)
+            (turn_of key (answer_of reply) self.old (actor_numbered agent self.old))) }
+        ensures stops { IfErr result
+            (Stops (turn_of key (answer_of reply) self.old (actor_numbered agent self.old)).effect) }
+    {
+        let Some(place) = self.actors.place_of(agent) else {
+            return Ok(false);
+        };
+        let follow_up = self.actors.answered_at(place, agent, key.at, reply)?;
+        self.follow_up(key, agent, follow_up, effects)
+    }
+
+    // An actor gets a reply and acts, and then the reply to that.
+    fn last_turns(
+        &mut self,
+        key: Key,
+        agent: u32,
+        reply: Reply,
+        effects: &mut Effects,
+    ) -> Result<(), Refusal>
+        requires moment { key.at ≤ most_count }
+        requires recent { IsRecent key.at self.old.queue }
+        ensures did { OnOk result (Did effects.old effects.new self.new
+            (acts_most 2 key agent (answer_of reply) self.old)) }
+        ensures stops { IfErr result
+            (Stops (acts_most 2 key agent (answer_of reply) self.old)) }
+    {
+        let acted = self.next_turn(key, agent, reply, effects)?;
+        if !acted {
+            return Ok(());
+        }
+        self.next_turn(key, agent, Reply::Other, effects)?;
+        Ok(())
+    }
+
+    /// An actor gets a reply and acts. It then gets the reply to each act in turn, until it does
     /// nothing.
     pub fn told(
         &mut self,
         key: Key,
         agent: u32,
-        answer: Answer,
+        reply: Reply,
         effects: &mut Effects,
     ) -> Result<(), Refusal>
         requires moment { key.at ≤ most_count }
         requires recent { IsRecent key.at self.old.queue }
         ensures did { OnOk result
-            (Did effects.old effects.new self.new (the_told key agent answer self.old)) }
-        ensures stops { IfErr result (Stops (the_told key agent answer self.old)) }
+            (Did effects.old effects.new self.new (the_told key agent (answer_of reply) self.old)) }
+        ensures stops { IfErr result (Stops (the_told key agent (answer_of reply) self.old)) }
     {
-        let Some(answer) = self.take_turn(key, agent, answer, effects)? else {
+        let acted = self.next_turn(key, agent, reply, effects)?;
+        if !acted {
             return Ok(());
-        };
-        let Some(answer) = self.take_turn(key, agent, answer, effects)? else {
-            return Ok(());
-        };
-        self.take_turn(key, agent, answer, effects)?;
-        Ok(())
+        }
+        self.last_turns(key, agent, Reply::Other, effects)
     }
 
-    /// An actor wakes.
+    /// An actor wakes. It acts, and gets the reply to each act in turn, until it does nothing.
     pub fn handle_wake(&mut self, key: Key, effects: &mut Effects) -> Result<(), Refusal>
         requires moment { key.at ≤ most_count }
         requires recent { IsRecent key.at self.old.queue }
@@ -126,6 +202,9 @@ impl Core {
             (Did effects.old effects.new self.new (handle_wake key self.old)) }
         ensures stops { IfErr result (Stops (handle_wake key self.old)) }
     {
-        self.told(key, key.agent, Answer::Wake, effects)
+        let Some(reply) = self.first_turn(key, key.agent, effects)? else {
+            return Ok(());
+        };
+        self.last_turns(key, key.agent, reply, effects)
     }
 }

@@ -4,8 +4,5 @@ use Rattle.sim_actor.proofs.life.Life.consumer_got.Goals as goal
 pub returns-then-is_empty-clause-decision : goal.returns-then-is_empty-clause-decision
 returns-then-is_empty-clause-decision c s = let idles = c.idle.ensures.decision s in search rules
 
-pub returns-in_err-serve_held-clause-decision : goal.returns-in_err-serve_held-clause-decision
-returns-in_err-serve_held-clause-decision c s = let served = c.in_err-serve_held.ensures.life s in search rules
-
 pub returns-clause-decision : goal.returns-clause-decision
-returns-clause-decision c s = let served = c.in_ok-serve_held.ensures.life s in search rules
+returns-clause-decision c s = let served = c.serve_held.ensures.life s in search rules

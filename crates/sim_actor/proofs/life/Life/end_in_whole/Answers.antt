@@ -1,5 +1,4 @@
-use Rattle.std.proofs.Common.{[], List, ap, sym, ◌++◌, ◌∙◌, ◌∷◌, ◌≡◌}
-use Rattle.sqs_redrive.specs.declared.answers.Got.{Got}
+use Rattle.std.proofs.Common.{[], ap, sym, ◌++◌, ◌∙◌, ◌∷◌, ◌≡◌}
 use Rattle.sim_actor.specs.Holdings.{Holding}
 use Rattle.sim_actor.specs.Lives.{Life}
 use Rattle.sim_actor.proofs.Batches.{no_first}

@@ -16,8 +16,8 @@ returns-then-number c =
 
 pub returns-then-self : goal.returns-then-self
 returns-then-self c =
-    subst (λ (actors : List Actor). MatchOption c.first_in_order.result (IsAbsent (is_actor c.args.number) actors) (Stands (is_actor c.args.number) actors)) (c.values-then-self.ensures.values ∙ c.self.view_is)
-    (place_from_position (is_actor c.args.number) c.values-then-self.result.now _ c.first_in_order.ensures)
+    subst (λ (actors : List Actor). MatchOption c.found_in_order.result (IsAbsent (is_actor c.args.number) actors) (Stands (is_actor c.args.number) actors)) c.self.view_is
+    (place_from_position (is_actor c.args.number) c.self.inside.list.values _ c.found_in_order.ensures)
 
 pub returns-else-self : goal.returns-else-self
 returns-else-self c =

@@ -12,6 +12,7 @@ use Rattle.std.specs.Result.{result_map_both}
 use Rattle.sqs_model.specs.Acts.{Made, long_poll, receive_row}
 use Rattle.sqs_message.specs.declared.row.RowAnswer.TheVariants as answers
 use Rattle.sqs_model.specs.Available.{all_hosts}
+use Rattle.sim_actor.specs.Lives.{answer_of}
 use Rattle.sqs_model.specs.Site.{Core, actor_numbered, with_queue}
 use Rattle.sim_site.specs.Effects.{DidMake}
 use Rattle.sim_site.specs.contracts.state.Core.{the_view}
@@ -24,9 +25,9 @@ returns-in-Ok-clause-did c = λ a e.
     let received = c.in_ok-gots.ensures.received ∙ ap (λ r. (result_map_both (λ b. b.items) (λ x. x) r, c.received_by.new.queue)) c.in-Ok.is in
     let is = long_is c.args.key a (the_view c.self.inside) c.args.max c.args.timeout c.args.wait c.all_hosts_of-set.result c.received_by.new.queue c.in-Ok.gots.items all received c.in_ok-gots.ensures.framed.site in
     subst
-    (λ (x : Core). actor_numbered c.args.agent x ≡ Some a → IfOk c.receive_some.result (λ answer. DidMake c.args.effects.now c.receive_some.new.effects c.receive_some.new.self answer (long_poll c.args.key a x c.args.max c.args.wait c.args.timeout)))
+    (λ (x : Core). actor_numbered c.args.agent x ≡ Some a → IfOk c.receive_some.result (λ reply. DidMake c.args.effects.now c.receive_some.new.effects c.receive_some.new.self (answer_of reply) (long_poll c.args.key a x c.args.max c.args.wait c.args.timeout)))
     c.self.view_is
-    (λ f. subst (λ (m : Made). IfOk c.receive_some.result (λ answer. DidMake c.args.effects.now c.receive_some.new.effects c.receive_some.new.self answer m)) is (c.receive_some.ensures.did a e f))
+    (λ f. subst (λ (m : Made). IfOk c.receive_some.result (λ reply. DidMake c.args.effects.now c.receive_some.new.effects c.receive_some.new.self (answer_of reply) m)) is (c.receive_some.ensures.did a e f))
 
 pub returns-in_ok-say-in-Err-clause-did : goal.returns-in_ok-say-in-Err-clause-did
 returns-in_ok-say-in-Err-clause-did c = λ a e.

@@ -12,6 +12,7 @@ use Rattle.std.proofs.Common.{◌≡◌, ◌∙◌, ◌-◌, ap, subst, sym}
 use Rattle.std.specs.Prelude.{IfOk, Some}
 use Rattle.sqs_model.specs.declared.acts.Answer.TheVariants as told_by
 use Rattle.sqs_model.specs.Actor.{Actor}
+use Rattle.sim_actor.specs.Lives.{answer_of}
 use Rattle.sqs_model.specs.Site.{Core, actor_numbered, with_queue}
 use Rattle.std.specs.Result.{result_map_both}
 use Rattle.sqs_model.specs.Acts.{Made, hosts_from, receive_row, receive_some, short_poll}
@@ -44,9 +45,9 @@ made c a =
 pub returns-clause-did : goal.returns-clause-did
 returns-clause-did c = λ a e.
     subst
-    (λ (x : Core). actor_numbered c.args.agent x ≡ Some a → IfOk c.receive_some.result (λ answer. DidMake c.args.effects.now c.receive_some.new.effects c.receive_some.new.self answer (short_poll c.args.key a x c.args.max c.args.timeout c.args.hosts c.args.sampled (drawn_uniform 0 (c.args.hosts - 1) x.draws))))
+    (λ (x : Core). actor_numbered c.args.agent x ≡ Some a → IfOk c.receive_some.result (λ reply. DidMake c.args.effects.now c.receive_some.new.effects c.receive_some.new.self (answer_of reply) (short_poll c.args.key a x c.args.max c.args.timeout c.args.hosts c.args.sampled (drawn_uniform 0 (c.args.hosts - 1) x.draws))))
     c.self.view_is
-    (λ f. subst (λ (m : Made). IfOk c.receive_some.result (λ answer. DidMake c.args.effects.now c.receive_some.new.effects c.receive_some.new.self answer m)) (made c a) (c.receive_some.ensures.did a e f))
+    (λ f. subst (λ (m : Made). IfOk c.receive_some.result (λ reply. DidMake c.args.effects.now c.receive_some.new.effects c.receive_some.new.self (answer_of reply) m)) (made c a) (c.receive_some.ensures.did a e f))
 
 pub returns-then-taken-ge-MOST_COUNT-clause-stops : goal.returns-then-taken-ge-MOST_COUNT-clause-stops
 returns-then-taken-ge-MOST_COUNT-clause-stops c = λ a e.
