@@ -1,16 +1,17 @@
 -- The copies of actors, as they are counted and named one actor after another.
-use Rattle.std.proofs.Common.{◌≡◌, ◌∙◌, ℕ, ◌+◌, ◌-◌, ◌<◌, ◌≤◌, Bool, true, false, codes, nat_le, List, [], ◌∷◌, ◌++◌, append_assoc, append-nil, length, length-append, get_or, drop, take, map, refl, ap, sym, arith, if◌then◌else◌}
+use Rattle.std.proofs.Common.{◌≡◌, ◌∙◌, ℕ, ◌+◌, ◌-◌, ◌<◌, ◌≤◌, Bool, true, false, codes, nat_le, List, [], ◌∷◌, ◌++◌, append_assoc, append-nil, length, length-append, get_or, nat_lt, drop, take, map, refl, ap, sym, arith, if◌then◌else◌}
 use Rattle.std.specs.List.{sum, sum_by}
+use Rattle.std.proofs.lemmas.Bool.{ltb-true}
 use Rattle.std.proofs.lemmas.Bool.Decides.{nat_tests}
 use Rattle.std.proofs.lemmas.List.{drop_all, drop_more, length-map}
-use Rattle.std.proofs.lemmas.List.FromFn.{length-map-range_with_len}
+use Rattle.std.proofs.lemmas.List.FromFn.{get_or-map-range_with_len, length-map-range_with_len}
 use Rattle.std.proofs.lemmas.List.Sums.{sum_by-cons, sum_by-drop_more, sum_by-take-drop}
 use Rattle.std.proofs.Math.Seq.{drop-append_seam, take-append_seam}
 use Rattle.toml.specs.View.{view}
 use Rattle.toml.specs.declared.value.Value.{Value}
 use Rattle.sqs_formats.specs.Copies.{copies_asked, copies_within, copy_name, copy_names, fitting, names_taken}
 use Rattle.sqs_formats.specs.Keys.{text_in}
-use Rattle.sim_scenario.specs.Counted.{AreCounted}
+use Rattle.sim_scenario.specs.Counted.{AreCounted, copies_before}
 
 -- there are so many copies besides the first ones
 abbrev pub beside : List ℕ → ℕ
@@ -102,6 +103,22 @@ all_total f cs i total h t = let none : sum_by f (drop i cs) ≡ 0 = ap (sum_by 
 -- the copies of the first actors are no more than all
 pub first_total : (cs : List ℕ) (i : ℕ) → sum (take i cs) ≤ sum cs
 first_total cs i = omega (arith, sum_by-take-drop (λ n. n) cs i)
+
+pub all_taken : (cs : List ℕ) (i : ℕ) → length cs ≤ i → sum (take i cs) ≡ sum cs
+all_taken cs i h = let none : sum (drop i cs) ≡ 0 = ap sum (drop_all i cs h) in omega (arith, sum_by-take-drop (λ n. n) cs i)
+
+-- what is read of the copies before each actor, at an actor and past all of them
+long_before : (cs sums seen : List ℕ) → sums ≡ copies_before cs → seen ≡ sums → length seen ≡ length cs
+long_before cs sums seen is same = ap length (same ∙ is) ∙ length-map-range_with_len (λ n. sum (take n cs)) 0 (length cs)
+
+pub before_read : (cs sums seen : List ℕ) (i before : ℕ) → sums ≡ copies_before cs → seen ≡ sums → (true ≡ nat_lt i (length seen)) × (before ≡ get_or seen i before) → before ≡ sum (take i cs)
+before_read cs sums seen i before is same (within, here) =
+    here
+    ∙ ap (λ (ns : List ℕ). get_or ns i before) (same ∙ is)
+    ∙ get_or-map-range_with_len (λ n. sum (take n cs)) 0 (length cs) i i before (omega (arith, ltb-true i (length seen) (sym within), long_before cs sums seen is same)) (omega arith)
+
+pub past_read : (cs sums seen : List ℕ) (i : ℕ) → sums ≡ copies_before cs → seen ≡ sums → length seen ≤ i → length cs ≤ i
+past_read cs sums seen i is same past = omega (arith, long_before cs sums seen is same)
 
 -- the copies of actors are as many as the actors, and not too many
 pub record AreFew (actors : ℕ) (copies : List ℕ) : Type 0 where

@@ -4,6 +4,7 @@ ghost use Rattle.std.specs.List.{sum, sum_by};
 ghost use Rattle.toml.specs.View.{view};
 ghost use Rattle.sqs_formats.specs.Copies.{copies_asked, copies_within, copy_name, copy_names, fitting as the_fitting, names_taken};
 ghost use Rattle.sqs_formats.specs.Keys.{text_in};
+ghost use Rattle.sim_scenario.specs.Counted.{copies_before};
 
 use crate::outline::text_in;
 use crate::section::member;
@@ -122,16 +123,18 @@ pub(crate) fn push_names_taken(
     Ok(())
 }
 
-/// How many copies there are.
-pub(crate) fn total(copies: &[u64]) -> usize
+/// For each actor, how many copies the actors before it have.
+pub(crate) fn copies_before(alloc: Global, copies: &[u64]) -> Result<Vec<usize>, AllocError>
     requires { sum copies.now ≤ 32000 }
-    ensures { result ≡ sum copies.now }
+    ensures { IfOk result (λ v. v.items ≡ copies_before copies.now) }
 {
+    let mut before = Vec::with_capacity(alloc, copies.len())?;
     let mut total = 0;
     for count in copies {
+        before.push(total)?;
         total += *count as usize;
     }
-    total
+    Ok(before)
 }
 
 /// How many copies there are besides the first one of each actor.

@@ -6,7 +6,7 @@ ghost use Rattle.toml.specs.View.{view};
 ghost use Rattle.sqs_formats.specs.Keys.{text_in};
 ghost use Rattle.sqs_formats.specs.Actors.{tasks_at};
 
-use crate::copies::{copies_within, push_names_taken, total, total_beside};
+use crate::copies::{copies_before, copies_within, push_names_taken, total_beside};
 use crate::names::is_fifo;
 use crate::roster::Roster;
 use crate::section::member;
@@ -29,6 +29,8 @@ pub(crate) struct Outline {
     queue_count: usize,
     /// The number of copies of each actor.
     copies: Vec<u64>,
+    /// How many copies the actors before each have.
+    earlier_copies: Vec<usize>,
     /// The place of the first task's name among all names.
     first_task_place: usize,
     task_homes: Vec<Text>,
@@ -36,15 +38,15 @@ pub(crate) struct Outline {
 }
 
 impl Model for Outline {
-    ghost use Rattle.std.specs.Prelude.{drop, length, take};
+    ghost use Rattle.std.specs.Prelude.{◌≡◌, drop, length, take};
     ghost use Rattle.sqs_formats.specs.Outline.{Outline};
-    ghost use Rattle.sim_scenario.specs.Counted.{AreCounted};
+    ghost use Rattle.sim_scenario.specs.Counted.{AreCounted, copies_before};
 
     ghost Value = { Outline };
 
     ghost view = { λ o. record { version = o.version; names = o.names; queues = take o.queue_count o.names; copies = o.copies.items; tasks = drop o.first_task_place o.names; task_homes = o.task_homes.items; dead_letters = o.dead_letters } };
 
-    ghost invariant = { λ o. AreCounted o.queue_count o.copies.items o.first_task_place (length o.names) };
+    ghost invariant = { λ o. record { counted : AreCounted o.queue_count o.copies.items o.first_task_place (length o.names); before : o.earlier_copies.items ≡ copies_before o.copies.items } };
 }
 
 /// The text at a key of an item, or none.
@@ -147,11 +149,13 @@ impl Outline {
         let mut dead_letters = Vec::new(alloc);
         push_texts(alloc, &mut dead_letters, queues, "dead_letter")?;
         let dead_letters = Roster::new(alloc, dead_letters)?;
+        let earlier_copies = copies_before(alloc, copies.as_slice())?;
         Ok(Outline {
             version,
             names,
             queue_count: queues.len(),
             copies,
+            earlier_copies,
             first_task_place,
             task_homes,
             dead_letters,
@@ -170,8 +174,10 @@ impl Outline {
         requires { index < 11000 }
         ensures { result ≡ actor_place self.now index }
     {
-        let earlier = index.min(self.copies.len());
-        self.queue_count + index + total(&self.copies[..earlier])
+        match self.earlier_copies.get(index) {
+            Some(before) => self.queue_count + index + *before,
+            None => self.first_task_place + (index - self.copies.len()),
+        }
     }
 
     /// The place of a task's name among all names.

@@ -5,6 +5,7 @@ use Rattle.toml.specs.View.{view}
 use Rattle.sqs_formats.specs.Copies.{copies_asked, copies_within, names_taken}
 use Rattle.sqs_formats.specs.Keys.{text_in}
 use Rattle.sqs_formats.specs.Outline.{room_beside}
+use Rattle.sim_scenario.specs.Counted.{copies_before}
 use Rattle.sim_scenario.proofs.Copying.{are_laid, within_few}
 use Rattle.sim_scenario.proofs.outline.Outline.new.Goals as goal
 
@@ -17,6 +18,11 @@ pub push_names_taken-requires-clause-few : goal.push_names_taken-requires-clause
 push_names_taken-requires-clause-few c =
     let few = within_few c.args.version _ c.args.actors.now c.in_ok-copies.copies.items c.in_ok-copies.ensures (omega (arith, c.saturating_sub-room.ensures)) (omega (arith, c.requires)) in
     rw c.as_slice.ensures.value (omega (arith, few.few))
+
+pub copies_before-requires : goal.copies_before-requires
+copies_before-requires c =
+    let few = within_few c.args.version _ c.args.actors.now c.in_ok-copies.copies.items c.in_ok-copies.ensures (omega (arith, c.saturating_sub-room.ensures)) (omega (arith, c.requires)) in
+    rw c.as_slice-2.ensures.value (omega (arith, few.few))
 
 pub invariant_of-result : goal.invariant_of-result
 invariant_of-result c =
@@ -35,7 +41,7 @@ invariant_of-result c =
     (c.len-first_task_place.ensures ∙ c.push_names_taken.new.names.ok.0 ∙ ap length before)
     (length-map queues (text_in (codes "name")) ∙ length-map c.args.queues.now view) (length-map actors (text_in (codes "name")) ∙ length-map c.args.actors.now view)
     (rw (length-map tasks (text_in (codes "name")), length-map c.args.tasks.now view) (omega (arith, c.requires))) in
-    laid.counted
+    record { counted = laid.counted; before = c.in_ok-earlier_copies.ensures ∙ ap copies_before c.as_slice-2.ensures.value }
 
 pub returns : goal.returns
 returns c =
