@@ -1,8 +1,7 @@
 -- Marks with empty places behind them.
-use Rattle.std.proofs.Common.{List, arith, inl, inr, refl, replicate, suc, zero, ℕ, [], ◌++◌, ◌∷◌, ◌≡◌}
+use Rattle.std.proofs.Common.{arith, inl, inr, replicate, ℕ, ◌≡◌}
 use Rattle.std.proofs.lemmas.Bool.{cases_lt}
 use Rattle.std.proofs.lemmas.List.{get_or-replicate, get_or_past, length-replicate}
-use Rattle.sim_index.specs.declared.mark.Mark.{Mark}
 use Rattle.sim_index.specs.Marks.{no_mark, node}
 
 blank : (n i : ℕ) → node (replicate n no_mark) i ≡ no_mark

@@ -1,7 +1,7 @@
 //! What the tree keeps of one place, or of several together.
 ghost use Rattle.std.specs.Prelude.{None, if◌then◌else◌, false, true, ◌≡◌, ◌≢◌, get_or};
 ghost use Rattle.sim_clock.specs.Order.{lesser};
-ghost use Rattle.sim_index.specs.Marks.{no_mark};
+ghost use Rattle.sim_index.specs.Marks.{no_mark, time_of};
 
 use sim_clock::Key;
 
@@ -20,6 +20,16 @@ pub const NO_MARK: Mark = Mark {
     due: None,
     flags: 0,
 };
+
+/// When something is due; the greatest number if nothing is.
+pub fn time_of(due: &Option<Key>) -> u64
+    ensures { result ≡ time_of due.now }
+{
+    match due {
+        None => u64::MAX,
+        Some(key) => key.at,
+    }
+}
 
 /// Whether the lesser of two keys is the second, and not the first as well.
 pub fn is_second(first: &Option<Key>, second: &Option<Key>) -> bool

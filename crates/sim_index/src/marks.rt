@@ -1,23 +1,32 @@
 //! The tree of marks.
-ghost use Rattle.std.specs.Prelude.{◌≡◌, ◌⊎◌, None, [], ◌*◌, ◌+◌, ◌/◌, ◌^◌, ℕ, ◌<◌, ◌≤◌, drop, false, true, IfOk, MatchOption, length, set, get_or, vec_len};
+ghost use Rattle.std.specs.Prelude.{◌≡◌, ◌⊎◌, if◌then◌else◌, None, [], ◌*◌, ◌+◌, ◌/◌, ◌^◌, ◌%◌, ℕ, ◌<◌, ◌≤◌, drop, false, true, IfOk, MatchOption, length, set, get_or, vec_len};
 ghost use Rattle.std.specs.List.{list_any};
-ghost use Rattle.sim_index.specs.Marks.{AreBoth, AreLeaves, ArePairs, IsBoth, IsNextIn, IsPlaceOfLeast, IsPower, IsTree, IsTreeBut, NoneIn, bare, beyond, least_of, meets, no_mark, no_node, node, tells};
+ghost use Rattle.sim_index.specs.Marks.{AreBoth, AreLeaves, ArePairs, IsBoth, IsNextIn, IsPlaceOfLeast, IsPower, IsFirstOf, IsTimed, IsTree, IsTreeBut, NoneIn, bare, beyond, least_of, meets, no_mark, no_node, node, node_in, tells, told_by};
 
-use crate::mark::{Mark, NO_MARK, is_second};
+use crate::mark::{Mark, NO_MARK, is_second, time_of};
 use sim_clock::Key;
 use std::alloc::{AllocError, Global};
 use std::marker::Model;
 
-// What the tree keeps of some places together: the first place of the least entry due there, and
-// the flags of all of them, as bits.
+// What the tree keeps of some places together: the first place of the least entry due there, when
+// that is due, and the flags of all of them, as bits. The time is the greatest number if nothing is
+// due.
 #[derive(Clone, Copy, Debug, PartialEq, Eq)]
 struct Node {
-    place: usize,
+    time: u64,
+    place: u32,
     flags: u32,
 }
 
 // The node of no places.
-const NO_NODE: Node = Node { place: 0, flags: 0 };
+const NO_NODE: Node = Node {
+    time: 0,
+    place: 0,
+    flags: 0,
+};
+
+// How many places a tree may have.
+const MOST_PLACES: usize = 1 << 32;
 
 // The node with an index; past the end, that of no places.
 fn node_at(nodes: &[Node], place: usize) -> Node
@@ -37,16 +46,54 @@ fn reaches(nodes: &[Node], node: usize, flags: u32) -> bool
     node_at(nodes, node).flags & flags != 0
 }
 
-// The node of the places of two nodes together.
-fn both(marks: &[Mark], first: Node, second: Node) -> Node
-    requires first { first.place < length marks.now }
-    requires second { second.place < length marks.now }
-    ensures { IsBoth marks.now first second result }
+// The other node of the pair that a node is in.
+fn beside(node: usize) -> usize
+    ensures first { node % 2 ≡ 0 → result ≡ node + 1 }
+    ensures second { node % 2 ≡ 1 → result + 1 ≡ node }
 {
-    let is_second = is_second(&marks[first.place].due, &marks[second.place].due);
+    node ^ 1
+}
+
+// Whether the least entry due at the places of two nodes, of which the first may be either one, is
+// the other's and not this one's as well.
+fn is_others(marks: &[Mark], is_first: bool, this: &Node, other: &Node) -> bool
+    requires this { this.now.place < length marks.now }
+    requires other { other.now.place < length marks.now }
+    requires this_time { IsTimed marks.now this.now }
+    requires other_time { IsTimed marks.now other.now }
+    ensures first { is_first ≡ true
+        → IsFirstOf (told_by marks.now this.now).due (told_by marks.now other.now).due this.now.place
+        other.now.place (if result then other.now.place else this.now.place) }
+    ensures second { is_first ≡ false
+        → IsFirstOf (told_by marks.now other.now).due (told_by marks.now this.now).due other.now.place
+        this.now.place (if result then other.now.place else this.now.place) }
+{
+    if this.time != other.time {
+        return other.time < this.time;
+    }
+    let this = &marks[this.place as usize].due;
+    let other = &marks[other.place as usize].due;
+    if is_first {
+        is_second(this, other)
+    } else {
+        !is_second(other, this)
+    }
+}
+
+// The node of the places of two nodes together, of which the first may be either one.
+fn both(marks: &[Mark], is_first: bool, this: &Node, other: &Node) -> Node
+    requires this { this.now.place < length marks.now }
+    requires other { other.now.place < length marks.now }
+    requires this_time { IsTimed marks.now this.now }
+    requires other_time { IsTimed marks.now other.now }
+    ensures first { is_first ≡ true → IsBoth marks.now this.now other.now result }
+    ensures second { is_first ≡ false → IsBoth marks.now other.now this.now result }
+{
+    let is_others = is_others(marks, is_first, this, other);
     Node {
-        place: if is_second { second.place } else { first.place },
-        flags: first.flags | second.flags,
+        time: if is_others { other.time } else { this.time },
+        place: if is_others { other.place } else { this.place },
+        flags: this.flags | other.flags,
     }
 }
 
@@ -119,20 +166,24 @@ fn first_told(nodes: &[Node], width: usize, flags: u32) -> usize
     node
 }
 
-// Recomputes the nodes above a place whose mark is new. It stops at the first node that is
-// unchanged and refers to another place.
-fn mend(marks: &[Mark], nodes: &mut Vec<Node>, place: usize)
-    requires { IsTreeBut marks.now nodes.old.items place }
-    ensures { IsTree marks.now nodes.new.items }
+// Recomputes the nodes above the leaf of a place whose mark is new. It stops at the first node that
+// is unchanged and refers to another place.
+fn mend(marks: &[Mark], nodes: &mut [Node], leaf: usize, changed: Node)
+    requires tree { IsTreeBut marks.now nodes.old changed.place }
+    requires leaf { leaf ≡ length marks.now + changed.place }
+    requires changed { changed ≡ node_in nodes.old leaf }
+    ensures { IsTree marks.now nodes.new }
 {
-    let mut node = (marks.len() + place) / 2;
-    while 0 < node {
-        let both = both(marks, nodes[2 * node], nodes[2 * node + 1]);
-        if nodes[node] == both && both.place != place {
+    let mut node = leaf;
+    let mut below = changed;
+    while 1 < node {
+        let both = both(marks, node % 2 == 0, &below, &nodes[beside(node)]);
+        node /= 2;
+        if both.place != changed.place && nodes[node] == both {
             return;
         }
         nodes[node] = both;
-        node /= 2;
+        below = both;
     }
 }
 
@@ -143,20 +194,21 @@ fn write_above(marks: &[Mark], nodes: &mut Vec<Node>)
     ensures pairs { AreBoth marks.now nodes.new.items }
 {
     for i in (1..marks.len()).rev() {
-        let both = both(marks, nodes[2 * i], nodes[2 * i + 1]);
+        let both = both(marks, true, &nodes[2 * i], &nodes[2 * i + 1]);
         nodes[i] = both;
     }
 }
 
 // The nodes of single places, with room for those above them before.
 fn leaves(alloc: Global, marks: &[Mark]) -> Result<Vec<Node>, AllocError>
-    requires range { 2 * length marks.now < 2 ^ 64 }
+    requires range { length marks.now ≤ 2 ^ 32 }
     ensures { IfOk result (λ v. AreLeaves marks.now v.items) }
 {
     let mut nodes = vec![in alloc; NO_NODE; 2 * marks.len()]?;
     for (place, mark) in marks.iter().enumerate() {
         nodes[marks.len() + place] = Node {
-            place,
+            time: time_of(&mark.due),
+            place: place as u32,
             flags: mark.flags,
         };
     }
@@ -197,7 +249,7 @@ impl Marks {
     ///
     /// # Errors
     ///
-    /// `AllocError` if memory runs out.
+    /// `AllocError` if memory runs out, or for more than 2^32 places.
     pub fn of(alloc: Global, width: usize, marks: &[Mark]) -> Result<Marks, AllocError>
         requires power { IsPower width }
         requires some { 1 ≤ width }
@@ -206,6 +258,9 @@ impl Marks {
         ensures marks { IfOk result (λ m. (i : ℕ) → node m i ≡ node marks.now i) }
         ensures length { IfOk result (λ m. length m ≡ width) }
     {
+        if MOST_PLACES < width {
+            return Err(AllocError);
+        }
         let mut all = Vec::with_capacity(alloc, width)?;
         all.extend_from_slice(marks)?;
         all.resize(width, NO_MARK)?;
@@ -226,13 +281,19 @@ impl Marks {
         requires { place < length self.old }
         ensures { self.new ≡ set self.old place mark }
     {
-        if self.marks[place] == mark {
+        let leaf = self.marks.len() + place;
+        let time = time_of(&mark.due);
+        if self.nodes[leaf].time == time && self.marks[place] == mark {
             return;
         }
         self.marks[place] = mark;
-        let leaf = self.marks.len() + place;
-        self.nodes[leaf].flags = mark.flags;
-        mend(&self.marks, &mut self.nodes, place);
+        let changed = Node {
+            time,
+            place: self.nodes[leaf].place,
+            flags: mark.flags,
+        };
+        self.nodes[leaf] = changed;
+        mend(&self.marks, &mut self.nodes, leaf, changed);
     }
 
     /// Whether the mark of any place has one of these flags.
@@ -265,7 +326,7 @@ impl Marks {
     pub fn least(&self) -> Option<Key>
         ensures { result ≡ least_of self.now }
     {
-        self.marks[self.nodes.get(1)?.place].due
+        self.marks[self.nodes.get(1)?.place as usize].due
     }
 
     /// The first place at which the least entry is due; none if nothing is due.
@@ -273,7 +334,8 @@ impl Marks {
         ensures { MatchOption result (least_of self.now ≡ None) (IsPlaceOfLeast self.now) }
     {
         let root = self.nodes.get(1)?;
-        self.marks[root.place].due?;
-        Some(root.place)
+        let place = root.place as usize;
+        self.marks[place].due?;
+        Some(place)
     }
 }

@@ -1,70 +1,113 @@
-use Rattle.std.proofs.Common.{List, ap, arith, inl, inr, length, refl, rules, set, sym, ◌*◌, ◌+◌, ◌/◌, ◌<◌, ◌∙◌, ◌≡◌, ℕ}
-use Rattle.std.proofs.lemmas.List.{get_or_read_under, length-set}
+use Rattle.std.proofs.Common.{List, ap, arith, false, inl, inr, length, refl, rules, set, subst, sym, true, ◌*◌, ◌+◌, ◌/◌, ◌%◌, ◌<◌, ◌≤◌, ◌∙◌, ◌≡◌, ◌==◌, ℕ}
+use Rattle.std.proofs.lemmas.Bool.{cases_lt}
+use Rattle.std.proofs.lemmas.Bool.Decides.{nat_tests}
+use Rattle.std.proofs.lemmas.List.{get_or-set_same, length-set}
 use Rattle.sim_index.specs.declared.mark.Mark.{Mark}
 use Rattle.sim_index.specs.declared.marks.Node.{Node}
-use Rattle.sim_index.specs.Marks.{IsBoth, no_node, node_in}
-use Rattle.sim_index.proofs.Mends.{Mending, begun, ended, low, mended, stopped}
+use Rattle.sim_index.specs.Marks.{IsBoth, IsTimed, no_node, node_in}
+use Rattle.sim_index.proofs.Mends.{Mending, begun, ended, low, mended, stopped, timed}
 use Rattle.sim_index.proofs.marks.mend.Goals as goal
 
--- a node that is read
-read : (nodes : List Node) (i : ℕ) (node : Node) → node ≡ node_in nodes i → (marks : List Mark) → (node_in nodes i).place < length marks → node.place < length marks
-read nodes i node e marks l = omega (arith, ap (λ (n : Node). n.place) e, l)
+-- the two nodes of a pair, of which one is the other's other
+pub record IsPairOf (n other : ℕ) : Type 0 where
+  pub even : n % 2 ≡ 0 → other ≡ n + 1
+  pub odd : n % 2 ≡ 1 → other + 1 ≡ n
 
--- what is told together of two nodes that are read
-told : (marks : List Mark) (nodes : List Node) (i j : ℕ) (a b n : Node) → a ≡ node_in nodes i → b ≡ node_in nodes j → IsBoth marks a b n → IsBoth marks (node_in nodes i) (node_in nodes j) n
-told marks nodes i j a b n e f h = rw (sym e, sym f) h
+low_of_pair : (n other : ℕ) → IsPairOf n other → 2 * (n / 2) ≤ other
+low_of_pair n other p = elim (cases_lt (n % 2) 1) [ inl l ↦ omega (arith, p.even (omega (arith, l))) | inr l ↦ omega (arith, p.odd (omega (arith, l))) ]
+
+high_of_pair : (n other : ℕ) → IsPairOf n other → other ≤ 2 * (n / 2) + 1
+high_of_pair n other p = elim (cases_lt (n % 2) 1) [ inl l ↦ omega (arith, p.even (omega (arith, l))) | inr l ↦ omega (arith, p.odd (omega (arith, l))) ]
+
+is_even : (n : ℕ) → n % 2 ≡ 0 → (n % 2 == 0) ≡ true
+is_even n e = grind (arith, nat_tests)
+
+is_odd : (n : ℕ) → n % 2 ≡ 1 → (n % 2 == 0) ≡ false
+is_odd n e = grind (arith, nat_tests)
+
+-- what is told together of a node and its other, in the order of the pair
+told : (marks : List Mark) (nodes : List Node) (n other : ℕ) (a b both : Node) → a ≡ node_in nodes n → b ≡ node_in nodes other → IsPairOf n other → ((n % 2 == 0) ≡ true → IsBoth marks a b both) → ((n % 2 == 0) ≡ false → IsBoth marks b a both)
+    → IsBoth marks (node_in nodes (2 * (n / 2))) (node_in nodes (2 * (n / 2) + 1)) both
+told marks nodes n other a b both e f p first second =
+    elim (cases_lt (n % 2) 1) [
+      | inl l ↦
+          let even : n % 2 ≡ 0 = omega (arith, l) in
+          let here : n ≡ 2 * (n / 2) = omega (arith, even) in
+          let next : other ≡ 2 * (n / 2) + 1 = omega (arith, even, p.even even) in
+          subst (λ (x : Node). IsBoth marks x (node_in nodes (2 * (n / 2) + 1)) both) (e ∙ ap (node_in nodes) here) (subst (λ (x : Node). IsBoth marks a x both) (f ∙ ap (node_in nodes) next) (first (is_even n even)))
+      | inr l ↦
+          let odd : n % 2 ≡ 1 = omega (arith, l) in
+          let here : n ≡ 2 * (n / 2) + 1 = omega (arith, odd) in
+          let before : other ≡ 2 * (n / 2) = omega (arith, odd, p.odd odd) in
+          subst (λ (x : Node). IsBoth marks x (node_in nodes (2 * (n / 2) + 1)) both) (f ∙ ap (node_in nodes) before) (subst (λ (x : Node). IsBoth marks b x both) (e ∙ ap (node_in nodes) here) (second (is_odd n odd)))
+    ]
 
 there : (marks : List Mark) (a b n : Node) → IsBoth marks a b n → a.place < length marks → b.place < length marks → n.place < length marks
 there marks a b n h l m = elim h.place [ inl p ↦ omega (arith, p.1, l) | inr p ↦ omega (arith, p.1, m) ]
 
 pub loop-node-init : goal.loop-node-init
 loop-node-init c =
-    let m : Mending c.args.marks.now c.args.nodes.now.items c.args.nodes.now.items c.args.place ((length c.args.marks.now + c.args.place) / 2) = begun c.args.marks.now c.args.nodes.now.items c.args.place c.requires in
-    record { mending = m; within = omega (arith, low _ _ _ _ _ m, m.leaves.long); same = search rules }
+    let marks : List Mark = c.args.marks.now in
+    let nodes : List Node = c.args.nodes.now in
+    let m : Mending marks nodes nodes c.args.changed.place ((length marks + c.args.changed.place) / 2) = begun marks nodes c.args.changed.place c.requires.tree in
+    let small : (length marks + c.args.changed.place) / 2 < length marks = low _ _ _ _ _ m in
+    let within : c.args.leaf < length nodes = omega (arith, small, m.leaves.long, c.requires.leaf) in
+    record {
+      mending = subst (λ (n : ℕ). Mending marks nodes nodes c.args.changed.place (n / 2)) (sym c.requires.leaf) m;
+      some = omega (arith, small, c.requires.leaf);
+      within = within;
+      below = c.requires.changed;
+    }
 
-pub both-both-requires-clause-first : goal.both-both-requires-clause-first
-both-both-requires-clause-first c =
-    let nodes = c.loop-node.nodes.items in
-    let at : ℕ = c.loop-node.node in
+pub both-both-requires-clause-this_time : goal.both-both-requires-clause-this_time
+both-both-requires-clause-this_time c =
     let i = c.loop-node.invariant in
-    read nodes (2 * at) c.index.result.now (get_or_read_under nodes (2 * at) (length nodes) c.index.result.now no_node c.index.ensures (omega (arith, i.within, i.same)) refl) c.args.marks.now (i.mending.leaves.there (2 * at) (omega (arith, i.within, i.same)))
+    subst (IsTimed c.args.marks.now) (sym i.below)
+    (timed c.args.marks.now c.loop-node.nodes (c.loop-node.node / 2) c.loop-node.node i.mending.leaves i.mending.done (omega (arith, i.some)) i.within)
 
-pub both-both-requires-clause-second : goal.both-both-requires-clause-second
-both-both-requires-clause-second c =
-    let nodes = c.loop-node.nodes.items in
-    let at : ℕ = c.loop-node.node in
+pub both-both-requires-clause-other_time : goal.both-both-requires-clause-other_time
+both-both-requires-clause-other_time c =
+    let nodes : List Node = c.loop-node.nodes in
+    let at : ℕ = c.loop-node.node / 2 in
     let i = c.loop-node.invariant in
-    read nodes (2 * at + 1) c.index-in-loop-node.result.now (get_or_read_under nodes (2 * at + 1) (length nodes) c.index-in-loop-node.result.now no_node c.index-in-loop-node.ensures (omega (arith, i.within, i.same)) refl) c.args.marks.now
-    (i.mending.leaves.there (2 * at + 1) (omega (arith, i.within, i.same)))
+    let pair : IsPairOf c.loop-node.node c.beside.result = record { even = c.beside.ensures.first; odd = c.beside.ensures.second } in
+    let above : 2 * at ≤ c.beside.result = low_of_pair _ _ pair in
+    let below : c.beside.result < length nodes = omega (arith, high_of_pair _ _ pair, low _ _ _ _ _ i.mending, i.mending.leaves.long) in
+    timed c.args.marks.now nodes at c.beside.result i.mending.leaves i.mending.done (omega (arith, above, c.loop-node-test.true)) below
 
-pub returns-then-both-place : goal.returns-then-both-place
-returns-then-both-place c =
-    let nodes = c.loop-node.nodes.items in
-    let at : ℕ = c.loop-node.node in
+pub returns-then-eq : goal.returns-then-eq
+returns-then-eq c =
+    let marks : List Mark = c.args.marks.now in
+    let nodes : List Node = c.loop-node.nodes in
+    let at : ℕ = c.loop-node.node / 2 in
     let i = c.loop-node.invariant in
-    let first : c.index.result.now ≡ node_in nodes (2 * at) = get_or_read_under nodes (2 * at) (length nodes) c.index.result.now no_node c.index.ensures (omega (arith, i.within, i.same)) refl in
-    let second : c.index-in-loop-node.result.now ≡ node_in nodes (2 * at + 1) = get_or_read_under nodes (2 * at + 1) (length nodes) c.index-in-loop-node.result.now no_node c.index-in-loop-node.ensures (omega (arith, i.within, i.same)) refl in
-    let here : c.index-in-loop-node-2.result.now ≡ node_in nodes at = get_or_read_under nodes at (length nodes) c.index-in-loop-node-2.result.now no_node c.index-in-loop-node-2.ensures (omega (arith, i.within, i.same)) refl in
-    let same : c.index-in-loop-node-2.result.now ≡ c.both-both.result = search rules in
-    stopped c.args.marks.now c.args.nodes.now.items nodes c.args.place at c.both-both.result i.mending (omega (arith, c.loop-node-test.true))
-    (told c.args.marks.now nodes (2 * at) (2 * at + 1) c.index.result.now c.index-in-loop-node.result.now c.both-both.result first second c.both-both.ensures) (sym here ∙ same) c.if-both-place.true
+    let pair : IsPairOf c.loop-node.node c.beside.result = record { even = c.beside.ensures.first; odd = c.beside.ensures.second } in
+    let small : at < length marks = low _ _ _ _ _ i.mending in
+    let both : IsBoth marks (node_in nodes (2 * at)) (node_in nodes (2 * at + 1)) c.both-both.result =
+    told marks nodes c.loop-node.node c.beside.result c.loop-node.below (node_in nodes c.beside.result) c.both-both.result i.below refl pair c.both-both.ensures.first c.both-both.ensures.second in
+    let same : node_in nodes at ≡ c.both-both.result = search rules in
+    stopped marks c.args.nodes.now nodes c.args.changed.place at c.both-both.result i.mending (omega (arith, c.loop-node-test.true)) both same c.if-both-changed.true
 
 pub loop-node-preserved : goal.loop-node-preserved
 loop-node-preserved c =
-    let nodes = c.loop-node.nodes.items in
-    let at : ℕ = c.loop-node.node in
+    let marks : List Mark = c.args.marks.now in
+    let nodes : List Node = c.loop-node.nodes in
+    let at : ℕ = c.loop-node.node / 2 in
     let i = c.loop-node.invariant in
-    let first : c.index.result.now ≡ node_in nodes (2 * at) = get_or_read_under nodes (2 * at) (length nodes) c.index.result.now no_node c.index.ensures (omega (arith, i.within, i.same)) refl in
-    let second : c.index-in-loop-node.result.now ≡ node_in nodes (2 * at + 1) = get_or_read_under nodes (2 * at + 1) (length nodes) c.index-in-loop-node.result.now no_node c.index-in-loop-node.ensures (omega (arith, i.within, i.same)) refl in
-    let both : IsBoth c.args.marks.now (node_in nodes (2 * at)) (node_in nodes (2 * at + 1)) c.both-both.result = told c.args.marks.now nodes (2 * at) (2 * at + 1) c.index.result.now c.index-in-loop-node.result.now c.both-both.result first second c.both-both.ensures in
+    let pair : IsPairOf c.loop-node.node c.beside.result = record { even = c.beside.ensures.first; odd = c.beside.ensures.second } in
+    let small : at < length marks = low _ _ _ _ _ i.mending in
+    let both : IsBoth marks (node_in nodes (2 * at)) (node_in nodes (2 * at + 1)) c.both-both.result =
+    told marks nodes c.loop-node.node c.beside.result c.loop-node.below (node_in nodes c.beside.result) c.both-both.result i.below refl pair c.both-both.ensures.first c.both-both.ensures.second in
     let long : length (set nodes at c.both-both.result) ≡ length nodes = length-set nodes at c.both-both.result in
+    let within : at < length nodes = omega (arith, small, i.mending.leaves.long) in
     record {
       mending =
-          mended c.args.marks.now c.args.nodes.now.items nodes c.args.place at c.both-both.result i.mending (omega (arith, c.loop-node-test.true)) both
-          (there c.args.marks.now _ _ _ both (i.mending.leaves.there (2 * at) (omega (arith, i.within, i.same))) (i.mending.leaves.there (2 * at + 1) (omega (arith, i.within, i.same))));
-      within = omega (arith, i.within);
-      same = i.same ∙ sym long;
+          mended marks c.args.nodes.now nodes c.args.changed.place at c.both-both.result i.mending (omega (arith, c.loop-node-test.true)) both
+          (there marks _ _ _ both (i.mending.leaves.there (2 * at) (omega (arith, small, i.mending.leaves.long))) (i.mending.leaves.there (2 * at + 1) (omega (arith, small, i.mending.leaves.long))));
+      some = omega (arith, c.loop-node-test.true);
+      within = omega (arith, within, long);
+      below = sym (get_or-set_same nodes at c.both-both.result no_node within);
     }
 
 pub returns : goal.returns
-returns c = ended c.args.marks.now c.args.nodes.now.items c.loop-node.nodes.items c.args.place c.loop-node.node c.loop-node.invariant.mending (omega (arith, c.loop-node-test.false))
+returns c = ended c.args.marks.now c.args.nodes.now c.loop-node.nodes c.args.changed.place (c.loop-node.node / 2) c.loop-node.invariant.mending (omega (arith, c.loop-node-test.false))

@@ -1,13 +1,15 @@
-use Rattle.std.proofs.Common.{◌≡◌, ◌+◌, ◌*◌, ◌<◌, length, vec_len}
+use Rattle.std.proofs.Common.{◌≡◌, ◌/◌, ◌<◌, ◌≤◌, length}
+use Rattle.sim_index.specs.Marks.{node_in}
 use Rattle.sim_index.proofs.Mends.{Mending}
 use Rattle.sim_index.proofs.marks.mend.Given as goal
 
 abbrev pub invariant-loop-node : goal.invariant-loop-node
 invariant-loop-node l =
     record {
-      mending : Mending l.marks l.fn.nodes.items l.nodes.items l.place l.node;
-      within : 2 * l.node + 1 < vec_len l.nodes;
-      same : vec_len l.nodes ≡ length l.nodes.items;
+      mending : Mending l.marks l.fn.nodes l.nodes l.changed.place (l.node / 2);
+      some : 1 ≤ l.node;
+      within : l.node < length l.nodes;
+      below : l.below ≡ node_in l.nodes l.node;
     }
 
 abbrev pub decreases-loop-node : goal.decreases-loop-node
