@@ -4,13 +4,13 @@ ghost use Rattle.sqs_model.specs.Valid.{AreGroups, IsLatency, MayBeGroups};
 ghost use Rattle.sim_actor.specs.Lives.{IsRole};
 
 use crate::tests::same::same;
-use sim_actor::Actor;
+use sim_actor::{Actor, FollowUp, Reply};
 use sqs_message::{
     Call, HandleForm, Listed, MessageId, Origin, Receipt, ReceiptHandle, Script, ScriptCall, Text,
 };
 use sqs_model::{
-    Act, ActorSettings, Answer, ConsumerSettings, Distribution, Forwarding, Groups,
-    ProducerSettings, Role, WeightedGroup,
+    Act, ActorSettings, ConsumerSettings, Distribution, Forwarding, Groups, ProducerSettings, Role,
+    WeightedGroup,
 };
 use sqs_redrive::{Batch, Got, Latency, Load, Outbound};
 use std::alloc::{AllocError, Global};
@@ -155,18 +155,32 @@ enum Told {
     Other,
 }
 
-// The answer that this means; two messages are 4 and 6 with the bodies x and y.
-fn answer(rt: &impl Abort, alloc: Global, told: Told) -> Answer {
+// The reply that this means, if it is one; two messages are 4 and 6 with the bodies x and y.
+fn reply(rt: &impl Abort, alloc: Global, told: Told) -> Option<Reply> {
     match told {
-        Told::Wake => Answer::Wake,
+        Told::Wake => None,
         Told::Two => {
             let (first, second) = (got(rt, alloc, 4, "x"), got(rt, alloc, 6, "y"));
             let messages = vec![in alloc; first, second].expect(rt, "memory");
-            Answer::Got(Batch::new(messages))
+            Some(Reply::Got(Batch::new(messages)))
         }
-        Told::Empty => Answer::Got(Batch::new(Vec::new(alloc))),
-        Told::Waiting => Answer::Waiting,
-        Told::Other => Answer::Other,
+        Told::Empty => Some(Reply::Got(Batch::new(Vec::new(alloc)))),
+        Told::Waiting => Some(Reply::Waiting),
+        Told::Other => Some(Reply::Other),
+    }
+}
+
+// The act that an actor does on a reply.
+fn act_of(follow_up: FollowUp) -> Act {
+    match follow_up {
+        FollowUp::Nothing => Act::Nothing,
+        FollowUp::Delete(receipt) => Act::Delete {
+            receipt: ReceiptHandle::from(receipt),
+        },
+        FollowUp::Change { receipt, timeout } => Act::Change {
+            receipt: ReceiptHandle::from(receipt),
+            timeout,
+        },
     }
 }
 
@@ -177,8 +191,10 @@ type Step = (u32, Told, &'static str, Option<u64>);
 // Takes an actor through the steps of a life.
 fn live(rt: &impl Abort, alloc: Global, actor: &mut Actor, steps: &[Step]) {
     for &(now, told, wanted, wake) in steps {
-        let answer = answer(rt, alloc, told);
-        let act = actor.next(u64::from(now), answer).expect(rt, "an act");
+        let act = match reply(rt, alloc, told) {
+            None => actor.woken(u64::from(now)).expect(rt, "an act"),
+            Some(reply) => act_of(actor.answered(u64::from(now), reply).expect(rt, "an act")),
+        };
         let mut line = String::new(alloc);
         show(&mut line, &act).expect(rt, "memory");
         same(rt, (now, line.as_str(), actor.wake()), (now, wanted, wake));
