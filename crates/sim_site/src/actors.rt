@@ -123,32 +123,6 @@ fn turn_to(actors: &mut MarkedList<Actor>, told: Option<usize>, place: usize)
     }
 }
 
-// The actor at `place` decides what it does when its wake has come. Its mark is not updated.
-fn woken_at(
-    actors: &mut MarkedList<Actor>,
-    place: usize,
-    number: u32,
-    now: u64,
-) -> Result<Act, Refusal>
-    requires place { Stands (is_actor number) actors.old.values place }
-    requires moment { now ≤ most_count }
-    requires marked { AreMarked wake_mark (brought_up (Some place) actors.old) }
-    ensures turned { IfOk result
-        (λ act. Turned number now Answer.Wake act actors.old.values actors.new.values) }
-    ensures settings { map (λ a. a.settings) actors.new.values
-        ≡ map (λ a. a.settings) actors.old.values }
-    ensures waits { All (λ a. HasShortWaits a.role) (map (λ a. a.settings) actors.old.values)
-        → IfOk result WaitsShortly }
-    ensures stops { IfErr result (StopsWhere ((a : TheActor)
-        → find (is_actor number) actors.old.values ≡ Some a
-        → most_count < greatest_count (next a now Answer.Wake).1)) }
-    ensures marked { AreMarked wake_mark (brought_up (Some place) actors.new) }
-    ensures numbers { map (λ a. a.number) actors.new.values
-        ≡ map (λ a. a.number) actors.old.values }
-{
-    actors.value_mut(place).woken(now)
-}
-
 // The actor at `place` decides what it does on a reply. Its mark is not updated.
 fn answered_at(
     actors: &mut MarkedList<Actor>,
@@ -253,7 +227,22 @@ impl Actors {
         greatest_of(self.list.values())
     }
 
+    // The index of the first actor with a number, by a search. It is apart from `place_of`, which
+    // follows each act of an actor.
+    #[inline(never)]
+    fn search(&self, number: u32) -> Option<usize>
+        ensures { MatchOption result (IsAbsent (is_actor number) self.now)
+            (Stands (is_actor number) self.now) }
+    {
+        if self.is_in_order {
+            found_in_order(&self.list, number)
+        } else {
+            first_actor(self.list.values(), number)
+        }
+    }
+
     /// The index of the first actor with a number; the contract says the same of the list.
+    #[inline(always)]
     pub fn place_of(&self, number: u32) -> Option<usize>
         ensures { MatchOption result (IsAbsent (is_actor number) self.now)
             (Stands (is_actor number) self.now) }
@@ -263,11 +252,7 @@ impl Actors {
                 return Some(place);
             }
         }
-        if self.is_in_order {
-            found_in_order(&self.list, number)
-        } else {
-            first_actor(self.list.values(), number)
-        }
+        self.search(number)
     }
 
     /// The actor at `place` decides what it does when its wake has come. `now` is in milliseconds.
@@ -289,7 +274,7 @@ impl Actors {
     {
         turn_to(&mut self.list, self.told, place);
         self.told = Some(place);
-        woken_at(&mut self.list, place, number, now)
+        self.list.value_mut(place).woken(now)
     }
 
     /// The actor at `place` decides what it does on a reply. `now` is in milliseconds.

@@ -49,6 +49,7 @@ impl Model for Site {
 }
 
 // The key of the next entry due.
+#[inline(always)]
 fn least_of(core: &mut Core, arriving: &Arrivals) -> Option<Key>
     ensures due { result ≡ least_due (record { core = core.old; arriving = arriving.now }) }
     ensures same { core.new ≡ core.old }

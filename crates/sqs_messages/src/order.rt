@@ -44,6 +44,7 @@ impl Order {
 
     /// Makes room for one more message of a group, on the shelf and in the list of its group.
     /// Returns the index of the group, if the order is by groups. No message changes.
+    #[inline(always)]
     pub fn room_for(
         &mut self,
         alloc: Global,
@@ -72,6 +73,7 @@ impl Order {
     }
 
     /// Adds a message, for which there is room, with what is due of it. Its group has this index.
+    #[inline(always)]
     pub fn add(&mut self, shelf: &mut Shelf, place: usize, message: Message, due: Option<Key>)
         requires ordered { AreInOrder shelf.old.items shelf.old.next self.old }
         requires ready { shelf.old.ready ≡ true }

@@ -89,6 +89,7 @@ impl Shelf {
 
     /// Sets the state and the mark of the message with a number, if it is there. Returns the state
     /// that the message was in, and the index of its group.
+    #[inline(always)]
     pub fn put(&mut self, number: u64, state: State, mark: Mark) -> Option<(Place, usize)>
         ensures found { result
             ≡ option_map place_and_group (find (is_numbered number) self.old.items) }
@@ -142,6 +143,7 @@ impl Shelf {
     }
 
     /// Removes the message with a number, if it is there. Returns it with the index of its group.
+    #[inline(always)]
     pub fn remove(&mut self, number: u64) -> Option<(Message, usize)>
         ensures found { result
             ≡ option_map message_and_group (find (is_numbered number) self.old.items) }
@@ -177,6 +179,7 @@ impl Shelf {
 
     /// The first message at or after a number whose mark has one of these flags. Returns its number
     /// and the index of its group.
+    #[inline(always)]
     pub fn next(&self, from: u64, hosts: u32) -> Option<(u64, usize)>
         ensures found { result
             ≡ option_map number_and_group
@@ -220,6 +223,7 @@ impl Shelf {
 
     /// Adds a message with the next number and the index of its group. It succeeds if there is
     /// room.
+    #[inline(always)]
     pub fn push(&mut self, message: Message, group: usize, mark: Mark) -> Result<(), AllocError>
         requires number { message.number ≡ self.old.next }
         requires range { self.old.next + 1 < 2 ^ 64 }

@@ -134,6 +134,7 @@ impl MessageTable {
     /// # Errors
     ///
     /// `AllocError` if memory runs out; nothing changes then.
+    #[inline(always)]
     pub fn push(&mut self, message: Message) -> Result<(), AllocError>
         requires numbered { message.number ≡ self.old.arrivals }
         requires counted { IsCounted message }
@@ -198,6 +199,7 @@ impl MessageTable {
     }
 
     /// Sets the state of the message with a number, if it is there. It allocates nothing.
+    #[inline(always)]
     pub fn put(&mut self, number: u64, state: State)
         requires receives { state.receives ≤ most_count }
         requires received { state.received ≤ most_count }
@@ -211,6 +213,7 @@ impl MessageTable {
     }
 
     /// Removes the message with a number, if it is there. It allocates nothing.
+    #[inline(always)]
     pub fn remove(&mut self, number: u64) -> Option<Message>
         ensures found { result ≡ numbered number self.old.records }
         ensures rest { self.new ≡ taken_out self.old number }

@@ -233,6 +233,28 @@ impl Life {
         }
     }
 
+    // The first message that it holds was served. It is forwarded, if the consumer forwards, and then
+    // deleted.
+    fn forward_held(
+        &mut self,
+        consumer: &ConsumerSettings,
+        home: u32,
+        now: u64,
+    ) -> Result<Act, Refusal>
+        requires moment { now ≤ most_count }
+        requires consumer { IsConsumer consumer.now }
+        ensures decision { (s : ActorSettings) (g : GotMessage) (gs : List GotMessage) → s.home ≡ home
+            → self.old.held ≡ g ∷ gs
+            → Decides result (lived s self.new)
+            (the_ends_well false (record (lived s self.old) { held = gs }) consumer.now now g gs) }
+        ensures framed { self.new.number ≡ self.old.number }
+    {
+        match self.holding.take_held() {
+            None => Ok(Act::Nothing),
+            Some(got) => self.settle(consumer, home, now, got),
+        }
+    }
+
     // Ends a service well, of a consumer each of whose services ends by itself.
     fn settle_held(
         &mut self,
@@ -260,10 +282,7 @@ impl Life {
                 forward: None,
             });
         }
-        match self.holding.take_held() {
-            None => Ok(Act::Nothing),
-            Some(got) => self.settle(consumer, home, now, got),
-        }
+        self.forward_held(consumer, home, now)
     }
 
     // Ends the service of the first message that it holds.
@@ -326,9 +345,6 @@ impl Life {
             (the_rests (lived s self.old) consumer.now now self.old.failed self.old.done) }
         ensures framed { self.new.number ≡ self.old.number }
     {
-        if self.holding.is_empty() {
-            return Ok(self.ask(consumer, now));
-        }
         if let Some(got) = self.holding.take_failed() {
             let timeout = self.back_off(consumer, &got);
             return Ok(Act::Change {
@@ -360,6 +376,9 @@ impl Life {
             return Err(Refusal::CountLimit);
         }
         self.count_wake();
+        if self.holding.is_empty() {
+            return Ok(self.ask(consumer, now));
+        }
         let Some(got) = self.holding.first() else {
             return self.rest(consumer, home, now);
         };

@@ -156,6 +156,7 @@ impl Core {
 
     // The outcome of a receive, which may have found nothing. What it gave has left the queue
     // already.
+    #[inline(always)]
     fn receive_some(
         &mut self,
         key: Key,
@@ -227,6 +228,7 @@ impl Core {
     }
 
     // A receive that sees all hosts.
+    #[inline(always)]
     fn long_poll(
         &mut self,
         key: Key,

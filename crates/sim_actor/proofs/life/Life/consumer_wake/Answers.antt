@@ -1,6 +1,7 @@
 use Rattle.std.proofs.Common.{[], ap, arith, sym, ◌∙◌, ◌≡◌, ◌∷◌}
 use Rattle.sqs_model.specs.Actor.{woken}
 use Rattle.sqs_model.proofs.ConsumerWakes.{consumer_woke}
+use Rattle.sim_actor.specs.Holdings.{Holding}
 use Rattle.sim_actor.specs.Lives.{Life, lived}
 use Rattle.sim_actor.proofs.Batches.{none_first, some_first}
 use Rattle.sim_actor.proofs.life.Life.consumer_wake.Goals as goal
@@ -10,6 +11,15 @@ returns-then-self-eq-MOST_COUNT-clause-decision c s at_home =
     let woke = (consumer_woke c.args.now (woken (lived s c.args.self.now)) c.args.consumer.now c.args.self.now.held).stays.wakes in
     let at_most = ap (λ (l : Life). l.wakes) (sym c.self.view_is) ∙ c.if-self-eq-MOST_COUNT.true in
     omega (arith, woke, at_most)
+
+pub returns-then-is_empty-clause-decision : goal.returns-then-is_empty-clause-decision
+returns-then-is_empty-clause-decision c s at_home =
+    let none = c.is_empty.ensures c.if-is_empty.true in
+    let counted = c.self-2.view_is ∙ c.count_wake.ensures in
+    let held : c.args.self.now.held ≡ [] = sym (ap (λ (l : Life). l.held) counted) ∙ ap (λ (h : Holding). h.held) none in
+    let done : c.args.self.now.done ≡ [] = sym (ap (λ (l : Life). l.done) counted) ∙ ap (λ (h : Holding). h.done) none in
+    let failed : c.args.self.now.failed ≡ [] = sym (ap (λ (l : Life). l.failed) counted) ∙ ap (λ (h : Holding). h.failed) none in
+    rw (held, done, failed) (rw (c.count_wake.ensures, held, done, failed) at c.ask.ensures.decision s)
 
 pub returns-in_default-clause-decision : goal.returns-in_default-clause-decision
 returns-in_default-clause-decision c s at_home =

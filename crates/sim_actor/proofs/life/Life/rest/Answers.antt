@@ -2,11 +2,6 @@ use Rattle.std.proofs.Common.{[], ap, sym, ◌∙◌, ◌≡◌}
 use Rattle.sim_actor.specs.Holdings.{Holding}
 use Rattle.sim_actor.proofs.life.Life.rest.Goals as goal
 
-pub returns-then-is_empty-clause-decision : goal.returns-then-is_empty-clause-decision
-returns-then-is_empty-clause-decision c s at_home =
-    let none = c.is_empty.ensures c.if-is_empty.true in
-    rw (← c.self.view_is, none) (rw (← c.self.view_is, none) at c.ask.ensures.decision s)
-
 pub returns-in-Some-clause-decision : goal.returns-in-Some-clause-decision
 returns-in-Some-clause-decision c s at_home = rw (← c.self.view_is, c.in-Some.ensures, c.from.ensures) (c.back_off-timeout.ensures.decision s)
 
@@ -21,4 +16,4 @@ returns-in-None-clause-decision c s at_home =
     let none = c.in_default.ensures in
     let none_done = c.in-None.ensures in
     let none_left = rw none.1 at none_done.0 in
-    rw (← c.self.view_is, none.0, none_left) (rw (none_done.1, none.1, none.0, none_left) at c.ask-in-None.ensures.decision s)
+    rw (← c.self.view_is, none.0, none_left) (rw (none_done.1, none.1, none.0, none_left) at c.ask.ensures.decision s)

@@ -13,13 +13,3 @@ returns-then-number c =
     let here = subst (λ xs. IsFirst (map (λ (a : Actor). a.number) xs) c.in-Some.place) (sym c.values.ensures.values) first in
     subst (λ (actors : List Actor). MatchOption (Some c.in-Some.place) (IsAbsent (is_actor c.args.number) actors) (Stands (is_actor c.args.number) actors)) (c.values.ensures.values ∙ c.self.view_is)
     (first_found c.args.number c.values.result.now c.in-Some.place c.index-values-place.result here c.index-values-place.is (sym c.number.ensures ∙ c.if-number.true))
-
-pub returns-then-self : goal.returns-then-self
-returns-then-self c =
-    subst (λ (actors : List Actor). MatchOption c.found_in_order.result (IsAbsent (is_actor c.args.number) actors) (Stands (is_actor c.args.number) actors)) c.self.view_is
-    (place_from_position (is_actor c.args.number) c.self.inside.list.values _ c.found_in_order.ensures)
-
-pub returns-else-self : goal.returns-else-self
-returns-else-self c =
-    subst (λ (actors : List Actor). MatchOption c.first_actor.result (IsAbsent (is_actor c.args.number) actors) (Stands (is_actor c.args.number) actors)) (c.values-else-self.ensures.values ∙ c.self.view_is)
-    (place_from_position (is_actor c.args.number) c.values-else-self.result.now _ c.first_actor.ensures)
