@@ -1,5 +1,6 @@
--- What a page gets for a scenario's text.
-use Rattle.std.specs.Prelude.{List, [], length, ℕ, ◌++◌, ◌<◌, ◌≡◌}
+-- What a page gets for a scenario's text and its script files.
+use Rattle.std.specs.Prelude.{List, length, ℕ, ◌++◌, ◌<◌, ◌≡◌}
+use Rattle.sqs_formats.specs.Actors.{Files}
 use Rattle.sqs_formats.specs.Output.{ending_of, log_of}
 use Rattle.sqs_model.specs.Limits.{IsOver}
 use Rattle.sqs_rehearsal.specs.FaultLines.{refusal_line}
@@ -8,32 +9,32 @@ use Rattle.sqs_rehearsal.specs.Rehearsals.{IsRefused, Rehearsed, Request, reques
 use Rattle.sqs_rehearsal.specs.Writers.{Writer}
 use Rattle.sqs_rehearsal.specs.declared.rehearsal.Fault.{Fault}
 
--- what a page asks for: this text, with no scripts beside it, on one list
-abbrev pub asked : List ℕ → Request
-asked text = request text [] unsplit
+-- what a page asks for: this text, with these script files, on one list
+abbrev pub asked : List ℕ → Files → Request
+asked text files = request text files unsplit
 
 -- the scenario that the text states has a one-list run, which takes no count past the limit, and these are its log, final
 -- queues and report
-pub record IsOutputOf (text output : List ℕ) : Type 0 where
-  pub of : Rehearsed (asked text)
+pub record IsOutputOf (text : List ℕ) (files : Files) (output : List ℕ) : Type 0 where
+  pub of : Rehearsed (asked text files)
   pub not_over : ¬ IsOver of.scenario
   pub whole : output ≡ log_of of.scenario of.run ++ ending_of of.scenario of.run
 
--- the output is of this length, for which the room is too short
-pub record IsTooLong (text room : List ℕ) (needed : ℕ) : Type 0 where
-  pub output : List ℕ
-  pub is : IsOutputOf text output
-  pub needed_is : needed ≡ length output
-  pub longer : length room < needed
-
 -- why the text is refused, with what two writers got by then
-pub record IsRefusedFor (text : List ℕ) (fault : Fault) : Type 0 where
+pub record IsRefusedFor (text : List ℕ) (files : Files) (fault : Fault) : Type 0 where
   pub log : Writer
   pub report : Writer
-  pub is : IsRefused (asked text) log report fault
+  pub is : IsRefused (asked text files) log report fault
 
--- the line of why it is refused
-pub record IsRefusalOf (text output : List ℕ) : Type 0 where
+-- the line of a fault of which this holds
+pub record IsLineOf (Holds : Fault → Type 0) (line : List ℕ) : Type 0 where
   pub fault : Fault
-  pub why : IsRefusedFor text fault
-  pub line : output ≡ refusal_line fault
+  pub why : Holds fault
+  pub line_is : line ≡ refusal_line fault
+
+-- an answer of which this holds is of the length that is needed, for which the room is too short
+pub record IsTooShort (room : List ℕ) (needed : ℕ) (Holds : List ℕ → Type 0) : Type 0 where
+  pub answer : List ℕ
+  pub is : Holds answer
+  pub needed_is : needed ≡ length answer
+  pub longer : length room < needed

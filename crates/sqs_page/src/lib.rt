@@ -1,66 +1,129 @@
-//! Rehearsals for a page in a browser: the bytes of a scenario in, the bytes of its log, final
-//! queues and report out, on one thread.
+//! Rehearsals for a page in a browser, on one thread: the bytes of a scenario and its script files
+//! in, the bytes of its log, final queues and report out; or two scenarios in, and the comparison
+//! of their reports out.
 #![tactic(auto)]
 
-ghost use Rattle.std.specs.Prelude.{◌≡◌, ◌≤◌, ◌<◌, false, length, take, true};
-ghost use Rattle.sqs_page.specs.Pages.{IsOutputOf, IsRefusalOf, IsTooLong};
+ghost use Rattle.std.specs.Prelude.{◌≡◌, ◌≤◌, ◌<◌, ◌⊎◌, [], length, take};
+ghost use Rattle.sqs_formats.specs.Actors.{Files};
+ghost use Rattle.sqs_page.specs.Comparisons.{IsComparisonOf, IsEitherFault, IsFirstFault, IsSecondFault};
+ghost use Rattle.sqs_page.specs.Files.{AreFiles, ForFiles};
+ghost use Rattle.sqs_page.specs.Pages.{IsLineOf, IsOutputOf, IsRefusedFor, IsTooShort};
 ghost use Rattle.sqs_rehearsal.specs.FaultLines.{refusal_line};
 
+mod comparison;
+mod files;
 mod output;
+mod room;
 
+use crate::comparison::{Stop, comparison};
+use crate::files::scripts_in;
 use crate::output::output;
-use sqs_rehearsal::{Fault, fault_line};
+use crate::room::{put, put_line};
+pub use files::FileLengths;
+use sim_scenario::Scripts;
+use sqs_rehearsal::Fault;
 use std::alloc::Global;
 
-/// The room has the log, the final queues and the report.
+/// The room has what was asked for: the log, the final queues and the report, or the comparison.
 pub const DONE: u32 = 0;
 
-/// The scenario is refused: the room has the line of its refusal.
+/// The scenario, or the first one of two, is refused: the room has the line of its refusal.
 pub const REFUSED: u32 = 1;
 
-/// The room is too short for the output.
+/// The room is too short for what was asked for.
 pub const NO_ROOM: u32 = 2;
 
-/// Memory was refused, even for the line of a refusal.
+/// Memory was refused for the script files, or even for the line of a refusal.
 pub const NO_MEMORY: u32 = 3;
 
-/// The scenario is refused, and the room is too short for the line of its refusal.
+/// A scenario is refused, and the room is too short for the line of its refusal.
 pub const NO_LINE: u32 = 4;
 
-// Puts a text into the room if there is place for it, and its length into `needed`. Returns whether
-// there is.
-fn put(text: &[u8], room: &mut [u8], needed: &mut u64) -> bool
-    ensures fits { result ≡ true → take needed.new room.new ≡ text.now }
-    ensures short { result ≡ false → length room.new < needed.new }
-    ensures needed { needed.new ≡ length text.now }
+/// The lengths are not those of script files in the bytes.
+pub const NO_FILES: u32 = 5;
+
+/// The second one of two scenarios is refused: the room has the line of its refusal.
+pub const SECOND_REFUSED: u32 = 6;
+
+// Puts what was asked for into the room.
+fn put_output(output: &[u8], room: &mut [u8], needed: &mut u64) -> u32
+    ensures code { (result ≡ 0) ⊎ (result ≡ 2) }
+    ensures fits { result ≡ 0 → take needed.new room.new ≡ output.now }
+    ensures short { result ≡ 2 → length room.new < needed.new }
+    ensures needed { needed.new ≡ length output.now }
     ensures length { length room.new ≡ length room.old }
 {
-    *needed = text.len() as u64;
-    if text.len() > room.len() {
-        return false;
+    if put(output, room, needed) {
+        DONE
+    } else {
+        NO_ROOM
     }
-    room[..text.len()].copy_from_slice(text);
-    true
 }
 
-// Puts the line of a fault into the room.
-fn put_fault(alloc: Global, fault: &Fault, room: &mut [u8], needed: &mut u64) -> u32
-    ensures code { result ≤ 4 }
-    ensures not_done { result ≡ 0 → ⊥ }
-    ensures not_short { result ≡ 2 → ⊥ }
-    ensures line { result ≡ 1 → take needed.new room.new ≡ refusal_line fault.now }
+// Puts the line of a fault into the room. Returns the given code if there is place for it.
+fn put_fault(alloc: Global, refused: u32, fault: &Fault, room: &mut [u8], needed: &mut u64) -> u32
+    requires { (refused ≡ 1) ⊎ (refused ≡ 6) }
+    ensures code { (result ≡ refused) ⊎ ((result ≡ 3) ⊎ (result ≡ 4)) }
+    ensures line { result ≡ refused → take needed.new room.new ≡ refusal_line fault.now }
     ensures memory { result ≡ 3 → needed.new ≡ 0 }
     ensures short { result ≡ 4 → length room.new < needed.new }
+    ensures needed { result ≡ 4 → needed.new ≡ length (refusal_line fault.now) }
     ensures length { length room.new ≡ length room.old }
 {
-    let Ok(line) = fault_line(alloc, fault) else {
-        *needed = 0;
-        return NO_MEMORY;
-    };
-    if put(line.as_slice(), room, needed) {
-        REFUSED
-    } else {
-        NO_LINE
+    match put_line(alloc, fault, room, needed) {
+        Ok(true) => refused,
+        Ok(false) => NO_LINE,
+        Err(_) => NO_MEMORY,
+    }
+}
+
+// Rehearses a scenario with its script files, and puts the answer into the room.
+fn rehearse(alloc: Global, text: &[u8], scripts: &Scripts, room: &mut [u8], needed: &mut u64) -> u32
+    ensures code { result ≤ 4 }
+    ensures output { result ≡ 0 → IsOutputOf text.now scripts.now (take needed.new room.new) }
+    ensures refused { result ≡ 1
+        → IsLineOf (IsRefusedFor text.now scripts.now) (take needed.new room.new) }
+    ensures short { result ≡ 2
+        → IsTooShort room.new needed.new (IsOutputOf text.now scripts.now) }
+    ensures memory { result ≡ 3 → needed.new ≡ 0 }
+    ensures line { result ≡ 4
+        → IsTooShort room.new needed.new (IsLineOf (IsRefusedFor text.now scripts.now)) }
+    ensures length { length room.new ≡ length room.old }
+{
+    match output(alloc, text, scripts) {
+        Ok(output) => put_output(output.as_slice(), room, needed),
+        Err(fault) => put_fault(alloc, REFUSED, &fault, room, needed),
+    }
+}
+
+// Compares two scenarios with the same script files, and puts the answer into the room.
+fn compare(
+    alloc: Global,
+    first: &[u8],
+    second: &[u8],
+    scripts: &Scripts,
+    room: &mut [u8],
+    needed: &mut u64,
+) -> u32
+    ensures code { result ≤ 6 }
+    ensures has_files { result ≡ 5 → ⊥ }
+    ensures output { result ≡ 0
+        → IsComparisonOf first.now second.now scripts.now (take needed.new room.new) }
+    ensures first { result ≡ 1
+        → IsLineOf (IsFirstFault first.now second.now scripts.now) (take needed.new room.new) }
+    ensures second { result ≡ 6
+        → IsLineOf (IsSecondFault first.now second.now scripts.now) (take needed.new room.new) }
+    ensures short { result ≡ 2
+        → IsTooShort room.new needed.new (IsComparisonOf first.now second.now scripts.now) }
+    ensures memory { result ≡ 3 → needed.new ≡ 0 }
+    ensures line { result ≡ 4 → IsTooShort room.new needed.new
+        (IsLineOf (IsEitherFault first.now second.now scripts.now)) }
+    ensures length { length room.new ≡ length room.old }
+{
+    match comparison(alloc, first, second, scripts) {
+        Ok(output) => put_output(output.as_slice(), room, needed),
+        Err(Stop::First(fault)) => put_fault(alloc, REFUSED, &fault, room, needed),
+        Err(Stop::Second(fault)) => put_fault(alloc, SECOND_REFUSED, &fault, room, needed),
     }
 }
 
@@ -76,21 +139,85 @@ pub extern "C" fn sqs_page_rehearse(
     needed: &mut u64,
 ) -> u32
     ensures code { result ≤ 4 }
-    ensures output { result ≡ 0 → IsOutputOf text.now (take needed.new room.new) }
-    ensures refused { result ≡ 1 → IsRefusalOf text.now (take needed.new room.new) }
-    ensures short { result ≡ 2 → IsTooLong text.now room.new needed.new }
+    ensures output { result ≡ 0 → IsOutputOf text.now [] (take needed.new room.new) }
+    ensures refused { result ≡ 1
+        → IsLineOf (IsRefusedFor text.now []) (take needed.new room.new) }
+    ensures short { result ≡ 2 → IsTooShort room.new needed.new (IsOutputOf text.now []) }
     ensures memory { result ≡ 3 → needed.new ≡ 0 }
-    ensures line { result ≡ 4 → length room.new < needed.new }
+    ensures line { result ≡ 4
+        → IsTooShort room.new needed.new (IsLineOf (IsRefusedFor text.now [])) }
     ensures length { length room.new ≡ length room.old }
 {
-    match output(alloc, text) {
-        Ok(output) => {
-            if put(output.as_slice(), room, needed) {
-                DONE
-            } else {
-                NO_ROOM
-            }
-        }
-        Err(fault) => put_fault(alloc, &fault, room, needed),
+    let no_scripts = Scripts::new(Vec::new(alloc));
+    rehearse(alloc, text, &no_scripts, room, needed)
+}
+
+/// Rehearses a scenario as `sqs_page_rehearse` does, with its script files. `files` has the name of
+/// each file and, behind it, the file; `lengths` has how long both are. After `NO_FILES` they do
+/// not fit together.
+#[unsafe(no_mangle)]
+pub extern "C" fn sqs_page_rehearse_with_files(
+    alloc: Global,
+    text: &[u8],
+    files: &[u8],
+    lengths: &[FileLengths],
+    room: &mut [u8],
+    needed: &mut u64,
+) -> u32
+    ensures code { result ≤ 5 }
+    ensures output { result ≡ 0 → ForFiles files.now lengths.now (λ scripts.
+        IsOutputOf text.now scripts (take needed.new room.new)) }
+    ensures refused { result ≡ 1 → ForFiles files.now lengths.now (λ scripts.
+        IsLineOf (IsRefusedFor text.now scripts) (take needed.new room.new)) }
+    ensures short { result ≡ 2 → ForFiles files.now lengths.now (λ scripts.
+        IsTooShort room.new needed.new (IsOutputOf text.now scripts)) }
+    ensures memory { result ≡ 3 → needed.new ≡ 0 }
+    ensures line { result ≡ 4 → ForFiles files.now lengths.now (λ scripts.
+        IsTooShort room.new needed.new (IsLineOf (IsRefusedFor text.now scripts))) }
+    ensures no_files { result ≡ 5 → (scripts : Files) → ¬ AreFiles files.now lengths.now scripts }
+    ensures length { length room.new ≡ length room.old }
+{
+    *needed = 0;
+    match scripts_in(alloc, files, lengths) {
+        Ok(Some(scripts)) => rehearse(alloc, text, &scripts, room, needed),
+        Ok(None) => NO_FILES,
+        Err(_) => NO_MEMORY,
+    }
+}
+
+/// Compares two scenarios with the same script files, given as to `sqs_page_rehearse_with_files`.
+/// After `DONE` the room has the comparison of their reports. After `REFUSED` it has the line of
+/// the first one's refusal, and after `SECOND_REFUSED` that of the second one's.
+#[unsafe(no_mangle)]
+pub extern "C" fn sqs_page_compare(
+    alloc: Global,
+    first: &[u8],
+    second: &[u8],
+    files: &[u8],
+    lengths: &[FileLengths],
+    room: &mut [u8],
+    needed: &mut u64,
+) -> u32
+    ensures code { result ≤ 6 }
+    ensures output { result ≡ 0 → ForFiles files.now lengths.now (λ scripts.
+        IsComparisonOf first.now second.now scripts (take needed.new room.new)) }
+    ensures first { result ≡ 1 → ForFiles files.now lengths.now (λ scripts.
+        IsLineOf (IsFirstFault first.now second.now scripts) (take needed.new room.new)) }
+    ensures second { result ≡ 6 → ForFiles files.now lengths.now (λ scripts.
+        IsLineOf (IsSecondFault first.now second.now scripts) (take needed.new room.new)) }
+    ensures short { result ≡ 2 → ForFiles files.now lengths.now (λ scripts.
+        IsTooShort room.new needed.new (IsComparisonOf first.now second.now scripts)) }
+    ensures memory { result ≡ 3 → needed.new ≡ 0 }
+    ensures line { result ≡ 4 → ForFiles files.now lengths.now (λ scripts.
+        IsTooShort room.new needed.new
+        (IsLineOf (IsEitherFault first.now second.now scripts))) }
+    ensures no_files { result ≡ 5 → (scripts : Files) → ¬ AreFiles files.now lengths.now scripts }
+    ensures length { length room.new ≡ length room.old }
+{
+    *needed = 0;
+    match scripts_in(alloc, files, lengths) {
+        Ok(Some(scripts)) => compare(alloc, first, second, &scripts, room, needed),
+        Ok(None) => NO_FILES,
+        Err(_) => NO_MEMORY,
     }
 }

@@ -17,16 +17,14 @@ fn no_memory(_refused: AllocError) -> Fault
     Fault::Refused(Refusal::Memory)
 }
 
-/// The log of a scenario, what is left at the end and the report, or why it is refused. The
-/// scenario has its scripts in its text.
-pub fn output(alloc: Global, text: &[u8]) -> Result<Vec<u8>, Fault>
-    ensures written { IfOk result (λ output. IsOutputOf text.now output.items) }
-    ensures refused { IfErr result (IsRefusedFor text.now) }
+/// The log of a scenario, what is left at the end and the report, or why it is refused.
+pub fn output(alloc: Global, text: &[u8], scripts: &Scripts) -> Result<Vec<u8>, Fault>
+    ensures written { IfOk result (λ output. IsOutputOf text.now scripts.now output.items) }
+    ensures refused { IfErr result (IsRefusedFor text.now scripts.now) }
 {
-    let scripts = Scripts::new(Vec::new(alloc));
     let mut log = ToWriter::new(Vec::new(alloc));
     let mut ending = ToWriter::new(Vec::new(alloc));
-    rehearse_alone(alloc, text, &scripts, &mut log, &mut ending)?;
+    rehearse_alone(alloc, text, scripts, &mut log, &mut ending)?;
     let mut output = log.into_inner();
     match output.extend_from_slice(ending.get_ref().as_slice()) {
         Ok(()) => Ok(output),

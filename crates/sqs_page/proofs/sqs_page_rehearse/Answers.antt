@@ -1,8 +1,9 @@
-use Rattle.std.proofs.Common.{rules, take}
-use Rattle.sqs_page.proofs.Both.{output_in_room}
+use Rattle.std.proofs.Common.{◌≡◌, [], rules, subst, take}
+use Rattle.sqs_formats.specs.Actors.{Files}
+use Rattle.sqs_page.specs.Pages.{IsOutputOf}
 use Rattle.sqs_page.proofs.sqs_page_rehearse.Goals as goal
 
-pub returns-then-put-clause-output : goal.returns-then-put-clause-output
-returns-then-put-clause-output c done =
-    output_in_room c.args.text.now c.in-Ok.output.items c.as_slice.result.now (take c.put.new.needed c.put.new.room)
-    (search rules) (search rules) c.in-Ok.ensures.written
+pub returns-clause-output : goal.returns-clause-output
+returns-clause-output c done =
+    let none : c.new-no_scripts.result ≡ [] = search rules in
+    subst (λ (files : Files). IsOutputOf c.args.text.now files (take c.rehearse.new.needed c.rehearse.new.room)) none (c.rehearse.ensures.output done)

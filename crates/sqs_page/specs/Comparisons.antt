@@ -1,0 +1,59 @@
+-- What a page gets for two scenarios with the same script files.
+use Rattle.std.specs.Prelude.{Err, List, Ok, ℕ, ◌≡◌, ◌⊎◌}
+use Rattle.sim_clock.specs.declared.refusal.Refusal.TheVariants as refusals
+use Rattle.sqs_formats.specs.Actors.{Files}
+use Rattle.sqs_formats.specs.Comparison.{comparison}
+use Rattle.sqs_formats.specs.Output.{report_of}
+use Rattle.sqs_formats.specs.Scenario.{scenario_of}
+use Rattle.sqs_model.specs.Limits.{IsOver}
+use Rattle.sqs_model.specs.Run.{IsRunOf, Run}
+use Rattle.sqs_model.specs.Scenario.{Scenario}
+use Rattle.sqs_page.specs.declared.comparison.Stop.{Stop}
+use Rattle.sqs_page.specs.declared.comparison.Stop.TheVariants as stops
+use Rattle.sqs_rehearsal.specs.declared.rehearsal.Fault.{Fault}
+use Rattle.sqs_rehearsal.specs.declared.rehearsal.Fault.TheVariants as faults
+
+-- the scenario that a text states, and its one-list run, which takes no count past the limit
+pub record HasRun (text : List ℕ) (files : Files) : Type 0 where
+  pub scenario : Scenario
+  pub run : Run
+  pub stated : scenario_of files text ≡ Ok scenario
+  pub is_run : IsRunOf scenario run
+  pub not_over : ¬ IsOver scenario
+
+-- the comparison of the reports of two runs
+pub record IsComparisonOf (first second : List ℕ) (files : Files) (output : List ℕ) : Type 0 where
+  pub a : HasRun first files
+  pub b : HasRun second files
+  pub whole : output ≡ comparison (report_of a.scenario a.run) (report_of b.scenario b.run)
+
+-- the scenarios that two texts state
+pub record AreStated (first second : List ℕ) (files : Files) : Type 0 where
+  pub a : Scenario
+  pub b : Scenario
+  pub first_states : scenario_of files first ≡ Ok a
+  pub second_states : scenario_of files second ≡ Ok b
+
+module _ (first second : List ℕ) (files : Files) where
+  -- why the first of two scenarios is refused; both are read before it is run
+  abbrev pub IsFirstFault : Fault → Type 0
+  IsFirstFault (faults.Scenario f) = scenario_of files first ≡ Err f
+  IsFirstFault (faults.Refused refusals.CountLimit) = (s : AreStated first second files) × IsOver s.a
+  IsFirstFault (faults.Refused refusals.Memory) = Unit {0}
+  IsFirstFault (faults.Refused r) = ⊥
+
+  -- why the second one is refused, if the first one is not
+  abbrev pub IsSecondFault : Fault → Type 0
+  IsSecondFault (faults.Scenario f) = (a : Scenario) × ((scenario_of files first ≡ Ok a) × (scenario_of files second ≡ Err f))
+  IsSecondFault (faults.Refused refusals.CountLimit) = (s : AreStated first second files) × ((¬ IsOver s.a) × IsOver s.b)
+  IsSecondFault (faults.Refused refusals.Memory) = Unit {0}
+  IsSecondFault (faults.Refused r) = ⊥
+
+  -- why either is
+  abbrev pub IsEitherFault : Fault → Type 0
+  IsEitherFault fault = IsFirstFault fault ⊎ IsSecondFault fault
+
+  -- the same, by which of the two it is
+  abbrev pub Stops : Stop → Type 0
+  Stops (stops.First fault) = IsFirstFault fault
+  Stops (stops.Second fault) = IsSecondFault fault

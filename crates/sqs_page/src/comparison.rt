@@ -1,0 +1,78 @@
+//! The comparison of two scenarios, in one text.
+ghost use Rattle.std.specs.Prelude.{◌≡◌, IfErr, IfOk, List, ℕ};
+ghost use Rattle.sqs_formats.specs.Actors.{Files};
+ghost use Rattle.sqs_formats.specs.Scenario.{scenario_of};
+ghost use Rattle.sqs_page.specs.Comparisons.{IsComparisonOf, Stops};
+ghost use Rattle.sqs_rehearsal.specs.Outcomes.{IsOutcomeOf};
+
+use sim_clock::Refusal;
+use sim_records::ToWriter;
+use sim_scenario::{Scenario, Scripts, read};
+use sqs_rehearsal::{Fault, Outcome, compare};
+use std::alloc::Global;
+
+/// Which of two scenarios is refused, and why. If memory is refused, either may be named.
+#[derive(Drop)]
+pub enum Stop {
+    /// The first one.
+    First(Fault),
+    /// The second one.
+    Second(Fault),
+}
+
+// Reads two scenarios with the same script files.
+fn read_both(
+    alloc: Global,
+    first: &[u8],
+    second: &[u8],
+    scripts: &Scripts,
+) -> Result<(Scenario, Scenario), Stop>
+    ensures first { IfOk result (λ both. scenario_of scripts.now first.now ≡ Ok both.0) }
+    ensures second { IfOk result (λ both. scenario_of scripts.now second.now ≡ Ok both.1) }
+    ensures stops { IfErr result (Stops first.now second.now scripts.now) }
+{
+    match read(alloc, first, scripts) {
+        Ok(first) => match read(alloc, second, scripts) {
+            Ok(second) => Ok((first, second)),
+            Err(error) => Err(Stop::Second(Fault::from(error))),
+        },
+        Err(error) => Err(Stop::First(Fault::from(error))),
+    }
+}
+
+// Runs two scenarios, one after the other.
+fn run_both(alloc: Global, first: Scenario, second: Scenario) -> Result<(Outcome, Outcome), Stop>
+    ensures first { IfOk result (λ both. IsOutcomeOf first both.0) }
+    ensures second { IfOk result (λ both. IsOutcomeOf second both.1) }
+    ensures stops { (a b : List ℕ) (files : Files) → scenario_of files a ≡ Ok first
+        → scenario_of files b ≡ Ok second → IfErr result (Stops a b files) }
+{
+    match Outcome::of(alloc, first) {
+        Ok(first) => match Outcome::of(alloc, second) {
+            Ok(second) => Ok((first, second)),
+            Err(refusal) => Err(Stop::Second(Fault::Refused(refusal))),
+        },
+        Err(refusal) => Err(Stop::First(Fault::Refused(refusal))),
+    }
+}
+
+/// The comparison of two scenarios with the same script files, or which of them is refused and why.
+/// Both are read before the first one is run.
+pub fn comparison(
+    alloc: Global,
+    first: &[u8],
+    second: &[u8],
+    scripts: &Scripts,
+) -> Result<Vec<u8>, Stop>
+    ensures written { IfOk result (λ output.
+        IsComparisonOf first.now second.now scripts.now output.items) }
+    ensures stops { IfErr result (Stops first.now second.now scripts.now) }
+{
+    let (first, second) = read_both(alloc, first, second, scripts)?;
+    let (first, second) = run_both(alloc, first, second)?;
+    let mut output = ToWriter::new(Vec::new(alloc));
+    match compare(alloc, &mut output, &first, &second) {
+        Ok(()) => Ok(output.into_inner()),
+        Err(_) => Err(Stop::First(Fault::Refused(Refusal::Memory))),
+    }
+}
