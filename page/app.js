@@ -110,7 +110,8 @@ function showFault() {
     editor.markFault(null);
     return;
   }
-  const fault = new Fault(active.text, active.result.line), { place } = fault;
+  const names = active.files.map(({ name }) => name);
+  const fault = new Fault(active.text, active.result.line, names), { place } = fault;
   editor.markFault(place);
   const parts = [element('strong', { textContent: fault.reason }),
     element('code', { textContent: active.result.line })];
@@ -134,6 +135,7 @@ async function showAll() {
   byId('results').hidden = false;
   clearTimeout(settling);
   showTables(done);
+  byId('differences').hidden = done.length < 2;
   await pictures.show(done);
   settling = setTimeout(settle, SETTLED);
 }
@@ -167,7 +169,7 @@ function showLog() {
 
 // Puts the link to the scenarios into the address of the page.
 async function showLink() {
-  const link = await linkOf(sides.map(side => side.text)), status = byId('link-status');
+  const link = await linkOf(sides.map(side => side.text), sides[0].files), status = byId('link-status');
   byId('copy').disabled = !link;
   if (!link) setText(status, 'The scenario is too long for a link: save it as a file.');
   else setText(status, '');
@@ -194,12 +196,44 @@ async function copyLink() {
   }
 }
 
-// Opens texts, as variant A or as A and B.
-function open(texts) {
+// Opens texts, as variant A or as A and B, with script files for both.
+function open(texts, files = []) {
   for (const side of sides) side.stop('');
-  sides = texts.map((text, i) => Object.assign(new Side('AB'[i], changed), { text }));
+  sides = texts.map((text, i) => Object.assign(new Side('AB'[i], changed), { text, files }));
   edit(sides.at(-1));
   pictures.zoom = null;
+  tellFiles();
+  for (const side of sides) side.run();
+}
+
+// Says which script files there are.
+function tellFiles() {
+  const told = sides[0].files.map(({ name, bytes }) => `${name} (${several(bytes.length, 'byte')})`);
+  setText(byId('files'), told.length ? `Script files: ${told.join(', ')}.` : '');
+}
+
+// Opens files: a scenario, or two as variants, with their scripts; or scripts alone for the scenario that is there.
+// Those of several whose names end with .toml are scenarios; a single one is a script if it is a .csv or asked for.
+async function openFiles(chosen) {
+  const asked = new Scenario(active.text).items('actor').map(actor => said(actor, 'script'));
+  const isToml = ({ name }) => /\.toml$/i.test(name);
+  const isScript = ({ name }) => /\.csv$/i.test(name) || asked.includes(name);
+  const scenarios = chosen.some(isToml) ? chosen.filter(isToml) : chosen.filter(file => !isScript(file));
+  if (scenarios.length > 2) {
+    setText(byId('status'), 'At most two scenarios are opened at once, as variants.');
+    return;
+  }
+  const scripts = await Promise.all(chosen.filter(file => !scenarios.includes(file))
+    .map(async file => ({ name: file.name, bytes: new Uint8Array(await file.arrayBuffer()) })));
+  if (scenarios.length) open(await Promise.all(scenarios.map(file => file.text())), scripts);
+  else addScripts(scripts);
+}
+
+// Puts script files beside the scenarios, in place of those of the same names.
+function addScripts(scripts) {
+  const kept = sides[0].files.filter(({ name }) => !scripts.some(script => script.name === name));
+  for (const side of sides) side.files = [...kept, ...scripts];
+  tellFiles();
   for (const side of sides) side.run();
 }
 
@@ -216,10 +250,18 @@ function edit(side) {
 }
 
 function compare() {
-  const copy = Object.assign(new Side('B', changed), { text: active.text });
+  const copy = Object.assign(new Side('B', changed), { text: active.text, files: active.files });
   sides = [sides[0], copy];
   edit(copy);
   copy.run();
+}
+
+// Saves the differences of the two variants that are shown, as the program's `compare` prints them.
+async function saveDifferences() {
+  const [first] = sides, texts = sides.map(({ ran }) => ran);
+  const { code, bytes, line, isSecond, error } = await first.ask({ texts, files: first.files });
+  if (code === 0) saveAs('differences.csv', [bytes], 'text/csv');
+  else setText(byId('status'), error ?? `${isSecond ? 'B' : 'A'}: ${line}`);
 }
 
 // Keeps one of two variants, as A.
@@ -240,15 +282,15 @@ async function start() {
     groups.get(folder).append(element('option', { value: i, textContent: title }));
   }
   byId('example').append(...groups.values());
-  const texts = await textsOf(location.hash);
+  const link = await linkedIn(location.hash);
   const first = EXAMPLES.findIndex(({ name }) => name === DATA.first);
   byId('example').value = String(first);
-  open(texts ?? [EXAMPLES[first].text]);
+  open(link?.texts ?? [EXAMPLES[first].text], link?.files);
 }
 
 byId('open').onclick = () => open([EXAMPLES[byId('example').value].text]);
 byId('file').onchange = async ({ target }) => {
-  if (target.files[0]) open([await target.files[0].text()]);
+  if (target.files.length) await openFiles([...target.files]);
   target.value = '';
 };
 byId('run').onclick = () => { for (const side of sides) side.run(); };
@@ -256,6 +298,7 @@ byId('stop').onclick = () => { for (const side of sides) if (side.isRunning) sid
 byId('save').onclick = () => saveAs('scenario.toml', [active.text], 'text/plain');
 byId('copy').onclick = copyLink;
 byId('compare').onclick = compare;
+byId('differences').onclick = saveDifferences;
 byId('keep-a').onclick = () => keep('A');
 byId('keep-b').onclick = () => keep('B');
 byId('log-side').onchange = () => log.show(sides.find(({ name }) => name === byId('log-side').value));
@@ -273,7 +316,7 @@ document.addEventListener('keydown', event => {
 window.addEventListener('hashchange', async () => {
   if (linked-- > 0) return;
   linked = 0;
-  const texts = await textsOf(location.hash);
-  if (texts) open(texts);
+  const link = await linkedIn(location.hash);
+  if (link) open(link.texts, link.files);
 });
 start();

@@ -53,10 +53,11 @@ const nearest = (word, words) => {
 };
 
 class Fault {
-  // `line` is the program's, as `refused 14 OutOfRange at queue[0].delay_s`.
-  constructor(text, line) {
+  // `line` is the program's, as `refused 14 OutOfRange at queue[0].delay_s`; `files` are the names of script files.
+  constructor(text, line, files) {
     this.scenario = new Scenario(text);
     this.line = line;
+    this.files = files;
     const [, , kind, , place] = /^refused ([0-9]+) ([A-Za-z]+)( at ([^]*))?/.exec(line) ?? [];
     const match = PLACE.exec(place ?? '');
     Object.assign(this, { kind, of: match ? match[1] : '', number: match ? Number(match[2]) : 0 });
@@ -256,11 +257,14 @@ function tooMany(fault) {
 }
 
 function badScript(fault) {
-  if (fault.key === 'script') {
-    return `The script of ${fault.title()} is to be in a file, and this page has no files. Put its text into calls.`;
+  const { record, files } = fault, isInFile = fault.key === 'script', file = shown(fault.node?.value);
+  if (isInFile && !files.includes(fault.node?.value)) {
+    return `The script of ${fault.title()} is in the file ${file}, which is not here. Load it, or put its text into `
+      + 'calls.';
   }
-  const which = `record ${Math.max(1, fault.record ?? 1)} of ${fault.title()}`;
-  return (fault.record ?? 1) <= 1 ? `${which}: the first record has to be ${SCRIPT_HEADER}.`
+  if (isInFile && !record) return `The script ${file} of ${fault.title()} is no text in UTF-8.`;
+  const which = `record ${Math.max(1, record ?? 1)} of ${isInFile ? `the script ${file} of ` : ''}${fault.title()}`;
+  return (record ?? 1) <= 1 ? `${which}: the first record has to be ${SCRIPT_HEADER}.`
     : `${which} is no call that may stand there: its fields, their ranges or its time do not fit. The fields are `
       + `${SCRIPT_HEADER}, and times ascend.`;
 }

@@ -1,9 +1,10 @@
-// A variant of the scenario: its text, the worker that runs it, and what came out. The page has this file.
+// A variant of the scenario: its text and its script files, the worker that runs it, and what came out. The page has
+// this file.
 
 class Side {
   // `changed` is called as the side begins and ends to run.
   constructor(name, changed) {
-    Object.assign(this, { name, changed, text: '', ran: null, result: null, error: '', began: null });
+    Object.assign(this, { name, changed, text: '', files: [], ran: null, result: null, error: '', began: null });
     this.answers = new Map();
     this.count = 0;
     this.worker = null;
@@ -38,9 +39,9 @@ class Side {
 
   async run() {
     if (this.isRunning) this.stop('');
-    const text = this.text, began = this.began = performance.now();
+    const { text, files } = this, began = this.began = performance.now();
     this.changed(this);
-    const answer = await this.ask({ text }).catch(error => ({ error: `This browser cannot run it: ${error.message}` }));
+    const answer = await this.ask({ text, files }).catch(error => ({ error: `This browser cannot run it: ${error.message}` }));
     if (this.began !== began) return;
     this.began = null;
     this.ran = text;
@@ -78,7 +79,8 @@ const workerAddress = () =>
 
 const streamed = async (bytes, through) =>
   new Uint8Array(await new Response(new Blob([bytes]).stream().pipeThrough(through)).arrayBuffer());
-const bytesOf = text => Uint8Array.from(atob(text), letter => letter.charCodeAt(0));
+const bytesIn = letters => Uint8Array.from(letters, letter => letter.charCodeAt(0));
+const bytesOf = text => bytesIn(atob(text));
 
 let unpacked = null;
 const moduleBytes = () => unpacked ??= streamed(bytesOf(partOf('module')), new DecompressionStream('gzip'));

@@ -1,7 +1,9 @@
 // The worker: runs a scenario in an instance of the module of its own, and tells what came out. It is given messages
-// { id, module }, { id, text } and { id, over }, and answers each with { id, ... }.
+// { id, module }, { id, text, files }, { id, texts, files } for a comparison, and { id, over }, and answers each with
+// { id, ... }. A text may be its bytes; the script files are a list of { name, bytes }.
 
-const DONE = 0, REFUSED = 1, NO_ROOM = 2, NO_MEMORY = 3, NO_LINE = 4;
+// The codes of crates/sqs_page; the others are refusals.
+const DONE = 0, NO_ROOM = 2, NO_MEMORY = 3, NO_LINE = 4, NO_FILES = 5, SECOND_REFUSED = 6;
 // The first room for the output. Memory that nothing writes to costs nothing, and a run whose room is too short is run
 // again.
 const ROOM = 2n ** 30n - 64n, LEAST_ROOM = 2n ** 22n;
@@ -18,16 +20,38 @@ async function roomy(module, size) {
   }
 }
 
-// Rehearses a scenario, a text or its bytes. Gives the code, the bytes of the answer, and the milliseconds.
-async function rehearsed(text) {
-  const given = typeof text === 'string' ? new TextEncoder().encode(text) : text;
+const encoded = text => typeof text === 'string' ? new TextEncoder().encode(text) : text;
+
+// What the module is given of script files: the name of each with the file behind it, and how long both are.
+function laidOut(files) {
+  const parts = files.flatMap(({ name, bytes }) => [encoded(name), encoded(bytes)]);
+  const whole = new Uint8Array(parts.reduce((length, part) => length + part.length, 0));
+  let at = 0;
+  for (const part of parts) {
+    whole.set(part, at);
+    at += part.length;
+  }
+  return { whole, lengths: new Uint8Array(new BigUint64Array(parts.map(part => BigInt(part.length))).buffer) };
+}
+
+// Copies bytes into the memory of an instance, and gives where they are.
+function placed(it, bytes) {
+  const at = it.room(BigInt(bytes.length) + 1n);
+  if (!at) throw new Error('There is no memory for the scenario.');
+  new Uint8Array(it.memory.buffer, Number(at), bytes.length).set(bytes);
+  return at;
+}
+
+// Calls an export of the module with texts and script files. Gives the code, the bytes of the answer, and the
+// milliseconds.
+async function answered(call, texts, files) {
+  const { whole, lengths } = laidOut(files), parts = [...texts.map(encoded), whole];
   for (let wanted = ROOM; ;) {
-    const { it, room, size } = await roomy(compiled, wanted);
-    const needed = it.room(8n), at = it.room(BigInt(given.length) + 1n);
-    if (!needed || !at) throw new Error('There is no memory for the scenario.');
-    new Uint8Array(it.memory.buffer, Number(at), given.length).set(given);
-    const began = performance.now(), code = it.rehearse(at, BigInt(given.length), room, size, needed);
+    const { it, room, size } = await roomy(compiled, wanted), needed = placed(it, new Uint8Array(8));
+    const given = [...parts.flatMap(part => [placed(it, part), BigInt(part.length)]), placed(it, lengths)];
+    const began = performance.now(), code = it[call](...given, BigInt(files.length), room, size, needed);
     const took = performance.now() - began;
+    if (code === NO_FILES) throw new Error('The script files were not handed over well.');
     const length = new DataView(it.memory.buffer).getBigUint64(Number(needed), true);
     if (code === NO_ROOM || code === NO_LINE) {
       if (wanted !== ROOM) throw new Error('There is no memory for the output.');
@@ -39,12 +63,13 @@ async function rehearsed(text) {
   }
 }
 
-async function run(text) {
+const lineOf = (code, bytes) =>
+  code === NO_MEMORY ? 'refused 34 Memory' : new TextDecoder().decode(bytes).trimEnd();
+
+async function run(text, files) {
   last = null;
-  const { code, took, bytes } = await rehearsed(text);
-  if (code !== DONE) {
-    return { code, took, line: code === REFUSED ? new TextDecoder().decode(bytes).trimEnd() : 'refused 34 Memory' };
-  }
+  const { code, took, bytes } = await answered('rehearse', [text], files);
+  if (code !== DONE) return { code, took, line: lineOf(code, bytes) };
   const began = performance.now();
   last = new Run(bytes);
   const values = last.values(), { starts, end } = last;
@@ -54,19 +79,26 @@ async function run(text) {
     moved: last.moved, isEmpty: last.queues.every(queue => !queue.left) };
 }
 
-async function answerTo({ module, text, over }) {
+// The comparison of two scenarios; or the line of the one that is refused, and whether it is the second.
+async function compare(texts, files) {
+  const { code, bytes } = await answered('compare', texts, files);
+  return code === DONE ? { code, bytes } : { code, line: lineOf(code, bytes), isSecond: code === SECOND_REFUSED };
+}
+
+async function answerTo({ module, text, texts, files = [], over }) {
   if (module) {
     compiled = await WebAssembly.compile(module);
     return {};
   }
-  return over ? { queues: last ? overTime(last, over.names, over) : [] } : run(text);
+  if (texts) return compare(texts, files);
+  return over ? { queues: last ? overTime(last, over.names, over) : [] } : run(text, files);
 }
 
 async function answer(data) {
   try {
     const answer = { id: data.id, ...await answerTo(data) };
     // the bytes and the places of rows move to the page, which is quicker than a copy
-    self.postMessage(answer, answer.bytes ? [answer.bytes.buffer, answer.starts.buffer] : []);
+    self.postMessage(answer, [answer.bytes, answer.starts].filter(it => it).map(it => it.buffer));
   } catch (error) {
     const isTrap = error instanceof WebAssembly.RuntimeError;
     self.postMessage({ id: data.id, error: isTrap ? `The run was broken off: ${error.message}.` : error.message });

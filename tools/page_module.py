@@ -8,7 +8,7 @@ heap for WebAssembly yet, so the way is this:
    keeps the bitcode that rattle hands to it, and then does its work.
 2. `compiled`: that bitcode, which has no code of that processor alone, is given the layout of wasm64, whose pointers
    and numbers are as wide, and compiled by the kit's clang with the flags that rattle has for wasm64.
-3. `linked`: rattle-link links it with page/heap.c, the heap that the proved code asks for and the two exports.
+3. `linked`: rattle-link links it with page/heap.c, the heap that the proved code asks for and the three exports.
 4. `without_table`: the module has an empty table with 64-bit places, which most engines cannot read; it is taken out.
 5. `lowered`: wasm-opt makes the memory one of 32 bits, which all engines have. So heap.c gives no address past 3 GiB.
 
@@ -47,7 +47,7 @@ OPTIMIZE = ("--enable-memory64 --enable-bulk-memory --enable-sign-ext --enable-m
             "--enable-nontrapping-float-to-int --enable-multivalue --memory64-lowering --strip-debug "
             "--strip-producers").split()
 IMPORTS, TABLES, EXPORTS, ELEMENTS = 2, 4, 7, 9
-EXPORTED = {"memory", "__heap_base", "room", "rehearse"}
+EXPORTED = {"memory", "__heap_base", "room", "rehearse", "compare"}
 
 
 def done(words: Sequence[str], folder: str) -> str:
