@@ -143,6 +143,7 @@ impl<S: Site> Partition<S> {
     ///
     /// `Memory` if a growth is refused, and `CountLimit` only if the handling takes a count past
     /// 2^62 - 1; either spends the partition. A spent partition returns the error that spent it.
+    #[inline(always)]
     pub fn step_into(&mut self, effects: &mut Effects<S::Row, S::Transfer>) -> Result<(), Refusal>
         requires due { IfOk self.old (HasDue S.engine) }
         ensures handled { IfOk self.old (λ w.
