@@ -47,11 +47,12 @@ NAME = "all"
 WITHOUT_PROGRAM = ("texts", "style", "types", "examples", "layers", "wrong-bodies", "bell")
 # Seconds of the longest parts, as measured. They begin first, so that no long one is left at the end.
 SECONDS = {"wrong-bodies": 90, "page": 70, "memory": 60, "test_clusters": 50, "test_picture": 50, "long": 40,
-           "test_slurm": 25, "test_statistics": 22, "late": 20, "test_console": 20, "test_sweep": 19, "test_poison": 18,
-           "test_arrivals": 17, "test_all": 16, "test_jobs": 16, "test_sweeps": 16, "test_package": 15,
-           "test_summary": 15, "test_report": 14, "huge": 13, "questions": 13, "test_decisions": 10, "test_runs": 10,
-           "test_helps": 10, "test_shown": 10, "test_explain": 10, "test_life": 9, "fuzz": 9, "groups": 8, "run": 8,
-           "test_reference": 8, "terminal": 7, "bell": 7, "types": 7, "test_programs": 6}
+           "test_slurm": 25, "test_statistics": 22, "test_from_plan": 21, "test_explain": 21, "late": 20,
+           "test_console": 20, "test_sweep": 19, "test_poison": 18, "test_arrivals": 17, "test_all": 16,
+           "test_jobs": 16, "test_sweeps": 16, "test_package": 15, "test_summary": 15, "test_report": 14, "huge": 13,
+           "questions": 13, "test_decisions": 10, "test_runs": 10, "test_helps": 10, "test_shown": 10,
+           "test_metrics": 10, "test_life": 9, "test_settling": 9, "fuzz": 9, "groups": 8, "run": 8,
+           "test_reference": 8, "terminal": 7, "bell": 7, "types": 7, "test_doors": 7, "test_programs": 6}
 NOT_QUICK = ("wrong-bodies", "long", "test_clusters", "test_slurm", "test_picture", "memory", "late", "huge",
              "test_console", "test_sweep", "test_package", "test_poison", "test_report", "test_arrivals", "test_sweeps",
              "test_statistics", "test_jobs", "test_decisions", "test_helps", "test_shown", "page")
