@@ -2,6 +2,7 @@
 import os
 import re
 import shutil
+import subprocess
 
 from tool import PROGRAM, ToolCase, needs_program
 
@@ -15,6 +16,8 @@ kind = "script"
 queue = "q"
 calls = "at,call,body,group,id,delay,receipt,max,wait,timeout,task\\n0,send,abc,,,,,,,,\\n"
 """
+KINDS = ("one", "many", "fifo", "hot", "ring", "net", "chain", "fan", "flight", "backlog", "delay", "scripts", "sample",
+         "quiet")
 OUTPUT = """at,queue,agent,call,answer,message,receipt,detail
 0,q,s,send,new,m-0-0,,900150983cd24fb0d6963f7d28e17f72
 final,queue,message,origin,place,due,enqueued,receives,group,md5
@@ -23,13 +26,29 @@ final,queue,message,origin,place,due,enqueued,receives,group,md5
 
 class Bench(ToolCase):
     def test_scenarios_have_the_size_that_was_asked_for(self):
-        for kind in ("one", "many", "fifo"):
+        for kind in ("one", "many", "fifo", "hot", "backlog", "delay", "sample"):
             status, out, err = self.run_tool("bench", "--scenario", kind, "77")
             self.assertEqual((status, err, re.findall("count = ([0-9]+)", out)), (0, "", ["77"]))
-        status, out, _ = self.run_tool("bench", "--scenario", "net")
-        self.assertEqual((status, out.count("[[queue]]")), (0, 1_000))
+        for kind, producers, each in (("chain", 40, 100), ("flight", 10, 400), ("fan", 63, 63)):
+            status, out, err = self.run_tool("bench", "--scenario", kind, "4000")
+            self.assertEqual((status, err, re.findall("count = ([0-9]+)", out)), (0, "", [str(each)] * producers))
+        for kind, queues in (("net", 1_000), ("ring", 128), ("chain", 200), ("fan", 64)):
+            status, out, _ = self.run_tool("bench", "--scenario", kind)
+            self.assertEqual((status, out.count("[[queue]]")), (0, queues))
+        status, out, _ = self.run_tool("bench", "--scenario", "scripts", "4000")
+        calls = re.findall("^[0-9]+,(send|receive|delete),", out, re.MULTILINE)
+        self.assertEqual((status, [calls.count(it) for it in ("send", "receive", "delete")]), (0, [2000, 1000, 1000]))
         status, out, _ = self.run_tool("bench", "--scenario", "quiet", "77")
         self.assertEqual((status, out.splitlines()[1]), (0, "horizon = 4620000"))
+
+    @needs_program
+    def test_the_program_reads_each_scenario(self):
+        for kind in KINDS:
+            status, out, err = self.run_tool("bench", "--scenario", kind, "100")
+            self.assertEqual((status, err), (0, ""))
+            self.write(f"{kind}.toml", out)
+            checked = subprocess.run([PROGRAM, "check", self.path(f"{kind}.toml")], capture_output=True, text=True)
+            self.assertEqual((checked.returncode, checked.stderr), (0, ""), kind)
 
     def test_faults(self):
         usage = ("a PROGRAM is needed, or --scenario and a KIND; then a SIZE and a TEMPO may follow (--help tells the "
@@ -43,7 +62,7 @@ class Bench(ToolCase):
                 ((shutil.which("false"),), f"{shutil.which('false')} does not run"),
                 ((echo,), f"{echo} makes no log: it is another program"),
                 (("./script",), f"{self.path('script')} is a script, and not the program itself"),
-                ((echo, "two"), "there is no kind two; kinds are one, many, fifo, ring, net, quiet"),
+                ((echo, "two"), f"there is no kind two; kinds are {', '.join(KINDS)}"),
                 ((echo, "one", "0"), "SIZE is 1 to 1,000,000,000, and not 0"),
                 (("--scenario", "one", "1", "-1"), "TEMPO is 1 to 1,000,000,000, and not -1"),
                 (("--scenario", "one", "1", "x"), "TEMPO is 1 to 1,000,000,000, and not x")):

@@ -120,7 +120,9 @@ class WrongBodies(ToolCase):
                          "BAD EDIT: an 'old:' text stands in src/lib.rt 0 times, and not once")
         self.assertIn("BAD EDIT: ", told[f"{folder}/unreadable.edit"])
         self.assertIn("tiny: 4 of 7 wrong bodies refused", out)
-        self.assertEqual((status, err), (1, ""))
+        self.assertRegex(err, r"\A(tiny: \d of 7 have a verdict, after \d+ checks\n)+\Z")
+        self.assertRegex(err, r"tiny: 7 of 7 have a verdict, after \d+ checks\n\Z")
+        self.assertEqual(status, 1)
 
     def test_says_when_all_are_proved(self):
         self.write_edits({"pair_turned": WRONG["pair_turned"]})
@@ -128,7 +130,7 @@ class WrongBodies(ToolCase):
         status, out, err = self.try_all("tiny")
         self.assertIn("tests/wrong-bodies/tiny/pair_turned.edit: NOT REFUSED", out.splitlines())
         self.assertIn("0 of 1 wrong bodies refused, in 1 checks and ", out.splitlines()[-1])
-        self.assertEqual((status, len(out.splitlines()), err), (1, 3, ""))
+        self.assertEqual((status, len(out.splitlines()), err), (1, 3, "tiny: 1 of 1 have a verdict, after 1 checks\n"))
 
     def test_what_is_proved_and_may_wait_is_proved(self):
         self.write_edits({name: WRONG[name] for name in ("pair_turned", "second_beside_zero")})
@@ -136,6 +138,15 @@ class WrongBodies(ToolCase):
             self.answer_for_prover(verdict, 0)
             # once together, and then each alone
             self.assertIn("tiny: 0 of 2 wrong bodies refused, 0 of them by names alone, in 3 checks", self.try_all()[1])
+
+    def test_only_those_that_are_named(self):
+        self.write_edits(WRONG)
+        self.answer_for_prover("proved", 0)
+        status, out, err = self.try_all("--only", "pair_turned")
+        self.assertIn("tiny: 0 of 1 wrong bodies refused", out)
+        self.assertEqual((status, err), (1, "tiny: 1 of 1 have a verdict, after 1 checks\n"))
+        fault = "run: there is no wrong body pair_lost\n"
+        self.assertEqual(self.try_all("--only", "pair_turned,pair_lost"), (2, "", fault))
 
     def test_a_crate_must_be_proved(self):
         self.write_edits(WRONG)
