@@ -1,5 +1,5 @@
 //! The messages that a consumer has.
-ghost use Rattle.std.specs.Prelude.{◌≡◌, ◌++◌, ◌∷◌, [], List, MatchOption, true};
+ghost use Rattle.std.specs.Prelude.{◌≡◌, ◌↔◌, ◌++◌, ◌∷◌, [], List, MatchOption, drop, true};
 ghost use Rattle.std.specs.Option.{option_copied};
 ghost use Rattle.sqs_redrive.specs.declared.answers.Got.{Got as GotMessage};
 ghost use Rattle.sim_actor.specs.Holdings.{first_of, only_held};
@@ -55,7 +55,7 @@ impl Holding {
 
     /// Whether there are no messages at all.
     pub fn is_empty(&self) -> bool
-        ensures { result ≡ true → self.now ≡ only_held [] }
+        ensures { (result ≡ true) ↔ (self.now ≡ only_held []) }
     {
         self.messages.is_empty()
     }
@@ -80,10 +80,9 @@ impl Holding {
         }
     }
 
-    /// Drops the first message that is not served yet.
+    /// Drops the first message that is not served yet, if there is one.
     pub fn drop_held(&mut self)
-        ensures { (got : GotMessage) (others : List GotMessage) → self.old.held ≡ got ∷ others
-            → self.new ≡ record self.old { held = others } }
+        ensures { self.new ≡ record self.old { held = drop 1 self.old.held } }
     {
         self.take_held();
     }
@@ -112,10 +111,13 @@ impl Holding {
         self.messages.pop_front()
     }
 
-    /// The first message that is not served yet was served, and will be deleted.
+    /// The first message that is not served yet was served, and will be deleted. If there is none,
+    /// nothing changes.
     pub fn serve_first(&mut self)
-        ensures { (got : GotMessage) (others : List GotMessage) → self.old.held ≡ got ∷ others
+        ensures first { (got : GotMessage) (others : List GotMessage)
+            → self.old.held ≡ got ∷ others
             → self.new ≡ record self.old { done = self.old.done ++ got ∷ []; held = others } }
+        ensures none { self.old.held ≡ [] → self.new ≡ self.old }
     {
         if self.failed + self.done < self.messages.len() {
             self.done += 1;
@@ -123,15 +125,17 @@ impl Holding {
     }
 
     /// The service of the first message that is not served yet failed. Its timeout will change,
-    /// and those of the messages that were served before it.
+    /// and those of the messages that were served before it. If there is none, nothing changes.
     pub fn fail_first(&mut self)
-        ensures { (got : GotMessage) (others : List GotMessage) → self.old.held ≡ got ∷ others
+        ensures first { (got : GotMessage) (others : List GotMessage)
+            → self.old.held ≡ got ∷ others
             → self.new
             ≡ record {
               failed = self.old.failed ++ (self.old.done ++ got ∷ []);
               done = [];
               held = others;
             } }
+        ensures none { self.old.held ≡ [] → self.new ≡ self.old }
     {
         if self.failed + self.done < self.messages.len() {
             self.failed += self.done + 1;

@@ -14,7 +14,7 @@ returns-then-self-eq-MOST_COUNT-clause-decision c s at_home =
 
 pub returns-then-is_empty-clause-decision : goal.returns-then-is_empty-clause-decision
 returns-then-is_empty-clause-decision c s at_home =
-    let none = c.is_empty.ensures c.if-is_empty.true in
+    let none = c.is_empty.ensures.0 c.if-is_empty.true in
     let counted = c.self-2.view_is ∙ c.count_wake.ensures in
     let held : c.args.self.now.held ≡ [] = sym (ap (λ (l : Life). l.held) counted) ∙ ap (λ (h : Holding). h.held) none in
     let done : c.args.self.now.done ≡ [] = sym (ap (λ (l : Life). l.done) counted) ∙ ap (λ (h : Holding). h.done) none in

@@ -9,7 +9,7 @@ returns-in-Some-clause-decision c s g gs at_home held id receipt =
     let before : Holding = c.self.inside.holding in
     let after : Holding = c.take_done.new.self in
     let served : c.serve_first.new.self ≡ record before { done = before.done ++ g ∷ []; held = gs } =
-    c.serve_first.ensures g gs (ap (λ (l : Life). l.held) c.self.view_is ∙ held) in
+    c.serve_first.ensures.first g gs (ap (λ (l : Life). l.held) c.self.view_is ∙ held) in
     let both : record before { done = before.done ++ g ∷ []; held = gs } ≡ record after { done = c.in-Some.got ∷ after.done } = sym served ∙ c.in-Some.ensures in
     let done : before.done ++ g ∷ [] ≡ c.in-Some.got ∷ after.done = ap (λ (h : Holding). h.done) both in
     let failed : before.failed ≡ after.failed = ap (λ (h : Holding). h.failed) both in
