@@ -1,5 +1,5 @@
 //! The running counts of a queue.
-ghost use Rattle.std.specs.Prelude.{◌≡◌, ◌∷◌, [], IfOk, OnOk, map, Some};
+ghost use Rattle.std.specs.Prelude.{◌≡◌, ◌↔◌, ◌⊎◌, ◌∷◌, [], IfOk, OnErr, OnOk, map, Some, true};
 ghost use Rattle.sim_report.specs.Tally.{counted, depth_by, rank_in, tallied};
 
 use crate::ages::{nearest_rank, sorted, total};
@@ -24,17 +24,21 @@ pub(crate) struct Tally {
 }
 
 impl Model for Tally {
-    ghost use Rattle.sim_report.specs.Tally.{TallyState};
+    ghost use Rattle.std.specs.Prelude.{◌≤◌};
+    ghost use Rattle.sim_report.specs.Tally.{TallyState, depth_by};
 
     ghost Value = { TallyState };
 
     ghost view = { λ t. record { counts = t.counts; depth_max = t.depth_max; ages = t.ages.items } };
+
+    ghost invariant = { λ t. depth_by t.counts ≤ t.depth_max };
 }
 
 // Counts one more row in a column, if it is one of these. A count that is at its greatest value
-// would have to grow, and this is refused like any growth.
+// would have to grow, and this is refused like any growth: the counts stay as they are.
 fn count_in(counts: &mut [u64; COUNTED], column: Option<usize>) -> Result<(), AllocError>
-    ensures { OnOk result (counts.new ≡ counted column counts.old) }
+    ensures counted { OnOk result (counts.new ≡ counted column counts.old) }
+    ensures unchanged { OnErr result (counts.new ≡ counts.old) }
 {
     if let Some(column) = column
         && column < COUNTED
@@ -57,6 +61,13 @@ fn depth_of(counts: &[u64; COUNTED]) -> u128
         + u128::from(counts[6])
         + u128::from(counts[7]);
     came.saturating_sub(went)
+}
+
+// Whether a column counts messages that came in.
+fn comes_in(column: Option<usize>) -> bool
+    ensures { (result ≡ true) ↔ ((column ≡ Some 0) ⊎ (column ≡ Some 8)) }
+{
+    matches!(column, Some(0 | 8))
 }
 
 // The columns that count rows.
@@ -120,7 +131,9 @@ impl Tally {
     {
         let column = column_of(row.kind, row.answer);
         count_in(&mut self.counts, column)?;
-        self.depth_max = self.depth_max.max(depth_of(&self.counts));
+        if comes_in(column) {
+            self.depth_max = self.depth_max.max(depth_of(&self.counts));
+        }
         if let Some(age) = age_of(column, row.detail) {
             self.ages.push(age)?;
         }
