@@ -581,7 +581,7 @@ twins_apart = refl
 -- a transfer with its arrival, its sender and where it goes
 sent : ℕ → ℕ → ℕ → Outbound
 sent at sender to =
-    record { at = at; sender = sender; number = 0; from = 0; to = to; load = loads.Forward (record { site = 0; number = 0 }) [] None }
+    record { at = at; sender = sender; number = 0; from = 0; to = to; load = loads.Forward (record { site = 0; number = 0 }) None [] }
 
 -- each partition gets what goes to it, in the order of keys
 gets_sorted :

@@ -41,6 +41,7 @@ impl ReceiptHandle {
     }
 
     /// The receipt that the handle's text stands for, if it is one.
+    #[inline(always)]
     pub fn receipt(&self) -> Option<Receipt>
         ensures { result ≡ read_receipt self.now }
     {

@@ -128,9 +128,9 @@ module _ (Q : ℕ → ℕ → List Entry → ℕ → Type 0)
       sent_of_kept now q (send_unless q now body g (scope_of scope g) (id_text id) o) (unless_kept q now body g (scope_of scope g) (id_text id) o h)
 
   arrived_kept : (q : Queue) (now : ℕ) (x : Load) → Keeps now q → Leaves now (arrived q now x)
-  arrived_kept q now (Redrive id origin body group enqueued) h = settled_kept now _ q _ h
-  arrived_kept q now (Move id origin body group) h = settled_kept now _ q _ h
-  arrived_kept q now (Forward id body group) h = forwarded_kept q.settings.kind q now id body group h
+  arrived_kept q now (Redrive id group origin body enqueued) h = settled_kept now _ q _ h
+  arrived_kept q now (Move id group origin body) h = settled_kept now _ q _ h
+  arrived_kept q now (Forward id group body) h = forwarded_kept q.settings.kind q now id body group h
 
   -- moves
   take_kept : (now : ℕ) (to : Option ℕ) (ms : List Message) (q : Queue) → Keeps now q → Keeps now (take_each q to ms).queue

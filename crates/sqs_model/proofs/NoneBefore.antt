@@ -188,9 +188,9 @@ module _ (key : Key) (site : ℕ) (Comes : Key → Type 0) (later_comes : (j : K
       sent_of_still q (send_unless q key.at body g (scope_of scope g) (id_text id) o) (unless_still q body g (scope_of scope g) (id_text id) o h)
 
   arrived_still : (q : Queue) (x : Load) → Still q → Leaves (arrived q key.at x)
-  arrived_still q (Redrive id origin body group enqueued) h = settled_still q _ _ refl refl h
-  arrived_still q (Move id origin body group) h = settled_still q _ _ refl refl h
-  arrived_still q (Forward id body group) h = forwarded_still q.settings.kind q id body group h
+  arrived_still q (Redrive id group origin body enqueued) h = settled_still q _ _ refl refl h
+  arrived_still q (Move id group origin body) h = settled_still q _ _ refl refl h
+  arrived_still q (Forward id group body) h = forwarded_still q.settings.kind q id body group h
 
   -- deletes and changes
   delete_still : (k : Kind) (q : Queue) (r : Receipt) → Still q → Leaves (delete_as k q key.at r)

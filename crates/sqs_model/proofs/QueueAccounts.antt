@@ -59,9 +59,9 @@ same_timeout q r (Some t) h = refl
 module _ (top : ℕ) where
   -- whether what is redriven comes from a queue of the world
   abbrev pub IsKnown : Load → Type 0
-  IsKnown (Redrive id origin body group enqueued) = id.site < top
-  IsKnown (Move id origin body group) = Unit {0}
-  IsKnown (Forward id body group) = Unit {0}
+  IsKnown (Redrive id group origin body enqueued) = id.site < top
+  IsKnown (Move id group origin body) = Unit {0}
+  IsKnown (Forward id group body) = Unit {0}
 
   -- what left, if anything, by a policy
   abbrev pub MayLeave : Option Policy → Option Load → Type 0
@@ -285,20 +285,20 @@ module _ (o : Origin) (top : ℕ) (base : List Row) (rows : List Row) where
       let news : IsNews o r q.site q.arrivals m.origin = subst (λ (x : Origin). IsNews o r q.site q.arrivals x) p d in
       comes_in r m (bit (same_origin o m.origin) + elsewhere) elsewhere q n s news (omega (arith, first_again o top base rows r m.origin elsewhere q news h)) h
 
-  forwarded_balances : (k : Kind) (elsewhere : ℕ) (q : Queue) (now : ℕ) (id : MessageId) (body : List ℕ) (group : Option (List ℕ)) → At elsewhere q → Comes elsewhere (Forward id body group) (forwarded k q now id body group)
+  forwarded_balances : (k : Kind) (elsewhere : ℕ) (q : Queue) (now : ℕ) (id : MessageId) (body : List ℕ) (group : Option (List ℕ)) → At elsewhere q → Comes elsewhere (Forward id group body) (forwarded k q now id body group)
   forwarded_balances (Standard hosts sampled) elsewhere q now id body group h = accepts elsewhere q now body None q.settings.delay h
   forwarded_balances (Fifo content scope) elsewhere q now id body group h =
       let g : List ℕ = forwarded_group group in
-      elim (living q now (scope_of scope g) (id_text id)) as (λ e. Comes elsewhere (Forward id body group) (sent_of q (send_unless q now body g (scope_of scope g) (id_text id) e))) [
+      elim (living q now (scope_of scope g) (id_text id)) as (λ e. Comes elsewhere (Forward id group body) (sent_of q (send_unless q now body g (scope_of scope g) (id_text id) e))) [
         | None ↦ unless_balances elsewhere q now body g (scope_of scope g) (id_text id) None h
         | Some e ↦ h
       ]
 
   pub arrived_balances : (elsewhere : ℕ) (q : Queue) (now : ℕ) (x : Load) → IsKnown top x → At (carried o x + elsewhere) q → Comes elsewhere x (arrived q now x)
-  arrived_balances elsewhere q now (Redrive id origin body group enqueued) l h =
-      settled_balances elsewhere (Redrive id origin body group enqueued) _ q (brought q now origin body group (enqueued_at q.settings.kind now enqueued) (Some id.site)) refl refl l h
-  arrived_balances elsewhere q now (Move id origin body group) l h = settled_balances elsewhere (Move id origin body group) _ q (brought q now origin body group now None) refl refl tt h
-  arrived_balances elsewhere q now (Forward id body group) l h =
+  arrived_balances elsewhere q now (Redrive id group origin body enqueued) l h =
+      settled_balances elsewhere (Redrive id group origin body enqueued) _ q (brought q now origin body group (enqueued_at q.settings.kind now enqueued) (Some id.site)) refl refl l h
+  arrived_balances elsewhere q now (Move id group origin body) l h = settled_balances elsewhere (Move id group origin body) _ q (brought q now origin body group now None) refl refl tt h
+  arrived_balances elsewhere q now (Forward id group body) l h =
       forwarded_balances q.settings.kind elsewhere q now id body group (holds_as o top base rows (0 + elsewhere) elsewhere q (omega arith) h)
 
   -- moves

@@ -241,6 +241,6 @@ module _ (now e : ℕ) (l : e ≤ now) where
   forwarded_keeps q (Fifo content scope) id body group s = sent_of_keeps q q _ (send_unless_keeps q body _ _ _ _ s)
 
   pub arrived_keeps : (q : Queue) (x : Load) → IsSoundQueue q → Keeps e 0 q (arrived q now x).1
-  arrived_keeps q (Redrive id origin body group enqueued) s = settled_keeps q _ _ s refl refl refl
-  arrived_keeps q (Move id origin body group) s = settled_keeps q _ _ s refl refl refl
-  arrived_keeps q (Forward id body group) s = forwarded_keeps q q.settings.kind id body group s
+  arrived_keeps q (Redrive id group origin body enqueued) s = settled_keeps q _ _ s refl refl refl
+  arrived_keeps q (Move id group origin body) s = settled_keeps q _ _ s refl refl refl
+  arrived_keeps q (Forward id group body) s = forwarded_keeps q q.settings.kind id body group s

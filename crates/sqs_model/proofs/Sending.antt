@@ -11,9 +11,9 @@ use Rattle.sqs_model.specs.Actor.{act_of}
 
 -- whether a load is a forward
 abbrev pub IsForward : Load → Type 0
-IsForward (Redrive id origin body group enqueued) = ⊥
-IsForward (Move id origin body group) = ⊥
-IsForward (Forward id body group) = Unit {0}
+IsForward (Redrive id group origin body enqueued) = ⊥
+IsForward (Move id group origin body) = ⊥
+IsForward (Forward id group body) = Unit {0}
 
 -- whether an act sends only what has a property
 abbrev pub Sends : (Option Outbound → Type 0) → Act → Type 0

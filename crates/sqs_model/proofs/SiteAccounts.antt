@@ -106,9 +106,9 @@ module _ (o : Origin) (top : ℕ) where
 
   -- a forward carries none
   forward_bound : (to : ℕ) (load : Load) → IsForward load → (carries o load ≡ false) × IsKnown top load
-  forward_bound to (Redrive id origin body group enqueued) f = absurd f
-  forward_bound to (Move id origin body group) f = absurd f
-  forward_bound to (Forward id body group) f = (refl, tt)
+  forward_bound to (Redrive id group origin body enqueued) f = absurd f
+  forward_bound to (Move id group origin body) f = absurd f
+  forward_bound to (Forward id group body) f = (refl, tt)
 
 module _ (o : Origin) (top : ℕ) (base : List Row) where
   -- a site in balance

@@ -69,9 +69,9 @@ AreMoved now (x ∷ xs) = WasEnqueuedBy now x.1 × AreMoved now xs
 
 -- what was enqueued by a moment was so later
 later : (now at : ℕ) (load : Load) → now ≤ at → WasEnqueuedBy now load → WasEnqueuedBy at load
-later now at (Redrive id origin body group enqueued) l h = omega (arith, l, h)
-later now at (Move id origin body group) l h = tt
-later now at (Forward id body group) l h = tt
+later now at (Redrive id group origin body enqueued) l h = omega (arith, l, h)
+later now at (Move id group origin body) l h = tt
+later now at (Forward id group body) l h = tt
 
 module _ (now : ℕ) where
   -- no message was enqueued after the present
@@ -197,9 +197,9 @@ module _ (now : ℕ) where
   enqueued_by (Fifo content scope) before h = omega arith
 
   arrived_filled : (q : Queue) (x : Load) → WasEnqueuedBy now x → Filled q → Leaves (arrived q now x)
-  arrived_filled q (Redrive id origin body group enqueued) l h = settled_filled _ q _ (enqueued_by q.settings.kind enqueued l) h
-  arrived_filled q (Move id origin body group) l h = settled_filled _ q _ (omega arith) h
-  arrived_filled q (Forward id body group) l h = forwarded_filled q.settings.kind q id body group h
+  arrived_filled q (Redrive id group origin body enqueued) l h = settled_filled _ q _ (enqueued_by q.settings.kind enqueued l) h
+  arrived_filled q (Move id group origin body) l h = settled_filled _ q _ (omega arith) h
+  arrived_filled q (Forward id group body) l h = forwarded_filled q.settings.kind q id body group h
 
   -- moves
   take_filled : (to : Option ℕ) (ms : List Message) (q : Queue) → Filled q → Filled (take_each q to ms).queue × AreMoved now (take_each q to ms).loads
@@ -218,9 +218,9 @@ Timely o = WasEnqueuedBy o.at o.load
 
 -- a forward was not enqueued yet
 forward_timely : (now : ℕ) (load : Load) → IsForward load → WasEnqueuedBy now load
-forward_timely now (Redrive id origin body group enqueued) f = absurd f
-forward_timely now (Move id origin body group) f = tt
-forward_timely now (Forward id body group) f = tt
+forward_timely now (Redrive id group origin body enqueued) f = absurd f
+forward_timely now (Move id group origin body) f = tt
+forward_timely now (Forward id group body) f = tt
 
 -- an effect that leaves nothing enqueued later than its moment, and sends nothing enqueued after its arrival
 pub record IsTimely (key : Key) (e : Effect) : Type 0 where

@@ -84,9 +84,9 @@ module _ (edges : List Edge) (home : ℕ → ℕ) (leads : ℕ → ℕ → Type 
 
   -- a load that may leave the queue
   abbrev Leaving : Load → Type 0
-  Leaving (Redrive id origin body group enqueued) = id.site ≡ site
-  Leaving (Move id origin body group) = Unit {0}
-  Leaving (Forward id body group) = Unit {0}
+  Leaving (Redrive id group origin body enqueued) = id.site ≡ site
+  Leaving (Move id group origin body) = Unit {0}
+  Leaving (Forward id group body) = Unit {0}
 
   abbrev MayLeave : Option Load → Type 0
   MayLeave None = Unit {0}
@@ -188,9 +188,9 @@ module _ (edges : List Edge) (home : ℕ → ℕ) (leads : ℕ → ℕ → Type 
         sent_of_ways q (send_unless q now body g (scope_of scope g) (id_text id) o) (unless_ways q body g (scope_of scope g) (id_text id) o h)
 
     arrived_ways : (q : Queue) (x : Load) → ComesOver leads site x → Ways q → Leaves (arrived q now x)
-    arrived_ways q (Redrive id origin body group enqueued) l h = settled_ways _ q _ l h
-    arrived_ways q (Move id origin body group) l h = settled_ways _ q _ tt h
-    arrived_ways q (Forward id body group) l h = forwarded_ways q.settings.kind q id body group h
+    arrived_ways q (Redrive id group origin body enqueued) l h = settled_ways _ q _ l h
+    arrived_ways q (Move id group origin body) l h = settled_ways _ q _ tt h
+    arrived_ways q (Forward id group body) l h = forwarded_ways q.settings.kind q id body group h
 
   -- deletes
   delete_ways : (k : Kind) (q : Queue) (at : ℕ) (r : Receipt) → Ways q → Leaves (delete_as k q at r)
@@ -213,9 +213,9 @@ module _ (edges : List Edge) (home : ℕ → ℕ) (leads : ℕ → ℕ → Type 
   -- moves
   -- a load that may be moved anywhere
   abbrev FitsMove : Load → Type 0
-  FitsMove (Redrive id origin body group enqueued) = ⊥
-  FitsMove (Move id origin body group) = Unit {0}
-  FitsMove (Forward id body group) = ⊥
+  FitsMove (Redrive id group origin body enqueued) = ⊥
+  FitsMove (Move id group origin body) = Unit {0}
+  FitsMove (Forward id group body) = ⊥
 
   abbrev AreMoved : Option ℕ → List (ℕ × Load) → Type 0
   AreMoved to [] = Unit {0}
@@ -296,9 +296,9 @@ module _ (edges : List Edge) (home : ℕ → ℕ) (leads : ℕ → ℕ → Type 
 
   -- returns
   leaving_fits : (d : ℕ) (load : Load) → Leaving edges home leads site load → leads site d → ComesOver leads d load
-  leaving_fits d (Redrive id origin body group enqueued) l h = subst (λ n. leads n d) (sym l) h
-  leaving_fits d (Move id origin body group) l h = tt
-  leaving_fits d (Forward id body group) l h = tt
+  leaving_fits d (Redrive id group origin body enqueued) l h = subst (λ n. leads n d) (sym l) h
+  leaving_fits d (Move id group origin body) l h = tt
+  leaving_fits d (Forward id group body) l h = tt
 
   redriven_goes : (c : Core) (i : ℕ) (load : Load) (o : Option Policy) → HasPolicyWay edges leads site o → Leaving edges home leads site load → Fine c → Goes (redrive_by o key c i load)
   redriven_goes c i load None w l h = quiet c [] h tt
@@ -470,9 +470,9 @@ module _ (edges : List Edge) (home : ℕ → ℕ) (leads : ℕ → ℕ → Type 
   script_over a (c ∷ cs) = record { number = refl; settings = refl; sends = call_sends MaySend c.call }
 
   forward_fits : (to : ℕ) (load : Load) → IsForward load → ComesOver leads to load
-  forward_fits to (Redrive id origin body group enqueued) h = absurd h
-  forward_fits to (Move id origin body group) h = absurd h
-  forward_fits to (Forward id body group) h = tt
+  forward_fits to (Redrive id group origin body enqueued) h = absurd h
+  forward_fits to (Move id group origin body) h = absurd h
+  forward_fits to (Forward id group body) h = tt
 
   woke_over : (a : Actor) (c : ConsumerSettings) (gs : List Got) → home a.number ≡ site → HasForwardWay edges site c.forward → ActGoes a (consumer_wake (woken a) c key.at gs)
   woke_over a c gs h w =
@@ -600,9 +600,9 @@ module _ (edges : List Edge) (home : ℕ → ℕ) (leads : ℕ → ℕ → Type 
     pub sent : Each IsOwnSent m.sent
 
   move_fits : (d : ℕ) (load : Load) → FitsMove edges home leads site load → ComesOver leads d load
-  move_fits d (Redrive id origin body group enqueued) f = absurd f
-  move_fits d (Move id origin body group) f = tt
-  move_fits d (Forward id body group) f = absurd f
+  move_fits d (Redrive id group origin body enqueued) f = absurd f
+  move_fits d (Move id group origin body) f = tt
+  move_fits d (Forward id group body) f = absurd f
 
   moves_go : (c : Core) (t : Task) (loads : List (ℕ × Load)) → c.queue.site ≡ site → FineTask t → AreMoved edges home leads site t.move.settings.to loads → MovesGo t (moves key c t loads)
   moves_go c t [] h k l = record { number = refl; move = refl; rows = tt; sent = tt }

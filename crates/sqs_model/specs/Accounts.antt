@@ -59,9 +59,9 @@ IsAccepted o rows = IsTrue (list_any (is_first o) rows)
 
 -- whether a load carries the message of an origin; a forward is not accepted yet and has none
 abbrev pub carries : Origin → Load → Bool
-carries o (Redrive id origin body group enqueued) = same_origin o origin
-carries o (Move id origin body group) = same_origin o origin
-carries o (Forward id body group) = false
+carries o (Redrive id group origin body enqueued) = same_origin o origin
+carries o (Move id group origin body) = same_origin o origin
+carries o (Forward id group body) = false
 
 -- whether an answer is that of a delete that removed its message
 abbrev pub is_deleted : RowAnswer → Bool

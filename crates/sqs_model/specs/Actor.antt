@@ -149,7 +149,7 @@ idle a c now = (acts.Nothing, record a { wake = Some (now + c.idle) })
 -- a transfer of a served message
 abbrev pub forward_of : Actor → ℕ → Got → ℕ → ℕ → Outbound
 forward_of a now g to latency =
-    record { at = now + latency; sender = a.number; number = a.sent; from = a.settings.home; to = to; load = loads.Forward g.id g.body g.group }
+    record { at = now + latency; sender = a.number; number = a.sent; from = a.settings.home; to = to; load = loads.Forward g.id g.group g.body }
 
 -- a service that ended well, with a forward
 abbrev pub forwards : Actor → ℕ → Got → ℕ → ℕ × Draws → Act × Actor

@@ -55,10 +55,10 @@ forwarded (Fifo content_dedup scope) q now id body group =
 
 -- what an arrival made and whether it expired at once, and the queue after it
 abbrev pub arrived : Queue → ℕ → Load → (Sent × Bool) × Queue
-arrived q now (loads.Redrive id origin body group enqueued) =
+arrived q now (loads.Redrive id group origin body enqueued) =
     settle q now (brought q now origin body group (enqueued_at q.settings.kind now enqueued) (Some id.site))
-arrived q now (loads.Move id origin body group) = settle q now (brought q now origin body group now None)
-arrived q now (loads.Forward id body group) = forwarded q.settings.kind q now id body group
+arrived q now (loads.Move id group origin body) = settle q now (brought q now origin body group now None)
+arrived q now (loads.Forward id group body) = forwarded q.settings.kind q now id body group
 
 -- the age at which message n expires, and the queue without it
 abbrev pub expired_found : Queue → ℕ → ℕ → Option Message → ℕ × Queue

@@ -45,9 +45,9 @@ carried o kind id origin body =
 
 -- a transfer by its load
 abbrev pub final_load : Outbound → Load → FinalTransfer
-final_load o (Redrive id origin body group enqueued) = carried o transfers.Redrive id (Some origin) body
-final_load o (Move id origin body group) = carried o transfers.Move id (Some origin) body
-final_load o (Forward id body group) = carried o transfers.Forward id None body
+final_load o (Redrive id group origin body enqueued) = carried o transfers.Redrive id (Some origin) body
+final_load o (Move id group origin body) = carried o transfers.Move id (Some origin) body
+final_load o (Forward id group body) = carried o transfers.Forward id None body
 
 -- a transfer under way
 abbrev pub final_transfer : Outbound → FinalTransfer

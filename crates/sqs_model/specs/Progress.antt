@@ -117,9 +117,9 @@ OpeningIsSound = (s : Scenario) → IsSoundScenario s → All (λ site. IsSound 
 
 -- whether what a load carries was enqueued by a moment
 abbrev pub WasEnqueuedBy : ℕ → Load → Type 0
-WasEnqueuedBy now (loads.Redrive id origin body group enqueued) = enqueued ≤ now
-WasEnqueuedBy now (loads.Move id origin body group) = Unit {0}
-WasEnqueuedBy now (loads.Forward id body group) = Unit {0}
+WasEnqueuedBy now (loads.Redrive id group origin body enqueued) = enqueued ≤ now
+WasEnqueuedBy now (loads.Move id group origin body) = Unit {0}
+WasEnqueuedBy now (loads.Forward id group body) = Unit {0}
 
 -- no message of a queue was enqueued after a moment
 abbrev pub IsFilledBy : ℕ → Queue → Type 0

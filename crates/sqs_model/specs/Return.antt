@@ -19,7 +19,7 @@ visible_again m = record m { place = places.Visible; release = None }
 
 -- what goes to the dead-letter queue
 abbrev pub redrive_of : Queue → Message → Load
-redrive_of q m = loads.Redrive (id_of q m.number) m.origin m.body m.group m.enqueued
+redrive_of q m = loads.Redrive (id_of q m.number) m.group m.origin m.body m.enqueued
 
 -- message n leaves, or is visible again
 abbrev pub released_when : Bool → Queue → ℕ → Message → Queue × Option Load

@@ -55,21 +55,21 @@ handle_release key c = release_done key c (released c.queue key.number)
 
 -- the origin of the message that an arrival made or repeated
 abbrev pub load_origin : Load → MessageId → Origin
-load_origin (Redrive id origin body group enqueued) new = origin
-load_origin (Move id origin body group) new = origin
-load_origin (Forward id body group) new = record { site = new.site; number = new.number }
+load_origin (Redrive id group origin body enqueued) new = origin
+load_origin (Move id group origin body) new = origin
+load_origin (Forward id group body) new = record { site = new.site; number = new.number }
 
 -- the age of a message that expires as it arrives
 abbrev pub load_age : Load → ℕ → ℕ
-load_age (Redrive id origin body group enqueued) now = now - enqueued
-load_age (Move id origin body group) now = 0
-load_age (Forward id body group) now = 0
+load_age (Redrive id group origin body enqueued) now = now - enqueued
+load_age (Move id group origin body) now = 0
+load_age (Forward id group body) now = 0
 
 -- the id of the message that a load was
 abbrev pub load_id : Load → MessageId
-load_id (Redrive id origin body group enqueued) = id
-load_id (Move id origin body group) = id
-load_id (Forward id body group) = id
+load_id (Redrive id group origin body enqueued) = id
+load_id (Move id group origin body) = id
+load_id (Forward id group body) = id
 
 -- the row of an arrival; its agent is the sender
 abbrev pub arrival_row : Key → Core → Load → RowAnswer → MessageId → Row

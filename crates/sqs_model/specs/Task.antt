@@ -18,7 +18,7 @@ destination None m = m.source
 
 -- what a move carries
 abbrev pub move_of : Queue → Message → Load
-move_of q m = loads.Move (id_of q m.number) m.origin m.body m.group
+move_of q m = loads.Move (id_of q m.number) m.group m.origin m.body
 
 -- what a step takes: the queue after it, destinations and loads, and whether it met a message that has nowhere to go
 pub record Taken : Type 0 where

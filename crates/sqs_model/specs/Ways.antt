@@ -56,9 +56,9 @@ CameOver leads site (Some from) = leads from site
 
 -- whether a load, if it was redriven, comes from a queue that leads to this one
 abbrev pub ComesOver : (ℕ → ℕ → Type 0) → ℕ → Load → Type 0
-ComesOver leads site (loads.Redrive id origin body group enqueued) = leads id.site site
-ComesOver leads site (loads.Move id origin body group) = Unit {0}
-ComesOver leads site (loads.Forward id body group) = Unit {0}
+ComesOver leads site (loads.Redrive id group origin body enqueued) = leads id.site site
+ComesOver leads site (loads.Move id group origin body) = Unit {0}
+ComesOver leads site (loads.Forward id group body) = Unit {0}
 
 -- a queue of a site, its way and its messages
 pub record HasQueueWays (edges : List Edge) (leads : ℕ → ℕ → Type 0) (site : ℕ) (q : Queue) : Type 0 where

@@ -21,7 +21,7 @@ taken_before taken t = record t { loads = taken ++ t.loads }
 
 -- what a move carries of a message of a site
 abbrev pub moved_from : ℕ → Message → Load
-moved_from site m = loads.Move (record { site = site; number = m.number }) m.origin m.body m.group
+moved_from site m = loads.Move (record { site = site; number = m.number }) m.group m.origin m.body
 
 -- the taking of a message and of others, by where it goes
 abbrev takes_when : Queue → Option ℕ → Message → List Message → Option ℕ → Taken

@@ -12,8 +12,8 @@ use sqs_redrive::Load;
 // The load of a move of a message of this queue.
 fn move_of(site: u32, message: Message) -> Load
     ensures { result
-        ≡ Load.Move (record { site = site; number = message.number }) message.origin message.body
-        message.group }
+        ≡ Load.Move (record { site = site; number = message.number }) message.group message.origin
+        message.body }
 {
     Load::Move {
         id: MessageId {

@@ -5,29 +5,30 @@ ghost use Rattle.sqs_redrive.specs.Transfers.{transfer_key};
 use sim_clock::{Class, Key};
 use sqs_message::{MessageId, Origin, Text};
 
-/// The load of a transfer.
+/// The load of a transfer. The group stands at one place in all three: a copy of a load then has no
+/// padding to move.
 #[derive(Drop)]
 pub enum Load {
     /// A message on its way to the dead-letter queue, with the enqueue time that it had.
     Redrive {
         id: MessageId,
+        group: Option<Text>,
         origin: Origin,
         body: Text,
-        group: Option<Text>,
         enqueued: u64,
     },
     /// A message that a move task took out.
     Move {
         id: MessageId,
+        group: Option<Text>,
         origin: Origin,
         body: Text,
-        group: Option<Text>,
     },
     /// A copy of a message that a consumer served: a send that is made on arrival.
     Forward {
         id: MessageId,
-        body: Text,
         group: Option<Text>,
+        body: Text,
     },
 }
 
