@@ -182,9 +182,9 @@ impl<T> MarkedList<T> {
     }
 
     /// Sets the mark of the value at a place.
-    pub fn set_mark(&mut self, place: usize, mark: Mark)
+    pub fn set_mark(&mut self, place: usize, mark: &Mark)
         requires { place < length self.old.values }
-        ensures { self.new ≡ record self.old { marks = set self.old.marks place mark } }
+        ensures { self.new ≡ record self.old { marks = set self.old.marks place mark.now } }
     {
         self.tree.put(place, mark);
     }
@@ -258,11 +258,11 @@ impl<T> MarkedList<T> {
     /// # Errors
     ///
     /// `AllocError` if memory runs out; nothing changes then.
-    pub fn push(&mut self, value: T, mark: Mark) -> Result<(), AllocError>
+    pub fn push(&mut self, value: T, mark: &Mark) -> Result<(), AllocError>
     where
         T: Drop,
         ensures values { OnOk result (self.new.values ≡ self.old.values ++ value ∷ []) }
-        ensures marks { OnOk result (self.new.marks ≡ self.old.marks ++ mark ∷ []) }
+        ensures marks { OnOk result (self.new.marks ≡ self.old.marks ++ mark.now ∷ []) }
         ensures unchanged { OnErr result (self.new ≡ self.old) }
         ensures succeeds { self.old.ready ≡ true → IsOk result }
         ensures fits { OnOk result (length self.new.values < 2 ^ 64) }

@@ -277,16 +277,16 @@ impl Marks {
     }
 
     /// Sets the mark of a place.
-    pub fn put(&mut self, place: usize, mark: Mark)
+    pub fn put(&mut self, place: usize, mark: &Mark)
         requires { place < length self.old }
-        ensures { self.new ≡ set self.old place mark }
+        ensures { self.new ≡ set self.old place mark.now }
     {
         let leaf = self.marks.len() + place;
         let time = time_of(&mark.due);
-        if self.nodes[leaf].time == time && self.marks[place] == mark {
+        if self.nodes[leaf].time == time && self.marks[place] == *mark {
             return;
         }
-        self.marks[place] = mark;
+        self.marks[place] = *mark;
         let changed = Node {
             time,
             place: self.nodes[leaf].place,

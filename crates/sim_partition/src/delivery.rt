@@ -29,7 +29,7 @@ fn deliver_one<S: Site>(
         let key = S::transfer_key(&transfer);
         let due = lesser(Some(key), sites.mark_at(place).due);
         sites.value_mut(place).accept(transfer)?;
-        sites.set_mark(place, Mark { due, flags: 0 });
+        sites.set_mark(place, &Mark { due, flags: 0 });
     }
     Ok(())
 }

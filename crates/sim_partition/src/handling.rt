@@ -38,7 +38,7 @@ fn handle_at<S: Site>(
 {
     sites.value_mut(place).handle_into(key, effects)?;
     let mark = mark_of(&sites.values()[place]);
-    sites.set_mark(place, mark);
+    sites.set_mark(place, &mark);
     Ok(())
 }
 

@@ -107,7 +107,7 @@ fn bring_up(actors: &mut MarkedList<Actor>, told: Option<usize>)
 {
     if let Some(place) = told {
         let mark = mark_of(&actors.values()[place]);
-        actors.set_mark(place, mark);
+        actors.set_mark(place, &mark);
     }
 }
 

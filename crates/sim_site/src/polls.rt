@@ -59,7 +59,7 @@ fn leave(places: &mut MarkedList<Option<Poll>>, place: usize)
     ensures marked { AreMarked end_mark places.new }
 {
     *places.value_mut(place) = None;
-    places.set_mark(place, NO_MARK);
+    places.set_mark(place, &NO_MARK);
 }
 
 // If no poll waits, drops all places.
@@ -202,7 +202,7 @@ impl Polls {
     {
         make_room(&mut self.places)?;
         let place = Some(poll);
-        self.places.push(place, mark_of(&place))?;
+        self.places.push(place, &mark_of(&place))?;
         self.count += 1;
         Ok(())
     }

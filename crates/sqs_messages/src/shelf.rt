@@ -104,7 +104,7 @@ impl Shelf {
         let Some(was) = write(slot, state) else {
             unreachable!();
         };
-        self.slots.set_mark(place, mark);
+        self.slots.set_mark(place, &mark);
         count_out(&mut self.counts, was);
         count_in(&mut self.counts, state.place);
         Some((was, group))
@@ -125,7 +125,7 @@ impl Shelf {
         }
         self.slots.set_mark(
             place,
-            Mark {
+            &Mark {
                 flags: hosts,
                 ..mark
             },
@@ -156,7 +156,7 @@ impl Shelf {
         let Some(message) = slot.message.take() else {
             unreachable!();
         };
-        self.slots.set_mark(place, NO_MARK);
+        self.slots.set_mark(place, &NO_MARK);
         count_out(&mut self.counts, message.place);
         self.forget_empty();
         Some((message, group))
@@ -239,7 +239,7 @@ impl Shelf {
             group,
             message: Some(message),
         };
-        self.slots.push(slot, mark)?;
+        self.slots.push(slot, &mark)?;
         count_in(&mut self.counts, place);
         self.next += 1;
         Ok(())

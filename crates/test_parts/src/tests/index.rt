@@ -67,7 +67,7 @@ fn try_puts(rt: &impl Abort, marks: &mut Marks)
 {
     for &(place, at, flags, least, first) in &PUTS {
         assert!(rt; place < marks.leaves().len());
-        marks.put(place, mark(at, flags));
+        marks.put(place, &mark(at, flags));
         let told = (marks.leaves().len(), marks.least(), marks.place_of_least());
         same(rt, told, (8, wake(Some(least)), Some(first)));
     }
@@ -132,7 +132,7 @@ fn finds_the_next_on_a_host(rt: HostRuntime) {
 fn twenty(alloc: Global) -> Result<MarkedList<u64>, AllocError> {
     let mut list = MarkedList::new(alloc);
     for value in 0..20 {
-        list.push(value, mark(Some(100 - value), 1 << (value % 4)))?;
+        list.push(value, &mark(Some(100 - value), 1 << (value % 4)))?;
     }
     Ok(list)
 }
@@ -179,11 +179,11 @@ fn a_list_is_made_of_values(rt: HostRuntime) {
 fn a_list_is_changed(rt: HostRuntime) {
     let mut list = MarkedList::new(rt.alloc());
     list.reserve().expect(&rt, "memory");
-    list.push(5, mark(Some(9), 1)).expect(&rt, "memory");
-    list.push(6, mark(Some(7), 1)).expect(&rt, "memory");
+    list.push(5, &mark(Some(9), 1)).expect(&rt, "memory");
+    list.push(6, &mark(Some(7), 1)).expect(&rt, "memory");
     assert!(&rt; list.values().len() == 2);
     *list.value_mut(0) += 10;
-    list.set_mark(1, mark(None, 2));
+    list.set_mark(1, &mark(None, 2));
     try_values(&rt, &list, &[(15, Some(9)), (6, None)]);
     same(
         &rt,
@@ -210,7 +210,7 @@ fn some_values_stay(rt: HostRuntime) {
 #[test]
 fn a_list_is_cleared(rt: HostRuntime) {
     let mut list = MarkedList::new(rt.alloc());
-    list.push(5, NO_MARK).expect(&rt, "memory");
+    list.push(5, &NO_MARK).expect(&rt, "memory");
     list.clear();
     same(&rt, (list.values().len(), list.least()), (0, None));
 }

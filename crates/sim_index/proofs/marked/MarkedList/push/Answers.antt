@@ -14,7 +14,7 @@ invariant_of-self g c =
     let room : vec_len c.self.inside.values < length c.self.inside.tree =
     (ready_room (vec_len c.self.inside.values) (vec_capacity c.self.inside.values) (length c.self.inside.tree) (ap (λ (m : Marked _). m.ready) c.self.view_is ∙ c.in_ok-reserve.ensures.ready)).1 in
     subst (HasLeaves (length c.push_reserved.new.self.items)) (sym c.put.ensures)
-    (more_leaves n c.len.result (length c.push_reserved.new.self.items) c.self.inside.tree c.args.mark c.self.invariant (omega (arith, c.len.ensures, c.self.inside.values.ok.0)) (omega (arith, room, c.self.inside.values.ok.0))
+    (more_leaves n c.len.result (length c.push_reserved.new.self.items) c.self.inside.tree c.args.mark.now c.self.invariant (omega (arith, c.len.ensures, c.self.inside.values.ok.0)) (omega (arith, room, c.self.inside.values.ok.0))
     (omega (arith, c.push_reserved.ensures.len, c.self.inside.values.ok.0, c.push_reserved.new.self.ok.0)))
 
 pub returns-clause-marks : goal.returns-clause-marks
@@ -25,5 +25,5 @@ returns-clause-marks g c =
     let room : c.len.result < length leaves =
     omega (arith, c.len.ensures, (ready_room (vec_len c.self.inside.values) (vec_capacity c.self.inside.values) (length leaves) (ap (λ (m : Marked _). m.ready) c.self.view_is ∙ c.in_ok-reserve.ensures.ready)).1) in
     ap (take (length c.push_reserved.new.self.items)) c.put.ensures
-    ∙ take-set_at leaves c.len.result (length c.push_reserved.new.self.items) c.args.mark more room
-    ∙ ap (λ ms. ms ++ c.args.mark ∷ []) ((λ j. take (n j) leaves) ∙ ap (λ (m : Marked _). m.marks) c.self.view_is ∙ c.in_ok-reserve.ensures.marks)
+    ∙ take-set_at leaves c.len.result (length c.push_reserved.new.self.items) c.args.mark.now more room
+    ∙ ap (λ ms. ms ++ c.args.mark.now ∷ []) ((λ j. take (n j) leaves) ∙ ap (λ (m : Marked _). m.marks) c.self.view_is ∙ c.in_ok-reserve.ensures.marks)

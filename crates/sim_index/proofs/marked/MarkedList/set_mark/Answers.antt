@@ -9,7 +9,7 @@ returns g c =
     let values = c.self.inside.values in
     let n = length values.items in
     let within : c.args.place < n = omega (arith, ap (λ (m : Marked _). length m.values) c.self.view_is) in
-    let marks : take n c.put.new.self ≡ set (take n c.self.inside.tree) c.args.place c.args.mark = ap (take n) c.put.ensures ∙ take-set-lt n c.self.inside.tree c.args.place c.args.mark within in
-    let long : length c.put.new.self ≡ length c.self.inside.tree = ap length c.put.ensures ∙ length-set c.self.inside.tree c.args.place c.args.mark in
+    let marks : take n c.put.new.self ≡ set (take n c.self.inside.tree) c.args.place c.args.mark.now = ap (take n) c.put.ensures ∙ take-set-lt n c.self.inside.tree c.args.place c.args.mark.now within in
+    let long : length c.put.new.self ≡ length c.self.inside.tree = ap length c.put.ensures ∙ length-set c.self.inside.tree c.args.place c.args.mark.now in
     (λ j. record { values = values.items; marks = marks j; ready = is_ready (vec_len values) (vec_capacity values) (long j) })
-    ∙ ap (λ (m : Marked _). record m { marks = set m.marks c.args.place c.args.mark }) c.self.view_is
+    ∙ ap (λ (m : Marked _). record m { marks = set m.marks c.args.place c.args.mark.now }) c.self.view_is
