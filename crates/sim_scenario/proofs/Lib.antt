@@ -12,7 +12,7 @@ pub mod GroupsRead
 pub mod TopRanges
 pub mod QueueRanges
 pub mod InRange
-pub mod LowestWays
+pub mod LeastWay
 pub mod WayRanges
 pub mod AskedNames
 pub mod Drafted
