@@ -14,7 +14,6 @@ pub mod QueueRanges
 pub mod InRange
 pub mod LeastWay
 pub mod WayRanges
-pub mod AskedNames
 pub mod Drafted
 pub mod Links
 pub mod ItemsRead
