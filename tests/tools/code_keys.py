@@ -15,8 +15,8 @@ READ = re.compile(
     r'section\s*\.(bounds)\(\s*"(\w+)",\s*"(\w+)",\s*([\d_]+)|'
     r'section\s*\.(required_list)\("(\w+)"\)|'
     r'(agent_list)\([^"()]*(?:\(\))?[^"()]*"(\w+)"\)|'
-    r'\btime\(\s*section\.has\("(\w+)"\),\s*"\w+",\s*"(\w+)",\s*"(\w+)",\s*section,?\s*\)|'
-    r'\b(queue_list|kind|policy|latency|sending|forward|calls|gap|service|stopping|failing|outage|groups)\(')
+    r'\btime\(\s*"(\w+)",\s*"(\w+)",\s*"(\w+)",\s*section,?\s*\)|'
+    r'\b(queue_list|kind|policy|latency|sending|forward|calls|stopping|failing|outage|groups)\(')
 # What the two bounds of a time and the pairs of its quantiles have at most, and how many pairs there are.
 TIME = re.compile(r'section\.bounds\(low, high, ([\d_]+)\)')
 PAIRS = re.compile(r'list_of\(section, value, key, ([\d_]+), ([\d_]+), &Pair\)')

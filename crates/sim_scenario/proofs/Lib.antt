@@ -12,9 +12,8 @@ pub mod GroupsRead
 pub mod TopRanges
 pub mod QueueRanges
 pub mod InRange
-pub mod LowestWays
+pub mod LeastWay
 pub mod WayRanges
-pub mod AskedNames
 pub mod Drafted
 pub mod Links
 pub mod ItemsRead

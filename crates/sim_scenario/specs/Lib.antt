@@ -6,7 +6,7 @@ pub mod Kinds
 pub mod AtHome
 pub mod Naming
 pub mod Ranges
-pub mod Lowest
+pub mod Ways
 pub mod Drafts
 pub mod Firsts
 pub mod Counted

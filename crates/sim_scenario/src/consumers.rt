@@ -1,6 +1,6 @@
 //! A consumer of a scenario's text.
 ghost use Rattle.std.specs.Prelude.{◌≡◌, map};
-ghost use Rattle.sqs_formats.specs.Actors.{all_consumer_keys, consuming, failing, forward as the_forward, forward_keys, newer_consumer_keys, outage as the_outage, outage_keys, service, service_keys};
+ghost use Rattle.sqs_formats.specs.Actors.{all_consumer_keys, consuming, failing, forward as the_forward, forward_keys, newer_consumer_keys, outage as the_outage, outage_keys, service_keys};
 ghost use Rattle.sqs_formats.specs.Keys.{only};
 ghost use Rattle.sim_scenario.specs.Gives.{Gives};
 ghost use Rattle.sim_scenario.specs.Sections.{table_of};
@@ -16,7 +16,7 @@ use crate::queues::{latency, latency_keys};
 use crate::section::{ACTOR_KEYS, Section};
 use sim_clock::Refusal;
 use sqs_message::{Listed, Text};
-use sqs_model::{ConsumerSettings, Distribution, Forwarding, Role, Stretch};
+use sqs_model::{ConsumerSettings, Forwarding, Role, Stretch};
 use toml::Value;
 
 /// The keys of every consumer.
@@ -84,20 +84,6 @@ fn known_consumer_keys(version: u64, section: &Section<'_>) -> Result<(), ReadEr
     let newer = newer_consumer_keys(version);
     let outage = outage_keys(section.has_newer(version, "fails_from_ms"));
     section.only(&[ACTOR_KEYS, CONSUMER_KEYS, service, forward, newer, outage])
-}
-
-/// The time of a service.
-#[tactic(auto, unfolding(sqs_formats::specs::Actors::service))]
-fn service(section: &Section<'_>) -> Result<Distribution, ReadError>
-    ensures { Gives (λ d. d) result (service (table_of section.now)) }
-{
-    time(
-        section.has("service"),
-        "service",
-        "service_min_ms",
-        "service_max_ms",
-        section,
-    )
 }
 
 /// The queue to which a consumer forwards, if it does.
@@ -188,7 +174,7 @@ fn failing(section: &Section<'_>) -> Result<Failing, ReadError>
 }
 
 /// A consumer of a queue.
-#[tactic(auto, unfolding(sqs_formats::specs::Reading::and_then))]
+#[tactic(auto, unfolding(sqs_formats::specs::Actors::service, sqs_formats::specs::Reading::and_then))]
 pub(crate) fn consumer(
     outline: &Outline,
     home: u32,
@@ -201,7 +187,7 @@ pub(crate) fn consumer(
     let batch = section.optional("batch", &Integer(1, 10), 1)?;
     let wait = section.optional("wait_s", &Integer(0, 20), 0)?;
     let timeout = section.maybe("timeout_s", &Integer(0, 43_200))?;
-    let service = service(section)?;
+    let service = time("service", "service_min_ms", "service_max_ms", section)?;
     let fail_permille = section.optional("fail_permille", &Integer(0, 1000), 0)?;
     let idle = section.optional("idle_ms", &Integer(1, 86_400_000), 1000)?;
     let forward = forward(section.has("forward"), outline, home, section)?;

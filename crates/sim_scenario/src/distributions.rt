@@ -1,6 +1,7 @@
 //! Times in a scenario's text: two bounds, or quantiles in their place.
 ghost use Rattle.std.specs.Prelude.{◌≡◌};
 ghost use Rattle.sqs_formats.specs.Distributions.{last_of as the_last_of, least_time, permilles, rises, time as the_time};
+ghost use Rattle.sqs_formats.specs.Keys.{has};
 ghost use Rattle.sim_scenario.specs.Gives.{Gives};
 ghost use Rattle.sim_scenario.specs.Sections.{table_of};
 
@@ -114,16 +115,16 @@ impl KeyType for Quantiles {
 /// A time: quantiles at the key if it is there, or else the two bounds.
 #[tactic(auto, unfolding(sqs_formats::specs::Distributions::time, sqs_formats::specs::Reading::and_then))]
 pub(crate) fn time(
-    by_quantiles: bool,
     key: &str,
     low: &str,
     high: &str,
     section: &Section<'_>,
 ) -> Result<Distribution, ReadError>
     ensures { Gives (λ d. d) result
-        (the_time by_quantiles key.now low.now high.now (table_of section.now)) }
+        (the_time (has (table_of section.now) key.now) key.now low.now high.now
+        (table_of section.now)) }
 {
-    if by_quantiles {
+    if section.has(key) {
         let quantiles = section.required(key, &Quantiles)?;
         Ok(Distribution::Quantiles(quantiles))
     } else {

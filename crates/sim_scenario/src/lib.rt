@@ -11,7 +11,6 @@ mod fault;
 mod groups;
 mod items;
 mod key_type;
-mod least;
 mod lists;
 mod named;
 mod names;
@@ -31,9 +30,8 @@ mod ways;
 
 pub use draft::{Draft, PREVIEW, RELEASED, read};
 pub use fault::ReadError;
-pub use least::least_latency;
 pub use scenario::{Scenario, ScenarioParts};
 pub use scripted::Scripts;
 pub use sim_script::{ScriptError, read_script};
 pub use sqs_formats::{ScenarioFault, ScriptFault};
-pub use ways::edges;
+pub use ways::{edges, least_latency};

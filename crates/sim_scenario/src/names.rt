@@ -14,7 +14,7 @@ fn is_name_byte(byte: u8) -> bool
 fn are_name_bytes(bytes: &[u8]) -> bool
     ensures { result ≡ list_all is_name_byte bytes.now }
 {
-    bytes.iter().all(|b| is_name_byte(*b))
+    bytes.iter().all(|byte| is_name_byte(*byte))
 }
 
 /// Whether these bytes are the name of an actor or a task.
@@ -25,18 +25,13 @@ pub(crate) fn is_agent_name(name: &[u8]) -> bool
     1 <= length && length <= 80 && are_name_bytes(name)
 }
 
-/// Whether a byte may be in the name of a script file.
-fn is_script_byte(byte: u8) -> bool
-    ensures { result ≡ is_script_byte byte }
-{
-    is_name_byte(byte) || byte == b'.'
-}
-
 /// Whether all bytes may be in the name of a script file.
 fn are_script_bytes(bytes: &[u8]) -> bool
     ensures { result ≡ list_all is_script_byte bytes.now }
 {
-    bytes.iter().all(|b| is_script_byte(*b))
+    bytes
+        .iter()
+        .all(|byte| is_name_byte(*byte) || *byte == b'.')
 }
 
 /// Whether these bytes begin with a dot.

@@ -1,7 +1,6 @@
 //! What every part of a scenario's text may refer to: all names, and who has them.
 ghost use Rattle.std.specs.Prelude.{◌≡◌, ◌+◌, ◌≤◌, ◌++◌, IfOk, OnOk, map, length};
 ghost use Rattle.std.specs.List.{enumerate_from, zip};
-ghost use Rattle.std.specs.Str.{bytes_eq};
 ghost use Rattle.toml.specs.View.{view};
 ghost use Rattle.sqs_formats.specs.Keys.{text_in};
 ghost use Rattle.sqs_formats.specs.Actors.{tasks_at};
@@ -82,13 +81,6 @@ fn push_texts(
     Ok(())
 }
 
-/// Whether a text has these bytes.
-fn has_bytes(text: &Text, bytes: &[u8]) -> bool
-    ensures { result ≡ bytes_eq text.now bytes.now }
-{
-    text.as_bytes() == bytes
-}
-
 /// The move tasks that name a queue as theirs, with their agent numbers, which begin at that of the
 /// first task.
 fn tasks_at(
@@ -105,7 +97,7 @@ fn tasks_at(
     let mut tasks = Vec::new(alloc);
     let count = names.len().min(homes.len());
     for i in 0..count {
-        if !has_bytes(&homes[i], home) {
+        if homes[i].as_bytes() != home {
             continue;
         }
         let name = names[i].copy(alloc)?;
@@ -229,10 +221,7 @@ impl Outline {
     pub(crate) fn is_fifo_at(&self, number: u32) -> bool
         ensures { result ≡ kind_at self.now number }
     {
-        match self.names.as_slice()[..self.queue_count].get(number as usize) {
-            None => false,
-            Some(name) => is_fifo(name.as_bytes()),
-        }
+        is_fifo(self.queue_text(number))
     }
 
     /// Whether a text is given as the name of a dead-letter queue.

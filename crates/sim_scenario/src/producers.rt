@@ -1,6 +1,6 @@
 //! A producer of a scenario's text.
 ghost use Rattle.std.specs.Prelude.{◌≡◌, IfOk, length, map, nat_le};
-ghost use Rattle.sqs_formats.specs.Actors.{all_producer_keys, gap, gap_keys, is_producer_body, newer_producer_keys, producing, sending as the_sending, sending_keys, stopping};
+ghost use Rattle.sqs_formats.specs.Actors.{all_producer_keys, gap_keys, is_producer_body, newer_producer_keys, producing, sending as the_sending, sending_keys, stopping};
 ghost use Rattle.sqs_formats.specs.Groups.{groups as the_groups};
 ghost use Rattle.sqs_formats.specs.Keys.{only};
 ghost use Rattle.sqs_model.specs.Actor.{filled};
@@ -14,7 +14,7 @@ use crate::key_type::{Boolean, Integer, KeyType};
 use crate::section::{ACTOR_KEYS, Section};
 use sim_clock::Refusal;
 use sqs_message::Text;
-use sqs_model::{Distribution, Groups, ProducerSettings, Role, has_mark};
+use sqs_model::{Groups, ProducerSettings, Role, has_mark};
 use std::alloc::{AllocError, Global};
 use toml::Value;
 
@@ -59,20 +59,6 @@ fn known_producer_keys(version: u64, is_fifo: bool, section: &Section<'_>) -> Re
     let own = sending_keys(is_fifo, section.has_newer(version, "key_groups"));
     let newer = newer_producer_keys(version);
     section.only(&[ACTOR_KEYS, PRODUCER_KEYS, gap, own, newer])
-}
-
-/// The time from one send to the next.
-#[tactic(auto, unfolding(sqs_formats::specs::Actors::gap))]
-fn gap(section: &Section<'_>) -> Result<Distribution, ReadError>
-    ensures { Gives (λ d. d) result (gap (table_of section.now)) }
-{
-    time(
-        section.has("gap"),
-        "gap",
-        "gap_min_ms",
-        "gap_max_ms",
-        section,
-    )
 }
 
 /// The groups to which a producer sends, in turn or by weight.
@@ -175,7 +161,7 @@ pub(crate) fn stopping(start: u64, section: &Section<'_>) -> Result<Option<u64>,
 }
 
 /// A producer of a queue of a kind.
-#[tactic(auto, unfolding(sqs_formats::specs::Reading::and_then))]
+#[tactic(auto, unfolding(sqs_formats::specs::Actors::gap, sqs_formats::specs::Reading::and_then))]
 pub(crate) fn producer(
     version: u64,
     is_fifo: bool,
@@ -186,7 +172,7 @@ pub(crate) fn producer(
     known_producer_keys(version, is_fifo, section)?;
     let count = section.required("count", &Integer(1, 1_000_000))?;
     let start = section.optional("start_ms", &Integer(0, 2_592_000_000), 0)?;
-    let gap = gap(section)?;
+    let gap = time("gap", "gap_min_ms", "gap_max_ms", section)?;
     let body = section.required("body", &Body { count })?;
     let (groups, ids, delay) = sending(is_fifo, section)?;
     let stop = stopping(start, section)?;

@@ -1,5 +1,5 @@
 //! The script files that a scenario's text names.
-ghost use Rattle.std.specs.Prelude.{◌≡◌, ◌++◌, ◌∷◌, [], IfOk, OnOk, codes, filter_map, map, option_map};
+ghost use Rattle.std.specs.Prelude.{◌≡◌, [], IfOk, codes, filter_map, map, option_map};
 ghost use Rattle.toml.specs.Data.{get_member};
 ghost use Rattle.toml.specs.View.{table_view, view};
 ghost use Rattle.sqs_formats.specs.Scenario.{actors_in, script_name as the_script_name};
@@ -37,28 +37,16 @@ pub(crate) fn actor_items<'a>(table: &'a Table) -> &'a [Value]
     }
 }
 
-/// Appends the name in an item to other names.
-fn push_name(alloc: Global, names: &mut Vec<Text>, item: &Value) -> Result<(), AllocError>
-    ensures { OnOk result
-        (names.new.items ≡ names.old.items ++ filter_map the_script_name (view item.now ∷ [])) }
-{
-    match script_name(item) {
-        None => Ok(()),
-        Some(name) => {
-            let bytes = name.as_bytes().to_vec(alloc)?;
-            names.push(Text::new(bytes))?;
-            Ok(())
-        }
-    }
-}
-
 /// The names in items.
 pub(crate) fn names_in(alloc: Global, items: &[Value]) -> Result<Vec<Text>, AllocError>
     ensures { IfOk result (λ v. v.items ≡ filter_map the_script_name (map view items.now)) }
 {
     let mut names = Vec::new(alloc);
     for item in items {
-        push_name(alloc, &mut names, item)?;
+        let Some(name) = script_name(item) else {
+            continue;
+        };
+        names.push(Text::new(name.as_bytes().to_vec(alloc)?))?;
     }
     Ok(names)
 }

@@ -1,121 +1,112 @@
-//! The ways of a scenario, as a list.
-ghost use Rattle.std.specs.Prelude.{◌≡◌, ◌≤◌, ◌++◌, ◌∷◌, [], All, IfOk, OnOk, flat_map, length, map};
-ghost use Rattle.std.specs.List.{enumerate_from};
-ghost use Rattle.sqs_model.specs.Scenario.{Scenario as TheScenario, edge, edges, policy_edges, role_edges, sources, task_edges};
+//! The ways of a scenario, and the least time that a transfer takes along one.
+ghost use Rattle.std.specs.Prelude.{◌≡◌, ◌≤◌, ◌+◌, All, IfOk};
+ghost use Rattle.std.specs.Iterator.{YieldsFirst, item_count};
+ghost use Rattle.sqs_model.specs.Scenario.{edge, edges, least_latency as the_least_latency, leads_to};
+ghost use Rattle.sim_scenario.specs.Ranges.{IsInRange};
 
-use crate::least::leads_to;
 use crate::scenario::Scenario;
 use sim_engine::Edge;
 use sqs_model::{ActorSettings, Role};
-use sqs_redrive::{Latency, Policy, QueueSettings, TaskSettings};
+use sqs_redrive::{Latency, Policy, TaskSettings};
 use std::alloc::{AllocError, Global};
+use std::marker::Model;
 
-/// Adds a way from one queue to another.
-fn add(ways: &mut Vec<Edge>, from: u32, to: u32, latency: Latency) -> Result<(), AllocError>
-    ensures { OnOk result (ways.new.items ≡ ways.old.items ++ edge from to latency ∷ []) }
+/// The ways of a scenario, one after another: those of the queues, actors and move tasks that are
+/// left. Contracts see the list of the ways still to come.
+#[derive(Drop)]
+struct Ways<'a> {
+    scenario: &'a Scenario,
+    /// The number of the next queue.
+    queue: usize,
+    actors: &'a [ActorSettings],
+    tasks: &'a [TaskSettings],
+    /// The first queue to which the next task may still lead, if it has no destination.
+    source: usize,
+}
+
+impl<'a> Model for Ways<'a> {
+    ghost use Rattle.std.specs.Prelude.{List};
+    ghost use Rattle.sim_engine.specs.declared.edge.Edge.{Edge};
+    ghost use Rattle.sim_scenario.specs.Ways.{ways_from};
+
+    ghost Value = { List Edge };
+
+    ghost view = { λ w. ways_from w.scenario.now w.queue w.actors.now w.tasks.now w.source };
+}
+
+/// All ways of a scenario.
+fn ways_of(scenario: &Scenario) -> Ways<'_>
+    ensures ways { result ≡ edges scenario.now }
+    ensures range { IsInRange scenario.now }
+{
+    Ways {
+        scenario,
+        queue: 0,
+        actors: scenario.actors(),
+        tasks: scenario.tasks(),
+        source: 0,
+    }
+}
+
+/// A way from one queue to another.
+fn edge(from: u32, to: u32, latency: Latency) -> Edge
+    ensures { result ≡ edge from to latency }
 {
     let least = latency.least;
-    ways.push(Edge { from, to, least })?;
-    Ok(())
+    Edge { from, to, least }
 }
 
-/// Adds the way to a dead-letter queue, if there is one.
-fn add_policy(ways: &mut Vec<Edge>, from: u32, policy: Option<Policy>) -> Result<(), AllocError>
-    ensures { OnOk result (ways.new.items ≡ ways.old.items ++ policy_edges from policy) }
+/// Whether a redrive policy names a queue.
+fn leads_to(policy: Option<Policy>, queue: u32) -> bool
+    ensures { result ≡ leads_to queue policy }
 {
     match policy {
-        None => Ok(()),
-        Some(policy) => add(ways, from, policy.dead_letter, policy.latency),
+        None => false,
+        Some(policy) => policy.dead_letter == queue,
     }
 }
 
-/// Adds the ways to dead-letter queues.
-fn add_queues(ways: &mut Vec<Edge>, queues: &[QueueSettings]) -> Result<(), AllocError>
-    requires { length queues.now ≤ 1000 }
-    ensures { OnOk result (ways.new.items
-        ≡ ways.old.items
-        ++ flat_map (λ x. policy_edges x.0 x.1.policy) (enumerate_from 0 queues.now)) }
-{
-    for (number, queue) in queues.iter().enumerate() {
-        add_policy(ways, number as u32, queue.policy)?;
-    }
-    Ok(())
-}
+impl<'a> Iterator for Ways<'a> {
+    type Item = Edge;
 
-/// Adds the way of an actor's forwards, if it has one.
-fn add_role(ways: &mut Vec<Edge>, home: u32, role: &Role) -> Result<(), AllocError>
-    ensures { OnOk result (ways.new.items ≡ ways.old.items ++ role_edges home role.now) }
-{
-    match role {
-        Role::Script(_) => Ok(()),
-        Role::Producer(_) => Ok(()),
-        Role::Consumer(consumer) => match consumer.forward {
-            None => Ok(()),
-            Some(forward) => add(ways, home, forward.to, forward.latency),
-        },
-    }
-}
+    ghost next_gives = { YieldsFirst (λ rest. rest) };
 
-/// Adds the ways of forwards.
-fn add_actors(ways: &mut Vec<Edge>, actors: &[ActorSettings]) -> Result<(), AllocError>
-    ensures { OnOk result
-        (ways.new.items ≡ ways.old.items ++ flat_map (λ a. role_edges a.home a.role) actors.now) }
-{
-    for actor in actors {
-        add_role(ways, actor.home, &actor.role)?;
-    }
-    Ok(())
-}
+    ghost remaining = { item_count (λ rest. rest) };
 
-/// Adds the ways from a queue back to the queues whose dead-letter queue it is.
-fn add_sources(
-    ways: &mut Vec<Edge>,
-    from: u32,
-    latency: Latency,
-    queues: &[QueueSettings],
-) -> Result<(), AllocError>
-    requires { length queues.now ≤ 1000 }
-    ensures { OnOk result ((s : TheScenario) → s.queues ≡ queues.now
-        → ways.new.items ≡ ways.old.items ++ map (λ to. edge from to latency) (sources s from)) }
-{
-    for (number, queue) in queues.iter().enumerate() {
-        if leads_to(queue.policy, from) {
-            add(ways, from, number as u32, latency)?;
+    fn next(&mut self) -> Option<Edge> {
+        while let Some(queue) = self.scenario.queues().get(self.queue) {
+            let from = self.queue as u32;
+            self.queue += 1;
+            if let Some(policy) = queue.policy {
+                return Some(edge(from, policy.dead_letter, policy.latency));
+            }
         }
+        while let Some((actor, others)) = self.actors.split_first() {
+            self.actors = others;
+            if let Role::Consumer(consumer) = &actor.role {
+                if let Some(forward) = consumer.forward {
+                    return Some(edge(actor.home, forward.to, forward.latency));
+                }
+            }
+        }
+        while let Some((task, others)) = self.tasks.split_first() {
+            if let Some(to) = task.to {
+                self.tasks = others;
+                self.source = 0;
+                return Some(edge(task.home, to, task.latency));
+            }
+            while let Some(queue) = self.scenario.queues().get(self.source) {
+                let source = self.source as u32;
+                self.source += 1;
+                if leads_to(queue.policy, task.home) {
+                    return Some(edge(task.home, source, task.latency));
+                }
+            }
+            self.tasks = others;
+            self.source = 0;
+        }
+        None
     }
-    Ok(())
-}
-
-/// Adds the ways of a move task.
-fn add_task(
-    ways: &mut Vec<Edge>,
-    task: &TaskSettings,
-    queues: &[QueueSettings],
-) -> Result<(), AllocError>
-    requires { length queues.now ≤ 1000 }
-    ensures { OnOk result ((s : TheScenario) → s.queues ≡ queues.now
-        → ways.new.items ≡ ways.old.items ++ task_edges s task.now) }
-{
-    match task.to {
-        Some(to) => add(ways, task.home, to, task.latency),
-        None => add_sources(ways, task.home, task.latency, queues),
-    }
-}
-
-/// Adds the ways of move tasks.
-fn add_tasks(
-    ways: &mut Vec<Edge>,
-    tasks: &[TaskSettings],
-    queues: &[QueueSettings],
-) -> Result<(), AllocError>
-    requires { length queues.now ≤ 1000 }
-    ensures { OnOk result ((s : TheScenario) → s.queues ≡ queues.now
-        → ways.new.items ≡ ways.old.items ++ flat_map (task_edges s) tasks.now) }
-{
-    for task in tasks {
-        add_task(ways, task, queues)?;
-    }
-    Ok(())
 }
 
 /// All ways of a scenario along which messages may go from one queue to another, each with the
@@ -134,9 +125,17 @@ pub fn edges(alloc: Global, scenario: &Scenario) -> Result<Vec<Edge>, AllocError
     ensures ways { IfOk result (λ ways. ways.items ≡ edges scenario.now) }
     ensures range { IfOk result (λ ways. All (λ e. (1 ≤ e.least) × (e.least ≤ 900000)) ways.items) }
 {
-    let mut ways = Vec::new(alloc);
-    add_queues(&mut ways, scenario.queues())?;
-    add_actors(&mut ways, scenario.actors())?;
-    add_tasks(&mut ways, scenario.tasks(), scenario.queues())?;
-    Ok(ways)
+    ways_of(scenario).collect(alloc)
+}
+
+/// The least time that a transfer of a scenario takes, in milliseconds, which no window of a
+/// partitioned run may exceed; past the horizon if there can be no transfer.
+pub fn least_latency(scenario: &Scenario) -> u64
+    ensures { result ≡ the_least_latency scenario.now }
+{
+    let past = scenario.horizon() + 1;
+    ways_of(scenario)
+        .map(|edge| edge.least)
+        .min()
+        .unwrap_or(past)
 }

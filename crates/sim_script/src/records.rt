@@ -2,7 +2,7 @@
 ghost use Rattle.std.specs.Prelude.{◌≡◌, ◌≤◌, [], false, map, IfOk, IfSome, get_or, nat_le};
 ghost use Rattle.std.specs.List.{list_all};
 ghost use Rattle.csv.specs.Records.{fields_of};
-ghost use Rattle.sqs_formats.specs.Script.{digits_value, is_number, is_number_from, only_if, call_in, call_of, change_call, delete_call, given, header, is_body, is_printed, is_token, may, number, receive_call, same_fields, send_call, task_call, task_named, waits};
+ghost use Rattle.sqs_formats.specs.Script.{digits_value, is_number, is_number_from, only_if, call_in, call_of, change_call, delete_call, given, header, is_body, is_printed, is_token, may, number, receive_call, same_fields, send_call, task_named, waits};
 ghost use Rattle.sqs_message.specs.declared.calls.Call.TheVariants.{Cancel, Start};
 ghost use Rattle.sim_script.specs.ScriptGives.{called_task, fields_at, is_grouped, is_receive, is_send, record_view, task_call_in};
 
@@ -111,18 +111,11 @@ fn may_be_within(field: &[u8], value: Option<u64>, low: u64, high: u64) -> bool
     }
 }
 
-/// Whether a byte is printable ASCII and no space.
-fn is_printed(byte: u8) -> bool
-    ensures { result ≡ is_printed byte }
-{
-    33 <= byte && byte <= 126
-}
-
 /// Whether all bytes are printable ASCII and no spaces.
 fn are_printed(bytes: &[u8]) -> bool
     ensures { result ≡ list_all is_printed bytes.now }
 {
-    bytes.iter().all(|b| is_printed(*b))
+    bytes.iter().all(|byte| 33 <= *byte && *byte <= 126)
 }
 
 /// Whether a field is an id, a group or a receipt.
@@ -148,18 +141,11 @@ fn is_body(field: &[u8]) -> bool
     1 <= length && length <= 1024
 }
 
-/// Whether a field is empty.
-fn is_empty(field: &[u8]) -> bool
-    ensures { result ≡ may (λ s. false) field.now }
-{
-    field.is_empty()
-}
-
 /// Whether fields are empty.
 fn are_empty(fields: &[&[u8]]) -> bool
     ensures { result ≡ list_all (λ f. may (λ s. false) f.now) fields.now }
 {
-    fields.iter().all(|field| is_empty(field))
+    fields.iter().all(|field| field.is_empty())
 }
 
 /// A field as a text.
@@ -339,30 +325,16 @@ fn named_task(home: &Home, row: &Record<'_>) -> Option<u32>
     task_named(home, row.task)
 }
 
-/// The start that a record states.
-fn start(home: &Home, row: &Record<'_>) -> Option<Call>
-    ensures { result ≡ task_call home.now (record_view row.now) (λ t. Start t) }
-{
-    named_task(home, row).map(|task| Call::Start { task })
-}
-
-/// The cancel that a record states.
-fn cancel(home: &Home, row: &Record<'_>) -> Option<Call>
-    ensures { result ≡ task_call home.now (record_view row.now) (λ t. Cancel t) }
-{
-    named_task(home, row).map(|task| Call::Cancel { task })
-}
-
 /// The call of a task that a record states.
 fn task_call_of(home: &Home, row: &Record<'_>) -> Option<Call>
     ensures value { result ≡ task_call_in home.now (record_view row.now) }
     ensures most { IfSome result (λ c. waits c ≤ 4294967295) }
 {
     if row.call == b"start".as_slice() {
-        return start(home, row);
+        return named_task(home, row).map(|task| Call::Start { task });
     }
     if row.call == b"cancel".as_slice() {
-        return cancel(home, row);
+        return named_task(home, row).map(|task| Call::Cancel { task });
     }
     None
 }

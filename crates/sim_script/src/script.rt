@@ -2,8 +2,7 @@
 //! first fault.
 ghost use Rattle.std.specs.Prelude.{◌≡◌, ◌≤◌, ◌+◌, ◌*◌, IfOk, length, map};
 ghost use Rattle.std.specs.Str.{is_utf8};
-ghost use Rattle.sim_clock.specs.declared.refusal.Refusal.TheVariants.{BadScript};
-ghost use Rattle.sqs_formats.specs.Script.{after_header, at_record, call_at, call_of, calls_from, calls_of, script, waits, whole};
+ghost use Rattle.sqs_formats.specs.Script.{after_header, call_at, call_of, calls_from, calls_of, script, waits};
 ghost use Rattle.sim_script.specs.declared.script.ScriptError.TheVariants as errors;
 ghost use Rattle.csv.specs.Reading.{default_config, records, strip_bom};
 ghost use Rattle.csv.specs.Records.{fields_of};
@@ -65,15 +64,11 @@ fn all_rows(alloc: Global, text: &[u8]) -> Result<Vec<ByteRecord>, AllocError>
     Ok(rows)
 }
 
-/// A fault of a record.
-fn bad_record(number: usize) -> ScriptError
-    requires { number ≤ 200000 }
-    ensures { result ≡ errors.Fault (at_record BadScript number) }
+/// A fault at a record of a number, or of the whole script.
+fn fault(refusal: Refusal, number: Option<u32>) -> ScriptError
+    ensures { result ≡ errors.Fault (record { refusal = refusal; number = number }) }
 {
-    ScriptError::Fault(ScriptFault {
-        refusal: Refusal::BadScript,
-        number: Some(number as u32),
-    })
+    ScriptError::Fault(ScriptFault { refusal, number })
 }
 
 /// The call in a row, if its time is not too early.
@@ -91,12 +86,12 @@ fn next_call(
     ensures most { IfOk result (λ c. waits c.call ≤ 4294967295) }
 {
     match script_call(alloc, home, row)? {
-        None => Err(bad_record(number)),
+        None => Err(fault(Refusal::BadScript, Some(number as u32))),
         Some(call) => {
             if free <= call.at {
                 Ok(call)
             } else {
-                Err(bad_record(number))
+                Err(fault(Refusal::BadScript, Some(number as u32)))
             }
         }
     }
@@ -141,10 +136,10 @@ fn calls_after_header(
     ensures { Gives (λ v. v.items) result (after_header home.now (map fields_of rows.now)) }
 {
     match rows {
-        [] => Err(bad_record(1)),
+        [] => Err(fault(Refusal::BadScript, Some(1))),
         [names, rest @ ..] => {
             if !is_header(names) {
-                return Err(bad_record(1));
+                return Err(fault(Refusal::BadScript, Some(1)));
             }
             calls(alloc, home, rest)
         }
@@ -161,16 +156,6 @@ fn is_text(bytes: &[u8]) -> bool
     }
 }
 
-/// A fault of the whole script.
-fn whole(refusal: Refusal) -> ScriptError
-    ensures { result ≡ errors.Fault (whole refusal) }
-{
-    ScriptError::Fault(ScriptFault {
-        refusal,
-        number: None,
-    })
-}
-
 /// The calls of all rows of a text.
 #[tactic(auto, unfolding(sqs_formats::specs::Reading::and_then))]
 fn calls_of_rows(
@@ -183,10 +168,10 @@ fn calls_of_rows(
         (calls_of home.now text.now (map fields_of rows.now)) }
 {
     if rows.len() > 100_001 {
-        return Err(whole(Refusal::TooMany));
+        return Err(fault(Refusal::TooMany, None));
     }
     if !is_text(text) {
-        return Err(whole(Refusal::BadScript));
+        return Err(fault(Refusal::BadScript, None));
     }
     calls_after_header(alloc, home, rows)
 }
@@ -203,7 +188,7 @@ pub fn read_script(alloc: Global, text: &[u8], home: &Home) -> Result<Vec<Script
     ensures { Gives (λ v. v.items) result (script home.now text.now) }
 {
     if text.len() > 16_777_216 {
-        return Err(whole(Refusal::TooMany));
+        return Err(fault(Refusal::TooMany, None));
     }
     let rows = all_rows(alloc, text)?;
     calls_of_rows(alloc, home, text, rows.as_slice())

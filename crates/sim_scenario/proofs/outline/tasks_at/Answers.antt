@@ -1,12 +1,12 @@
-use Rattle.std.proofs.Common.{◌∙◌, ◌++◌, ap, sym, arith, append-nil, List}
+use Rattle.std.proofs.Common.{◌∙◌, ◌++◌, ap, sym, arith, append-nil, List, rules}
 use Rattle.sqs_formats.specs.declared.home.HomeTask.{HomeTask}
 use Rattle.sim_scenario.proofs.HomeTasks.{behind_elsewhere, behind_none}
 use Rattle.sim_scenario.proofs.outline.tasks_at.Goals as goal
 
-pub loop-i-preserved-then-not-has_bytes : goal.loop-i-preserved-then-not-has_bytes
-loop-i-preserved-then-not-has_bytes c =
+pub loop-i-preserved-then-ne : goal.loop-i-preserved-then-ne
+loop-i-preserved-then-ne c =
     c.loop-i.invariant ∙ ap (λ (ts : List HomeTask). c.loop-i.tasks.items ++ ts)
-    (behind_elsewhere c.args.home.now c.args.first c.loop-i.i c.args.names.now c.args.homes.now c.index-homes-i.result (omega arith) (omega arith) (sym c.index-homes-i.is) (sym c.has_bytes.ensures ∙ c.if-not-has_bytes.true))
+    (behind_elsewhere c.args.home.now c.args.first c.loop-i.i c.args.names.now c.args.homes.now c.index-homes-i.result (omega arith) (omega arith) (sym c.index-homes-i.is) (search rules))
 
 pub returns : goal.returns
 returns c =
