@@ -62,7 +62,7 @@ gap_min_ms = 1
 gap_max_ms = 1
 body = "m"
 """
-STAND_IN = f"""#!{sys.executable}
+STAND_IN = f"""#!{sys.executable} -S
 import sys
 if sys.argv[1:] == ["--help"]:
     sys.exit(0)
@@ -246,7 +246,8 @@ class Report(ToolCase):
         folder = self.path("without")
         os.mkdir(folder)
         self.write("without/plotly.py", "raise ImportError\n")
-        ran = self.run_tool("report", self.scenario, "--output", "r.html", PYTHONPATH=folder, SQS_REHEARSE=self.program)
+        ran = self.run_command("report", self.scenario, "--output", "r.html", PYTHONPATH=folder,
+                               SQS_REHEARSE=self.program)
         self.assert_fault(ran, "report: the library plotly.offline is missing: Debian's package python3-plotly has it "
                                "for Debian's python3, and tools/setup installs it")
 
