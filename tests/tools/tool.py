@@ -45,15 +45,15 @@ def module_of(name):
 class Forks:
     """The Python of which the runs of tools are forks, as forks.py has it. It starts with the first of them."""
 
-    control = None
+    control = process = None
 
     @classmethod
     def start(cls):
         cls.control, other = socket.socketpair(socket.AF_UNIX, socket.SOCK_SEQPACKET)
         with other:
             words = [sys.executable, os.path.join(HERE, "forks.py"), str(other.fileno())]
-            process = subprocess.Popen(words, stdin=subprocess.DEVNULL, pass_fds=[other.fileno()])
-        atexit.register(process.wait)
+            cls.process = subprocess.Popen(words, stdin=subprocess.DEVNULL, pass_fds=[other.fileno()])
+        atexit.register(cls.process.wait)
         atexit.register(cls.control.close)
 
     @classmethod
@@ -136,12 +136,10 @@ class ToolCase(unittest.TestCase):
             with open(self.path("hostile"), "wb") as file:
                 file.write(data)
             for log in ("hostile", "-"):
-                with self.subTest(case=case, log=log), open(self.path("hostile"), "rb") as stream:
-                    run = subprocess.run([sys.executable, os.path.join(TOOLS, name), log, *words], cwd=self.folder,
-                                         stdin=stream, capture_output=True)
-                    told = run.returncode, run.stdout, len(run.stderr.splitlines())
-                    self.assertEqual(told, (2, b"", 1), run.stderr)
-                    self.assertTrue(run.stderr.startswith(f"{name}: ".encode()), run.stderr)
+                with self.subTest(case=case, log=log):
+                    status, out, err = self.run_tool(name, log, *words, stdin=data)
+                    self.assertEqual((status, out, len(err.splitlines())), (2, "", 1), err)
+                    self.assertTrue(err.startswith(f"{name}: "), err)
 
     def assert_fault(self, ran, line):
         """The tool told one line on standard error, and nothing else."""
