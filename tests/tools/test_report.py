@@ -10,11 +10,11 @@ import unittest
 from html.parser import HTMLParser
 
 from tool import PROGRAM, ROOT, TOOLS, ToolCase, module_of, needs_program, row_of
-from rehearse_tools.console import Fault, library
+from rehearse_tools.console import Fault, check_library
 from rehearse_tools.histories import History
 
 try:
-    library("plotly.offline", "python3-plotly")
+    check_library("plotly", "python3-plotly")
     has_plotly = True
 except Fault:
     has_plotly = False
