@@ -133,8 +133,9 @@ def late_of(given: str | None) -> str | None:
 
 
 def environment_of(program: str | None) -> dict[str, str]:
-    """What the parts find: the program for the tools, and this Python without a script that looks for one."""
-    environment = dict(os.environ)
+    """What the parts find: the program for the tools, and this Python without a script that looks for one. Python keeps
+    the modules of the tools compiled, as each run of a tool would compile them anew."""
+    environment = {name: value for name, value in os.environ.items() if name != "PYTHONDONTWRITEBYTECODE"}
     if program:
         environment["SQS_REHEARSE"] = program
     found = shutil.which("python3")

@@ -90,9 +90,11 @@ class Coverage(unittest.TestCase):
         """Ten runs of 200 customers of an M/M/1 queue at half load, each begun as a queue that is long under way."""
         def run(chance: random.Random) -> float:
             wait, waits = chance.expovariate(0.5) if chance.random() < 0.5 else 0.0, []
+            draw, log = chance.random, math.log
             for _ in range(200):
                 waits.append(wait)
-                wait = max(0.0, wait + chance.expovariate(1) - chance.expovariate(0.5))
+                # the work of a customer has the mean 1, and the gap before the next one 2
+                wait = max(0.0, wait - log(1 - draw()) + 2 * log(1 - draw()))
             return figures.mean_of(waits)
 
         def covers(chance: random.Random) -> bool:
