@@ -19,21 +19,23 @@ from rehearse_tools.__main__ import launched, main_of  # noqa: E402 (the folder 
 from rehearse_tools.console import Fault, library  # noqa: E402
 
 LENGTH = 1 << 20
-# What a tool imports once it needs it, and so would import anew in each fork.
+# What a tool imports once it needs it, or for an option, and so would import anew in each fork.
 LIBRARIES = {
+    "--cluster": ("distributed", "cloudpickle"), "--settling": ("matplotlib.figure", "matplotlib.backends.backend_agg"),
     "from-plan": ("yaml",), "report": ("numpy", "plotly.offline"), "sweep": ("scipy.special",),
     "picture": ("numpy", *(f"matplotlib.{name}" for name in ("figure", "font_manager", "offsetbox", "text")),
                 *(f"matplotlib.backends.backend_{name}" for name in ("agg", "svg")))}
 
 
-def read(name: str) -> None:
-    """Imports what a tool needs, before the first fork for it."""
+def read(name: str, words: Sequence[str | bytes]) -> None:
+    """Imports what a tool needs for its words, before it is forked."""
     main_of(name)
-    for module in LIBRARIES.get(name, ()):
-        try:
-            library(module, "")
-        except Fault:
-            pass    # the tool tells that it is missing
+    for word in LIBRARIES.keys() & {name, *words}:
+        for module in LIBRARIES.pop(word):
+            try:
+                library(module, "")
+            except Fault:
+                pass    # the tool tells that it is missing
 
 
 def status_of(name: str, words: Sequence[str | bytes], folder: str, environment: Mapping[str, str]) -> int:
@@ -53,15 +55,13 @@ def status_of(name: str, words: Sequence[str | bytes], folder: str, environment:
 
 def main(number: int) -> None:
     """Answers all messages, until the other end is closed."""
-    control, known = socket.socket(fileno=number), set[str]()
+    control = socket.socket(fileno=number)
     while True:
         data, files, _, _ = socket.recv_fds(control, LENGTH, 3)
         if not data:
             return
         name, words, folder, environment = pickle.loads(data)
-        if name not in known:
-            read(name)
-            known.add(name)
+        read(name, words)
         process = os.fork()
         if process == 0:
             for place, file in enumerate(files):
