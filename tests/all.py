@@ -45,7 +45,7 @@ LATE_CRATE = "sqs_late_workers"
 NAME = "all"
 WITHOUT_PROGRAM = ("texts", "style", "types", "examples", "layers", "wrong-bodies", "bell")
 # Seconds of the longest parts, as measured. They begin first, so that no long one is left at the end.
-SECONDS = {"wrong-bodies": 90, "page": 70, "memory": 60, "test_clusters": 45, "long": 40, "test_picture": 32,
+SECONDS = {"wrong-bodies": 90, "page": 70, "memory": 60, "test_clusters": 50, "long": 40, "test_picture": 32,
            "test_slurm": 25, "late": 20, "test_statistics": 20, "test_helps": 17, "test_package": 16,
            "test_console": 15, "test_all": 14, "huge": 13, "questions": 13, "test_shown": 12, "test_poison": 10,
            "test_summary": 10, "fuzz": 9, "test_decisions": 9, "test_from_plan": 9, "groups": 8, "run": 8,
