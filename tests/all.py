@@ -6,9 +6,8 @@ PROGRAM is by default the one that ./sqs_rehearse would run without a build. LAT
 crates/sqs_late_workers, by default the one that `rt run` has built there from the sources as they are; without it
 tests/late and a part of tests/long are left out. --only runs the named parts. --jobs says how many parts run at once,
 by default one for each processor that this process may use. --quick takes less than a minute on 4 processors: it leaves
-out wrong-bodies, long, test_clusters, test_slurm, test_picture, memory, late, huge, test_console, test_sweep,
-test_package, test_poison, test_report, test_arrivals, test_sweeps, test_statistics, test_jobs, test_decisions,
-test_helps, test_shown and page, the longest.
+out wrong-bodies, long, test_clusters, test_slurm, test_picture, memory, late, huge, test_console, test_package,
+test_poison, test_statistics, test_decisions, test_helps, test_shown and page, the longest.
 
 A part is a program in tests/, tools/layers --check, tests/wrong-bodies/test_run.py or a file tests/tools/test_*.py. A
 program in tests/ is given PROGRAM, and its last line is `N passed, M failed`. The line of a part has what passed and
@@ -46,16 +45,16 @@ LATE_CRATE = "sqs_late_workers"
 NAME = "all"
 WITHOUT_PROGRAM = ("texts", "style", "types", "examples", "layers", "wrong-bodies", "bell")
 # Seconds of the longest parts, as measured. They begin first, so that no long one is left at the end.
-SECONDS = {"wrong-bodies": 90, "page": 70, "memory": 60, "test_clusters": 50, "test_picture": 50, "long": 40,
-           "test_slurm": 25, "test_statistics": 22, "test_from_plan": 21, "test_explain": 21, "late": 20,
-           "test_console": 20, "test_sweep": 19, "test_poison": 18, "test_arrivals": 17, "test_all": 16,
-           "test_jobs": 16, "test_sweeps": 16, "test_package": 15, "test_summary": 15, "test_report": 14, "huge": 13,
-           "questions": 13, "test_decisions": 10, "test_runs": 10, "test_helps": 10, "test_shown": 10,
-           "test_metrics": 10, "test_life": 9, "test_settling": 9, "fuzz": 9, "groups": 8, "run": 8,
-           "test_reference": 8, "terminal": 7, "bell": 7, "types": 7, "test_doors": 7, "test_programs": 6}
+SECONDS = {"wrong-bodies": 90, "page": 70, "memory": 60, "test_clusters": 50, "long": 40, "test_picture": 32,
+           "test_slurm": 25, "late": 20, "test_statistics": 20, "test_helps": 17, "test_package": 16,
+           "test_console": 15, "test_all": 14, "huge": 13, "questions": 13, "test_shown": 12, "test_poison": 10,
+           "test_summary": 10, "fuzz": 9, "test_decisions": 9, "test_from_plan": 9, "groups": 8, "run": 8,
+           "test_build": 8, "test_reference": 8, "test_runs": 8, "test_sweeps": 8, "terminal": 7, "bell": 7, "types": 7,
+           "test_curves": 7, "test_programs": 6, "test_report": 6, "test_settling": 6, "test_sweep": 5,
+           "test_types": 5, "test_arrivals": 4, "test_doors": 4}
 NOT_QUICK = ("wrong-bodies", "long", "test_clusters", "test_slurm", "test_picture", "memory", "late", "huge",
-             "test_console", "test_sweep", "test_package", "test_poison", "test_report", "test_arrivals", "test_sweeps",
-             "test_statistics", "test_jobs", "test_decisions", "test_helps", "test_shown", "page")
+             "test_console", "test_package", "test_poison", "test_statistics", "test_decisions", "test_helps",
+             "test_shown", "page")
 SET_CHILD_SUBREAPER = 36    # of prctl(2)
 LOOK_SECONDS, GRACE_SECONDS = 0.02, 3
 ENDING = (signal.SIGINT, signal.SIGTERM, signal.SIGHUP)
@@ -133,8 +132,9 @@ def late_of(given: str | None) -> str | None:
 
 
 def environment_of(program: str | None) -> dict[str, str]:
-    """What the parts find: the program for the tools, and this Python without a script that looks for one."""
-    environment = dict(os.environ)
+    """What the parts find: the program for the tools, and this Python without a script that looks for one. Python keeps
+    the modules of the tools compiled, as each run of a tool would compile them anew."""
+    environment = {name: value for name, value in os.environ.items() if name != "PYTHONDONTWRITEBYTECODE"}
     if program:
         environment["SQS_REHEARSE"] = program
     found = shutil.which("python3")

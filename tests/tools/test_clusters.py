@@ -43,20 +43,23 @@ CALLS = "at,call,body,group,id,delay,receipt,max,wait,timeout,task\n1000,send,he
 ROWS_BEFORE_THE_END = 6
 
 
-class DaskCase(ToolCase):
-    """A test with a scheduler and its workers, of which each has a folder of its own."""
+def wait_for(is_so: Callable[[], bool]) -> None:
+    until = time.monotonic() + 60
+    while not is_so():
+        assert time.monotonic() < until, "it has not come in a minute"
+        time.sleep(0.05)
 
-    def setUp(self) -> None:
-        super().setUp()
-        self.scenario = self.write("s.toml", SCENARIO)
-        os.mkdir(self.path("scripts"))
-        self.write("scripts/calls.csv", CALLS)
-        self.cluster = tempfile.mkdtemp()
-        self.addCleanup(shutil.rmtree, self.cluster, ignore_errors=True)
-        self.file, self.workers = os.path.join(self.cluster, "scheduler.json"), 0
+
+class Cluster:
+    """A scheduler and its workers, of which each has a folder of its own."""
+
+    def __init__(self) -> None:
+        self.folder, self.processes = tempfile.mkdtemp(), list["subprocess.Popen[bytes]"]()
+        self.workers: dict[str, "subprocess.Popen[bytes]"] = {}
+        self.file = os.path.join(self.folder, "scheduler.json")
         self.scheduler = self.start(str(SCHEDULER), "--host", "127.0.0.1", "--port", "0", "--no-dashboard",
-                                    "--scheduler-file", self.file, folder=self.cluster)
-        self.wait_for(self.has_address)
+                                    "--scheduler-file", self.file, folder=self.folder)
+        wait_for(self.has_address)
 
     def has_address(self) -> bool:
         """Whether the scheduler has written its address, which may take it a while from the first byte on."""
@@ -68,27 +71,52 @@ class DaskCase(ToolCase):
         return True
 
     def start(self, *words: str, folder: str) -> "subprocess.Popen[bytes]":
-        """A process that is ended with the test."""
         environment = {name: value for name, value in os.environ.items() if name != "PYTHONPATH"}
-        process = subprocess.Popen(words, cwd=folder, stdin=subprocess.DEVNULL, stdout=subprocess.DEVNULL,
-                                   stderr=subprocess.DEVNULL, env={**environment, "TMPDIR": folder})
-        self.addCleanup(process.wait)
-        self.addCleanup(process.kill)
-        return process
+        self.processes.append(subprocess.Popen(words, cwd=folder, stdin=subprocess.DEVNULL, stdout=subprocess.DEVNULL,
+                                               stderr=subprocess.DEVNULL, env={**environment, "TMPDIR": folder}))
+        return self.processes[-1]
 
-    def start_worker(self) -> "subprocess.Popen[bytes]":
-        """A worker with one thread, which knows the scheduler alone."""
-        self.workers += 1
-        folder = os.path.join(self.cluster, f"worker{self.workers}")
+    def start_worker(self) -> str:
+        """The folder of a worker with one thread, which knows the scheduler alone."""
+        folder = os.path.join(self.folder, f"worker{len(self.processes)}")
         os.mkdir(folder)
-        return self.start(str(WORKER), self.address, "--nthreads", "1", "--no-nanny", "--no-dashboard",
-                          "--local-directory", folder, folder=folder)
+        self.workers[folder] = self.start(str(WORKER), self.address, "--nthreads", "1", "--no-nanny", "--no-dashboard",
+                                          "--local-directory", folder, folder=folder)
+        return folder
 
-    def wait_for(self, is_so: Callable[[], bool]) -> None:
-        until = time.monotonic() + 60
-        while not is_so():
-            self.assertLess(time.monotonic(), until, "it has not come in a minute")
-            time.sleep(0.05)
+    def kill_worker(self, folder: str) -> None:
+        process = self.workers.pop(folder)
+        process.kill()
+        process.wait()
+
+    def end(self) -> None:
+        """Ends all processes, the last one first."""
+        for process in reversed(self.processes):
+            process.kill()
+            process.wait()
+        shutil.rmtree(self.folder, ignore_errors=True)
+
+
+class DaskCase(ToolCase):
+    """A test on a cluster that the tests of its class share, with as many workers as it asks for at least."""
+
+    shared: Cluster | None = None
+
+    def setUp(self) -> None:
+        super().setUp()
+        self.scenario = self.write("s.toml", SCENARIO)
+        os.mkdir(self.path("scripts"))
+        self.write("scripts/calls.csv", CALLS)
+
+    @classmethod
+    def cluster_with(cls, workers: int) -> Cluster:
+        """The cluster, which is started by the first test that asks for it, and again after one that ended it."""
+        if cls.shared is None or cls.shared.scheduler.poll() is not None:
+            cls.shared = Cluster()
+            cls.addClassCleanup(cls.shared.end)
+        while len(cls.shared.workers) < workers:
+            cls.shared.start_worker()
+        return cls.shared
 
     def words(self, *more: str) -> tuple[str, ...]:
         return (self.scenario, "--scripts", "scripts", *more)
@@ -99,9 +127,9 @@ class DaskCase(ToolCase):
         out, err = process.stdout.read(), process.stderr.read()
         return process.wait(), out, err
 
-    def sweep(self, *words: str) -> "subprocess.Popen[str]":
-        """A sweep on the cluster that is under way."""
-        command = [sys.executable, os.path.join(TOOLS, "sweep"), *self.words(*words), "--cluster", self.address]
+    def sweep(self, cluster: Cluster, *words: str) -> "subprocess.Popen[str]":
+        """A sweep on a cluster that is under way."""
+        command = [sys.executable, os.path.join(TOOLS, "sweep"), *self.words(*words), "--cluster", cluster.address]
         process = subprocess.Popen(command, cwd=self.folder, stdout=subprocess.PIPE, stderr=subprocess.PIPE, text=True)
         self.addCleanup(process.wait)
         self.addCleanup(process.kill)
@@ -114,13 +142,12 @@ class Clusters(DaskCase):
     def test_a_worker_that_is_killed_in_the_middle(self) -> None:
         """Two workers run; one is killed, and a third one comes. The bytes are those of one machine."""
         wanted = self.run_tool("sweep", *self.words("--vary", "seed=1..80"))[1]
-        lost, _ = self.start_worker(), self.start_worker()
-        process = self.sweep("--vary", "seed=1..80")
+        cluster = self.cluster_with(2)
+        process = self.sweep(cluster, "--vary", "seed=1..80")
         assert process.stdout is not None
         out = "".join(process.stdout.readline() for _ in range(ROWS_BEFORE_THE_END))
-        lost.send_signal(signal.SIGKILL)
-        lost.wait()
-        self.start_worker()
+        cluster.kill_worker(next(iter(cluster.workers)))
+        cluster.start_worker()
         self.assertLess(out.count("\n"), wanted.count("\n"))
         status, rest, err = self.rest_of(process)
         self.assertEqual((status, out + rest), (0, wanted), err)
@@ -128,19 +155,18 @@ class Clusters(DaskCase):
 
     def test_what_is_counted_and_refused(self) -> None:
         """Logs are counted where they are written; a refusal reads as on one machine; the hint is the same."""
-        self.start_worker()
+        cluster = self.cluster_with(1)
         for more in (("--vary", "seed=1..3", "--from", "10m", "--require", "q.age_p95<1h"),
                      ("--vary", "queue.q.visibility_s=30,50000"),
                      ("--vary", "seed=1..5", "--spread", "seed", "--columns", "sends,age_p95")):
             here = self.run_tool("sweep", *self.words(*more))
-            self.assertEqual(self.rest_of(self.sweep(*more)), here)
-        folder = os.path.join(self.cluster, "worker1")
-        self.wait_for(lambda: not [name for *_, names in os.walk(folder) for name in names if name == "calls.csv"])
+            self.assertEqual(self.run_tool("sweep", *self.words(*more), "--cluster", cluster.address), here)
+        for folder in cluster.workers:
+            wait_for(lambda: not [name for *_, names in os.walk(folder) for name in names if name == "calls.csv"])
 
     def test_an_interrupt(self) -> None:
         """The rows so far are whole, and the status is 130."""
-        self.start_worker()
-        process = self.sweep("--vary", "seed=1..2000")
+        process = self.sweep(self.cluster_with(1), "--vary", "seed=1..2000")
         assert process.stdout is not None
         out = "".join(process.stdout.readline() for _ in range(ROWS_BEFORE_THE_END))
         process.send_signal(signal.SIGINT)
@@ -150,12 +176,12 @@ class Clusters(DaskCase):
         self.assertRegex(err.splitlines()[-1], "sweep: interrupted after [0-9]+ of 2000 variants")
 
     def test_a_scheduler_that_is_lost(self) -> None:
-        self.start_worker()
-        process = self.sweep("--vary", "seed=1..2000")
+        cluster = self.cluster_with(1)
+        process = self.sweep(cluster, "--vary", "seed=1..2000")
         assert process.stdout is not None
         for _ in range(ROWS_BEFORE_THE_END):
             process.stdout.readline()
-        self.scheduler.kill()
+        cluster.scheduler.kill()
         status, _, err = self.rest_of(process)
         self.assertEqual((status, err.splitlines()[-1]), (2, "sweep: the Dask scheduler is lost"))
 
@@ -181,8 +207,8 @@ class Faults(ToolCase):
         scenario = self.write("s.toml", SCENARIO)
         os.mkdir(self.path("without"))
         self.write("without/distributed.py", "raise ImportError\n")
-        ran = self.run_tool("sweep", scenario, "--vary", "seed=1", "--cluster", "tcp://h:1",
-                            PYTHONPATH=self.path("without"))
+        ran = self.run_command("sweep", scenario, "--vary", "seed=1", "--cluster", "tcp://h:1",
+                               PYTHONPATH=self.path("without"))
         self.assert_fault(ran, "sweep: --cluster needs Debian's package python3-distributed, which is for Debian's "
                                "python3")
 

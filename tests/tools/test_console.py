@@ -35,10 +35,8 @@ class Ends(ToolCase):
                     self.assertIn(f"tools/{name} ", out)
                     hostile.append(())
                 for words in hostile:
-                    run = subprocess.run([sys.executable, os.path.join(TOOLS, name), *words], cwd=self.folder,
-                                         capture_output=True, stdin=subprocess.DEVNULL)
-                    told = run.returncode, run.stdout, len(run.stderr.splitlines())
-                    self.assertEqual(told, (2, b"", 1), run.stderr)
+                    status, out, err = self.run_tool(name, *words)
+                    self.assertEqual((status, out, len(err.splitlines())), (2, "", 1), err)
 
     def test_help_has_each_option(self):
         """No line has over 120 columns, by either command."""
@@ -133,7 +131,8 @@ class Ends(ToolCase):
                         "arrivals times .", "sweep . --vary seed=1", "explain . --program /bin/true",
                         "report . --output r.html"):
             with self.subTest(command=command):
-                self.assertEqual(self.ended(command), (2, "", f"{command.split()[0]}: cannot read .: Is a directory\n"))
+                name, *words = command.split()
+                self.assertEqual(self.run_tool(name, *words), (2, "", f"{name}: cannot read .: Is a directory\n"))
 
 
 class Reading(ToolCase):

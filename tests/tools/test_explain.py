@@ -30,13 +30,12 @@ lines",,,,,,,,
 2005,sent,x,,,,,,,,
 \"\"\"
 """
-STAND_IN = f"""#!{sys.executable}
-import os, sys
-if sys.argv[1:] == ["--help"]:
-    sys.exit(0)
-assert sys.argv[1] == "check", sys.argv
-sys.stdin.read()
-sys.exit(os.environ["REFUSAL"])
+STAND_IN = """#!/bin/sh
+[ "$*" = --help ] && exit 0
+[ "$1" = check ] || exit 9
+while read -r line; do :; done
+echo "$REFUSAL" >&2
+exit 1
 """
 
 PAID = '[[queue]]\nname = "paid"\n'
@@ -187,8 +186,7 @@ class Explain(ToolCase):
 
     def test_version_3_is_asked_for(self):
         """--preview is the program's word, before the folder of scripts."""
-        self.write("program", STAND_IN.replace('assert sys.argv[1] == "check"',
-                                               'assert sys.argv[1:] == ["check", "--preview", "--scripts", "."]'))
+        self.write("program", STAND_IN.replace('"$1" = check', '"$*" = "check --preview --scripts ."'))
         refusal = "refused 14 OutOfRange at actor[0].fails_on"
         self.assertIn("fails_on", self.explained(SERVED + 'fails_on = ""\n', refusal, "--preview"))
 

@@ -1,6 +1,5 @@
 """Tests the jobs of a sweep: what a share writes, what is left after one was ended, and what is not collected."""
 import os
-import shlex
 import signal
 import subprocess
 import sys
@@ -33,10 +32,12 @@ class Jobs(ToolCase):
         return self.jobs(*self.words, "--rest")
 
     def run_job(self, job: str) -> tuple[int, str]:
-        """The status and the standard error of a job, run from another folder."""
-        ran = subprocess.run(["sh", "-c", f"{shlex.quote(sys.executable)} {job}"], cwd="/", capture_output=True,
-                             text=True)
-        return ran.returncode, ran.stderr
+        """The status and the standard error of a job, run from another folder, with the words that the shell gives."""
+        words = subprocess.run(["sh", "-c", f"printf '%s\\0' {job}"], check=True, capture_output=True, text=True).stdout
+        path, *words = words.split("\0")[:-1]
+        self.assertEqual(path, os.path.join(TOOLS, "sweep"))
+        status, _, err = self.run_tool("sweep", *words, folder="/")
+        return status, err
 
     def files(self) -> list[str]:
         return sorted(os.listdir(self.results))
@@ -99,8 +100,7 @@ class Jobs(ToolCase):
 
     def test_a_variant_whose_program_is_killed_is_left(self) -> None:
         """The killed program of seed 4 says nothing of the variant, so that it is run again."""
-        self.write("program", STAND_IN.replace("if seed == 77:", "if seed == 4:\n    import os; os.kill(os.getpid(), 9)"
-                                               "\nif seed == 77:"))
+        self.write("program", STAND_IN.replace("done\n", 'done\n[ "$seed" = 4 ] && kill -9 $$\n'))
         status, _, err = self.sweep(*self.words, "--share", "1/1", "--results", "results")
         self.assertEqual(status, 1)
         self.assertIn("sweep: variant 4 is left, as its run was ended by signal 9\n", err)

@@ -4,11 +4,9 @@ import glob
 import itertools
 import os
 import re
-import subprocess
-import sys
 import unittest
 
-from tool import ROOT, TOOLS, ToolCase, module_of, needs_program, row_of
+from tool import ROOT, ToolCase, module_of, needs_program, row_of
 from rehearse_tools.console import Fault, library
 from rehearse_tools.logs import Log
 from rehearse_tools.histories import (PLACES, Course, Histories, History, ages_in, counts_in, course_of, levels,
@@ -193,7 +191,7 @@ class Readable(ToolCase):
     """A test of what stands in a figure."""
 
     def assert_readable(self, figure):
-        figure.canvas.draw()
+        figure.draw_without_rendering()
         renderer, whole = figure.canvas.get_renderer(), figure.bbox
         boxes = []
         for text in figure.findobj(library("matplotlib.text", "python3-matplotlib").Text):
@@ -309,9 +307,9 @@ class Tool(ToolCase):
         self.write("s.toml", "version = 1\nseed = 5\nhorizon = 6020\n")
         for name, head in (("p.PNG", b"\x89PNG"), ("p.pdf", b"%PDF"), ("p.svg", b"<?xml")):
             made = []
-            for output in (name, f"new/{name}"):
+            for output, run in ((name, self.run_tool), (f"new/{name}", self.run_command)):
                 words = log, "--output", output, "--scenario", "s.toml", "--title", "My <queues>"
-                self.assertEqual(self.run_tool("picture", *words), (0, "", ""))
+                self.assertEqual(run("picture", *words), (0, "", ""))
                 with open(self.path(output), "rb") as file:
                     made.append(file.read())
             data, again = made
@@ -329,7 +327,7 @@ class Tool(ToolCase):
     def test_without_a_folder_for_matplotlib(self):
         """Matplotlib keeps what it finds of fonts in the user's folder; if there is none, nothing is said of it."""
         log, file = self.write("log", LOG), self.write("file", "")
-        status, _, err = self.run_tool("picture", log, HOME=file, XDG_CONFIG_HOME=file, MPLCONFIGDIR="")
+        status, _, err = self.run_command("picture", log, HOME=file, XDG_CONFIG_HOME=file, MPLCONFIGDIR="")
         self.assertEqual((status, err), (0, ""))
 
     def test_what_was_lost_is_told_at_the_top(self):
@@ -363,11 +361,10 @@ class Tool(ToolCase):
         for i in range(33_400):
             rows.append(f"{30 * i},q,p,send,new,m-0-{i},,x\n{30 * i + 5},q,c,receive,ok,m-0-{i},r-0-{i}-1,o-0-{i}\n")
             rows.append(f"{30 * i + 6 + i % 20},q,c,delete,deleted,m-0-{i},r-0-{i}-1,{6 + i % 20}\n")
-        run = subprocess.run([sys.executable, os.path.join(TOOLS, "picture"), "-"], input="".join(rows), text=True,
-                             capture_output=True)
-        self.assertEqual((run.returncode, run.stderr), (0, ""))
-        self.assertIn("Whole run: 33,400 came in, 33,400 deleted, 0 left.", run.stdout)
-        self.assertLess(len(run.stdout), 700_000)
+        status, out, err = self.run_tool("picture", "-", stdin="".join(rows).encode())
+        self.assertEqual((status, err), (0, ""))
+        self.assertIn("Whole run: 33,400 came in, 33,400 deleted, 0 left.", out)
+        self.assertLess(len(out), 700_000)
 
     def test_faults(self):
         log = self.write("log", LOG)

@@ -60,11 +60,12 @@ class Model:
     """A queue with servers, as one would draw it on a sheet of paper."""
 
     def __init__(self, seed: int, gap: int, low: int, high: int, is_whole: bool) -> None:
-        self.random, self.low, self.high, self.is_whole = random.Random(seed), low, high, is_whole
+        self.draw, self.low, self.is_whole = random.Random(seed).random, low, is_whole
+        self.choices = high - low + 1
         self.receives = [0] * COUNT
         self.dead = 0
         # What is to come: a moment, and a message that is visible then.
-        gaps = (self.random.randint(1, gap) for _ in range(COUNT))
+        gaps = (1 + int(gap * self.draw()) for _ in range(COUNT))
         self.coming = [(moment, number) for number, moment in enumerate(itertools.accumulate(gaps))]
         self.visible: list[int] = []
 
@@ -88,7 +89,7 @@ class Model:
             self.receives[number] += 1
             if self.is_whole and failed:
                 continue
-            now += self.random.randint(self.low, self.high)
+            now += self.low + int(self.choices * self.draw())
             if number % EVERY == EVERY - 1:
                 failed = batch if self.is_whole else [*failed, number]
         for number in failed:
@@ -99,10 +100,12 @@ class Model:
         """How many messages are dead in the end."""
         servers = [0] * SERVERS
         while self.coming or self.visible:
-            moment = heapq.heappop(servers)
-            batch = list(self.take(moment))
-            next_moment = self.handle(batch, moment) if batch else max(moment, self.coming[0][0])
-            heapq.heappush(servers, next_moment)
+            moment = servers[0]
+            if self.visible or self.coming[0][0] <= moment:
+                next_moment = self.handle(list(self.take(moment)), moment)
+            else:
+                next_moment = self.coming[0][0]
+            heapq.heapreplace(servers, next_moment)
         return self.dead
 
 

@@ -10,11 +10,11 @@ import unittest
 from html.parser import HTMLParser
 
 from tool import PROGRAM, ROOT, TOOLS, ToolCase, module_of, needs_program, row_of
-from rehearse_tools.console import Fault, library
+from rehearse_tools.console import Fault, check_library
 from rehearse_tools.histories import History
 
 try:
-    library("plotly.offline", "python3-plotly")
+    check_library("plotly", "python3-plotly")
     has_plotly = True
 except Fault:
     has_plotly = False
@@ -62,7 +62,7 @@ gap_min_ms = 1
 gap_max_ms = 1
 body = "m"
 """
-STAND_IN = f"""#!{sys.executable}
+STAND_IN = f"""#!{sys.executable} -S
 import sys
 if sys.argv[1:] == ["--help"]:
     sys.exit(0)
@@ -246,7 +246,8 @@ class Report(ToolCase):
         folder = self.path("without")
         os.mkdir(folder)
         self.write("without/plotly.py", "raise ImportError\n")
-        ran = self.run_tool("report", self.scenario, "--output", "r.html", PYTHONPATH=folder, SQS_REHEARSE=self.program)
+        ran = self.run_command("report", self.scenario, "--output", "r.html", PYTHONPATH=folder,
+                               SQS_REHEARSE=self.program)
         self.assert_fault(ran, "report: the library plotly.offline is missing: Debian's package python3-plotly has it "
                                "for Debian's python3, and tools/setup installs it")
 

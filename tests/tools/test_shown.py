@@ -45,15 +45,16 @@ VERDICT = re.compile(r": (q[^ ]* in [0-9]+%) is (?:(shown|refuted)|undecided): [
 
 @needs_program
 class Shown(ToolCase):
+    known: dict[str, Any] = {}
+
     def setUp(self) -> None:
         super().setUp()
         self.scenario = self.write("a.toml", SCENARIO)
         self.other = self.write("b.toml", OTHER)
-        known: dict[str, Any] = {}
-        run = variants.run
+        run, known = variants.run, self.known
 
         def remembered(command: list[str], text: str, counting: Any, engine: Any) -> Any:
-            """A run of the program, of which each is made once."""
+            """A run of the program, of which each is made once for all tests."""
             self.assertIsNone(counting)
             if text not in known:
                 known[text] = run(command, text, counting, engine)

@@ -1,5 +1,6 @@
 """Tests what is concluded from runs: by tables and closed forms, by coverage, and by queues whose laws are known."""
 import csv
+import functools
 import io
 import math
 import operator
@@ -17,6 +18,8 @@ from rehearse_tools import statistics as figures
 from rehearse_tools.logs import REPORT_HEADER
 
 REPETITIONS = 1_000
+# Most of the counts of 200 sweeps occur in many of them.
+word_of = functools.cache(figures.word_of)
 SCRIPT_HEADER = "at,call,body,group,id,delay,receipt,max,wait,timeout,task"
 
 
@@ -87,9 +90,11 @@ class Coverage(unittest.TestCase):
         """Ten runs of 200 customers of an M/M/1 queue at half load, each begun as a queue that is long under way."""
         def run(chance: random.Random) -> float:
             wait, waits = chance.expovariate(0.5) if chance.random() < 0.5 else 0.0, []
+            draw, log = chance.random, math.log
             for _ in range(200):
                 waits.append(wait)
-                wait = max(0.0, wait + chance.expovariate(1) - chance.expovariate(0.5))
+                # the work of a customer has the mean 1, and the gap before the next one 2
+                wait = max(0.0, wait - log(1 - draw()) + 2 * log(1 - draw()))
             return figures.mean_of(waits)
 
         def covers(chance: random.Random) -> bool:
@@ -224,7 +229,7 @@ class Verdicts(unittest.TestCase):
         passed = 0
         for runs in range(5, 601, 5):
             passed += sum(chance.random() < share for _ in range(5))
-            found = figures.word_of(passed, runs - passed, claimed, 0.95)
+            found = word_of(passed, runs - passed, claimed, 0.95)
             if found != "undecided":
                 break
         return found
@@ -397,7 +402,8 @@ class Queues(ToolCase):
     def deleted_at(self) -> list[int]:
         """When each message of the log was deleted, by its number."""
         with open(self.path("log.csv"), encoding="utf-8") as file:
-            rows = [row for row in csv.reader(file) if row[3:5] == ["delete", "deleted"]]
+            rows = [row for row in csv.reader(line for line in file if ",delete,deleted," in line)
+                    if row[3:5] == ["delete", "deleted"]]
         return [int(row[0]) for row in sorted(rows, key=lambda row: int(row[5].split("-")[2]))]
 
     def assert_is(self, means: list[float], wanted: float, nearness: float) -> None:

@@ -30,26 +30,33 @@ name = "worker"
 kind = "consumer"
 queue = "q"
 """
-# Reports 100 sends for each second of visibility and one for each unit of the seed, and refuses a visibility over 50.
+# It starts quickly, as many runs are needed. It reports 100 sends for each second of visibility and one for each unit of
+# the seed, and refuses a visibility over 50.
 # A seed of 77 makes the file begun and takes a minute; with a worker the greatest age is the seed in seconds, and
 # without one it is not there.
-STAND_IN = f"""#!{sys.executable}
-import re, sys, time
-if sys.argv[1:] == ["--help"]:
-    sys.exit(0)
-assert sys.argv[1:] == ["run", "--scripts", sys.argv[3], "--log", "/dev/null"], sys.argv
-text = sys.stdin.read()
-seed, visibility = (int(re.search(key + " = ([0-9]+)", text)[1]) for key in ("seed", "visibility_s"))
-if seed == 77:
-    open("begun", "w").close()
-    time.sleep(60)
-if visibility > 50:
-    sys.exit("refused 14 OutOfRange at queue[0].visibility_s")
-print("final,queue,message,origin,place,due,enqueued,receives,group,md5")
-print("report,queue,{COLUMNS}")
-workers = len(re.findall('name = "worker', text))
-print(f"report,q,{{100 * visibility + seed}}," + "0," * 21 + f"{{seed}},{{seed}},,,{{1000 * seed if workers else ''}}")
-print("report,r," + "0," * 22 + "0,,,,")
+STAND_IN = f"""#!/bin/sh
+[ "$*" = --help ] && exit 0
+[ "$1 $2 $4 $5 $#" = "run --scripts --log /dev/null 5" ] || exit 9
+workers=
+while read -r key equals value; do
+  case $key in
+    seed) seed=$value;;
+    visibility_s) visibility=$value;;
+    name) case $value in '"worker'*) workers=yes;; esac;;
+  esac
+done
+if [ "$seed" = 77 ]; then
+  : > begun
+  exec sleep 60
+fi
+if [ "$visibility" -gt 50 ]; then
+  echo "refused 14 OutOfRange at queue[0].visibility_s" >&2
+  exit 1
+fi
+echo "final,queue,message,origin,place,due,enqueued,receives,group,md5"
+echo "report,queue,{COLUMNS}"
+echo "report,q,$((100 * visibility + seed)),{"0," * 21}$seed,$seed,,,${{workers:+$((1000 * seed))}}"
+echo "report,r,{"0," * 22}0,,,,"
 """
 
 
@@ -142,8 +149,8 @@ class Sweep(ToolCase):
         told = "has version 3, a preview, which is read only for the word --preview"
         self.assert_fault(self.sweep(new, "--vary", "seed=1"), f"sweep: {new} {told}")
         self.assert_fault(self.sweep(old, "--vary", "version=2,3"), f"sweep: {old} {told}")
-        self.write("program", STAND_IN.replace('["run", "--scripts", sys.argv[3]',
-                                               '["run", "--preview", "--scripts", sys.argv[4]'))
+        self.write("program", STAND_IN.replace('"$1 $2 $4 $5 $#" = "run --scripts --log /dev/null 5"',
+                                               '"$1 $2 $3 $5 $6 $#" = "run --preview --scripts --log /dev/null 6"'))
         words = new, "--preview", "--vary", "seed=1..2", "--columns", "sends"
         self.assertEqual(self.sweep(*words)[:2], (0, "seed,failed,queue,sends\n1,,q,101\n1,,r,0\n2,,q,102\n2,,r,0\n"))
         status, jobs, err = self.sweep(*words, "--print-jobs", "jobs")

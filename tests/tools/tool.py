@@ -4,9 +4,13 @@
 
 Without SQS_REHEARSE the tests that need the program are left out.
 """
+import atexit
+import contextlib
 import importlib.machinery
 import importlib.util
 import os
+import pickle
+import socket
 import subprocess
 import sys
 import tempfile
@@ -36,6 +40,29 @@ def module_of(name):
     if name in USERS_TOOLS:
         return importlib.import_module(f"rehearse_tools.{name.replace('-', '_')}")
     return module_at(os.path.join(TOOLS, name), name)
+
+
+class Forks:
+    """The Python of which the runs of tools are forks, as forks.py has it. It starts with the first of them."""
+
+    control = process = None
+
+    @classmethod
+    def start(cls):
+        cls.control, other = socket.socketpair(socket.AF_UNIX, socket.SOCK_SEQPACKET)
+        with other:
+            words = [sys.executable, os.path.join(HERE, "forks.py"), str(other.fileno())]
+            cls.process = subprocess.Popen(words, stdin=subprocess.DEVNULL, pass_fds=[other.fileno()])
+        atexit.register(cls.process.wait)
+        atexit.register(cls.control.close)
+
+    @classmethod
+    def status(cls, message, files):
+        """The status of a run of a tool, by its name, words, folder and environment, and its three standard files."""
+        if cls.control is None:
+            cls.start()
+        socket.send_fds(cls.control, [pickle.dumps(message)], [file.fileno() for file in files])
+        return int(cls.control.recv(99))
 
 
 LOG_HEADER = b"at,queue,agent,call,answer,message,receipt,detail\n"
@@ -82,11 +109,26 @@ class ToolCase(unittest.TestCase):
                        stdout=subprocess.DEVNULL)
         return path
 
-    def run_tool(self, name, *words, **environment):
-        """Status, standard output and standard error of a tool that runs in the test's folder."""
+    def run_command(self, name, *words, **environment):
+        """Status, standard output and standard error of a tool that runs in the test's folder, from the start of Python
+        on."""
         run = subprocess.run([sys.executable, os.path.join(TOOLS, name), *words], cwd=self.folder, text=True,
                              capture_output=True, env={**os.environ, **environment})
         return run.returncode, run.stdout, run.stderr
+
+    def run_tool(self, name, *words, stdin=b"", folder=None, **environment):
+        """The same by a fork, which has read the tool's modules before, for a tool of the package. What depends on how
+        Python starts needs `run_command`. The bytes of `stdin` are its standard input."""
+        if name not in USERS_TOOLS:
+            return self.run_command(name, *words, **environment)
+        with contextlib.ExitStack() as stack:
+            files = [stack.enter_context(tempfile.TemporaryFile()) for _ in range(3)]
+            files[0].write(stdin)
+            files[0].seek(0)
+            status = Forks.status((name, words, folder or self.folder, {**os.environ, **environment}), files)
+            for file in files:
+                file.seek(0)
+            return status, *(file.read().decode("utf-8").replace("\r\n", "\n") for file in files[1:])
 
     def assert_hostile_logs(self, name, *words):
         """The tool tells one line on standard error of each file that is no log, and nothing else."""
@@ -94,12 +136,10 @@ class ToolCase(unittest.TestCase):
             with open(self.path("hostile"), "wb") as file:
                 file.write(data)
             for log in ("hostile", "-"):
-                with self.subTest(case=case, log=log), open(self.path("hostile"), "rb") as stream:
-                    run = subprocess.run([sys.executable, os.path.join(TOOLS, name), log, *words], cwd=self.folder,
-                                         stdin=stream, capture_output=True)
-                    told = run.returncode, run.stdout, len(run.stderr.splitlines())
-                    self.assertEqual(told, (2, b"", 1), run.stderr)
-                    self.assertTrue(run.stderr.startswith(f"{name}: ".encode()), run.stderr)
+                with self.subTest(case=case, log=log):
+                    status, out, err = self.run_tool(name, log, *words, stdin=data)
+                    self.assertEqual((status, out, len(err.splitlines())), (2, "", 1), err)
+                    self.assertTrue(err.startswith(f"{name}: "), err)
 
     def assert_fault(self, ran, line):
         """The tool told one line on standard error, and nothing else."""

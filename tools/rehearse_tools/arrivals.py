@@ -231,6 +231,8 @@ def check_count(count: int) -> None:
 
 def by_chance(chance: random.Random, rate: Fraction, start: Fraction | int, end: Fraction | int) -> list[int]:
     """The times of messages that come independently, at a rate, from a start until before an end."""
+    # Of over ten million that are expected at least half come, but with a chance below 10 ** -600,000.
+    check_count(int(rate * Fraction(end - start) / 2))
     times, at, mean, until = [], float(start), float(1 / rate) if rate else math.inf, float(end)
     while rate:
         at -= math.log(1 - chance.random()) * mean

@@ -4,9 +4,10 @@ Some values are not known before a plan is applied, such as the ARN of a new que
 which resource an argument refers to, through variables and outputs of modules.
 """
 import dataclasses
+import functools
 import json
 import re
-from collections.abc import Iterator
+from collections.abc import Iterator, Sequence
 from typing import Any
 
 from .actors import Mapping, Subscription, Wiring
@@ -63,15 +64,22 @@ def address_of(text: str) -> Address:
     return Address(tuple(path), ".".join(name for name, _ in parts), parts[-1][1] if parts else "")
 
 
-def parts_of(text: str) -> list[tuple[str, str]]:
+@functools.lru_cache(10_000)
+def parts_of(text: str) -> tuple[tuple[str, str], ...]:
     """The words of a reference, each with the index that follows it."""
-    return [(match[1], match[2] or "") for match in PART.finditer(text)]
+    return tuple((match[1], match[2] or "") for match in PART.finditer(text))
 
 
 def specific(references: Any) -> list[str]:
-    """References without those that only begin another one: Terraform gives a.b[0].arn, a.b[0] and a.b together."""
-    texts = [text for text in references[:REFERENCES_MOST] if isinstance(text, str) and parts_of(text)] \
+    """The references that `specific_of` leaves of a list; none if it is no list."""
+    return specific_of(tuple(text for text in references[:REFERENCES_MOST] if isinstance(text, str))) \
         if isinstance(references, list) else []
+
+
+@functools.lru_cache(10_000)
+def specific_of(references: tuple[str, ...]) -> list[str]:
+    """References without those that only begin another one: Terraform gives a.b[0].arn, a.b[0] and a.b together."""
+    texts = [text for text in references if parts_of(text)]
     return [text for text in texts
             if not any(other != text and other.startswith((f"{text}.", f"{text}[")) for other in texts)]
 
@@ -176,7 +184,7 @@ class Plan:
             found |= self.referred_once(scope, parts_of(reference), depth + 1)
         return found
 
-    def referred_once(self, scope: Scope, parts: list[tuple[str, str]], depth: int) -> set[str]:
+    def referred_once(self, scope: Scope, parts: Sequence[tuple[str, str]], depth: int) -> set[str]:
         kind, names = parts[0][0], [name for name, _ in parts]
         if kind == "aws_sqs_queue" and len(parts) > 1:
             return self.instances(scope, ".".join(names[:2]), parts[1][1])

@@ -60,6 +60,8 @@ Judged = tuple[Requirement, str, Failure | None]
 QUEUES_MOST = 20
 # A line that changes more often than this is a mean over an extent, in so many columns.
 COLUMNS_OF_LINES, BINS = 750, 240
+# The level of gzip: the best one takes three times as long, and saves a hundredth.
+PACKING = 6
 # The height of a picture's panels, of the gaps between them in shares of it, and of what is around them, in pixels.
 HEIGHT_OF_SHARE, GAP, MARGINS = 62, 0.5, 110
 # The keys at the top of a scenario, with the defaults of those that need not be given.
@@ -342,7 +344,7 @@ def figure_html(number: int, queue: History, start: int, end: int, requirements:
 def library_packed() -> str:
     """The script of plotly, which is a fourth as long when it is packed."""
     script = library("plotly.offline", "python3-plotly").get_plotlyjs().encode("utf-8")
-    return base64.b64encode(gzip.compress(script, mtime=0)).decode("ascii")
+    return base64.b64encode(gzip.compress(script, PACKING, mtime=0)).decode("ascii")
 
 
 def settings_html(scenario: Mapping[str, Any]) -> str:
