@@ -5,7 +5,7 @@
 PROGRAM is by default the one that ./sqs_rehearse would run without a build. LATE is the program of
 crates/sqs_late_workers, by default the one that `rt run` has built there from the sources as they are; without it
 tests/late and a part of tests/long are left out. --only runs the named parts. --jobs says how many parts run at once,
-by default one for each processor that this process may use. --quick takes less than a minute on 4 processors: it leaves
+by default one for each processor that this process may use. --quick takes a minute or two on 4 processors: it leaves
 out wrong-bodies, long, test_clusters, test_slurm, test_picture, memory, late, huge, test_console, test_package,
 test_poison, test_statistics, test_decisions, test_helps, test_shown and page, the longest.
 
@@ -45,12 +45,12 @@ LATE_CRATE = "sqs_late_workers"
 NAME = "all"
 WITHOUT_PROGRAM = ("texts", "style", "types", "examples", "layers", "wrong-bodies", "bell")
 # Seconds of the longest parts, as measured. They begin first, so that no long one is left at the end.
-SECONDS = {"wrong-bodies": 90, "page": 70, "memory": 60, "test_clusters": 50, "long": 40, "test_picture": 32,
-           "test_slurm": 25, "late": 20, "test_statistics": 20, "test_helps": 17, "test_package": 16,
-           "test_console": 15, "test_all": 14, "huge": 13, "questions": 13, "test_shown": 12, "test_poison": 10,
+SECONDS = {"wrong-bodies": 90, "page": 70, "memory": 60, "questions": 50, "test_clusters": 50, "long": 40,
+           "test_picture": 32, "test_slurm": 25, "late": 20, "test_statistics": 20, "test_helps": 17,
+           "test_package": 16, "test_console": 15, "test_all": 14, "huge": 13, "test_shown": 12, "test_poison": 10,
            "test_summary": 10, "fuzz": 9, "test_decisions": 9, "test_from_plan": 9, "groups": 8, "run": 8,
-           "test_build": 8, "test_reference": 8, "test_runs": 8, "test_sweeps": 8, "terminal": 7, "bell": 7, "types": 7,
-           "test_curves": 7, "test_programs": 6, "test_report": 6, "test_settling": 6, "test_sweep": 5,
+           "test_build": 8, "test_reference": 8, "test_runs": 8, "test_sweeps": 8, "terminal": 7, "bell": 7,
+           "types": 7, "test_curves": 7, "test_programs": 6, "test_report": 6, "test_settling": 6, "test_sweep": 5,
            "test_types": 5, "test_arrivals": 4, "test_doors": 4}
 NOT_QUICK = ("wrong-bodies", "long", "test_clusters", "test_slurm", "test_picture", "memory", "late", "huge",
              "test_console", "test_package", "test_poison", "test_statistics", "test_decisions", "test_helps",
