@@ -192,6 +192,11 @@ class Stored(unittest.TestCase):
             crate = os.path.join(ROOT, "crates", os.path.dirname(name))
             self.assertIsNone(run.edit_at(path, name, crate).why, name)
 
+    def test_each_edit_is_of_the_code_as_it_is(self):
+        edits = [edit for crate in run.uses(ROOT) for edit in run.edits_of(ROOT, crate)]
+        self.assertTrue(edits)
+        self.assertEqual("\n".join(f"{edit.path}: {edit.why}" for edit in edits if edit.verdict), "")
+
 
 MORE = """//! More of pairs.
 use crate::Pair;
