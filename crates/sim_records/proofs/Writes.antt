@@ -55,7 +55,7 @@ pub lines-take : {X : Type 0} (f : X → List (List ℕ)) (xs : List X) (i : ℕ
 lines-take f xs i d h = rw (take_more xs i d h, map-append, flat_map-append line, append-nil) refl
 
 -- the lines of some, and then those of others
-lines-append : {X : Type 0} (f : X → List (List ℕ)) (xs ys : List X) → lines (map f (xs ++ ys)) ≡ lines (map f xs) ++ lines (map f ys)
+pub lines-append : {X : Type 0} (f : X → List (List ℕ)) (xs ys : List X) → lines (map f (xs ++ ys)) ≡ lines (map f xs) ++ lines (map f ys)
 lines-append f xs ys = rw (map-append f xs ys) (flat_map-append line (map f xs) (map f ys))
 
 -- the error that a `?` hands on is the one that it met

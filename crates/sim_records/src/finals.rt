@@ -3,9 +3,9 @@ ghost use Rattle.std.specs.Prelude.{◌≡◌, ◌∷◌, ◌++◌, [], false, O
 ghost use Rattle.std.specs.Fmt.{decimal};
 ghost use Rattle.sqs_message.specs.Ids.{origin_text};
 ghost use Rattle.sim_records.specs.Lines.{IsPlain, with_field};
-ghost use Rattle.sqs_formats.specs.Rows.{lines, text_if};
-ghost use Rattle.sqs_formats.specs.Finals.{finals_text, place_text, status_text, transfer_kind_text};
-ghost use Rattle.sim_records.specs.Writes.{WroteSeveral};
+ghost use Rattle.sqs_formats.specs.Rows.{line, lines, text_if};
+ghost use Rattle.sqs_formats.specs.Finals.{finals_text, message_fields, message_header, place_text, status_text, task_fields, task_header, transfer_fields, transfer_header, transfer_kind_text};
+ghost use Rattle.sim_records.specs.Writes.{Wrote, WroteSeveral};
 
 use crate::columns::add_name;
 use crate::line::Line;
@@ -180,6 +180,63 @@ fn write_part<W: Out, T: Record>(
     write_records(alloc, out, records, names)
 }
 
+/// Writes the header of the messages that are left at the end of a run. Their lines follow it, by
+/// `write_messages`.
+///
+/// # Errors
+///
+/// `Memory` if a growth is refused: nothing is written. `Write` if the writer fails: a prefix of the
+/// line is written.
+pub fn write_message_header<W: Out>(alloc: Global, out: &mut W) -> Result<(), Refusal>
+    requires { W.failed out.old ≡ false }
+    ensures { Wrote (W.held out.old) (W.held out.new) (W.failed out.new) (line message_header)
+        result }
+{
+    write_record(alloc, out, MESSAGE_HEADER)
+}
+
+/// Writes the lines of messages that are left at the end of a run, in order.
+///
+/// # Errors
+///
+/// `Memory` if a growth is refused, `Write` if the writer fails. A prefix of the lines is then
+/// written.
+pub fn write_messages<W: Out>(
+    alloc: Global,
+    out: &mut W,
+    messages: &[FinalMessage],
+    names: &Names,
+) -> Result<(), Refusal>
+    requires { W.failed out.old ≡ false }
+    ensures { WroteSeveral (W.held out.old) (W.held out.new) (W.failed out.new)
+        (lines (map (message_fields names.now) messages.now)) result }
+{
+    write_records(alloc, out, messages, names)
+}
+
+/// Writes the transfers that are left at the end of a run, and then the tasks, each part under its
+/// header.
+///
+/// # Errors
+///
+/// `Memory` if a growth is refused, `Write` if the writer fails. A prefix of the lines is then
+/// written.
+pub fn write_transfers_and_tasks<W: Out>(
+    alloc: Global,
+    out: &mut W,
+    transfers: &[FinalTransfer],
+    tasks: &[FinalTask],
+    names: &Names,
+) -> Result<(), Refusal>
+    requires { W.failed out.old ≡ false }
+    ensures { WroteSeveral (W.held out.old) (W.held out.new) (W.failed out.new)
+        (lines ((transfer_header ∷ map (transfer_fields names.now) transfers.now)
+        ++ (task_header ∷ map (task_fields names.now) tasks.now))) result }
+{
+    write_part(alloc, out, TRANSFER_HEADER, transfers, names)?;
+    write_part(alloc, out, TASK_HEADER, tasks, names)
+}
+
 /// Writes the state at the end of a run: the messages, the transfers and the tasks, each part under
 /// its header.
 ///
@@ -197,19 +254,9 @@ pub fn write_finals<W: Out>(
     ensures { WroteSeveral (W.held out.old) (W.held out.new) (W.failed out.new)
         (finals_text names.now finals.now) result }
 {
-    write_part(
-        alloc,
-        out,
-        MESSAGE_HEADER,
-        finals.messages.as_slice(),
-        names,
-    )?;
-    write_part(
-        alloc,
-        out,
-        TRANSFER_HEADER,
-        finals.transfers.as_slice(),
-        names,
-    )?;
-    write_part(alloc, out, TASK_HEADER, finals.tasks.as_slice(), names)
+    let messages = finals.messages.as_slice();
+    write_part(alloc, out, MESSAGE_HEADER, messages, names)?;
+    let transfers = finals.transfers.as_slice();
+    let tasks = finals.tasks.as_slice();
+    write_transfers_and_tasks(alloc, out, transfers, tasks, names)
 }

@@ -16,7 +16,7 @@ mod sink;
 mod to_writer;
 mod word;
 
-pub use finals::write_finals;
+pub use finals::{write_finals, write_message_header, write_messages, write_transfers_and_tasks};
 pub use lines::Lines;
 pub use names::Names;
 pub use rows::{write_header, write_row, write_rows};

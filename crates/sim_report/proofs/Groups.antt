@@ -15,7 +15,7 @@ use Rattle.sqs_formats.specs.Report.{Column, columns_of, is_delayed, is_in_fligh
 use Rattle.sim_report.specs.declared.left.Left.{Left}
 use Rattle.sim_report.specs.declared.queue.QueueCounts.{QueueCounts}
 use Rattle.sim_report.specs.Left.{left_of, left_with, lefts}
-use Rattle.sim_report.specs.Running.{changed, columns_by, columns_of_all, fresh, queue_column, queue_counts, row_added, rows_added, running, with_row}
+use Rattle.sim_report.specs.Running.{changed, columns_by, columns_of_all, fresh, messages_added, queue_column, queue_counts, row_added, rows_added, running, with_row}
 use Rattle.sim_report.specs.Tally.{tally_of}
 use Rattle.sim_report.proofs.Tallies.{tallied-is}
 
@@ -92,11 +92,19 @@ left-push ms m =
     rw (one, two, three) (placed m.place (left_of ms))
 
 -- one more message
-pub lefts-push : {Q : Type 0} (queues : List Q) (ms : List FinalMessage) (m : FinalMessage)
+lefts-push : {Q : Type 0} (queues : List Q) (ms : List FinalMessage) (m : FinalMessage)
     → changed (left_with m.place) m.id.site (lefts queues ms) ≡ lefts queues (ms ++ m ∷ [])
 unfolding grouped
 lefts-push {Q} queues ms m =
     sym (grouped-at (λ (m : FinalMessage). m.id.site) (λ (q : Q) (ms : List FinalMessage). left_of ms) (left_with m.place) m.id.site 0 queues ms m (λ q zs. left-push zs m) (omega arith))
+
+-- more messages
+pub lefts-append : {Q : Type 0} (queues : List Q) (before messages : List FinalMessage) → messages_added (lefts queues before) messages ≡ lefts queues (before ++ messages)
+lefts-append queues before [] = ap (lefts queues) (sym (append-nil before))
+lefts-append queues before (m ∷ messages) =
+    ap (λ (ls : List Left). messages_added ls messages) (lefts-push queues before m)
+    ∙ lefts-append queues (before ++ m ∷ []) messages
+    ∙ ap (lefts queues) (append_assoc before (m ∷ []) messages)
 
 -- the columns of a queue are those of the definitions
 columns_by-is : (rows : List Row) (messages : List FinalMessage) → columns_by (tally_of rows) (left_of messages) ≡ columns_of rows messages

@@ -1,5 +1,5 @@
 -- What is left of the messages of a queue.
-use Rattle.std.specs.Prelude.{ℕ, ◌+◌, ◌≤◌, List, map}
+use Rattle.std.specs.Prelude.{◌+◌, List, map}
 use Rattle.std.specs.List.{enumerate_from}
 use Rattle.sqs_message.specs.declared.message.Place.{Place}
 use Rattle.sqs_message.specs.declared.message.Place.TheVariants.{Delayed, Visible, InFlight}
@@ -16,10 +16,6 @@ abbrev pub left_with : Place → Left → Left
 left_with Delayed l = record l { delayed = l.delayed + 1 }
 left_with Visible l = record l { visible = l.visible + 1 }
 left_with InFlight l = record l { in_flight = l.in_flight + 1 }
-
--- no count is above this number
-abbrev pub IsUpTo : ℕ → Left → Type 0
-IsUpTo n l = (l.visible ≤ n) × (l.in_flight ≤ n) × (l.delayed ≤ n)
 
 -- what is left of each queue, in the order of the queues
 abbrev pub lefts : {Q : Type 0} → List Q → List FinalMessage → List Left

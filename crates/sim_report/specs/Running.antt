@@ -6,7 +6,7 @@ use Rattle.sqs_model.specs.declared.finals.FinalMessage.{FinalMessage}
 use Rattle.sqs_formats.specs.Report.{Column, messages_of, rank, rows_of}
 use Rattle.sim_report.specs.declared.left.Left.{Left}
 use Rattle.sim_report.specs.declared.queue.QueueCounts.{QueueCounts}
-use Rattle.sim_report.specs.Left.{left_of}
+use Rattle.sim_report.specs.Left.{left_of, left_with}
 use Rattle.sim_report.specs.Tally.{TallyState, tallied, tally_of}
 
 -- a list with one element changed, if it has that index
@@ -38,6 +38,14 @@ queue_counts rows queue = record { name = queue.1; tally = tally_of (rows_of que
 -- the report after these rows: of each queue, by its name, the counts over its rows among them
 unfoldable pub running : List (List ℕ) → List Row → List QueueCounts
 running queues rows = map (queue_counts rows) (enumerate_from 0 queues)
+
+-- what is left of all queues with one more message, which counts at its own queue alone
+abbrev pub message_added : List Left → FinalMessage → List Left
+message_added left message = changed (left_with message.place) message.id.site left
+
+-- what is left of all queues with more messages
+abbrev pub messages_added : List Left → List FinalMessage → List Left
+messages_added left messages = fold message_added left messages
 
 -- the columns that a queue's counts become with what is left of it
 abbrev pub columns_by : TallyState → Left → List (Option ℕ)

@@ -1,13 +1,14 @@
 //! The columns of queues.
-ghost use Rattle.std.specs.Prelude.{◌≡◌, IfOk, find, map};
+ghost use Rattle.std.specs.Prelude.{◌≡◌, List, IfOk, find, map};
 ghost use Rattle.std.specs.Option.{option_map};
 ghost use Rattle.sqs_formats.specs.Report.{columns};
 ghost use Rattle.sqs_formats.specs.Comparison.{named};
+ghost use Rattle.sqs_model.specs.declared.finals.FinalMessage.{FinalMessage};
+ghost use Rattle.sim_report.specs.Left.{lefts};
 ghost use Rattle.sim_report.specs.Running.{columns_of_all};
 
-use crate::left::left_by_queue;
+use crate::left::{Left, NONE};
 use crate::queue::QueueCounts;
-use sqs_model::FinalMessage;
 use std::alloc::{AllocError, Global};
 use std::marker::Model;
 
@@ -64,18 +65,19 @@ pub(crate) fn column_names() -> [&'static [u8]; COLUMNS]
     ]
 }
 
-// The columns of queues, given the messages that are left of each.
+// The columns of queues, given how many messages are left of each.
 pub(crate) fn columns_of<'a>(
     alloc: Global,
     queues: &'a [QueueCounts],
-    messages: &[FinalMessage],
+    left: &[Left],
 ) -> Result<Vec<QueueColumns<'a>>, AllocError>
-    ensures { IfOk result (λ v. v.items ≡ columns_of_all queues.now messages.now) }
+    ensures { (messages : List FinalMessage) → left.now ≡ lefts queues.now messages
+        → IfOk result (λ v. v.items ≡ columns_of_all queues.now messages) }
 {
-    let left = left_by_queue(alloc, queues, messages)?;
     let mut all = Vec::with_capacity(alloc, queues.len())?;
     for (place, queue) in queues.iter().enumerate() {
-        let columns = queue.tally.columns(alloc, left[place])?;
+        let left = left.get(place).copied().unwrap_or(NONE);
+        let columns = queue.tally.columns(alloc, left)?;
         let name = queue.name.as_bytes();
         all.push(QueueColumns { name, columns })?;
     }

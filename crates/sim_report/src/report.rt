@@ -1,13 +1,16 @@
 //! The report of a run.
 ghost use Rattle.std.specs.Prelude.{◌≡◌, ◌++◌, ℕ, List, [], false, IfOk, OnOk};
+ghost use Rattle.sim_report.specs.Left.{lefts};
 ghost use Rattle.sim_report.specs.Running.{running};
 ghost use Rattle.sim_records.specs.Writes.{Wrote};
 ghost use Rattle.sqs_message.specs.declared.row.Row.{Row};
+ghost use Rattle.sqs_model.specs.declared.finals.Finals.{Finals as TheFinals};
 ghost use Rattle.sqs_formats.specs.Comparison.{comparison};
 ghost use Rattle.sqs_formats.specs.Report.{report, report_text};
 
 use crate::columns::{QueueColumns, columns_of};
 use crate::comparison::comparison_lines;
+use crate::left::MessagesLeft;
 use crate::queue::{QueueCounts, add_rows, fresh_queues};
 use crate::writing::report_lines;
 use sim_clock::Refusal;
@@ -60,6 +63,26 @@ impl Report {
         add_rows(self.queues.as_mut_slice(), rows)
     }
 
+    /// No messages that are left of its queues, to which those are added that are.
+    ///
+    /// # Errors
+    ///
+    /// `AllocError` if a growth is refused.
+    pub fn none_left(&self, alloc: Global) -> Result<MessagesLeft, AllocError>
+        ensures { IfOk result (λ left. left ≡ lefts self.now []) }
+    {
+        MessagesLeft::none(alloc, self.queues.as_slice())
+    }
+
+    // How many messages of each queue are left at the end of a run.
+    fn left(&self, alloc: Global, finals: &Finals) -> Result<MessagesLeft, AllocError>
+        ensures { IfOk result (λ left. left ≡ lefts self.now finals.now.messages) }
+    {
+        let mut left = self.none_left(alloc)?;
+        left.add(finals.messages.as_slice())?;
+        Ok(left)
+    }
+
     /// Writes the report, given what is left at the end of the run.
     ///
     /// # Errors
@@ -78,14 +101,50 @@ impl Report {
             → Wrote (W.held out.old) (W.held out.new) (W.failed out.new)
             (report_text (report names rows finals.now)) result }
     {
-        let columns = self.columns(alloc, finals)?;
+        let left = self.left(alloc, finals)?;
+        self.write_counted(alloc, out, &left)
+    }
+
+    /// Writes the report, given how many messages of each queue are left at the end of the run.
+    ///
+    /// # Errors
+    ///
+    /// `Memory` if a growth is refused: nothing is written. `Write` if the writer fails: a prefix
+    /// of the lines is written.
+    pub fn write_counted<W: Out>(
+        &self,
+        alloc: Global,
+        out: &mut W,
+        left: &MessagesLeft,
+    ) -> Result<(), Refusal>
+        requires { W.failed out.old ≡ false }
+        ensures works { OnOk result (W.failed out.new ≡ false) }
+        ensures written { (names : List (List ℕ)) (rows : List Row) (finals : TheFinals)
+            → self.now ≡ running names rows → left.now ≡ lefts self.now finals.messages
+            → Wrote (W.held out.old) (W.held out.new) (W.failed out.new)
+            (report_text (report names rows finals)) result }
+    {
+        let columns = self.columns(alloc, left)?;
         let text = report_lines(alloc, columns.as_slice())?;
         write_all(out, text.as_slice())?;
         Ok(())
     }
 
+    // The columns of its queues, given how many messages of each are left.
+    fn columns<'a>(
+        &'a self,
+        alloc: Global,
+        left: &MessagesLeft,
+    ) -> Result<Vec<QueueColumns<'a>>, AllocError>
+        ensures { (names : List (List ℕ)) (rows : List Row) (finals : TheFinals)
+            → self.now ≡ running names rows → left.now ≡ lefts self.now finals.messages
+            → IfOk result (λ v. v.items ≡ report names rows finals) }
+    {
+        columns_of(alloc, self.queues.as_slice(), left.of_queues())
+    }
+
     // The columns of its queues, given what is left at the end of the run.
-    pub(crate) fn columns<'a>(
+    fn columns_at_end<'a>(
         &'a self,
         alloc: Global,
         finals: &Finals,
@@ -93,7 +152,8 @@ impl Report {
         ensures { (names : List (List ℕ)) (rows : List Row) → self.now ≡ running names rows
             → IfOk result (λ v. v.items ≡ report names rows finals.now) }
     {
-        columns_of(alloc, self.queues.as_slice(), finals.messages.as_slice())
+        let left = self.left(alloc, finals)?;
+        self.columns(alloc, &left)
     }
 }
 
@@ -119,8 +179,8 @@ pub fn compare<W: Out>(
         (comparison (report names rows first.entry.1.now)
         (report others other_rows second.entry.1.now)) result }
 {
-    let before = first.0.columns(alloc, first.1)?;
-    let after = second.0.columns(alloc, second.1)?;
+    let before = first.0.columns_at_end(alloc, first.1)?;
+    let after = second.0.columns_at_end(alloc, second.1)?;
     let text = comparison_lines(alloc, before.as_slice(), after.as_slice())?;
     write_all(out, text.as_slice())?;
     Ok(())

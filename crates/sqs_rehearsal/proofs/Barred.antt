@@ -3,16 +3,12 @@ use Rattle.std.proofs.Common.{◌≡◌, None, Option, Some, false, true, inl, i
 use Rattle.std.specs.Prelude.{if◌then◌else◌, nat_lt}
 use Rattle.sim_clock.specs.declared.refusal.Refusal.{Refusal}
 use Rattle.sim_exchange.specs.Layout.{is_layout}
-use Rattle.sim_scenario.specs.Gives.{Fails}
-use Rattle.sim_scenario.specs.declared.fault.ReadError.{ReadError}
-use Rattle.sqs_formats.specs.Scenario.{scenario_upto}
 use Rattle.sqs_model.specs.Scenario.{Scenario, least_latency}
-use Rattle.sqs_rehearsal.specs.Rehearsals.{Bars, Request, Stated, fault_of_reading}
+use Rattle.sqs_rehearsal.specs.Rehearsals.{Bars, Request, Stated}
 use Rattle.sqs_rehearsal.specs.Options.{IsUnsplit, Options, is_within, layout_of, or_else, split_fault, window_fault, workers_fault}
 use Rattle.sqs_rehearsal.specs.declared.rehearsal.Fault.TheVariants as faults
 use Rattle.sim_clock.specs.declared.refusal.Refusal.TheVariants as refusals
 use Rattle.std.proofs.lemmas.Option.{same_Some}
-use Rattle.sim_scenario.specs.declared.fault.ReadError.TheVariants as errors
 
 none-some : {A X : Type 0} (x : A) → None ≡ Some x → X
 none-some x e = cc

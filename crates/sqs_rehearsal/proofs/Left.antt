@@ -1,7 +1,7 @@
 -- What sites leave, one site after another.
 use Rattle.std.proofs.Common.{◌≡◌, ℕ, zero, suc, ◌+◌, ◌<◌, List, false, true, [], ◌∷◌, ◌++◌, append_assoc, append-nil, arith, flat_map, get_or, length, map, refl, sym, ap, take, ◌∙◌}
 use Rattle.std.proofs.lemmas.Cmp.{nat_cmp_total, on_total}
-use Rattle.std.proofs.lemmas.List.{map-append, take_more}
+use Rattle.std.proofs.lemmas.List.{map-append}
 use Rattle.std.specs.Cmp.{IsTotalOrder}
 use Rattle.std.specs.Ordering.{is_lt, nat_cmp, on}
 use Rattle.std.specs.Prelude.{if◌then◌else◌}

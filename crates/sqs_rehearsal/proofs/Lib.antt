@@ -7,5 +7,6 @@ pub mod LogTexts
 pub mod Rehearsing
 pub mod Sorting
 pub mod Left
+pub mod Messages
 pub mod Counting
 pub mod Prefixes

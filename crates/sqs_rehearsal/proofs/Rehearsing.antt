@@ -1,8 +1,8 @@
 -- What came of a rehearsal, from what came of its run.
-use Rattle.std.proofs.Common.{◌≡◌, Err, List, None, Ok, Result, inr, false, subst, sym}
+use Rattle.std.proofs.Common.{◌≡◌, Err, List, None, Ok, Result, subst, sym}
 use Rattle.std.specs.Prelude.{IfErr, OnOk, ◌<◌}
 use Rattle.sim_clock.specs.declared.refusal.Refusal.{Refusal}
-use Rattle.sim_records.specs.Writes.{AppendsPrefix, WroteSeveral}
+use Rattle.sim_records.specs.Writes.{WroteSeveral}
 use Rattle.sim_report.specs.declared.queue.QueueCounts.{QueueCounts}
 use Rattle.sim_scenario.specs.Ranges.{IsInRange}
 use Rattle.sqs_formats.specs.Output.{ending_of, log_of}
@@ -42,11 +42,6 @@ module _ (q : Request) (x : Scenario) (stated : scenario_upto q.newest q.scripts
 
     -- its log was written
     module _ (log : Writer) (counts : List QueueCounts) (sites : List Site) (logged : HasLogged x (log_of x) log counts sites) where
-      -- and then memory was wanting
-      pub refused_after : (report : Writer) → AppendsPrefix report.before report.after (ending_of x logged.ended.run) → report.failed ≡ false → IsRefused q log report (faults.Refused refusals.Memory)
-      refused_after report prefix works =
-          inr (inr (record { of = with_run logged.ended.run logged.ended.is_run; whole_log = logged.got; report_prefix = record { bytes = prefix; fails = works } }))
-
       -- what comes of the rest comes of all
       pub written_after : (report : Writer) (result : Result (Unit {0}) Refusal) → WroteSeveral report.before report.after report.failed (ending_of x logged.ended.run) result
           → OnOk result (IsWritten q log report)

@@ -14,8 +14,9 @@ ghost use Rattle.sqs_rehearsal.specs.Rehearsals.{IsRefused, IsWritten, Request, 
 ghost use Rattle.sqs_rehearsal.specs.declared.rehearsal.Fault.TheVariants.{Refused};
 ghost use Rattle.sqs_rehearsal.specs.Writers.{seen};
 
+use crate::ending::write_ending;
 use crate::options::Options;
-use crate::outcome::{Outcome, copies, flush, fresh_report};
+use crate::outcome::{copies, flush, fresh_report};
 use crate::recorder::Recorder;
 use crate::rehearsal::Fault;
 use crate::running::run_alone;
@@ -112,8 +113,7 @@ fn rehearse_scenario<L: Out, R: Out>(
     let names = Names::new(copies(alloc, scenario.names())?);
     let mut counts = fresh_report(alloc, &scenario)?;
     let sites = run_logged(alloc, scenario, &names, log, &mut counts)?;
-    let outcome = Outcome::at_end(alloc, counts, sites.as_slice())?;
-    outcome.write_ending(alloc, &names, report)
+    write_ending(alloc, report, sites.as_slice(), &names, &counts)
 }
 
 /// Rehearses a scenario as `rehearse` does with one worker, on this thread alone.

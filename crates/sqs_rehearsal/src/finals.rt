@@ -19,7 +19,11 @@ use std::alloc::{AllocError, Global};
 use std::cmp::Ordering;
 
 // A message of a queue.
-fn final_message(alloc: Global, site: u32, message: &Message) -> Result<FinalMessage, AllocError>
+pub(crate) fn final_message(
+    alloc: Global,
+    site: u32,
+    message: &Message,
+) -> Result<FinalMessage, AllocError>
     ensures { (q : TheQueue) → q.site ≡ site → IfOk result (λ m. m ≡ final_message q message.now) }
 {
     let group = Text::copy_of(alloc, message.group.as_ref())?;
@@ -141,7 +145,7 @@ fn without_keys(
 }
 
 // The transfers under way to all sites, in the order of their keys.
-fn transfers_of(alloc: Global, sites: &[Site]) -> Result<Vec<FinalTransfer>, AllocError>
+pub(crate) fn transfers_of(alloc: Global, sites: &[Site]) -> Result<Vec<FinalTransfer>, AllocError>
     ensures { IfOk result
         (λ t. t.items ≡ map final_transfer (in_key_order (flat_map (λ s. s.arriving) sites.now))) }
 {
@@ -184,7 +188,7 @@ fn site_tasks(alloc: Global, sites: &[Site]) -> Result<Vec<FinalTask>, AllocErro
 }
 
 // The move tasks of all sites, by number.
-fn tasks_of(alloc: Global, sites: &[Site]) -> Result<Vec<FinalTask>, AllocError>
+pub(crate) fn tasks_of(alloc: Global, sites: &[Site]) -> Result<Vec<FinalTask>, AllocError>
     ensures { IfOk result
         (λ t. t.items ≡ map final_task (in_number_order (flat_map (λ s. s.core.tasks) sites.now))) }
 {

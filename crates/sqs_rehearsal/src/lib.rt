@@ -4,6 +4,7 @@
 
 mod alone;
 mod counter;
+mod ending;
 mod fault_lines;
 mod finals;
 mod limited;
@@ -18,6 +19,7 @@ mod watch;
 
 pub use alone::rehearse_alone;
 pub use counter::Counter;
+pub use ending::write_ending;
 pub use fault_lines::{fault_line, scenario_line};
 pub use finals::finals_of;
 pub use opening::open_world;

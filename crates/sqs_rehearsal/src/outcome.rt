@@ -3,7 +3,7 @@ ghost use Rattle.std.specs.Prelude.{◌≡◌, [], false, true, map, IfErr, IfOk
 ghost use Rattle.sim_records.specs.Writes.{WroteSeveral};
 ghost use Rattle.sim_report.specs.Running.{running};
 ghost use Rattle.sqs_formats.specs.Comparison.{comparison};
-ghost use Rattle.sqs_formats.specs.Output.{ending_of, queue_names, report_of};
+ghost use Rattle.sqs_formats.specs.Output.{queue_names, report_of};
 ghost use Rattle.sqs_model.specs.Run.{Run};
 ghost use Rattle.sqs_model.specs.Scenario.{Scenario as TheScenario};
 ghost use Rattle.sqs_rehearsal.specs.Outcomes.{HasCounted, IsLeftBy, IsOutcomeOf, Stops};
@@ -12,7 +12,7 @@ use crate::counter::Counter;
 use crate::finals::finals_of;
 use crate::running::run_alone;
 use sim_clock::Refusal;
-use sim_records::{Names, Out, write_finals};
+use sim_records::Out;
 use sim_report::Report;
 use sim_scenario::Scenario;
 use sim_site::Site;
@@ -81,21 +81,7 @@ impl Outcome {
     {
         let mut report = fresh_report(alloc, &scenario)?;
         let sites = run_counted(alloc, scenario, &mut report)?;
-        let outcome = Outcome::at_end(alloc, report, sites.as_slice())?;
-        Ok(outcome)
-    }
-
-    /// The outcome of a run, from the report of its rows and the sites of its last world. It fails
-    /// if memory runs out.
-    pub(crate) fn at_end(
-        alloc: Global,
-        report: Report,
-        sites: &[Site],
-    ) -> Result<Outcome, AllocError>
-        ensures { (s : TheScenario) (r : Run) → report ≡ running (queue_names s) r.rows
-            → sites.now ≡ r.sites → IfOk result (IsLeftBy s r) }
-    {
-        let finals = finals_of(alloc, sites)?;
+        let finals = finals_of(alloc, sites.as_slice())?;
         Ok(Outcome { report, finals })
     }
 
@@ -104,41 +90,6 @@ impl Outcome {
         ensures { result.now ≡ self.now.finals }
     {
         &self.finals
-    }
-
-    /// Writes the state at the end and the report, and flushes the writer. `names` has the names of
-    /// all agents.
-    ///
-    /// # Errors
-    ///
-    /// `Memory` if a growth is refused, `Write` if the writer fails: a prefix of the two is
-    /// written.
-    pub fn write_ending<W: Out>(
-        &self,
-        alloc: Global,
-        names: &Names,
-        out: &mut W,
-    ) -> Result<(), Refusal>
-        requires { W.failed out.old ≡ false }
-        ensures written { (s : TheScenario) (r : Run) → names.now ≡ s.names → IsLeftBy s r self.now
-            → WroteSeveral (W.held out.old) (W.held out.new) (W.failed out.new) (ending_of s r)
-            result }
-        ensures flushed { OnOk result (W.flushed out.new ≡ true) }
-    {
-        self.write_left(alloc, names, out)?;
-        flush(out)
-    }
-
-    // Writes the state at the end and the report.
-    fn write_left<W: Out>(&self, alloc: Global, names: &Names, out: &mut W) -> Result<(), Refusal>
-        requires { W.failed out.old ≡ false }
-        ensures works { OnOk result (W.failed out.new ≡ false) }
-        ensures written { (s : TheScenario) (r : Run) → names.now ≡ s.names → IsLeftBy s r self.now
-            → WroteSeveral (W.held out.old) (W.held out.new) (W.failed out.new) (ending_of s r)
-            result }
-    {
-        write_finals(alloc, out, &self.finals, names)?;
-        self.report.write_report(alloc, out, &self.finals)
     }
 }
 

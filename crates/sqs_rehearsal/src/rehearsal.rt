@@ -6,9 +6,10 @@ ghost use Rattle.sqs_rehearsal.specs.Rehearsals.{IsRefused, IsWritten, Request, 
 ghost use Rattle.sqs_rehearsal.specs.declared.rehearsal.Fault.TheVariants.{Refused};
 ghost use Rattle.sqs_rehearsal.specs.Writers.{seen};
 
+use crate::ending::write_ending;
 use crate::logging::run_logged;
 use crate::options::Options;
-use crate::outcome::{Outcome, copies, fresh_report};
+use crate::outcome::{copies, fresh_report};
 use crate::running::Running;
 use crate::watch::{Unwatched, Watch};
 use sim_clock::Refusal;
@@ -93,8 +94,7 @@ fn rehearse_scenario<G: Gate<Running> + Sync, L: Out, R: Out, P: Watch, W: Threa
         &mut counts,
         watch,
     )?;
-    let outcome = Outcome::at_end(alloc, counts, sites.as_slice())?;
-    outcome.write_ending(alloc, &names, report)
+    write_ending(alloc, report, sites.as_slice(), &names, &counts)
 }
 
 /// Rehearses a scenario as `rehearse` does, from the draft of its text. Whenever rows are written,

@@ -1,16 +1,12 @@
 use Rattle.std.specs.Prelude.{ℕ, ◌<◌, ◌≡◌}
 use Rattle.std.proofs.Common.{ap, refl, rules, subst, ◌∙◌}
 use Rattle.sim_clock.specs.declared.refusal.Refusal.TheVariants as refusals
-use Rattle.sim_clock.specs.declared.refusal.Refusal.TheVariants.{Memory}
-use Rattle.sim_records.proofs.Writes.{prefix_none}
 use Rattle.sim_scenario.specs.Ranges.{IsInRange}
-use Rattle.sqs_formats.specs.Output.{ending_of}
 use Rattle.sqs_rehearsal.specs.declared.options.Split.{Split}
-use Rattle.sqs_rehearsal.specs.Outcomes.{IsLeftBy}
 use Rattle.sqs_rehearsal.specs.Rehearsals.{IsRefused}
 use Rattle.sqs_rehearsal.specs.Writers.{Writer}
 use Rattle.sqs_rehearsal.specs.declared.rehearsal.Fault.TheVariants.{Refused}
-use Rattle.sqs_rehearsal.proofs.Rehearsing.{refused_after, refused_logging, refused_splitting, refused_writing, written_after}
+use Rattle.sqs_rehearsal.proofs.Rehearsing.{refused_logging, refused_splitting, refused_writing, written_after}
 use Rattle.sqs_rehearsal.proofs.Stopped.{handed_on}
 use Rattle.sqs_rehearsal.proofs.rehearsal.rehearse_scenario.Goals as goal
 
@@ -37,26 +33,14 @@ returns-in_err-sites-clause-refused g c q stated asked =
     (record { nothing = refl; whole = c.requires.report })
     (subst (λ (n : ℕ). e ≡ refusals.NoWorker → 1 < n) (ap (λ (x : Split). x.workers) c.in_ok-split.ensures.split) c.in_err-sites.ensures.starts))
 
-pub returns-in_err-outcome-clause-refused : goal.returns-in_err-outcome-clause-refused
-returns-in_err-outcome-clause-refused g c q stated asked =
-    let other = g.R.Out.held c.args.report.now in
-    let log : Writer = record { before = g.L.Out.held c.args.log.now; after = g.L.Out.held c.run_logged.new.log; failed = g.L.Out.failed c.run_logged.new.log } in
-    let report : Writer = record { before = other; after = other; failed = g.R.Out.failed c.args.report.now } in
-    let range : IsInRange c.args.scenario = subst IsInRange c.scenario.view_is c.scenario.invariant in
-    let logged = c.in_ok-sites.ensures.whole in
-    handed_on (λ refusal. IsRefused q log report (Refused refusal)) c.from_residual-in_err-outcome.result Memory c.from_residual-in_err-outcome.ensures.1
-    (refused_after q c.args.scenario stated c.args.options.now asked range c.in_ok-split.ensures.allowed log c.run_logged.new.report c.in_ok-sites.sites.items logged report
-    (prefix_none other (ending_of c.args.scenario logged.ended.run)) c.requires.report)
-
 pub returns-clause-written : goal.returns-clause-written
 returns-clause-written g c q stated asked =
     let log : Writer = record { before = g.L.Out.held c.args.log.now; after = g.L.Out.held c.run_logged.new.log; failed = g.L.Out.failed c.run_logged.new.log } in
     let report : Writer = record { before = g.R.Out.held c.args.report.now; after = g.R.Out.held c.write_ending.new.out; failed = g.R.Out.failed c.write_ending.new.out } in
     let range : IsInRange c.args.scenario = subst IsInRange c.scenario.view_is c.scenario.invariant in
     let logged = c.in_ok-sites.ensures.whole in
-    let left : IsLeftBy c.args.scenario logged.ended.run c.in_ok-outcome.outcome = c.in_ok-outcome.ensures c.args.scenario logged.ended.run logged.ended.counted (c.as_slice.ensures.value ∙ logged.ended.sites_are) in
     written_after q c.args.scenario stated c.args.options.now asked range c.in_ok-split.ensures.allowed log c.run_logged.new.report c.in_ok-sites.sites.items logged report c.write_ending.result
-    (c.write_ending.ensures.written c.args.scenario logged.ended.run (search rules) left)
+    (c.write_ending.ensures.written c.args.scenario logged.ended.run (search rules) logged.ended.counted (c.as_slice.ensures.value ∙ logged.ended.sites_are))
 
 pub returns-clause-refused : goal.returns-clause-refused
 returns-clause-refused g c q stated asked =
@@ -64,6 +48,5 @@ returns-clause-refused g c q stated asked =
     let report : Writer = record { before = g.R.Out.held c.args.report.now; after = g.R.Out.held c.write_ending.new.out; failed = g.R.Out.failed c.write_ending.new.out } in
     let range : IsInRange c.args.scenario = subst IsInRange c.scenario.view_is c.scenario.invariant in
     let logged = c.in_ok-sites.ensures.whole in
-    let left : IsLeftBy c.args.scenario logged.ended.run c.in_ok-outcome.outcome = c.in_ok-outcome.ensures c.args.scenario logged.ended.run logged.ended.counted (c.as_slice.ensures.value ∙ logged.ended.sites_are) in
     refused_writing q c.args.scenario stated c.args.options.now asked range c.in_ok-split.ensures.allowed log c.run_logged.new.report c.in_ok-sites.sites.items logged report c.write_ending.result
-    (c.write_ending.ensures.written c.args.scenario logged.ended.run (search rules) left)
+    (c.write_ending.ensures.written c.args.scenario logged.ended.run (search rules) logged.ended.counted (c.as_slice.ensures.value ∙ logged.ended.sites_are))

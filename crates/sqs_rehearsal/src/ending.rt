@@ -1,0 +1,195 @@
+//! The end of a run, as it is written: the state of its sites and its report. The messages that are
+//! left are made into lines some at a time, so that no list of them all is held beside the sites.
+ghost use Rattle.std.specs.Prelude.{◌≡◌, ◌∷◌, ◌++◌, [], List, false, true, flat_map, IfOk, map, OnOk};
+ghost use Rattle.sim_records.specs.Writes.{WroteSeveral};
+ghost use Rattle.sim_report.specs.Left.{lefts};
+ghost use Rattle.sim_report.specs.Running.{running};
+ghost use Rattle.sim_report.specs.declared.queue.QueueCounts.{QueueCounts};
+ghost use Rattle.sqs_formats.specs.Finals.{finals_text, message_fields, message_header, task_fields, task_header, transfer_fields, transfer_header};
+ghost use Rattle.sqs_formats.specs.Output.{ending_of, queue_names};
+ghost use Rattle.sqs_formats.specs.Rows.{lines};
+ghost use Rattle.sqs_model.specs.Finals.{final_message, finals_of, messages_at};
+ghost use Rattle.sqs_model.specs.Run.{Run};
+ghost use Rattle.sqs_model.specs.Scenario.{Scenario as TheScenario};
+ghost use Rattle.sqs_model.specs.declared.finals.FinalMessage.{FinalMessage as TheMessage};
+
+use crate::finals::{final_message, tasks_of, transfers_of};
+use crate::outcome::flush;
+use sim_clock::Refusal;
+use sim_records::{Names, Out, write_message_header, write_messages, write_transfers_and_tasks};
+use sim_report::{MessagesLeft, Report};
+use sim_site::Site;
+use sqs_model::FinalMessage;
+use sqs_queue::{Messages, Queue};
+use std::alloc::{AllocError, Global};
+
+// How many messages are made into lines at once.
+const AT_ONCE: usize = 1024;
+
+// The next of a queue's messages, at most `AT_ONCE`; none if none are left.
+fn next_messages(
+    alloc: Global,
+    queue: &Queue,
+    messages: &mut Messages<'_>,
+) -> Result<Vec<FinalMessage>, AllocError>
+    ensures next { IfOk result (λ some.
+        some.items ++ map (final_message queue.now) messages.new
+        ≡ map (final_message queue.now) messages.old) }
+    ensures none { IfOk result (λ some. some.items ≡ [] → messages.new ≡ []) }
+{
+    let mut some = Vec::new(alloc);
+    while some.len() < AT_ONCE {
+        let Some(message) = messages.next() else {
+            return Ok(some);
+        };
+        some.push(final_message(alloc, queue.site(), message)?)?;
+    }
+    Ok(some)
+}
+
+// Writes the lines of a queue's messages, and counts the messages.
+fn write_queue<W: Out>(
+    alloc: Global,
+    out: &mut W,
+    queue: &Queue,
+    names: &Names,
+    left: &mut MessagesLeft,
+) -> Result<(), Refusal>
+    requires { W.failed out.old ≡ false }
+    ensures written { WroteSeveral (W.held out.old) (W.held out.new) (W.failed out.new)
+        (lines (map (message_fields names.now) (map (final_message queue.now) queue.now.records)))
+        result }
+    ensures counted { (queues : List QueueCounts) (before : List TheMessage)
+        → left.old ≡ lefts queues before
+        → OnOk result (left.new
+        ≡ lefts queues (before ++ map (final_message queue.now) queue.now.records)) }
+{
+    let mut messages = queue.view();
+    loop {
+        let some = next_messages(alloc, queue, &mut messages)?;
+        if some.is_empty() {
+            return Ok(());
+        }
+        write_messages(alloc, out, some.as_slice(), names)?;
+        left.add(some.as_slice())?;
+    }
+}
+
+// Writes the lines of the messages of all sites, and counts the messages.
+fn write_queues<W: Out>(
+    alloc: Global,
+    out: &mut W,
+    sites: &[Site],
+    names: &Names,
+    left: &mut MessagesLeft,
+) -> Result<(), Refusal>
+    requires { W.failed out.old ≡ false }
+    ensures written { WroteSeveral (W.held out.old) (W.held out.new) (W.failed out.new)
+        (lines (map (message_fields names.now) (flat_map messages_at sites.now))) result }
+    ensures counted { (queues : List QueueCounts) → left.old ≡ lefts queues []
+        → OnOk result (left.new ≡ lefts queues (flat_map messages_at sites.now)) }
+{
+    for site in sites {
+        write_queue(alloc, out, site.queue(), names, left)?;
+    }
+    Ok(())
+}
+
+// Writes the messages of all sites under their header, and counts them.
+fn write_message_part<W: Out>(
+    alloc: Global,
+    out: &mut W,
+    sites: &[Site],
+    names: &Names,
+    left: &mut MessagesLeft,
+) -> Result<(), Refusal>
+    requires { W.failed out.old ≡ false }
+    ensures written { WroteSeveral (W.held out.old) (W.held out.new) (W.failed out.new)
+        (lines (message_header ∷ map (message_fields names.now) (finals_of sites.now).messages))
+        result }
+    ensures counted { (queues : List QueueCounts) → left.old ≡ lefts queues []
+        → OnOk result (left.new ≡ lefts queues (finals_of sites.now).messages) }
+{
+    write_message_header(alloc, out)?;
+    write_queues(alloc, out, sites, names, left)
+}
+
+// Writes the transfers under way to all sites, and their tasks, each part under its header.
+#[tactic(auto, unfolding(sqs_model::specs::Finals::finals_of))]
+fn write_other_parts<W: Out>(
+    alloc: Global,
+    out: &mut W,
+    sites: &[Site],
+    names: &Names,
+) -> Result<(), Refusal>
+    requires { W.failed out.old ≡ false }
+    ensures { WroteSeveral (W.held out.old) (W.held out.new) (W.failed out.new)
+        (lines ((transfer_header ∷ map (transfer_fields names.now) (finals_of sites.now).transfers)
+        ++ (task_header ∷ map (task_fields names.now) (finals_of sites.now).tasks))) result }
+{
+    let transfers = transfers_of(alloc, sites)?;
+    let tasks = tasks_of(alloc, sites)?;
+    write_transfers_and_tasks(alloc, out, transfers.as_slice(), tasks.as_slice(), names)
+}
+
+// Writes the state of all sites, and counts the messages that are left.
+fn write_state<W: Out>(
+    alloc: Global,
+    out: &mut W,
+    sites: &[Site],
+    names: &Names,
+    left: &mut MessagesLeft,
+) -> Result<(), Refusal>
+    requires { W.failed out.old ≡ false }
+    ensures written { WroteSeveral (W.held out.old) (W.held out.new) (W.failed out.new)
+        (finals_text names.now (finals_of sites.now)) result }
+    ensures counted { (queues : List QueueCounts) → left.old ≡ lefts queues []
+        → OnOk result (left.new ≡ lefts queues (finals_of sites.now).messages) }
+{
+    write_message_part(alloc, out, sites, names, left)?;
+    write_other_parts(alloc, out, sites, names)
+}
+
+// Writes the state of a run's sites and then its report.
+fn write_left<W: Out>(
+    alloc: Global,
+    out: &mut W,
+    sites: &[Site],
+    names: &Names,
+    report: &Report,
+) -> Result<(), Refusal>
+    requires { W.failed out.old ≡ false }
+    ensures works { OnOk result (W.failed out.new ≡ false) }
+    ensures written { (s : TheScenario) (r : Run) → names.now ≡ s.names
+        → report.now ≡ running (queue_names s) r.rows → sites.now ≡ r.sites
+        → WroteSeveral (W.held out.old) (W.held out.new) (W.failed out.new) (ending_of s r)
+        result }
+{
+    let mut left = report.none_left(alloc)?;
+    write_state(alloc, out, sites, names, &mut left)?;
+    report.write_counted(alloc, out, &left)
+}
+
+/// Writes the state of a run's sites at its end and then its report, and flushes the writer.
+/// `names` has the names of all agents.
+///
+/// # Errors
+///
+/// `Memory` if a growth is refused, `Write` if the writer fails: a prefix of the two is written.
+pub fn write_ending<W: Out>(
+    alloc: Global,
+    out: &mut W,
+    sites: &[Site],
+    names: &Names,
+    report: &Report,
+) -> Result<(), Refusal>
+    requires { W.failed out.old ≡ false }
+    ensures written { (s : TheScenario) (r : Run) → names.now ≡ s.names
+        → report.now ≡ running (queue_names s) r.rows → sites.now ≡ r.sites
+        → WroteSeveral (W.held out.old) (W.held out.new) (W.failed out.new) (ending_of s r)
+        result }
+    ensures flushed { OnOk result (W.flushed out.new ≡ true) }
+{
+    write_left(alloc, out, sites, names, report)?;
+    flush(out)
+}
