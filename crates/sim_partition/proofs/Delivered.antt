@@ -1,7 +1,8 @@
 -- What is delivered to sites.
-use Rattle.std.specs.Ordering.{is_lt}
-use Rattle.std.specs.Prelude.{All, List, None, Option, Some, [], false, if◌then◌else◌, map, true, ℕ, ◌+◌, ◌++◌, ◌==◌, ◌∷◌, ◌≡◌, ◌⊎◌, ◌≤◌}
-use Rattle.std.proofs.Common.{ap, inl, inr, refl, subst, sym, ◌∙◌}
+use Rattle.std.specs.List.Sorted.{IsBinarySearchResult}
+use Rattle.std.specs.Ordering.{is_lt, nat_cmp}
+use Rattle.std.specs.Prelude.{All, Bool, Err, List, is_ok, None, Ok, Option, Result, Some, [], false, if◌then◌else◌, length, map, suc, true, zero, ℕ, ◌+◌, ◌++◌, ◌<◌, ◌==◌, ◌∷◌, ◌≡◌, ◌⊎◌, ◌≤◌}
+use Rattle.std.proofs.Common.{ap, arith, inl, inr, refl, subst, sym, ◌∙◌}
 use Rattle.std.proofs.lemmas.List.Elements.{All-head, All-map, All-tail, All-weaker}
 use Rattle.sim_clock.specs.declared.key.Key.{Key}
 use Rattle.sim_clock.specs.Order.{key_cmp, lesser}
@@ -13,6 +14,7 @@ use Rattle.sim_engine.specs.World.{arrival, delivered, delivered_one, least_due,
 use Rattle.sim_engine.proofs.Branches.{either}
 use Rattle.sim_engine.proofs.Parts.{one_number}
 use Rattle.sim_engine.proofs.WorldMoves.{delivered_sound}
+use Rattle.sim_partition.proofs.Numbers.{absent, found_nowhere, found_there, number_there, same_number}
 use Rattle.sim_partition.specs.Sites.{AreOfPast, IsPart}
 
 -- what holds of two dues holds of the lesser
@@ -21,6 +23,14 @@ lesser_holds P None b p q = q
 lesser_holds P (Some a) None p q = p
 lesser_holds P (Some a) (Some b) p q =
     elim (is_lt (key_cmp b a)) as (λ c. P (if c then Some b else Some a)) [ true ↦ q | false ↦ p ]
+
+ok_is : (r : Result ℕ ℕ) → is_ok r ≡ true → (i : ℕ) × (r ≡ Ok i)
+ok_is (Ok i) h = (i, refl)
+ok_is (Err i) h = cc
+
+err_is : (r : Result ℕ ℕ) → is_ok r ≡ false → (i : ℕ) × (r ≡ Err i)
+err_is (Ok i) h = cc
+err_is (Err i) h = (i, refl)
 
 module _ {Site Row Transfer : Type 0} {engine : Engine Site Row Transfer} {conditions : Conditions Site Transfer} (basics : SiteLaws engine conditions) where
   open engine use {number, accepted, transfer_key, to}
@@ -90,6 +100,51 @@ module _ {Site Row Transfer : Type 0} {engine : Engine Site Row Transfer} {condi
         | false ↦ due_next o s ss rest h
       ]
 
+  -- one to the number at a place makes the lesser the least due
+  due_handed_by :
+      (o : Transfer) (s : Site) (ss : List Site) (i : ℕ) (b : Bool) → (to o == number s) ≡ b → i < length (s ∷ ss) → number_there engine (s ∷ ss) i ≡ to o
+      → ((j : ℕ) → j < length ss → number_there engine ss j ≡ to o → world_due engine (map (delivered_one engine o) ss) ≡ lesser (Some (transfer_key o)) (world_due engine ss))
+      → world_due engine (map (delivered_one engine o) (s ∷ ss)) ≡ lesser (Some (transfer_key o)) (world_due engine (s ∷ ss))
+  due_handed_by o s ss i true e l h rest =
+      let others : Option Key = world_due engine (map (delivered_one engine o) ss) in
+      ap (λ b. lesser (least_due engine (if b then accepted o s else s)) others) e ∙ due_first o s ss others (due_with o ss)
+  due_handed_by o s ss zero false e l h rest = let same : (to o == number s) ≡ true = same_number (to o) (number s) (sym h) in cc
+  due_handed_by o s ss (suc i) false e l h rest =
+      let others : Option Key = world_due engine (map (delivered_one engine o) ss) in
+      ap (λ b. lesser (least_due engine (if b then accepted o s else s)) others) e
+      ∙ ap (lesser (least_due engine s)) (rest i (omega arith) h)
+      ∙ swapped (least_due engine s) (Some (transfer_key o)) (world_due engine ss)
+
+  due_handed :
+      (o : Transfer) (w : List Site) (i : ℕ) → i < length w → number_there engine w i ≡ to o
+      → world_due engine (map (delivered_one engine o) w) ≡ lesser (Some (transfer_key o)) (world_due engine w)
+  due_handed o [] i l h = absurd (omega arith)
+  due_handed o (s ∷ ss) i l h = due_handed_by o s ss i (to o == number s) refl l h (λ j u g. due_handed o ss j u g)
+
+  -- what is due next after one more is delivered, by what a search for its destination finds
+  module _ (os : List Transfer) (o : Transfer) (w : List Site) (due : Option Key) (is : due ≡ world_due engine (delivered engine os w))
+      (numbers : List ℕ) (x : ℕ) (r : Result ℕ ℕ) (ascends : Ascends number 0 w) (are : numbers ≡ map number w) (for : x ≡ to o) (search : IsBinarySearchResult (λ y. nat_cmp y x) numbers r) where
+    abbrev reached : List Site
+    reached = delivered engine os w
+
+    ascend : Ascends number 0 reached
+    ascend = ascends_delivered os 0 w ascends
+
+    same : numbers ≡ map number reached
+    same = are ∙ sym (numbers_delivered os w)
+
+    pub due_found : is_ok r ≡ true → lesser (Some (transfer_key o)) due ≡ world_due engine (delivered engine (os ++ o ∷ []) w)
+    due_found h =
+        let place : (i : ℕ) × (r ≡ Ok i) = ok_is r h in
+        let there = found_there engine x 0 reached ascend numbers same r search place.0 place.1 in
+        ap (lesser (Some (transfer_key o))) is ∙ sym (due_handed o reached place.0 there.0 (there.1 ∙ for)) ∙ sym (ap (world_due engine) (delivered_more os o w))
+
+    pub due_unfound : is_ok r ≡ false → due ≡ world_due engine (delivered engine (os ++ o ∷ []) w)
+    due_unfound h =
+        let place : (i : ℕ) × (r ≡ Err i) = err_is r h in
+        let nowhere = found_nowhere engine x 0 reached ascend numbers same r search place.0 place.1 in
+        is ∙ sym (ap (world_due engine) (delivered_more os o w ∙ absent engine o reached (λ k l h. nowhere k l (h ∙ sym for))))
+
   due_delivered : (P : Option Key → Type 0) (os : List Transfer) (w : List Site) → All (λ o. P (Some (transfer_key o))) os → P (world_due engine w) → P (world_due engine (delivered engine os w))
   due_delivered P [] w h p = p
   due_delivered P (o ∷ os) w h p =
@@ -104,15 +159,21 @@ module _ {Site Row Transfer : Type 0} {engine : Engine Site Row Transfer} {condi
   past_by os w v None f h = tt
   past_by os w v (Some k) f h = f k.at h
 
+  -- nothing is from after what is due next once transfers are delivered
+  pub past_due_delivered :
+      (os : List Transfer) (w : List Site) → AreOfPast conditions w (world_due engine w) → All (λ o. All (Past (arrival engine o)) w) os → All Timely os
+      → AreOfPast conditions (delivered engine os w) (world_due engine (delivered engine os w))
+  past_due_delivered os w h p t =
+      let v : List Site = delivered engine os w in
+      past_by os w v (world_due engine v) (λ now k. past_delivered now os w t k) (due_delivered (AreOfPast conditions w) os w p h)
+
   -- what is left is a partition again
   pub part_delivered :
       (os : List Transfer) (w : List Site) → IsPart engine conditions w → All (λ o. All (Past (arrival engine o)) w) os → All Timely os
       → IsPart engine conditions (delivered engine os w)
   part_delivered os w h p t =
-      let v : List Site = delivered engine os w in
-      let due : AreOfPast conditions w (world_due engine v) = due_delivered (AreOfPast conditions w) os w p h.past in
       record {
         ascends = ascends_delivered os 0 w h.ascends;
         sound = delivered_sound basics os w h.sound;
-        past = past_by os w v (world_due engine v) (λ now k. past_delivered now os w t k) due;
+        past = past_due_delivered os w h.past p t;
       }

@@ -11,7 +11,7 @@ use Rattle.sim_engine.specs.Engine.{Engine}
 use Rattle.sim_engine.specs.Members.{Ascends}
 use Rattle.sim_engine.specs.World.{delivered_one}
 
-same_number : (a b : ℕ) → a ≡ b → (a == b) ≡ true
+pub same_number : (a b : ℕ) → a ≡ b → (a == b) ≡ true
 same_number a b h = grind (arith, nat_tests, h)
 
 other_number : (a b : ℕ) → b ≢ a → (a == b) ≡ false

@@ -1,12 +1,12 @@
 -- Sites in the order of their numbers, until an error spends them.
-use Rattle.std.specs.Prelude.{All, Bool, Err, List, None, Ok, Option, Result, Some, map, ℕ, ◌<◌, ◌≡◌, ◌≤◌}
+use Rattle.std.specs.Prelude.{All, Bool, Err, IfOk, List, None, Ok, Option, Result, Some, [], map, ℕ, ◌<◌, ◌≡◌, ◌≤◌, ◌⊎◌}
 use Rattle.sim_clock.specs.declared.key.Key.{Key}
 use Rattle.sim_clock.specs.declared.refusal.Refusal.{Refusal}
 use Rattle.sim_engine.specs.Engine.{Engine}
 use Rattle.sim_engine.specs.Laws.{Conditions}
 use Rattle.sim_engine.specs.Limits.{most_count}
 use Rattle.sim_engine.specs.Members.{Ascends}
-use Rattle.sim_engine.specs.World.{is_due, least_due, world_due}
+use Rattle.sim_engine.specs.World.{arrival, delivered, is_due, least_due, world_due}
 use Rattle.sim_index.specs.declared.mark.Mark.{Mark}
 use Rattle.sim_index.specs.Marked.{AreMarked, Marked}
 
@@ -85,3 +85,17 @@ module _ {Site Row Transfer : Type 0} (engine : Engine Site Row Transfer) (condi
   abbrev pub IsKeptUnless : Option Refusal → Marked Site → Type 0
   IsKeptUnless None sites = IsKept sites
   IsKeptUnless (Some e) sites = Unit {0}
+
+module _ {Site Row Transfer : Type 0} (engine : Engine Site Row Transfer) where
+  -- sites that have accepted transfers, unless an error spent them
+  abbrev pub accepted_by : List Transfer → Result (List Site) Refusal → Result (List Site) Refusal
+  accepted_by transfers (Ok sites) = Ok (delivered engine transfers sites)
+  accepted_by transfers (Err e) = Err e
+
+  module _ (conditions : Conditions Site Transfer) where
+    -- transfers that sites may accept: nothing there is from after their arrival, and what they carry is from no later.
+    -- If there are any, this is due next once they are accepted.
+    pub record IsInbox (sites : Result (List Site) Refusal) (transfers : List Transfer) (due : Option Key) : Type 0 where
+      pub past : IfOk sites (λ w. All (λ o. All (conditions.Past (arrival engine o)) w) transfers)
+      pub timely : All conditions.Timely transfers
+      pub next : (transfers ≡ []) ⊎ (due ≡ due_in engine (accepted_by transfers sites))

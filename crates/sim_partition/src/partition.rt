@@ -1,72 +1,63 @@
 //! Partitions.
-ghost use Rattle.std.specs.Prelude.{◌≡◌, ◌+◌, ◌++◌, ◌≤◌, All, Err, List, None, Ok, Some, IfErr, IfOk, OnOk, ℕ};
-ghost use Rattle.sim_clock.specs.Order.{due_before};
+ghost use Rattle.std.specs.Prelude.{◌≡◌, ◌+◌, ◌++◌, ◌≤◌, [], All, Err, None, Ok, Some, IfErr, IfOk, OnOk, ℕ};
 ghost use Rattle.sim_clock.specs.declared.key.Key.{Key as TheKey};
 ghost use Rattle.sim_engine.specs.Limits.{most_count};
-ghost use Rattle.sim_engine.specs.Rounds.{part_begun};
 ghost use Rattle.sim_engine.specs.World.{arrival, delivered, handled_among, world_due};
-ghost use Rattle.sim_partition.specs.Sites.{AreOfPast, HasDue, IsKept, IsPart, due_in, refusal_in};
-ghost use Rattle.sim_partition.specs.Steps.{Continues, RanTo, StaysOfPast, StopsFrom, StopsRun, StopsStep, part_made};
+ghost use Rattle.sim_partition.specs.Sites.{AreOfPast, HasDue, IsInbox, IsPart, accepted_by, due_in, refusal_in};
+ghost use Rattle.sim_partition.specs.Steps.{RanTo, StopsRun, StopsStep};
 
-use crate::delivery::deliver_all;
-use crate::handling::{handle_least, run_before};
-use crate::marking::{marked, numbers_of};
+use crate::roster::Roster;
 use sim_clock::{Key, Refusal};
 use sim_engine::{Effects, Site};
-use sim_index::MarkedList;
 use std::alloc::{AllocError, Global};
 use std::marker::Model;
+use std::mem;
 
-/// Sites in the order of their numbers. An error, out of memory or a count at its limit, spends the
-/// partition. Contracts see it as the sites, and once it is spent, as the error. An entry takes
-/// time logarithmic in the number of sites.
+/// Sites in the order of their numbers, with the transfers that they accept before they handle
+/// anything more. An error, out of memory or a count at its limit, spends the partition. Contracts
+/// see it as the sites that have accepted all transfers, and once it is spent, as the error. An
+/// entry takes time logarithmic in the number of sites.
 #[derive(Drop)]
 pub struct Partition<S: Site> {
     alloc: Global,
-    sites: MarkedList<S>,
-    // The numbers of the sites, close together in memory: a site is found by them.
-    numbers: Vec<u32>,
-    spent: Option<Refusal>,
-    // The number of rows that its last run made. The next run asks for room for twice as many at
-    // once.
-    made: usize,
+    roster: Roster<S>,
+    inbox: Vec<S::Transfer>,
+    // The key of the entry that is due next with the inbox, if there is anything in it.
+    due: Option<Key>,
 }
 
-// Handles all that is due before a moment. It asks at once for room for `room` rows.
-fn made_before<S: Site>(
+// Delivers what is in an inbox to its sites, and empties it.
+#[inline(always)]
+fn empty_inbox<S: Site>(
     alloc: Global,
-    sites: &mut MarkedList<S>,
-    end: u64,
-    room: usize,
-) -> Result<Effects<S::Row, S::Transfer>, Refusal>
-    requires kept { IsKept S.engine S.conditions sites.old }
-    requires end { end ≤ most_count + 1 }
-    ensures goes_on { IfOk result (λ made.
-        Continues S.engine end (part_begun S.engine sites.old.values)
-        (part_made S.engine sites.new.values made)) }
-    ensures done { OnOk result (due_before end (world_due S.engine sites.new.values) ≡ None) }
-    ensures kept { OnOk result (IsKept S.engine S.conditions sites.new) }
-    ensures past { OnOk result (StaysOfPast S.conditions end sites.old.values sites.new.values) }
-    ensures timely { IfOk result (λ made. All S.conditions.Timely made.sent.items) }
-    ensures stops { IfErr result (StopsFrom S.engine end (part_begun S.engine sites.old.values)) }
+    roster: &mut Roster<S>,
+    inbox: &mut Vec<S::Transfer>,
+) -> Result<(), Refusal>
+    requires past { IfOk roster.old
+        (λ w. All (λ o. All (S.conditions.Past (arrival S.engine o)) w) inbox.old.items) }
+    requires timely { All S.conditions.Timely inbox.old.items }
+    ensures accepted { OnOk result (roster.new ≡ accepted_by S.engine inbox.old.items roster.old) }
+    ensures empty { inbox.new.items ≡ [] }
+    ensures spent { IfErr result (λ refusal. roster.new ≡ Err refusal) }
+    ensures memory { IfOk roster.old (λ w. IfErr result (λ refusal. refusal ≡ Refusal.Memory)) }
+    ensures stays { IfErr roster.old (λ refusal. IfErr result (λ e. e ≡ refusal)) }
 {
-    let mut effects = Effects::new(alloc);
-    effects.rows.reserve(room)?;
-    run_before(sites, end, &mut effects)?;
-    Ok(effects)
+    if inbox.is_empty() {
+        return Ok(());
+    }
+    roster.deliver(mem::replace(inbox, Vec::new(alloc)))
 }
 
 impl<S: Site> Model for Partition<S> {
     ghost use Rattle.std.specs.Prelude.{List, Result};
     ghost use Rattle.sim_clock.specs.declared.refusal.Refusal.{Refusal};
-    ghost use Rattle.sim_partition.specs.Sites.{AreNumbersUnless, IsKeptUnless, spent_or};
+    ghost use Rattle.sim_partition.specs.Sites.{IsInbox, accepted_by};
 
     ghost Value = { Result (List S) Refusal };
 
-    ghost view = { λ p. spent_or p.spent p.sites.values };
+    ghost view = { λ p. accepted_by S.engine p.inbox.items p.roster };
 
-    ghost invariant = { λ p.
-        IsKeptUnless S.engine S.conditions p.spent p.sites × AreNumbersUnless S.engine p.spent p.numbers.items p.sites };
+    ghost invariant = { λ p. IsInbox S.engine S.conditions p.roster p.inbox.items p.due };
 }
 
 impl<S: Site> Partition<S> {
@@ -79,14 +70,11 @@ impl<S: Site> Partition<S> {
         requires { IsPart S.engine S.conditions sites.items }
         ensures { IfOk result (λ p. p ≡ Ok sites.items) }
     {
-        let numbers = numbers_of(alloc, &sites)?;
-        let sites = marked(alloc, sites)?;
         Ok(Partition {
             alloc,
-            sites,
-            numbers,
-            spent: None,
-            made: 0,
+            roster: Roster::new(alloc, sites)?,
+            inbox: Vec::new(alloc),
+            due: None,
         })
     }
 
@@ -97,17 +85,15 @@ impl<S: Site> Partition<S> {
         ensures moves_on { IfOk self.now (All S.conditions.Sound) }
         ensures past { IfOk self.now (λ w. AreOfPast S.conditions w (world_due S.engine w)) }
     {
-        if self.spent.is_some() {
-            return None;
-        }
-        self.sites.least()
+        let due = self.roster.least_due();
+        if self.inbox.is_empty() { due } else { self.due }
     }
 
     /// The error that spent the partition, if one did.
     pub fn spent(&self) -> Option<Refusal>
         ensures { result ≡ refusal_in self.now }
     {
-        self.spent
+        self.roster.spent()
     }
 
     /// Handles the least entry due. Returns the rows that this makes and the transfers that it
@@ -162,14 +148,8 @@ impl<S: Site> Partition<S> {
             IfErr result (StopsStep S.engine (handled_among S.engine key w))) }
         ensures stays { IfErr self.old (λ refusal. result ≡ Err refusal) }
     {
-        if let Some(refusal) = self.spent {
-            return Err(refusal);
-        }
-        if let Err(refusal) = handle_least(&mut self.sites, effects) {
-            self.spent = Some(refusal);
-            return Err(refusal);
-        }
-        Ok(())
+        empty_inbox(self.alloc, &mut self.roster, &mut self.inbox)?;
+        self.roster.step_into(effects)
     }
 
     /// Handles all that is due before a moment in milliseconds, in the order of keys. Returns the
@@ -195,20 +175,9 @@ impl<S: Site> Partition<S> {
         ensures stops { IfOk self.old (λ w. IfErr result (StopsRun S.engine end w)) }
         ensures stays { IfErr self.old (λ refusal. result ≡ Err refusal) }
     {
-        if let Some(refusal) = self.spent {
-            return Err(refusal);
-        }
-        let room = self.made.saturating_mul(2);
-        match made_before(self.alloc, &mut self.sites, end, room) {
-            Ok(effects) => {
-                self.made = effects.rows.len();
-                Ok(effects)
-            }
-            Err(refusal) => {
-                self.spent = Some(refusal);
-                Err(refusal)
-            }
-        }
+        let _due = self.least_due();
+        empty_inbox(self.alloc, &mut self.roster, &mut self.inbox)?;
+        self.roster.run_to(end)
     }
 
     /// Puts transfers on their way to its sites. A transfer to a site that is not there changes
@@ -227,20 +196,49 @@ impl<S: Site> Partition<S> {
         ensures memory { IfOk self.old (λ w. IfErr result (λ refusal. refusal ≡ Refusal.Memory)) }
         ensures stays { IfErr self.old (λ refusal. result ≡ Err refusal) }
     {
-        if let Some(refusal) = self.spent {
+        empty_inbox(self.alloc, &mut self.roster, &mut self.inbox)?;
+        self.roster.deliver(transfers)
+    }
+
+    /// Puts transfers on their way to its sites, which accept them before they handle anything
+    /// more: the thread that runs the partition next does that work. A transfer to a site that is not there changes
+    /// nothing. No transfer may arrive before the moment of anything that these sites have made.
+    ///
+    /// # Errors
+    ///
+    /// `Memory`, which spends the partition. A spent partition returns the error that spent it.
+    pub fn deliver_later(&mut self, transfers: Vec<S::Transfer>) -> Result<(), Refusal>
+        requires past { IfOk self.old
+            (λ w. All (λ o. All (S.conditions.Past (arrival S.engine o)) w) transfers.items) }
+        requires timely { All S.conditions.Timely transfers.items }
+        ensures delivered { IfOk self.old
+            (λ w. OnOk result (self.new ≡ Ok (delivered S.engine transfers.items w))) }
+        ensures spent { IfErr result (λ refusal. self.new ≡ Err refusal) }
+        ensures memory { IfOk self.old (λ w. IfErr result (λ refusal. refusal ≡ Refusal.Memory)) }
+        ensures stays { IfErr self.old (λ refusal. result ≡ Err refusal) }
+    {
+        empty_inbox(self.alloc, &mut self.roster, &mut self.inbox)?;
+        if let Some(refusal) = self.roster.spent() {
             return Err(refusal);
         }
-        if let Err(refusal) = deliver_all(&mut self.sites, &self.numbers, transfers) {
-            self.spent = Some(refusal);
-            return Err(refusal);
-        }
+        self.due = self.roster.least_due_after(&transfers);
+        self.inbox = transfers;
         Ok(())
     }
 
     /// The sites of the partition, by number.
-    pub fn into_sites(self) -> Vec<S>
-        ensures { IfOk self (λ w. result.items ≡ w) }
+    ///
+    /// # Errors
+    ///
+    /// `AllocError` if memory runs out while the sites accept transfers that were kept for later.
+    pub fn into_sites(self) -> Result<Vec<S>, AllocError>
+        ensures { IfOk self (λ w. IfOk result (λ sites. sites.items ≡ w)) }
     {
-        self.sites.into_values()
+        let mut roster = self.roster;
+        let mut inbox = self.inbox;
+        if empty_inbox(self.alloc, &mut roster, &mut inbox).is_err() {
+            return Err(AllocError);
+        }
+        Ok(roster.into_sites())
     }
 }

@@ -203,7 +203,7 @@ pub fn run_gathered<S: Site, K: RowSink<S::Row>>(
     let mut effects = Effects::new(alloc);
     run_by(alloc, &mut partition, horizon, enough, &mut effects, sink)?;
     hand_rest(&effects.rows, sink)?;
-    Ok(partition.into_sites())
+    Ok(partition.into_sites()?)
 }
 
 /// Runs a world to its horizon on this thread. Each step handles the least entry of the whole world

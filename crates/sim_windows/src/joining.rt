@@ -17,7 +17,7 @@ fn turned_sites<S: Site>(alloc: Global, parts: Vec<Partition<S>>) -> Result<Vec<
 {
     let mut lists = Vec::with_capacity(alloc, parts.len())?;
     for part in parts {
-        let mut sites = part.into_sites();
+        let mut sites = part.into_sites()?;
         sites.reverse();
         lists.push(sites)?;
     }
@@ -30,7 +30,7 @@ fn sites_alone<S: Site>(alloc: Global, parts: Vec<Partition<S>>) -> Result<Vec<S
 {
     let mut parts = parts;
     match parts.pop() {
-        Some(part) => Ok(part.into_sites()),
+        Some(part) => part.into_sites(),
         None => Ok(Vec::new(alloc)),
     }
 }

@@ -60,7 +60,8 @@ pub fn bounds_of(
     Ok(bounds)
 }
 
-/// Delivers to each partition what was sent to it.
+/// Delivers to each partition what was sent to it. Its sites accept that when it runs next, on the
+/// thread that runs it.
 pub fn deliver_each<S: Site>(
     parts: &mut Vec<Partition<S>>,
     lists: Vec<Vec<S::Transfer>>,
@@ -75,7 +76,7 @@ pub fn deliver_each<S: Site>(
 {
     let mut place = 0;
     for transfers in lists {
-        parts[place].deliver(transfers)?;
+        parts[place].deliver_later(transfers)?;
         place += 1;
     }
     Ok(())

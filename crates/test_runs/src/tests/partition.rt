@@ -4,7 +4,7 @@ ghost use Rattle.sim_engine.specs.Limits.{most_count};
 
 use crate::tests::same::same;
 use sim_clock::{Agenda, Class, Key, Refusal};
-use sim_engine::Effects;
+use sim_engine::{Effects, Site};
 use sim_partition::Partition;
 use sim_ring::{Counter, Token, Told};
 use std::alloc::{AllocError, Global};
@@ -44,9 +44,17 @@ fn token(to: u32, at: u64, sender: u32, number: u64) -> Token {
     Token { key, to }
 }
 
-// Puts tokens on their way to a partition.
-fn deliver(partition: &mut Partition<Counter>, tokens: Vec<Token>) -> Result<(), Refusal> {
-    partition.deliver(tokens)
+// Puts tokens on their way to a partition, whose counters accept them at once or later.
+fn deliver(
+    partition: &mut Partition<Counter>,
+    tokens: Vec<Token>,
+    later: bool,
+) -> Result<(), Refusal> {
+    if later {
+        partition.deliver_later(tokens)
+    } else {
+        partition.deliver(tokens)
+    }
 }
 
 // Handles the least entry due, at a moment.
@@ -116,6 +124,7 @@ fn try_tokens(
     rt: &impl Abort,
     alloc: Global,
     tokens: [Token; 4],
+    later: bool,
     first: (u64, u32),
     moment: u64,
     wanted: &[u32],
@@ -125,7 +134,7 @@ fn try_tokens(
     let mut partition = open_three(rt, alloc);
     try_due(rt, &partition, None);
     let tokens = Vec::from_array(alloc, tokens).expect(rt, "memory");
-    deliver(&mut partition, tokens).expect(rt, "a delivery");
+    deliver(&mut partition, tokens, later).expect(rt, "a delivery");
     try_due(rt, &partition, Some(first));
     try_step(rt, &mut partition);
     try_run(rt, &mut partition, moment, &[]);
@@ -136,15 +145,26 @@ fn try_tokens(
 
 #[test]
 fn entries_of_one_moment_go_by_key(rt: HostRuntime) {
-    let partition = try_tokens(&rt, rt.alloc(), at_once(), (10, 2), 10, &[3, 2]);
+    let partition = try_tokens(&rt, rt.alloc(), at_once(), false, (10, 2), 10, &[3, 2]);
     same(&rt, partition.spent(), None);
 }
 
 #[test]
 fn tokens_arrive_where_they_go(rt: HostRuntime) {
     // Of two with one moment and one sender the lesser number comes first.
-    let partition = try_tokens(&rt, rt.alloc(), of_one_sender(), (10, 1), 20, &[9, 3]);
-    same(&rt, partition.into_sites().len(), 3);
+    let partition = try_tokens(&rt, rt.alloc(), of_one_sender(), true, (10, 1), 20, &[9, 3]);
+    same(&rt, partition.into_sites().expect(&rt, "memory").len(), 3);
+}
+
+#[test]
+fn tokens_for_later_are_on_their_way(rt: HostRuntime) {
+    let mut partition = open_three(&rt, rt.alloc());
+    let tokens = Vec::from_array(rt.alloc(), at_once()).expect(&rt, "memory");
+    deliver(&mut partition, tokens, true).expect(&rt, "a delivery");
+    let sites = partition.into_sites().expect(&rt, "memory");
+    for counter in &sites {
+        same(&rt, counter.least_due().map(|key| key.at), Some(10));
+    }
 }
 
 // The most that a counter counts.
@@ -157,7 +177,7 @@ fn open_full(rt: &impl Abort, alloc: Global) -> Partition<Counter> {
     let sites = vec![in alloc; full].expect(rt, "memory");
     let mut partition = Partition::new(alloc, sites).expect(rt, "memory");
     let tokens = Vec::from_array(alloc, [token(2, 10, 1, 0)]).expect(rt, "memory");
-    deliver(&mut partition, tokens).expect(rt, "a delivery");
+    deliver(&mut partition, tokens, false).expect(rt, "a delivery");
     partition
 }
 

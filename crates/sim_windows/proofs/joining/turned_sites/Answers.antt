@@ -20,5 +20,5 @@ loop-part-preserved given c =
     let more = c.next.new.self.rest.items in
     record {
       rest = append_assoc l.yielded (part ∷ []) more ∙ ap (λ r. l.yielded ++ r) (sym c.in-Some.ensures.steps.0) ∙ l.invariant.rest;
-      turned = turned_one engine (λ x. x.items) l.lists.items c.push.new.self.items c.reverse.new.self l.yielded part c.into_sites-sites.result.items c.in_ok-push.ensures.items c.reverse.ensures.items c.into_sites-sites.ensures l.invariant.turned;
+      turned = turned_one engine (λ x. x.items) l.lists.items c.push.new.self.items c.reverse.new.self l.yielded part c.in_ok-sites.sites.items c.in_ok-push.ensures.items c.reverse.ensures.items c.in_ok-sites.ensures l.invariant.turned;
     }

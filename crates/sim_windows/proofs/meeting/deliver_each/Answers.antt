@@ -34,15 +34,15 @@ module _ {Site Row Transfer : Type 0} {engine : Engine Site Row Transfer} {condi
   is_reached : (part now : Result (List Site) Refusal) (os : List Transfer) → now ≡ part → IsReached engine conditions part os → IsReached engine conditions now os
   is_reached part now os e h = subst (λ p. IsReached engine conditions p os) (sym e) h
 
-pub deliver-requires-clause-past : goal.deliver-requires-clause-past
-deliver-requires-clause-past given c =
+pub deliver_later-requires-clause-past : goal.deliver_later-requires-clause-past
+deliver_later-requires-clause-past given c =
     let laws = given.met.S.Site.laws in
     let d : Result (List _) Refusal = c.index_mut.result.now in
     (is_reached laws (get_or c.loop-transfers.parts.items c.loop-transfers.place d) d c.in-Some.transfers.items c.index_mut.ensures.value
     ((next_there laws c.loop-transfers.parts.items c.loop-transfers.place c.loop-transfers.transfers-iterator.rest.items c.in-Some.transfers c.next.new.self.rest.items c.in-Some.ensures.steps.0 c.loop-transfers.invariant.reached).reached d)).past
 
-pub deliver-requires-clause-timely : goal.deliver-requires-clause-timely
-deliver-requires-clause-timely given c =
+pub deliver_later-requires-clause-timely : goal.deliver_later-requires-clause-timely
+deliver_later-requires-clause-timely given c =
     let laws = given.met.S.Site.laws in
     let d : Result (List _) Refusal = c.index_mut.result.now in
     ((next_there laws c.loop-transfers.parts.items c.loop-transfers.place c.loop-transfers.transfers-iterator.rest.items c.in-Some.transfers c.next.new.self.rest.items c.in-Some.ensures.steps.0 c.loop-transfers.invariant.reached).reached d).timely
@@ -59,15 +59,15 @@ module _ {Site Row Transfer : Type 0} {engine : Engine Site Row Transfer} {condi
       let lives : (w : List Site) × (get_or (map (λ w. let x : Result (List Site) Refusal = Ok w in x) (delivered_each engine (map items yielded) ws)) (length (map items yielded)) d ≡ Ok w) = lives_at basics (map items yielded) ws d within in
       (lives.0, is ∙ ap (λ xs. get_or xs place d) e ∙ ap (λ i. get_or (map (λ w. let x : Result (List Site) Refusal = Ok w in x) (delivered_each engine (map items yielded) ws)) i d) at ∙ lives.1)
 
-pub returns-in_err-deliver-clause-memory : goal.returns-in_err-deliver-clause-memory
-returns-in_err-deliver-clause-memory given c ws e =
+pub returns-in_err-deliver_later-clause-memory : goal.returns-in_err-deliver_later-clause-memory
+returns-in_err-deliver_later-clause-memory given c ws e =
     let laws = given.met.S.Site.laws in
     let d : Result (List _) Refusal = c.index_mut.result.now in
     let parts = c.loop-transfers.parts.items in
     let within : c.loop-transfers.place < length parts =
     (next_there laws parts c.loop-transfers.place c.loop-transfers.transfers-iterator.rest.items c.in-Some.transfers c.next.new.self.rest.items c.in-Some.ensures.steps.0 c.loop-transfers.invariant.reached).within in
     let lives : (w : List _) × (d ≡ Ok w) = lives_now laws parts c.loop-transfers.place c.loop-transfers.yielded ws d (c.loop-transfers.invariant.delivered ws e) c.loop-transfers.invariant.place within c.index_mut.ensures.value in
-    let memory : c.in_err-deliver.field-0.0 ≡ Memory = subst (λ (x : Result (List _) Refusal). IfOk x (λ _. c.in_err-deliver.field-0.0 ≡ Memory)) lives.1 c.in_err-deliver.ensures.memory in
+    let memory : c.in_err-deliver_later.field-0.0 ≡ Memory = subst (λ (x : Result (List _) Refusal). IfOk x (λ _. c.in_err-deliver_later.field-0.0 ≡ Memory)) lives.1 c.in_err-deliver_later.ensures.memory in
     let told = err_from_is_err_and c.from_residual.result c.from_residual.ensures.1 in
     rw (told.1, told.2, memory) refl
 
@@ -84,7 +84,7 @@ loop-transfers-preserved given c =
     let place = c.loop-transfers.place in
     let yielded = c.loop-transfers.yielded in
     let now = c.in-Some.transfers in
-    let made : Result (List _) Refusal = c.deliver.new.self in
+    let made : Result (List _) Refusal = c.deliver_later.new.self in
     let next : Next laws parts place now.items (map items c.next.new.self.rest.items) =
     next_there laws parts place c.loop-transfers.transfers-iterator.rest.items now c.next.new.self.rest.items c.in-Some.ensures.steps.0 c.loop-transfers.invariant.reached in
     record {
@@ -99,6 +99,6 @@ loop-transfers-preserved given c =
           ∙ set_next laws (map items yielded) now.items ws made d within
           (λ w h.
           let lives : d ≡ Ok w = c.index_mut.ensures.value ∙ ap (λ xs. get_or xs place d) is ∙ ap (λ i. get_or (map (λ v. let x : Result (List _) Refusal = Ok v in x) (delivered_each engine (map items yielded) ws)) i d) at ∙ h in
-          subst (λ (x : Result (List _) Refusal). IfOk x (λ v. made ≡ Ok (delivered engine now.items v))) lives c.in_ok-deliver.ensures.delivered)
+          subst (λ (x : Result (List _) Refusal). IfOk x (λ v. made ≡ Ok (delivered engine now.items v))) lives c.in_ok-deliver_later.ensures.delivered)
           ∙ ap (λ os. map (λ w. let x : Result (List _) Refusal = Ok w in x) (delivered_each engine os ws)) (sym (map_push items yielded now));
     }

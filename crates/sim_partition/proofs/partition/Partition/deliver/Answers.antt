@@ -1,11 +1,11 @@
-use Rattle.std.proofs.Common.{ap, map, ◌∙◌}
-use Rattle.sim_partition.proofs.Delivered.{numbers_delivered}
-use Rattle.sim_partition.proofs.Spent.{goes_on_with}
+use Rattle.std.proofs.Common.{subst, sym}
+use Rattle.sim_partition.specs.Sites.{IsInbox}
+use Rattle.sim_partition.proofs.Inbox.{none_in_inbox}
 use Rattle.sim_partition.proofs.partition.Partition.deliver.Goals as goal
 
-pub invariant_of-self-in_default-deliver_all : goal.invariant_of-self-in_default-deliver_all
-invariant_of-self-in_default-deliver_all g c =
+pub invariant_of-self : goal.invariant_of-self
+invariant_of-self g c =
     let e = g.S.Site.engine in
-    let i = c.self.inside in
-    goes_on_with e g.S.Site.conditions i.spent i.numbers.items i.sites c.deliver_all.new.sites c.self.invariant.1 c.in_default-deliver_all.ensures.kept
-    (ap (map e.number) c.in_default-deliver_all.ensures.delivered ∙ numbers_delivered g.met.S.Site.laws c.args.transfers.items i.sites.values)
+    let conditions = g.S.Site.conditions in
+    let v = c.empty_inbox.new.roster in
+    subst (λ os. IsInbox e conditions v os c.self.inside.due) (sym c.empty_inbox.ensures.empty) (none_in_inbox e conditions v c.self.inside.due)

@@ -1,7 +1,17 @@
-use Rattle.std.proofs.Common.{sym, ◌∙◌}
-use Rattle.sim_partition.proofs.Spent.{due_now}
+use Rattle.std.specs.Prelude.{All, IfOk}
+use Rattle.std.proofs.Common.{subst}
+use Rattle.sim_engine.specs.World.{world_due}
+use Rattle.sim_partition.specs.Sites.{AreOfPast}
+use Rattle.sim_partition.proofs.Inbox.{past_accepted, sound_accepted}
 use Rattle.sim_partition.proofs.partition.Partition.least_due.Goals as goal
 
-pub returns-clause-due : goal.returns-clause-due
-returns-clause-due g c =
-    c.least.ensures ∙ due_now g.S.Site.engine g.S.Site.conditions c.self.inside.spent c.self.inside.sites c.args.self.now (sym c.is_some.ensures ∙ c.if-is_some.false) c.self.invariant.0 c.self.view_is
+pub returns-else-is_empty-clause-moves_on : goal.returns-else-is_empty-clause-moves_on
+returns-else-is_empty-clause-moves_on g c =
+    let i = c.self.inside in
+    subst (λ v. IfOk v (All g.S.Site.conditions.Sound)) c.self.view_is (sound_accepted g.met.S.Site.laws i.inbox.items i.roster c.least_due-due.ensures.moves_on)
+
+pub returns-else-is_empty-clause-past : goal.returns-else-is_empty-clause-past
+returns-else-is_empty-clause-past g c =
+    let i = c.self.inside in
+    subst (λ v. IfOk v (λ w. AreOfPast g.S.Site.conditions w (world_due g.S.Site.engine w))) c.self.view_is
+    (past_accepted g.met.S.Site.laws i.inbox.items i.roster c.least_due-due.ensures.past c.self.invariant.past c.self.invariant.timely)
