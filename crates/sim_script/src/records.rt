@@ -353,7 +353,6 @@ fn call(alloc: Global, home: &Home, row: &Record<'_>) -> Result<Option<Call>, Al
 }
 
 /// The call that a row states, with its time.
-#[tactic(auto, using(crate::proofs::RecordFields::eleven, crate::proofs::RecordFields::not_eleven), unfolding(sqs_formats::specs::Script::call_of))]
 pub(crate) fn script_call(
     alloc: Global,
     home: &Home,
