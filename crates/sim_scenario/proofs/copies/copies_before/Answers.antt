@@ -18,3 +18,8 @@ pub returns : goal.returns
 returns c =
     let all : c.loop-count.count-index ≡ length c.args.copies.now = omega arith in
     c.loop-count.invariant.before ∙ ap (λ i. map (λ n. sum (take n c.args.copies.now)) (range_with_len 0 i)) all
+
+pub overflow_add-total : goal.overflow_add-total
+overflow_add-total c =
+    let copies : List ℕ = c.args.copies.now in
+    omega (arith, c.requires, c.loop-count.invariant.total, sum_by-drop_more (λ n. n) copies c.loop-count.count-index 0 c.loop-count-test.true)

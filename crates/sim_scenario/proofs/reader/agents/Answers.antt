@@ -1,3 +1,5 @@
+use Rattle.std.proofs.Common.{Ok, ap, sym}
+use Rattle.sqs_formats.specs.Reading.{and_then}
 use Rattle.sqs_formats.specs.Scenario.{agents}
 use Rattle.sim_scenario.specs.Tops.{top_view}
 use Rattle.sim_scenario.proofs.InRange.{whole_in_range}
@@ -26,3 +28,8 @@ returns-in_err-actors-clause-value c = way_out _ _ _ _ c.from_residual-in_err-ac
 pub returns-in_err-tasks-clause-value : goal.returns-in_err-tasks-clause-value
 unfolding agents
 returns-in_err-tasks-clause-value c = way_out _ _ _ _ c.from_residual-in_err-tasks.ensures.1 (past _ _ c.in_ok-queues.ensures (past _ _ c.in_ok-each.ensures (past _ _ c.in_ok-actors.ensures (fails_first _ _ _ c.in_err-tasks.ensures))))
+
+pub returns-clause-value : goal.returns-clause-value
+unfolding agents and_then
+returns-clause-value c =
+    rw (c.in_ok-queues.ensures, c.in_ok-each.ensures, c.in_ok-actors.ensures, c.in_ok-tasks.ensures) (ap Ok (sym (rw c.in_ok-actors-2.ensures at c.in_ok-scenario.ensures.value)))
