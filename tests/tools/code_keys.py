@@ -21,8 +21,8 @@ READ = re.compile(
 TIME = re.compile(r'section\.bounds\(low, high, ([\d_]+)\)')
 PAIRS = re.compile(r'list_of\(section, value, key, ([\d_]+), ([\d_]+), &Pair\)')
 LIST = re.compile(r'(?:_KEYS: &\[&str\] = &\[|&\[)((?:\s*"\w+",?)+)\s*\]')
-WORDS = {"ScopeName": ("queue", "group"), "KindName": ("script", "producer", "consumer"),
-         "FailureName": ("each", "whole")}
+# The words of each list that a key's value may be one of.
+WORDS = {"SCOPES": ("queue", "group"), "KINDS": ("script", "producer", "consumer"), "FAILURES": ("each", "whole")}
 # The keys whose values are the least values of others, by their names in the code; each may be 0.
 LEAST = {"start": "start_ms", "from": "fails_from_ms"}
 # The functions that several files use, with their files.
@@ -72,7 +72,7 @@ def key_of(how: str, name: str, type_: str, bounds: str | None, text: str | None
     if type_ == "SizedText":
         return Key(name, TEXT, numbers[0], numbers[1], default)
     if type_ not in ("Integer", "Seconds"):
-        return Key(name, TEXT, default=default, words=WORDS.get(type_))
+        return Key(name, TEXT, default=default, words=WORDS.get(words[0]))
     least = LEAST.get(words[0])
     return Key(name, NUMBER, 0 if least else numbers[0], numbers[1], default, least=least)
 

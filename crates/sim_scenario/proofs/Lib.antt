@@ -6,6 +6,7 @@ pub mod HomeTasks
 pub mod ProducerBody
 pub mod Admits
 pub mod ListItems
+pub mod Exits
 pub mod ListsRead
 pub mod QuantilesRead
 pub mod GroupsRead

@@ -1,5 +1,5 @@
 -- Items of a list, one by one.
-use Rattle.std.proofs.Common.{◌≡◌, ℕ, ◌+◌, ◌<◌, ◌≤◌, List, [], ◌∷◌, ◌++◌, Ok, length, get_or, drop, map, refl, ap, append-nil}
+use Rattle.std.proofs.Common.{◌≡◌, ℕ, ◌+◌, ◌<◌, ◌≤◌, List, [], ◌∷◌, ◌++◌, Ok, length, get_or, drop, map, refl, ap, append-nil, append_assoc, sym}
 use Rattle.std.proofs.lemmas.List.{drop_more}
 use Rattle.std.proofs.Math.ListN.{drop_of_length-le}
 use Rattle.toml.specs.Data.{as_table}
@@ -7,7 +7,7 @@ use Rattle.toml.specs.View.{view, items_view}
 use Rattle.toml.specs.declared.value.Value.{Value}
 use Rattle.sqs_formats.specs.Reading.{and_then}
 use Rattle.sqs_formats.proofs.Readings.{behind, behind_more}
-use Rattle.sqs_formats.specs.Keys.{Says, Table, each, in_order, item_place, item_table}
+use Rattle.sqs_formats.specs.Keys.{Says, Table, each, in_order, item_place, item_table, text_in}
 use Rattle.sim_scenario.specs.Gives.{Fails}
 use Rattle.sim_scenario.specs.declared.fault.ReadError.{ReadError}
 use Rattle.sim_scenario.specs.declared.fault.ReadError.TheVariants as errors
@@ -44,3 +44,8 @@ item_fails key read vs i v xs t e within here table h = rw (drop_more vs i v wit
 pub items_end : {X : Type 0} (key : List ℕ) (read : ℕ → Table → Says X) (vs : List Value) (i : ℕ) (xs : List X) → length vs ≤ i → behind xs (each key read i (map view (drop i vs))) ≡ Ok xs
 unfolding and_then
 items_end key read vs i xs h = rw (drop_of_length-le vs h) (ap Ok (append-nil xs))
+
+-- an item whose text stands behind others
+pub text_read : (key : List ℕ) (vs : List Value) (i : ℕ) (v : Value) (texts : List (List ℕ)) (s : List ℕ) → i < length vs → get_or vs i v ≡ v → s ≡ text_in key (view v)
+    → texts ++ map (text_in key) (map view (drop i vs)) ≡ (texts ++ s ∷ []) ++ map (text_in key) (map view (drop (i + 1) vs))
+text_read key vs i v texts s within here e = rw (drop_more vs i v within, here, e) (sym (append_assoc texts (text_in key (view v) ∷ []) _))

@@ -11,7 +11,7 @@ use crate::consumers::consumer;
 use crate::copies::copy_names;
 use crate::fault::ReadError;
 use crate::items::ItemType;
-use crate::key_type::{Integer, KeyType};
+use crate::key_type::{Integer, OneOf};
 use crate::named::{AgentName, NamedQueue};
 use crate::names::is_agent_name;
 use crate::outline::Outline;
@@ -22,39 +22,13 @@ use sim_clock::Refusal;
 use sqs_formats::ActorKind;
 use sqs_message::{Listed, Text};
 use sqs_model::{ActorSettings, Role};
-use toml::Value;
 
-/// The name of a kind of actor.
-#[derive(Drop)]
-struct KindName;
-
-impl KeyType for KindName {
-    type Value = ActorKind;
-
-    ghost use Rattle.sqs_formats.specs.Actors.{kinds_named};
-    ghost use Rattle.sqs_formats.specs.Keys.{one_of};
-
-    ghost says = { λ k. one_of kinds_named };
-
-    #[tactic(auto, unfolding(sqs_formats::specs::Keys::one_of, sqs_formats::specs::Reading::and_then))]
-    fn read(
-        &self,
-        section: &Section<'_>,
-        value: &Value,
-        key: &str,
-    ) -> Result<ActorKind, ReadError> {
-        let name = section.text(value, key)?;
-        if name == "script" {
-            Ok(ActorKind::Script)
-        } else if name == "producer" {
-            Ok(ActorKind::Producer)
-        } else if name == "consumer" {
-            Ok(ActorKind::Consumer)
-        } else {
-            Err(section.blame(Refusal::OutOfRange, key))
-        }
-    }
-}
+/// The kinds of actors, by their names.
+const KINDS: &[(&str, ActorKind)] = &[
+    ("script", ActorKind::Script),
+    ("producer", ActorKind::Producer),
+    ("consumer", ActorKind::Consumer),
+];
 
 /// What an actor of a kind does.
 fn role(
@@ -169,14 +143,15 @@ impl ItemType for Actors<'_> {
                 is_queue: false,
             },
         )?;
-        let kind = section.required("kind", &KindName)?;
+        let kind = section.required("kind", &OneOf(KINDS))?;
         let home = section.required("queue", &NamedQueue { outline })?;
         let role = role(kind, self.scripts, outline, home, section)?;
-        let copies = copies(outline, number, name.as_bytes(), section)?;
-        if !copies.is_empty() {
-            return self.copied(kind, home, copies, section);
-        }
         let actor = (name, ActorSettings { home, role });
-        Ok(Listed::new(vec![in section.alloc; actor]?))
+        let agents = vec![in section.alloc; actor]?;
+        let copies = copies(outline, number, agents[0].0.as_bytes(), section)?;
+        if copies.is_empty() {
+            return Ok(Listed::new(agents));
+        }
+        self.copied(kind, home, copies, section)
     }
 }

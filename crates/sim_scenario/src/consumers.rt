@@ -7,17 +7,15 @@ ghost use Rattle.sim_scenario.specs.Sections.{table_of};
 
 use crate::distributions::time;
 use crate::fault::ReadError;
-use crate::key_type::{Integer, KeyType, Seconds, SizedText};
+use crate::key_type::{Integer, OneOf, Seconds, SizedText};
 use crate::lists::{Integers, no_integers};
 use crate::named::KinQueue;
 use crate::outline::Outline;
 use crate::producers::stopping;
 use crate::queues::{latency, latency_keys};
 use crate::section::{ACTOR_KEYS, Section};
-use sim_clock::Refusal;
 use sqs_message::{Listed, Text};
 use sqs_model::{ConsumerSettings, Forwarding, Role, Stretch};
-use toml::Value;
 
 /// The keys of every consumer.
 const CONSUMER_KEYS: &[&str] = &[
@@ -124,30 +122,8 @@ const EACH: bool = false;
 /// A failed service fails its batch as a whole.
 const WHOLE: bool = true;
 
-/// What a failed service fails.
-#[derive(Drop)]
-struct FailureName;
-
-impl KeyType for FailureName {
-    type Value = bool;
-
-    ghost use Rattle.sqs_formats.specs.Actors.{failures_named};
-    ghost use Rattle.sqs_formats.specs.Keys.{one_of};
-
-    ghost says = { λ k. one_of failures_named };
-
-    #[tactic(auto, unfolding(sqs_formats::specs::Keys::one_of, sqs_formats::specs::Reading::and_then))]
-    fn read(&self, section: &Section<'_>, value: &Value, key: &str) -> Result<bool, ReadError> {
-        let name = section.text(value, key)?;
-        if name == "each" {
-            Ok(EACH)
-        } else if name == "whole" {
-            Ok(WHOLE)
-        } else {
-            Err(section.blame(Refusal::OutOfRange, key))
-        }
-    }
-}
+/// What a failed service fails, by its name.
+const FAILURES: &[(&str, bool)] = &[("each", EACH), ("whole", WHOLE)];
 
 /// What version 3 says of services that fail and of changes of visibility.
 type Failing = (
@@ -166,7 +142,7 @@ fn failing(section: &Section<'_>) -> Result<Failing, ReadError>
 {
     let fails_on = section.maybe("fails_on", &SizedText(1, 128))?;
     let outage = outage(section.has("fails_from_ms"), section)?;
-    let whole = section.optional("batch_fails", &FailureName, EACH)?;
+    let whole = section.optional("batch_fails", &OneOf(FAILURES), EACH)?;
     let none = no_integers(section.alloc);
     let backoff = section.optional("backoff_s", &Integers(1, 12, 0, 43_200), none)?;
     let heartbeat = section.maybe("heartbeat_s", &Seconds(1, 43_200))?;

@@ -26,7 +26,7 @@ impl KeyType for Group {
         if !is_token(128, text.as_bytes()) {
             return Err(section.blame(Refusal::OutOfRange, key));
         }
-        Ok(Text::new(text.as_bytes().to_vec(section.alloc)?))
+        section.owned(text)
     }
 }
 

@@ -109,11 +109,35 @@ impl KeyType for SizedText {
 
     #[tactic(auto, unfolding(sqs_formats::specs::Keys::sized_text, sqs_formats::specs::Reading::and_then))]
     fn read(&self, section: &Section<'_>, value: &Value, key: &str) -> Result<Text, ReadError> {
-        let text = section.text(value, key)?.as_bytes();
+        let text = section.text(value, key)?;
         if text.len() < self.0 || self.1 < text.len() {
             return Err(section.blame(Refusal::OutOfRange, key));
         }
-        Ok(Text::new(text.to_vec(section.alloc)?))
+        section.owned(text)
+    }
+}
+
+/// One of some texts, each of which means something.
+#[derive(Drop)]
+pub(crate) struct OneOf<T: 'static>(pub(crate) &'static [(&'static str, T)]);
+
+impl<T: Copy> KeyType for OneOf<T> {
+    type Value = T;
+
+    ghost use Rattle.std.specs.Prelude.{map};
+    ghost use Rattle.sqs_formats.specs.Keys.{one_of};
+
+    ghost says = { λ k. one_of (map (λ m. (m.0.now, m.1)) k.0.now) };
+
+    #[tactic(auto, unfolding(sqs_formats::specs::Keys::one_of, sqs_formats::specs::Reading::and_then))]
+    fn read(&self, section: &Section<'_>, value: &Value, key: &str) -> Result<T, ReadError> {
+        let name = section.text(value, key)?;
+        for (text, meaning) in self.0 {
+            if *text == name {
+                return Ok(*meaning);
+            }
+        }
+        Err(section.blame(Refusal::OutOfRange, key))
     }
 }
 

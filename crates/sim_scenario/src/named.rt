@@ -33,7 +33,7 @@ fn fresh_name(
     if !outline.is_fresh(place, name.as_bytes()) {
         return Err(section.blame(Refusal::NameTwice, key));
     }
-    Ok(Text::new(name.as_bytes().to_vec(section.alloc)?))
+    section.owned(name)
 }
 
 /// The name of an agent, by its place among all names: of a queue, or else of an actor or a move

@@ -1,9 +1,10 @@
 //! What every part of a scenario's text may refer to: all names, and who has them.
-ghost use Rattle.std.specs.Prelude.{◌≡◌, ◌+◌, ◌≤◌, ◌++◌, IfOk, OnOk, map, length};
-ghost use Rattle.std.specs.List.{enumerate_from, zip};
+ghost use Rattle.std.specs.Prelude.{◌≡◌, ◌+◌, ◌≤◌, ◌++◌, IfOk, OnOk, codes, map, length};
+ghost use Rattle.std.specs.List.{enumerate_from, sum, zip};
 ghost use Rattle.toml.specs.View.{view};
 ghost use Rattle.sqs_formats.specs.Keys.{text_in};
 ghost use Rattle.sqs_formats.specs.Actors.{tasks_at};
+ghost use Rattle.sqs_formats.specs.Copies.{names_taken};
 
 use crate::copies::{copies_before, copies_within, push_names_taken, total_beside};
 use crate::names::is_fifo;
@@ -81,6 +82,40 @@ fn push_texts(
     Ok(())
 }
 
+/// The texts at a key of some items.
+fn texts(alloc: Global, items: &[Value], key: &str) -> Result<Vec<Text>, AllocError>
+    ensures { IfOk result (λ v. v.items ≡ map (text_in key.now) (map view items.now)) }
+{
+    let mut texts = Vec::with_capacity(alloc, items.len())?;
+    push_texts(alloc, &mut texts, items, key)?;
+    Ok(texts)
+}
+
+/// All names, in the order of the text, and the place of the first task's among them.
+fn all_names(
+    alloc: Global,
+    queues: &[Value],
+    actors: &[Value],
+    copies: &[u64],
+    tasks: &[Value],
+) -> Result<(Vec<Text>, usize), AllocError>
+    requires same { length copies.now ≡ length actors.now }
+    requires few { sum copies.now ≤ 32000 }
+    ensures names { IfOk result (λ n. n.0.items
+        ≡ (map (text_in (codes "name")) (map view queues.now)
+        ++ names_taken (map (text_in (codes "name")) (map view actors.now)) copies.now)
+        ++ map (text_in (codes "name")) (map view tasks.now)) }
+    ensures place { IfOk result (λ n. n.1
+        ≡ length (map (text_in (codes "name")) (map view queues.now)
+        ++ names_taken (map (text_in (codes "name")) (map view actors.now)) copies.now)) }
+{
+    let mut names = texts(alloc, queues, "name")?;
+    push_names_taken(alloc, &mut names, actors, copies)?;
+    let first_task_place = names.len();
+    push_texts(alloc, &mut names, tasks, "name")?;
+    Ok((names, first_task_place))
+}
+
 /// The move tasks that name a queue as theirs, with their agent numbers, which begin at that of the
 /// first task.
 fn tasks_at(
@@ -130,18 +165,12 @@ impl Outline {
     {
         let room = MOST_AGENTS.saturating_sub(actors.len() + tasks.len());
         let copies = copies_within(alloc, version, room as u64, actors)?;
-        let mut names = Vec::new(alloc);
-        push_texts(alloc, &mut names, queues, "name")?;
-        push_names_taken(alloc, &mut names, actors, copies.as_slice())?;
-        let first_task_place = names.len();
-        push_texts(alloc, &mut names, tasks, "name")?;
-        let names = Roster::new(alloc, names)?;
-        let mut task_homes = Vec::new(alloc);
-        push_texts(alloc, &mut task_homes, tasks, "queue")?;
-        let mut dead_letters = Vec::new(alloc);
-        push_texts(alloc, &mut dead_letters, queues, "dead_letter")?;
-        let dead_letters = Roster::new(alloc, dead_letters)?;
         let earlier_copies = copies_before(alloc, copies.as_slice())?;
+        let (names, first_task_place) = all_names(alloc, queues, actors, copies.as_slice(), tasks)?;
+        let task_homes = texts(alloc, tasks, "queue")?;
+        let dead_letters = texts(alloc, queues, "dead_letter")?;
+        let names = Roster::new(alloc, names)?;
+        let dead_letters = Roster::new(alloc, dead_letters)?;
         Ok(Outline {
             version,
             names,

@@ -2,12 +2,8 @@
 ghost use Rattle.std.specs.Prelude.{◌≡◌, ◌++◌, [], IfOk, codes, string_bytes};
 ghost use Rattle.sqs_formats.specs.Keys.{item_place};
 
-use itoa::Buffer;
 use std::alloc::{AllocError, Global};
 use std::marker::Model;
-
-/// Room for most places.
-const ROOM: usize = 40;
 
 /// The table of a key. Contracts see the text that comes before the key in its place: nothing at
 /// the top table, and for example `queue[12].` at the table of an item. This text is made only if
@@ -31,12 +27,7 @@ impl Model for Place {
 pub(crate) fn item_place(alloc: Global, list: &str, number: usize) -> Result<String, AllocError>
     ensures { IfOk result (λ s. string_bytes s ≡ item_place list.now number) }
 {
-    let mut place = String::with_capacity(alloc, ROOM)?;
-    place.push_str(list)?;
-    place.push_str("[")?;
-    place.push_str(Buffer::new().format(number))?;
-    place.push_str("]")?;
-    Ok(place)
+    format!(in alloc; "{list}[{number}]")
 }
 
 impl Place {

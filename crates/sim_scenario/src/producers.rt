@@ -148,7 +148,7 @@ impl KeyType for Body {
         if !is_producer_body(section.alloc, self.count, text.as_bytes())? {
             return Err(section.blame(Refusal::OutOfRange, key));
         }
-        Ok(Text::new(text.as_bytes().to_vec(section.alloc)?))
+        section.owned(text)
     }
 }
 

@@ -7,15 +7,13 @@ ghost use Rattle.sim_scenario.specs.Sections.{table_of};
 
 use crate::fault::ReadError;
 use crate::items::ItemType;
-use crate::key_type::{Boolean, Integer, KeyType, Seconds};
+use crate::key_type::{Boolean, Integer, OneOf, Seconds};
 use crate::named::{AgentName, DeadLetterName, OtherKinQueue};
 use crate::names::is_fifo;
 use crate::outline::Outline;
 use crate::section::Section;
-use sim_clock::Refusal;
 use sqs_message::Text;
 use sqs_redrive::{Kind, Latency, Policy, QueueSettings, Scope};
-use toml::Value;
 
 /// The latency of a version: one number in version 1, which is both bounds, and two from then on.
 #[tactic(auto, unfolding(sqs_formats::specs::Queues::latency, sqs_formats::specs::Reading::and_then))]
@@ -33,30 +31,8 @@ pub(crate) fn latency(version: u64, section: &Section<'_>) -> Result<Latency, Re
     Ok(Latency { least, greatest })
 }
 
-/// The scope of deduplication ids.
-#[derive(Drop)]
-struct ScopeName;
-
-impl KeyType for ScopeName {
-    type Value = Scope;
-
-    ghost use Rattle.sqs_formats.specs.Keys.{one_of};
-    ghost use Rattle.sqs_formats.specs.Queues.{scopes_named};
-
-    ghost says = { λ k. one_of scopes_named };
-
-    #[tactic(auto, unfolding(sqs_formats::specs::Keys::one_of, sqs_formats::specs::Reading::and_then))]
-    fn read(&self, section: &Section<'_>, value: &Value, key: &str) -> Result<Scope, ReadError> {
-        let name = section.text(value, key)?;
-        if name == "queue" {
-            Ok(Scope::Queue)
-        } else if name == "group" {
-            Ok(Scope::Group)
-        } else {
-            Err(section.blame(Refusal::OutOfRange, key))
-        }
-    }
-}
+/// The scopes of deduplication ids, by their names.
+const SCOPES: &[(&str, Scope)] = &[("queue", Scope::Queue), ("group", Scope::Group)];
 
 /// The settings that only a queue of this kind has.
 #[tactic(auto, unfolding(sqs_formats::specs::Queues::kind, sqs_formats::specs::Reading::and_then))]
@@ -65,7 +41,7 @@ fn kind(is_fifo: bool, section: &Section<'_>) -> Result<Kind, ReadError>
 {
     if is_fifo {
         let content_dedup = section.optional("content_dedup", &Boolean, false)?;
-        let scope = section.optional("dedup_scope", &ScopeName, Scope::Queue)?;
+        let scope = section.optional("dedup_scope", &OneOf(SCOPES), Scope::Queue)?;
         Ok(Kind::Fifo {
             content_dedup,
             scope,

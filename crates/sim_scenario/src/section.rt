@@ -1,5 +1,5 @@
 //! The tables of a scenario's text, by whose keys it is read.
-ghost use Rattle.std.specs.Prelude.{◌≡◌, [], flat_map, map, option_map};
+ghost use Rattle.std.specs.Prelude.{◌≡◌, [], Ok, flat_map, map, option_map};
 ghost use Rattle.std.specs.List.{list_any};
 ghost use Rattle.std.specs.Str.{bytes_eq};
 ghost use Rattle.toml.specs.Data.{as_table, get_member};
@@ -12,6 +12,7 @@ use crate::fault::{ReadError, blame};
 use crate::key_type::{Integer, KeyType};
 use crate::place::{Place, item_place};
 use sim_clock::Refusal;
+use sqs_message::Text;
 use std::alloc::Global;
 use toml::{Table, Value};
 
@@ -141,6 +142,13 @@ impl<'a> Section<'a> {
             Some(text) => Ok(text),
             None => Err(self.blame(Refusal::WrongType, key)),
         }
+    }
+
+    /// A text of the scenario as one of its own.
+    pub(crate) fn owned(&self, text: &str) -> Result<Text, ReadError>
+        ensures { Gives (λ t. t) result (Ok text.now) }
+    {
+        Ok(Text::new(text.as_bytes().to_vec(self.alloc)?))
     }
 
     /// The items of the list that a value at a key is.

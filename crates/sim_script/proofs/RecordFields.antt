@@ -1,7 +1,8 @@
 -- The fields of a record by their places.
 use Rattle.std.proofs.Common.{◌≡◌, ◌≢◌, ℕ, zero, suc, List, [], ◌∷◌, length, get_or, refl, arith, Some, None}
 use Rattle.csv.specs.Records.{field_at}
-use Rattle.sqs_formats.specs.Script.{fields_of}
+use Rattle.sqs_formats.specs.declared.home.Home.{Home}
+use Rattle.sqs_formats.specs.Script.{call_in, call_of, fields_of, number, timed}
 use Rattle.sim_script.specs.ScriptGives.{fields_at}
 
 pub found : (fs : List (List ℕ)) (i : ℕ) (f : List ℕ) → field_at fs i ≡ Some f → f ≡ get_or fs i []
@@ -46,3 +47,12 @@ not_eleven (a ∷ b ∷ c ∷ d ∷ e ∷ f ∷ g ∷ i ∷ j ∷ []) h = refl
 not_eleven (a ∷ b ∷ c ∷ d ∷ e ∷ f ∷ g ∷ i ∷ j ∷ k ∷ []) h = refl
 not_eleven (a ∷ b ∷ c ∷ d ∷ e ∷ f ∷ g ∷ i ∷ j ∷ k ∷ l ∷ []) h = absurd (h refl)
 not_eleven (a ∷ b ∷ c ∷ d ∷ e ∷ f ∷ g ∷ i ∷ j ∷ k ∷ l ∷ m ∷ rest) h = refl
+
+-- a record of eleven fields states the call of those, and any other none
+pub states : (home : Home) (fs : List (List ℕ)) → length fs ≡ 11 → call_of home fs ≡ timed (number (fields_at fs).at) (call_in home (fields_at fs))
+unfolding call_of
+states home fs h = rw (eleven fs h) refl
+
+pub states_none : (home : Home) (fs : List (List ℕ)) → length fs ≢ 11 → None ≡ call_of home fs
+unfolding call_of
+states_none home fs h = rw (not_eleven fs h) refl

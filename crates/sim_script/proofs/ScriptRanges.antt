@@ -1,5 +1,5 @@
 -- The ranges of a script's calls.
-use Rattle.std.proofs.Common.{◌≡◌, ℕ, zero, ◌+◌, ◌≤◌, Bool, true, false, List, [], ◌∷◌, length, Option, Some, None, Ok, nat_le, unwrap_or, refl, arith}
+use Rattle.std.proofs.Common.{◌≡◌, ℕ, zero, ◌+◌, ◌≤◌, ◌&&◌, Bool, true, false, List, [], ◌∷◌, length, Option, Some, None, Ok, nat_le, unwrap_or, refl, arith}
 use Rattle.std.specs.Prelude.{All, Contains, find, if◌then◌else◌, is_some, map}
 use Rattle.std.specs.Str.{bytes_eq}
 use Rattle.std.proofs.lemmas.List.Elements.{All-cons, All-nil, All-weaker}
@@ -11,7 +11,7 @@ use Rattle.sqs_message.specs.declared.calls.Call.TheVariants.{Cancel, Start}
 use Rattle.sqs_message.specs.declared.calls.ScriptCall.{ScriptCall}
 use Rattle.sqs_formats.specs.declared.home.Home.{Home}
 use Rattle.sqs_formats.specs.declared.home.HomeTask.{HomeTask}
-use Rattle.sqs_formats.specs.Script.{Fields, after_header, are_empty, call_at, call_in, call_of, call_when, calls_from, change_call, delete_call, fields_of, free_after, given, is_between, is_number_from, may, number, only_if, receive_call, script, send_call, task_call, task_number, timed, waits}
+use Rattle.sqs_formats.specs.Script.{Fields, after_header, are_empty, call_at, call_in, call_of, call_when, calls_from, change_call, digits_value, delete_call, fields_of, free_after, given, is_between, is_number_from, may, number, only_if, receive_call, script, send_call, task_call, task_number, timed, waits}
 use Rattle.sim_engine.specs.Members.{Ascends}
 use Rattle.sim_script.specs.Ranges.{IsCallAt, IsGroupedAt, IsScriptOf}
 use Rattle.sim_script.proofs.Listing.{contains_next}
@@ -109,6 +109,32 @@ of_call : (home : Home) (fields : List (List ℕ)) (c : ScriptCall) → call_of 
 unfolding call_of
 of_call home fields c e = when_call home (fields_of fields) c e
 
+few_when : (b : Bool) (m n : ℕ) → nat_le m 4294967295 ≡ b → only_if b m ≡ Some n → n ≤ 4294967295
+few_when true m n h e = let same : m ≡ n = cc e in grind (arith, nat_tests)
+few_when false m n h e = cc e
+
+-- a number that is read has at most 32 bits
+few_bits : (b : Bool) (m n : ℕ) → only_if (b && nat_le m 4294967295) m ≡ Some n → n ≤ 4294967295
+few_bits true m n e = few_when (nat_le m 4294967295) m n refl e
+few_bits false m n e = cc e
+
+-- the time of a call has at most 32 bits
+timed_at : (s : List ℕ) (at : Option ℕ) (o : Option Call) (c : ScriptCall) → number s ≡ at → timed at o ≡ Some c → c.at ≤ 4294967295
+timed_at s None o c is e = cc e
+timed_at s (Some at) None c is e = cc e
+timed_at s (Some at) (Some call) c is e =
+    let made : ScriptCall = record { at = at; call = call } in
+    let same : made ≡ c = cc e in
+    rw (← same) (few_bits _ (digits_value s) at is)
+
+when_at : (home : Home) (o : Option Fields) (c : ScriptCall) → call_when home o ≡ Some c → c.at ≤ 4294967295
+when_at home None c e = cc e
+when_at home (Some f) c e = timed_at f.at (number f.at) (call_in home f) c refl e
+
+of_call_at : (home : Home) (fields : List (List ℕ)) (c : ScriptCall) → call_of home fields ≡ Some c → c.at ≤ 4294967295
+unfolding call_of
+of_call_at home fields c e = when_at home (fields_of fields) c e
+
 -- a call in time
 one_call : (n free : ℕ) (o : Option ScriptCall) (c : ScriptCall) → call_at n free o ≡ Ok c → (o ≡ Some c) × (free ≤ c.at)
 one_call n free None c e = cc e
@@ -116,6 +142,10 @@ one_call n free (Some d) c e =
     let w = picked _ _ d c e in
     let later : free ≤ d.at = grind (arith, nat_tests, w.0) in
     rw (← w.1) (refl, later)
+
+-- a call in time has a time of at most 32 bits, and waits for at most 20 seconds
+pub call_in_range : (home : Home) (n free : ℕ) (fields : List (List ℕ)) (c : ScriptCall) → call_at n free (call_of home fields) ≡ Ok c → (c.at ≤ 4294967295) × (waits c.call ≤ 20)
+call_in_range home n free fields c e = let one = (one_call n free (call_of home fields) c e).0 in (of_call_at home fields c one, (of_call home fields c one).0)
 
 -- a list that ascends from a number does so from each before it
 ascends_from : {A : Type 0} (number : A → ℕ) (low from : ℕ) (xs : List A) → low ≤ from → Ascends number from xs → Ascends number low xs

@@ -1,8 +1,8 @@
 //! The records of a script: each states one call.
-ghost use Rattle.std.specs.Prelude.{◌≡◌, ◌≤◌, [], false, map, IfOk, IfSome, get_or, nat_le};
+ghost use Rattle.std.specs.Prelude.{◌≡◌, [], false, map, IfOk, get_or, nat_le};
 ghost use Rattle.std.specs.List.{list_all};
 ghost use Rattle.csv.specs.Records.{fields_of};
-ghost use Rattle.sqs_formats.specs.Script.{digits_value, is_number, is_number_from, only_if, call_in, call_of, change_call, delete_call, given, header, is_body, is_printed, is_token, may, number, receive_call, same_fields, send_call, task_named, waits};
+ghost use Rattle.sqs_formats.specs.Script.{digits_value, is_number, is_number_from, only_if, call_in, call_of, change_call, delete_call, given, header, is_body, is_printed, is_token, may, number, receive_call, same_fields, send_call, task_named};
 ghost use Rattle.sqs_message.specs.declared.calls.Call.TheVariants.{Cancel, Start};
 ghost use Rattle.sim_script.specs.ScriptGives.{called_task, fields_at, is_grouped, is_receive, is_send, record_view, task_call_in};
 
@@ -73,8 +73,7 @@ fn digits_value(field: &[u8]) -> Option<u64>
 
 /// The number in a field, in decimal without a leading zero.
 fn number(alloc: Global, field: &[u8]) -> Result<Option<u64>, AllocError>
-    ensures value { IfOk result (λ n. n ≡ number field.now) }
-    ensures most { IfOk result (λ n. IfSome n (λ n. n ≤ 4294967295)) }
+    ensures { IfOk result (λ n. n ≡ number field.now) }
 {
     match digits_value(field) {
         None => Ok(None),
@@ -191,8 +190,7 @@ fn is_send(home: &Home, row: &Record<'_>, delay: Option<u64>) -> bool
 
 /// The send that a record states.
 fn send(alloc: Global, home: &Home, row: &Record<'_>) -> Result<Option<Call>, AllocError>
-    ensures value { IfOk result (λ c. c ≡ send_call home.now (record_view row.now)) }
-    ensures most { IfOk result (λ c. IfSome c (λ c. waits c ≤ 4294967295)) }
+    ensures { IfOk result (λ c. c ≡ send_call home.now (record_view row.now)) }
 {
     let delay = number(alloc, row.delay)?;
     if !is_send(home, row, delay) {
@@ -232,8 +230,7 @@ fn is_receive(row: &Record<'_>, max: Option<u64>, wait: Option<u64>, timeout: Op
 
 /// The receive that a record states.
 fn receive(alloc: Global, row: &Record<'_>) -> Result<Option<Call>, AllocError>
-    ensures value { IfOk result (λ c. c ≡ receive_call (record_view row.now)) }
-    ensures most { IfOk result (λ c. IfSome c (λ c. waits c ≤ 4294967295)) }
+    ensures { IfOk result (λ c. c ≡ receive_call (record_view row.now)) }
 {
     let max = number(alloc, row.max)?;
     let wait = number(alloc, row.wait)?;
@@ -250,8 +247,7 @@ fn receive(alloc: Global, row: &Record<'_>) -> Result<Option<Call>, AllocError>
 
 /// The delete that a record states.
 fn delete(alloc: Global, row: &Record<'_>) -> Result<Option<Call>, AllocError>
-    ensures value { IfOk result (λ c. c ≡ delete_call (record_view row.now)) }
-    ensures most { IfOk result (λ c. IfSome c (λ c. waits c ≤ 4294967295)) }
+    ensures { IfOk result (λ c. c ≡ delete_call (record_view row.now)) }
 {
     let others = [
         row.body,
@@ -272,8 +268,7 @@ fn delete(alloc: Global, row: &Record<'_>) -> Result<Option<Call>, AllocError>
 
 /// The change of visibility that a record states.
 fn change(alloc: Global, row: &Record<'_>) -> Result<Option<Call>, AllocError>
-    ensures value { IfOk result (λ c. c ≡ change_call (record_view row.now)) }
-    ensures most { IfOk result (λ c. IfSome c (λ c. waits c ≤ 4294967295)) }
+    ensures { IfOk result (λ c. c ≡ change_call (record_view row.now)) }
 {
     let others = [
         row.body, row.group, row.id, row.delay, row.max, row.wait, row.task,
@@ -327,8 +322,7 @@ fn named_task(home: &Home, row: &Record<'_>) -> Option<u32>
 
 /// The call of a task that a record states.
 fn task_call_of(home: &Home, row: &Record<'_>) -> Option<Call>
-    ensures value { result ≡ task_call_in home.now (record_view row.now) }
-    ensures most { IfSome result (λ c. waits c ≤ 4294967295) }
+    ensures { result ≡ task_call_in home.now (record_view row.now) }
 {
     if row.call == b"start".as_slice() {
         return named_task(home, row).map(|task| Call::Start { task });
@@ -341,8 +335,7 @@ fn task_call_of(home: &Home, row: &Record<'_>) -> Option<Call>
 
 /// The call that a record states.
 fn call(alloc: Global, home: &Home, row: &Record<'_>) -> Result<Option<Call>, AllocError>
-    ensures value { IfOk result (λ c. c ≡ call_in home.now (record_view row.now)) }
-    ensures most { IfOk result (λ c. IfSome c (λ c. waits c ≤ 4294967295)) }
+    ensures { IfOk result (λ c. c ≡ call_in home.now (record_view row.now)) }
 {
     if row.call == b"send".as_slice() {
         return send(alloc, home, row);
@@ -360,15 +353,12 @@ fn call(alloc: Global, home: &Home, row: &Record<'_>) -> Result<Option<Call>, Al
 }
 
 /// The call that a row states, with its time.
-#[tactic(auto, using(crate::proofs::RecordFields::eleven, crate::proofs::RecordFields::not_eleven), unfolding(sqs_formats::specs::Script::call_of))]
 pub(crate) fn script_call(
     alloc: Global,
     home: &Home,
     row: &ByteRecord,
 ) -> Result<Option<ScriptCall>, AllocError>
-    ensures value { IfOk result (λ c. c ≡ call_of home.now (fields_of row.now)) }
-    ensures at { IfOk result (λ c. IfSome c (λ c. c.at ≤ 4294967295)) }
-    ensures most { IfOk result (λ c. IfSome c (λ c. waits c.call ≤ 4294967295)) }
+    ensures { IfOk result (λ c. c ≡ call_of home.now (fields_of row.now)) }
 {
     if row.len() != 11 {
         return Ok(None);

@@ -80,21 +80,12 @@ fn next_call(
     free: u64,
 ) -> Result<ScriptCall, ScriptError>
     requires { number ≤ 200000 }
-    ensures value { Gives (λ c. c) result
+    ensures { Gives (λ c. c) result
         (call_at number free (call_of home.now (fields_of row.now))) }
-    ensures at { IfOk result (λ c. c.at ≤ 4294967295) }
-    ensures most { IfOk result (λ c. waits c.call ≤ 4294967295) }
 {
-    match script_call(alloc, home, row)? {
-        None => Err(fault(Refusal::BadScript, Some(number as u32))),
-        Some(call) => {
-            if free <= call.at {
-                Ok(call)
-            } else {
-                Err(fault(Refusal::BadScript, Some(number as u32)))
-            }
-        }
-    }
+    script_call(alloc, home, row)?
+        .filter(|call| free <= call.at)
+        .ok_or(fault(Refusal::BadScript, Some(number as u32)))
 }
 
 /// The earliest time of the call after this one.

@@ -1,4 +1,5 @@
-use Rattle.std.proofs.Common.{◌∙◌, length, sym}
+use Rattle.std.proofs.Common.{◌∙◌, length, sym, arith}
+use Rattle.std.proofs.lemmas.Grind.{common_steps}
 use Rattle.std.proofs.lemmas.Result.{err_from_is_err_and}
 use Rattle.sqs_formats.specs.Keys.{place_of}
 use Rattle.sim_scenario.specs.Sections.{table_of}
@@ -26,3 +27,6 @@ returns-in_err-item g c =
     let err = err_from_is_err_and c.from_residual-in_err-item.result c.from_residual-in_err-item.ensures.1 in
     let fails = item_faulty type place c.args.values.now c.loop-i.i c.index-values-i.result c.loop-i.items.items c.in_err-item.field-0.0 c.loop-i-test.true (sym c.index-values-i.is) c.loop-i.invariant.0 read in
     rw (err.1, err.2, c.loop-i.invariant.1) fails
+
+pub returns : goal.returns
+returns g c = grind (arith, common_steps)

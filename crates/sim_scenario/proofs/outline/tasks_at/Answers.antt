@@ -1,4 +1,5 @@
 use Rattle.std.proofs.Common.{◌∙◌, ◌++◌, ap, sym, arith, append-nil, List, rules}
+use Rattle.std.proofs.lemmas.Grind.{common_steps}
 use Rattle.sqs_formats.specs.declared.home.HomeTask.{HomeTask}
 use Rattle.sim_scenario.proofs.HomeTasks.{behind_elsewhere, behind_none}
 use Rattle.sim_scenario.proofs.outline.tasks_at.Goals as goal
@@ -11,3 +12,6 @@ loop-i-preserved-then-ne c =
 pub returns : goal.returns
 returns c =
     sym (c.loop-i.invariant ∙ ap (λ (ts : List HomeTask). c.loop-i.tasks.items ++ ts) (behind_none c.args.home.now c.args.first c.loop-i.i c.args.names.now c.args.homes.now (λ a b. omega arith)) ∙ append-nil c.loop-i.tasks.items)
+
+pub loop-i-preserved : goal.loop-i-preserved
+loop-i-preserved c = grind (arith, common_steps)

@@ -6,6 +6,8 @@ use Rattle.std.specs.Str.{bytes_eq}
 use Rattle.indexmap.proofs.CallerLemmas.{insert_entry-new}
 use Rattle.sim_scenario.specs.Firsts.{AreFirsts}
 use Rattle.sim_scenario.proofs.Firsts.{firsts_known, firsts_new, lacks}
+use Rattle.std.proofs.lemmas.List.{take_all}
+use Rattle.sqs_formats.specs.Outline.{place_among}
 use Rattle.sim_scenario.proofs.roster.firsts_of.Goals as goal
 
 pub loop-place-preserved-then-contains_key : goal.loop-place-preserved-then-contains_key
@@ -36,3 +38,6 @@ loop-place-preserved c =
     c.in_ok-insert.ensures.entries ∙ insert_entry-new (λ (x y : Vec ℕ Global). bytes_eq x.items y.items) c.loop-place.firsts key place none ∙ ap (λ n. entries ++ (key, n) ∷ []) (sym at) in
     subst (λ ts. AreFirsts c.insert.new.self.entries ts) (sym more)
     (subst (λ es. AreFirsts es (take place texts ++ text ∷ [])) (sym added) (firsts_new entries (take place texts) text key c.loop-place.invariant is_text))
+
+pub returns : goal.returns
+returns c = λ s. c.loop-place.invariant s ∙ ap (λ texts. place_among texts s) (take_all c.loop-place.place c.args.texts.now c.loop-place-test.false)

@@ -9,20 +9,20 @@ use Rattle.sim_scenario.specs.Counted.{copies_before}
 use Rattle.sim_scenario.proofs.Copying.{are_laid, within_few}
 use Rattle.sim_scenario.proofs.outline.Outline.new.Goals as goal
 
-pub push_names_taken-requires-clause-same : goal.push_names_taken-requires-clause-same
-push_names_taken-requires-clause-same c =
+pub all_names-requires-clause-same : goal.all_names-requires-clause-same
+all_names-requires-clause-same c =
     let few = within_few c.args.version _ c.args.actors.now c.in_ok-copies.copies.items c.in_ok-copies.ensures (omega (arith, c.saturating_sub-room.ensures)) (omega (arith, c.requires)) in
-    ap length c.as_slice.ensures.value ∙ few.each
+    ap length c.as_slice-2.ensures.value ∙ few.each
 
-pub push_names_taken-requires-clause-few : goal.push_names_taken-requires-clause-few
-push_names_taken-requires-clause-few c =
+pub all_names-requires-clause-few : goal.all_names-requires-clause-few
+all_names-requires-clause-few c =
     let few = within_few c.args.version _ c.args.actors.now c.in_ok-copies.copies.items c.in_ok-copies.ensures (omega (arith, c.saturating_sub-room.ensures)) (omega (arith, c.requires)) in
-    rw c.as_slice.ensures.value (omega (arith, few.few))
+    rw c.as_slice-2.ensures.value (omega (arith, few.few))
 
 pub copies_before-requires : goal.copies_before-requires
 copies_before-requires c =
     let few = within_few c.args.version _ c.args.actors.now c.in_ok-copies.copies.items c.in_ok-copies.ensures (omega (arith, c.saturating_sub-room.ensures)) (omega (arith, c.requires)) in
-    rw c.as_slice-2.ensures.value (omega (arith, few.few))
+    rw c.as_slice.ensures.value (omega (arith, few.few))
 
 pub invariant_of-result : goal.invariant_of-result
 invariant_of-result c =
@@ -32,16 +32,13 @@ invariant_of-result c =
     let tasks : List Data = map view c.args.tasks.now in
     let copies : List ℕ = c.in_ok-copies.copies.items in
     let few = within_few c.args.version _ c.args.actors.now copies c.in_ok-copies.ensures (omega (arith, c.saturating_sub-room.ensures)) (omega (arith, c.requires)) in
-    let before : c.push_names_taken.new.names.items ≡ named queues ++ names_taken (named actors) copies =
-    c.in_ok-push_names_taken.ensures
-    ∙ (λ j. (c.in_ok-push_texts.ensures ∙ ap (λ ts. ts ++ named queues) c.new-names.ensures.items) j ++ names_taken (named actors) (c.as_slice.ensures.value j)) in
-    let made : c.in_ok-names.names ≡ (named queues ++ names_taken (named actors) copies) ++ named tasks =
-    c.in_ok-names.ensures ∙ c.in_ok-push_texts-2.ensures ∙ ap (λ ts. ts ++ named tasks) before in
-    let laid = are_laid (length c.args.queues.now) (length c.args.actors.now) c.len-first_task_place.result copies c.in_ok-names.names (named queues) (named actors) (named tasks) few made
-    (c.len-first_task_place.ensures ∙ c.push_names_taken.new.names.ok.0 ∙ ap length before)
+    let made : c.in_ok-names-2.names ≡ (named queues ++ names_taken (named actors) copies) ++ named tasks =
+    c.in_ok-names-2.ensures ∙ rw c.as_slice-2.ensures.value at c.in_ok-names.ensures.names in
+    let laid = are_laid (length c.args.queues.now) (length c.args.actors.now) c.in_ok-names.first_task_place copies c.in_ok-names-2.names (named queues) (named actors) (named tasks) few made
+    (rw c.as_slice-2.ensures.value at c.in_ok-names.ensures.place)
     (length-map queues (text_in (codes "name")) ∙ length-map c.args.queues.now view) (length-map actors (text_in (codes "name")) ∙ length-map c.args.actors.now view)
     (rw (length-map tasks (text_in (codes "name")), length-map c.args.tasks.now view) (omega (arith, c.requires))) in
-    record { counted = laid.counted; before = c.in_ok-earlier_copies.ensures ∙ ap copies_before c.as_slice-2.ensures.value }
+    record { counted = laid.counted; before = c.in_ok-earlier_copies.ensures ∙ ap copies_before c.as_slice.ensures.value }
 
 pub returns : goal.returns
 returns c =
@@ -51,13 +48,10 @@ returns c =
     let tasks : List Data = map view c.args.tasks.now in
     let copies : List ℕ = c.in_ok-copies.copies.items in
     let few = within_few c.args.version _ c.args.actors.now copies c.in_ok-copies.ensures (omega (arith, c.saturating_sub-room.ensures)) (omega (arith, c.requires)) in
-    let before : c.push_names_taken.new.names.items ≡ named queues ++ names_taken (named actors) copies =
-    c.in_ok-push_names_taken.ensures
-    ∙ (λ j. (c.in_ok-push_texts.ensures ∙ ap (λ ts. ts ++ named queues) c.new-names.ensures.items) j ++ names_taken (named actors) (c.as_slice.ensures.value j)) in
-    let made : c.in_ok-names.names ≡ (named queues ++ names_taken (named actors) copies) ++ named tasks =
-    c.in_ok-names.ensures ∙ c.in_ok-push_texts-2.ensures ∙ ap (λ ts. ts ++ named tasks) before in
-    let laid = are_laid (length c.args.queues.now) (length c.args.actors.now) c.len-first_task_place.result copies c.in_ok-names.names (named queues) (named actors) (named tasks) few made
-    (c.len-first_task_place.ensures ∙ c.push_names_taken.new.names.ok.0 ∙ ap length before)
+    let made : c.in_ok-names-2.names ≡ (named queues ++ names_taken (named actors) copies) ++ named tasks =
+    c.in_ok-names-2.ensures ∙ rw c.as_slice-2.ensures.value at c.in_ok-names.ensures.names in
+    let laid = are_laid (length c.args.queues.now) (length c.args.actors.now) c.in_ok-names.first_task_place copies c.in_ok-names-2.names (named queues) (named actors) (named tasks) few made
+    (rw c.as_slice-2.ensures.value at c.in_ok-names.ensures.place)
     (length-map queues (text_in (codes "name")) ∙ length-map c.args.queues.now view) (length-map actors (text_in (codes "name")) ∙ length-map c.args.actors.now view)
     (rw (length-map tasks (text_in (codes "name")), length-map c.args.tasks.now view) (omega (arith, c.requires))) in
     let room : c.saturating_sub-room.result ≡ room_beside actors tasks =
@@ -70,6 +64,6 @@ returns c =
       queues = laid.front j;
       copies = counted j;
       tasks = laid.back j;
-      task_homes = (c.in_ok-push_texts-3.ensures ∙ ap (λ ts. ts ++ map (text_in (codes "queue")) tasks) c.new-task_homes.ensures.items) j;
-      dead_letters = (c.in_ok-dead_letters.ensures ∙ c.in_ok-push_texts-4.ensures ∙ ap (λ ts. ts ++ map (text_in (codes "dead_letter")) queues) c.new-dead_letters.ensures.items) j;
+      task_homes = c.in_ok-task_homes.ensures j;
+      dead_letters = (c.in_ok-dead_letters-2.ensures ∙ c.in_ok-dead_letters.ensures) j;
     }
