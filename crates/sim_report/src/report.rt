@@ -1,14 +1,15 @@
 //! The report of a run.
 ghost use Rattle.std.specs.Prelude.{◌≡◌, ◌++◌, ℕ, List, [], false, IfOk, OnOk};
-ghost use Rattle.sim_report.specs.Running.{running};
+ghost use Rattle.sim_report.specs.Running.{count_added, running};
 ghost use Rattle.sim_records.specs.Writes.{Wrote};
 ghost use Rattle.sqs_message.specs.declared.row.Row.{Row};
 ghost use Rattle.sqs_formats.specs.Comparison.{comparison};
 ghost use Rattle.sqs_formats.specs.Report.{report, report_text};
 
+use crate::column::RowCount;
 use crate::columns::{QueueColumns, columns_of};
 use crate::comparison::comparison_lines;
-use crate::queue::{QueueCounts, add_rows, fresh_queues};
+use crate::queue::{QueueCounts, add_count, add_rows, fresh_queues};
 use crate::writing::report_lines;
 use sim_clock::Refusal;
 use sim_records::{Out, write_all};
@@ -58,6 +59,17 @@ impl Report {
             → OnOk result (self.new ≡ running names (before ++ rows.now)) }
     {
         add_rows(self.queues.as_mut_slice(), rows)
+    }
+
+    /// Adds what another row counts. A row of a queue whose number is past the last is not counted.
+    ///
+    /// # Errors
+    ///
+    /// Those of `add`.
+    pub fn add_count(&mut self, count: RowCount) -> Result<(), AllocError>
+        ensures { OnOk result (self.new ≡ count_added self.old count) }
+    {
+        add_count(self.queues.as_mut_slice(), count)
     }
 
     /// Writes the report, given what is left at the end of the run.
