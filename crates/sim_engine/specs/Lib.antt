@@ -15,3 +15,5 @@ pub mod Rounds
 pub mod Exchange
 pub mod Kept
 pub mod Simulated
+pub mod Mapping
+pub mod MappingLaws

@@ -7,6 +7,7 @@
 mod edge;
 mod effects;
 mod laws;
+mod mapped;
 mod picks;
 mod site;
 
@@ -16,5 +17,6 @@ pub use laws::{
     machines_are_read_by_parts, machines_go_on, merging_keeps_order, parts_get_sorted,
     rounds_are_picks, sorting_keeps_each,
 };
+pub use mapped::{Mapped, RowMapper};
 pub use picks::Pick;
 pub use site::Site;

@@ -30,7 +30,11 @@ pub(crate) trait Record {
 }
 
 // Makes the lines of some records in an empty text. The last one is made first.
-fn make_lines<T: Record>(text: &mut Line, records: &[T], names: &Names) -> Result<(), AllocError>
+pub(crate) fn make_lines<T: Record>(
+    text: &mut Line,
+    records: &[T],
+    names: &Names,
+) -> Result<(), AllocError>
     requires { text.old ≡ [] }
     ensures { OnOk result (text.new ≡ lines (map (T.columns names.now) records.now)) }
 {

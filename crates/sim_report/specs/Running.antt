@@ -4,10 +4,11 @@ use Rattle.std.specs.List.{enumerate_from}
 use Rattle.sqs_message.specs.declared.row.Row.{Row}
 use Rattle.sqs_model.specs.declared.finals.FinalMessage.{FinalMessage}
 use Rattle.sqs_formats.specs.Report.{Column, messages_of, rank, rows_of}
+use Rattle.sim_report.specs.declared.column.RowCount.{RowCount}
 use Rattle.sim_report.specs.declared.left.Left.{Left}
 use Rattle.sim_report.specs.declared.queue.QueueCounts.{QueueCounts}
 use Rattle.sim_report.specs.Left.{left_of, left_with}
-use Rattle.sim_report.specs.Tally.{TallyState, tallied, tally_of}
+use Rattle.sim_report.specs.Tally.{TallyState, count_of, tallied_by, tally_of}
 
 -- a list with one element changed, if it has that index
 abbrev pub changed : {X : Type 0} → (X → X) → ℕ → List X → List X
@@ -19,13 +20,20 @@ changed f (suc n) (x ∷ xs) = x ∷ changed f n xs
 abbrev pub fresh : List ℕ → QueueCounts
 fresh name = record { name = name; tally = tally_of [] }
 
--- a queue's counts with one more row
-abbrev pub with_row : Row → QueueCounts → QueueCounts
-with_row row q = record q { tally = tallied row q.tally }
+-- a queue's counts with what one more row counts
+abbrev pub with_count : RowCount → QueueCounts → QueueCounts
+with_count n q = record q { tally = tallied_by n q.tally }
 
--- the counts of all queues with one more row, which counts at its own queue alone
+-- the counts of all queues with what one more row counts, at its own queue alone
+abbrev pub count_added : List QueueCounts → RowCount → List QueueCounts
+count_added queues n = changed (with_count n) n.queue queues
+
+-- the same with one more row
+abbrev pub with_row : Row → QueueCounts → QueueCounts
+with_row row q = with_count (count_of row) q
+
 abbrev pub row_added : List QueueCounts → Row → List QueueCounts
-row_added queues row = changed (with_row row) row.queue queues
+row_added queues row = count_added queues (count_of row)
 
 -- the counts of all queues with more rows
 abbrev pub rows_added : List QueueCounts → List Row → List QueueCounts

@@ -1,6 +1,7 @@
 -- The running counts of one queue.
 use Rattle.std.specs.Prelude.{ℕ, ◌+◌, ◌-◌, ◌*◌, ◌/◌, max, List, [], ◌∷◌, ◌++◌, length, map, set, get_or, slice_get, Option, Some, None}
 use Rattle.sqs_message.specs.declared.row.Row.{Row}
+use Rattle.sim_report.specs.declared.column.RowCount.{RowCount}
 use Rattle.sqs_formats.specs.Report.{age_when, ages, column, count, counted_columns, depth_max, is_column, numbers}
 
 -- how many rows each counting column has, how many messages there were at once at most, and the
@@ -34,18 +35,30 @@ abbrev pub with_age : Option ℕ → List ℕ → List ℕ
 with_age None ages = ages
 with_age (Some age) ages = ages ++ age ∷ []
 
+-- what a row counts, whose column is known
+abbrev pub count_in : Option ℕ → Row → RowCount
+count_in c row = record { age = age_in c row; queue = row.queue; column = c }
+
+-- what a row counts
+abbrev pub count_of : Row → RowCount
+count_of row = count_in (column row.kind row.answer) row
+
+-- the running counts with what one more row counts
+abbrev pub tallied_by : RowCount → TallyState → TallyState
+tallied_by n t =
+    record {
+      counts = counted n.column t.counts;
+      depth_max = max t.depth_max (depth_by (counted n.column t.counts));
+      ages = with_age n.age t.ages;
+    }
+
 -- the running counts with a row whose column is known
 abbrev pub tallied_in : Option ℕ → Row → TallyState → TallyState
-tallied_in c row t =
-    record {
-      counts = counted c t.counts;
-      depth_max = max t.depth_max (depth_by (counted c t.counts));
-      ages = with_age (age_in c row) t.ages;
-    }
+tallied_in c row t = tallied_by (count_in c row) t
 
 -- the running counts with one more row
 abbrev pub tallied : Row → TallyState → TallyState
-tallied row t = tallied_in (column row.kind row.answer) row t
+tallied row t = tallied_by (count_of row) t
 
 -- the nearest rank of numbers in ascending order: the least such that `percent` of 100 are at or below it
 abbrev pub rank_in : ℕ → List ℕ → Option ℕ

@@ -1,18 +1,19 @@
-//! The column that counts a row.
+//! What a row counts.
 ghost use Rattle.std.specs.Prelude.{◌≡◌};
+ghost use Rattle.sim_report.specs.Tally.{count_of};
 ghost use Rattle.sqs_formats.specs.Report.{age_when, column, is_column};
 
-use sqs_message::{Detail, RowAnswer, RowKind};
+use sqs_message::{Detail, Row, RowAnswer, RowKind};
 
 // The index of the column that counts deletions.
-const DELETES: usize = 4;
+const DELETES: u16 = 4;
 
 // The index of the column that counts a row. The columns of the errors follow the first nine.
-pub(crate) fn column_of(kind: RowKind, answer: RowAnswer) -> Option<usize>
+pub(crate) fn column_of(kind: RowKind, answer: RowAnswer) -> Option<u16>
     ensures { result ≡ column kind answer }
 {
     match (kind, answer) {
-        (_, RowAnswer::Refused(refusal)) => Some(usize::from(refusal.code()) + 8),
+        (_, RowAnswer::Refused(refusal)) => Some(u16::from(refusal.code()) + 8),
         (RowKind::Send, RowAnswer::New) => Some(0),
         (RowKind::Send | RowKind::Arrive, RowAnswer::Repeat) => Some(1),
         (RowKind::Receive, RowAnswer::Ok) => Some(2),
@@ -27,11 +28,36 @@ pub(crate) fn column_of(kind: RowKind, answer: RowAnswer) -> Option<usize>
 }
 
 // The age at which a row in this column deleted a message, in milliseconds.
-pub(crate) fn age_of(column: Option<usize>, detail: Detail) -> Option<u64>
+pub(crate) fn age_of(column: Option<u16>, detail: Detail) -> Option<u64>
     ensures { result ≡ age_when (is_column 4 column) detail }
 {
     match (column, detail) {
         (Some(DELETES), Detail::Age(ms)) => Some(ms),
         _ => None,
+    }
+}
+
+/// What a row counts: all that a report needs of it.
+#[derive(Clone, Copy, Debug, PartialEq, Eq)]
+pub struct RowCount {
+    /// The age at which the row deleted a message, in milliseconds.
+    pub age: Option<u64>,
+    /// The number of the queue of the row.
+    pub queue: u32,
+    /// The index of the column that counts the row.
+    pub column: Option<u16>,
+}
+
+impl RowCount {
+    /// What a row counts.
+    pub fn of(row: &Row) -> RowCount
+        ensures { result ≡ count_of row.now }
+    {
+        let column = column_of(row.kind, row.answer);
+        RowCount {
+            age: age_of(column, row.detail),
+            queue: row.queue,
+            column,
+        }
     }
 }

@@ -12,6 +12,7 @@ mod report;
 mod tally;
 mod writing;
 
+pub use column::RowCount;
 pub use left::MessagesLeft;
 pub use report::{Report, compare};
 pub use sim_records::write_finals;

@@ -1,7 +1,8 @@
 //! The queues with their running counts.
 ghost use Rattle.std.specs.Prelude.{◌≡◌, IfOk, OnOk, map};
-ghost use Rattle.sim_report.specs.Running.{fresh, row_added, rows_added};
+ghost use Rattle.sim_report.specs.Running.{fresh, count_added, rows_added};
 
+use crate::column::RowCount;
 use crate::tally::Tally;
 use sqs_message::{Row, Text};
 use std::alloc::{AllocError, Global};
@@ -25,13 +26,13 @@ pub(crate) fn fresh_queues(alloc: Global, names: Vec<Text>) -> Result<Vec<QueueC
     Ok(queues)
 }
 
-// Counts a row at its queue, if that is one of these.
-fn add_row(queues: &mut [QueueCounts], row: &Row) -> Result<(), AllocError>
-    ensures { OnOk result (queues.new ≡ row_added queues.old row.now) }
+// Counts what a row counts at its queue, if that is one of these.
+pub(crate) fn add_count(queues: &mut [QueueCounts], count: RowCount) -> Result<(), AllocError>
+    ensures { OnOk result (queues.new ≡ count_added queues.old count) }
 {
-    let place = row.queue as usize;
+    let place = count.queue as usize;
     if place < queues.len() {
-        queues[place].tally.count_row(row)?;
+        queues[place].tally.count(count)?;
     }
     Ok(())
 }
@@ -41,7 +42,7 @@ pub(crate) fn add_rows(queues: &mut [QueueCounts], rows: &[Row]) -> Result<(), A
     ensures { OnOk result (queues.new ≡ rows_added queues.old rows.now) }
 {
     for row in rows {
-        add_row(queues, row)?;
+        add_count(queues, RowCount::of(row))?;
     }
     Ok(())
 }

@@ -1,17 +1,18 @@
 //! The report of a run.
 ghost use Rattle.std.specs.Prelude.{◌≡◌, ◌++◌, ℕ, List, [], false, IfOk, OnOk};
 ghost use Rattle.sim_report.specs.Left.{lefts};
-ghost use Rattle.sim_report.specs.Running.{running};
+ghost use Rattle.sim_report.specs.Running.{count_added, running};
 ghost use Rattle.sim_records.specs.Writes.{Wrote};
 ghost use Rattle.sqs_message.specs.declared.row.Row.{Row};
 ghost use Rattle.sqs_model.specs.declared.finals.Finals.{Finals as TheFinals};
 ghost use Rattle.sqs_formats.specs.Comparison.{comparison};
 ghost use Rattle.sqs_formats.specs.Report.{report, report_text};
 
+use crate::column::RowCount;
 use crate::columns::{QueueColumns, columns_of};
 use crate::comparison::comparison_lines;
 use crate::left::MessagesLeft;
-use crate::queue::{QueueCounts, add_rows, fresh_queues};
+use crate::queue::{QueueCounts, add_count, add_rows, fresh_queues};
 use crate::writing::report_lines;
 use sim_clock::Refusal;
 use sim_records::{Out, write_all};
@@ -61,6 +62,17 @@ impl Report {
             → OnOk result (self.new ≡ running names (before ++ rows.now)) }
     {
         add_rows(self.queues.as_mut_slice(), rows)
+    }
+
+    /// Adds what another row counts. A row of a queue whose number is past the last is not counted.
+    ///
+    /// # Errors
+    ///
+    /// Those of `add`.
+    pub fn add_count(&mut self, count: RowCount) -> Result<(), AllocError>
+        ensures { OnOk result (self.new ≡ count_added self.old count) }
+    {
+        add_count(self.queues.as_mut_slice(), count)
     }
 
     /// No messages that are left of its queues, to which those are added that are.

@@ -1,11 +1,10 @@
 //! The running counts of a queue.
 ghost use Rattle.std.specs.Prelude.{◌≡◌, ◌↔◌, ◌⊎◌, ◌∷◌, [], IfOk, OnErr, OnOk, map, Some, true};
-ghost use Rattle.sim_report.specs.Tally.{counted, depth_by, rank_in, tallied};
+ghost use Rattle.sim_report.specs.Tally.{counted, depth_by, rank_in, tallied_by};
 
 use crate::ages::{nearest_rank, sorted, total};
-use crate::column::{age_of, column_of};
+use crate::column::RowCount;
 use crate::left::Left;
-use sqs_message::Row;
 use std::alloc::{AllocError, Global};
 use std::marker::Model;
 
@@ -36,17 +35,18 @@ impl Model for Tally {
 
 // Counts one more row in a column, if it is one of these. A count that is at its greatest value
 // would have to grow, and this is refused like any growth: the counts stay as they are.
-fn count_in(counts: &mut [u64; COUNTED], column: Option<usize>) -> Result<(), AllocError>
+fn count_in(counts: &mut [u64; COUNTED], column: Option<u16>) -> Result<(), AllocError>
     ensures counted { OnOk result (counts.new ≡ counted column counts.old) }
     ensures unchanged { OnErr result (counts.new ≡ counts.old) }
 {
     if let Some(column) = column
-        && column < COUNTED
+        && usize::from(column) < COUNTED
     {
-        let Some(more) = counts[column].checked_add(1) else {
+        let place = usize::from(column);
+        let Some(more) = counts[place].checked_add(1) else {
             return Err(AllocError);
         };
-        counts[column] = more;
+        counts[place] = more;
     }
     Ok(())
 }
@@ -64,7 +64,7 @@ fn depth_of(counts: &[u64; COUNTED]) -> u128
 }
 
 // Whether a column counts messages that came in.
-fn comes_in(column: Option<usize>) -> bool
+fn comes_in(column: Option<u16>) -> bool
     ensures { (result ≡ true) ↔ ((column ≡ Some 0) ⊎ (column ≡ Some 8)) }
 {
     matches!(column, Some(0 | 8))
@@ -121,20 +121,19 @@ impl Tally {
         }
     }
 
-    /// Counts a row of the queue.
+    /// Counts what a row of the queue counts.
     ///
     /// # Errors
     ///
     /// `AllocError` if a count is at its greatest value, or an age could not be kept.
-    pub(crate) fn count_row(&mut self, row: &Row) -> Result<(), AllocError>
-        ensures { OnOk result (self.new ≡ tallied row.now self.old) }
+    pub(crate) fn count(&mut self, count: RowCount) -> Result<(), AllocError>
+        ensures { OnOk result (self.new ≡ tallied_by count self.old) }
     {
-        let column = column_of(row.kind, row.answer);
-        count_in(&mut self.counts, column)?;
-        if comes_in(column) {
+        count_in(&mut self.counts, count.column)?;
+        if comes_in(count.column) {
             self.depth_max = self.depth_max.max(depth_of(&self.counts));
         }
-        if let Some(age) = age_of(column, row.detail) {
+        if let Some(age) = count.age {
             self.ages.push(age)?;
         }
         Ok(())
