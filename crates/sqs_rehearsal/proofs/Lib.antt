@@ -10,3 +10,5 @@ pub mod Left
 pub mod Messages
 pub mod Counting
 pub mod Prefixes
+pub mod PrintedRows
+pub mod PrintedRuns
