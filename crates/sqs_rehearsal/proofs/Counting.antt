@@ -22,13 +22,13 @@ use Rattle.sqs_rehearsal.specs.LimitLaws.{rows_joined}
 use Rattle.sqs_rehearsal.specs.declared.limited.Limited.{Limited}
 
 -- rows that a run begins with, and fewer of them
-fewer_first : (s : Setting Site) (prefix rest rows : List Row) → prefix ++ rest ≡ rows → IsPrefixOfRun sqs s rows → IsPrefixOfRun sqs s prefix
+pub fewer_first : (s : Setting Site) (prefix rest rows : List Row) → prefix ++ rest ≡ rows → IsPrefixOfRun sqs s rows → IsPrefixOfRun sqs s prefix
 fewer_first s prefix rest rows e first = λ r is.
     let f = first r is in
     (rest ++ f.0, sym (append_assoc prefix rest f.0) ∙ ap (λ xs. xs ++ f.0) e ∙ f.1)
 
 -- where a run begins with rows that tell of a count past the limit, it passes it
-past_by : (s : Setting Site) (r : Run) → IsRunOf sqs s r → (rows : List Row) → IsPrefixOfRun sqs s rows → most_count < rows_count rows → IsPast sqs s
+pub past_by : (s : Setting Site) (r : Run) → IsRunOf sqs s r → (rows : List Row) → IsPrefixOfRun sqs s rows → most_count < rows_count rows → IsPast sqs s
 past_by s r is rows first past =
     let f = first r is in
     let all : rows_count r.rows ≡ max (rows_count rows) (rows_count f.0) = ap rows_count (sym f.1) ∙ rows_joined rows f.0 in

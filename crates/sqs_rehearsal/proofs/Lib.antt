@@ -9,3 +9,5 @@ pub mod Sorting
 pub mod Left
 pub mod Counting
 pub mod Prefixes
+pub mod PrintedRows
+pub mod PrintedRuns

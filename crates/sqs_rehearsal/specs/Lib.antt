@@ -10,3 +10,5 @@ pub mod Limited
 pub mod LimitLaws
 pub mod Sinks
 pub mod SinkLaws
+pub mod Printed
+pub mod PrintedLaws

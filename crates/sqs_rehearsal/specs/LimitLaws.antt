@@ -60,7 +60,7 @@ module _ {K : Type 0} (took : K → List Row → K → Type 0) where
           within = rw (rows_joined xs ys) (max-le first.within second.within);
         }
 
-    passed_after : (a b c : K) (xs ys : List Row) (refusal : Refusal) → took a xs b → Passed took b ys refusal c → Passed took a (xs ++ ys) refusal c
+    pub passed_after : (a b c : K) (xs ys : List Row) (refusal : Refusal) → took a xs b → Passed took b ys refusal c → Passed took a (xs ++ ys) refusal c
     passed_after a b c xs ys refusal first second =
         record {
           limit = second.limit;

@@ -19,8 +19,8 @@ pub struct Limited<'a, K> {
     pub sink: &'a mut K,
 }
 
-// How often the message of a row was received, by the row's receipt.
-fn count_of(row: &Row) -> u64
+/// How often the message of a row was received, by the row's receipt.
+pub fn count_of(row: &Row) -> u64
     ensures { result ≡ receipt_count row.now.receipt }
 {
     match &row.receipt {

@@ -11,6 +11,7 @@ ghost use Rattle.sqs_rehearsal.specs.Writers.{seen};
 
 use crate::options::Split;
 use crate::outcome::flush;
+use crate::printing::run_printed;
 use crate::recorder::Recorder;
 use crate::running::{Running, run_workers};
 use crate::watch::Watch;
@@ -19,12 +20,13 @@ use sim_records::{Names, Out, write_header};
 use sim_report::Report;
 use sim_scenario::Scenario;
 use sim_site::Site;
-use sim_workers::Gate;
+use sim_workers::{Gate, Open};
 use std::alloc::Global;
 use std::sync::Wait;
 use std::thread::Threads;
 
 // Runs a scenario. Its rows are written to a log and counted; a watch is informed of the progress.
+// Several workers print the rows that they make. A single one hands them on as they are.
 fn run_rows<'a, G: Gate<Running> + Sync, L: Out, P: Watch, W: Threads + Wait + Sync>(
     rt: &W,
     alloc: Global,
@@ -58,14 +60,22 @@ fn run_rows<'a, G: Gate<Running> + Sync, L: Out, P: Watch, W: Threads + Wait + S
         watch,
         horizon,
     };
+    let Split {
+        layout,
+        window,
+        workers,
+    } = split;
+    if workers > 1 {
+        return run_printed(rt, alloc, scenario, layout, workers, gate, &mut recorder);
+    }
     run_workers(
         rt,
         alloc,
         scenario,
-        split.layout,
-        split.window,
-        split.workers,
-        gate,
+        layout,
+        window,
+        workers,
+        &Open,
         &mut recorder,
     )
 }

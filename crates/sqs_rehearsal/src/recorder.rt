@@ -1,13 +1,21 @@
 //! A log and a report that take rows during a run.
-ghost use Rattle.std.specs.Prelude.{◌≡◌, false};
+ghost use Rattle.std.specs.Prelude.{◌≡◌, ◌≤◌, false, flat_map, map, nat_le, IfErr, IfOk, List, OnOk};
+ghost use Rattle.std.specs.List.{list_all};
+ghost use Rattle.sim_records.specs.Writes.{Wrote};
+ghost use Rattle.sqs_message.specs.declared.row.Row.{Row as TheRow};
+ghost use Rattle.sqs_model.specs.Answers.{most_count};
+ghost use Rattle.sqs_rehearsal.specs.Printed.{printed, printed_added};
+ghost use Rattle.sqs_rehearsal.specs.Sinks.{Recorded, StoppedAt};
 
+use crate::printed::PrintedRow;
 use crate::watch::Watch;
 use sim_clock::Refusal;
-use sim_records::{Names, Out, write_rows};
+use sim_records::{Names, Out, write_all, write_rows};
 use sim_report::Report;
 use sim_windows::RowSink;
 use sqs_message::Row;
-use std::alloc::Global;
+use sqs_model::MOST_COUNT;
+use std::alloc::{AllocError, Global};
 
 /// Writes rows to a writer as lines of the log, adds them to a report, and informs a watch of them.
 /// It does not write the header of the log.
@@ -55,4 +63,90 @@ impl<W: Out, P: Watch> RowSink<Row> for Recorder<'_, W, P> {
     ghost took_both = { λ a b c xs ys first second. recorded_both W.held W.failed a b c xs ys first second };
 
     ghost broke_later = { λ a b c xs ys refusal first second. stopped_later W.held W.failed a b c xs ys refusal first second };
+}
+
+// The length that most lines do not exceed, in bytes.
+const LINE: usize = 72;
+
+// The lines of printed rows.
+fn lines_of(alloc: Global, rows: &[PrintedRow]) -> Result<Vec<u8>, AllocError>
+    ensures { IfOk result (λ text. text.items ≡ flat_map (λ p. p.line) rows.now) }
+{
+    let mut text = Vec::with_capacity(alloc, rows.len().saturating_mul(LINE))?;
+    for row in rows {
+        text.extend_from_slice(row.line())?;
+    }
+    Ok(text)
+}
+
+// Writes the lines of printed rows.
+fn write_printed<W: Out>(alloc: Global, out: &mut W, rows: &[PrintedRow]) -> Result<(), Refusal>
+    requires { W.failed out.old ≡ false }
+    ensures { Wrote (W.held out.old) (W.held out.new) (W.failed out.new)
+        (flat_map (λ p. p.line) rows.now) result }
+{
+    let text = lines_of(alloc, rows)?;
+    write_all(out, text.as_slice())?;
+    Ok(())
+}
+
+// Adds what printed rows count to a report.
+fn count_printed(report: &mut Report, rows: &[PrintedRow]) -> Result<(), AllocError>
+    ensures { OnOk result (report.new ≡ printed_added report.old rows.now) }
+{
+    for row in rows {
+        report.add_count(row.count())?;
+    }
+    Ok(())
+}
+
+impl<W: Out, P: Watch> Recorder<'_, W, P> {
+    // Writes the lines of printed rows, and adds what they count.
+    fn take_printed(&mut self, rows: &[PrintedRow]) -> Result<(), Refusal>
+        requires ready { W.failed self.old.out.now ≡ false }
+        ensures ready { OnOk result (W.failed self.new.out.now ≡ false) }
+        ensures took { (made : List TheRow) → rows.now ≡ map (printed self.old.names.now) made
+            → OnOk result (Recorded W.held W.failed self.old made self.new) }
+        ensures broke { (made : List TheRow) → rows.now ≡ map (printed self.old.names.now) made
+            → IfErr result (λ refusal. StoppedAt W.held W.failed self.old made refusal self.new) }
+    {
+        write_printed(self.alloc, self.out, rows)?;
+        count_printed(self.report, rows)?;
+        if let Some(last) = rows.last() {
+            self.watch.came_to(last.at(), self.horizon, rows.len());
+        }
+        Ok(())
+    }
+}
+
+// Whether no printed row has a count past the limit.
+fn are_printed_within(rows: &[PrintedRow]) -> bool
+    ensures { result ≡ list_all (λ p. nat_le p.received most_count) rows.now }
+{
+    rows.iter().all(|row| row.received() <= MOST_COUNT)
+}
+
+// Printed rows are looked at, too: one with a count past 2^62 - 1 is refused with `CountLimit`.
+impl<W: Out, P: Watch> RowSink<PrintedRow> for Recorder<'_, W, P> {
+    ghost use Rattle.sqs_rehearsal.specs.Printed.{BrokePrinted, TookPrinted};
+    ghost use Rattle.sqs_rehearsal.specs.PrintedLaws.{broke_printed_later, printed_both, printed_none};
+
+    ghost ready = { λ recorder. W.failed recorder.out.now ≡ false };
+
+    ghost took = { λ before made after. TookPrinted W.held W.failed before made after };
+
+    ghost broke = { λ before made refusal after. BrokePrinted W.held W.failed before made refusal after };
+
+    fn take(&mut self, rows: &[PrintedRow]) -> Result<(), Refusal> {
+        if !are_printed_within(rows) {
+            return Err(Refusal::CountLimit);
+        }
+        self.take_printed(rows)
+    }
+
+    ghost unchanged = { λ recorder. printed_none W.held W.failed recorder };
+
+    ghost took_both = { λ a b c xs ys first second. printed_both W.held W.failed a b c xs ys first second };
+
+    ghost broke_later = { λ a b c xs ys refusal first second. broke_printed_later W.held W.failed a b c xs ys refusal first second };
 }

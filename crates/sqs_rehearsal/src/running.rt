@@ -14,6 +14,7 @@ ghost use Rattle.sqs_rehearsal.specs.Options.{is_within};
 use crate::limited::{Limited, counted};
 use crate::opening::open_world;
 use crate::options::check_workers;
+use crate::printed::PrintedSite;
 use sim_clock::Refusal;
 use sim_exchange::PartMap;
 use sim_scenario::{Scenario, least_latency};
@@ -25,14 +26,16 @@ use std::alloc::Global;
 use std::sync::Wait;
 use std::thread::Threads;
 
-/// Queues of a partition, and the bound to which they are to run.
-pub type Piece = sim_workers::Piece<Site>;
+/// Queues of a partition, whose rows are printed as they are made, and the bound to which they are
+/// to run.
+pub type Piece = sim_workers::Piece<PrintedSite>;
 
 /// The result of a piece.
-pub type Done = sim_workers::Done<Site>;
+pub type Done = sim_workers::Done<PrintedSite>;
 
-/// The running of queues in partitions, as a work that is handed over. It is used in types alone.
-pub type Running = sim_workers::Running<Site>;
+/// The running of such queues in partitions, as a work that is handed over. It is used in types
+/// alone.
+pub type Running = sim_workers::Running<PrintedSite>;
 
 /// Runs a scenario to its horizon on this thread. Each step handles the earliest event of all
 /// queues and hands its rows to a sink at once. Returns the sites of the last world, by number.
@@ -95,7 +98,11 @@ fn check_window(scenario: &Scenario, window: u64) -> Result<(), Refusal>
 /// single worker needs no thread. After these three the sink took nothing. `Memory` if a growth is
 /// refused, and `CountLimit` only if the run takes a count past 2^62 - 1. Else the sink's error.
 /// After any error the sink took a prefix of the run's rows.
-pub fn run_workers<G: Gate<Running> + Sync, K: RowSink<Row>, W: Threads + Wait + Sync>(
+pub fn run_workers<
+    G: Gate<sim_workers::Running<Site>> + Sync,
+    K: RowSink<Row>,
+    W: Threads + Wait + Sync,
+>(
     rt: &W,
     alloc: Global,
     scenario: Scenario,

@@ -11,8 +11,8 @@ pub returns-clause-whole : goal.returns-clause-whole
 returns-clause-whole g c =
     if_both c.run_workers.result _ _ _
     (λ sites told not_over.
-    let log_is : c.log-1.given.0 ≡ c.run_workers.new.sink.out.now = c.log-1.given.1 (sym told.taken.same.writer) in
-    let report_is : c.report-1.given.0 ≡ c.run_workers.new.sink.report.now = c.report-1.given.1 (sym told.taken.same.report) in
+    let log_is : c.log-2-1.given.0 ≡ c.run_workers.new.sink.out.now = c.log-2-1.given.1 (sym told.taken.same.writer) in
+    let report_is : c.report-2-1.given.0 ≡ c.run_workers.new.sink.report.now = c.report-2-1.given.1 (sym told.taken.same.report) in
     rw (log_is, report_is) (logs_whole g.L.Out.held g.L.Out.failed c.args.scenario _ c.run_workers.new.sink sites.items told c.requires.names c.requires.works c.requires.fresh not_over))
     c.run_workers.ensures.whole c.run_workers.ensures.counted
 
@@ -21,7 +21,7 @@ returns-clause-stops g c r is =
     IfErr-weaker c.run_workers.result _ _
     (λ e told.
     let same = stops_same g.L.Out.held g.L.Out.failed c.args.scenario _ c.run_workers.new.sink e told in
-    let log_is : c.log-1.given.0 ≡ c.run_workers.new.sink.out.now = c.log-1.given.1 (sym same.writer) in
+    let log_is : c.log-2-1.given.0 ≡ c.run_workers.new.sink.out.now = c.log-2-1.given.1 (sym same.writer) in
     rw log_is (logs_prefix g.L.Out.held g.L.Out.failed c.args.scenario _ c.run_workers.new.sink e told c.requires.names c.requires.works r is))
     (c.run_workers.ensures.stops c.requires.window c.requires.workers)
 
@@ -35,3 +35,21 @@ returns-clause-starts g c =
           (λ e stopped same. absurd (stops_started g.L.Out.held g.L.Out.failed c.args.scenario _ c.run_workers.new.sink e stopped same))
           (c.run_workers.ensures.alone c.requires.window (omega (arith, k, within_least workers c.requires.workers)))
     ]
+
+pub returns-then-workers-gt1-clause-whole : goal.returns-then-workers-gt1-clause-whole
+returns-then-workers-gt1-clause-whole g c =
+    if_both c.run_printed.result _ _ _
+    (λ sites told not_over.
+    let log_is : c.log-1.given.0 ≡ c.run_printed.new.sink.out.now = c.log-1.given.1 (sym told.taken.same.writer) in
+    let report_is : c.report-1.given.0 ≡ c.run_printed.new.sink.report.now = c.report-1.given.1 (sym told.taken.same.report) in
+    rw (log_is, report_is) (logs_whole g.L.Out.held g.L.Out.failed c.args.scenario _ c.run_printed.new.sink sites.items told c.requires.names c.requires.works c.requires.fresh not_over))
+    c.run_printed.ensures.whole c.run_printed.ensures.counted
+
+pub returns-then-workers-gt1-clause-stops : goal.returns-then-workers-gt1-clause-stops
+returns-then-workers-gt1-clause-stops g c r is =
+    IfErr-weaker c.run_printed.result _ _
+    (λ e told.
+    let same = stops_same g.L.Out.held g.L.Out.failed c.args.scenario _ c.run_printed.new.sink e told in
+    let log_is : c.log-1.given.0 ≡ c.run_printed.new.sink.out.now = c.log-1.given.1 (sym same.writer) in
+    rw log_is (logs_prefix g.L.Out.held g.L.Out.failed c.args.scenario _ c.run_printed.new.sink e told c.requires.names c.requires.works r is))
+    c.run_printed.ensures.stops

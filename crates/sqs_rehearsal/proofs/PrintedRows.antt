@@ -1,0 +1,89 @@
+-- What a recorder takes of printed rows is what it takes of the rows.
+use Rattle.std.specs.List.{list_all}
+use Rattle.std.specs.Prelude.{Bool, Err, IfErr, List, Ok, OnOk, Option, Result, [], flat_map, map, nat_le, ℕ, ◌++◌, ◌&&◌, ◌∷◌, ◌≡◌}
+use Rattle.std.proofs.Common.{ap, refl, subst, sym, ◌∙◌}
+use Rattle.std.specs.Io.KnownBytes.{Appends}
+use Rattle.sim_clock.specs.declared.refusal.Refusal.{Refusal}
+use Rattle.sim_clock.specs.declared.refusal.Refusal.TheVariants as refusals
+use Rattle.sim_records.proofs.Writes.{several-one}
+use Rattle.sim_records.specs.Writes.{Wrote, WroteSeveral}
+use Rattle.sim_report.proofs.Groups.{running-append}
+use Rattle.sim_report.specs.Running.{count_added, rows_added}
+use Rattle.sim_report.specs.Tally.{count_of}
+use Rattle.sim_report.specs.declared.queue.QueueCounts.{QueueCounts}
+use Rattle.sqs_formats.specs.Rows.{line, lines, row_fields}
+use Rattle.sqs_message.specs.declared.row.Row.{Row}
+use Rattle.sqs_model.specs.Answers.{most_count}
+use Rattle.sqs_model.specs.Counts.{receipt_count}
+use Rattle.sqs_rehearsal.proofs.Prefixes.{all_are_prefix}
+use Rattle.sqs_rehearsal.specs.Printed.{Printed, printed, printed_added}
+use Rattle.sqs_rehearsal.specs.Sinks.{Added, IsSame, Recorded, StoppedAt, lines_of}
+use Rattle.sqs_rehearsal.specs.declared.recorder.Recorder.{Recorder}
+
+-- the lines of printed rows
+abbrev pub text_in : List Printed → List ℕ
+text_in made = flat_map (λ p. p.line) made
+
+text_printed : (names : List (List ℕ)) (rows : List Row) → text_in (map (printed names) rows) ≡ lines (map (row_fields names) rows)
+text_printed names [] = refl
+text_printed names (r ∷ rows) = ap (λ t. line (row_fields names r) ++ t) (text_printed names rows)
+
+-- a report with what printed rows count
+counts_printed : (names : List (List ℕ)) (report : List QueueCounts) (rows : List Row) → printed_added report (map (printed names) rows) ≡ rows_added report rows
+counts_printed names report [] = refl
+counts_printed names report (r ∷ rows) = counts_printed names (count_added report (count_of r)) rows
+
+added_printed : (names : List (List ℕ)) (report : List QueueCounts) (rows : List Row) → Added report rows (printed_added report (map (printed names) rows))
+added_printed names report rows queues sofar is =
+    counts_printed names report rows ∙ ap (λ qs. rows_added qs rows) is ∙ running-append queues sofar rows
+
+-- whether printed rows have a count past the limit
+pub within_printed : (names : List (List ℕ)) (rows : List Row)
+    → list_all (λ (p : Printed). nat_le p.received most_count) (map (printed names) rows) ≡ list_all (λ (r : Row). nat_le (receipt_count r.receipt) most_count) rows
+within_printed names [] = refl
+within_printed names (r ∷ rows) = ap (λ b. nat_le (receipt_count r.receipt) most_count && b) (within_printed names rows)
+
+-- what an answer promises of each is promised of each in an answer
+pub on_ok_each : {T E A : Type 0} (B P : A → Type 0) (r : Result T E) → ((x : A) → B x → OnOk r (P x)) → OnOk r ((x : A) → B x → P x)
+on_ok_each B P (Ok t) h = h
+on_ok_each B P (Err e) h = tt
+
+pub if_err_each : {T E A : Type 0} (B : A → Type 0) (P : E → A → Type 0) (r : Result T E) → ((x : A) → B x → IfErr r (λ e. P e x)) → IfErr r (λ e. (x : A) → B x → P e x)
+if_err_each B P (Ok t) h = tt
+if_err_each B P (Err e) h = h
+
+module _ {W P : Type 0} (held : W → Option (List ℕ)) (failed : W → Bool) (before after : Recorder W P) (made : List Printed) (rows : List Row) (are : made ≡ map (printed before.names.now) rows) (same : IsSame before after) where
+  -- their text is that of the rows
+  text_is : text_in made ≡ lines_of before rows
+  text_is = ap text_in are ∙ text_printed before.names.now rows
+
+  -- all are written and counted
+  pub recorded_printed : (u : Unit {0}) → Wrote (held before.out.now) (held after.out.now) (failed after.out.now) (text_in made) (Ok u) → after.report.now ≡ printed_added before.report.now made → Recorded held failed before rows after
+  recorded_printed u wrote counted =
+      let all : after.report.now ≡ printed_added before.report.now (map (printed before.names.now) rows) = counted ∙ ap (printed_added before.report.now) are in
+      record {
+        same = same;
+        written = subst (λ (t : List ℕ). Appends (held before.out.now) (held after.out.now) t) text_is wrote.0;
+        works = λ works. wrote.1;
+        added = subst (λ (qs : List QueueCounts). Added before.report.now rows qs) (sym all) (added_printed before.names.now before.report.now rows);
+      }
+
+  -- they could not be written
+  pub stopped_printed : (e : Refusal) → Wrote (held before.out.now) (held after.out.now) (failed after.out.now) (text_in made) (Err e) → StoppedAt held failed before rows e after
+  stopped_printed e wrote =
+      record {
+        same = same;
+        written =
+            subst (λ (t : List ℕ). WroteSeveral (held before.out.now) (held after.out.now) (failed after.out.now) t (Err e)) text_is
+            (several-one (held before.out.now) (held after.out.now) (failed after.out.now) (text_in made) (Err e) wrote);
+      }
+
+  -- or not counted
+  pub uncounted_printed : (u : Unit {0}) → Wrote (held before.out.now) (held after.out.now) (failed after.out.now) (text_in made) (Ok u) → StoppedAt held failed before rows refusals.Memory after
+  uncounted_printed u wrote =
+      record {
+        same = same;
+        written =
+            subst (λ (t : List ℕ). WroteSeveral (held before.out.now) (held after.out.now) (failed after.out.now) t (Err refusals.Memory)) text_is
+            (all_are_prefix (held before.out.now) (held after.out.now) (text_in made) wrote.0, wrote.1);
+      }
