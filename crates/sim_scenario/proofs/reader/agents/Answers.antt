@@ -3,8 +3,6 @@ use Rattle.sqs_formats.specs.Reading.{and_then}
 use Rattle.sqs_formats.specs.Scenario.{agents}
 use Rattle.sim_scenario.specs.Tops.{top_view}
 use Rattle.sim_scenario.proofs.InRange.{whole_in_range}
-use Rattle.sim_scenario.proofs.Exits.{past, way_out}
-use Rattle.sim_scenario.proofs.ListItems.{fails_first}
 use Rattle.sim_scenario.proofs.reader.agents.Goals as goal
 
 pub assembled-requires : goal.assembled-requires
@@ -12,22 +10,6 @@ assembled-requires c =
     rw c.in_ok-actors-2.ensures (
     whole_in_range c.args.scripts.now (top_view c.args.top.now) c.args.outline.now c.in_ok-queues.queues.items c.in_ok-each.field-0.items c.in_ok-actors.actors.items c.in_ok-tasks.tasks.items c.requires.numbers
     (record { outlined = c.requires.outlined; queues_are = c.in_ok-queues.ensures; judged_are = c.in_ok-each.ensures; actors_are = c.in_ok-actors.ensures; tasks_are = c.in_ok-tasks.ensures }))
-
-pub returns-in_err-queues-clause-value : goal.returns-in_err-queues-clause-value
-unfolding agents
-returns-in_err-queues-clause-value c = way_out _ _ _ _ c.from_residual.ensures.1 (fails_first _ _ _ c.in_err-queues.ensures)
-
-pub returns-in_err-each-clause-value : goal.returns-in_err-each-clause-value
-unfolding agents
-returns-in_err-each-clause-value c = way_out _ _ _ _ c.from_residual-in_err-each.ensures.1 (past _ _ c.in_ok-queues.ensures (fails_first _ _ _ c.in_err-each.ensures))
-
-pub returns-in_err-actors-clause-value : goal.returns-in_err-actors-clause-value
-unfolding agents
-returns-in_err-actors-clause-value c = way_out _ _ _ _ c.from_residual-in_err-actors.ensures.1 (past _ _ c.in_ok-queues.ensures (past _ _ c.in_ok-each.ensures (fails_first _ _ _ c.in_err-actors.ensures)))
-
-pub returns-in_err-tasks-clause-value : goal.returns-in_err-tasks-clause-value
-unfolding agents
-returns-in_err-tasks-clause-value c = way_out _ _ _ _ c.from_residual-in_err-tasks.ensures.1 (past _ _ c.in_ok-queues.ensures (past _ _ c.in_ok-each.ensures (past _ _ c.in_ok-actors.ensures (fails_first _ _ _ c.in_err-tasks.ensures))))
 
 pub returns-clause-value : goal.returns-clause-value
 unfolding agents and_then
