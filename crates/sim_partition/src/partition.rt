@@ -26,7 +26,28 @@ pub struct Partition<S: Site> {
     due: Option<Key>,
 }
 
-// Delivers what is in an inbox to its sites, and empties it.
+// Delivers what is in an inbox to its sites, and empties it. It is apart from `empty_inbox` since it
+// is rare where one partition has all sites.
+#[cold]
+#[inline(never)]
+fn deliver_inbox<S: Site>(
+    alloc: Global,
+    roster: &mut Roster<S>,
+    inbox: &mut Vec<S::Transfer>,
+) -> Result<(), Refusal>
+    requires past { IfOk roster.old
+        (λ w. All (λ o. All (S.conditions.Past (arrival S.engine o)) w) inbox.old.items) }
+    requires timely { All S.conditions.Timely inbox.old.items }
+    ensures accepted { OnOk result (roster.new ≡ accepted_by S.engine inbox.old.items roster.old) }
+    ensures empty { inbox.new.items ≡ [] }
+    ensures spent { IfErr result (λ refusal. roster.new ≡ Err refusal) }
+    ensures memory { IfOk roster.old (λ w. IfErr result (λ refusal. refusal ≡ Refusal.Memory)) }
+    ensures stays { IfErr roster.old (λ refusal. IfErr result (λ e. e ≡ refusal)) }
+{
+    roster.deliver(mem::replace(inbox, Vec::new(alloc)))
+}
+
+// Delivers what is in an inbox to its sites, if there is anything, and empties it.
 #[inline(always)]
 fn empty_inbox<S: Site>(
     alloc: Global,
@@ -45,7 +66,7 @@ fn empty_inbox<S: Site>(
     if inbox.is_empty() {
         return Ok(());
     }
-    roster.deliver(mem::replace(inbox, Vec::new(alloc)))
+    deliver_inbox(alloc, roster, inbox)
 }
 
 impl<S: Site> Model for Partition<S> {
@@ -80,13 +101,17 @@ impl<S: Site> Partition<S> {
 
     /// The key of the next entry due; none if the partition is spent. The call also promises that
     /// time moves on in its sites, and that nothing there is from after the next entry due.
+    #[inline(always)]
     pub fn least_due(&self) -> Option<Key>
         ensures due { result ≡ due_in S.engine self.now }
         ensures moves_on { IfOk self.now (All S.conditions.Sound) }
         ensures past { IfOk self.now (λ w. AreOfPast S.conditions w (world_due S.engine w)) }
     {
-        let due = self.roster.least_due();
-        if self.inbox.is_empty() { due } else { self.due }
+        if self.inbox.is_empty() {
+            return self.roster.least_due();
+        }
+        let _due = self.roster.least_due();
+        self.due
     }
 
     /// The error that spent the partition, if one did.
@@ -186,6 +211,7 @@ impl<S: Site> Partition<S> {
     /// # Errors
     ///
     /// `Memory`, which spends the partition. A spent partition returns the error that spent it.
+    #[inline(always)]
     pub fn deliver(&mut self, transfers: Vec<S::Transfer>) -> Result<(), Refusal>
         requires past { IfOk self.old
             (λ w. All (λ o. All (S.conditions.Past (arrival S.engine o)) w) transfers.items) }

@@ -92,6 +92,7 @@ impl<S: Site> Roster<S> {
 
     /// The key of the next entry due; none if the partition is spent. The call also promises that
     /// time moves on in its sites, and that nothing there is from after the next entry due.
+    #[inline(always)]
     pub fn least_due(&self) -> Option<Key>
         ensures due { result ≡ due_in S.engine self.now }
         ensures moves_on { IfOk self.now (All S.conditions.Sound) }

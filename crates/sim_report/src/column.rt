@@ -50,6 +50,7 @@ pub struct RowCount {
 
 impl RowCount {
     /// What a row counts.
+    #[inline(always)]
     pub fn of(row: &Row) -> RowCount
         ensures { result ≡ count_of row.now }
     {

@@ -27,6 +27,7 @@ pub(crate) fn fresh_queues(alloc: Global, names: Vec<Text>) -> Result<Vec<QueueC
 }
 
 // Counts what a row counts at its queue, if that is one of these.
+#[inline(always)]
 pub(crate) fn add_count(queues: &mut [QueueCounts], count: RowCount) -> Result<(), AllocError>
     ensures { OnOk result (queues.new ≡ count_added queues.old count) }
 {
