@@ -198,6 +198,6 @@ fn a_partition_of_one_site_says_what_spent_it(rt: HostRuntime) {
     try_refused(&rt, &mut partition, Refusal::CountLimit);
     same(&rt, partition.spent(), Some(Refusal::CountLimit));
     try_due(&rt, &partition, None);
-    let none = deliver(&mut partition, Vec::new(rt.alloc()));
+    let none = deliver(&mut partition, Vec::new(rt.alloc()), false);
     same(&rt, none, Err(Refusal::CountLimit));
 }
