@@ -163,7 +163,11 @@ fn tokens_for_later_are_on_their_way(rt: HostRuntime) {
     deliver(&mut partition, tokens, true).expect(&rt, "a delivery");
     let sites = partition.into_sites().expect(&rt, "memory");
     for counter in &sites {
-        same(&rt, counter.least_due().map(|key| key.at), Some(10));
+        let due = match counter.least_due() {
+            None => None,
+            Some(key) => Some(key.at),
+        };
+        same(&rt, due, Some(10));
     }
 }
 
