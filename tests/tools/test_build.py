@@ -58,7 +58,7 @@ class Build(ToolCase):
 
     def build(self, *words, does=""):
         run = self.start(*words, does=does)
-        out, err = run.communicate(timeout=20)
+        out, err = run.communicate(timeout=60)
         self.assertEqual(os.listdir(self.path("tmp")), [])
         return run.returncode, out, [line.removeprefix("sqs_rehearse: ") for line in err.splitlines()]
 
@@ -68,7 +68,7 @@ class Build(ToolCase):
         return [line.split(" ", 2) for line in path.read_text().splitlines()] if path.exists() else []
 
     def await_call(self, crate):
-        ends = time.monotonic() + 10
+        ends = time.monotonic() + 60
         while not any(call[1] == crate for call in self.calls()) and time.monotonic() < ends:
             time.sleep(0.02)
 
@@ -147,7 +147,7 @@ class Build(ToolCase):
             run = self.start(does="slow sim_b")
             self.await_call("sim_b")
             run.send_signal(number)
-            err = run.communicate(timeout=20)[1]
+            err = run.communicate(timeout=60)[1]
             self.assertEqual((run.returncode, err.splitlines()[-1]), (expected, f"sqs_rehearse: {build.INTERRUPTED}"))
             self.assertFalse([call for call in self.calls() if self.is_running(call[0])])
             self.assertEqual(os.listdir(self.path("tmp")), [])
@@ -158,7 +158,7 @@ class Build(ToolCase):
         self.await_call("sim_b")
         run.kill()
         run.communicate()
-        ends = time.monotonic() + 10
+        ends = time.monotonic() + 60
         while any(self.is_running(call[0]) for call in self.calls()) and time.monotonic() < ends:
             time.sleep(0.02)
         self.assertFalse([call for call in self.calls() if self.is_running(call[0])])
@@ -170,11 +170,11 @@ class Build(ToolCase):
         self.assertEqual(second.stderr.readline(), "sqs_rehearse: another build is under way in this folder; this one "
                          "waits for it, and takes what it proves\n")
         self.write("calls.go", "")
-        self.assertEqual((first.wait(20), second.wait(20)), (0, 0))
+        self.assertEqual((first.wait(60), second.wait(60)), (0, 0))
         first.communicate(), second.communicate()
         third = self.start(does="wait sim_a")
         third.send_signal(signal.SIGTERM)
-        self.assertIn(third.wait(20), (143, -signal.SIGTERM))
+        self.assertIn(third.wait(60), (143, -signal.SIGTERM))
         third.communicate()
 
 

@@ -93,7 +93,7 @@ class Jobs(ToolCase):
             time.sleep(0.2)
             os.remove(self.path("begun"))
             process.send_signal(number)
-            _, err = process.communicate(timeout=20)
+            _, err = process.communicate(timeout=60)
             self.assertEqual((process.returncode, self.files()), (130, []), err)
             self.assertIn("interrupted after 1 of 3 variants", err)
         self.assertEqual(len(self.sweep(*words, "--print-jobs", "results", "--rest")[1].splitlines()), 3)

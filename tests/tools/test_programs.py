@@ -242,7 +242,7 @@ class Dist(WrapperCase):
         while not self.calls():
             time.sleep(0.02)
         os.killpg(run.pid, signal.SIGTERM)
-        run.communicate(timeout=20)
+        run.communicate(timeout=60)
         self.assertEqual((run.returncode, self.cached()), (-signal.SIGTERM, []))
         os.remove(self.path("kit/gzip"))
         self.assertEqual(self.run_it("run")[:2], (0, "packed run\n"))

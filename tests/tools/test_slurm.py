@@ -45,6 +45,13 @@ NodeName=n1 NodeHostname=localhost NodeAddr=127.0.0.1 Port={ports[1]} CPUs={cpus
 NodeName=n2 NodeHostname=localhost NodeAddr=127.0.0.1 Port={ports[2]} CPUs={cpus} State=UNKNOWN
 PartitionName=all Nodes=n1,n2 Default=YES MaxTime=INFINITE State=UP
 """
+# A run in the second task waits for as long as it is held, so that the task is sure to be cancelled while it runs.
+HELD_PROGRAM = """#!/bin/sh
+if [ "$SLURM_ARRAY_TASK_ID" = 2 ] && [ "$1" = run ]; then
+  while [ -e {hold} ]; do : > {begun}; sleep 0.1; done
+fi
+exec {program} "$@"
+"""
 
 
 def free_ports(count: int) -> list[int]:
@@ -74,9 +81,17 @@ class Slurm(ToolCase):
         self.start_servers()
         os.mkdir(self.path("scripts"))
         self.write("scripts/calls.csv", CALLS)
-        # some 0.1 s a run, so that a task lasts for seconds
-        scenario = self.write("s.toml", SCENARIO.replace("= 10000", "= 40000").replace("3600000", "14400000"))
-        self.words = scenario, "--scripts", self.path("scripts"), "--vary", "seed=1..60"
+        scenario = self.write("s.toml", SCENARIO)
+        self.words = scenario, "--scripts", self.path("scripts"), "--vary", "seed=1..6"
+
+    def hold_runs(self) -> str:
+        """Gives the tasks a program whose runs wait in the task with number 2 while a file is there; returns its path.
+        The first such run makes another file, `begun`."""
+        hold = self.write("hold", "")
+        program = self.write("program", HELD_PROGRAM.format(hold=hold, begun=self.path("begun"), program=PROGRAM))
+        os.chmod(program, 0o755)
+        self.environment["SQS_REHEARSE"] = program
+        return hold
 
     def start_servers(self) -> None:
         munged, control, node, _ = map(str, SERVERS)
@@ -122,14 +137,16 @@ class Slurm(ToolCase):
     def test_a_task_that_is_cancelled(self) -> None:
         """It leaves no file, and reports what is left; once it is run again the bytes are those of one sweep."""
         wanted = self.run_tool("sweep", *self.words)[1]
+        hold = self.hold_runs()
         job = self.submit("1-2", 2)
-        self.wait_for(lambda: self.answer("squeue", "--noheader", "--format=%t", f"--job={job}_2") == "R")
+        self.wait_for(lambda: os.path.exists(self.path("begun")))
         subprocess.run(["scancel", f"{job}_2"], check=True, env=self.environment)
         self.wait_until_ended()
+        os.remove(hold)
         self.assertEqual([name[:7] for name in os.listdir(self.path("results"))], ["1-of-2-"])
         status, _, err = self.collected()
         self.assertEqual(status, 1)
-        self.assertIn("30 of 60 variants are left: 2,4,6,", err)
+        self.assertIn("3 of 6 variants are left: 2,4,6", err)
         self.submit("2", 2)
         self.wait_until_ended()
         self.assertEqual(self.collected(), (0, wanted, ""))

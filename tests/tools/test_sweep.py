@@ -290,7 +290,7 @@ r         2     0          0      0       0         0           0      0        
             time.sleep(0.5)
             os.remove(self.path("begun"))
             process.send_signal(number)
-            out, err = process.communicate(timeout=20)
+            out, err = process.communicate(timeout=60)
             if words:
                 with open(self.path("rows.csv"), encoding="utf-8") as file:
                     out = file.read()
