@@ -1,5 +1,5 @@
 //! Partitions.
-ghost use Rattle.std.specs.Prelude.{◌≡◌, ◌+◌, ◌++◌, ◌≤◌, [], All, Err, None, Ok, Some, IfErr, IfOk, OnOk, ℕ};
+ghost use Rattle.std.specs.Prelude.{◌≡◌, ◌+◌, ◌≤◌, [], All, Err, Ok, Option, Some, IfErr, IfOk, OnOk, ℕ};
 ghost use Rattle.sim_clock.specs.declared.key.Key.{Key as TheKey};
 ghost use Rattle.sim_engine.specs.Limits.{most_count};
 ghost use Rattle.sim_engine.specs.World.{arrival, delivered, handled_among, world_due};
@@ -26,29 +26,7 @@ pub struct Partition<S: Site> {
     due: Option<Key>,
 }
 
-// Delivers what is in an inbox to its sites, and empties it. It is apart from `empty_inbox` since it
-// is rare where one partition has all sites.
-#[cold]
-#[inline(never)]
-fn deliver_inbox<S: Site>(
-    alloc: Global,
-    roster: &mut Roster<S>,
-    inbox: &mut Vec<S::Transfer>,
-) -> Result<(), Refusal>
-    requires past { IfOk roster.old
-        (λ w. All (λ o. All (S.conditions.Past (arrival S.engine o)) w) inbox.old.items) }
-    requires timely { All S.conditions.Timely inbox.old.items }
-    ensures accepted { OnOk result (roster.new ≡ accepted_by S.engine inbox.old.items roster.old) }
-    ensures empty { inbox.new.items ≡ [] }
-    ensures spent { IfErr result (λ refusal. roster.new ≡ Err refusal) }
-    ensures memory { IfOk roster.old (λ w. IfErr result (λ refusal. refusal ≡ Refusal.Memory)) }
-    ensures stays { IfErr roster.old (λ refusal. IfErr result (λ e. e ≡ refusal)) }
-{
-    roster.deliver(mem::replace(inbox, Vec::new(alloc)))
-}
-
 // Delivers what is in an inbox to its sites, if there is anything, and empties it.
-#[inline(always)]
 fn empty_inbox<S: Site>(
     alloc: Global,
     roster: &mut Roster<S>,
@@ -59,6 +37,8 @@ fn empty_inbox<S: Site>(
     requires timely { All S.conditions.Timely inbox.old.items }
     ensures accepted { OnOk result (roster.new ≡ accepted_by S.engine inbox.old.items roster.old) }
     ensures empty { inbox.new.items ≡ [] }
+    ensures kept { (due : Option TheKey)
+        → IsInbox S.engine S.conditions roster.new inbox.new.items due }
     ensures spent { IfErr result (λ refusal. roster.new ≡ Err refusal) }
     ensures memory { IfOk roster.old (λ w. IfErr result (λ refusal. refusal ≡ Refusal.Memory)) }
     ensures stays { IfErr roster.old (λ refusal. IfErr result (λ e. e ≡ refusal)) }
@@ -66,7 +46,7 @@ fn empty_inbox<S: Site>(
     if inbox.is_empty() {
         return Ok(());
     }
-    deliver_inbox(alloc, roster, inbox)
+    roster.deliver(mem::replace(inbox, Vec::new(alloc)))
 }
 
 impl<S: Site> Model for Partition<S> {
@@ -126,7 +106,8 @@ impl<S: Site> Partition<S> {
     ///
     /// # Errors
     ///
-    /// Those of `step_into`.
+    /// `Memory` if a growth is refused, and `CountLimit` only if the handling takes a count past
+    /// 2^62 - 1; either spends the partition. A spent partition returns the error that spent it.
     pub fn step(&mut self) -> Result<Effects<S::Row, S::Transfer>, Refusal>
         requires due { IfOk self.old (HasDue S.engine) }
         ensures handled { IfOk self.old (λ w.
@@ -142,39 +123,10 @@ impl<S: Site> Partition<S> {
             IfErr result (StopsStep S.engine (handled_among S.engine key w))) }
         ensures stays { IfErr self.old (λ refusal. result ≡ Err refusal) }
     {
-        let mut effects = Effects::new(self.alloc);
-        self.step_into(&mut effects)?;
-        Ok(effects)
-    }
-
-    /// Handles the least entry due. Appends the rows that this makes and the transfers that it
-    /// sends to those made before.
-    ///
-    /// # Errors
-    ///
-    /// `Memory` if a growth is refused, and `CountLimit` only if the handling takes a count past
-    /// 2^62 - 1; either spends the partition. A spent partition returns the error that spent it.
-    #[inline(always)]
-    pub fn step_into(&mut self, effects: &mut Effects<S::Row, S::Transfer>) -> Result<(), Refusal>
-        requires due { IfOk self.old (HasDue S.engine) }
-        ensures handled { IfOk self.old (λ w.
-            (key : TheKey) → world_due S.engine w ≡ Some key →
-            OnOk result (
-            (self.new ≡ Ok (handled_among S.engine key w).sites)
-            × (effects.new.rows.items
-            ≡ effects.old.rows.items ++ (handled_among S.engine key w).rows)
-            × (effects.new.sent.items
-            ≡ effects.old.sent.items ++ (handled_among S.engine key w).sent))) }
-        ensures timely { All S.conditions.Timely effects.old.sent.items
-            → OnOk result (All S.conditions.Timely effects.new.sent.items) }
-        ensures spent { IfErr result (λ refusal. self.new ≡ Err refusal) }
-        ensures stops { IfOk self.old (λ w.
-            (key : TheKey) → world_due S.engine w ≡ Some key →
-            IfErr result (StopsStep S.engine (handled_among S.engine key w))) }
-        ensures stays { IfErr self.old (λ refusal. result ≡ Err refusal) }
-    {
         empty_inbox(self.alloc, &mut self.roster, &mut self.inbox)?;
-        self.roster.step_into(effects)
+        let mut effects = Effects::new(self.alloc);
+        self.roster.step_into(&mut effects)?;
+        Ok(effects)
     }
 
     /// Handles all that is due before a moment in milliseconds, in the order of keys. Returns the
@@ -227,8 +179,9 @@ impl<S: Site> Partition<S> {
     }
 
     /// Puts transfers on their way to its sites, which accept them before they handle anything
-    /// more: the thread that runs the partition next does that work. A transfer to a site that is not there changes
-    /// nothing. No transfer may arrive before the moment of anything that these sites have made.
+    /// more: the thread that runs the partition next does that work. A transfer to a site that is
+    /// not there changes nothing. No transfer may arrive before the moment of anything that these
+    /// sites have made.
     ///
     /// # Errors
     ///

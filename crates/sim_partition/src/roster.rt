@@ -1,4 +1,4 @@
-//! The sites of a partition.
+//! Sites that accept transfers at once.
 ghost use Rattle.std.specs.Prelude.{◌≡◌, ◌+◌, ◌++◌, ◌≤◌, All, Err, List, None, Ok, Some, IfErr, IfOk, OnOk, ℕ};
 ghost use Rattle.sim_clock.specs.Order.{due_before};
 ghost use Rattle.sim_clock.specs.declared.key.Key.{Key as TheKey};
@@ -17,9 +17,9 @@ use sim_index::MarkedList;
 use std::alloc::{AllocError, Global};
 use std::marker::Model;
 
-/// Sites in the order of their numbers. An error, out of memory or a count at its limit, spends the
-/// partition. Contracts see it as the sites, and once it is spent, as the error. An entry takes
-/// time logarithmic in the number of sites.
+/// Sites in the order of their numbers, which accept transfers as soon as they are delivered. An
+/// error, out of memory or a count at its limit, spends the roster. Contracts see it as the sites,
+/// and once it is spent, as the error. An entry takes time logarithmic in the number of sites.
 #[derive(Drop)]
 pub struct Roster<S: Site> {
     alloc: Global,
@@ -70,7 +70,7 @@ impl<S: Site> Model for Roster<S> {
 }
 
 impl<S: Site> Roster<S> {
-    /// A partition of these sites.
+    /// A roster of these sites.
     ///
     /// # Errors
     ///
@@ -90,7 +90,7 @@ impl<S: Site> Roster<S> {
         })
     }
 
-    /// The key of the next entry due; none if the partition is spent. The call also promises that
+    /// The key of the next entry due; none if the roster is spent. The call also promises that
     /// time moves on in its sites, and that nothing there is from after the next entry due.
     #[inline(always)]
     pub fn least_due(&self) -> Option<Key>
@@ -104,7 +104,7 @@ impl<S: Site> Roster<S> {
         self.sites.least()
     }
 
-    /// The error that spent the partition, if one did.
+    /// The error that spent the roster, if one did.
     pub fn spent(&self) -> Option<Refusal>
         ensures { result ≡ refusal_in self.now }
     {
@@ -117,7 +117,7 @@ impl<S: Site> Roster<S> {
     /// # Errors
     ///
     /// `Memory` if a growth is refused, and `CountLimit` only if the handling takes a count past
-    /// 2^62 - 1; either spends the partition. A spent partition returns the error that spent it.
+    /// 2^62 - 1; either spends the roster. A spent roster returns the error that spent it.
     #[inline(always)]
     pub fn step_into(&mut self, effects: &mut Effects<S::Row, S::Transfer>) -> Result<(), Refusal>
         requires due { IfOk self.old (HasDue S.engine) }
@@ -154,7 +154,7 @@ impl<S: Site> Roster<S> {
     /// # Errors
     ///
     /// `Memory` if a growth is refused, and `CountLimit` only if the run takes a count past 2^62 -
-    /// 1; either spends the partition. A spent partition returns the error that spent it.
+    /// 1; either spends the roster. A spent roster returns the error that spent it.
     pub fn run_to(&mut self, end: u64) -> Result<Effects<S::Row, S::Transfer>, Refusal>
         requires { end ≤ most_count + 1 }
         ensures moves_on { IfOk self.old (All S.conditions.Sound) }
@@ -191,7 +191,7 @@ impl<S: Site> Roster<S> {
     ///
     /// # Errors
     ///
-    /// `Memory`, which spends the partition. A spent partition returns the error that spent it.
+    /// `Memory`, which spends the roster. A spent roster returns the error that spent it.
     pub fn deliver(&mut self, transfers: Vec<S::Transfer>) -> Result<(), Refusal>
         requires past { IfOk self.old
             (λ w. All (λ o. All (S.conditions.Past (arrival S.engine o)) w) transfers.items) }
@@ -212,7 +212,7 @@ impl<S: Site> Roster<S> {
         Ok(())
     }
 
-    /// The key of the entry that is due next once transfers are delivered; none if the partition is
+    /// The key of the entry that is due next once transfers are delivered; none if the roster is
     /// spent.
     pub fn least_due_after(&self, transfers: &[S::Transfer]) -> Option<Key>
         ensures { result ≡ due_in S.engine (accepted_by S.engine transfers.now self.now) }
@@ -229,7 +229,7 @@ impl<S: Site> Roster<S> {
         due
     }
 
-    /// The sites of the partition, by number.
+    /// The sites of the roster, by number.
     pub fn into_sites(self) -> Vec<S>
         ensures { IfOk self (λ w. result.items ≡ w) }
     {

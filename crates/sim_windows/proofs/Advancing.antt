@@ -20,9 +20,8 @@ use Rattle.sim_engine.specs.Laws.{Conditions, SiteLaws}
 use Rattle.sim_engine.specs.Machine.{Machine, flushed, has_ready, is_finished}
 use Rattle.sim_engine.specs.Parts.{part_due}
 use Rattle.sim_engine.specs.Setting.{Setting}
-use Rattle.sim_engine.specs.World.{arrival, next_due, world_due}
-use Rattle.sim_engine.proofs.Machines.{before_at, not_some}
-use Rattle.sim_engine.proofs.Parts.{before_lesser}
+use Rattle.sim_engine.specs.World.{next_due}
+use Rattle.sim_engine.proofs.Machines.{before_at}
 use Rattle.sim_engine.proofs.ReadByParts.{by_past, machines_are_read_by_parts}
 use Rattle.sim_engine.proofs.Worlds.{not_before}
 use Rattle.sim_exchange.specs.Layout.{owner_of}
@@ -33,7 +32,7 @@ use Rattle.sim_windows.specs.Stages.{Standing, Stands, TakeTime, bounded_by, del
 use Rattle.sim_windows.specs.declared.lent.Came.{Came}
 use Rattle.sim_windows.proofs.LowerBounds.{settles}
 use Rattle.sim_windows.proofs.Least.{least_from, least_of_all, least_within, none_earlier}
-use Rattle.sim_windows.proofs.Meetings.{at_barrier, bounds_in, meets, parts_in}
+use Rattle.sim_windows.proofs.Meetings.{at_barrier, meets, parts_in}
 use Rattle.sim_windows.proofs.Reading.{end_is, finished_is, lower_bound_is, has_next}
 use Rattle.sim_windows.proofs.Standing.{below, bound_at, keeps, many_parts, none_due_is, shown_in}
 

@@ -1,16 +1,14 @@
 -- What a sink and the rows that wait take in turn they take together.
 use Rattle.std.specs.Prelude.{List, [], ◌++◌, ◌≡◌, ℕ}
-use Rattle.std.proofs.Common.{ap, append_assoc, inl, inr, refl, subst, sym, ◌∙◌}
+use Rattle.std.proofs.Common.{ap, append_assoc, inl, inr, subst, sym, ◌∙◌}
 use Rattle.std.proofs.lemmas.List.{append-nil}
 use Rattle.sim_clock.specs.declared.refusal.Refusal.{Refusal}
-use Rattle.sim_clock.specs.declared.refusal.Refusal.TheVariants as refusals
 use Rattle.sim_engine.specs.Engine.{Engine}
 use Rattle.sim_engine.specs.Laws.{Conditions, SiteLaws}
-use Rattle.sim_engine.specs.Limits.{IsOver, StopsWhere}
-use Rattle.sim_engine.specs.Setting.{IsRunOf, Setting}
-use Rattle.sim_engine.specs.World.{Run, after}
-use Rattle.sim_windows.specs.Gathered.{BreaksAmong, Breaks, Gathered, Gathers, HaltsGathering, HandsFirst, HasGathered, gathered}
-use Rattle.sim_windows.specs.Sinks.{HasHalted, HasRun, HasStopped, IsPrefixOfRun, StopsAt, StopsRun}
+use Rattle.sim_engine.specs.Setting.{Setting}
+use Rattle.sim_engine.specs.World.{after}
+use Rattle.sim_windows.specs.Gathered.{Breaks, Gathered, Gathers, HaltsGathering, HasGathered, gathered}
+use Rattle.sim_windows.specs.Sinks.{HasHalted, HasRun, HasStopped, IsPrefixOfRun}
 use Rattle.sim_windows.proofs.Sinking.{halts_on, prefix_after, runs_on}
 
 module _ {K Row : Type 0} (took : K → List Row → K → Type 0) where
@@ -78,12 +76,3 @@ module _ {Site Row Transfer : Type 0} {engine : Engine Site Row Transfer} {condi
           let first : List Row = here.taken.0 in
           let whole : first ++ left ≡ rows = sym here.taken.1.0 ∙ ap (λ z. z ++ rows) none in
           record { rows = rows; prefix = prefix_after basics s here.steps; at_rows = inr (subst (λ z. broke a z e c) whole (broke_later a b c first left e here.taken.1.1 last)) }
-
-      -- one that runs out of memory once the sink took the last rows
-      pub stops_ended : (horizon : ℕ) (start sites : List Site) (a b c : K) (begun left : List Row) → begun ≡ [] → horizon ≡ s.horizon → start ≡ s.opening → HasGathered engine took horizon start (gathered a begun) sites (gathered b left) → took b left c → HasStopped engine took broke s a refusals.Memory c
-      stops_ended horizon start sites a b c begun left none h o ran last =
-          let here : HasGathered engine took s.horizon s.opening (gathered a begun) sites (gathered b left) = subst (λ w. HasGathered engine took s.horizon w (gathered a begun) sites (gathered b left)) o (subst (λ n. HasGathered engine took n start (gathered a begun) sites (gathered b left)) h ran) in
-          let rows : List Row = (after engine s.horizon here.steps s.opening).rows in
-          let first : List Row = here.taken.0 in
-          let whole : first ++ left ≡ rows = sym here.taken.1.0 ∙ ap (λ z. z ++ rows) none in
-          record { rows = rows; prefix = prefix_after basics s here.steps; at_rows = inl (subst (λ z. took a z c) whole (took_both a b c first left here.taken.1.1 last), tt) }

@@ -8,7 +8,7 @@ use Rattle.sim_clock.specs.declared.key.Key.{Key}
 use Rattle.sim_clock.specs.Order.{due_before, lesser}
 use Rattle.sim_exchange.specs.Layout.{owner_of}
 use Rattle.sim_exchange.specs.Table.{distance_in}
-use Rattle.sim_engine.specs.Bounds.{least_bound, own_bound}
+use Rattle.sim_engine.specs.Bounds.{least_bound}
 use Rattle.sim_engine.specs.Kept.{IsAllFrom}
 use Rattle.sim_engine.specs.Machine.{Machine, flushed, has_ready, ready}
 use Rattle.sim_engine.specs.Merge.{merged_all, row_cmp}

@@ -11,7 +11,7 @@ use Rattle.sim_clock.specs.Order.{due_before, lesser}
 use Rattle.sim_engine.specs.Bounds.{least_bound}
 use Rattle.sim_engine.specs.Engine.{Engine}
 use Rattle.sim_engine.specs.Laws.{Conditions, SiteLaws}
-use Rattle.sim_engine.specs.Machine.{Machine, has_ready, is_finished, ready}
+use Rattle.sim_engine.specs.Machine.{has_ready, is_finished, ready}
 use Rattle.sim_engine.specs.Parts.{part_of}
 use Rattle.sim_engine.specs.Setting.{Setting}
 use Rattle.sim_engine.specs.World.{arrival, due_by, next_due}

@@ -1,7 +1,7 @@
 -- A stage to which one partition more has come back.
-use Rattle.std.specs.Prelude.{List, Ok, Result, Vec, [], drop, get_or, length, map, set, ℕ, ◌++◌, ◌+◌, ◌<◌, ◌∷◌, ◌≡◌, ◌≤◌}
-use Rattle.std.proofs.Common.{Global, ap, arith, length-append, subst, sym, ◌∙◌}
-use Rattle.std.proofs.lemmas.List.{get_or-map, length-drop, length-map, map-set}
+use Rattle.std.specs.Prelude.{List, Ok, Result, [], drop, get_or, length, set, ℕ, ◌++◌, ◌+◌, ◌<◌, ◌∷◌, ◌≡◌, ◌≤◌}
+use Rattle.std.proofs.Common.{ap, arith, length-append, subst, sym, ◌∙◌}
+use Rattle.std.proofs.lemmas.List.{get_or_default, length-drop}
 use Rattle.sim_clock.specs.declared.refusal.Refusal.{Refusal}
 use Rattle.sim_engine.specs.Engine.{Engine}
 use Rattle.sim_engine.specs.Laws.{Conditions, SiteLaws}
@@ -14,19 +14,9 @@ use Rattle.sim_windows.proofs.Rounds.{RunsOn, ran_by, runs_on}
 use Rattle.sim_windows.proofs.Standing.{many_bounds, many_parts, many_rows}
 use Rattle.sim_windows.specs.declared.lent.Came.{Came}
 
--- as many lists as there are
-pub rows_many : {R : Type 0} (rows : List (Vec R Global)) → length (map (λ (v : Vec R Global). v.items) rows) ≡ length rows
-rows_many {R} rows = length-map rows (λ (v : Vec R Global). v.items)
-
 -- the rows of one list, with more of them
-pub rows_back :
-    {R : Type 0} (rows : List (Vec R Global)) (k : ℕ) (old new : Vec R Global) (more : List R) → k < length rows → old ≡ get_or rows k old → new.items ≡ old.items ++ more
-    → set (map (λ (v : Vec R Global). v.items) rows) k (get_or (map (λ (v : Vec R Global). v.items) rows) k [] ++ more) ≡ map (λ (v : Vec R Global). v.items) (set rows k new)
-rows_back {R} rows k old new more l is e =
-    let items : Vec R Global → List R = λ v. v.items in
-    let all : List (List R) = map items rows in
-    let added : new.items ≡ get_or all k [] ++ more = e ∙ ap (λ (v : Vec R Global). v.items ++ more) is ∙ ap (λ z. z ++ more) (sym (get_or-map items rows k old [] l)) in
-    sym (map-set items rows k new ∙ ap (set all k) added)
+pub rows_back : {R : Type 0} (rows : List (List R)) (k : ℕ) (old new more : List R) → k < length rows → old ≡ get_or rows k old → new ≡ old ++ more → set rows k (get_or rows k [] ++ more) ≡ set rows k new
+rows_back rows k old new more l is e = ap (set rows k) (sym (e ∙ ap (λ z. z ++ more) (is ∙ get_or_default rows k old [] l)))
 
 module _ {Site Row Transfer : Type 0} {engine : Engine Site Row Transfer} {conditions : Conditions Site Transfer} (basics : SiteLaws engine conditions) where
   -- the stage with one partition more

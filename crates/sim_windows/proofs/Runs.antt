@@ -1,16 +1,15 @@
 -- How a run goes on, handling by handling.
 use Rattle.std.specs.Prelude.{All, IsNone, List, None, Option, Some, suc, zero, ℕ, ◌++◌, ◌+◌, ◌-◌, ◌<◌, ◌≡◌, ◌≤◌}
-use Rattle.std.proofs.Common.{[], ap, append_assoc, arith, inl, inr, refl, sym, ◌∙◌}
-use Rattle.std.proofs.lemmas.Bool.{cases_lt, le-leb, lt-leb}
+use Rattle.std.proofs.Common.{[], ap, append_assoc, arith, refl, sym, ◌∙◌}
+use Rattle.std.proofs.lemmas.Bool.{lt-leb}
 use Rattle.std.proofs.lemmas.List.{append-nil}
-use Rattle.std.proofs.lemmas.List.Elements.{All-weaker}
 use Rattle.sim_clock.specs.declared.key.Key.{Key}
 use Rattle.sim_engine.specs.Engine.{Engine}
 use Rattle.sim_engine.specs.Laws.{Conditions, SiteLaws}
-use Rattle.sim_engine.specs.World.{Run, Stepped, after, delivered, handled_among, next_due, run_on, stepped, stepped_at, world_due}
+use Rattle.sim_engine.specs.World.{Run, after, handled_among, next_due, run_on, stepped, stepped_at, world_due}
 use Rattle.sim_engine.proofs.Ends.{Stepping, next_is, step_falls}
 use Rattle.sim_engine.proofs.Counts.{tick, tick_now, tick_past}
-use Rattle.sim_engine.proofs.WorldMoves.{FallsAmong, among_falls, delivered_count, delivered_sound, tick_key, world_count, world_in, world_none}
+use Rattle.sim_engine.proofs.WorldMoves.{tick_key, world_count, world_none}
 use Rattle.sim_partition.specs.Sites.{IsFrom, IsLater}
 use Rattle.sim_partition.proofs.Moments.{from_by}
 use Rattle.sim_windows.specs.Worlds.{due_at, sites_after}

@@ -8,7 +8,7 @@ use Rattle.sim_engine.specs.Laws.{Conditions, SiteLaws}
 use Rattle.sim_engine.specs.Setting.{Setting}
 use Rattle.sim_engine.specs.World.{Run, after, handled_among, next_due, run_on, world_due}
 use Rattle.sim_partition.specs.Steps.{StopsStep}
-use Rattle.sim_windows.specs.Sinks.{HasHalted, HasRun, HasStopped, HasTaken, IsPrefixOfRun, StopsAt, StopsRun}
+use Rattle.sim_windows.specs.Sinks.{HasHalted, HasRun, HasTaken, IsPrefixOfRun, StopsAt, StopsRun}
 use Rattle.sim_windows.specs.Worlds.{sites_after}
 use Rattle.sim_windows.proofs.Runs.{joined, one_after, stays}
 use Rattle.sim_windows.proofs.Stopping.{stops_at, stops_later}

@@ -1,9 +1,9 @@
 -- What a stage does, by what its fields come to.
 use Rattle.std.specs.Option.{is_some}
-use Rattle.std.specs.Prelude.{All, IfOk, List, None, Ok, Result, Some, Vec, [], false, filter, get_or, if◌then◌else◌, length, map, not, set, true, ℕ, ◌++◌, ◌<◌, ◌∷◌, ◌≡◌, ◌≤◌, ◌||◌}
-use Rattle.std.proofs.Common.{Global, ap, arith, inl, inr, refl, subst, sym, true≢false, ◌∙◌}
+use Rattle.std.specs.Prelude.{All, IfOk, List, None, Ok, Result, Some, [], false, filter, get_or, if◌then◌else◌, length, map, not, set, true, ℕ, ◌++◌, ◌<◌, ◌∷◌, ◌≡◌, ◌≤◌, ◌||◌}
+use Rattle.std.proofs.Common.{ap, arith, inl, inr, refl, subst, sym, true≢false, ◌∙◌}
 use Rattle.std.proofs.lemmas.Bool.{cases_lt}
-use Rattle.std.proofs.lemmas.List.{append-nil, get_or-map, length-map, map-set}
+use Rattle.std.proofs.lemmas.List.{append-nil, get_or_default}
 use Rattle.sim_clock.specs.declared.key.Key.{Key}
 use Rattle.sim_clock.specs.declared.refusal.Refusal.{Refusal}
 use Rattle.sim_engine.proofs.Progress.{some_of}
@@ -80,14 +80,14 @@ module _ {Site Row Transfer : Type 0} {engine : Engine Site Row Transfer} {condi
       pub many : p < length kept.rows.items
       many =
           let h : Here s done g p = here s done g st p some in
-          omega (arith, h.within, many_rows basics s done g st, length-map kept.rows.items (λ (v : Vec Row Global). v.items))
+          omega (arith, h.within, many_rows basics s done g st)
 
       pub stepped :
-          (now : Result (List Site) Refusal) (rows : List Row) (sent waiting : List Transfer) (old new : Vec Row Global)
+          (now : Result (List Site) Refusal) (rows : List Row) (sent waiting : List Transfer) (old new : List Row)
           → IfOk d (λ v. (key : Key) → world_due engine v ≡ Some key → (now ≡ Ok (handled_among engine key v).sites) × (rows ≡ (handled_among engine key v).rows) × (sent ≡ (handled_among engine key v).sent))
           → IfOk (get_or parts p (Ok [])) (λ v. AreOfPast conditions v (world_due engine v))
-          → old ≡ get_or kept.rows.items p old → new.items ≡ old.items ++ rows → waiting ≡ kept.waiting.items ++ sent
-          → Took engine conditions (standing_of kept parts) (record (standing_of kept parts) { parts = set parts p now; rows = map (λ (v : Vec Row Global). v.items) (set kept.rows.items p new); waiting = waiting }) s done (Part p) true
+          → old ≡ get_or kept.rows.items p old → new ≡ old ++ rows → waiting ≡ kept.waiting ++ sent
+          → Took engine conditions (standing_of kept parts) (record (standing_of kept parts) { parts = set parts p now; rows = set kept.rows.items p new; waiting = waiting }) s done (Part p) true
       stepped now rows sent waiting old new handled past old_is new_is waits =
           let h : Here s done g p = here s done g st p some in
           let t : Stepped engine = handled_among engine h.key w in
@@ -95,14 +95,12 @@ module _ {Site Row Transfer : Type 0} {engine : Engine Site Row Transfer} {condi
           let made : (now ≡ Ok t.sites) × (rows ≡ t.rows) × (sent ≡ t.sent) =
           subst (λ (x : Result (List Site) Refusal). IfOk x (λ v. (key : Key) → world_due engine v ≡ Some key → (now ≡ Ok (handled_among engine key v).sites) × (rows ≡ (handled_among engine key v).rows) × (sent ≡ (handled_among engine key v).sent))) lives handled h.key due in
           let early : All (Past h.key.at) w = subst (AreOfPast conditions w) due (subst (λ (x : Result (List Site) Refusal). IfOk x (λ v. AreOfPast conditions v (world_due engine v))) (part_at basics s done g st p (Ok []) h.within) past) in
-          let items : Vec Row Global → List Row = λ v. v.items in
-          let all : List (Vec Row Global) = kept.rows.items in
-          let more : new.items ≡ get_or g.rows p [] ++ t.rows =
-          new_is ∙ ap (λ (v : Vec Row Global). v.items ++ rows) old_is ∙ ap (λ z. z ++ rows) (sym (get_or-map items all p old [] many)) ∙ ap (λ z. get_or g.rows p [] ++ z) made.1 in
-          let after : Standing Site Row Transfer = record g { parts = set parts p now; rows = map items (set all p new); waiting = waiting } in
+          let more : new ≡ get_or g.rows p [] ++ t.rows =
+          new_is ∙ ap (λ z. z ++ rows) (old_is ∙ get_or_default g.rows p old [] many) ∙ ap (λ z. get_or g.rows p [] ++ z) made.1 in
+          let after : Standing Site Row Transfer = record g { parts = set parts p now; rows = set g.rows p new; waiting = waiting } in
           let same : after ≡ stepped_by basics g p t =
-          ap (λ (z : Result (List Site) Refusal). let x : Standing Site Row Transfer = record g { parts = set parts p z; rows = map items (set all p new); waiting = waiting } in x) made.0
-          ∙ ap (λ (z : List (List Row)). let x : Standing Site Row Transfer = record g { parts = set parts p (Ok t.sites); rows = z; waiting = waiting } in x) (map-set items all p new ∙ ap (set g.rows p) more)
+          ap (λ (z : Result (List Site) Refusal). let x : Standing Site Row Transfer = record g { parts = set parts p z; rows = set g.rows p new; waiting = waiting } in x) made.0
+          ∙ ap (λ (z : List (List Row)). let x : Standing Site Row Transfer = record g { parts = set parts p (Ok t.sites); rows = z; waiting = waiting } in x) (ap (set g.rows p) more)
           ∙ ap (λ z. let x : Standing Site Row Transfer = record g { parts = set parts p (Ok t.sites); rows = set g.rows p (get_or g.rows p [] ++ t.rows); waiting = z } in x) (waits ∙ ap (λ z. g.waiting ++ z) made.2) in
           record {
             stands = subst (Stands engine conditions s (done ++ Part p ∷ [])) (sym same) (steps basics s done g st p h.within h.key h.ready_is early);

@@ -1,13 +1,13 @@
 -- Where a handling takes a count past the limit, the run does.
-use Rattle.std.specs.Prelude.{List, Some, [], map, max, suc, zero, ℕ, ◌+◌, ◌<◌, ◌==◌, ◌∷◌, ◌≡◌, ◌≤◌}
-use Rattle.std.proofs.Common.{ap, arith, refl, subst, sym, ◌∙◌}
+use Rattle.std.specs.Prelude.{List, Some, max, suc, zero, ℕ, ◌+◌, ◌<◌, ◌≡◌, ◌≤◌}
+use Rattle.std.proofs.Common.{ap, arith, subst, sym, ◌∙◌}
 use Rattle.sim_clock.specs.declared.key.Key.{Key}
 use Rattle.sim_clock.specs.declared.refusal.Refusal.{Refusal}
 use Rattle.sim_engine.specs.Engine.{Engine}
 use Rattle.sim_engine.specs.Laws.{Conditions, SiteLaws}
 use Rattle.sim_engine.specs.Counts.{rows_count, run_count, sites_count}
 use Rattle.sim_engine.specs.Limits.{most_count}
-use Rattle.sim_engine.specs.World.{Run, Stepped, after, delivered, delivered_one, handled_among, world_due}
+use Rattle.sim_engine.specs.World.{Run, Stepped, after, delivered, handled_among, world_due}
 use Rattle.sim_engine.proofs.Prefixes.{delivered_cores}
 use Rattle.sim_engine.proofs.RunCounts.{cores_count, sites_cores}
 use Rattle.sim_partition.specs.Steps.{StopsStep}

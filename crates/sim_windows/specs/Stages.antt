@@ -70,8 +70,8 @@ module _ {Site Row Transfer : Type 0} where
         horizon = k.horizon;
         parts = parts;
         bounds = k.bounds.items;
-        rows = map (λ l. l.items) k.rows.items;
-        waiting = k.waiting.items;
+        rows = k.rows.items;
+        waiting = k.waiting;
         settled = k.settled;
       }
 

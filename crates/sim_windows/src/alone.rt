@@ -13,29 +13,29 @@ use crate::sink::RowSink;
 use crate::world::World;
 use sim_clock::{Key, Refusal};
 use sim_engine::{Effects, Site};
-use sim_partition::Partition;
+use sim_partition::Roster;
 use std::alloc::Global;
 use std::mem;
 
 // Delivers what a handling sent, if it sent something.
 fn deliver_sent<S: Site>(
     alloc: Global,
-    partition: &mut Partition<S>,
+    roster: &mut Roster<S>,
     sent: &mut Vec<S::Transfer>,
 ) -> Result<(), Refusal>
-    requires past { IfOk partition.old
+    requires past { IfOk roster.old
         (λ w. All (λ o. All (S.conditions.Past (arrival S.engine o)) w) sent.old.items) }
     requires timely { All S.conditions.Timely sent.old.items }
-    ensures delivered { IfOk partition.old
-        (λ w. OnOk result (partition.new ≡ Ok (delivered S.engine sent.old.items w))) }
+    ensures delivered { IfOk roster.old
+        (λ w. OnOk result (roster.new ≡ Ok (delivered S.engine sent.old.items w))) }
     ensures none { OnOk result (sent.new.items ≡ []) }
-    ensures memory { IfOk partition.old (λ w. IfErr result (λ refusal. refusal ≡ Memory)) }
+    ensures memory { IfOk roster.old (λ w. IfErr result (λ refusal. refusal ≡ Memory)) }
 {
     if sent.is_empty() {
         return Ok(());
     }
     let transfers = mem::replace(sent, Vec::new(alloc));
-    partition.deliver(transfers)
+    roster.deliver(transfers)
 }
 
 // Hands rows on if there are enough of them.
@@ -74,71 +74,71 @@ fn hand_rest<R: Drop, K: RowSink<R>>(rows: &[R], sink: &mut K) -> Result<(), Ref
 // handed on once there are enough.
 fn handle<S: Site, K: RowSink<S::Row>>(
     alloc: Global,
-    partition: &mut Partition<S>,
+    roster: &mut Roster<S>,
     key: Key,
     enough: usize,
     effects: &mut Effects<S::Row, S::Transfer>,
     sink: &mut K,
 ) -> Result<(), Refusal>
-    requires due { world_due S.engine (sites_in partition.old) ≡ Some key }
+    requires due { world_due S.engine (sites_in roster.old) ≡ Some key }
     requires moment { key.at ≤ most_count }
-    requires sound { All S.conditions.Sound (sites_in partition.old) }
-    requires past { All (S.conditions.Past key.at) (sites_in partition.old) }
+    requires sound { All S.conditions.Sound (sites_in roster.old) }
+    requires past { All (S.conditions.Past key.at) (sites_in roster.old) }
     requires none { effects.old.sent.items ≡ [] }
     requires ready { K.ready sink.old }
     ensures ready { OnOk result (K.ready sink.new) }
     ensures none { OnOk result (effects.new.sent.items ≡ []) }
-    ensures lives { OnOk result (IsOk partition.new) }
+    ensures lives { OnOk result (IsOk roster.new) }
     ensures done { OnOk result
-        (sites_in partition.new ≡ sites_after S.engine key (sites_in partition.old)) }
+        (sites_in roster.new ≡ sites_after S.engine key (sites_in roster.old)) }
     ensures ran { OnOk result (
         (horizon : ℕ) → key.at ≤ horizon →
-        HasGathered S.engine K.took horizon (sites_in partition.old)
-        (gathered sink.old effects.old.rows.items) (sites_in partition.new)
+        HasGathered S.engine K.took horizon (sites_in roster.old)
+        (gathered sink.old effects.old.rows.items) (sites_in roster.new)
         (gathered sink.new effects.new.rows.items)) }
     ensures stops { IfErr result (λ refusal.
         (horizon : ℕ) → key.at ≤ horizon →
-        HaltsGathering S.engine K.took K.broke horizon (sites_in partition.old)
+        HaltsGathering S.engine K.took K.broke horizon (sites_in roster.old)
         (gathered sink.old effects.old.rows.items) refusal sink.new) }
 {
-    partition.step_into(effects)?;
-    deliver_sent(alloc, partition, &mut effects.sent)?;
+    roster.step_into(effects)?;
+    deliver_sent(alloc, roster, &mut effects.sent)?;
     hand_many(enough, &mut effects.rows, sink)
 }
 
 // Handles all that is due at the least moment.
 fn run_moment<S: Site, K: RowSink<S::Row>>(
     alloc: Global,
-    partition: &mut Partition<S>,
+    roster: &mut Roster<S>,
     moment: u64,
     enough: usize,
     effects: &mut Effects<S::Row, S::Transfer>,
     sink: &mut K,
 ) -> Result<(), Refusal>
-    requires lives { IsOk partition.old }
-    requires from { IsFrom moment (world_due S.engine (sites_in partition.old)) }
+    requires lives { IsOk roster.old }
+    requires from { IsFrom moment (world_due S.engine (sites_in roster.old)) }
     requires moment { moment ≤ most_count }
     requires none { effects.old.sent.items ≡ [] }
     requires ready { K.ready sink.old }
     ensures ready { OnOk result (K.ready sink.new) }
     ensures none { OnOk result (effects.new.sent.items ≡ []) }
-    ensures lives { OnOk result (IsOk partition.new) }
+    ensures lives { OnOk result (IsOk roster.new) }
     ensures ran { OnOk result (
         (horizon : ℕ) → moment ≤ horizon →
-        HasGathered S.engine K.took horizon (sites_in partition.old)
-        (gathered sink.old effects.old.rows.items) (sites_in partition.new)
+        HasGathered S.engine K.took horizon (sites_in roster.old)
+        (gathered sink.old effects.old.rows.items) (sites_in roster.new)
         (gathered sink.new effects.new.rows.items)) }
-    ensures done { OnOk result (IsLater moment (world_due S.engine (sites_in partition.new))) }
+    ensures done { OnOk result (IsLater moment (world_due S.engine (sites_in roster.new))) }
     ensures stops { IfErr result (λ refusal.
         (horizon : ℕ) → moment ≤ horizon →
-        HaltsGathering S.engine K.took K.broke horizon (sites_in partition.old)
+        HaltsGathering S.engine K.took K.broke horizon (sites_in roster.old)
         (gathered sink.old effects.old.rows.items) refusal sink.new) }
 {
-    while let Some(key) = partition.least_due() {
+    while let Some(key) = roster.least_due() {
         if key.at > moment {
             return Ok(());
         }
-        handle(alloc, partition, key, enough, effects, sink)?;
+        handle(alloc, roster, key, enough, effects, sink)?;
     }
     Ok(())
 }
@@ -146,32 +146,32 @@ fn run_moment<S: Site, K: RowSink<S::Row>>(
 // Handles all that is due by the horizon.
 fn run_by<S: Site, K: RowSink<S::Row>>(
     alloc: Global,
-    partition: &mut Partition<S>,
+    roster: &mut Roster<S>,
     horizon: u64,
     enough: usize,
     effects: &mut Effects<S::Row, S::Transfer>,
     sink: &mut K,
 ) -> Result<(), Refusal>
-    requires lives { IsOk partition.old }
+    requires lives { IsOk roster.old }
     requires horizon { horizon ≤ most_count }
     requires none { effects.old.sent.items ≡ [] }
     requires ready { K.ready sink.old }
     ensures ready { OnOk result (K.ready sink.new) }
-    ensures lives { OnOk result (IsOk partition.new) }
+    ensures lives { OnOk result (IsOk roster.new) }
     ensures ran { OnOk result (
-        HasGathered S.engine K.took horizon (sites_in partition.old)
-        (gathered sink.old effects.old.rows.items) (sites_in partition.new)
+        HasGathered S.engine K.took horizon (sites_in roster.old)
+        (gathered sink.old effects.old.rows.items) (sites_in roster.new)
         (gathered sink.new effects.new.rows.items)) }
-    ensures ended { OnOk result (IsNone (next_due S.engine horizon (sites_in partition.new))) }
+    ensures ended { OnOk result (IsNone (next_due S.engine horizon (sites_in roster.new))) }
     ensures stops { IfErr result (λ refusal.
-        HaltsGathering S.engine K.took K.broke horizon (sites_in partition.old)
+        HaltsGathering S.engine K.took K.broke horizon (sites_in roster.old)
         (gathered sink.old effects.old.rows.items) refusal sink.new) }
 {
-    while let Some(key) = partition.least_due() {
+    while let Some(key) = roster.least_due() {
         if key.at > horizon {
             return Ok(());
         }
-        run_moment(alloc, partition, key.at, enough, effects, sink)?;
+        run_moment(alloc, roster, key.at, enough, effects, sink)?;
     }
     Ok(())
 }
@@ -199,11 +199,11 @@ pub fn run_gathered<S: Site, K: RowSink<S::Row>>(
         (λ refusal. HasStopped S.engine K.took K.broke world sink.old refusal sink.new) }
 {
     let World { horizon, sites, .. } = world;
-    let mut partition = Partition::new(alloc, sites)?;
+    let mut roster = Roster::new(alloc, sites)?;
     let mut effects = Effects::new(alloc);
-    run_by(alloc, &mut partition, horizon, enough, &mut effects, sink)?;
+    run_by(alloc, &mut roster, horizon, enough, &mut effects, sink)?;
     hand_rest(&effects.rows, sink)?;
-    Ok(partition.into_sites()?)
+    Ok(roster.into_sites())
 }
 
 /// Runs a world to its horizon on this thread. Each step handles the least entry of the whole world

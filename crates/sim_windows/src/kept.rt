@@ -12,7 +12,7 @@ use crate::meeting::{bounds_of, deliver_each, dues_of};
 use crate::settling::settle;
 use sim_clock::Refusal;
 use sim_engine::Site;
-use sim_exchange::{Distances, PartMap, exchange};
+use sim_exchange::{Distances, Lists, PartMap, exchange};
 use sim_partition::Partition;
 use std::alloc::{AllocError, Global};
 use std::mem;
@@ -27,19 +27,18 @@ pub struct Kept<S: Site> {
     pub distances: Distances,
     pub horizon: u64,
     pub bounds: Vec<u64>,
-    pub rows: Vec<Vec<S::Row>>,
-    pub waiting: Vec<S::Transfer>,
+    pub rows: Vec<Lists<S::Row>>,
+    pub waiting: Lists<S::Transfer>,
     pub settled: u64,
 }
 
 // As many empty lists of rows as there are partitions.
-fn no_rows<S: Site>(alloc: Global, parts: usize) -> Result<Vec<Vec<S::Row>>, AllocError>
-    ensures { IfOk result
-        (λ lists. map (λ l. l.items) lists.items ≡ map (λ p. []) (range_with_len 0 parts)) }
+fn no_rows<S: Site>(alloc: Global, parts: usize) -> Result<Vec<Lists<S::Row>>, AllocError>
+    ensures { IfOk result (λ lists. lists.items ≡ map (λ p. []) (range_with_len 0 parts)) }
 {
     let mut lists = Vec::with_capacity(alloc, parts)?;
     for _ in 0..parts {
-        lists.push(Vec::new(alloc))?;
+        lists.push(Lists::new(alloc))?;
     }
     Ok(lists)
 }
@@ -70,7 +69,7 @@ impl<S: Site> Kept<S> {
             horizon,
             bounds,
             rows,
-            waiting: Vec::new(alloc),
+            waiting: Lists::new(alloc),
             settled: 0,
         })
     }
@@ -79,7 +78,7 @@ impl<S: Site> Kept<S> {
     pub fn deliver(&mut self, parts: &mut Vec<Partition<S>>) -> Result<(), Refusal>
         requires reached { AreReached S.engine S.conditions parts.old.items
             (exchanged S.engine (owner_of self.old.layout) self.old.layout.parts
-            self.old.waiting.items) }
+            self.old.waiting) }
         ensures delivered { (ws : List (List S)) → parts.old.items ≡ map (λ w. Ok w) ws →
             OnOk result (
             standing_of self.new parts.new.items
@@ -87,23 +86,20 @@ impl<S: Site> Kept<S> {
         ensures memory { (ws : List (List S)) → parts.old.items ≡ map (λ w. Ok w) ws →
             IfErr result (λ refusal. refusal ≡ Refusal.Memory) }
     {
-        let waiting = mem::replace(&mut self.waiting, Vec::new(self.alloc));
-        let mut sent = Vec::new(self.alloc);
-        sent.push(waiting)?;
-        let lists = exchange::<S>(self.alloc, sent, &self.layout)?;
+        let waiting = mem::replace(&mut self.waiting, Lists::new(self.alloc));
+        let lists = exchange::<S>(self.alloc, waiting.into_lists(), &self.layout)?;
         deliver_each(parts, lists)
     }
 
     /// Settles the rows from before a moment in milliseconds. Returns those of each partition.
-    pub fn settle_before(&mut self, moment: u64) -> Result<Vec<Vec<S::Row>>, AllocError>
+    pub fn settle_before(&mut self, moment: u64) -> Result<Vec<Lists<S::Row>>, AllocError>
         ensures settled { (parts : List (Result (List S) TheRefusal)) →
             IfOk result (λ _.
             standing_of self.new parts
             ≡ settled_by S.engine (standing_of self.old parts) moment) }
         ensures rows { IfOk result (λ rows.
-            map (λ l. l.items) rows.items
-            ≡ map (filter (is_row_before S.engine moment))
-            (map (λ l. l.items) self.old.rows.items)) }
+            rows.items
+            ≡ map (filter (is_row_before S.engine moment)) self.old.rows.items) }
     {
         let rows = mem::replace(&mut self.rows, Vec::new(self.alloc));
         let settled = settle::<S>(self.alloc, rows, moment)?;

@@ -9,6 +9,7 @@ ghost use Rattle.sim_windows.specs.Stages.{GoesOn, Settles, lower_bound_in, sett
 use crate::kept::Kept;
 use crate::stage::{Stage, stage_of};
 use sim_engine::{Effects, Site};
+use sim_exchange::Lists;
 use sim_partition::Partition;
 use std::alloc::AllocError;
 use std::marker::Model;
@@ -35,18 +36,6 @@ impl<S: Site> Model for Lent<S> {
     ghost view = { λ l. standing_of l.kept [] };
 }
 
-// Appends rows to a list. An empty list takes over their memory.
-fn add_rows<R: Drop>(rows: &mut Vec<R>, mut more: Vec<R>) -> Result<(), AllocError>
-    ensures { OnOk result (rows.new.items ≡ rows.old.items ++ more.items) }
-{
-    if rows.is_empty() {
-        *rows = more;
-        return Ok(());
-    }
-    rows.append(&mut more)?;
-    Ok(())
-}
-
 impl<S: Site> Lent<S> {
     /// A stage without its partitions.
     pub fn new(kept: Kept<S>) -> Lent<S>
@@ -62,14 +51,14 @@ impl<S: Site> Lent<S> {
     /// # Errors
     ///
     /// `AllocError` if memory runs out.
-    pub fn settle(self, moment: u64) -> Result<(Lent<S>, Vec<Vec<S::Row>>), AllocError>
+    pub fn settle(self, moment: u64) -> Result<(Lent<S>, Vec<Lists<S::Row>>), AllocError>
         ensures settled { IfOk result (λ r. r.0 ≡ settled_by S.engine self moment) }
         ensures rows { IfOk result (λ r.
-            map (λ l. l.items) r.1.items ≡ map (filter (is_before S.engine moment)) self.rows) }
+            r.1.items ≡ map (filter (is_before S.engine moment)) self.rows) }
         ensures next { (parts : List (Result (List S) TheRefusal)) →
             moment ≡ lower_bound_in S.engine (with_parts parts self) →
             IfOk result (λ r. Settles S.engine S.conditions (with_parts parts self) (with_parts parts r.0)
-            (merged_all (row_cmp S.engine) (map (λ l. l.items) r.1.items))) }
+            (merged_all (row_cmp S.engine) r.1.items)) }
     {
         let Lent { mut kept } = self;
         let prefixes = kept.settle_before(moment)?;
@@ -94,10 +83,10 @@ impl<S: Site> Lent<S> {
         let mut place = 0;
         for one in came {
             let Came { part, made } = one;
-            let Effects { rows, mut sent } = made;
+            let Effects { rows, sent } = made;
             parts.push(part)?;
-            add_rows(&mut kept.rows[place], rows)?;
-            kept.waiting.append(&mut sent)?;
+            kept.rows[place].add(rows)?;
+            kept.waiting.add(sent)?;
             place += 1;
         }
         Ok(stage_of(kept, parts))

@@ -4,6 +4,7 @@ ghost use Rattle.std.specs.Prelude.{◌≡◌, ◌++◌, IfOk, filter, map, not}
 ghost use Rattle.sim_engine.specs.Prefixes.{is_before};
 
 use sim_engine::Site;
+use sim_exchange::Lists;
 use std::alloc::{AllocError, Global};
 
 /// Rows in two lists: those from before a moment, and the others.
@@ -50,8 +51,8 @@ fn part_each<S: Site>(
     Ok(Parted { before, others })
 }
 
-// Splits rows at a moment. If those from before it come first, they stay in their list.
-fn part_rows<S: Site>(
+// Splits a list of rows at a moment. If those from before it come first, they stay in their list.
+fn part_list<S: Site>(
     alloc: Global,
     mut rows: Vec<S::Row>,
     moment: u64,
@@ -73,32 +74,51 @@ fn part_rows<S: Site>(
     })
 }
 
-/// The rows of each partition in two lists: those from before a moment, and the others.
+// Splits rows at a moment.
+fn part_rows<S: Site>(
+    alloc: Global,
+    rows: Lists<S::Row>,
+    moment: u64,
+) -> Result<(Lists<S::Row>, Lists<S::Row>), AllocError>
+    ensures before { IfOk result (λ parted. parted.0 ≡ filter (is_before S.engine moment) rows) }
+    ensures others { IfOk result
+        (λ parted. parted.1 ≡ filter (λ r. not (is_before S.engine moment r)) rows) }
+{
+    let mut before = Lists::new(alloc);
+    let mut others = Lists::new(alloc);
+    for list in rows.into_lists() {
+        let parted = part_list::<S>(alloc, list, moment)?;
+        before.add(parted.before)?;
+        others.add(parted.others)?;
+    }
+    Ok((before, others))
+}
+
+/// The rows of each partition in two: those from before a moment, and the others.
 #[derive(Drop)]
-pub struct Settled<R> {
-    pub prefixes: Vec<Vec<R>>,
-    pub kept: Vec<Vec<R>>,
+pub struct Settled<R: Drop> {
+    pub prefixes: Vec<Lists<R>>,
+    pub kept: Vec<Lists<R>>,
 }
 
 /// Splits the rows of each partition at a moment in milliseconds.
 pub fn settle<S: Site>(
     alloc: Global,
-    lists: Vec<Vec<S::Row>>,
+    lists: Vec<Lists<S::Row>>,
     moment: u64,
 ) -> Result<Settled<S::Row>, AllocError>
     ensures prefixes { IfOk result (λ settled.
-        map (λ l. l.items) settled.prefixes.items
-        ≡ map (λ l. filter (is_before S.engine moment) l.items) lists.items) }
+        settled.prefixes.items ≡ map (filter (is_before S.engine moment)) lists.items) }
     ensures kept { IfOk result (λ settled.
-        map (λ l. l.items) settled.kept.items
-        ≡ map (λ l. filter (λ r. not (is_before S.engine moment r)) l.items) lists.items) }
+        settled.kept.items
+        ≡ map (filter (λ r. not (is_before S.engine moment r))) lists.items) }
 {
     let mut prefixes = Vec::with_capacity(alloc, lists.len())?;
     let mut kept = Vec::with_capacity(alloc, lists.len())?;
     for rows in lists {
-        let parted = part_rows::<S>(alloc, rows, moment)?;
-        prefixes.push(parted.before)?;
-        kept.push(parted.others)?;
+        let (before, others) = part_rows::<S>(alloc, rows, moment)?;
+        prefixes.push(before)?;
+        kept.push(others)?;
     }
     Ok(Settled { prefixes, kept })
 }

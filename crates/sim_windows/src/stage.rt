@@ -19,7 +19,7 @@ use crate::parting::{open_parts, split_sites};
 use crate::world::World;
 use sim_clock::{Key, Refusal, lesser};
 use sim_engine::{Pick, Site};
-use sim_exchange::{Distances, PartMap, merge_rows};
+use sim_exchange::{Distances, Lists, PartMap, merge_rows};
 use sim_partition::Partition;
 use std::alloc::{AllocError, Global};
 use std::marker::Model;
@@ -91,13 +91,25 @@ fn least_of(bounds: &[u64], horizon: u64) -> u64
     least
 }
 
-// Whether all transfers arrive after the horizon.
+// Whether all transfers of a list arrive after the horizon.
 fn are_past<S: Site>(waiting: &[S::Transfer], horizon: u64) -> bool
     ensures { result ≡ list_all (λ o. not (nat_le (arrival S.engine o) horizon)) waiting.now }
 {
     waiting
         .iter()
         .all(|transfer| S::transfer_key(transfer).at > horizon)
+}
+
+// Whether all transfers that wait arrive after the horizon.
+fn wait_past<S: Site>(waiting: &Lists<S::Transfer>, horizon: u64) -> bool
+    ensures { result ≡ list_all (λ o. not (nat_le (arrival S.engine o) horizon)) waiting.now }
+{
+    for list in waiting.as_lists() {
+        if !are_past::<S>(list, horizon) {
+            return false;
+        }
+    }
+    true
 }
 
 impl<S: Site> Stage<S> {
@@ -176,7 +188,7 @@ impl<S: Site> Stage<S> {
                 return false;
             }
         }
-        are_past::<S>(&self.kept.waiting, horizon)
+        wait_past::<S>(&self.kept.waiting, horizon)
     }
 
     /// The least of the partitions' bounds, in milliseconds.
@@ -214,9 +226,9 @@ impl<S: Site> Stage<S> {
             mut kept,
             mut parts,
         } = self;
-        let mut handled = parts[place].step()?;
-        kept.rows[place].append(&mut handled.rows)?;
-        kept.waiting.append(&mut handled.sent)?;
+        let handled = parts[place].step()?;
+        kept.rows[place].add(handled.rows)?;
+        kept.waiting.add(handled.sent)?;
         Ok((Stage { kept, parts }, true))
     }
 

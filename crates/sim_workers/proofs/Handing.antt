@@ -1,5 +1,5 @@
 -- Rows that are settled while partitions are lent follow those that were settled before.
-use Rattle.std.specs.Prelude.{List, None, Option, Result, Some, [], filter, get_or, length, map, ℕ, ◌++◌, ◌+◌, ◌∷◌, ◌≡◌}
+use Rattle.std.specs.Prelude.{List, None, Option, Result, Some, [], filter, get_or, length, ℕ, ◌++◌, ◌+◌, ◌∷◌, ◌≡◌}
 use Rattle.std.proofs.Common.{ap, append_assoc, arith, inl, inr, length-append, refl, subst, sym, ◌∙◌}
 use Rattle.std.proofs.lemmas.List.{append-nil}
 use Rattle.sim_clock.specs.declared.refusal.Refusal.{Refusal}
@@ -19,10 +19,10 @@ use Rattle.sim_workers.specs.Runs.{AreHanded, HandsOn, StopsAmong, StopsHanding,
 
 -- one list by itself is merged
 pub alone :
-    {A C : Type 0} (R : A → A → Ordering) (f : C → List A) (vs : List C) (v : C) → length vs ≡ 1 → v ≡ get_or vs 0 v → f v ≡ merged_all R (map f vs)
-alone R f [] v one at = absurd (omega (arith, one))
-alone R f (w ∷ []) v one at = ap f at ∙ merged_single R f (w ∷ []) [] w refl (omega arith)
-alone R f (w ∷ x ∷ vs) v one at = absurd (omega (arith, one))
+    {A : Type 0} (R : A → A → Ordering) (lists : List (List A)) (l : List A) → length lists ≡ 1 → l ≡ get_or lists 0 l → l ≡ merged_all R lists
+alone R [] l one at = absurd (omega (arith, one))
+alone R (w ∷ []) l one at = at ∙ merged_single R (w ∷ []) [] w refl (omega arith)
+alone R (w ∷ x ∷ lists) l one at = absurd (omega (arith, one))
 
 -- a sink took the first of some rows, and these are left
 pub record IsHanding {Row K : Type 0} (took : K → List Row → K → Type 0) (all : List Row) (before now : K) (left : List Row) : Type 0 where

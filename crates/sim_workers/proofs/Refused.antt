@@ -3,9 +3,7 @@ use Rattle.std.specs.Prelude.{Err, List, None, Ok, Option, Result, Some, [], get
 use Rattle.std.proofs.Common.{ap, arith, inl, inr, refl, subst, sym, ◌∙◌}
 use Rattle.sim_clock.specs.declared.refusal.Refusal.{Refusal}
 use Rattle.sim_clock.specs.declared.refusal.Refusal.TheVariants as refusals
-use Rattle.sim_exchange.specs.Layout.{owner_of}
 use Rattle.sim_exchange.specs.Table.{distance_in}
-use Rattle.sim_engine.specs.Bounds.{own_bound}
 use Rattle.sim_engine.specs.Machine.{Machine, played_all}
 use Rattle.sim_engine.specs.Parts.{part_of}
 use Rattle.sim_engine.specs.Prefixes.{part_count}

@@ -1,12 +1,12 @@
 //! The rows that are settled while partitions run, and how the sink gets them.
-ghost use Rattle.std.specs.Prelude.{◌≡◌, IfErr, IfOk, OnOk, length, map};
+ghost use Rattle.std.specs.Prelude.{◌≡◌, IfErr, IfOk, OnOk, flat_map, length};
 ghost use Rattle.sim_engine.specs.Merge.{merged_all, row_cmp};
 ghost use Rattle.sim_workers.specs.Paces.{word_of};
 ghost use Rattle.sim_workers.specs.Runs.{HandsOn, StopsAmong, StopsHanding};
 
 use sim_clock::Refusal;
 use sim_engine::Site;
-use sim_exchange::MergedRows;
+use sim_exchange::{Lists, MergedRows};
 use sim_windows::{Lent, RowSink};
 use std::alloc::Global;
 
@@ -17,18 +17,18 @@ const ROWS_AT_ONCE: usize = 256;
 // Merges the rows of some lists and hands them on, `ROWS_AT_ONCE` at a time. Returns their number.
 fn hand_merged<S: Site, K: RowSink<S::Row>>(
     alloc: Global,
-    lists: Vec<Vec<S::Row>>,
+    lists: Vec<Lists<S::Row>>,
     sink: &mut K,
 ) -> Result<u64, Refusal>
     requires ready { K.ready sink.old }
     ensures ready { OnOk result (K.ready sink.new) }
     ensures took { OnOk result (K.took sink.old
-        (merged_all (row_cmp S.engine) (map (λ l. l.items) lists.items)) sink.new) }
+        (merged_all (row_cmp S.engine) lists.items) sink.new) }
     ensures count { IfOk result (λ n.
-        n ≡ word_of (length (merged_all (row_cmp S.engine) (map (λ l. l.items) lists.items)))) }
+        n ≡ word_of (length (merged_all (row_cmp S.engine) lists.items))) }
     ensures stops { IfErr result (λ refusal.
         StopsAmong S.engine K.took K.broke (λ e. e ≡ Refusal.Memory)
-        (merged_all (row_cmp S.engine) (map (λ l. l.items) lists.items)) sink.old refusal
+        (merged_all (row_cmp S.engine) lists.items) sink.old refusal
         sink.new) }
 {
     let mut merged = MergedRows::<S>::new(alloc, lists)?;
@@ -46,29 +46,48 @@ fn hand_merged<S: Site, K: RowSink<S::Row>>(
     Ok(handed.saturating_add(rows.len() as u64))
 }
 
-// The same. A single list needs no merging.
+// Hands on the rows of some lists, list by list. Returns their number.
+fn hand_each<S: Site, K: RowSink<S::Row>>(
+    lists: &[Vec<S::Row>],
+    sink: &mut K,
+) -> Result<u64, Refusal>
+    requires ready { K.ready sink.old }
+    ensures ready { OnOk result (K.ready sink.new) }
+    ensures took { OnOk result (K.took sink.old (flat_map (λ v. v.items) lists.now) sink.new) }
+    ensures count { IfOk result (λ n. n ≡ word_of (length (flat_map (λ v. v.items) lists.now))) }
+    ensures stops { IfErr result (λ refusal.
+        StopsAmong S.engine K.took K.broke (λ e. e ≡ Refusal.Memory)
+        (flat_map (λ v. v.items) lists.now) sink.old refusal sink.new) }
+{
+    let mut handed: u64 = 0;
+    for rows in lists {
+        sink.take(rows)?;
+        handed = handed.saturating_add(rows.len() as u64);
+    }
+    Ok(handed)
+}
+
+// The same of lists that are merged. The rows of a single partition need no merging.
 fn hand_lists<S: Site, K: RowSink<S::Row>>(
     alloc: Global,
-    lists: Vec<Vec<S::Row>>,
+    lists: Vec<Lists<S::Row>>,
     sink: &mut K,
 ) -> Result<u64, Refusal>
     requires ready { K.ready sink.old }
     ensures ready { OnOk result (K.ready sink.new) }
     ensures took { OnOk result (K.took sink.old
-        (merged_all (row_cmp S.engine) (map (λ l. l.items) lists.items)) sink.new) }
+        (merged_all (row_cmp S.engine) lists.items) sink.new) }
     ensures count { IfOk result (λ n.
-        n ≡ word_of (length (merged_all (row_cmp S.engine) (map (λ l. l.items) lists.items)))) }
+        n ≡ word_of (length (merged_all (row_cmp S.engine) lists.items))) }
     ensures stops { IfErr result (λ refusal.
         StopsAmong S.engine K.took K.broke (λ e. e ≡ Refusal.Memory)
-        (merged_all (row_cmp S.engine) (map (λ l. l.items) lists.items)) sink.old refusal
+        (merged_all (row_cmp S.engine) lists.items) sink.old refusal
         sink.new) }
 {
     if lists.len() != 1 {
         return hand_merged::<S, K>(alloc, lists, sink);
     }
-    let rows = &lists[0];
-    sink.take(rows)?;
-    Ok(rows.len() as u64)
+    hand_each::<S, K>(lists[0].as_lists(), sink)
 }
 
 /// Settles the rows from before a moment, if one is given, and hands them on. Returns their number.

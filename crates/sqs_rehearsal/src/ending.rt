@@ -1,6 +1,6 @@
 //! The end of a run, as it is written: the state of its sites and its report. The messages that are
 //! left are made into lines some at a time, so that no list of them all is held beside the sites.
-ghost use Rattle.std.specs.Prelude.{◌≡◌, ◌∷◌, ◌++◌, [], List, false, true, flat_map, IfOk, map, OnOk};
+ghost use Rattle.std.specs.Prelude.{◌≡◌, ◌≤◌, ◌∷◌, ◌++◌, [], List, false, true, flat_map, IfOk, length, map, OnOk};
 ghost use Rattle.sim_records.specs.Writes.{WroteSeveral};
 ghost use Rattle.sim_report.specs.Left.{lefts};
 ghost use Rattle.sim_report.specs.Running.{running};
@@ -36,6 +36,7 @@ fn next_messages(
         some.items ++ map (final_message queue.now) messages.new
         ≡ map (final_message queue.now) messages.old) }
     ensures none { IfOk result (λ some. some.items ≡ [] → messages.new ≡ []) }
+    ensures few { IfOk result (λ some. length some.items ≤ 1024) }
 {
     let mut some = Vec::new(alloc);
     while some.len() < AT_ONCE {

@@ -4,7 +4,7 @@ ghost use Rattle.std.specs.Prelude.{◌≡◌};
 use crate::tests::same::same;
 use sim_clock::{Class, Key, Refusal};
 use sim_engine::Edge;
-use sim_exchange::{Distances, PartMap, exchange, merge_rows};
+use sim_exchange::{Distances, Lists, PartMap, exchange, merge_rows};
 use sim_ring::{Counter, Token, Told};
 use std::alloc::{AllocError, Global};
 use std::process::Abort;
@@ -117,7 +117,12 @@ fn row(at: u64, site: u32, list: u64) -> Told {
 
 // Merges lists of rows, and compares moment, site and list of each row.
 fn try_merge(rt: &impl Abort, alloc: Global, lists: Vec<Vec<Told>>, wanted: &[(u64, u32, u64)]) {
-    let rows = merge_rows::<Counter>(alloc, lists).expect(rt, "memory");
+    let mut kept = Vec::new(alloc);
+    for list in lists {
+        let list = Lists::of(alloc, list).expect(rt, "memory");
+        kept.push(list).expect(rt, "memory");
+    }
+    let rows = merge_rows::<Counter>(alloc, kept).expect(rt, "memory");
     same(rt, rows.len(), wanted.len());
     for (row, &wanted) in rows.iter().zip(wanted) {
         same(rt, (row.key.at, row.number, row.count), wanted);
@@ -157,6 +162,41 @@ fn lists_with_no_rows_change_nothing(rt: HostRuntime) {
     try_merge(&rt, rt.alloc(), Vec::new(rt.alloc()), &[]);
     let lists = about_one(rt.alloc()).expect(&rt, "memory");
     try_merge(&rt, rt.alloc(), lists, &[(10, 2, 1)]);
+}
+
+// The numbers below 54 in lists of 20, 1, 17, 0 and 16.
+fn numbers(rt: &impl Abort, alloc: Global) -> Lists<u64> {
+    let mut lists = Lists::new(alloc);
+    for (from, to) in [(0, 20), (20, 21), (21, 38), (38, 38), (38, 54)] {
+        let mut list = Vec::new(alloc);
+        for number in from..to {
+            list.push(number).expect(rt, "memory");
+        }
+        lists.add(list).expect(rt, "memory");
+    }
+    lists
+}
+
+// Compares the elements of some lists, one after another, with the numbers below 54.
+fn try_numbers(rt: &impl Abort, alloc: Global, lists: &[Vec<u64>]) {
+    let mut all = Vec::new(alloc);
+    for list in lists {
+        all.extend_from_slice(list).expect(rt, "memory");
+    }
+    same(rt, all.len(), 54);
+    for (found, wanted) in all.iter().zip(0..54) {
+        same(rt, *found, wanted);
+    }
+}
+
+#[test]
+fn lists_stay_in_their_order(rt: HostRuntime) {
+    let lists = numbers(&rt, rt.alloc());
+    try_numbers(&rt, rt.alloc(), lists.as_lists());
+    let lists = lists.into_lists();
+    try_numbers(&rt, rt.alloc(), &lists);
+    let one = numbers(&rt, rt.alloc()).into_one(rt.alloc()).expect(&rt, "memory");
+    try_numbers(&rt, rt.alloc(), &[one]);
 }
 
 // The distance from one partition to another, if there is one.

@@ -1,11 +1,11 @@
-//! Partitions of three counters, worked out by hand.
+//! Partitions and rosters of three counters, worked out by hand.
 ghost use Rattle.std.specs.Prelude.{◌≡◌, ◌<◌, ◌≤◌};
 ghost use Rattle.sim_engine.specs.Limits.{most_count};
 
 use crate::tests::same::same;
 use sim_clock::{Agenda, Class, Key, Refusal};
 use sim_engine::{Effects, Site};
-use sim_partition::Partition;
+use sim_partition::{Partition, Roster};
 use sim_ring::{Counter, Token, Told};
 use std::alloc::{AllocError, Global};
 use std::process::Abort;
@@ -147,6 +147,51 @@ fn try_tokens(
 fn entries_of_one_moment_go_by_key(rt: HostRuntime) {
     let partition = try_tokens(&rt, rt.alloc(), at_once(), false, (10, 2), 10, &[3, 2]);
     same(&rt, partition.spent(), None);
+}
+
+// A roster of the counters 2, 3 and 9.
+fn roster_of_three(rt: &impl Abort, alloc: Global) -> Roster<Counter> {
+    let first = counter(alloc, 2);
+    let second = counter(alloc, 3);
+    let third = counter(alloc, 9);
+    let sites = vec![in alloc; first, second, third].expect(rt, "memory");
+    Roster::new(alloc, sites).expect(rt, "memory")
+}
+
+// Handles the least entry due of a roster, at a moment.
+fn step_into_at(
+    roster: &mut Roster<Counter>,
+    effects: &mut Effects<Told, Token>,
+    now: u64,
+) -> Result<(), Refusal>
+    requires { now ≤ most_count }
+{
+    match roster.least_due() {
+        Some(key) if key.at == now => roster.step_into(effects),
+        _ => Err(Refusal::BadMap),
+    }
+}
+
+#[test]
+fn a_roster_appends_what_it_makes(rt: HostRuntime) {
+    let mut roster = roster_of_three(&rt, rt.alloc());
+    // Of two tokens the later one is due next, since the counter of the other is not there.
+    let sooner = [token(9, 7, 1, 3), token(4, 5, 1, 1)];
+    let due = roster.least_due_after(&sooner).map_or(0, |key| key.at);
+    same(&rt, due, 7);
+    let tokens = Vec::from_array(rt.alloc(), at_once()).expect(&rt, "memory");
+    roster.deliver(tokens).expect(&rt, "a delivery");
+    let mut effects = Effects::new(rt.alloc());
+    step_into_at(&mut roster, &mut effects, 10).expect(&rt, "a handling");
+    step_into_at(&mut roster, &mut effects, 10).expect(&rt, "a handling");
+    same(&rt, (effects.rows.len(), effects.sent.len()), (2, 2));
+    let made = roster.run_to(11).expect(&rt, "a run");
+    effects.rows.extend(made.rows).expect(&rt, "memory");
+    for (row, number) in effects.rows.iter().zip([9, 3, 2]) {
+        same(&rt, row.number, number);
+    }
+    same(&rt, roster.spent(), None);
+    same(&rt, roster.into_sites().len(), 3);
 }
 
 #[test]

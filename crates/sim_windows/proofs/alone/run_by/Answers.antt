@@ -13,7 +13,7 @@ loop-key-preserved g c =
       none = c.in_ok-run_moment.ensures.none;
       lives = c.in_ok-run_moment.ensures.lives;
       ran =
-          gathered_on g.met.S.Site.laws g.K.RowSink.took g.met.K.RowSink.took_both c.args.horizon (sites_in c.args.partition.now) (sites_in c.loop-key.partition) (sites_in c.run_moment.new.partition) (gathered c.args.sink.now c.args.effects.now.rows.items)
+          gathered_on g.met.S.Site.laws g.K.RowSink.took g.met.K.RowSink.took_both c.args.horizon (sites_in c.args.roster.now) (sites_in c.loop-key.roster) (sites_in c.run_moment.new.roster) (gathered c.args.sink.now c.args.effects.now.rows.items)
           (gathered c.loop-key.sink c.loop-key.effects.rows.items) (gathered c.run_moment.new.sink c.run_moment.new.effects.rows.items)
           c.loop-key.invariant.ran (c.in_ok-run_moment.ensures.ran c.args.horizon (omega (arith, c.if-key-horizon.false)));
     }
@@ -23,6 +23,6 @@ returns-in_err-run_moment-clause-stops g c =
     let e : Refusal = c.in_err-run_moment.field-0.0 in
     let told = err_from_is_err_and c.from_residual.result c.from_residual.ensures.1 in
     rw (told.1, told.2)
-    (gathering_halts g.met.S.Site.laws g.K.RowSink.took g.met.K.RowSink.took_both g.K.RowSink.broke g.met.K.RowSink.broke_later c.args.horizon (sites_in c.args.partition.now) (sites_in c.loop-key.partition) (gathered c.args.sink.now c.args.effects.now.rows.items)
+    (gathering_halts g.met.S.Site.laws g.K.RowSink.took g.met.K.RowSink.took_both g.K.RowSink.broke g.met.K.RowSink.broke_later c.args.horizon (sites_in c.args.roster.now) (sites_in c.loop-key.roster) (gathered c.args.sink.now c.args.effects.now.rows.items)
     (gathered c.loop-key.sink c.loop-key.effects.rows.items) c.run_moment.new.sink e
     c.loop-key.invariant.ran (c.in_err-run_moment.ensures.stops c.args.horizon (omega (arith, c.if-key-horizon.false))))

@@ -9,12 +9,12 @@ abbrev pub invariant-loop-key : goal.invariant-loop-key
 invariant-loop-key g l =
     record {
       ready : g.K.RowSink.ready l.sink;
-      lives : IsOk l.partition;
+      lives : IsOk l.roster;
       none : l.effects.sent.items ≡ [];
       ran :
-          HasGathered g.S.Site.engine g.K.RowSink.took l.horizon (sites_in l.initial.partition) (gathered l.initial.sink l.initial.effects.rows.items) (sites_in l.partition) (gathered l.sink l.effects.rows.items);
+          HasGathered g.S.Site.engine g.K.RowSink.took l.horizon (sites_in l.initial.roster) (gathered l.initial.sink l.initial.effects.rows.items) (sites_in l.roster) (gathered l.sink l.effects.rows.items);
     }
 
 -- the time to the horizon
 abbrev pub decreases-loop-key : goal.decreases-loop-key
-decreases-loop-key g l = l.horizon + 1 - due_at l.horizon (world_due g.S.Site.engine (sites_in l.partition))
+decreases-loop-key g l = l.horizon + 1 - due_at l.horizon (world_due g.S.Site.engine (sites_in l.roster))

@@ -1,10 +1,9 @@
-use Rattle.std.proofs.Common.{[], ap, subst, sym, ◌≡◌, ◌∙◌}
+use Rattle.std.proofs.Common.{ap, subst, sym, ◌≡◌, ◌∙◌}
 use Rattle.std.proofs.lemmas.Result.{err_from_is_err_and}
 use Rattle.sim_partition.specs.Sites.{IsPart}
-use Rattle.sim_windows.specs.Gathered.{gathered}
 use Rattle.sim_windows.specs.Sinks.{HasRun, HasTaken}
 use Rattle.sim_windows.specs.Worlds.{sites_in}
-use Rattle.sim_windows.proofs.Gathering.{all_handed, stops_ended, stops_gathering, stops_last}
+use Rattle.sim_windows.proofs.Gathering.{all_handed, stops_gathering, stops_last}
 use Rattle.sim_windows.proofs.Whole.{items_of, world_part}
 use Rattle.sim_windows.proofs.Sinking.{taken_whole}
 use Rattle.sim_windows.proofs.alone.run_gathered.Goals as goal
@@ -19,12 +18,12 @@ returns-clause-whole g c =
     let took = g.K.RowSink.took in
     let s = c.args.world in
     let did = c.in_ok-run_by.ensures in
-    let v = c.run_by.new.partition in
+    let v = c.run_by.new.roster in
     let horizon = c.world.inside.horizon in
-    let first : sites_in c.in_ok-partition.partition ≡ s.opening = ap sites_in c.in_ok-partition.ensures ∙ (λ k. (c.world.view_is k).opening) in
-    let items = items_of v c.in_ok-into_sites.field-0.items did.lives c.in_ok-into_sites.ensures in
+    let first : sites_in c.in_ok-roster.roster ≡ s.opening = ap sites_in c.in_ok-roster.ensures ∙ (λ k. (c.world.view_is k).opening) in
+    let items = items_of v c.into_sites.result.items did.lives c.into_sites.ensures in
     let all =
-    all_handed g.met.S.Site.laws took g.met.K.RowSink.took_both horizon (sites_in c.in_ok-partition.partition) (sites_in v) c.args.sink.now c.run_by.new.sink c.hand_rest.new.sink c.new-effects.result.rows.items c.run_by.new.effects.rows.items c.new-effects.ensures.rows did.ran
+    all_handed g.met.S.Site.laws took g.met.K.RowSink.took_both horizon (sites_in c.in_ok-roster.roster) (sites_in v) c.args.sink.now c.run_by.new.sink c.hand_rest.new.sink c.new-effects.result.rows.items c.run_by.new.effects.rows.items c.new-effects.ensures.rows did.ran
     (subst (λ xs. took c.run_by.new.sink xs c.hand_rest.new.sink) c.deref.ensures.value c.in_ok-hand_rest.ensures.took) in
     let ran = subst (λ w. HasRun e took horizon w c.args.sink.now (sites_in v) c.hand_rest.new.sink) first all in
     subst (HasTaken e took s c.args.sink.now c.hand_rest.new.sink) (sym items)
@@ -35,10 +34,10 @@ returns-in_err-run_by-clause-stops g c =
     let s = c.args.world in
     let refusal = c.in_err-run_by.field-0.0 in
     let horizon = c.world.inside.horizon in
-    let first : sites_in c.in_ok-partition.partition ≡ s.opening = ap sites_in c.in_ok-partition.ensures ∙ (λ k. (c.world.view_is k).opening) in
+    let first : sites_in c.in_ok-roster.roster ≡ s.opening = ap sites_in c.in_ok-roster.ensures ∙ (λ k. (c.world.view_is k).opening) in
     let told = err_from_is_err_and c.from_residual-in_err-run_by.result c.from_residual-in_err-run_by.ensures.1 in
     rw (told.1, told.2)
-    (stops_gathering g.met.S.Site.laws g.K.RowSink.took g.K.RowSink.broke s horizon (sites_in c.in_ok-partition.partition) c.args.sink.now c.run_by.new.sink c.new-effects.result.rows.items refusal c.new-effects.ensures.rows (λ k. (c.world.view_is k).horizon) first
+    (stops_gathering g.met.S.Site.laws g.K.RowSink.took g.K.RowSink.broke s horizon (sites_in c.in_ok-roster.roster) c.args.sink.now c.run_by.new.sink c.new-effects.result.rows.items refusal c.new-effects.ensures.rows (λ k. (c.world.view_is k).horizon) first
     c.in_err-run_by.ensures.stops)
 
 pub returns-in_err-hand_rest-clause-stops : goal.returns-in_err-hand_rest-clause-stops
@@ -46,22 +45,10 @@ returns-in_err-hand_rest-clause-stops g c =
     let s = c.args.world in
     let refusal = c.in_err-hand_rest.field-0.0 in
     let horizon = c.world.inside.horizon in
-    let v = c.run_by.new.partition in
-    let first : sites_in c.in_ok-partition.partition ≡ s.opening = ap sites_in c.in_ok-partition.ensures ∙ (λ k. (c.world.view_is k).opening) in
+    let v = c.run_by.new.roster in
+    let first : sites_in c.in_ok-roster.roster ≡ s.opening = ap sites_in c.in_ok-roster.ensures ∙ (λ k. (c.world.view_is k).opening) in
     let told = err_from_is_err_and c.from_residual-in_err-hand_rest.result c.from_residual-in_err-hand_rest.ensures.1 in
     rw (told.1, told.2)
-    (stops_last g.met.S.Site.laws g.K.RowSink.took g.K.RowSink.broke s g.met.K.RowSink.took_both g.met.K.RowSink.broke_later horizon (sites_in c.in_ok-partition.partition) (sites_in v) c.args.sink.now c.run_by.new.sink c.hand_rest.new.sink c.new-effects.result.rows.items
+    (stops_last g.met.S.Site.laws g.K.RowSink.took g.K.RowSink.broke s g.met.K.RowSink.took_both g.met.K.RowSink.broke_later horizon (sites_in c.in_ok-roster.roster) (sites_in v) c.args.sink.now c.run_by.new.sink c.hand_rest.new.sink c.new-effects.result.rows.items
     c.run_by.new.effects.rows.items refusal c.new-effects.ensures.rows (λ k. (c.world.view_is k).horizon) first c.in_ok-run_by.ensures.ran
     (subst (λ xs. g.K.RowSink.broke c.run_by.new.sink xs refusal c.hand_rest.new.sink) c.deref.ensures.value c.in_err-hand_rest.ensures.broke))
-
-pub returns-in_err-into_sites-clause-stops : goal.returns-in_err-into_sites-clause-stops
-returns-in_err-into_sites-clause-stops g c =
-    let s = c.args.world in
-    let horizon = c.world.inside.horizon in
-    let v = c.run_by.new.partition in
-    let first : sites_in c.in_ok-partition.partition ≡ s.opening = ap sites_in c.in_ok-partition.ensures ∙ (λ k. (c.world.view_is k).opening) in
-    let told = err_from_is_err_and c.from_residual-in_err-into_sites.result c.from_residual-in_err-into_sites.ensures.1 in
-    rw (told.1, told.2)
-    (stops_ended g.met.S.Site.laws g.K.RowSink.took g.K.RowSink.broke s g.met.K.RowSink.took_both g.met.K.RowSink.broke_later horizon (sites_in c.in_ok-partition.partition) (sites_in v) c.args.sink.now c.run_by.new.sink c.hand_rest.new.sink c.new-effects.result.rows.items
-    c.run_by.new.effects.rows.items c.new-effects.ensures.rows (λ k. (c.world.view_is k).horizon) first c.in_ok-run_by.ensures.ran
-    (subst (λ xs. g.K.RowSink.took c.run_by.new.sink xs c.hand_rest.new.sink) c.deref.ensures.value c.in_ok-hand_rest.ensures.took))

@@ -11,14 +11,14 @@ abbrev pub invariant-loop-key : goal.invariant-loop-key
 invariant-loop-key g l =
     record {
       ready : g.K.RowSink.ready l.sink;
-      lives : IsOk l.partition;
+      lives : IsOk l.roster;
       none : l.effects.sent.items ≡ [];
       ran :
           (horizon : ℕ) → l.moment ≤ horizon
-          → HasGathered g.S.Site.engine g.K.RowSink.took horizon (sites_in l.initial.partition) (gathered l.initial.sink l.initial.effects.rows.items) (sites_in l.partition) (gathered l.sink l.effects.rows.items);
-      from : IsFrom l.moment (world_due g.S.Site.engine (sites_in l.partition));
+          → HasGathered g.S.Site.engine g.K.RowSink.took horizon (sites_in l.initial.roster) (gathered l.initial.sink l.initial.effects.rows.items) (sites_in l.roster) (gathered l.sink l.effects.rows.items);
+      from : IsFrom l.moment (world_due g.S.Site.engine (sites_in l.roster));
     }
 
 -- what is due by the moment
 abbrev pub decreases-loop-key : goal.decreases-loop-key
-decreases-loop-key g l = world_count g.met.S.Site.laws l.moment (sites_in l.partition)
+decreases-loop-key g l = world_count g.met.S.Site.laws l.moment (sites_in l.roster)

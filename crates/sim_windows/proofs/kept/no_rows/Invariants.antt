@@ -4,4 +4,4 @@ use Rattle.sim_windows.proofs.kept.no_rows.Given as goal
 
 -- those so far
 abbrev pub invariant-loop : goal.invariant-loop
-invariant-loop given l = map (λ v. v.items) l.lists.items ≡ map (λ p. []) (range_with_len 0 l.counter)
+invariant-loop given l = l.lists.items ≡ map (λ p. []) (range_with_len 0 l.counter)

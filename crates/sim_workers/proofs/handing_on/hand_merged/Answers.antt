@@ -1,4 +1,4 @@
-use Rattle.std.proofs.Common.{[], List, ap, append_assoc, arith, inl, length, map, refl, rules, subst, sym, ◌++◌, ◌+◌, ◌∷◌, ◌≡◌, ◌∙◌}
+use Rattle.std.proofs.Common.{[], List, ap, append_assoc, arith, inl, length, refl, rules, subst, sym, ◌++◌, ◌+◌, ◌∷◌, ◌≡◌, ◌∙◌}
 use Rattle.std.proofs.lemmas.List.{append-nil}
 use Rattle.std.proofs.lemmas.Result.{err_from_is_err_and}
 use Rattle.sim_clock.specs.declared.refusal.Refusal.TheVariants as refusals
@@ -34,14 +34,14 @@ loop-row-init g c = record {
 
 pub returns-in_err-push-clause-stops : goal.returns-in_err-push-clause-stops
 returns-in_err-push-clause-stops g c =
-    let all = merged_all (row_cmp g.S.Site.engine) (map (λ l. l.items) c.args.lists.items) in
+    let all = merged_all (row_cmp g.S.Site.engine) c.args.lists.items in
     let told = err_from_is_err_and c.from_residual-in_err-push.result c.from_residual-in_err-push.ensures.1 in
     let l = c.loop-row in
     rw told.1 (stops_there g.S.Site.engine g.K.RowSink.took all c.args.sink.now l.sink g.K.RowSink.broke told.0 (l.rows.items ++ l.merged) l.invariant.handing (λ e. e ≡ refusals.Memory) told.2)
 
 pub returns-in_err-take-clause-stops : goal.returns-in_err-take-clause-stops
 returns-in_err-take-clause-stops g c =
-    let all = merged_all (row_cmp g.S.Site.engine) (map (λ l. l.items) c.args.lists.items) in
+    let all = merged_all (row_cmp g.S.Site.engine) c.args.lists.items in
     let told = err_from_is_err_and c.from_residual-in_err-take.result c.from_residual-in_err-take.ensures.1 in
     let l = c.loop-row in
     let more = c.push.new.self.items in
@@ -51,7 +51,7 @@ returns-in_err-take-clause-stops g c =
 
 pub loop-row-preserved-then-len-ge-ROWS_AT_ONCE : goal.loop-row-preserved-then-len-ge-ROWS_AT_ONCE
 loop-row-preserved-then-len-ge-ROWS_AT_ONCE g c =
-    let all = merged_all (row_cmp g.S.Site.engine) (map (λ l. l.items) c.args.lists.items) in
+    let all = merged_all (row_cmp g.S.Site.engine) c.args.lists.items in
     let l = c.loop-row in
     let more = c.push.new.self.items in
     let rest = c.next.new.self in
@@ -70,7 +70,7 @@ loop-row-preserved-then-len-ge-ROWS_AT_ONCE g c =
 
 pub loop-row-preserved : goal.loop-row-preserved
 loop-row-preserved g c =
-    let all = merged_all (row_cmp g.S.Site.engine) (map (λ l. l.items) c.args.lists.items) in
+    let all = merged_all (row_cmp g.S.Site.engine) c.args.lists.items in
     let l = c.loop-row in
     record {
       ready = l.invariant.ready;
@@ -80,7 +80,7 @@ loop-row-preserved g c =
 
 pub returns-in_err-take-2-clause-stops : goal.returns-in_err-take-2-clause-stops
 returns-in_err-take-2-clause-stops g c =
-    let all = merged_all (row_cmp g.S.Site.engine) (map (λ l. l.items) c.args.lists.items) in
+    let all = merged_all (row_cmp g.S.Site.engine) c.args.lists.items in
     let told = err_from_is_err_and c.from_residual-in_err-take-2.result c.from_residual-in_err-take-2.ensures.1 in
     let l = c.loop-row in
     let last = ap (λ z. l.rows.items ++ z) c.in_default.ensures.0 ∙ append-nil l.rows.items in
@@ -89,7 +89,7 @@ returns-in_err-take-2-clause-stops g c =
 
 pub returns-clause-took : goal.returns-clause-took
 returns-clause-took g c =
-    let all = merged_all (row_cmp g.S.Site.engine) (map (λ l. l.items) c.args.lists.items) in
+    let all = merged_all (row_cmp g.S.Site.engine) c.args.lists.items in
     let l = c.loop-row in
     let i = same_left g.S.Site.engine g.K.RowSink.took all c.args.sink.now l.sink (l.rows.items ++ l.merged) (l.rows.items ++ []) (ap (λ z. l.rows.items ++ z) c.in_default.ensures.0) l.invariant.handing in
     let j = takes_there g.S.Site.engine g.K.RowSink.took all c.args.sink.now l.sink g.met.K.RowSink.took_both l.rows.items [] c.take-2.new.self i (subst (λ z. g.K.RowSink.took l.sink z c.take-2.new.self) c.deref-2.ensures.value c.in_ok-take-2.ensures.took) in
@@ -97,7 +97,7 @@ returns-clause-took g c =
 
 pub returns-clause-count : goal.returns-clause-count
 returns-clause-count g c =
-    let all = merged_all (row_cmp g.S.Site.engine) (map (λ l. l.items) c.args.lists.items) in
+    let all = merged_all (row_cmp g.S.Site.engine) c.args.lists.items in
     let l = c.loop-row in
     let is : IsCounted all l.handed (l.rows.items ++ []) = subst (λ z. IsCounted all l.handed (l.rows.items ++ z)) c.in_default.ensures.0 l.invariant.counted in
     let count : c.saturating_add.result ≡ word_of (l.handed + length l.rows.items) = search rules in

@@ -1,6 +1,5 @@
-use Rattle.std.specs.Prelude.{[], length, map, min, ◌≡◌, ◌≤◌}
+use Rattle.std.specs.Prelude.{[], length, ◌≡◌, ◌≤◌}
 use Rattle.std.proofs.Common.{arith, subst, sym, ◌∙◌}
-use Rattle.std.proofs.lemmas.List.{length-map}
 use Rattle.std.proofs.lemmas.Result.{err_from_is_err_and}
 use Rattle.sim_windows.specs.Rounds.{AreWithin, HaveCome}
 use Rattle.sim_windows.specs.Stages.{AreNext, GoesOn, with_parts}

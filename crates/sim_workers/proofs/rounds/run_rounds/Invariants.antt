@@ -1,4 +1,4 @@
-use Rattle.std.proofs.Common.{length, ◌≡◌, ◌≤◌}
+use Rattle.std.proofs.Common.{length, ◌≤◌}
 use Rattle.sim_windows.specs.Stages.{LeadsTo, left_in}
 use Rattle.sim_workers.specs.Teams.{HasPlaces}
 use Rattle.sim_workers.specs.Runs.{Told}

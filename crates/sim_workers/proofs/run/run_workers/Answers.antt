@@ -1,8 +1,7 @@
 use Rattle.std.specs.Prelude.{[]}
-use Rattle.std.proofs.Common.{arith}
 use Rattle.std.proofs.lemmas.Result.{err_from_is_err_and}
 use Rattle.sim_engine.specs.Laws.{SiteLaws}
-use Rattle.sim_workers.proofs.Ended.{ran_none, ran_ready, ran_stops, ran_whole, stopped_none}
+use Rattle.sim_workers.proofs.Ended.{ran_none, ran_ready, ran_stops, ran_whole}
 use Rattle.sim_workers.proofs.run.run_workers.Goals as goal
 
 pub returns-in_err-handoff-clause-stops : goal.returns-in_err-handoff-clause-stops

@@ -9,8 +9,12 @@ loop-alloc-preserved c =
     let old = c.loop-alloc.some.items in
     let rest = c.next.new.self in
     let site : q.site ≡ c.site.result = search rules in
-    ap (λ t. t ++ map (final_message q) rest) c.in_ok-push.ensures.items
-    ∙ append_assoc old (x ∷ []) (map (final_message q) rest)
-    ∙ ap (λ y. old ++ (y ∷ map (final_message q) rest)) (c.in_ok-final_message.ensures q site)
-    ∙ ap (λ ms. old ++ map (final_message q) ms) (sym c.in-Some.ensures.steps)
-    ∙ c.loop-alloc.invariant
+    record {
+      all =
+          ap (λ t. t ++ map (final_message q) rest) c.in_ok-push.ensures.items
+          ∙ append_assoc old (x ∷ []) (map (final_message q) rest)
+          ∙ ap (λ y. old ++ (y ∷ map (final_message q) rest)) (c.in_ok-final_message.ensures q site)
+          ∙ ap (λ ms. old ++ map (final_message q) ms) (sym c.in-Some.ensures.steps)
+          ∙ c.loop-alloc.invariant.all;
+      few = search rules;
+    }

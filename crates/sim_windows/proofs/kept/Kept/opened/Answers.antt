@@ -12,8 +12,8 @@ returns given c =
     let table = c.args.distances in
     let parts = c.args.parts.now in
     let none : ℕ → List _ = λ p. [] in
-    let rows : map (λ l. l.items) c.in_ok-rows.rows.items ≡ map none (range_with_len 0 (length parts)) = c.in_ok-rows.ensures in
+    let rows : c.in_ok-rows.rows.items ≡ map none (range_with_len 0 (length parts)) = c.in_ok-rows.ensures in
     let bounds : c.in_ok-bounds.bounds.items ≡ bounds_by engine table c.args.horizon parts =
     c.in_ok-bounds.ensures
     ∙ ap (λ dues. map (λ p. bound_by (distance_in table) c.args.horizon (λ q. get_or dues q None) p table.parts) (range_with_len 0 table.parts)) (c.deref.ensures.value ∙ c.in_ok-dues.ensures) in
-    λ i. record { layout = c.args.layout; distances = table; horizon = c.args.horizon; parts = parts; bounds = bounds i; rows = rows i; waiting = c.new.ensures.items i; settled = 0 }
+    λ i. record { layout = c.args.layout; distances = table; horizon = c.args.horizon; parts = parts; bounds = bounds i; rows = rows i; waiting = c.new.ensures i; settled = 0 }

@@ -1,4 +1,4 @@
-use Rattle.std.specs.Prelude.{List, Ok, Result, [], drop, get_or, length, map, set, ◌++◌, ◌+◌, ◌<◌, ◌∷◌, ◌≡◌, ◌≤◌, ℕ}
+use Rattle.std.specs.Prelude.{List, Ok, Result, [], drop, get_or, length, map, set, ◌++◌, ◌+◌, ◌∷◌, ◌≡◌, ◌≤◌, ℕ}
 use Rattle.std.proofs.Common.{ap, append_assoc, arith, length-append, refl, subst, sym, ◌∙◌}
 use Rattle.std.proofs.lemmas.List.{append-nil, drop_all, length-map, length-set, nil_from_length}
 use Rattle.sim_clock.specs.declared.refusal.Refusal.{Refusal}
@@ -12,7 +12,7 @@ use Rattle.sim_windows.specs.Stages.{GoesOn, Standing, StandsOn, standing_of, wi
 use Rattle.sim_windows.proofs.Back.{Next, before_all, in_order, many_back, next_back}
 use Rattle.sim_windows.proofs.Places.{map_push}
 use Rattle.sim_windows.proofs.Standing.{many_parts, many_rows}
-use Rattle.sim_windows.proofs.Returned.{one_back, rows_back, rows_many, within_rows}
+use Rattle.sim_windows.proofs.Returned.{one_back, rows_back, within_rows}
 use Rattle.sim_windows.proofs.lent.Lent.come_back.Goals as goal
 
 module _ {Site Row Transfer : Type 0} {engine : Engine Site Row Transfer} {conditions : Conditions Site Transfer} (basics : SiteLaws engine conditions) where
@@ -52,7 +52,7 @@ loop-one-init g c = record {
   rest = c.into_iter-one-iterator.ensures.into_iter_gives.0;
   place = refl;
   parts = c.in_ok-parts.ensures.items;
-  rows = sym (rows_many c.self.inside.kept.rows.items) ∙ ap (λ (x : Standing _ _ _). length x.rows) c.self.view_is;
+  rows = ap (λ (x : Standing _ _ _). length x.rows) c.self.view_is;
   bounds = ap (λ (x : Standing _ _ _). x.bounds) c.self.view_is;
   same = record { layout = ap (λ (x : Standing _ _ _). x.layout) c.self.view_is; distances = ap (λ (x : Standing _ _ _). x.distances) c.self.view_is };
   settled = ap (λ (x : Standing _ _ _). x.settled) c.self.view_is;
@@ -87,7 +87,7 @@ loop-one-preserved g c =
       rest = append_assoc l.yielded (one ∷ []) more ∙ order;
       place = omega (arith, i.place, length-append l.yielded (one ∷ []));
       parts = c.in_ok-push.ensures.items ∙ ap (λ z. z ++ one.part ∷ []) i.parts ∙ sym (map_push _ l.yielded one);
-      rows = length-set rows k c.add_rows.new.rows ∙ i.rows;
+      rows = length-set rows k c.add.new.self ∙ i.rows;
       bounds = i.bounds;
       same = record { layout = i.same.layout; distances = i.same.distances };
       settled = i.settled;
@@ -97,10 +97,10 @@ loop-one-preserved g c =
           let next : Next laws ends ps k (Ok []) one = subst (λ n. Next laws ends ps n (Ok []) one) (sym i.place) (next_back laws ends ps l.yielded one more (Ok []) (subst (HaveCome e cs ends ps) (sym order) came)) in
           let at : length h.parts ≡ k = ap (λ z. length z) i.parts ∙ length-map l.yielded _ ∙ sym i.place in
           let stands = one_back laws s h ps ends k one at st next (λ b. subst (λ z. get_or ends k 0 ≤ get_or z k 0) (sym i.bounds) (under k (omega (arith, b, ap (λ z. length z) i.bounds)))) in
-          subst (λ z. StandsOn e cs s (record h { parts = c.push.new.self.items ++ drop (k + 1) ps; rows = z; waiting = c.append.new.self.items }))
-          (rows_back rows k c.index_mut.result.now c.add_rows.new.rows one.made.rows.items (subst (λ n. k < n) (rows_many rows) (within_rows laws s h ps ends k one at st next)) c.index_mut.ensures.value c.in_ok-add_rows.ensures)
-          (subst (λ z. StandsOn e cs s (record h { parts = z; rows = set h.rows k (get_or h.rows k [] ++ one.made.rows.items); waiting = c.append.new.self.items })) (ap (λ z. z ++ drop (k + 1) ps) (sym c.in_ok-push.ensures.items))
-          (subst (λ z. StandsOn e cs s (record h { parts = h.parts ++ one.part ∷ [] ++ drop (k + 1) ps; rows = set h.rows k (get_or h.rows k [] ++ one.made.rows.items); waiting = z })) (sym c.in_ok-append.ensures.items) stands));
+          subst (λ z. StandsOn e cs s (record h { parts = c.push.new.self.items ++ drop (k + 1) ps; rows = z; waiting = c.add-in-loop-one.new.self }))
+          (rows_back rows k c.index_mut.result.now c.add.new.self one.made.rows.items (within_rows laws s h ps ends k one at st next) c.index_mut.ensures.value c.in_ok-add.ensures)
+          (subst (λ z. StandsOn e cs s (record h { parts = z; rows = set h.rows k (get_or h.rows k [] ++ one.made.rows.items); waiting = c.add-in-loop-one.new.self })) (ap (λ z. z ++ drop (k + 1) ps) (sym c.in_ok-push.ensures.items))
+          (subst (λ z. StandsOn e cs s (record h { parts = h.parts ++ one.part ∷ [] ++ drop (k + 1) ps; rows = set h.rows k (get_or h.rows k [] ++ one.made.rows.items); waiting = z })) (sym c.in_ok-add-2.ensures) stands));
     }
 
 pub stage_of-requires : goal.stage_of-requires

@@ -18,6 +18,6 @@ pub returns-clause-next : goal.returns-clause-next
 returns-clause-next g c = λ parts at.
     let k : Standing _ _ _ = standing_of c.self.inside.kept parts in
     let h : Standing _ _ _ = standing_of c.settle_before.new.self parts in
-    subst (λ (x : Standing _ _ _). Settles g.S.Site.engine g.S.Site.conditions (with_parts parts x) h (merged_all (row_cmp g.S.Site.engine) (map (λ l. l.items) c.in_ok-prefixes.prefixes.items))) c.self.view_is
-    (settled g.met.S.Site.laws k h c.args.moment (merged_all (row_cmp g.S.Site.engine) (map (λ l. l.items) c.in_ok-prefixes.prefixes.items))
+    subst (λ (x : Standing _ _ _). Settles g.S.Site.engine g.S.Site.conditions (with_parts parts x) h (merged_all (row_cmp g.S.Site.engine) c.in_ok-prefixes.prefixes.items)) c.self.view_is
+    (settled g.met.S.Site.laws k h c.args.moment (merged_all (row_cmp g.S.Site.engine) c.in_ok-prefixes.prefixes.items)
     (at ∙ sym (ap (λ (x : Standing _ _ _). lower_bound_in g.S.Site.engine (with_parts parts x)) c.self.view_is)) (c.in_ok-prefixes.ensures.settled parts) (ap (merged_all (row_cmp g.S.Site.engine)) c.in_ok-prefixes.ensures.rows))

@@ -15,7 +15,7 @@ use Rattle.sim_engine.specs.Simulated.{IsSimulated}
 use Rattle.sim_exchange.specs.Layout.{IsLayout, Layout, owner_of}
 use Rattle.sim_exchange.specs.Table.{Table, distance_in}
 use Rattle.sim_partition.specs.Sites.{IsPart}
-use Rattle.sim_windows.specs.Stages.{Standing, Stands, TakeTime, opened, standing_of}
+use Rattle.sim_windows.specs.Stages.{Stands, TakeTime, opened, standing_of}
 use Rattle.sim_windows.proofs.Beginning.{opens, take_time}
 use Rattle.sim_windows.proofs.Divided.{made_of, of_lists, opens_part}
 use Rattle.sim_windows.proofs.stage.Stage.open.Goals as goal

@@ -1,6 +1,6 @@
 use Rattle.std.specs.Option.{is_some}
-use Rattle.std.specs.Prelude.{Bool, Option, Vec, false, get_or, map, not, set, true, ℕ, ◌∷◌, ◌++◌, ◌≡◌, [], Ok, IfOk}
-use Rattle.std.proofs.Common.{Global, ap, subst, sym, ◌∙◌}
+use Rattle.std.specs.Prelude.{Bool, Option, false, get_or, not, set, true, ℕ, ◌∷◌, ◌++◌, ◌≡◌, [], Ok, IfOk}
+use Rattle.std.proofs.Common.{ap, subst, sym, ◌∙◌}
 use Rattle.std.proofs.lemmas.Result.{err_from_is_err_and}
 use Rattle.sim_clock.specs.declared.key.Key.{Key}
 use Rattle.sim_engine.specs.Engine.{Engine}
@@ -46,8 +46,8 @@ invariant_of-result g c =
     let past : IfOk (get_or i.parts.items c.args.part (Ok [])) (λ v. AreOfPast g.S.Site.conditions v (world_due g.S.Site.engine v)) =
     subst (λ (x : Standing _ _ _). IfOk (get_or x.parts c.args.part (Ok [])) (λ v. AreOfPast g.S.Site.conditions v (world_due g.S.Site.engine v))) (sym c.self.view_is) c.ready_at.ensures.past in
     let took = stepped g.met.S.Site.laws i.kept i.parts.items c.args.part c.index_mut.result.now c.index_mut.ensures.value some st.setting st.picks st.stands
-    c.step.new.self c.in_ok-handled.handled.rows.items c.in_ok-handled.handled.sent.items c.append-2.new.self.items c.index_mut-2.result.now c.append.new.self
-    c.in_ok-handled.ensures.handled past c.index_mut-2.ensures.value c.in_ok-append.ensures.items c.in_ok-append-2.ensures.items in
+    c.step.new.self c.in_ok-handled.handled.rows.items c.in_ok-handled.handled.sent.items c.add-2.new.self c.index_mut-2.result.now c.add.new.self
+    c.in_ok-handled.ensures.handled past c.index_mut-2.ensures.value c.in_ok-add.ensures c.in_ok-add-2.ensures in
     record { setting = st.setting; picks = st.picks ++ Part c.args.part ∷ []; stands = took.stands }
 
 pub returns-clause-took : goal.returns-clause-took
@@ -56,9 +56,9 @@ returns-clause-took g c = λ s done st.
     let some = may_step g.S.Site.engine (standing_of i.kept i.parts.items) c.args.self c.args.part _ _ c.self.view_is c.ready_at.ensures.ready c.is_none.ensures c.if-is_none.false in
     let past : IfOk (get_or i.parts.items c.args.part (Ok [])) (λ v. AreOfPast g.S.Site.conditions v (world_due g.S.Site.engine v)) =
     subst (λ (x : Standing _ _ _). IfOk (get_or x.parts c.args.part (Ok [])) (λ v. AreOfPast g.S.Site.conditions v (world_due g.S.Site.engine v))) (sym c.self.view_is) c.ready_at.ensures.past in
-    let h : Standing _ _ _ = record (standing_of i.kept i.parts.items) { parts = set i.parts.items c.args.part c.step.new.self; rows = map (λ (v : Vec _ Global). v.items) (set i.kept.rows.items c.args.part c.append.new.self); waiting = c.append-2.new.self.items } in
+    let h : Standing _ _ _ = record (standing_of i.kept i.parts.items) { parts = set i.parts.items c.args.part c.step.new.self; rows = set i.kept.rows.items c.args.part c.add.new.self; waiting = c.add-2.new.self } in
     subst (λ (x : Standing _ _ _). Took g.S.Site.engine g.S.Site.conditions x h s done (Part c.args.part) true) c.self.view_is
     (stepped g.met.S.Site.laws i.kept i.parts.items c.args.part c.index_mut.result.now c.index_mut.ensures.value some s done
     (subst (Stands g.S.Site.engine g.S.Site.conditions s done) (sym c.self.view_is) st)
-    c.step.new.self c.in_ok-handled.handled.rows.items c.in_ok-handled.handled.sent.items c.append-2.new.self.items c.index_mut-2.result.now c.append.new.self
-    c.in_ok-handled.ensures.handled past c.index_mut-2.ensures.value c.in_ok-append.ensures.items c.in_ok-append-2.ensures.items)
+    c.step.new.self c.in_ok-handled.handled.rows.items c.in_ok-handled.handled.sent.items c.add-2.new.self c.index_mut-2.result.now c.add.new.self
+    c.in_ok-handled.ensures.handled past c.index_mut-2.ensures.value c.in_ok-add.ensures c.in_ok-add-2.ensures)

@@ -1,7 +1,5 @@
-use Rattle.std.specs.Prelude.{IfErr}
-use Rattle.std.proofs.Common.{refl, subst, sym, true≢false, ◌∙◌}
+use Rattle.std.proofs.Common.{refl, subst, sym, ◌∙◌}
 use Rattle.std.proofs.lemmas.Result.{IfErr-weaker}
-use Rattle.sim_windows.specs.Sinks.{HasStopped}
 use Rattle.sim_workers.specs.Runs.{RanOn}
 use Rattle.sim_engine.specs.Laws.{SiteLaws}
 use Rattle.sim_workers.proofs.Ended.{ran_not, ran_so}

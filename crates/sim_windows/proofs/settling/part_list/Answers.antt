@@ -2,8 +2,8 @@ use Rattle.std.proofs.Common.{Bool, List, [], ℕ, ap, drop, false, filter, not,
 use Rattle.std.proofs.lemmas.List.{take-append-drop}
 use Rattle.std.specs.List.{list_all}
 use Rattle.sim_engine.specs.Prefixes.{is_before}
-use Rattle.sim_windows.proofs.settling.part_rows.Given.{Over}
-use Rattle.sim_windows.proofs.settling.part_rows.Goals as goal
+use Rattle.sim_windows.proofs.settling.part_list.Given.{Over}
+use Rattle.sim_windows.proofs.settling.part_list.Goals as goal
 
 -- of two lists behind each other a test keeps the one, and its opposite the other
 record Parts {X : Type 0} (p : X → Bool) (xs ys : List X) : Type 0 where
