@@ -1,6 +1,6 @@
 -- A sorted list of numbers is the only one of its kind.
-use Rattle.std.proofs.Common.{◌≡◌, ℕ, suc, ◌+◌, ◌<◌, ◌≤◌, Bool, true, false, cond, List, [], ◌∷◌, length, get_or, refl, sym, ap, ◌∙◌, arith, inl, inr}
-use Rattle.std.proofs.lemmas.List.Sums.{sum_by-cons}
+use Rattle.std.proofs.Common.{◌≡◌, ℕ, zero, suc, ◌+◌, ◌<◌, ◌≤◌, Bool, true, false, cond, List, [], ◌∷◌, ◌++◌, length, get_or, refl, sym, ap, ◌∙◌, arith, inl, inr}
+use Rattle.std.proofs.lemmas.List.Sums.{sum_by-append, sum_by-cons}
 use Rattle.std.proofs.lemmas.List.Sorted.{IsNonDecreasingBy-from_sort, sum_by-IsPermutation}
 use Rattle.std.proofs.lemmas.Bool.{cases_lt}
 use Rattle.std.proofs.lemmas.Bool.Decides.{nat_tests}
@@ -20,11 +20,11 @@ abbrev pub Ascends : List ℕ → Type 0
 Ascends [] = Unit {0}
 Ascends (n ∷ ns) = IsBelow n ns × Ascends ns
 
-IsBelow-less : (m n : ℕ) (ns : List ℕ) → m ≤ n → IsBelow n ns → IsBelow m ns
+pub IsBelow-less : (m n : ℕ) (ns : List ℕ) → m ≤ n → IsBelow n ns → IsBelow m ns
 IsBelow-less m n [] h b = tt
 IsBelow-less m n (k ∷ ks) h b = (omega arith, IsBelow-less m n ks h b.1)
 
-IsBelow-put : (m n : ℕ) (ns : List ℕ) → m ≤ n → IsBelow m ns → IsBelow m (put n ns)
+pub IsBelow-put : (m n : ℕ) (ns : List ℕ) → m ≤ n → IsBelow m ns → IsBelow m (put n ns)
 IsBelow-put m n [] h b = (h, tt)
 IsBelow-put m n (k ∷ ks) h b =
     elim (nat_le n k) as (λ t. IsBelow m (cond t (n ∷ k ∷ ks) (k ∷ put n ks))) [ true ↦ (h, b) | false ↦ (b.0, IsBelow-put m n ks h b.1) ]
@@ -111,10 +111,58 @@ IsBelow-from : (n : ℕ) (ns : List ℕ) → ((j d : ℕ) → j < length ns → 
 IsBelow-from n [] h = tt
 IsBelow-from n (m ∷ ms) h = (h 0 0 (omega arith), IsBelow-from n ms (λ j d k. h (suc j) d (omega arith)))
 
-Ascends-from : (ns : List ℕ) → IsNonDecreasing ns → Ascends ns
+-- by std's word
+pub Ascends-from : (ns : List ℕ) → IsNonDecreasing ns → Ascends ns
 Ascends-from [] up = tt
 Ascends-from (n ∷ ns) up =
     (IsBelow-from n ns (λ j d k. up 0 (suc j) d (omega arith) (omega arith)), Ascends-from ns (λ i j d h k. up (suc i) (suc j) d (omega arith) (omega arith)))
+
+IsBelow-at : (n : ℕ) (ns : List ℕ) (j d : ℕ) → IsBelow n ns → j < length ns → n ≤ get_or ns j d
+IsBelow-at n [] j d b k = absurd (omega arith)
+IsBelow-at n (m ∷ ms) zero d b k = b.0
+IsBelow-at n (m ∷ ms) (suc j) d b k = IsBelow-at n ms j d b.1 (omega arith)
+
+Ascends-at : (ns : List ℕ) (i j d : ℕ) → Ascends ns → i ≤ j → j < length ns → get_or ns i d ≤ get_or ns j d
+Ascends-at [] i j d up h k = absurd (omega arith)
+Ascends-at (n ∷ ns) zero zero d up h k = omega arith
+Ascends-at (n ∷ ns) zero (suc j) d up h k = IsBelow-at n ns j d up.0 (omega arith)
+Ascends-at (n ∷ ns) (suc i) zero d up h k = absurd (omega arith)
+Ascends-at (n ∷ ns) (suc i) (suc j) d up h k = Ascends-at ns i j d up.1 (omega arith) (omega arith)
+
+-- and back to it
+pub IsNonDecreasing-from : (ns : List ℕ) → Ascends ns → IsNonDecreasing ns
+IsNonDecreasing-from ns up = λ i j d h k. Ascends-at ns i j d up h k
+
+-- numbers with the sums of others, and in order, are those in ascending order
+pub ascending_from_sums : (ns ms : List ℕ) → Ascends ms → ((f : ℕ → ℕ) → sum_by f ms ≡ sum_by f ns) → ascending ns ≡ ms
+ascending_from_sums ns ms up same =
+    same_ascending (ascending ns) ms (Ascends-ascending ns) up (λ f. sum_by-ascending f ns ∙ sym (same f))
+
+-- numbers with the same sums are the same in ascending order
+pub ascending-same : (ns ms : List ℕ) → ((f : ℕ → ℕ) → sum_by f ms ≡ sum_by f ns) → ascending ns ≡ ascending ms
+ascending-same ns ms same =
+    ascending_from_sums ns (ascending ms) (Ascends-ascending ms) (λ f. sum_by-ascending f ms ∙ same f)
+
+-- ascending numbers are in ascending order already
+pub ascending-is : (ns : List ℕ) → Ascends ns → ascending ns ≡ ns
+ascending-is ns up = ascending_from_sums ns ns up (λ f. refl)
+
+-- one more number, put in its place
+pub ascending-push : (ns : List ℕ) (n : ℕ) → ascending (ns ++ n ∷ []) ≡ put n (ascending ns)
+ascending-push ns n =
+    ascending_from_sums (ns ++ n ∷ []) (put n (ascending ns)) (Ascends-put n (ascending ns) (Ascends-ascending ns))
+    (λ f. omega (arith, sum_by-put f n (ascending ns), sum_by-ascending f ns, sum_by-append f ns (n ∷ []), sum_by-cons f n []))
+
+length-put : (n : ℕ) (ns : List ℕ) → length (put n ns) ≡ length ns + 1
+length-put n [] = refl
+length-put n (k ∷ ks) =
+    let rest = length-put n ks in
+    elim (nat_le n k) as (λ t. length (cond t (n ∷ k ∷ ks) (k ∷ put n ks)) ≡ length (k ∷ ks) + 1) [ true ↦ omega arith | false ↦ omega arith ]
+
+-- sorting changes no length
+pub length-ascending : (ns : List ℕ) → length (ascending ns) ≡ length ns
+length-ascending [] = refl
+length-ascending (n ∷ ns) = omega (arith, length-put n (ascending ns), length-ascending ns)
 
 -- a sorted permutation of some numbers is these numbers in ascending order
 pub ascending_from_sort : (ns ms : List ℕ) → IsPermutation ns ms → IsSorted nat_cmp ms → ms ≡ ascending ns

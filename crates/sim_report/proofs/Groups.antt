@@ -1,5 +1,5 @@
 -- Lists that are counted by the number of their group.
-use Rattle.std.proofs.Common.{◌≡◌, ◌==◌, ℕ, zero, suc, ◌+◌, ◌<◌, ◌≤◌, Bool, true, false, cond, Option, List, [], ◌∷◌, ◌++◌, length, map, filter, set, take, drop, get_or, replicate, refl, sym, ap, ◌∙◌, arith}
+use Rattle.std.proofs.Common.{◌≡◌, ◌==◌, ℕ, zero, suc, ◌+◌, ◌-◌, ◌*◌, ◌/◌, ◌<◌, ◌≤◌, Bool, true, false, cond, Option, List, [], ◌∷◌, ◌++◌, length, map, filter, set, take, drop, get_or, replicate, slice_get, refl, sym, ap, ◌∙◌, arith}
 use Rattle.std.specs.List.{enumerate_from}
 use Rattle.std.proofs.lemmas.Grind.{common_steps}
 use Rattle.std.proofs.lemmas.List.{append-nil, append_assoc, length-map}
@@ -11,12 +11,13 @@ use Rattle.sqs_message.specs.declared.message.Place.{Place}
 use Rattle.sqs_message.specs.declared.message.Place.TheVariants.{Delayed, Visible, InFlight}
 use Rattle.sqs_model.specs.declared.finals.Finals.{Finals}
 use Rattle.sqs_model.specs.declared.finals.FinalMessage.{FinalMessage}
-use Rattle.sqs_formats.specs.Report.{Column, columns_of, is_delayed, is_in_flight, is_visible, left, messages_of, queue_report, report, rows_of}
+use Rattle.sqs_formats.specs.Report.{Column, ages, ascending, columns_of, is_delayed, is_in_flight, is_visible, left, messages_of, queue_report, rank, report, rows_of}
 use Rattle.sim_report.specs.declared.left.Left.{Left}
 use Rattle.sim_report.specs.declared.queue.QueueCounts.{QueueCounts}
 use Rattle.sim_report.specs.Left.{left_of, left_with, lefts}
 use Rattle.sim_report.specs.Running.{changed, columns_by, columns_of_all, fresh, messages_added, queue_column, queue_counts, row_added, rows_added, running, with_row}
-use Rattle.sim_report.specs.Tally.{tally_of}
+use Rattle.sim_report.specs.Tally.{rank_in, tally_of}
+use Rattle.sim_report.proofs.Ascending.{length-ascending, sum_by-ascending}
 use Rattle.sim_report.proofs.Tallies.{tallied-is}
 
 -- of each group, what its members make
@@ -106,10 +107,16 @@ lefts-append queues before (m ∷ messages) =
     ∙ lefts-append queues (before ++ m ∷ []) messages
     ∙ ap (lefts queues) (append_assoc before (m ∷ []) messages)
 
+-- a rank of ages in ascending order
+rank-ascending : (p : ℕ) (ns : List ℕ) → rank_in p (ascending ns) ≡ rank p ns
+rank-ascending p ns = ap (λ n. slice_get (ascending ns) ((p * n + 99) / 100 - 1)) (length-ascending ns)
+
 -- the columns of a queue are those of the definitions
 columns_by-is : (rows : List Row) (messages : List FinalMessage) → columns_by (tally_of rows) (left_of messages) ≡ columns_of rows messages
 unfolding columns_of
-columns_by-is rows messages = refl
+columns_by-is rows messages =
+    let total = sum_by-ascending (λ x. x) (ages rows) in
+    rw (total, rank-ascending 100 (ages rows), rank-ascending 50 (ages rows), rank-ascending 95 (ages rows), rank-ascending 99 (ages rows)) refl
 
 columns-from : (n : ℕ) (queues : List (List ℕ)) (rows : List Row) (f : Finals)
     → map (queue_column f.messages) (enumerate_from n (map (queue_counts rows) (enumerate_from n queues))) ≡ map (queue_report rows f) (enumerate_from n queues)

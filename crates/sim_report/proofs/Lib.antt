@@ -1,4 +1,5 @@
 pub mod Ascending
+pub mod Counted
 pub mod Tallies
 pub mod Groups
 pub mod Comparing

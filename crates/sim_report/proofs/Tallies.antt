@@ -6,7 +6,8 @@ use Rattle.std.proofs.lemmas.List.Sums.{fold_push}
 use Rattle.std.proofs.lemmas.List.Elements.{filter-append, filter_map-append}
 use Rattle.std.proofs.lemmas.Bool.Decides.{nat_tests}
 use Rattle.sqs_message.specs.declared.row.Row.{Row}
-use Rattle.sqs_formats.specs.Report.{age_when, ages, column, count, counted_columns, counts_in, depth, depth_max, greatest, is_column, numbers, prefixes}
+use Rattle.sqs_formats.specs.Report.{age_when, ages, ascending, column, count, counted_columns, counts_in, depth, depth_max, greatest, is_column, numbers, prefixes}
+use Rattle.sim_report.proofs.Ascending.{ascending-push}
 use Rattle.sim_report.specs.Tally.{counted, depth_by, tallied, tally_of, with_age, age_in}
 
 length-more : (p : Row → Bool) (rows : List Row) (row : Row) (b : Bool) → b ≡ p row → length (filter p rows ++ cond b (row ∷ []) []) ≡ cond b (length (filter p rows) + 1) (length (filter p rows))
@@ -73,14 +74,15 @@ depth_max-push rows row =
 depth-by : (rows : List Row) → depth_by (map (λ n. count n rows) (numbers 0 counted_columns)) ≡ depth rows
 depth-by rows = refl
 
-age-list : (age : Option ℕ) (before : List ℕ) (row : Row) (rest : Option ℕ) → age ≡ rest → with_age age before ≡ before ++ filter_map (λ (r : Row). rest) (row ∷ [])
-age-list None before row rest e = rw (← e) (sym (append-nil before))
-age-list (Some a) before row rest e = rw (← e) refl
+age-list : (age : Option ℕ) (before : List ℕ) (row : Row) (rest : Option ℕ) → age ≡ rest
+    → with_age age (ascending before) ≡ ascending (before ++ filter_map (λ (r : Row). rest) (row ∷ []))
+age-list None before row rest e = rw (← e) (ap ascending (sym (append-nil before)))
+age-list (Some a) before row rest e = rw (← e) (sym (ascending-push before a))
 
 -- the ages with one more row
-ages-push : (rows : List Row) (row : Row) → ages (rows ++ row ∷ []) ≡ with_age (age_in (column row.kind row.answer) row) (ages rows)
+ages-push : (rows : List Row) (row : Row) → ascending (ages (rows ++ row ∷ [])) ≡ with_age (age_in (column row.kind row.answer) row) (ascending (ages rows))
 ages-push rows row =
-    filter_map-append (λ row. age_when (counts_in 4 row) row.detail) rows (row ∷ []) ∙ sym (age-list (age_when (counts_in 4 row) row.detail) (ages rows) row (age_when (counts_in 4 row) row.detail) refl)
+    ap ascending (filter_map-append (λ row. age_when (counts_in 4 row) row.detail) rows (row ∷ [])) ∙ sym (age-list (age_when (counts_in 4 row) row.detail) (ages rows) row (age_when (counts_in 4 row) row.detail) refl)
 
 -- the running counts of a queue with one more row are those of its rows with it
 pub tallied-is : (rows : List Row) (row : Row) → tallied row (tally_of rows) ≡ tally_of (rows ++ row ∷ [])

@@ -1,3 +1,4 @@
+pub mod Ages
 pub mod Tally
 pub mod Left
 pub mod Running

@@ -3,12 +3,12 @@ use Rattle.std.specs.Prelude.{ℕ, zero, suc, List, [], ◌∷◌, ◌++◌, map
 use Rattle.std.specs.List.{enumerate_from}
 use Rattle.sqs_message.specs.declared.row.Row.{Row}
 use Rattle.sqs_model.specs.declared.finals.FinalMessage.{FinalMessage}
-use Rattle.sqs_formats.specs.Report.{Column, messages_of, rank, rows_of}
+use Rattle.sqs_formats.specs.Report.{Column, messages_of, rows_of}
 use Rattle.sim_report.specs.declared.column.RowCount.{RowCount}
 use Rattle.sim_report.specs.declared.left.Left.{Left}
 use Rattle.sim_report.specs.declared.queue.QueueCounts.{QueueCounts}
 use Rattle.sim_report.specs.Left.{left_of, left_with}
-use Rattle.sim_report.specs.Tally.{TallyState, count_of, tallied_by, tally_of}
+use Rattle.sim_report.specs.Tally.{TallyState, count_of, rank_in, tallied_by, tally_of}
 
 -- a list with one element changed, if it has that index
 abbrev pub changed : {X : Type 0} → (X → X) → ℕ → List X → List X
@@ -60,7 +60,7 @@ abbrev pub columns_by : TallyState → Left → List (Option ℕ)
 columns_by t l =
     map (λ n. Some n) t.counts
     ++ (Some t.depth_max ∷ Some l.visible ∷ Some l.in_flight ∷ Some l.delayed ∷ Some (sum t.ages)
-    ∷ rank 100 t.ages ∷ rank 50 t.ages ∷ rank 95 t.ages ∷ rank 99 t.ages ∷ [])
+    ∷ rank_in 100 t.ages ∷ rank_in 50 t.ages ∷ rank_in 95 t.ages ∷ rank_in 99 t.ages ∷ [])
 
 -- the columns of a queue with its number
 abbrev pub queue_column : List FinalMessage → ℕ × QueueCounts → Column

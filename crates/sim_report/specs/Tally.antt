@@ -1,11 +1,11 @@
 -- The running counts of one queue.
-use Rattle.std.specs.Prelude.{ℕ, ◌+◌, ◌-◌, ◌*◌, ◌/◌, max, List, [], ◌∷◌, ◌++◌, length, map, set, get_or, slice_get, Option, Some, None}
+use Rattle.std.specs.Prelude.{ℕ, ◌+◌, ◌-◌, ◌*◌, ◌/◌, max, List, length, map, set, get_or, slice_get, Option, Some, None}
 use Rattle.sqs_message.specs.declared.row.Row.{Row}
 use Rattle.sim_report.specs.declared.column.RowCount.{RowCount}
-use Rattle.sqs_formats.specs.Report.{age_when, ages, column, count, counted_columns, depth_max, is_column, numbers}
+use Rattle.sqs_formats.specs.Report.{age_when, ages, ascending, column, count, counted_columns, depth_max, is_column, numbers, put}
 
 -- how many rows each counting column has, how many messages there were at once at most, and the
--- ages at which messages were deleted
+-- ages at which messages were deleted, in ascending order
 pub record TallyState : Type 0 where
   pub counts : List ℕ
   pub depth_max : ℕ
@@ -14,7 +14,7 @@ pub record TallyState : Type 0 where
 -- the running counts after these rows of the queue
 abbrev pub tally_of : List Row → TallyState
 tally_of rows =
-    record { counts = map (λ n. count n rows) (numbers 0 counted_columns); depth_max = depth_max rows; ages = ages rows }
+    record { counts = map (λ n. count n rows) (numbers 0 counted_columns); depth_max = depth_max rows; ages = ascending (ages rows) }
 
 -- the counts with one more row in a column, if the row has one of these columns
 abbrev pub counted : Option ℕ → List ℕ → List ℕ
@@ -30,10 +30,10 @@ depth_by counts =
 abbrev pub age_in : Option ℕ → Row → Option ℕ
 age_in c row = age_when (is_column 4 c) row.detail
 
--- the ages with one more, if there is one
+-- the ages in ascending order with one more in its place, if there is one
 abbrev pub with_age : Option ℕ → List ℕ → List ℕ
 with_age None ages = ages
-with_age (Some age) ages = ages ++ age ∷ []
+with_age (Some age) ages = put age ages
 
 -- what a row counts, whose column is known
 abbrev pub count_in : Option ℕ → Row → RowCount

@@ -1,39 +1,88 @@
-//! The ages at which messages were deleted: their order, their ranks and their sum.
-ghost use Rattle.std.specs.Prelude.{◌≡◌, ◌≤◌, IfOk, length, sum};
-ghost use Rattle.sqs_formats.specs.Report.{ascending};
-ghost use Rattle.sim_report.specs.Tally.{rank_in};
+//! The ages at which messages were deleted.
+ghost use Rattle.std.specs.Prelude.{◌≡◌, IfOk, OnOk};
+ghost use Rattle.sqs_formats.specs.Report.{ascending, put};
 
+use crate::age_counts::AgeCounts;
 use std::alloc::{AllocError, Global};
+use std::marker::Model;
+
+/// The number of recent ages up to which they are kept as they came.
+const RECENT: usize = 1024;
+
+/// The ages at which messages were deleted. They are kept as counts, but for the latest ones, which
+/// are counted once there are as many of them as of different ages.
+#[derive(Drop)]
+pub(crate) struct Ages {
+    counted: AgeCounts,
+    recent: Vec<u64>,
+}
+
+impl Model for Ages {
+    ghost use Rattle.std.specs.Prelude.{ℕ, ◌++◌, List};
+    ghost use Rattle.sqs_formats.specs.Report.{ascending};
+
+    ghost Value = { List ℕ };
+
+    ghost view = { λ a. ascending (a.counted ++ a.recent.items) };
+}
 
 // The ages in ascending order.
-pub(crate) fn sorted(alloc: Global, ages: &[u64]) -> Result<Vec<u64>, AllocError>
-    ensures ascending { IfOk result (λ v. v.items ≡ ascending ages.now) }
-    ensures len { IfOk result (λ v. length v.items ≡ length ages.now) }
+fn sorted(alloc: Global, ages: &[u64]) -> Result<Vec<u64>, AllocError>
+    ensures { IfOk result (λ v. v.items ≡ ascending ages.now) }
 {
     let mut sorted = ages.to_vec(alloc)?;
     sorted.sort_unstable();
     Ok(sorted)
 }
 
-// The nearest rank: the least of these ages such that `percent` of 100 ages are at or below it.
-pub(crate) fn nearest_rank(sorted: &[u64], percent: u64) -> Option<u128>
-    requires { percent ≤ 100 }
-    ensures { result ≡ rank_in percent sorted.now }
-{
-    let place = (u128::from(percent) * sorted.len() as u128).div_ceil(100);
-    match sorted.get((place as usize).saturating_sub(1)) {
-        Some(age) => Some(u128::from(*age)),
-        None => None,
-    }
-}
+impl Ages {
+    ghost use Rattle.std.specs.Prelude.{[]};
 
-// The sum of the ages.
-pub(crate) fn total(ages: &[u64]) -> u128
-    ensures { result ≡ sum ages.now }
-{
-    let mut total = 0;
-    for age in ages {
-        total += u128::from(*age);
+    /// No ages.
+    pub(crate) fn new(alloc: Global) -> Ages
+        ensures { result ≡ [] }
+    {
+        Ages {
+            counted: AgeCounts::new(alloc),
+            recent: Vec::new(alloc),
+        }
     }
-    total
+
+    /// Adds an age.
+    ///
+    /// # Errors
+    ///
+    /// `AllocError` if the age could not be kept or counted.
+    pub(crate) fn add(&mut self, age: u64) -> Result<(), AllocError>
+        ensures { OnOk result (self.new ≡ put age self.old) }
+    {
+        if self.recent.len() >= self.counted.different().max(RECENT) {
+            self.count_recent()?;
+        }
+        self.recent.push(age)?;
+        Ok(())
+    }
+
+    // Counts the recent ages, so that none is recent.
+    fn count_recent(&mut self) -> Result<(), AllocError>
+        ensures { self.new ≡ self.old }
+    {
+        self.recent.sort_unstable();
+        let alloc = *self.recent.allocator();
+        self.counted = self.counted.merged(alloc, self.recent.as_slice())?;
+        self.recent.clear();
+        Ok(())
+    }
+
+    /// All ages, counted.
+    ///
+    /// # Errors
+    ///
+    /// `AllocError` if a growth is refused, or more ages are counted than 64 bits can say.
+    pub(crate) fn counted(&self, alloc: Global) -> Result<AgeCounts, AllocError>
+        ensures { IfOk result (λ all. all ≡ self.now) }
+    {
+        let recent = sorted(alloc, self.recent.as_slice())?;
+        self.counted.merged(alloc, recent.as_slice())
+    }
 }

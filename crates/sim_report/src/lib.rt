@@ -1,6 +1,7 @@
 //! The report of a run: running counts of each queue, from which its columns are made at the end.
 #![tactic(auto)]
 
+mod age_counts;
 mod ages;
 mod column;
 mod columns;

@@ -1,8 +1,9 @@
 //! The running counts of a queue.
-ghost use Rattle.std.specs.Prelude.{◌≡◌, ◌↔◌, ◌⊎◌, ◌∷◌, [], IfOk, OnErr, OnOk, map, Some, true};
+ghost use Rattle.std.specs.Prelude.{◌≡◌, ◌↔◌, ◌⊎◌, ◌∷◌, [], IfOk, OnErr, OnOk, map, sum, Some, true};
 ghost use Rattle.sim_report.specs.Tally.{counted, depth_by, rank_in, tallied_by};
 
-use crate::ages::{nearest_rank, sorted, total};
+use crate::age_counts::AgeCounts;
+use crate::ages::Ages;
 use crate::column::RowCount;
 use crate::left::Left;
 use std::alloc::{AllocError, Global};
@@ -19,7 +20,7 @@ pub(crate) const OTHERS: usize = 9;
 pub(crate) struct Tally {
     counts: [u64; COUNTED],
     depth_max: u128,
-    ages: Vec<u64>,
+    ages: Ages,
 }
 
 impl Model for Tally {
@@ -28,7 +29,7 @@ impl Model for Tally {
 
     ghost Value = { TallyState };
 
-    ghost view = { λ t. record { counts = t.counts; depth_max = t.depth_max; ages = t.ages.items } };
+    ghost view = { λ t. record { counts = t.counts; depth_max = t.depth_max; ages = t.ages } };
 
     ghost invariant = { λ t. depth_by t.counts ≤ t.depth_max };
 }
@@ -82,26 +83,21 @@ fn count_columns(alloc: Global, counts: &[u64; COUNTED]) -> Result<Vec<Option<u1
 }
 
 // The other columns.
-fn other_columns(
-    depth_max: u128,
-    left: Left,
-    age_sum: u128,
-    sorted: &[u64],
-) -> [Option<u128>; OTHERS]
-    ensures { result ≡ Some depth_max ∷ Some left.visible ∷ Some left.in_flight ∷ Some left.delayed ∷ Some age_sum
-        ∷ rank_in 100 sorted.now ∷ rank_in 50 sorted.now ∷ rank_in 95 sorted.now ∷ rank_in 99
-        sorted.now ∷ [] }
+fn other_columns(depth_max: u128, left: Left, ages: &AgeCounts) -> [Option<u128>; OTHERS]
+    ensures { result ≡ Some depth_max ∷ Some left.visible ∷ Some left.in_flight ∷ Some left.delayed
+        ∷ Some (sum ages.now) ∷ rank_in 100 ages.now ∷ rank_in 50 ages.now ∷ rank_in 95 ages.now
+        ∷ rank_in 99 ages.now ∷ [] }
 {
     [
         Some(depth_max),
         Some(u128::from(left.visible)),
         Some(u128::from(left.in_flight)),
         Some(u128::from(left.delayed)),
-        Some(age_sum),
-        nearest_rank(sorted, 100),
-        nearest_rank(sorted, 50),
-        nearest_rank(sorted, 95),
-        nearest_rank(sorted, 99),
+        Some(ages.total()),
+        ages.nearest_rank(100),
+        ages.nearest_rank(50),
+        ages.nearest_rank(95),
+        ages.nearest_rank(99),
     ]
 }
 
@@ -117,7 +113,7 @@ impl Tally {
         Tally {
             counts: [0; COUNTED],
             depth_max: 0,
-            ages: Vec::new(alloc),
+            ages: Ages::new(alloc),
         }
     }
 
@@ -134,7 +130,7 @@ impl Tally {
             self.depth_max = self.depth_max.max(depth_of(&self.counts));
         }
         if let Some(age) = count.age {
-            self.ages.push(age)?;
+            self.ages.add(age)?;
         }
         Ok(())
     }
@@ -143,9 +139,8 @@ impl Tally {
     pub(crate) fn columns(&self, alloc: Global, left: Left) -> Result<Vec<Option<u128>>, AllocError>
         ensures { IfOk result (λ v. v.items ≡ columns_by self.now left) }
     {
-        let sorted = sorted(alloc, self.ages.as_slice())?;
-        let age_sum = total(self.ages.as_slice());
-        let others = other_columns(self.depth_max, left, age_sum, sorted.as_slice());
+        let ages = self.ages.counted(alloc)?;
+        let others = other_columns(self.depth_max, left, &ages);
         let mut columns = count_columns(alloc, &self.counts)?;
         columns.extend_from_slice(&others)?;
         Ok(columns)
