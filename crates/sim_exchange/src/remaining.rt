@@ -17,7 +17,9 @@ pub(crate) struct Remaining<T: Drop> {
 }
 
 // Takes away lists up to the first that has elements. Returns that one; if none has elements, one
-// without.
+// without. It is rare beside what takes elements.
+#[cold]
+#[inline(never)]
 fn next_filled<T: Drop>(alloc: Global, lists: &mut VecDeque<Vec<T>>) -> VecDeque<T>
     ensures items { flat_map (λ v. v.items) lists.old.items
         ≡ result.items ++ flat_map (λ v. v.items) lists.new.items }
@@ -56,6 +58,7 @@ impl<T: Drop> Remaining<T> {
     }
 
     // The first element that is left.
+    #[inline(always)]
     pub(crate) fn front(&self) -> Option<&T>
         ensures { MatchOption result (self.now ≡ [])
             (λ x. (rest : List T) × (self.now ≡ x.now ∷ rest)) }
@@ -64,6 +67,7 @@ impl<T: Drop> Remaining<T> {
     }
 
     // Takes the first element that is left.
+    #[inline(always)]
     pub(crate) fn pop_front(&mut self) -> Option<T>
         ensures { MatchOption result ((self.old ≡ []) × (self.new ≡ []))
             (λ x. self.old ≡ x ∷ self.new) }

@@ -53,6 +53,7 @@ impl Ages {
     /// # Errors
     ///
     /// `AllocError` if the age could not be kept or counted.
+    #[inline(always)]
     pub(crate) fn add(&mut self, age: u64) -> Result<(), AllocError>
         ensures { OnOk result (self.new ≡ put age self.old) }
     {
@@ -63,7 +64,9 @@ impl Ages {
         Ok(())
     }
 
-    // Counts the recent ages, so that none is recent.
+    // Counts the recent ages, so that none is recent. It is a call of its own, since it is rare.
+    #[cold]
+    #[inline(never)]
     fn count_recent(&mut self) -> Result<(), AllocError>
         ensures { self.new ≡ self.old }
     {

@@ -122,6 +122,7 @@ impl Tally {
     /// # Errors
     ///
     /// `AllocError` if a count is at its greatest value, or an age could not be kept.
+    #[inline(always)]
     pub(crate) fn count(&mut self, count: RowCount) -> Result<(), AllocError>
         ensures { OnOk result (self.new ≡ tallied_by count self.old) }
     {

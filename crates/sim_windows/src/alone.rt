@@ -18,6 +18,7 @@ use std::alloc::Global;
 use std::mem;
 
 // Delivers what a handling sent, if it sent something.
+#[inline(always)]
 fn deliver_sent<S: Site>(
     alloc: Global,
     roster: &mut Roster<S>,
