@@ -195,7 +195,9 @@ fn lists_stay_in_their_order(rt: HostRuntime) {
     try_numbers(&rt, rt.alloc(), lists.as_lists());
     let lists = lists.into_lists();
     try_numbers(&rt, rt.alloc(), &lists);
-    let one = numbers(&rt, rt.alloc()).into_one(rt.alloc()).expect(&rt, "memory");
+    let one = numbers(&rt, rt.alloc())
+        .into_one(rt.alloc())
+        .expect(&rt, "memory");
     try_numbers(&rt, rt.alloc(), &[one]);
 }
 
