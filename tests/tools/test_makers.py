@@ -18,6 +18,24 @@ calls = "at,call,body,group,id,delay,receipt,max,wait,timeout,task\\n0,send,abc,
 """
 KINDS = ("one", "many", "fifo", "hot", "ring", "net", "chain", "fan", "flight", "backlog", "delay", "scripts", "sample",
          "quiet")
+# A program that takes the words of a run and writes ROWS rows of a log.
+WRITER = """#include <stdio.h>
+int main(int count, char **words) {
+    FILE *log = count > 4 ? fopen(words[3], "w") : NULL;
+    for (int row = 0; log && row <= ROWS; row++) fputs("row\\n", log);
+    return log && fclose(log) ? 1 : 0;
+}
+"""
+# Counts as valgrind writes them: those of the other program are half as many, but for the branches, of which it has a
+# quarter.
+VALGRIND = """#!/bin/bash
+for word; do case $word in --cachegrind-out-file=*) out=${word#*=} ;; esac; done
+case $out in
+  */other.counts) counts="400 1 100 1 4 1 1" ;;
+  *) counts="800 1 200 1 15 1 5" ;;
+esac
+printf 'desc: I1 cache: none\\nevents: Ir Dr Dw Bc Bcm Bi Bim\\nsummary: %s\\n' "$counts" > "$out"
+"""
 OUTPUT = """at,queue,agent,call,answer,message,receipt,detail
 0,q,s,send,new,m-0-0,,900150983cd24fb0d6963f7d28e17f72
 final,queue,message,origin,place,due,enqueued,receives,group,md5
@@ -65,12 +83,45 @@ class Bench(ToolCase):
                 ((echo, "two"), f"there is no kind two; kinds are {', '.join(KINDS)}"),
                 ((echo, "one", "0"), "SIZE is 1 to 1,000,000,000, and not 0"),
                 (("--scenario", "one", "1", "-1"), "TEMPO is 1 to 1,000,000,000, and not -1"),
-                (("--scenario", "one", "1", "x"), "TEMPO is 1 to 1,000,000,000, and not x")):
+                (("--scenario", "one", "1", "x"), "TEMPO is 1 to 1,000,000,000, and not x"),
+                (("--beside", "none", echo, "one"), "there is no program none"),
+                (("--beside", echo, echo, "one"), f"{echo} makes no log: it is another program"),
+                (("--beside", echo), usage),
+                (("--beside", echo, "--scenario", "one"),
+                 "--scenario prints a scenario, and measures nothing beside another program")):
             with self.subTest(words=words):
                 self.assert_fault(self.run_tool("bench", *words), f"bench: {line}")
         status, out, err = self.run_tool("bench", shutil.which("env"), "one", "1")
         self.assertEqual((status, out, len(err.splitlines())), (2, "", 1), err)
         self.assertIn(" ends with status 127: ", err)
+
+    def writer(self, name, rows):
+        """The path of a program that writes so many rows."""
+        self.write("writer.c", WRITER)
+        subprocess.run(["gcc", f"-DROWS={rows}", "-o", self.path(name), self.path("writer.c")], check=True)
+        return self.path(name)
+
+    def test_two_programs_side_by_side(self):
+        """Of ten rows: both counts, divided by the rows, and their ratio; and the means over the kinds, all alike."""
+        first, second = self.writer("first", 10), self.writer("second", 10)
+        self.write("valgrind", VALGRIND)
+        os.chmod(self.path("valgrind"), 0o755)
+        path = f"{self.path('.')}:{os.environ['PATH']}"
+        status, out, err = self.run_tool("bench", "--beside", second, first, PATH=path)
+        self.assertEqual((status, err), (0, ""))
+        head, *lines, means = [line.split() for line in out.splitlines()]
+        self.assertEqual(" ".join(head), "kind size rows user seconds instructions a row writes a row mispredicted a row")
+        self.assertEqual([line[0] for line in lines], list(KINDS))
+        for line in lines:
+            self.assertEqual((line[1:3], line[6:]),
+                             (["10,000", "10"], "80.0 40.0 2.00 20.0 10.0 2.00 2.0 0.5 4.00".split()))
+        self.assertEqual((means[:2], means[3:]), (["geometric", "mean"], ["2.00", "2.00", "4.00"]))
+
+    def test_programs_that_write_other_bytes_are_not_set_side_by_side(self):
+        first, second = self.writer("first", 10), self.writer("second", 11)
+        status, out, err = self.run_tool("bench", "--beside", second, first, "one", "5", PATH="/nowhere")
+        self.assertEqual((status, out, err),
+                         (2, "", f"bench: {first} and {second} write other bytes of one 5\n"))
 
     @needs_program
     def test_a_measurement(self):
