@@ -5,7 +5,7 @@ use Rattle.std.proofs.lemmas.List.{get_or-set_other, get_or-set_same, length-set
 use Rattle.sim_clock.specs.declared.key.Key.{Key}
 use Rattle.sim_index.specs.declared.mark.Mark.{Mark}
 use Rattle.sim_index.specs.declared.marks.Node.{Node}
-use Rattle.sim_index.specs.Marks.{AreLeaves, IsBoth, IsFirstOf, IsPower, IsTimed, IsTree, IsTreeBut, no_mark, no_node, node, node_in, time_of, told_by}
+use Rattle.sim_index.specs.Marks.{AreLeaves, IsBoth, IsFirstOf, IsPower, IsRanked, IsTree, IsTreeBut, no_mark, no_node, node, node_in, rank_of, told_by}
 
 -- the node so many rows above another
 abbrev pub half : ℕ → ℕ → ℕ
@@ -108,19 +108,19 @@ both_kept marks place mark a b n left right h =
           subst (λ (o : Option Key). IsFirstOf o (told_by (set marks place mark) b).due a.place b.place n.place) (sym (due_kept marks place mark a left))
           (subst (λ (o : Option Key). IsFirstOf (told_by marks a).due o a.place b.place n.place) (sym (due_kept marks place mark b right)) h.place);
       flags = h.flags;
-      time = h.time ∙ ap time_of (sym (due_kept marks place mark n (λ e. elim h.place [ inl p ↦ left (sym p.1 ∙ e) | inr p ↦ right (sym p.1 ∙ e) ])));
+      rank = h.rank ∙ ap rank_of (sym (due_kept marks place mark n (λ e. elim h.place [ inl p ↦ left (sym p.1 ∙ e) | inr p ↦ right (sym p.1 ∙ e) ])));
     }
 
--- nodes behind one that are in order have the times of what is due at their places
-pub timed : (marks : List Mark) (now : List Node) (at c : ℕ) → AreLeaves marks now → ((i : ℕ) → at < i → 2 * i + 1 < length now → IsBoth marks (node_in now (2 * i)) (node_in now (2 * i + 1)) (node_in now i)) → at < c → c < length now
-    → IsTimed marks (node_in now c)
-timed marks now at c leaves done behind within =
+-- nodes behind one that are in order have the ranks of what is due at their places
+pub ranked : (marks : List Mark) (now : List Node) (at c : ℕ) → AreLeaves marks now → ((i : ℕ) → at < i → 2 * i + 1 < length now → IsBoth marks (node_in now (2 * i)) (node_in now (2 * i + 1)) (node_in now i)) → at < c → c < length now
+    → IsRanked marks (node_in now c)
+ranked marks now at c leaves done behind within =
     elim (cases_lt c (length marks)) [
-      | inl l ↦ (done c behind (omega (arith, l, leaves.long))).time
+      | inl l ↦ (done c behind (omega (arith, l, leaves.long))).rank
       | inr l ↦
           let leaf : c ≡ length marks + (c - length marks) = omega arith in
           let is = ap (node_in now) leaf ∙ leaves.single (c - length marks) (omega (arith, l, within, leaves.long)) in
-          ap (λ (n : Node). n.time) is ∙ sym (ap (λ (n : Node). time_of (node marks n.place).due) is)
+          ap (λ (n : Node). n.rank) is ∙ sym (ap (λ (n : Node). rank_of (node marks n.place).due) is)
     ]
 
 -- the nodes from one on up are as they were, and those behind it are in order
@@ -178,7 +178,7 @@ pub begun : (marks : List Mark) (start : List Node) (place : ℕ) → IsTreeBut 
 begun marks start place was =
     let before : List Node = was.nodes_before in
     let leaf : ℕ = length marks + place in
-    let new : Node = record { time = time_of was.mark.due; place = place; flags = was.mark.flags } in
+    let new : Node = record { rank = rank_of was.mark.due; place = place; flags = was.mark.flags } in
     let many : length marks ≡ length was.marks_before = as_many marks start place was in
     let long : length before ≡ 2 * length marks = long_before marks start place was in
     let as_long : length start ≡ length before = ap length was.nodes_now ∙ length-set before leaf new in
@@ -211,7 +211,7 @@ begun marks start place was =
                       ap (λ (k : ℕ). node_in start (length marks + k)) e
                       ∙ own
                       ∙ (λ j. record {
-                        time = ap (λ (m : Mark). time_of m.due) (here i e) j;
+                        rank = ap (λ (m : Mark). rank_of m.due) (here i e) j;
                         place = sym e j;
                         flags = ap (λ (m : Mark). m.flags) (here i e) j;
                       })
@@ -219,7 +219,7 @@ begun marks start place was =
                       others (length marks + i) (λ e. n (omega (arith, e)))
                       ∙ ap (λ (k : ℕ). node_in before (k + i)) many
                       ∙ was.tree.leaves.single i (omega (arith, l, many))
-                      ∙ ap (λ (m : Mark). record { time = time_of m.due; place = i; flags = m.flags }) (sym (get_or-set_other was.marks_before place i was.mark no_mark n) ∙ ap (λ (ms : List Mark). node ms i) (sym was.marks_now))
+                      ∙ ap (λ (m : Mark). record { rank = rank_of m.due; place = i; flags = m.flags }) (sym (get_or-set_other was.marks_before place i was.mark no_mark n) ∙ ap (λ (ms : List Mark). node ms i) (sym was.marks_now))
                 ];
           };
     }

@@ -1,5 +1,5 @@
 -- Marks: what is kept of the places of a list, and of pairs, fours and so on of them.
-use Rattle.std.specs.Prelude.{◌≡◌, ◌⊎◌, Bool, List, [], ◌∷◌, Option, Some, None, bit_and, bit_or, false, true, get_or, length, map, not, set, ℕ, ◌*◌, ◌+◌, ◌-◌, ◌/◌, ◌<◌, ◌==◌, ◌^◌, ◌≢◌, ◌≤◌}
+use Rattle.std.specs.Prelude.{◌≡◌, ◌⊎◌, Bool, List, [], ◌∷◌, Option, Some, None, bit_and, bit_or, false, true, get_or, length, map, not, set, if◌then◌else◌, min, nat_lt, ℕ, ◌*◌, ◌+◌, ◌-◌, ◌/◌, ◌<◌, ◌==◌, ◌^◌, ◌≢◌, ◌≤◌}
 use Rattle.sim_clock.specs.Order.{lesser}
 use Rattle.sim_clock.specs.declared.key.Key.{Key}
 use Rattle.sim_index.specs.declared.mark.Mark.{Mark}
@@ -53,7 +53,7 @@ beyond i = 2 * (i / 2 + 1)
 
 -- the node of no places, and the node at a place of a list
 abbrev pub no_node : Node
-no_node = record { time = 0; place = 0; flags = 0 }
+no_node = record { rank = 0; place = 0; flags = 0 }
 
 abbrev pub node_in : List Node → ℕ → Node
 node_in nodes i = get_or nodes i no_node
@@ -62,14 +62,15 @@ node_in nodes i = get_or nodes i no_node
 abbrev pub told_by : List Mark → Node → Mark
 told_by marks n = record { due = (node marks n.place).due; flags = n.flags }
 
--- when something is due, and behind each such moment if nothing is
-abbrev pub time_of : Option Key → ℕ
-time_of None = 2 ^ 64 - 1
-time_of (Some key) = key.at
+-- the rank of what is due, a number that rises with keys: of a key before 2^32 - 1 ms its time and agent in one number, of each
+-- later key the same late rank, and behind all of these the rank of nothing
+abbrev pub rank_of : Option Key → ℕ
+rank_of None = 2 ^ 64 - 1
+rank_of (Some key) = if nat_lt key.at (2 ^ 32 - 1) then 2 ^ 32 * key.at + min key.agent (2 ^ 32 - 1) else 2 ^ 64 - 2
 
--- a node has the time of what is due at its place
-abbrev pub IsTimed : List Mark → Node → Type 0
-IsTimed marks n = n.time ≡ time_of (told_by marks n).due
+-- a node has the rank of what is due at its place
+abbrev pub IsRanked : List Mark → Node → Type 0
+IsRanked marks n = n.rank ≡ rank_of (told_by marks n).due
 
 -- the flags of nodes alone
 abbrev pub bare : List Node → List Mark
@@ -84,7 +85,7 @@ IsFirstOf first second a b place =
 pub record IsBoth (marks : List Mark) (a b n : Node) : Type 0 where
   pub place : IsFirstOf (told_by marks a).due (told_by marks b).due a.place b.place n.place
   pub flags : n.flags ≡ bit_or a.flags b.flags
-  pub time : IsTimed marks n
+  pub rank : IsRanked marks n
 
 -- whether each node does of the two below it
 abbrev pub AreBoth : List Mark → List Node → Type 0
@@ -94,7 +95,7 @@ AreBoth marks nodes = (i : ℕ) → 1 ≤ i → 2 * i + 1 < length nodes → IsB
 pub record AreLeaves (marks : List Mark) (nodes : List Node) : Type 0 where
   pub long : length nodes ≡ 2 * length marks
   pub there : (i : ℕ) → i < length nodes → (node_in nodes i).place < length marks
-  pub single : (i : ℕ) → i < length marks → node_in nodes (length marks + i) ≡ record { time = time_of (node marks i).due; place = i; flags = (node marks i).flags }
+  pub single : (i : ℕ) → i < length marks → node_in nodes (length marks + i) ≡ record { rank = rank_of (node marks i).due; place = i; flags = (node marks i).flags }
 
 -- a tree over the marks of places, of which there are a power of two
 pub record IsTree (marks : List Mark) (nodes : List Node) : Type 0 where
@@ -110,7 +111,7 @@ pub record IsTreeBut (marks : List Mark) (nodes : List Node) (place : ℕ) : Typ
   pub tree : IsTree marks_before nodes_before
   pub within : place < length marks_before
   pub marks_now : marks ≡ set marks_before place mark
-  pub nodes_now : nodes ≡ set nodes_before (length marks + place) (record { time = time_of mark.due; place = place; flags = mark.flags })
+  pub nodes_now : nodes ≡ set nodes_before (length marks + place) (record { rank = rank_of mark.due; place = place; flags = mark.flags })
 
 -- the least key due in some marks
 abbrev pub least_of : List Mark → Option Key

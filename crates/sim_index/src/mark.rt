@@ -1,7 +1,7 @@
 //! What the tree keeps of one place, or of several together.
 ghost use Rattle.std.specs.Prelude.{None, if◌then◌else◌, false, true, ◌≡◌, ◌≢◌, get_or};
 ghost use Rattle.sim_clock.specs.Order.{lesser};
-ghost use Rattle.sim_index.specs.Marks.{no_mark, time_of};
+ghost use Rattle.sim_index.specs.Marks.{no_mark, rank_of};
 
 use sim_clock::Key;
 
@@ -21,13 +21,26 @@ pub const NO_MARK: Mark = Mark {
     flags: 0,
 };
 
-/// When something is due; the greatest number if nothing is.
-pub fn time_of(due: &Option<Key>) -> u64
-    ensures { result ≡ time_of due.now }
+/// The rank of what is due at a place, if nothing is.
+pub const NO_RANK: u64 = u64::MAX;
+
+// From this moment on all keys have one rank.
+const LATE: u64 = (1 << 32) - 1;
+
+/// The rank of what is due at a place. Of two keys the one with the lesser rank comes first; keys
+/// with one rank are to be compared themselves.
+pub fn rank_of(due: &Option<Key>) -> u64
+    ensures { result ≡ rank_of due.now }
 {
     match due {
-        None => u64::MAX,
-        Some(key) => key.at,
+        None => NO_RANK,
+        Some(key) => {
+            if key.at < LATE {
+                (key.at << 32) + key.agent as u64
+            } else {
+                NO_RANK - 1
+            }
+        }
     }
 }
 

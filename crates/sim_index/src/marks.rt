@@ -1,26 +1,25 @@
 //! The tree of marks.
 ghost use Rattle.std.specs.Prelude.{◌≡◌, ◌⊎◌, if◌then◌else◌, None, [], ◌*◌, ◌+◌, ◌/◌, ◌^◌, ◌%◌, ℕ, ◌<◌, ◌≤◌, drop, false, true, IfOk, MatchOption, length, set, get_or, vec_len};
 ghost use Rattle.std.specs.List.{list_any};
-ghost use Rattle.sim_index.specs.Marks.{AreBoth, AreLeaves, ArePairs, IsBoth, IsNextIn, IsPlaceOfLeast, IsPower, IsFirstOf, IsTimed, IsTree, IsTreeBut, NoneIn, bare, beyond, least_of, meets, no_mark, no_node, node, node_in, tells, told_by};
+ghost use Rattle.sim_index.specs.Marks.{AreBoth, AreLeaves, ArePairs, IsBoth, IsNextIn, IsPlaceOfLeast, IsPower, IsFirstOf, IsRanked, IsTree, IsTreeBut, NoneIn, bare, beyond, least_of, meets, no_mark, no_node, node, node_in, tells, told_by};
 
-use crate::mark::{Mark, NO_MARK, is_second, time_of};
+use crate::mark::{Mark, NO_MARK, NO_RANK, is_second, rank_of};
 use sim_clock::Key;
 use std::alloc::{AllocError, Global};
 use std::marker::Model;
 
-// What the tree keeps of some places together: the first place of the least entry due there, when
-// that is due, and the flags of all of them, as bits. The time is the greatest number if nothing is
-// due.
+// What the tree keeps of some places together: the first place of the least entry due there, the
+// rank of that, and the flags of all of them, as bits.
 #[derive(Clone, Copy, Debug, PartialEq, Eq)]
 struct Node {
-    time: u64,
+    rank: u64,
     place: u32,
     flags: u32,
 }
 
 // The node of no places.
 const NO_NODE: Node = Node {
-    time: 0,
+    rank: 0,
     place: 0,
     flags: 0,
 };
@@ -54,25 +53,22 @@ fn beside(node: usize) -> usize
     node ^ 1
 }
 
-// Whether the least entry due at the places of two nodes, of which the first may be either one, is
-// the other's and not this one's as well.
-fn is_others(marks: &[Mark], is_first: bool, this: &Node, other: &Node) -> bool
-    requires this { this.now.place < length marks.now }
-    requires other { other.now.place < length marks.now }
-    requires this_time { IsTimed marks.now this.now }
-    requires other_time { IsTimed marks.now other.now }
+// Whether the least entry due at two places, of which the first may be either one, is the other's
+// and not this one's as well.
+#[cold]
+#[inline(never)]
+fn is_others(marks: &[Mark], is_first: bool, this: u32, other: u32) -> bool
+    requires this { this < length marks.now }
+    requires other { other < length marks.now }
     ensures first { is_first ≡ true
-        → IsFirstOf (told_by marks.now this.now).due (told_by marks.now other.now).due this.now.place
-        other.now.place (if result then other.now.place else this.now.place) }
+        → IsFirstOf (node marks.now this).due (node marks.now other).due this other
+        (if result then other else this) }
     ensures second { is_first ≡ false
-        → IsFirstOf (told_by marks.now other.now).due (told_by marks.now this.now).due other.now.place
-        this.now.place (if result then other.now.place else this.now.place) }
+        → IsFirstOf (node marks.now other).due (node marks.now this).due other this
+        (if result then other else this) }
 {
-    if this.time != other.time {
-        return other.time < this.time;
-    }
-    let this = &marks[this.place as usize].due;
-    let other = &marks[other.place as usize].due;
+    let this = &marks[this as usize].due;
+    let other = &marks[other as usize].due;
     if is_first {
         is_second(this, other)
     } else {
@@ -80,20 +76,35 @@ fn is_others(marks: &[Mark], is_first: bool, this: &Node, other: &Node) -> bool
     }
 }
 
-// The node of the places of two nodes together, of which the first may be either one.
+// The node of the places of two nodes together, of which the first may be either one. Unless both
+// have one rank, it is found without a branch.
 fn both(marks: &[Mark], is_first: bool, this: &Node, other: &Node) -> Node
     requires this { this.now.place < length marks.now }
     requires other { other.now.place < length marks.now }
-    requires this_time { IsTimed marks.now this.now }
-    requires other_time { IsTimed marks.now other.now }
+    requires this_rank { IsRanked marks.now this.now }
+    requires other_rank { IsRanked marks.now other.now }
     ensures first { is_first ≡ true → IsBoth marks.now this.now other.now result }
     ensures second { is_first ≡ false → IsBoth marks.now other.now this.now result }
 {
-    let is_others = is_others(marks, is_first, this, other);
+    let this = *this;
+    let other = *other;
+    let flags = this.flags | other.flags;
+    if other.rank == this.rank {
+        let is_others = this.rank != NO_RANK && is_others(marks, is_first, this.place, other.place);
+        return Node {
+            rank: this.rank,
+            place: if is_others { other.place } else { this.place },
+            flags,
+        };
+    }
     Node {
-        time: if is_others { other.time } else { this.time },
-        place: if is_others { other.place } else { this.place },
-        flags: this.flags | other.flags,
+        rank: this.rank.min(other.rank),
+        place: if other.rank < this.rank {
+            other.place
+        } else {
+            this.place
+        },
+        flags,
     }
 }
 
@@ -166,20 +177,23 @@ fn first_told(nodes: &[Node], width: usize, flags: u32) -> usize
     node
 }
 
-// Recomputes the nodes above the leaf of a place whose mark is new. It stops at the first node that
-// is unchanged and refers to another place.
-fn mend(marks: &[Mark], nodes: &mut [Node], leaf: usize, changed: Node)
-    requires tree { IsTreeBut marks.now nodes.old changed.place }
-    requires leaf { leaf ≡ length marks.now + changed.place }
-    requires changed { changed ≡ node_in nodes.old leaf }
+// In a tree of more places it is worth a test whether the nodes further up stay as they are.
+const MANY_PLACES: usize = 256;
+
+// Recomputes the nodes above the leaf of a place whose mark is new. In a large tree it stops at the
+// first node that is unchanged and refers to another place.
+#[inline(never)]
+fn mend(marks: &[Mark], nodes: &mut [Node], leaf: usize, place: u32)
+    requires tree { IsTreeBut marks.now nodes.old place }
+    requires leaf { leaf ≡ length marks.now + place }
     ensures { IsTree marks.now nodes.new }
 {
     let mut node = leaf;
-    let mut below = changed;
+    let mut below = nodes[leaf];
     while 1 < node {
         let both = both(marks, node % 2 == 0, &below, &nodes[beside(node)]);
         node /= 2;
-        if both.place != changed.place && nodes[node] == both {
+        if MANY_PLACES < marks.len() && both.place != place && nodes[node] == both {
             return;
         }
         nodes[node] = both;
@@ -207,7 +221,7 @@ fn leaves(alloc: Global, marks: &[Mark]) -> Result<Vec<Node>, AllocError>
     let mut nodes = vec![in alloc; NO_NODE; 2 * marks.len()]?;
     for (place, mark) in marks.iter().enumerate() {
         nodes[marks.len() + place] = Node {
-            time: time_of(&mark.due),
+            rank: rank_of(&mark.due),
             place: place as u32,
             flags: mark.flags,
         };
@@ -282,18 +296,18 @@ impl Marks {
         ensures { self.new ≡ set self.old place mark.now }
     {
         let leaf = self.marks.len() + place;
-        let time = time_of(&mark.due);
-        if self.nodes[leaf].time == time && self.marks[place] == *mark {
+        let rank = rank_of(&mark.due);
+        if self.nodes[leaf].rank == rank && self.marks[place] == *mark {
             return;
         }
         self.marks[place] = *mark;
-        let changed = Node {
-            time,
-            place: self.nodes[leaf].place,
+        let leaf_place = self.nodes[leaf].place;
+        self.nodes[leaf] = Node {
+            rank,
+            place: leaf_place,
             flags: mark.flags,
         };
-        self.nodes[leaf] = changed;
-        mend(&self.marks, &mut self.nodes, leaf, changed);
+        mend(&self.marks, &mut self.nodes, leaf, leaf_place);
     }
 
     /// Whether the mark of any place has one of these flags.

@@ -1,5 +1,5 @@
 use Rattle.std.proofs.Common.{ℕ, ◌≡◌, ◌+◌, ◌*◌, ◌<◌, length, vec_len}
-use Rattle.sim_index.specs.Marks.{node, node_in, time_of}
+use Rattle.sim_index.specs.Marks.{node, node_in, rank_of}
 use Rattle.sim_index.proofs.marks.leaves.Given as goal
 
 abbrev pub invariant-loop-place : goal.invariant-loop-place
@@ -8,5 +8,5 @@ invariant-loop-place l =
       long : vec_len l.nodes ≡ 2 * length l.marks;
       same : vec_len l.nodes ≡ length l.nodes.items;
       there : (i : ℕ) → i < length l.nodes.items → (node_in l.nodes.items i).place < length l.marks;
-      single : (i : ℕ) → i < l.place → node_in l.nodes.items (length l.marks + i) ≡ record { time = time_of (node l.marks i).due; place = i; flags = (node l.marks i).flags };
+      single : (i : ℕ) → i < l.place → node_in l.nodes.items (length l.marks + i) ≡ record { rank = rank_of (node l.marks i).due; place = i; flags = (node l.marks i).flags };
     }

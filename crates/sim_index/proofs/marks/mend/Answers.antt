@@ -4,8 +4,8 @@ use Rattle.std.proofs.lemmas.Bool.Decides.{nat_tests}
 use Rattle.std.proofs.lemmas.List.{get_or-set_same, length-set}
 use Rattle.sim_index.specs.declared.mark.Mark.{Mark}
 use Rattle.sim_index.specs.declared.marks.Node.{Node}
-use Rattle.sim_index.specs.Marks.{IsBoth, IsTimed, no_node, node_in}
-use Rattle.sim_index.proofs.Mends.{Mending, begun, ended, low, mended, stopped, timed}
+use Rattle.sim_index.specs.Marks.{IsBoth, IsRanked, no_node, node_in}
+use Rattle.sim_index.proofs.Mends.{Mending, begun, ended, low, mended, stopped, ranked}
 use Rattle.sim_index.proofs.marks.mend.Goals as goal
 
 -- the two nodes of a pair, of which one is the other's other
@@ -49,31 +49,31 @@ pub loop-node-init : goal.loop-node-init
 loop-node-init c =
     let marks : List Mark = c.args.marks.now in
     let nodes : List Node = c.args.nodes.now in
-    let m : Mending marks nodes nodes c.args.changed.place ((length marks + c.args.changed.place) / 2) = begun marks nodes c.args.changed.place c.requires.tree in
-    let small : (length marks + c.args.changed.place) / 2 < length marks = low _ _ _ _ _ m in
+    let m : Mending marks nodes nodes c.args.place ((length marks + c.args.place) / 2) = begun marks nodes c.args.place c.requires.tree in
+    let small : (length marks + c.args.place) / 2 < length marks = low _ _ _ _ _ m in
     let within : c.args.leaf < length nodes = omega (arith, small, m.leaves.long, c.requires.leaf) in
     record {
-      mending = subst (λ (n : ℕ). Mending marks nodes nodes c.args.changed.place (n / 2)) (sym c.requires.leaf) m;
+      mending = subst (λ (n : ℕ). Mending marks nodes nodes c.args.place (n / 2)) (sym c.requires.leaf) m;
       some = omega (arith, small, c.requires.leaf);
       within = within;
-      below = c.requires.changed;
+      below = search rules;
     }
 
-pub both-both-requires-clause-this_time : goal.both-both-requires-clause-this_time
-both-both-requires-clause-this_time c =
+pub both-both-requires-clause-this_rank : goal.both-both-requires-clause-this_rank
+both-both-requires-clause-this_rank c =
     let i = c.loop-node.invariant in
-    subst (IsTimed c.args.marks.now) (sym i.below)
-    (timed c.args.marks.now c.loop-node.nodes (c.loop-node.node / 2) c.loop-node.node i.mending.leaves i.mending.done (omega (arith, i.some)) i.within)
+    subst (IsRanked c.args.marks.now) (sym i.below)
+    (ranked c.args.marks.now c.loop-node.nodes (c.loop-node.node / 2) c.loop-node.node i.mending.leaves i.mending.done (omega (arith, i.some)) i.within)
 
-pub both-both-requires-clause-other_time : goal.both-both-requires-clause-other_time
-both-both-requires-clause-other_time c =
+pub both-both-requires-clause-other_rank : goal.both-both-requires-clause-other_rank
+both-both-requires-clause-other_rank c =
     let nodes : List Node = c.loop-node.nodes in
     let at : ℕ = c.loop-node.node / 2 in
     let i = c.loop-node.invariant in
     let pair : IsPairOf c.loop-node.node c.beside.result = record { even = c.beside.ensures.first; odd = c.beside.ensures.second } in
     let above : 2 * at ≤ c.beside.result = low_of_pair _ _ pair in
     let below : c.beside.result < length nodes = omega (arith, high_of_pair _ _ pair, low _ _ _ _ _ i.mending, i.mending.leaves.long) in
-    timed c.args.marks.now nodes at c.beside.result i.mending.leaves i.mending.done (omega (arith, above, c.loop-node-test.true)) below
+    ranked c.args.marks.now nodes at c.beside.result i.mending.leaves i.mending.done (omega (arith, above, c.loop-node-test.true)) below
 
 pub returns-then-eq : goal.returns-then-eq
 returns-then-eq c =
@@ -86,7 +86,7 @@ returns-then-eq c =
     let both : IsBoth marks (node_in nodes (2 * at)) (node_in nodes (2 * at + 1)) c.both-both.result =
     told marks nodes c.loop-node.node c.beside.result c.loop-node.below (node_in nodes c.beside.result) c.both-both.result i.below refl pair c.both-both.ensures.first c.both-both.ensures.second in
     let same : node_in nodes at ≡ c.both-both.result = search rules in
-    stopped marks c.args.nodes.now nodes c.args.changed.place at c.both-both.result i.mending (omega (arith, c.loop-node-test.true)) both same c.if-both-changed.true
+    stopped marks c.args.nodes.now nodes c.args.place at c.both-both.result i.mending (omega (arith, c.loop-node-test.true)) both same c.if-both-place.true
 
 pub loop-node-preserved : goal.loop-node-preserved
 loop-node-preserved c =
@@ -102,7 +102,7 @@ loop-node-preserved c =
     let within : at < length nodes = omega (arith, small, i.mending.leaves.long) in
     record {
       mending =
-          mended marks c.args.nodes.now nodes c.args.changed.place at c.both-both.result i.mending (omega (arith, c.loop-node-test.true)) both
+          mended marks c.args.nodes.now nodes c.args.place at c.both-both.result i.mending (omega (arith, c.loop-node-test.true)) both
           (there marks _ _ _ both (i.mending.leaves.there (2 * at) (omega (arith, small, i.mending.leaves.long))) (i.mending.leaves.there (2 * at + 1) (omega (arith, small, i.mending.leaves.long))));
       some = omega (arith, c.loop-node-test.true);
       within = omega (arith, within, long);
@@ -110,4 +110,4 @@ loop-node-preserved c =
     }
 
 pub returns : goal.returns
-returns c = ended c.args.marks.now c.args.nodes.now c.loop-node.nodes c.args.changed.place (c.loop-node.node / 2) c.loop-node.invariant.mending (omega (arith, c.loop-node-test.false))
+returns c = ended c.args.marks.now c.args.nodes.now c.loop-node.nodes c.args.place (c.loop-node.node / 2) c.loop-node.invariant.mending (omega (arith, c.loop-node-test.false))
