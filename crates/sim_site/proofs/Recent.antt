@@ -32,15 +32,8 @@ received_recent q new now max timeout set short answer e h =
 
 -- a site after a turn of an actor
 pub turn_by_made : (act : Act) (m : Made) → (turn_by act m).effect ≡ m.effect
-turn_by_made (acts.Send body delay group id) m = refl
-turn_by_made (acts.Receive max wait timeout) m = refl
-turn_by_made (acts.Delete text) m = refl
-turn_by_made (acts.Change text timeout) m = refl
-turn_by_made (acts.Prolong text timeout) m = refl
-turn_by_made (acts.Start task) m = refl
-turn_by_made (acts.Cancel task) m = refl
-turn_by_made (acts.Serve id receipt failed forward) m = refl
 turn_by_made acts.Nothing m = refl
+turn_by_made act m = refl
 
 next_recent : (key : Key) (c : Core) (act : Act) (a : Actor) → IsRecent key.at c.queue → IsRecent key.at (turn_next key c (act, a)).effect.core.queue
 next_recent key c act a h =

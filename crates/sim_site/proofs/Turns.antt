@@ -24,15 +24,8 @@ followed_by more e (Some answer) = and_then e (more answer)
 
 next_follows : (more : Answer → Core → Effect) (key : Key) (c : Core) (act : Act) (a : Actor) → acts_next more key c (act, a) ≡ followed_by more (turn_next key c (act, a)).effect (turn_next key c (act, a)).answer
 unfolding followed_by act_made
-next_follows more key c (acts.Send body delay group id) a = refl
-next_follows more key c (acts.Receive max wait timeout) a = refl
-next_follows more key c (acts.Delete text) a = refl
-next_follows more key c (acts.Change text timeout) a = refl
-next_follows more key c (acts.Prolong text timeout) a = refl
-next_follows more key c (acts.Start task) a = refl
-next_follows more key c (acts.Cancel task) a = refl
-next_follows more key c (acts.Serve id receipt failed forward) a = refl
 next_follows more key c acts.Nothing a = refl
+next_follows more key c act a = refl
 
 found_follows : (more : Answer → Core → Effect) (key : Key) (answer : Answer) (c : Core) (o : Option Actor) → acts_found more key answer c o ≡ followed_by more (turn_of key answer c o).effect (turn_of key answer c o).answer
 unfolding followed_by

@@ -29,15 +29,8 @@ producer_waits a p now =
 
 -- what a consumer does when it wakes waits for no longer than its settings say
 service_waits : (now : ℕ) (b : Actor) (wait : ℕ) (f : Option Forwarding) (act : Act) → wait ≤ most_wait → IsServiceAct now b wait f act → WaitsShortly act
-service_waits now b wait f (acts.Send body delay group id) h k = absurd k
 service_waits now b wait f (acts.Receive most waits timeout) h k = rw k h
-service_waits now b wait f (acts.Delete text) h k = tt
-service_waits now b wait f (acts.Change text timeout) h k = tt
-service_waits now b wait f (acts.Prolong text timeout) h k = tt
-service_waits now b wait f (acts.Start task) h k = absurd k
-service_waits now b wait f (acts.Cancel task) h k = absurd k
-service_waits now b wait f (acts.Serve id receipt failed forward) h k = tt
-service_waits now b wait f acts.Nothing h k = tt
+service_waits now b wait f act h k = tt
 
 wake_waits : (a : Actor) (c : ConsumerSettings) (now : ℕ) (gs : List Got) → HasShortWaits (Consumer c) → WaitsShortly (consumer_wake a c now gs).0
 wake_waits a c now gs h = service_waits now a c.wait c.forward (consumer_wake a c now gs).0 h (consumer_woke now a c gs).act

@@ -57,15 +57,8 @@ module _ (now : ℕ) (b : Actor) (wait : ℕ) (P : Option Outbound → Type 0) (
   forward_sends (Some x) (Some o) one h = one x o refl h
 
   pub service_sends : (f : Option Forwarding) (act : Act) → ((x : Forwarding) (y : Outbound) → f ≡ Some x → IsForwardBy now b x y → P (Some y)) → IsServiceAct now b wait f act → Sends P act
-  service_sends f (acts.Send body delay group id) one h = absurd h
-  service_sends f (acts.Receive most waits timeout) one h = tt
-  service_sends f (acts.Delete text) one h = tt
-  service_sends f (acts.Change text timeout) one h = tt
-  service_sends f (acts.Prolong text timeout) one h = tt
-  service_sends f (acts.Start task) one h = absurd h
-  service_sends f (acts.Cancel task) one h = absurd h
   service_sends f (acts.Serve id receipt failed forward) one h = forward_sends f forward one h
-  service_sends f acts.Nothing one h = tt
+  service_sends f act one h = tt
 
 -- what a consumer does when it wakes
 pub record Woke (now : ℕ) (b : Actor) (wait : ℕ) (f : Option Forwarding) (x : Act × Actor) : Type 0 where

@@ -5,7 +5,6 @@ use Rattle.std.proofs.lemmas.Bool.{eqb-true}
 use Rattle.std.proofs.lemmas.List.Elements.{All-append, All-cons, All-head, All-nil, All-tail}
 use Rattle.sim_clock.specs.declared.key.Key.{Key}
 use Rattle.sqs_message.specs.declared.row.Row.{Row}
-use Rattle.sqs_redrive.specs.declared.answers.Got.{Got}
 use Rattle.sqs_redrive.specs.declared.settings.Latency.{Latency}
 use Rattle.sqs_redrive.specs.declared.settings.Policy.{Policy}
 use Rattle.sqs_redrive.specs.declared.transfers.Load.{Load}
@@ -16,7 +15,7 @@ use Rattle.sqs_model.specs.declared.agents.Groups.{Groups}
 use Rattle.sqs_model.specs.declared.agents.Groups.TheVariants.{ByWeight, InTurn}
 use Rattle.sqs_model.specs.declared.agents.Quantile.{Quantile}
 use Rattle.sqs_model.specs.Actor.{Actor, group_of}
-use Rattle.sqs_model.specs.Acts.{all_came_back, came_back, redrive_by}
+use Rattle.sqs_model.specs.Acts.{came_back, redrive_by}
 use Rattle.sqs_model.specs.Draw.{Draws, drawn_latency, drawn_time, drawn_uniform, next_word, time_at, time_between}
 use Rattle.sqs_model.specs.Progress.{IsSound, IsSoundActor, IsSoundDistribution, IsSoundPolicy, TakesTime}
 use Rattle.sqs_model.specs.Queue.{Queue}
@@ -81,7 +80,7 @@ pub record KeepsEffect (key : Key) (e gone : ℕ) (c : Core) (f : Effect) : Type
   pub later : All (λ o. key.at < o.at) f.sent
 
 module _ (e : ℕ) where
-  same_core : (c : Core) → IsSound c → KeepsCore e 0 c c
+  pub same_core : (c : Core) → IsSound c → KeepsCore e 0 c c
   same_core c s = record { sound = s; fewer = omega arith }
 
   -- a site with another queue, actor, task or other polls
@@ -170,8 +169,3 @@ module _ (key : Key) (e : ℕ) (l : e ≤ key.at) where
   pub came_back_keeps : (c : Core) (n : ℕ) (o : Option Load) → IsSound c → KeepsEffect key e 0 c (came_back key c n o)
   came_back_keeps c n None s = says_keeps key e c _ s
   came_back_keeps c n (Some x) s = redrive_keeps c c.queue.settings.policy n x s s.queue.settings.policy
-
-  pub all_came_back_keeps : (gs : List Got) (c : Core) → IsSound c → KeepsEffect key e 0 c (all_came_back key gs c)
-  all_came_back_keeps [] c s = no_effect_keeps key e c s
-  all_came_back_keeps (g ∷ gs) c s =
-      and_then_keeps key e 0 c (came_back key c g.id.number g.left) (all_came_back key gs) (came_back_keeps c g.id.number g.left s) (all_came_back_keeps gs)

@@ -1,67 +1,58 @@
 -- A handling of a key leaves nothing due that comes before the key, where nothing that was due came before it, and makes
 -- nothing due that is not later.
-use Rattle.std.specs.Prelude.{All, Bool, Err, List, None, Ok, Option, Result, Some, [], cond, false, find, flat_map, if◌then◌else◌, length, map, min, suc, take, drop, true, zero, ℕ, ◌*◌, ◌+◌, ◌-◌, ◌++◌, ◌<◌, ◌==◌, ◌∷◌, ◌≡◌, ◌≤◌, unwrap_or, ◌/◌}
+use Rattle.std.specs.Prelude.{All, Bool, Err, List, None, Ok, Option, Result, Some, [], cond, false, flat_map, if◌then◌else◌, length, map, min, take, drop, true, ℕ, ◌*◌, ◌+◌, ◌-◌, ◌++◌, ◌<◌, ◌==◌, ◌∷◌, ◌≡◌, ◌≤◌}
 use Rattle.std.proofs.Common.{arith, inl, inr, refl, subst, sym, true≢false}
 use Rattle.std.proofs.Math.Nat.{mul-add}
 use Rattle.std.proofs.lemmas.Bool.{cases_lt, eqb-false, eqb-true, leb-false}
 use Rattle.std.proofs.lemmas.List.Elements.{All-push, All-tail}
-use Rattle.std.specs.List.{list_any}
 use Rattle.std.specs.Ordering.{is_lt}
-use Rattle.sim_clock.specs.declared.key.Class.{Class}
 use Rattle.sim_clock.specs.declared.key.Class.TheVariants as classes
 use Rattle.sim_clock.specs.declared.key.Key.{Key}
 use Rattle.sim_clock.specs.Firsts.{without}
 use Rattle.sim_clock.specs.Order.{key_cmp}
 use Rattle.sim_clock.specs.declared.refusal.Refusal.{Refusal}
-use Rattle.sim_clock.specs.declared.refusal.Refusal.TheVariants as refusals
 use Rattle.sim_clock.proofs.Orderings.{key_not_less}
 use Rattle.sqs_message.specs.declared.ids.MessageId.{MessageId}
 use Rattle.sqs_message.specs.declared.ids.Receipt.{Receipt}
 use Rattle.sqs_message.specs.declared.message.Message.{Message}
-use Rattle.sqs_message.specs.Ids.{id_text, read_receipt}
-use Rattle.sqs_message.specs.declared.row.Detail.TheVariants as details
-use Rattle.sqs_message.specs.declared.row.RowAnswer.TheVariants as answers
-use Rattle.sqs_message.specs.declared.row.RowKind.TheVariants as kinds
-use Rattle.sqs_redrive.specs.MoveTasks.{MoveTask, is_running, task_cancelled, task_started, task_stepped}
+use Rattle.sqs_message.specs.Ids.{id_text}
+use Rattle.sqs_redrive.specs.MoveTasks.{is_running, task_started, task_stepped}
 use Rattle.sqs_redrive.specs.declared.settings.TaskStatus.TheVariants.{Cancelled}
 use Rattle.sqs_model.specs.declared.acts.Act.{Act}
-use Rattle.sqs_model.specs.declared.acts.Act.TheVariants as acts
 use Rattle.sqs_model.specs.declared.acts.Answer.{Answer}
 use Rattle.sqs_model.specs.declared.acts.Answer.TheVariants as told_by
 use Rattle.sqs_model.specs.declared.agents.Role.{Role}
 use Rattle.sqs_model.specs.declared.agents.Role.TheVariants.{Consumer, Producer, Script}
-use Rattle.sqs_redrive.specs.declared.answers.Deleted.{Deleted}
-use Rattle.sqs_redrive.specs.declared.answers.Got.{Got}
 use Rattle.sqs_redrive.specs.declared.answers.Rest.{Rest}
 use Rattle.sqs_redrive.specs.declared.answers.Sent.{Sent}
 use Rattle.sqs_redrive.specs.declared.settings.Kind.{Kind}
 use Rattle.sqs_redrive.specs.declared.settings.Kind.TheVariants.{Fifo, Standard}
-use Rattle.sqs_redrive.specs.declared.settings.Policy.{Policy}
 use Rattle.sqs_redrive.specs.declared.settings.Scope.{Scope}
 use Rattle.sqs_redrive.specs.declared.transfers.Load.{Load}
 use Rattle.sqs_redrive.specs.declared.transfers.Load.TheVariants.{Forward, Move, Redrive}
 use Rattle.sqs_redrive.specs.declared.transfers.Outbound.{Outbound}
 use Rattle.sqs_redrive.specs.Transfers.{transfer_key}
 use Rattle.sqs_model.specs.Actor.{Actor, next}
-use Rattle.sqs_model.specs.Acts.{Made, act_made, change_row, got_row, made, receive_row, runs, task_row, with_poll, all_came_back, came_back, cancel_done, cancel_made, change_answered, change_made, delete_done, delete_made, given, long_poll, receive_as, receive_made, receive_none, receive_some, redrive_by, sends, send_made, serve_made, short_poll, start_made}
-use Rattle.sqs_model.specs.Arrive.{arrived, expired, expired_found, forwarded, forwarded_group, is_too_old, sent_of, settled_when}
-use Rattle.sqs_model.specs.Available.{all_available, all_hosts, available}
-use Rattle.sqs_model.specs.Calls.{change, delete, delete_as, in_flight_until, living, new_message, scope_of, send_standard, send_unless, send_with, with_message}
-use Rattle.sqs_model.specs.Draw.{Draws, drawn_latency}
+use Rattle.sqs_model.specs.Acts.{with_poll, sends}
+use Rattle.sqs_model.specs.Arrive.{arrived, expired_found, forwarded, forwarded_group, is_too_old, sent_of, settled_when}
+use Rattle.sqs_model.specs.Available.{all_available, available}
+use Rattle.sqs_model.specs.Calls.{change, delete_as, in_flight_until, living, new_message, scope_of, send_standard, send_unless, send_with, with_message}
+use Rattle.sqs_model.specs.Draw.{Draws, drawn_latency, drawn_uniform}
 use Rattle.sqs_model.specs.Dues.{actor_dues, core_dues, dues, expiry_key, message_dues, poll_key, queue_dues, release_due, sample_dues, task_dues, wake_due}
-use Rattle.sqs_model.specs.Polls.{acts_found, acts_most, acts_next, answer_polls, answer_when, poll_given, told, without_poll}
 use Rattle.sqs_model.specs.Progress.{IsSound, IsSoundActor, WakesFor}
-use Rattle.sqs_model.specs.Queue.{Entry, Queue, has_number, id_of, numbered, room, taken_out, with_change}
-use Rattle.sqs_model.specs.Receive.{give, given_one, receive, received, timeout_of}
+use Rattle.sqs_model.specs.Queue.{Entry, Queue, has_number, numbered, room, taken_out, with_change}
+use Rattle.sqs_model.specs.Receive.{give, given_one, receive, received, timeout_of, to_give}
 use Rattle.sqs_model.specs.Return.{leaves, released, released_found, released_when, visible_again}
-use Rattle.sqs_model.specs.Site.{Core, Effect, Poll, Site, actor_numbered, and_then, has_key, is_actor, is_task, number_of, says, task_numbered, with_actor, with_queue, with_task}
-use Rattle.sqs_model.specs.Step.{Moved, arrival_done, ends_at, expiry_done, handle_arrival, handle_class, handle_step, handle_taken, handled, handled_when, moves, with_polls}
+use Rattle.sqs_model.specs.Site.{Core, Poll, Site, has_key, is_actor, is_task, number_of, with_actor, with_queue, with_task}
+use Rattle.sqs_model.specs.Step.{Moved, ends_at, handle_taken, handled, handled_when, is_arrival, moves}
 use Rattle.sqs_model.specs.Task.{Taken, Task, destination, take_each, take_movable, taken_one}
 use Rattle.sqs_model.proofs.ActorMoves.{Acts, IsWakeWhere, next_acts}
 use Rattle.sqs_model.proofs.Answered.{change_by, delete_by, receive_by}
-use Rattle.sqs_model.proofs.Branches.{either, either_by}
+use Rattle.sqs_model.proofs.Branches.{either}
 use Rattle.sqs_model.proofs.Counts.{all_changed, all_without, changed_none, changed_twice, find_all, find_changed, find_picked, tick, tick_if, tick_now, tick_past, without_changed}
+use Rattle.sqs_model.proofs.CoreLaws.{CoreHandlingLaw, CoreTurnLaw, handles, turns}
 use Rattle.sqs_model.proofs.Kept.{handled_number}
+use Rattle.sqs_model.proofs.Walk.{handled_goes}
 use Rattle.sqs_model.proofs.Wakes.{IsLaterWake, KeepsWake, next_keeps}
 use Rattle.sqs_model.proofs.Members.{From, In, all_in, contains_in, in_append, in_flat, in_left, in_map, in_right, into_flat, into_map, of_all}
 use Rattle.sqs_model.specs.NoneBefore.{HandlingLeavesNoneBefore, HandlingMakesNothingDueNow, IsLaterOrIn}
@@ -254,127 +245,26 @@ module _ (key : Key) (site : ℕ) (Comes : Key → Type 0) (later_comes : (j : K
   still_drawn : (c : Core) (sent : ℕ) (d : Draws) → StillCore c → StillCore (record c { sent = sent; draws = d })
   still_drawn c sent d h = record { queue = h.queue; polls = h.polls; actors = h.actors; tasks = h.tasks; sample = h.sample }
 
-  abbrev Stays : Effect → Type 0
-  Stays e = StillCore e.core
-
-  redriven_stays : (c : Core) (i : ℕ) (load : Load) (o : Option Policy) → StillCore c → Stays (redrive_by o key c i load)
-  redriven_stays c i load None h = h
-  redriven_stays c i load (Some p) h = still_drawn c (c.sent + 1) (drawn_latency p.latency c.draws).1 h
-
-  back_stays : (c : Core) (i : ℕ) (o : Option Load) → StillCore c → Stays (came_back key c i o)
-  back_stays c i None h = h
-  back_stays c i (Some load) h = redriven_stays c i load c.queue.settings.policy h
-
-  all_back_stays : (gs : List Got) (c : Core) → StillCore c → Stays (all_came_back key gs c)
-  all_back_stays [] c h = h
-  all_back_stays (g ∷ gs) c h = all_back_stays gs (came_back key c g.id.number g.left).core (back_stays c g.id.number g.left h)
-
-  given_stays : (c : Core) (agent : ℕ) (timeout : Option ℕ) (x : Queue × List Got) → StillCore c → Still x.0 → Stays (given key c agent timeout x)
-  given_stays c agent timeout (q, gots) h k =
-      let e : Effect = record { core = with_queue c q; rows = map (got_row key c agent) gots; sent = [] } in
-      let f : StillCore (with_queue c q) = still_queue c q h k in
-      either Stays (timeout_of q timeout == 0) (and_then e (all_came_back key gots)) e (all_back_stays gots (with_queue c q) f) f
-
-  -- acts
-  abbrev Makes : Made → Type 0
-  Makes m = Stays m.effect
-
+  -- a poll that begins to wait, and a task that is started or cancelled
   polls_wake : (r : Role) (a : Actor) (n : ℕ) → WakesFor r a → WakesFor r (record a { polls = n })
   polls_wake (Script script) a n h = h
   polls_wake (Producer p) a n h = tt
   polls_wake (Consumer c) a n h = tt
 
-  none_stays : (a : Actor) (c : Core) (max wait : ℕ) (timeout : Option ℕ) → StillActor a → StillCore c → Makes (receive_none key a c max wait timeout)
-  none_stays a c max wait timeout k h =
+  polled_still : (a : Actor) (c : Core) (max wait : ℕ) (timeout : Option ℕ) → (wait == 0) ≡ false → StillActor a → StillCore c → StillCore (with_poll key a c max wait timeout)
+  polled_still a c max wait timeout e k h =
       let b : Actor = record a { polls = a.polls + 1 } in
       let sb : IsSoundActor b = record { role = k.sound.role; wakes = polls_wake a.settings.role a (a.polls + 1) k.sound.wakes } in
       let kb : StillActor b = record { sound = sb; wake = k.wake } in
       let p : Poll = record { actor = a.number; number = a.polls; max = max; timeout = timeout; end = key.at + 1000 * wait } in
-      let d : Core = with_poll key a c max wait timeout in
-      either_by Makes (wait == 0) (made (says c (receive_row key c a.number answers.Empty)) (told_by.Got []))
-      (made (says d (receive_row key c a.number answers.Wait)) told_by.Waiting)
-      (λ e. h)
-      (λ e.
       let z : 0 < wait = grind (arith, eqb-false wait 0 e) in
-      still_polls (with_actor c b) (c.polls ++ p ∷ []) (still_actor c b h kb) (All-push (λ (x : Poll). Comes (poll_key x)) c.polls p h.polls (later_comes (poll_key p) (omega arith))))
+      still_polls (with_actor c b) (c.polls ++ p ∷ []) (still_actor c b h kb) (All-push (λ (x : Poll). Comes (poll_key x)) c.polls p h.polls (later_comes (poll_key p) (omega arith)))
 
-  some_stays : (a : Actor) (c : Core) (max wait : ℕ) (timeout : Option ℕ) (q : Queue) (gots : List Got) → StillActor a → StillCore c → Still q → Makes (receive_some key a c max wait timeout q gots)
-  some_stays a c max wait timeout q [] k h w = none_stays a c max wait timeout k h
-  some_stays a c max wait timeout q (g ∷ gs) k h w = given_stays c a.number timeout (q, g ∷ gs) h w
-
-  receives : (a : Actor) (c drawn : Core) (max wait : ℕ) (timeout : Option ℕ) (x : Result (List Got) Refusal × Queue) → StillActor a → StillCore c → StillCore drawn → Leaves x → Makes (receive_made key a c drawn max wait timeout x)
-  receives a c drawn max wait timeout (Err e, q) k h d w = h
-  receives a c drawn max wait timeout (Ok gots, q) k h d w = some_stays a drawn max wait timeout q gots k d w
-
-  long_stays : (a : Actor) (c : Core) (max wait : ℕ) (timeout : Option ℕ) → StillActor a → StillCore c → Makes (long_poll key a c max wait timeout)
-  long_stays a c max wait timeout k h = receives a c c max wait timeout _ k h h (receive_still c.queue max timeout _ false h.queue)
-
-  short_stays : (a : Actor) (c : Core) (max : ℕ) (timeout : Option ℕ) (hosts sampled : ℕ) (x : ℕ × Draws) → StillActor a → StillCore c → Makes (short_poll key a c max timeout hosts sampled x)
-  short_stays a c max timeout hosts sampled (start, draws) k h =
-      receives a c (record c { draws = draws }) max 0 timeout _ k h (still_drawn c c.sent draws h) (receive_still c.queue max timeout _ true h.queue)
-
-  receive_stays : (k : Kind) (a : Actor) (c : Core) (max wait : ℕ) (timeout : Option ℕ) → StillActor a → StillCore c → Makes (receive_as k key a c max wait timeout)
-  receive_stays (Fifo content scope) a c max wait timeout k h = long_stays a c max wait timeout k h
-  receive_stays (Standard hosts sampled) a c max wait timeout k h = either Makes _ _ _ (short_stays a c max timeout hosts sampled _ k h) (long_stays a c max wait timeout k h)
-
-  send_stays : (a : Actor) (c : Core) (body : List ℕ) (x : Result Sent Refusal × Queue) → StillCore c → Still x.1 → Makes (send_made key a c body x)
-  send_stays a c body (answer, q) h k = still_queue c q h k
-
-  delete_done_stays : (a : Actor) (c : Core) (text : List ℕ) (r : Receipt) (x : Result Deleted Refusal × Queue) → StillCore c → Still x.1 → Makes (delete_done key a c text r x)
-  delete_done_stays a c text r (answer, q) h k = still_queue c q h k
-
-  delete_stays : (a : Actor) (c : Core) (text : List ℕ) (o : Option Receipt) → StillCore c → Makes (delete_made key a c text o)
-  delete_stays a c text None h = h
-  delete_stays a c text (Some r) h = delete_done_stays a c text r (delete c.queue key.at r) h (delete_still c.queue.settings.kind c.queue r h.queue)
-
-  answered_stays : (a : Actor) (c : Core) (text : List ℕ) (timeout : ℕ) (r : Receipt) (x : Result (Option Load) Refusal × Queue) → StillCore c → Leaves x → Makes (change_answered key a c text timeout r x)
-  answered_stays a c text timeout r (Err e, q) h k = h
-  answered_stays a c text timeout r (Ok left, q) h k =
-      let e : Effect = says (with_queue c q) (change_row key a c text answers.Ok (Some (id_of c.queue r.number)) (details.Timeout timeout)) in
-      let f : StillCore (with_queue c q) = still_queue c q h k in
-      either Stays (timeout == 0) (and_then e (λ d. came_back key d r.number left)) e (back_stays (with_queue c q) r.number left f) f
-
-  change_stays : (a : Actor) (c : Core) (text : List ℕ) (timeout : ℕ) (o : Option Receipt) → StillCore c → Makes (change_made key a c text timeout o)
-  change_stays a c text timeout None h = h
-  change_stays a c text timeout (Some r) h = answered_stays a c text timeout r _ h (change_still c.queue r timeout h.queue)
-
-  start_stays : (a : Actor) (c : Core) (task : ℕ) (o : Option Task) → StillCore c → Makes (start_made key a c task o)
-  start_stays a c task None h = h
-  start_stays a c task (Some t) h =
-      let u : Task = record t { move = task_started t.move key.at } in
-      let k : StillTask u = λ e. later_comes (record { at = key.at + 1000; agent = t.number; class = classes.Step; number = t.move.steps }) (omega arith) in
-      either Makes (list_any runs c.tasks) (made (says c (task_row key a c task kinds.Start (answers.Refused refusals.TaskRunning))) told_by.Other)
-      (made (says (with_task c u) (task_row key a c task kinds.Start answers.Ok)) told_by.Other) h (still_task c u h k)
-
-  cancelled_stays : (a : Actor) (c : Core) (task : ℕ) (t : Task) (x : Result (Unit {0}) Refusal × MoveTask) → StillTask (record t { move = x.1 }) → StillCore c → Makes (cancel_done key a c task t x)
-  cancelled_stays a c task t (Ok u, m) k h = still_task c (record t { move = m }) h k
-  cancelled_stays a c task t (Err e, m) k h = h
+  started_still : (c : Core) (t : Task) → StillCore c → StillCore (with_task c (record t { move = task_started t.move key.at }))
+  started_still c t h = still_task c (record t { move = task_started t.move key.at }) h (λ e. later_comes (record { at = key.at + 1000; agent = t.number; class = classes.Step; number = t.move.steps }) (omega arith))
 
   not_cancelled : {A : Type 0} → is_running Cancelled ≡ true → A
   not_cancelled e = absurd (true≢false (sym e))
-
-  cancel_stays : (a : Actor) (c : Core) (task : ℕ) (o : Option Task) → task_numbered task c ≡ o → StillCore c → Makes (cancel_made key a c task o)
-  cancel_stays a c task None e h = h
-  cancel_stays a c task (Some t) e h =
-      cancelled_stays a c task t (task_cancelled t.move)
-      (either (λ (x : Result (Unit {0}) Refusal × MoveTask). StillTask (record t { move = x.1 })) (is_running t.move.status) (Ok tt, record t.move { status = Cancelled }) (Err refusals.NoTask, t.move) not_cancelled (find_all (is_task task) StillTask c.tasks t h.tasks e)) h
-
-  serve_stays : (a : Actor) (c : Core) (id : MessageId) (r : Receipt) (b : Bool) (o : Option Outbound) → StillCore c → Makes (serve_made key a c id r b o)
-  serve_stays a c id r true o h = h
-  serve_stays a c id r false None h = h
-  serve_stays a c id r false (Some x) h = h
-
-  act_stays : (a : Actor) (c : Core) (x : Act) → StillActor a → StillCore c → Makes (act_made key a c x)
-  unfolding act_made
-  act_stays a c (acts.Send body delay group id) k h = send_stays a c body (sends c.queue.settings.kind c.queue key.at body delay group id) h (sends_still c.queue.settings.kind c.queue body delay group id h.queue)
-  act_stays a c (acts.Receive max wait timeout) k h = receive_stays c.queue.settings.kind a c max wait timeout k h
-  act_stays a c (acts.Delete text) k h = delete_stays a c text (read_receipt text) h
-  act_stays a c (acts.Change text timeout) k h = change_stays a c text timeout (read_receipt text) h
-  act_stays a c (acts.Prolong text timeout) k h = change_stays a c text (unwrap_or timeout (c.queue.settings.visibility / 1000)) (read_receipt text) h
-  act_stays a c (acts.Start task) k h = start_stays a c task (task_numbered task c) h
-  act_stays a c (acts.Cancel task) k h = cancel_stays a c task (task_numbered task c) refl h
-  act_stays a c (acts.Serve id r failed forward) k h = serve_stays a c id r failed forward h
-  act_stays a c acts.Nothing k h = h
 
   -- an actor's wake after its next act is later, or what it was
   nothing_gone : (e : ℕ) (a : Actor) (w : Answer) → IsWakeWhere key.at e 0 a w
@@ -422,77 +312,16 @@ module _ (key : Key) (site : ℕ) (Comes : Key → Type 0) (later_comes : (j : K
             (wake_by a.number a x.1 w (next_keeps a key.at w k.sound) (λ e l. let y : Acts key.at e 0 a x = next_acts key.at e l 0 a w k.sound (nothing_gone e a w) in y.wake) k.wake);
       }
 
-  -- turns
-  on : (more : Answer → Core → Effect) (a : Actor) (c : Core) (x : Act) → ((w : Answer) (d : Core) → StillCore d → Stays (more w d)) → StillActor a → StillCore c → Stays (and_then (act_made key a c x).effect (more (act_made key a c x).answer))
-  on more a c x f k h = f (act_made key a c x).answer (act_made key a c x).effect.core (act_stays a c x k h)
-
-  next_stays : (more : Answer → Core → Effect) (c : Core) (x : Act) (a : Actor) → ((w : Answer) (d : Core) → StillCore d → Stays (more w d)) → StillActor a → StillCore c → Stays (acts_next more key c (x, a))
-  next_stays more c acts.Nothing a f k h = still_actor c a h k
-  next_stays more c (acts.Send body delay group id) a f k h = on more a _ (acts.Send body delay group id) f k (still_actor c a h k)
-  next_stays more c (acts.Receive max wait timeout) a f k h = on more a _ (acts.Receive max wait timeout) f k (still_actor c a h k)
-  next_stays more c (acts.Delete text) a f k h = on more a _ (acts.Delete text) f k (still_actor c a h k)
-  next_stays more c (acts.Change text timeout) a f k h = on more a _ (acts.Change text timeout) f k (still_actor c a h k)
-  next_stays more c (acts.Prolong text timeout) a f k h = on more a _ (acts.Prolong text timeout) f k (still_actor c a h k)
-  next_stays more c (acts.Start task) a f k h = on more a _ (acts.Start task) f k (still_actor c a h k)
-  next_stays more c (acts.Cancel task) a f k h = on more a _ (acts.Cancel task) f k (still_actor c a h k)
-  next_stays more c (acts.Serve id r failed forward) a f k h = on more a _ (acts.Serve id r failed forward) f k (still_actor c a h k)
-
-  found_stays : (more : Answer → Core → Effect) (w : Answer) (i : ℕ) (c : Core) (o : Option Actor) → actor_numbered i c ≡ o → ((v : Answer) (d : Core) → StillCore d → Stays (more v d)) → StillCore c → Stays (acts_found more key w c o)
-  found_stays more w i c None e f h = h
-  found_stays more w i c (Some a) e f h =
-      next_stays more c (next a key.at w).0 (next a key.at w).1 f (next_still a w (find_all (is_actor i) StillActor c.actors a h.actors e)) h
-
-  most_stays : (most : ℕ) (i : ℕ) (w : Answer) (c : Core) → StillCore c → Stays (acts_most most key i w c)
-  most_stays zero i w c h = h
-  most_stays (suc most) i w c h = found_stays (acts_most most key i) w i c (actor_numbered i c) refl (most_stays most i) h
-
-  told_stays : (i : ℕ) (w : Answer) (c : Core) → StillCore c → Stays (told key i w c)
-  told_stays i w c h = most_stays 3 i w c h
-
   dropped : (ps : List Poll) → All (λ p. Comes (poll_key p)) ps → All (λ p. Comes (poll_key p)) (drop 1 ps)
   dropped [] h = h
   dropped (p ∷ ps) h = All-tail (λ (x : Poll). Comes (poll_key x)) p ps h
 
-  when_stays : (b : Bool) (p : Poll) (others : Core → Effect) (c : Core) → ((d : Core) → StillCore d → Stays (others d)) → StillCore c → Stays (answer_when b key p others c)
-  when_stays true p others c f h =
-      let q : Queue × List Got = poll_given key p c.queue in
-      let ms : List Message = take (min p.max (room c.queue)) (available c.queue (all_hosts c.queue.settings.kind)) in
-      let kept : Still q.0 = give_still (timeout_of c.queue p.timeout) ms c.queue h.queue in
-      let e : Effect = given key (without_poll c) p.actor p.timeout (q.0, q.1) in
-      let one : Stays e = given_stays (without_poll c) p.actor p.timeout (q.0, q.1) (still_polls c (drop 1 c.polls) h (dropped c.polls h.polls)) kept in
-      f _ (told_stays p.actor (told_by.Got q.1) e.core one)
-  when_stays false p others c f h = h
-
-  polls_stay : (ps : List Poll) (c : Core) → StillCore c → Stays (answer_polls key ps c)
-  polls_stay [] c h = h
-  polls_stay (p ∷ ps) c h = when_stays _ p (answer_polls key ps) c (polls_stay ps) h
-
-  with_polls_stay : (e : Effect) → Stays e → Stays (with_polls key e)
-  with_polls_stay e h = polls_stay e.core.polls e.core h
-
-  -- what is due
-  arrival_done_stays : (c : Core) (load : Load) (x : (Sent × Bool) × Queue) → StillCore c → Still x.1 → Stays (arrival_done key load c x)
-  arrival_done_stays c load (answer, q) h k = still_queue c q h k
-
-  arrival_stays : (o : Option Outbound) (c : Core) → StillCore c → Stays (handle_arrival key o c)
-  arrival_stays None c h = h
-  arrival_stays (Some o) c h = arrival_done_stays c o.load (arrived c.queue key.at o.load) h (arrived_still c.queue o.load h.queue)
-
-  taken_stays : (c : Core) (t : Task) (x : (List (ℕ × Load) × Rest) × Queue) → StillCore c → Still x.1 → Stays (handle_taken key c t x)
+  taken_stays : (c : Core) (t : Task) (x : (List (ℕ × Load) × Rest) × Queue) → StillCore c → Still x.1 → StillCore (handle_taken key c t x).core
   taken_stays c t ((loads, rest), q) h w =
       let d : Core = with_queue c q in
       let m : Moved = moves key d t loads in
       let u : Task = record m.task { move = task_stepped m.task.move key.at (length loads) rest } in
       still_task d u (still_queue c q h w) (λ e. later_comes (record { at = key.at + 1000; agent = u.number; class = classes.Step; number = u.move.steps }) (omega arith))
-
-  step_stays : (c : Core) (o : Option Task) → StillCore c → Stays (handle_step key c o)
-  step_stays c None h = h
-  step_stays c (Some t) h =
-      taken_stays c t (take_movable c.queue t.move.settings.per_second t.move.settings.to) h
-      (take_still t.move.settings.to (take t.move.settings.per_second (all_available c.queue)) c.queue h.queue)
-
-  expiry_stays : (c : Core) (x : ℕ × Queue) → StillCore c → Still x.1 → Stays (expiry_done key c x)
-  expiry_stays c (age, q) h k = still_queue c q h k
 
   sample_stays : (c : Core) → StillCore c → StillCore (record c { samples = c.samples + 1 })
   sample_stays c h =
@@ -508,33 +337,48 @@ module _ (key : Key) (site : ℕ) (Comes : Key → Type 0) (later_comes : (j : K
             later_comes (record { at = c.sample * (c.samples + 1 + 1); agent = site; class = classes.Sample; number = c.samples + 1 }) (omega arith);
       }
 
-  class_stays : (k : Class) (c : Core) → StillCore c → Stays (handle_class k key c)
-  unfolding handle_class
-  class_stays classes.Expiry c h = expiry_stays c (expired c.queue key.at key.number) h (expired_still c.queue key.at key.number _ h.queue)
-  class_stays classes.Release c h =
-      let r : Queue × Option Load = released c.queue key.number in
-      back_stays (with_queue c r.0) key.number r.1 (still_queue c r.0 h (released_still c.queue key.number h.queue))
-  class_stays classes.Arrival c h = h
-  class_stays classes.PollEnd c h =
-      let left : Core = record c { polls = without (ends_at key) c.polls } in
-      told_stays key.agent (told_by.Got []) left (still_polls c left.polls h (all_without (ends_at key) (λ (p : Poll). Comes (poll_key p)) c.polls h.polls))
-  class_stays classes.Wake c h = told_stays key.agent _ c h
-  class_stays classes.Sample c h = sample_stays c h
-  class_stays classes.Step c h = step_stays c _ h
+  -- the law of turns, and of handlings
+  abbrev still : CoreTurnLaw key
+  still =
+      record {
+        At = StillCore;
+        redrives = λ c l h. still_drawn c (c.sent + 1) (drawn_latency l c.draws).1 h;
+        gives = λ c max timeout set h. still_queue c _ h (give_still (timeout_of c.queue timeout) (to_give c.queue max set) c.queue h.queue);
+        changes = λ c r timeout h. still_queue c _ h (change_still c.queue r timeout h.queue);
+        deletes = λ c r h. still_queue c _ h (delete_still c.queue.settings.kind c.queue r h.queue);
+        sends = λ c body delay group id h. still_queue c _ h (sends_still c.queue.settings.kind c.queue body delay group id h.queue);
+        draws = λ c hosts h. still_drawn c c.sent (drawn_uniform 0 hosts c.draws).1 h;
+        starts = λ c n t e h. started_still c t h;
+        cancels = λ c n t e h. still_task c (record t { move = record t.move { status = Cancelled } }) h not_cancelled;
+        Stands = λ _ a. StillActor a;
+        turns = λ n c a w e h. let k : StillActor (next a key.at w).1 = next_still a w (find_all (is_actor n) StillActor c.actors a h.actors e) in (still_actor c (next a key.at w).1 h k, k);
+        polls = λ a c max wait timeout e s h. polled_still a c max wait timeout e s h;
+      }
+
+  abbrev due : CoreHandlingLaw key still
+  due =
+      record {
+        answers = λ c h. still_polls c (drop 1 c.polls) h (dropped c.polls h.polls);
+        ends = λ c h. still_polls c (without (ends_at key) c.polls) h (all_without (ends_at key) (λ (p : Poll). Comes (poll_key p)) c.polls h.polls);
+        expires = λ c h. still_queue c _ h (expired_still c.queue key.at key.number _ h.queue);
+        releases = λ c h. still_queue c _ h (released_still c.queue key.number h.queue);
+        arrives = λ load c h. still_queue c _ h (arrived_still c.queue load h.queue);
+        samples = λ c h. sample_stays c h;
+        steps = λ c t e h. taken_stays c t (take_movable c.queue t.move.settings.per_second t.move.settings.to) h (take_still t.move.settings.to (take t.move.settings.per_second (all_available c.queue)) c.queue h.queue);
+      }
 
   -- a site, with what is on its way
   record StillSite (s : Site) : Type 0 where
     pub core : StillCore s.core
     pub arriving : All (λ o. Comes (transfer_key o)) s.arriving
 
-  when_still : (b : Bool) (s : Site) → StillSite s → StillSite (handled_when b key s).site
-  when_still true s h =
-      record { core = with_polls_stay (handle_arrival key (find (has_key key) s.arriving) s.core) (arrival_stays (find (has_key key) s.arriving) s.core h.core); arriving = all_without (has_key key) (λ (o : Outbound). Comes (transfer_key o)) s.arriving h.arriving }
-  when_still false s h = record { core = with_polls_stay (handle_class key.class key s.core) (class_stays key.class s.core h.core); arriving = h.arriving }
+  when_left : (b : Bool) (s : Site) → StillSite s → All (λ o. Comes (transfer_key o)) (handled_when b key s).site.arriving
+  when_left true s h = all_without (has_key key) (λ (o : Outbound). Comes (transfer_key o)) s.arriving h.arriving
+  when_left false s h = h.arriving
 
   handled_still : (s : Site) → StillSite s → StillSite (handled key s).site
   unfolding handled
-  handled_still s h = when_still _ s h
+  handled_still s h = record { core = handled_goes key (turns key still) (handles key still due) tt s (λ _. (λ _. tt, h.core)) (λ _. h.core); arriving = when_left (is_arrival key.class) s h }
 
   -- 3. the same told of what is due
   abbrev AllCome : List Key → Type 0

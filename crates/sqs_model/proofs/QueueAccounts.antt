@@ -1,5 +1,5 @@
 -- What happens to a queue keeps it in balance: what leaves it is sent, deleted or expired, and what comes in is new or was on its way.
-use Rattle.std.specs.Prelude.{All, Bool, Err, List, None, Ok, Option, Result, Some, [], false, get_or, min, take, true, ℕ, ◌*◌, ◌+◌, ◌++◌, ◌<◌, ◌==◌, ◌∷◌, ◌≡◌, ◌≢◌}
+use Rattle.std.specs.Prelude.{All, Bool, Err, List, None, Ok, Option, Result, Some, [], false, get_or, true, ℕ, ◌*◌, ◌+◌, ◌++◌, ◌<◌, ◌==◌, ◌∷◌, ◌≡◌, ◌≢◌}
 use Rattle.std.proofs.Common.{ap, arith, refl, subst, sym, ◌∙◌}
 use Rattle.std.proofs.lemmas.Bool.{eqb-true}
 use Rattle.std.proofs.lemmas.List.Elements.{All-head, All-tail, All-weaker}
@@ -27,14 +27,13 @@ use Rattle.sqs_model.specs.Accounts.{carries, same_origin}
 use Rattle.sqs_model.specs.Scenario.{MayBeWithin}
 use Rattle.sqs_model.specs.Acts.{sends}
 use Rattle.sqs_model.specs.Arrive.{arrived, brought, enqueued_at, forwarded, forwarded_group, sent_of, settled_when}
-use Rattle.sqs_model.specs.Available.{available}
 use Rattle.sqs_model.specs.Calls.{change, deduplication_id, delay_of, delete_as, in_flight_until, is_bad_delay, living, new_message, scope_of, send_standard, send_unless, send_with, with_entry, with_message}
-use Rattle.sqs_model.specs.Queue.{Entry, Queue, has_number, id_of, numbered, room, taken_out, with_change}
-use Rattle.sqs_model.specs.Receive.{give, given_one, receive, received, timeout_of}
+use Rattle.sqs_model.specs.Queue.{Entry, Queue, has_number, id_of, numbered, taken_out, with_change}
+use Rattle.sqs_model.specs.Receive.{give, given_one, received, timeout_of}
 use Rattle.sqs_model.specs.Return.{leaves, released, released_found, released_when, visible_again}
 use Rattle.sqs_model.specs.Step.{load_origin}
 use Rattle.sqs_model.specs.Task.{Taken, destination, take_each, taken_one}
-use Rattle.sqs_model.proofs.Answered.{change_by, delete_by, receive_by}
+use Rattle.sqs_model.proofs.Answered.{change_by, delete_by}
 use Rattle.sqs_model.proofs.Balance.{Holds, IsFine, IsSame, first_again, first_own, holds_as, holds_changed, holds_end, holds_news, holds_pushed, holds_taken, told_new}
 use Rattle.sqs_model.proofs.Branches.{either, either_by}
 use Rattle.sqs_model.proofs.Chosen.{Stand}
@@ -187,16 +186,6 @@ module _ (o : Origin) (top : ℕ) (base : List Row) (rows : List Row) where
         none = λ e. omega (arith, one.1 e, others.none e);
         settings = others.settings;
       }
-
-  -- an answer of a receive, by its timeout and the settings
-  abbrev pub Answers : ℕ → ℕ → QueueSettings → Result (List Got) Refusal × Queue → Type 0
-  Answers elsewhere wait s (Ok gots, q) = Gives elsewhere wait s (q, gots)
-  Answers elsewhere wait s (Err e, q) = Unit {0}
-
-  pub receive_balances : (elsewhere : ℕ) (q : Queue) (now max : ℕ) (timeout : Option ℕ) (set : ℕ) (short : Bool) → At elsewhere q → Answers elsewhere (timeout_of q timeout) q.settings (receive q now max timeout set short)
-  receive_balances elsewhere q now max timeout set short h =
-      receive_by (Answers elsewhere (timeout_of q timeout) q.settings) q now max timeout set short (λ e. tt)
-      (give_balances now (timeout_of q timeout) (take (min max (room q)) (available q set)) elsewhere q h)
 
   -- sends
   abbrev pub Sends : ℕ → Result Sent Refusal × Queue → Type 0

@@ -1,5 +1,5 @@
 -- Nothing that happens to a sound queue makes anything due by the present, and the queue stays sound.
-use Rattle.std.specs.Prelude.{All, Bool, Err, List, None, Ok, Option, Result, Some, [], false, if◌then◌else◌, min, take, true, ℕ, ◌*◌, ◌+◌, ◌-◌, ◌<◌, ◌==◌, ◌∷◌, ◌≡◌, ◌≤◌}
+use Rattle.std.specs.Prelude.{All, Bool, Err, List, None, Ok, Option, Result, Some, [], false, if◌then◌else◌, true, ℕ, ◌*◌, ◌+◌, ◌-◌, ◌<◌, ◌==◌, ◌∷◌, ◌≡◌, ◌≤◌}
 use Rattle.std.proofs.Common.{ap, arith, refl}
 use Rattle.std.proofs.lemmas.Bool.{eqb-false, eqb-true, leb-false}
 use Rattle.std.proofs.lemmas.List.Elements.{All-append, All-cons, All-nil, All-weaker}
@@ -16,12 +16,11 @@ use Rattle.sqs_redrive.specs.declared.transfers.Load.TheVariants.{Forward, Move,
 use Rattle.sqs_model.specs.Arrive.{arrived, forwarded, is_too_old, sent_of, settled_when}
 use Rattle.sqs_model.specs.Calls.{change, delete_as, in_flight_until, new_message, send_fifo, send_standard, send_unless, send_with, with_entry, with_message}
 use Rattle.sqs_model.specs.Progress.{IsSoundQueue}
-use Rattle.sqs_model.specs.Queue.{Entry, Queue, has_number, numbered, room, taken_out, with_change}
-use Rattle.sqs_model.specs.Available.{available}
-use Rattle.sqs_model.specs.Receive.{give, given_one, received, receive, timeout_of}
+use Rattle.sqs_model.specs.Queue.{Entry, Queue, has_number, numbered, taken_out, with_change}
+use Rattle.sqs_model.specs.Receive.{give, given_one, received}
 use Rattle.sqs_model.specs.Return.{leaves, released, released_found, released_when, visible_again}
 use Rattle.sqs_model.specs.Task.{Taken, destination, take_each, taken_one}
-use Rattle.sqs_model.proofs.Answered.{change_by, delete_by, receive_by}
+use Rattle.sqs_model.proofs.Answered.{change_by, delete_by}
 use Rattle.sqs_model.proofs.Branches.{either}
 use Rattle.sqs_model.proofs.Counts.{all_changed, all_without, ascends_changed, ascends_push, ascends_without, changed_none, changed_twice, find_changed, find_picked, less_changed, less_without, tick, tick_if, tick_past, total_changed, total_push, total_without, without_changed}
 use Rattle.sqs_model.proofs.Early.{message_early, queue_early}
@@ -165,11 +164,6 @@ module _ (now e : ℕ) (l : e ≤ now) where
   give_keeps timeout (m ∷ ms) q s =
       let one : Keeps e 0 q (given_one q now timeout m).0 = given_when q timeout m _ s refl in
       keeps_on e 0 q (given_one q now timeout m).0 (give now timeout ms (given_one q now timeout m).0).0 one (give_keeps timeout ms (given_one q now timeout m).0 one.sound)
-
-  pub receive_keeps : (q : Queue) (max : ℕ) (timeout : Option ℕ) (set : ℕ) (short : Bool) → IsSoundQueue q → Keeps e 0 q (receive q now max timeout set short).1
-  receive_keeps q max timeout set short s =
-      receive_by (λ x. Keeps e 0 q x.1) q now max timeout set short (λ x. stays e q s)
-      (give_keeps (timeout_of q timeout) (take (min max (room q)) (available q set)) q s)
 
   -- sends
   delayed_when : (delay : ℕ) (b : Bool) → (delay == 0) ≡ b → tick_if e (if b then None else Some (now + delay)) ≡ 0

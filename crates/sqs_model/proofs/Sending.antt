@@ -17,15 +17,18 @@ IsForward (Forward id group body) = Unit {0}
 
 -- whether an act sends only what has a property
 abbrev pub Sends : (Option Outbound → Type 0) → Act → Type 0
-Sends P (acts.Send body delay group id) = Unit {0}
-Sends P (acts.Receive max wait timeout) = Unit {0}
-Sends P (acts.Delete text) = Unit {0}
-Sends P (acts.Change text timeout) = Unit {0}
-Sends P (acts.Prolong text timeout) = Unit {0}
-Sends P (acts.Start task) = Unit {0}
-Sends P (acts.Cancel task) = Unit {0}
 Sends P (acts.Serve id receipt failed forward) = P forward
-Sends P acts.Nothing = Unit {0}
+Sends P act = Unit {0}
+
+-- an act sends what always has a property
+pub always_sends : (P : Option Outbound → Type 0) → ((o : Option Outbound) → P o) → (act : Act) → Sends P act
+always_sends P h (acts.Serve id receipt failed forward) = h forward
+always_sends P h act = tt
+
+-- an act that sends only what has one property sends only what has another that follows
+pub sends_as : (P Q : Option Outbound → Type 0) → ((o : Option Outbound) → P o → Q o) → (act : Act) → Sends P act → Sends Q act
+sends_as P Q f (acts.Serve id receipt failed forward) h = f forward h
+sends_as P Q f act h = tt
 
 -- the call of a script sends nothing
 pub call_sends : (P : Option Outbound → Type 0) (c : Call) → Sends P (act_of c)

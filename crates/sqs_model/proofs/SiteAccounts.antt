@@ -1,29 +1,19 @@
 -- What happens at a site keeps it in balance with the rows made and the transfers sent.
-use Rattle.std.specs.List.{list_any}
-use Rattle.std.specs.Prelude.{All, Bool, Err, List, None, Ok, Option, Result, Some, [], false, length, map, min, suc, take, true, zero, ℕ, ◌+◌, ◌++◌, ◌-◌, ◌<◌, ◌==◌, ◌∷◌, ◌≡◌, unwrap_or, ◌/◌}
+use Rattle.std.specs.Prelude.{All, Bool, Err, List, None, Ok, Option, Result, Some, [], false, length, take, true, ℕ, ◌+◌, ◌++◌, ◌<◌, ◌==◌, ◌∷◌, ◌≡◌}
 use Rattle.std.proofs.Common.{ap, arith, refl, subst, sym, ◌∙◌}
 use Rattle.std.proofs.lemmas.List.{append-nil, append_assoc}
 use Rattle.std.proofs.lemmas.List.Elements.{All-append, All-cons, All-nil}
 use Rattle.sim_clock.specs.declared.key.Class.{Class}
 use Rattle.sim_clock.specs.declared.key.Class.TheVariants as classes
 use Rattle.sim_clock.specs.declared.key.Key.{Key}
-use Rattle.sim_clock.specs.Firsts.{without}
 use Rattle.sim_clock.specs.declared.refusal.Refusal.{Refusal}
-use Rattle.sim_clock.specs.declared.refusal.Refusal.TheVariants as refusals
 use Rattle.sqs_message.specs.declared.ids.MessageId.{MessageId}
 use Rattle.sqs_message.specs.declared.ids.Origin.{Origin}
 use Rattle.sqs_message.specs.declared.ids.Receipt.{Receipt}
 use Rattle.sqs_message.specs.declared.message.Message.{Message}
 use Rattle.sqs_message.specs.declared.row.Row.{Row}
-use Rattle.sqs_message.specs.Ids.{read_receipt}
-use Rattle.sqs_message.specs.declared.row.Detail.TheVariants as details
 use Rattle.sqs_message.specs.declared.row.RowAnswer.TheVariants as answers
-use Rattle.sqs_message.specs.declared.row.RowKind.TheVariants as kinds
-use Rattle.sqs_redrive.specs.MoveTasks.{MoveTask, task_cancelled, task_started, task_stepped}
-use Rattle.sqs_model.specs.declared.acts.Act.{Act}
-use Rattle.sqs_model.specs.declared.acts.Act.TheVariants as acts
-use Rattle.sqs_model.specs.declared.acts.Answer.{Answer}
-use Rattle.sqs_model.specs.declared.acts.Answer.TheVariants as told_by
+use Rattle.sqs_redrive.specs.MoveTasks.{task_started, task_stepped}
 use Rattle.sqs_redrive.specs.declared.answers.Deleted.{Deleted}
 use Rattle.sqs_redrive.specs.declared.answers.Deleted.TheVariants.{Gone, Kept, Removed}
 use Rattle.sqs_redrive.specs.declared.answers.Got.{Got}
@@ -31,8 +21,6 @@ use Rattle.sqs_redrive.specs.declared.answers.Rest.{Rest}
 use Rattle.sqs_redrive.specs.declared.answers.Rest.TheVariants.{Empty, More, NoSource}
 use Rattle.sqs_redrive.specs.declared.answers.Sent.{Sent}
 use Rattle.sqs_redrive.specs.declared.answers.Sent.TheVariants.{New, Repeat}
-use Rattle.sqs_redrive.specs.declared.settings.Kind.{Kind}
-use Rattle.sqs_redrive.specs.declared.settings.Kind.TheVariants.{Fifo, Standard}
 use Rattle.sqs_redrive.specs.declared.settings.Policy.{Policy}
 use Rattle.sqs_redrive.specs.declared.settings.QueueSettings.{QueueSettings}
 use Rattle.sqs_redrive.specs.declared.transfers.Load.{Load}
@@ -40,26 +28,26 @@ use Rattle.sqs_redrive.specs.declared.transfers.Load.TheVariants.{Forward, Move,
 use Rattle.sqs_redrive.specs.declared.transfers.Outbound.{Outbound}
 use Rattle.sqs_model.specs.Accounts.{carries}
 use Rattle.sqs_model.specs.Scenario.{LeadsWithin, MayBeWithin}
-use Rattle.sqs_model.specs.Actor.{Actor, next}
-use Rattle.sqs_model.specs.Acts.{Made, act_made, change_row, got_row, made, receive_row, runs, task_row, with_poll, all_came_back, came_back, cancel_done, cancel_made, change_answered, change_made, delete_done, delete_made, given, long_poll, receive_as, receive_made, receive_none, receive_some, redrive_by, send_made, serve_made, short_poll, start_made}
+use Rattle.sqs_model.specs.Actor.{Actor}
+use Rattle.sqs_redrive.specs.declared.settings.TaskStatus.TheVariants.{Cancelled}
+use Rattle.sqs_model.specs.Acts.{forward_row, delete_done, redrive_by, send_made}
 use Rattle.sqs_model.specs.Arrive.{expired_found}
-use Rattle.sqs_model.specs.Available.{all_available, all_hosts, available}
-use Rattle.sqs_model.specs.Draw.{Draws, drawn_latency, drawn_uniform}
-use Rattle.sqs_model.specs.Polls.{acts_found, acts_most, acts_next, answer_polls, answer_when, poll_given, told, without_poll}
-use Rattle.sqs_model.specs.Queue.{Queue, id_of, numbered, room}
-use Rattle.sqs_model.specs.Receive.{timeout_of}
+use Rattle.sqs_model.specs.Available.{all_available, all_hosts}
+use Rattle.sqs_model.specs.Draw.{drawn_latency}
+use Rattle.sqs_model.specs.Queue.{Queue, numbered}
+use Rattle.sqs_model.specs.Receive.{timeout_of, to_give}
 use Rattle.sqs_model.specs.Return.{released}
-use Rattle.sqs_model.specs.Site.{Core, Effect, Poll, actor_numbered, and_then, is_task, no_effect, says, task_numbered, with_queue, with_task}
-use Rattle.sqs_model.specs.Step.{arrival_done, arrival_row, end_row, ends_at, expiry_done, expiry_row, handle_arrival, handle_class, handle_step, load_age, moves, one_sent, with_polls}
+use Rattle.sqs_model.specs.Site.{Core, Effect, and_then, is_task, says, task_numbered, with_queue, with_task}
+use Rattle.sqs_model.specs.Step.{arrival_done, arrival_row, end_row, expiry_done, expiry_row, handle_arrival, handle_class, handle_step, load_age, moves, one_sent, with_polls}
 use Rattle.sqs_model.specs.Task.{Task, take_each, take_movable}
 use Rattle.sqs_model.proofs.Balance.{Holds, holds_as, holds_idle}
-use Rattle.sqs_model.proofs.Branches.{either, either_by}
 use Rattle.sqs_model.proofs.Chosen.{first_apart, first_stand}
 use Rattle.sqs_model.proofs.Counts.{all_changed, find_all, total, total_append}
-use Rattle.sqs_model.proofs.Forwards.{MayForward, SendsForwards, next_forwards}
+use Rattle.sqs_model.proofs.Forwards.{MayForward, next_forwards}
 use Rattle.sqs_model.proofs.Sending.{IsForward}
 use Rattle.sqs_model.proofs.Ledger.{bit, marks}
-use Rattle.sqs_model.proofs.QueueAccounts.{Answers, AreBound, Changes, Comes, Deletes, Gives, IsKnown, IsThere, MayAllLeave, MayLeave, Releases, Sends, Takes, arrived_balances, carried, change_balances, delete_balances, ends_one, give_balances, left_bit, lefts, moved_bits, receive_balances, released_balances, same_timeout, sends_balance, take_balances}
+use Rattle.sqs_model.proofs.Walk.{ArePlain, Changes as AfterChange, Gives as AfterGiving, HandlingLaw, TurnLaw, arrival_goes, class_goes, leaves_by, lefts as all_left, polled}
+use Rattle.sqs_model.proofs.QueueAccounts.{AreBound, Changes, Comes, Deletes, Gives, IsKnown, IsThere, MayAllLeave, MayLeave, Releases, Sends, Takes, arrived_balances, carried, change_balances, delete_balances, ends_one, give_balances, left_bit, lefts, moved_bits, released_balances, same_timeout, sends_balance, take_balances}
 
 -- a message that is there
 abbrev pub IsFound : Option Message → Type 0
@@ -80,10 +68,6 @@ MayExpire key classes.Step c = Unit {0}
 redrive_queue : (key : Key) (c : Core) (n : ℕ) (load : Load) (p : Option Policy) → (redrive_by p key c n load).core.queue ≡ c.queue
 redrive_queue key c n load None = refl
 redrive_queue key c n load (Some p) = refl
-
-back_queue : (key : Key) (c : Core) (n : ℕ) (left : Option Load) → (came_back key c n left).core.queue ≡ c.queue
-back_queue key c n None = refl
-back_queue key c n (Some load) = redrive_queue key c n load c.queue.settings.policy
 
 module _ (o : Origin) (top : ℕ) where
   -- a transfer that carries the origin goes to a queue of the world
@@ -142,24 +126,6 @@ module _ (o : Origin) (top : ℕ) (base : List Row) where
   told_once : (rows : List Row) (elsewhere : ℕ) (c : Core) (r : Row) → At (rows ++ r ∷ []) elsewhere c → Goes rows elsewhere (says c r)
   told_once rows elsewhere c r h = record { at = at_as (rows ++ r ∷ []) elsewhere (0 + elsewhere) c (omega arith) h; sent = All-nil (IsBound o top) }
 
-  and_then_goes : (rows : List Row) (elsewhere : ℕ) (e : Effect) (f : Core → Effect) → All (IsBound o top) e.sent → Goes (rows ++ e.rows) (sent_bits o top e.sent + elsewhere) (f e.core) → Goes rows elsewhere (and_then e f)
-  and_then_goes rows elsewhere e f s g =
-      let next : Effect = f e.core in
-      let more : sent_bits o top (e.sent ++ next.sent) ≡ sent_bits o top e.sent + sent_bits o top next.sent = total_append (λ (x : Outbound). carried o x.load) e.sent next.sent in
-      record {
-        at =
-            at_rows ((rows ++ e.rows) ++ next.rows) (rows ++ (e.rows ++ next.rows)) (sent_bits o top (e.sent ++ next.sent) + elsewhere) next.core (append_assoc rows e.rows next.rows)
-            (at_as ((rows ++ e.rows) ++ next.rows) (sent_bits o top next.sent + (sent_bits o top e.sent + elsewhere)) (sent_bits o top (e.sent ++ next.sent) + elsewhere) next.core (omega (arith, more)) g.at);
-        sent = All-append (IsBound o top) e.sent next.sent s g.sent;
-      }
-
-  -- what always leaves a site in balance
-  abbrev Always : (Core → Effect) → Type 0
-  Always f = (rows : List Row) (elsewhere : ℕ) (c : Core) → At rows elsewhere c → Goes rows elsewhere (f c)
-
-  then_always : (rows : List Row) (elsewhere : ℕ) (e : Effect) (f : Core → Effect) → Always f → Goes rows elsewhere e → Goes rows elsewhere (and_then e f)
-  then_always rows elsewhere e f k g = and_then_goes rows elsewhere e f g.sent (k (rows ++ e.rows) (sent_bits o top e.sent + elsewhere) e.core g.at)
-
   module _ (key : Key) where
     -- messages that come back, or leave
     redriven_goes : (rows : List Row) (elsewhere : ℕ) (c : Core) (n : ℕ) (load : Load) (p : Option Policy) → LeadsWithin top p → IsThere p → IsKnown top load → At rows (carried o load + elsewhere) c → Goes rows elsewhere (redrive_by p key c n load)
@@ -171,104 +137,16 @@ module _ (o : Origin) (top : ℕ) (base : List Row) where
           sent = All-cons (IsBound o top) _ [] (record { there = λ _. l; known = k }) (All-nil (IsBound o top));
         }
 
-    back_goes : (rows : List Row) (elsewhere : ℕ) (c : Core) (n : ℕ) (left : Option Load) → MayLeave top c.queue.settings.policy left → At rows (left_bit o left + elsewhere) c → Goes rows elsewhere (came_back key c n left)
-    back_goes rows elsewhere c n None l h = quiet rows elsewhere c _ (refl, tt) (at_as rows (0 + elsewhere) elsewhere c (omega arith) h)
-    back_goes rows elsewhere c n (Some load) l h = redriven_goes rows elsewhere c n load c.queue.settings.policy h.0.policy l.0 l.1 h
-
-    all_back_goes : (gots : List Got) (rows : List Row) (elsewhere : ℕ) (c : Core) → MayAllLeave top c.queue.settings.policy gots → At rows (lefts o gots + elsewhere) c → Goes rows elsewhere (all_came_back key gots c)
-    all_back_goes [] rows elsewhere c l h = quiet rows elsewhere c [] tt (at_as rows (0 + elsewhere) elsewhere c (omega arith) h)
-    all_back_goes (g ∷ gs) rows elsewhere c l h =
-        let e : Effect = came_back key c g.id.number g.left in
-        let one : Goes rows (lefts o gs + elsewhere) e =
-        back_goes rows (lefts o gs + elsewhere) c g.id.number g.left l.0 (at_as rows (left_bit o g.left + lefts o gs + elsewhere) (left_bit o g.left + (lefts o gs + elsewhere)) c (omega arith) h) in
-        let left : MayAllLeave top e.core.queue.settings.policy gs = subst (λ (q : Queue). MayAllLeave top q.settings.policy gs) (sym (back_queue key c g.id.number g.left)) l.1 in
-        and_then_goes rows elsewhere e (all_came_back key gs) one.sent
-        (all_back_goes gs (rows ++ e.rows) (sent_bits o top e.sent + elsewhere) e.core left
-        (at_as (rows ++ e.rows) (sent_bits o top e.sent + (lefts o gs + elsewhere)) (lefts o gs + (sent_bits o top e.sent + elsewhere)) e.core (omega arith) one.at))
-
-    got_idle : (c : Core) (agent : ℕ) (gots : List Got) → AreIdle o top (map (got_row key c agent) gots)
-    got_idle c agent [] = tt
-    got_idle c agent (g ∷ gs) = (refl, got_idle c agent gs)
-
-    given_goes :
-        (rows : List Row) (elsewhere : ℕ) (c : Core) (before : Queue) (agent : ℕ) (timeout : Option ℕ) (q : Queue) (gots : List Got)
-        → Gives o top base rows elsewhere (timeout_of before timeout) before.settings (q, gots) → All (Leads o top) c.tasks → Goes rows elsewhere (given key c agent timeout (q, gots))
-    given_goes rows elsewhere c before agent timeout q gots g t =
-        let e : Effect = record { core = with_queue c q; rows = map (got_row key c agent) gots; sent = [] } in
-        let all : At (rows ++ e.rows) (lefts o gots + elsewhere) e.core = (idle_rows e.rows rows (lefts o gots + elsewhere) q (got_idle c agent gots) g.holds, t) in
-        let left : MayAllLeave top q.settings.policy gots = subst (λ (s : QueueSettings). MayAllLeave top s.policy gots) (sym g.settings) g.left in
-        let same : timeout_of q timeout ≡ timeout_of before timeout = same_timeout before q timeout g.settings in
-        either_by (Goes rows elsewhere) (timeout_of q timeout == 0) (and_then e (all_came_back key gots)) e
-        (λ b. and_then_goes rows elsewhere e (all_came_back key gots) (All-nil (IsBound o top)) (goes_as (rows ++ e.rows) elsewhere (0 + elsewhere) (all_came_back key gots e.core) (omega arith) (all_back_goes gots (rows ++ e.rows) elsewhere e.core left all)))
-        (λ b.
-        let none : lefts o gots ≡ 0 = g.none (ap (λ n. n == 0) (sym same) ∙ b) in
-        record { at = at_as (rows ++ e.rows) (lefts o gots + elsewhere) (0 + elsewhere) e.core (omega (arith, none)) all; sent = All-nil (IsBound o top) })
-
-    -- acts
-    abbrev Makes : List Row → ℕ → Made → Type 0
-    Makes rows elsewhere m = Goes rows elsewhere m.effect
-
-    sent_goes : (rows : List Row) (elsewhere : ℕ) (a : Actor) (c : Core) (body : List ℕ) (x : Result Sent Refusal × Queue) → Sends o top base rows elsewhere x → All (Leads o top) c.tasks → Makes rows elsewhere (send_made key a c body x)
+    sent_goes : (rows : List Row) (elsewhere : ℕ) (a : Actor) (c : Core) (body : List ℕ) (x : Result Sent Refusal × Queue) → Sends o top base rows elsewhere x → All (Leads o top) c.tasks → Goes rows elsewhere (send_made key a c body x).effect
     sent_goes rows elsewhere a c body (Ok (New id), q) s t = told_once rows elsewhere (with_queue c q) _ (s _ (record { told = refl; message = refl; lasts = refl }), t)
     sent_goes rows elsewhere a c body (Ok (Repeat id), q) s t = quiet rows elsewhere (with_queue c q) _ (refl, tt) (s, t)
     sent_goes rows elsewhere a c body (Err e, q) s t = quiet rows elsewhere (with_queue c q) _ (refl, tt) (s, t)
 
-    none_goes : (rows : List Row) (elsewhere : ℕ) (a : Actor) (c : Core) (max wait : ℕ) (timeout : Option ℕ) → At rows elsewhere c → Makes rows elsewhere (receive_none key a c max wait timeout)
-    none_goes rows elsewhere a c max wait timeout h =
-        either (Makes rows elsewhere) (wait == 0) (made (says c (receive_row key c a.number answers.Empty)) (told_by.Got []))
-        (made (says (with_poll key a c max wait timeout) (receive_row key c a.number answers.Wait)) told_by.Waiting)
-        (quiet rows elsewhere c _ (refl, tt) h) (quiet rows elsewhere (with_poll key a c max wait timeout) _ (refl, tt) h)
-
-    some_goes :
-        (rows : List Row) (elsewhere : ℕ) (a : Actor) (c : Core) (max wait : ℕ) (timeout : Option ℕ) (q : Queue) (gots : List Got) → At rows elsewhere c
-        → Gives o top base rows elsewhere (timeout_of c.queue timeout) c.queue.settings (q, gots) → Makes rows elsewhere (receive_some key a c max wait timeout q gots)
-    some_goes rows elsewhere a c max wait timeout q [] h g = none_goes rows elsewhere a c max wait timeout h
-    some_goes rows elsewhere a c max wait timeout q (x ∷ xs) h g = given_goes rows elsewhere c c.queue a.number timeout q (x ∷ xs) g h.1
-
-    receives :
-        (rows : List Row) (elsewhere : ℕ) (a : Actor) (c drawn : Core) (max wait : ℕ) (timeout : Option ℕ) (x : Result (List Got) Refusal × Queue) → At rows elsewhere c → At rows elsewhere drawn
-        → Answers o top base rows elsewhere (timeout_of drawn.queue timeout) drawn.queue.settings x → Makes rows elsewhere (receive_made key a c drawn max wait timeout x)
-    receives rows elsewhere a c drawn max wait timeout (Err e, q) h d k = quiet rows elsewhere c _ (refl, tt) h
-    receives rows elsewhere a c drawn max wait timeout (Ok gots, q) h d k = some_goes rows elsewhere a drawn max wait timeout q gots d k
-
-    long_goes : (rows : List Row) (elsewhere : ℕ) (a : Actor) (c : Core) (max wait : ℕ) (timeout : Option ℕ) → At rows elsewhere c → Makes rows elsewhere (long_poll key a c max wait timeout)
-    long_goes rows elsewhere a c max wait timeout h = receives rows elsewhere a c c max wait timeout _ h h (receive_balances o top base rows elsewhere c.queue key.at max timeout _ false h.0)
-
-    short_goes : (rows : List Row) (elsewhere : ℕ) (a : Actor) (c : Core) (max : ℕ) (timeout : Option ℕ) (hosts sampled : ℕ) (x : ℕ × Draws) → At rows elsewhere c → Makes rows elsewhere (short_poll key a c max timeout hosts sampled x)
-    short_goes rows elsewhere a c max timeout hosts sampled (start, draws) h =
-        receives rows elsewhere a c (record c { draws = draws }) max 0 timeout _ h h (receive_balances o top base rows elsewhere c.queue key.at max timeout _ true h.0)
-
-    receive_goes : (k : Kind) (rows : List Row) (elsewhere : ℕ) (a : Actor) (c : Core) (max wait : ℕ) (timeout : Option ℕ) → At rows elsewhere c → Makes rows elsewhere (receive_as k key a c max wait timeout)
-    receive_goes (Fifo content scope) rows elsewhere a c max wait timeout h = long_goes rows elsewhere a c max wait timeout h
-    receive_goes (Standard hosts sampled) rows elsewhere a c max wait timeout h =
-        either (Makes rows elsewhere) (wait == 0) (short_poll key a c max timeout hosts sampled (drawn_uniform 0 (hosts - 1) c.draws)) (long_poll key a c max wait timeout)
-        (short_goes rows elsewhere a c max timeout hosts sampled _ h) (long_goes rows elsewhere a c max wait timeout h)
-
-    deleted_goes : (rows : List Row) (elsewhere : ℕ) (a : Actor) (c : Core) (text : List ℕ) (r : Receipt) (x : Result Deleted Refusal × Queue) → Deletes o top base rows elsewhere c.queue.site r.number x → All (Leads o top) c.tasks → Makes rows elsewhere (delete_done key a c text r x)
+    deleted_goes : (rows : List Row) (elsewhere : ℕ) (a : Actor) (c : Core) (text : List ℕ) (r : Receipt) (x : Result Deleted Refusal × Queue) → Deletes o top base rows elsewhere c.queue.site r.number x → All (Leads o top) c.tasks → Goes rows elsewhere (delete_done key a c text r x).effect
     deleted_goes rows elsewhere a c text r (Ok (Removed age), q) d t = told_once rows elsewhere (with_queue c q) _ (d _ (record { silent = refl; message = refl; once = λ e. omega arith }), t)
     deleted_goes rows elsewhere a c text r (Ok Kept, q) d t = quiet rows elsewhere (with_queue c q) _ (refl, tt) (d, t)
     deleted_goes rows elsewhere a c text r (Ok Gone, q) d t = quiet rows elsewhere (with_queue c q) _ (refl, tt) (d, t)
     deleted_goes rows elsewhere a c text r (Err e, q) d t = quiet rows elsewhere (with_queue c q) _ (refl, tt) (d, t)
-
-    delete_goes : (rows : List Row) (elsewhere : ℕ) (a : Actor) (c : Core) (text : List ℕ) (x : Option Receipt) → At rows elsewhere c → Makes rows elsewhere (delete_made key a c text x)
-    delete_goes rows elsewhere a c text None h = quiet rows elsewhere c _ (refl, tt) h
-    delete_goes rows elsewhere a c text (Some r) h = deleted_goes rows elsewhere a c text r _ (delete_balances o top base rows c.queue.settings.kind elsewhere c.queue key.at r h.0) h.1
-
-    answered_goes :
-        (rows : List Row) (elsewhere : ℕ) (a : Actor) (c : Core) (text : List ℕ) (timeout : ℕ) (r : Receipt) (x : Result (Option Load) Refusal × Queue) → At rows elsewhere c
-        → Changes o top base rows elsewhere timeout c.queue.settings x → Makes rows elsewhere (change_answered key a c text timeout r x)
-    answered_goes rows elsewhere a c text timeout r (Err e, q) h k = quiet rows elsewhere c _ (refl, tt) h
-    answered_goes rows elsewhere a c text timeout r (Ok left, q) h k =
-        let e : Effect = says (with_queue c q) (change_row key a c text answers.Ok (Some (id_of c.queue r.number)) (details.Timeout timeout)) in
-        let one : At (rows ++ e.rows) (left_bit o left + elsewhere) e.core = (idle_rows e.rows rows (left_bit o left + elsewhere) q (refl, tt) k.0.holds, h.1) in
-        let leave : MayLeave top q.settings.policy left = subst (λ (s : QueueSettings). MayLeave top s.policy left) (sym k.0.settings) k.0.left in
-        either_by (Goes rows elsewhere) (timeout == 0) (and_then e (λ d. came_back key d r.number left)) e
-        (λ b. and_then_goes rows elsewhere e (λ d. came_back key d r.number left) (All-nil (IsBound o top)) (goes_as (rows ++ e.rows) elsewhere (0 + elsewhere) (came_back key e.core r.number left) (omega arith) (back_goes (rows ++ e.rows) elsewhere e.core r.number left leave one)))
-        (λ b. record { at = at_as (rows ++ e.rows) (left_bit o left + elsewhere) (0 + elsewhere) e.core (omega (arith, k.1 b)) one; sent = All-nil (IsBound o top) })
-
-    change_goes : (rows : List Row) (elsewhere : ℕ) (a : Actor) (c : Core) (text : List ℕ) (timeout : ℕ) (x : Option Receipt) → At rows elsewhere c → Makes rows elsewhere (change_made key a c text timeout x)
-    change_goes rows elsewhere a c text timeout None h = quiet rows elsewhere c _ (refl, tt) h
-    change_goes rows elsewhere a c text timeout (Some r) h = answered_goes rows elsewhere a c text timeout r _ h (change_balances o top base rows elsewhere c.queue key.at r timeout h.0)
 
     task_at : (rows : List Row) (elsewhere : ℕ) (c : Core) (t : Task) → Leads o top t → At rows elsewhere c → At rows elsewhere (with_task c t)
     task_at rows elsewhere c t l h = (h.0, all_changed (is_task t.number) (Leads o top) (λ _. t) (λ _ _. l) c.tasks h.1)
@@ -276,94 +154,15 @@ module _ (o : Origin) (top : ℕ) (base : List Row) where
     task_leads : (rows : List Row) (elsewhere : ℕ) (c : Core) (n : ℕ) (t : Task) → task_numbered n c ≡ Some t → At rows elsewhere c → Leads o top t
     task_leads rows elsewhere c n t e h = find_all (is_task n) (Leads o top) c.tasks t h.1 e
 
-    start_goes : (rows : List Row) (elsewhere : ℕ) (a : Actor) (c : Core) (task : ℕ) (x : Option Task) → task_numbered task c ≡ x → At rows elsewhere c → Makes rows elsewhere (start_made key a c task x)
-    start_goes rows elsewhere a c task None e h = quiet rows elsewhere c [] tt h
-    start_goes rows elsewhere a c task (Some t) e h =
-        let begun : Task = record t { move = task_started t.move key.at } in
-        either (Makes rows elsewhere) (list_any runs c.tasks) (made (says c (task_row key a c task kinds.Start (answers.Refused refusals.TaskRunning))) told_by.Other)
-        (made (says (with_task c begun) (task_row key a c task kinds.Start answers.Ok)) told_by.Other) (quiet rows elsewhere c _ (refl, tt) h)
-        (quiet rows elsewhere (with_task c begun) _ (refl, tt) (task_at rows elsewhere c begun (task_leads rows elsewhere c task t e h) h))
-
-    cancelled_goes : (rows : List Row) (elsewhere : ℕ) (a : Actor) (c : Core) (task : ℕ) (t : Task) (x : Result (Unit {0}) Refusal × MoveTask) → MayBeWithin top x.1.settings.to → At rows elsewhere c → Makes rows elsewhere (cancel_done key a c task t x)
-    cancelled_goes rows elsewhere a c task t (Ok u, m) l h = quiet rows elsewhere _ _ (refl, tt) (task_at rows elsewhere c (record t { move = m }) l h)
-    cancelled_goes rows elsewhere a c task t (Err e, m) l h = quiet rows elsewhere c _ (refl, tt) h
-
-    cancel_goes : (rows : List Row) (elsewhere : ℕ) (a : Actor) (c : Core) (task : ℕ) (x : Option Task) → task_numbered task c ≡ x → At rows elsewhere c → Makes rows elsewhere (cancel_made key a c task x)
-    cancel_goes rows elsewhere a c task None e h = quiet rows elsewhere c [] tt h
-    cancel_goes rows elsewhere a c task (Some t) e h =
-        let l : Leads o top t = task_leads rows elsewhere c task t e h in
-        cancelled_goes rows elsewhere a c task t (task_cancelled t.move) (either (λ (x : Result (Unit {0}) Refusal × MoveTask). MayBeWithin top x.1.settings.to) _ _ _ l l) h
-
-    serve_goes : (rows : List Row) (elsewhere : ℕ) (a : Actor) (c : Core) (id : MessageId) (r : Receipt) (b : Bool) (x : Option Outbound) → MayForward x → At rows elsewhere c → Makes rows elsewhere (serve_made key a c id r b x)
-    serve_goes rows elsewhere a c id r true x f h = quiet rows elsewhere c _ (refl, tt) h
-    serve_goes rows elsewhere a c id r false None f h = quiet rows elsewhere c [] tt h
-    serve_goes rows elsewhere a c id r false (Some x) f h =
-        let e : Effect = (serve_made key a c id r false (Some x)).effect in
+    forward_goes : (rows : List Row) (elsewhere : ℕ) (a : Actor) (c : Core) (id : MessageId) (x : Outbound) → IsForward x.load → At rows elsewhere c → Goes rows elsewhere (record { core = c; rows = forward_row key a c id x.to ∷ []; sent = x ∷ [] })
+    forward_goes rows elsewhere a c id x f h =
+        let e : Effect = record { core = c; rows = forward_row key a c id x.to ∷ []; sent = x ∷ [] } in
         let none = forward_bound o top x.to x.load f in
         let zero_bits : carried o x.load ≡ 0 = ap bit none.0 in
         record {
           at = at_as (rows ++ e.rows) elsewhere (sent_bits o top (x ∷ []) + elsewhere) c (omega (arith, zero_bits)) (idle_rows e.rows rows elsewhere c.queue (refl, tt) h.0, h.1);
           sent = All-cons (IsBound o top) x [] (record { there = λ y. let n : carries o x.load ≡ false = none.0 in cc; known = none.1 }) (All-nil (IsBound o top));
         }
-
-    act_goes : (rows : List Row) (elsewhere : ℕ) (a : Actor) (c : Core) (x : Act) → SendsForwards x → At rows elsewhere c → Makes rows elsewhere (act_made key a c x)
-    unfolding act_made
-    act_goes rows elsewhere a c (acts.Send body delay group id) f h = sent_goes rows elsewhere a c body _ (sends_balance o top base rows c.queue.settings.kind elsewhere c.queue key.at body delay group id h.0) h.1
-    act_goes rows elsewhere a c (acts.Receive max wait timeout) f h = receive_goes c.queue.settings.kind rows elsewhere a c max wait timeout h
-    act_goes rows elsewhere a c (acts.Delete text) f h = delete_goes rows elsewhere a c text (read_receipt text) h
-    act_goes rows elsewhere a c (acts.Change text timeout) f h = change_goes rows elsewhere a c text timeout (read_receipt text) h
-    act_goes rows elsewhere a c (acts.Prolong text timeout) f h = change_goes rows elsewhere a c text (unwrap_or timeout (c.queue.settings.visibility / 1000)) (read_receipt text) h
-    act_goes rows elsewhere a c (acts.Start task) f h = start_goes rows elsewhere a c task (task_numbered task c) refl h
-    act_goes rows elsewhere a c (acts.Cancel task) f h = cancel_goes rows elsewhere a c task (task_numbered task c) refl h
-    act_goes rows elsewhere a c (acts.Serve id r failed forward) f h = serve_goes rows elsewhere a c id r failed forward f h
-    act_goes rows elsewhere a c acts.Nothing f h = quiet rows elsewhere c [] tt h
-
-    -- turns
-    on : (more : Answer → Core → Effect) (rows : List Row) (elsewhere : ℕ) (a : Actor) (c : Core) (x : Act) → ((w : Answer) → Always (more w)) → SendsForwards x → At rows elsewhere c → Goes rows elsewhere (and_then (act_made key a c x).effect (more (act_made key a c x).answer))
-    on more rows elsewhere a c x k f h =
-        let m : Made = act_made key a c x in
-        then_always rows elsewhere m.effect (more m.answer) (k m.answer) (act_goes rows elsewhere a c x f h)
-
-    next_goes : (more : Answer → Core → Effect) (rows : List Row) (elsewhere : ℕ) (c : Core) (x : Act) (a : Actor) → ((w : Answer) → Always (more w)) → SendsForwards x → At rows elsewhere c → Goes rows elsewhere (acts_next more key c (x, a))
-    next_goes more rows elsewhere c acts.Nothing a k f h = quiet rows elsewhere _ [] tt h
-    next_goes more rows elsewhere c (acts.Send body delay group id) a k f h = on more rows elsewhere a _ (acts.Send body delay group id) k f h
-    next_goes more rows elsewhere c (acts.Receive max wait timeout) a k f h = on more rows elsewhere a _ (acts.Receive max wait timeout) k f h
-    next_goes more rows elsewhere c (acts.Delete text) a k f h = on more rows elsewhere a _ (acts.Delete text) k f h
-    next_goes more rows elsewhere c (acts.Change text timeout) a k f h = on more rows elsewhere a _ (acts.Change text timeout) k f h
-    next_goes more rows elsewhere c (acts.Prolong text timeout) a k f h = on more rows elsewhere a _ (acts.Prolong text timeout) k f h
-    next_goes more rows elsewhere c (acts.Start task) a k f h = on more rows elsewhere a _ (acts.Start task) k f h
-    next_goes more rows elsewhere c (acts.Cancel task) a k f h = on more rows elsewhere a _ (acts.Cancel task) k f h
-    next_goes more rows elsewhere c (acts.Serve id r failed forward) a k f h = on more rows elsewhere a _ (acts.Serve id r failed forward) k f h
-
-    found_goes : (more : Answer → Core → Effect) (rows : List Row) (elsewhere : ℕ) (w : Answer) (c : Core) (x : Option Actor) → ((v : Answer) → Always (more v)) → At rows elsewhere c → Goes rows elsewhere (acts_found more key w c x)
-    found_goes more rows elsewhere w c None k h = quiet rows elsewhere c [] tt h
-    found_goes more rows elsewhere w c (Some a) k h = next_goes more rows elsewhere c (next a key.at w).0 (next a key.at w).1 k (next_forwards a key.at w) h
-
-    most_goes : (most i : ℕ) (w : Answer) → Always (acts_most most key i w)
-    most_goes zero i w rows elsewhere c h = quiet rows elsewhere c [] tt h
-    most_goes (suc most) i w rows elsewhere c h = found_goes (acts_most most key i) rows elsewhere w c (actor_numbered i c) (most_goes most i) h
-
-    told_goes : (i : ℕ) (w : Answer) → Always (told key i w)
-    told_goes i w rows elsewhere c h = most_goes 3 i w rows elsewhere c h
-
-    when_goes : (b : Bool) (p : Poll) (others : Core → Effect) → Always others → Always (answer_when b key p others)
-    when_goes true p others k rows elsewhere c h =
-        let q : Queue × List Got = poll_given key p c.queue in
-        let ms : List Message = take (min p.max (room c.queue)) (available c.queue (all_hosts c.queue.settings.kind)) in
-        let gives : Gives o top base rows elsewhere (timeout_of c.queue p.timeout) c.queue.settings q = give_balances o top base rows key.at (timeout_of c.queue p.timeout) ms elsewhere c.queue h.0 in
-        let e : Effect = given key (without_poll c) p.actor p.timeout (q.0, q.1) in
-        let one : Goes rows elsewhere e = given_goes rows elsewhere (without_poll c) c.queue p.actor p.timeout q.0 q.1 gives h.1 in
-        let answered : Goes rows elsewhere (and_then e (told key p.actor (told_by.Got q.1))) = then_always rows elsewhere e (told key p.actor (told_by.Got q.1)) (told_goes p.actor (told_by.Got q.1)) one in
-        then_always rows elsewhere _ others k answered
-    when_goes false p others k rows elsewhere c h = quiet rows elsewhere c [] tt h
-
-    polls_goes : (ps : List Poll) → Always (answer_polls key ps)
-    polls_goes [] rows elsewhere c h = quiet rows elsewhere c [] tt h
-    polls_goes (p ∷ ps) rows elsewhere c h = when_goes _ p (answer_polls key ps) (polls_goes ps) rows elsewhere c h
-
-    with_polls_goes : (rows : List Row) (elsewhere : ℕ) (e : Effect) → Goes rows elsewhere e → Goes rows elsewhere (with_polls key e)
-    with_polls_goes rows elsewhere e g =
-        and_then_goes rows elsewhere e (λ c. answer_polls key c.polls c) g.sent (polls_goes e.core.polls (rows ++ e.rows) (sent_bits o top e.sent + elsewhere) e.core g.at)
 
     -- what arrives
     comes_goes : (rows : List Row) (elsewhere : ℕ) (c : Core) (load : Load) (x : (Sent × Bool) × Queue) → Comes o top base rows elsewhere load x → All (Leads o top) c.tasks → Goes rows elsewhere (arrival_done key load c x)
@@ -378,9 +177,6 @@ module _ (o : Origin) (top : ℕ) (base : List Row) where
         }
     comes_goes rows elsewhere c load ((New id, false), q) k t = told_once rows elsewhere (with_queue c q) _ (k _ (record { told = refl; message = refl; lasts = refl }), t)
     comes_goes rows elsewhere c load ((Repeat id, old), q) k t = quiet rows elsewhere (with_queue c q) _ (refl, tt) (k, t)
-
-    pub arrival_goes : (rows : List Row) (elsewhere : ℕ) (x : Outbound) (c : Core) → IsBound o top x → At rows (carried o x.load + elsewhere) c → Goes rows elsewhere (handle_arrival key (Some x) c)
-    arrival_goes rows elsewhere x c b h = comes_goes rows elsewhere c x.load _ (arrived_balances o top base rows elsewhere c.queue key.at x.load b.known h.0) h.1
 
     -- what is due
     expiry_goes : (rows : List Row) (elsewhere : ℕ) (c : Core) (f : Option Message) → numbered key.number c.queue.records ≡ f → IsFound f → At rows elsewhere c → Goes rows elsewhere (expiry_done key c (expired_found c.queue key.at key.number f))
@@ -407,9 +203,8 @@ module _ (o : Origin) (top : ℕ) (base : List Row) where
     idle_append [] ys h k = k
     idle_append (x ∷ xs) ys h k = (h.0, idle_append xs ys h.1 k)
 
-    step_goes : (rows : List Row) (elsewhere : ℕ) (c : Core) (x : Option Task) → task_numbered key.agent c ≡ x → At rows elsewhere c → Goes rows elsewhere (handle_step key c x)
-    step_goes rows elsewhere c None e h = quiet rows elsewhere c [] tt h
-    step_goes rows elsewhere c (Some t) e h =
+    step_goes : (rows : List Row) (elsewhere : ℕ) (c : Core) (t : Task) → task_numbered key.agent c ≡ Some t → At rows elsewhere c → Goes rows elsewhere (handle_step key c (Some t))
+    step_goes rows elsewhere c t e h =
         let l : Leads o top t = task_leads rows elsewhere c key.agent t e h in
         let ms : List Message = take t.move.settings.per_second (all_available c.queue) in
         let taken : Takes o top base rows elsewhere (take_each c.queue t.move.settings.to ms) =
@@ -429,29 +224,171 @@ module _ (o : Origin) (top : ℕ) (base : List Row) where
           sent = moved.1;
         }
 
-    class_goes : (k : Class) (rows : List Row) (elsewhere : ℕ) (c : Core) → MayExpire key k c → At rows elsewhere c → Goes rows elsewhere (handle_class k key c)
-    unfolding handle_class
-    class_goes classes.Expiry rows elsewhere c m h = expiry_goes rows elsewhere c (numbered key.number c.queue.records) refl m h
-    class_goes classes.Release rows elsewhere c m h =
-        let r : Queue × Option Load = released c.queue key.number in
-        let k : Releases o top base rows elsewhere c.queue.settings r = released_balances o top base rows elsewhere c.queue key.number h.0 in
-        let left : MayLeave top r.0.settings.policy r.1 = subst (λ (s : QueueSettings). MayLeave top s.policy r.1) (sym k.settings) k.left in
-        back_goes rows elsewhere (with_queue c r.0) key.number r.1 left (k.holds, h.1)
-    class_goes classes.Arrival rows elsewhere c m h = quiet rows elsewhere c [] tt h
-    class_goes classes.PollEnd rows elsewhere c m h =
-        let left : Core = record c { polls = without (ends_at key) c.polls } in
-        let e : Effect = says left (receive_row key c key.agent answers.Empty) in
-        then_always rows elsewhere e (told key key.agent (told_by.Got [])) (told_goes key.agent (told_by.Got [])) (quiet rows elsewhere left e.rows (refl, tt) h)
-    class_goes classes.Wake rows elsewhere c m h = told_goes key.agent told_by.Wake rows elsewhere c h
-    class_goes classes.Sample rows elsewhere c m h = quiet rows elsewhere _ _ (refl, tt) h
-    class_goes classes.Step rows elsewhere c m h = step_goes rows elsewhere c (task_numbered key.agent c) refl h
+    -- loads that left the queue and are still to be told
+    abbrev owed : List (Option Load) → ℕ
+    owed [] = 0
+    owed (l ∷ ls) = left_bit o l + owed ls
 
-    -- the same with the answers to polls
+    abbrev MayAll : Option Policy → List (Option Load) → Type 0
+    MayAll p [] = Unit {0}
+    MayAll p (l ∷ ls) = MayLeave top p l × MayAll p ls
+
+    owed_lefts : (gots : List Got) → lefts o gots ≡ owed (all_left gots)
+    owed_lefts [] = refl
+    owed_lefts (g ∷ gs) = ap (λ n. left_bit o g.left + n) (owed_lefts gs)
+
+    may_lefts : (p : Option Policy) (gots : List Got) → MayAllLeave top p gots → MayAll p (all_left gots)
+    may_lefts p [] h = tt
+    may_lefts p (g ∷ gs) h = (h.0, may_lefts p gs h.1)
+
+    -- what was done so far: the rows made, and how many of the origin stand elsewhere
+    abbrev Past : Type 0
+    Past = List Row × ℕ
+
+    abbrev Before : Past → List (Option Load) → Core → Type 0
+    Before p ls c = At p.0 (owed ls + p.1) c × MayAll c.queue.settings.policy ls
+
+    abbrev after : Past → Effect → Past
+    after p e = (p.0 ++ e.rows, sent_bits o top e.sent + p.1)
+
+    record On (p : Past) (ls : List (Option Load)) (e : Effect) : Type 0 where
+      pub at : Before (after p e) ls e.core
+      pub sent : All (IsBound o top) e.sent
+
+    here : (p : Past) (c : Core) → At p.0 p.1 c → Before p [] c
+    here p c h = (at_as p.0 p.1 (0 + p.1) c (omega arith) h, tt)
+
+    plainly : (p : Past) (c : Core) → Before p [] c → At p.0 p.1 c
+    plainly p c h = at_as p.0 (0 + p.1) p.1 c (omega arith) h.0
+
+    with_left : (p : Past) (ls : List (Option Load)) (e : Effect) → MayAll e.core.queue.settings.policy ls → Goes p.0 (owed ls + p.1) e → On p ls e
+    with_left p ls e l g =
+        record { at = (at_as (p.0 ++ e.rows) (sent_bits o top e.sent + (owed ls + p.1)) (owed ls + (sent_bits o top e.sent + p.1)) e.core (omega arith) g.at, l); sent = g.sent }
+
+    goes_on : (p : Past) (e : Effect) → Goes p.0 p.1 e → On p [] e
+    goes_on p e g = with_left p [] e tt (goes_as p.0 p.1 (0 + p.1) e (omega arith) g)
+
+    goes_plainly : (p : Past) (e : Effect) → On p [] e → Goes p.0 p.1 e
+    goes_plainly p e g = record { at = plainly (after p e) e.core g.at; sent = g.sent }
+
+    joined_on : (p : Past) (ls ms : List (Option Load)) (e : Effect) (f : Core → Effect) → On p ls e → On (after p e) ms (f e.core) → On p ms (and_then e f)
+    joined_on p ls ms e f g h =
+        let next : Effect = f e.core in
+        let more : sent_bits o top (e.sent ++ next.sent) ≡ sent_bits o top e.sent + sent_bits o top next.sent = total_append (λ (x : Outbound). carried o x.load) e.sent next.sent in
+        record {
+          at = (
+            at_rows ((p.0 ++ e.rows) ++ next.rows) (p.0 ++ (e.rows ++ next.rows)) (owed ms + (sent_bits o top (e.sent ++ next.sent) + p.1)) next.core (append_assoc p.0 e.rows next.rows)
+                (at_as ((p.0 ++ e.rows) ++ next.rows) (owed ms + (sent_bits o top next.sent + (sent_bits o top e.sent + p.1))) (owed ms + (sent_bits o top (e.sent ++ next.sent) + p.1)) next.core (omega (arith, more)) h.at.0),
+            h.at.1,
+          );
+          sent = All-append (IsBound o top) e.sent next.sent g.sent h.sent;
+        }
+
+    idle_plain : (c : Core) (rows : List Row) → ArePlain key c rows → AreIdle o top rows
+    idle_plain c [] h = tt
+    idle_plain c (r ∷ rs) h = (h.0.silent o, idle_plain c rs h.1)
+
+    quiet_on : (p : Past) (ms : List (Option Load)) (d : Core) (rows : List Row) → AreIdle o top rows → Before p ms d → On p ms (record { core = d; rows = rows; sent = [] })
+    quiet_on p ms d rows i k = with_left p ms (record { core = d; rows = rows; sent = [] }) k.1 (quiet p.0 (owed ms + p.1) d rows i k.0)
+
+    redriven_on : (p : Past) (ls : List (Option Load)) (c : Core) (n : ℕ) (load : Load) → Before p (Some load ∷ ls) c → On p ls (redrive_by c.queue.settings.policy key c n load)
+    redriven_on p ls c n load h =
+        let e : Effect = redrive_by c.queue.settings.policy key c n load in
+        let l : MayAll e.core.queue.settings.policy ls = subst (λ (q : Queue). MayAll q.settings.policy ls) (sym (redrive_queue key c n load c.queue.settings.policy)) h.1.1 in
+        with_left p ls e l
+        (redriven_goes p.0 (owed ls + p.1) c n load c.queue.settings.policy h.0.0.policy h.1.0.0 h.1.0.1 (at_as p.0 (carried o load + owed ls + p.1) (carried o load + (owed ls + p.1)) c (omega arith) h.0))
+
+    gives_on : (p : Past) (c : Core) (timeout : Option ℕ) (x : Queue × List Got) → All (Leads o top) c.tasks → Gives o top base p.0 p.1 (timeout_of c.queue timeout) c.queue.settings x → AfterGiving (Before p) c timeout x
+    gives_on p c timeout (q, gots) t g =
+        let d : Core = with_queue c q in
+        let left : MayAllLeave top q.settings.policy gots = subst (λ (s : QueueSettings). MayAllLeave top s.policy gots) (sym g.settings) g.left in
+        let same : timeout_of q timeout ≡ timeout_of c.queue timeout = same_timeout c.queue q timeout g.settings in
+        leaves_by (Before p) d (timeout_of q timeout == 0) (all_left gots)
+        (λ b. (at_as p.0 (lefts o gots + p.1) (owed (all_left gots) + p.1) d (omega (arith, owed_lefts gots)) (g.holds, t), may_lefts q.settings.policy gots left))
+        (λ b.
+        let none : lefts o gots ≡ 0 = g.none (ap (λ n. n == 0) (sym same) ∙ b) in
+        (at_as p.0 (lefts o gots + p.1) (0 + p.1) d (omega (arith, none)) (g.holds, t), tt))
+
+    changes_on : (p : Past) (c : Core) (timeout : ℕ) (x : Result (Option Load) Refusal × Queue) → All (Leads o top) c.tasks → Changes o top base p.0 p.1 timeout c.queue.settings x → AfterChange (Before p) c timeout x
+    changes_on p c timeout (Err e, q) t k = tt
+    changes_on p c timeout (Ok left, q) t k =
+        let d : Core = with_queue c q in
+        let l : MayLeave top q.settings.policy left = subst (λ (s : QueueSettings). MayLeave top s.policy left) (sym k.0.settings) k.0.left in
+        leaves_by (Before p) d (timeout == 0) (left ∷ [])
+        (λ b. (at_as p.0 (left_bit o left + p.1) (left_bit o left + 0 + p.1) d (omega arith) (k.0.holds, t), (l, tt)))
+        (λ b. (at_as p.0 (left_bit o left + p.1) (0 + p.1) d (omega (arith, k.1 b)) (k.0.holds, t), tt))
+
+    task_on : (p : Past) (c : Core) (n : ℕ) (t u : Task) → task_numbered n c ≡ Some t → u.move.settings ≡ t.move.settings → Before p [] c → Before p [] (with_task c u)
+    task_on p c n t u e s h =
+        let k : At p.0 p.1 c = plainly p c h in
+        let l : Leads o top u = rw s (task_leads p.0 p.1 c n t e k) in
+        here p (with_task c u) (task_at p.0 p.1 c u l k)
+
+    -- the law of turns, and of handlings
+    abbrev balances : TurnLaw key
+    balances =
+        record {
+          Past = Past;
+          At = Before;
+          Goes = On;
+          after = after;
+          done = λ p ls e g. g.at;
+          joins = joined_on;
+          quiet = λ p ls ms c d rows h r k. quiet_on p ms d rows (idle_plain c rows r) k;
+          stays = λ p ls c h. (at_as p.0 (0 + owed ls + p.1) (owed ls + p.1) c (omega arith) h.0, h.1.1);
+          leaves = redriven_on;
+          gives = λ p c max timeout set h.
+              let k : At p.0 p.1 c = plainly p c h in
+              gives_on p c timeout _ k.1 (give_balances o top base p.0 key.at (timeout_of c.queue timeout) (to_give c.queue max set) p.1 c.queue k.0);
+          changes = λ p c r timeout h. let k : At p.0 p.1 c = plainly p c h in changes_on p c timeout _ k.1 (change_balances o top base p.0 p.1 c.queue key.at r timeout k.0);
+          deletes = λ p a c text r h. let k : At p.0 p.1 c = plainly p c h in goes_on p _ (deleted_goes p.0 p.1 a c text r _ (delete_balances o top base p.0 c.queue.settings.kind p.1 c.queue key.at r k.0) k.1);
+          sends = λ p a c body delay group id h. let k : At p.0 p.1 c = plainly p c h in goes_on p _ (sent_goes p.0 p.1 a c body _ (sends_balance o top base p.0 c.queue.settings.kind p.1 c.queue key.at body delay group id k.0) k.1);
+          draws = λ p c hosts h. h;
+          starts = λ p c n t e h. task_on p c n t (record t { move = task_started t.move key.at }) e refl h;
+          cancels = λ p c n t e h. task_on p c n t (record t { move = record t.move { status = Cancelled } }) e refl h;
+          Stands = λ _ _. Unit {0};
+          Sent = MayForward;
+          turns = λ p n c a w e h. (h, tt, next_forwards a key.at w);
+          polls = λ p a c max wait timeout e s h. h;
+          forwards = λ p a c id x s h. goes_on p _ (forward_goes p.0 p.1 a c id x s (plainly p c h));
+        }
+
+    -- a transfer that arrives was elsewhere
+    abbrev Arrives : Past → Option Outbound → Core → Type 0
+    Arrives p None c = At p.0 p.1 c
+    Arrives p (Some x) c = IsBound o top x × At p.0 (carried o x.load + p.1) c
+
+    abbrev due : HandlingLaw key balances
+    due =
+        record {
+          answers = λ p c h. h;
+          ends = λ p c h. h;
+          MayExpire = λ c. IsFound (numbered key.number c.queue.records);
+          expires = λ p c m h. goes_on p _ (expiry_goes p.0 p.1 c (numbered key.number c.queue.records) refl m (plainly p c h));
+          releases = λ p c h.
+              let k : At p.0 p.1 c = plainly p c h in
+              let r : Queue × Option Load = released c.queue key.number in
+              let b : Releases o top base p.0 p.1 c.queue.settings r = released_balances o top base p.0 p.1 c.queue key.number k.0 in
+              let l : MayLeave top r.0.settings.policy r.1 = subst (λ (s : QueueSettings). MayLeave top s.policy r.1) (sym b.settings) b.left in
+              (at_as p.0 (left_bit o r.1 + p.1) (left_bit o r.1 + 0 + p.1) (with_queue c r.0) (omega arith) (b.holds, k.1), (l, tt));
+          Comes = Arrives;
+          absent = λ p c h. here p c h;
+          arrives = λ p x c h. goes_on p _ (comes_goes p.0 p.1 c x.load _ (arrived_balances o top base p.0 p.1 c.queue key.at x.load h.0.known h.1.0) h.1.1);
+          samples = λ p c h. h;
+          steps = λ p c t e h. goes_on p _ (step_goes p.0 p.1 c t e (plainly p c h));
+        }
+
+    -- what is due, and what arrives, with the answers to polls
     pub due_goes : (k : Class) (rows : List Row) (elsewhere : ℕ) (c : Core) → MayExpire key k c → At rows elsewhere c → Goes rows elsewhere (with_polls key (handle_class k key c))
-    due_goes k rows elsewhere c m h = with_polls_goes rows elsewhere (handle_class k key c) (class_goes k rows elsewhere c m h)
+    due_goes k rows elsewhere c m h =
+        let found : k ≡ classes.Expiry → IsFound (numbered key.number c.queue.records) = λ e. subst (λ (x : Class). MayExpire key x c) e m in
+        goes_plainly (rows, elsewhere) _ (polled key balances due.answers (rows, elsewhere) (handle_class k key c) (class_goes key balances due k (rows, elsewhere) c found (here (rows, elsewhere) c h)))
+
+    comes_on : (rows : List Row) (elsewhere : ℕ) (x : Option Outbound) (c : Core) → Arrives (rows, elsewhere) x c → Goes rows elsewhere (with_polls key (handle_arrival key x c))
+    comes_on rows elsewhere x c h = goes_plainly (rows, elsewhere) _ (polled key balances due.answers (rows, elsewhere) (handle_arrival key x c) (arrival_goes key balances due (rows, elsewhere) x c h))
 
     pub come_goes : (rows : List Row) (elsewhere : ℕ) (x : Outbound) (c : Core) → IsBound o top x → At rows (carried o x.load + elsewhere) c → Goes rows elsewhere (with_polls key (handle_arrival key (Some x) c))
-    come_goes rows elsewhere x c b h = with_polls_goes rows elsewhere (handle_arrival key (Some x) c) (arrival_goes rows elsewhere x c b h)
+    come_goes rows elsewhere x c b h = comes_on rows elsewhere (Some x) c (b, h)
 
     pub none_come : (rows : List Row) (elsewhere : ℕ) (c : Core) → At rows elsewhere c → Goes rows elsewhere (with_polls key (handle_arrival key None c))
-    none_come rows elsewhere c h = with_polls_goes rows elsewhere (no_effect c) (quiet rows elsewhere c [] tt h)
+    none_come rows elsewhere c h = comes_on rows elsewhere None c h

@@ -30,13 +30,12 @@ use Rattle.sqs_model.specs.Site.{Core, Effect, Poll, actor_numbered, task_number
 use Rattle.sqs_model.specs.Step.{Moved, ends_at, expiry_done, handle_arrival, handle_expiry, handle_poll_end, handle_release, handle_sample, handle_step, handle_taken, handle_wake, move_out, moves, one_sent, release_done, with_polls}
 use Rattle.sqs_redrive.specs.MoveTasks.{MoveTask, is_running, task_status, task_stepped}
 use Rattle.sqs_model.specs.Task.{Task, take_movable}
-use Rattle.sqs_model.proofs.ActMoves.{task_time}
 use Rattle.sqs_model.proofs.Counts.{find_picked, tick, tick_if, tick_past, total, total_without}
 use Rattle.sqs_model.proofs.Members.{From, In, found_by_number, in_found}
 use Rattle.sqs_model.proofs.Early.{message_early, poll_early, sample_early, task_early}
 use Rattle.sqs_model.proofs.Effects.{KeepsCore, KeepsEffect, after_core, and_then_keeps, came_back_keeps, latency_least, no_effect_keeps, polls_keep, queue_keeps, task_keeps, with_rows}
 use Rattle.sqs_model.proofs.QueueMoves.{Keeps, arrived_keeps, keeps_less, released_one, take_keeps, taken_found}
-use Rattle.sqs_model.proofs.TurnMoves.{polls_answered_keep, told_keeps, wake_keeps}
+use Rattle.sqs_model.proofs.TurnMoves.{polls_answered_keep, task_time, told_keeps, wake_keeps}
 
 -- messages that a task moves leave its number and settings, and arrive later
 record Sends (key : Key) (t : Task) (m : Moved) : Type 0 where

@@ -1,26 +1,53 @@
--- An actor's turn, act after act, and the answers to waiting polls make nothing due by the present.
-use Rattle.std.specs.Prelude.{Bool, List, None, Option, Some, [], drop, false, min, suc, take, true, zero, ℕ, ◌∷◌, ◌≡◌, ◌≤◌}
-use Rattle.std.proofs.Common.{arith, inl, inr, refl, subst, sym}
-use Rattle.std.proofs.lemmas.Bool.{eq-eqb, eqb-true}
+-- An actor's turn, act after act, and the answers to waiting polls make nothing due by the present, and send only what arrives later.
 use Rattle.sim_clock.specs.declared.key.Key.{Key}
-use Rattle.sqs_model.specs.declared.acts.Act.{Act}
-use Rattle.sqs_model.specs.declared.acts.Act.TheVariants as acts
-use Rattle.sqs_model.specs.declared.acts.Answer.{Answer}
-use Rattle.sqs_model.specs.declared.acts.Answer.TheVariants as told_by
+use Rattle.sim_clock.specs.declared.refusal.Refusal.{Refusal}
+use Rattle.sqs_model.proofs.ActorMoves.{Acts, IsWakeWhere, next_acts, IsLater}
+use Rattle.sqs_model.proofs.CoreLaws.{leaves_same}
+use Rattle.sqs_model.proofs.Counts.{find_all, find_changed, find_picked, tick, total_drop, tick_past, total, total_push}
+use Rattle.sqs_model.proofs.Early.{poll_early, task_early}
+use Rattle.sqs_model.proofs.Effects.{KeepsCore, KeepsEffect, actor_keeps, after_core, came_back_keeps, polls_keep, queue_keeps, sound_drawn, task_keeps, with_rows, same_core}
+use Rattle.sqs_model.proofs.QueueMoves.{Keeps, change_keeps, delete_keeps, send_fifo_keeps, send_standard_keeps, give_keeps}
+use Rattle.sqs_model.proofs.Sending.{Sends}
+use Rattle.sqs_model.proofs.Walk.{Changes, Gives, TurnLaw, lefts, most_goes, next_goes, polls_go}
 use Rattle.sqs_model.specs.Actor.{Actor, next}
-use Rattle.sqs_model.specs.Acts.{act_made, given}
-use Rattle.sqs_model.specs.Available.{all_hosts, available}
-use Rattle.sqs_model.specs.Polls.{acts_found, acts_most, acts_next, answer_polls, answer_when, can_give, continued, poll_answered, poll_given, told, without_poll}
-use Rattle.sqs_model.specs.Progress.{IsSound, IsSoundActor}
-use Rattle.sqs_model.specs.Queue.{room}
-use Rattle.sqs_model.specs.Receive.{timeout_of}
-use Rattle.sqs_model.specs.Site.{Core, Effect, Poll, actor_numbered, is_actor, with_actor}
-use Rattle.sqs_model.proofs.ActMoves.{act_keeps, given_keeps}
-use Rattle.sqs_model.proofs.ActorMoves.{Acts, IsWakeWhere, SendsLater, next_acts}
-use Rattle.sqs_model.proofs.Counts.{find_all, find_changed, find_picked, tick, total_drop}
-use Rattle.sqs_model.proofs.Early.{poll_early}
-use Rattle.sqs_model.proofs.Effects.{KeepsCore, KeepsEffect, actor_keeps, after_core, and_then_keeps, no_effect_keeps, polls_keep, with_rows}
-use Rattle.sqs_model.proofs.QueueMoves.{Keeps, give_keeps}
+use Rattle.sqs_model.specs.Acts.{came_back, sends, with_poll}
+use Rattle.sqs_model.specs.Calls.{change, delete}
+use Rattle.sqs_model.specs.Draw.{drawn_uniform}
+use Rattle.sqs_model.specs.Polls.{acts_found, acts_most, answer_polls, told, without_poll}
+use Rattle.sqs_model.specs.Progress.{IsSound, IsSoundActor, IsSoundQueue, TakesTime, WakesFor}
+use Rattle.sqs_model.specs.Queue.{Queue}
+use Rattle.sqs_model.specs.Receive.{timeout_of, to_give, give_most}
+use Rattle.sqs_model.specs.Site.{Core, Poll, actor_numbered, is_task, task_numbered, with_actor, with_queue, with_task, is_actor}
+use Rattle.sqs_model.specs.Task.{Task}
+use Rattle.sqs_model.specs.declared.acts.Act.{Act}
+use Rattle.sqs_model.specs.declared.acts.Answer.{Answer}
+use Rattle.sqs_model.specs.declared.agents.Role.{Role}
+use Rattle.sqs_model.specs.declared.agents.Role.TheVariants.{Consumer, Producer, Script}
+use Rattle.sqs_redrive.specs.MoveTasks.{task_started}
+use Rattle.sqs_redrive.specs.declared.answers.Got.{Got}
+use Rattle.sqs_redrive.specs.declared.settings.Kind.{Kind}
+use Rattle.sqs_redrive.specs.declared.settings.Kind.TheVariants.{Fifo, Standard}
+use Rattle.sqs_redrive.specs.declared.settings.TaskStatus.TheVariants.{Cancelled}
+use Rattle.sqs_redrive.specs.declared.transfers.Load.{Load}
+use Rattle.sqs_redrive.specs.declared.transfers.Outbound.{Outbound}
+use Rattle.std.proofs.Common.{arith, inl, inr, refl, subst, sym}
+use Rattle.std.proofs.lemmas.Bool.{eq-eqb, eqb-true, eqb-false}
+use Rattle.std.proofs.lemmas.List.Elements.{All-append, All-cons, All-nil}
+use Rattle.std.specs.Prelude.{find, Err, List, Ok, Option, Result, Some, [], false, ℕ, ◌*◌, ◌+◌, ◌++◌, ◌<◌, ◌==◌, ◌∷◌, ◌≡◌, ◌≤◌, drop}
+use Rattle.sqs_model.specs.declared.acts.Answer.TheVariants as told_by
+
+-- a script's wake is for its next call, however many polls it had
+polls_wake : (r : Role) (a : Actor) (n : ℕ) → WakesFor r a → WakesFor r (record a { polls = n })
+polls_wake (Script script) a n w = w
+polls_wake (Producer p) a n w = w
+polls_wake (Consumer c) a n w = w
+
+-- a task that was found by a number is the one of its own number
+task_own : (c : Core) (n : ℕ) (t : Task) → task_numbered n c ≡ Some t → task_numbered t.number c ≡ Some t
+task_own c n t h = let k : t.number ≡ n = eqb-true t.number n (find_picked (is_task n) c.tasks t h) in subst (λ (j : ℕ). task_numbered j c ≡ Some t) (sym k) h
+
+pub task_time : (c : Core) (n : ℕ) (t : Task) → IsSound c → task_numbered n c ≡ Some t → TakesTime t.move.settings.latency
+task_time c n t s h = find_all (is_task n) (λ x. TakesTime x.move.settings.latency) c.tasks t s.tasks h
 
 -- an actor that was found by a number is the one of its own number
 actor_own : (c : Core) (n : ℕ) (a : Actor) → actor_numbered n c ≡ Some a → actor_numbered a.number c ≡ Some a
@@ -33,43 +60,38 @@ actor_back c a b h n =
     find_changed (is_actor b.number) (λ _. b) c.actors a k (eq-eqb b.number b.number refl)
 
 module _ (key : Key) (e : ℕ) (l : e ≤ key.at) where
-  -- what an answer leads to
-  abbrev pub MoreKeeps : (Answer → Core → Effect) → Type 0
-  MoreKeeps more = (answer : Answer) (d : Core) → IsSound d → KeepsEffect key e 0 d (more answer d)
+  sends_keeps :
+      (k : Kind) (q : Queue) (body : List ℕ) (delay : Option ℕ) (group id : Option (List ℕ)) → IsSoundQueue q
+      → Keeps e 0 q (sends k q key.at body delay group id).1
+  sends_keeps (Standard hosts sampled) q body delay group id s = send_standard_keeps key.at e l q body delay s
+  sends_keeps (Fifo content scope) q body delay group id s = send_fifo_keeps key.at e l q content scope body group id delay s
 
-  continued_keeps :
-      (gone : ℕ) (more : Answer → Core → Effect) (c : Core) (a b : Actor) (act : Act) → MoreKeeps more → actor_numbered a.number c ≡ Some a
-      → KeepsCore e gone c (with_actor c b) → b.number ≡ a.number → IsSoundActor b → SendsLater key.at act
-      → KeepsEffect key e gone c (continued more (act_made key b (with_actor c b) act))
-  continued_keeps gone more c a b act m h d n s t =
-      let f : KeepsEffect key e 0 (with_actor c b) (act_made key b (with_actor c b) act).effect = act_keeps key e l b (with_actor c b) act d.sound s (actor_back c a b h n) t in
-      after_core key e gone c (with_actor c b) (continued more (act_made key b (with_actor c b) act)) d
-      (and_then_keeps key e 0 (with_actor c b) (act_made key b (with_actor c b) act).effect (more (act_made key b (with_actor c b) act).answer) f (m (act_made key b (with_actor c b) act).answer))
+  with_poll_keeps :
+      (a : Actor) (c : Core) (max wait : ℕ) (timeout : Option ℕ) → IsSound c → IsSoundActor a → actor_numbered a.number c ≡ Some a → (wait == 0) ≡ false
+      → KeepsCore e 0 c (with_poll key a c max wait timeout)
+  with_poll_keeps a c max wait timeout s k h z =
+      let w : 0 < wait = grind (arith, eqb-false wait 0 z) in
+      let p : Poll = record { actor = a.number; number = a.polls; max = max; timeout = timeout; end = key.at + 1000 * wait } in
+      let b : Actor = record a { polls = a.polls + 1 } in
+      let j : IsSoundActor b = record { role = k.role; wakes = polls_wake a.settings.role a (a.polls + 1) k.wakes } in
+      let d : KeepsCore e 0 c (with_actor c b) = actor_keeps e 0 c b a s h j (omega arith) in
+      let t : tick e (key.at + 1000 * wait) ≡ 0 = tick_past e (key.at + 1000 * wait) (omega arith) in
+      let u : total (poll_early e) (c.polls ++ p ∷ []) ≡ total (poll_early e) c.polls + poll_early e p = total_push (poll_early e) c.polls p in
+      let f : KeepsCore e 0 (with_actor c b) (record (with_actor c b) { polls = c.polls ++ p ∷ [] }) = polls_keep e 0 (with_actor c b) (c.polls ++ p ∷ []) d.sound (omega arith) in
+      record { sound = f.sound; fewer = omega arith }
 
-  next_keeps :
-      (gone : ℕ) (more : Answer → Core → Effect) (c : Core) (a b : Actor) (act : Act) → MoreKeeps more → actor_numbered a.number c ≡ Some a
-      → KeepsCore e gone c (with_actor c b) → b.number ≡ a.number → IsSoundActor b → SendsLater key.at act
-      → KeepsEffect key e gone c (acts_next more key c (act, b))
-  next_keeps gone more c a b (acts.Send body delay group id) m h d n s t = continued_keeps gone more c a b (acts.Send body delay group id) m h d n s t
-  next_keeps gone more c a b (acts.Receive max wait timeout) m h d n s t = continued_keeps gone more c a b (acts.Receive max wait timeout) m h d n s t
-  next_keeps gone more c a b (acts.Delete text) m h d n s t = continued_keeps gone more c a b (acts.Delete text) m h d n s t
-  next_keeps gone more c a b (acts.Change text timeout) m h d n s t = continued_keeps gone more c a b (acts.Change text timeout) m h d n s t
-  next_keeps gone more c a b (acts.Prolong text timeout) m h d n s t = continued_keeps gone more c a b (acts.Prolong text timeout) m h d n s t
-  next_keeps gone more c a b (acts.Start task) m h d n s t = continued_keeps gone more c a b (acts.Start task) m h d n s t
-  next_keeps gone more c a b (acts.Cancel task) m h d n s t = continued_keeps gone more c a b (acts.Cancel task) m h d n s t
-  next_keeps gone more c a b (acts.Serve id receipt failed forward) m h d n s t = continued_keeps gone more c a b (acts.Serve id receipt failed forward) m h d n s t
-  next_keeps gone more c a b acts.Nothing m h d n s t = with_rows key e gone c (with_actor c b) [] d
+  tasks_keep : (c : Core) (n : ℕ) (t u : Task) → IsSound c → task_numbered n c ≡ Some t → u.number ≡ t.number → u.move.settings ≡ t.move.settings → task_early e u ≡ 0 → KeepsCore e 0 c (with_task c u)
+  tasks_keep c n t u s h i j z =
+      let own : task_numbered u.number c ≡ Some t = subst (λ (k : ℕ). task_numbered k c ≡ Some t) (sym i) (task_own c n t h) in
+      let time : TakesTime u.move.settings.latency = subst (λ (x : _). TakesTime x.latency) (sym j) (task_time c n t s h) in
+      task_keeps e 0 c u t s own time (omega arith)
 
-  found_keeps :
-      (gone n : ℕ) (more : Answer → Core → Effect) (answer : Answer) (c : Core) (a : Actor) → MoreKeeps more → IsSound c → actor_numbered n c ≡ Some a
-      → IsWakeWhere key.at e gone a answer → KeepsEffect key e gone c (acts_next more key c (next a key.at answer))
-  found_keeps gone n more answer c a m s h g =
-      let own : actor_numbered a.number c ≡ Some a = actor_own c n a h in
+  turn_keeps : (gone n : ℕ) (answer : Answer) (c : Core) (a : Actor) → IsSound c → actor_numbered n c ≡ Some a → IsWakeWhere key.at e gone a answer → KeepsCore e gone c (with_actor c (next a key.at answer).1)
+  turn_keeps gone n answer c a s h g =
       let sound : IsSoundActor a = find_all (is_actor n) IsSoundActor c.actors a s.actors h in
       let x : Acts key.at e gone a (next a key.at answer) = next_acts key.at e l gone a answer sound g in
-      let same : actor_numbered (next a key.at answer).1.number c ≡ Some a = subst (λ (j : ℕ). actor_numbered j c ≡ Some a) (sym x.number) own in
-      let d : KeepsCore e gone c (with_actor c (next a key.at answer).1) = actor_keeps e gone c (next a key.at answer).1 a s same x.sound x.wake in
-      next_keeps gone more c a (next a key.at answer).1 (next a key.at answer).0 m own d x.number x.sound x.sends
+      let same : actor_numbered (next a key.at answer).1.number c ≡ Some a = subst (λ (j : ℕ). actor_numbered j c ≡ Some a) (sym x.number) (actor_own c n a h) in
+      actor_keeps e gone c (next a key.at answer).1 a s same x.sound x.wake
 
   none_gone : (a : Actor) (answer : Answer) → IsWakeWhere key.at e 0 a answer
   none_gone a told_by.Wake = inl refl
@@ -77,40 +99,76 @@ module _ (key : Key) (e : ℕ) (l : e ≤ key.at) where
   none_gone a told_by.Waiting = refl
   none_gone a told_by.Other = refl
 
-  if_found_keeps :
-      (n : ℕ) (more : Answer → Core → Effect) (answer : Answer) (c : Core) (o : Option Actor) → MoreKeeps more → IsSound c → actor_numbered n c ≡ o
-      → KeepsEffect key e 0 c (acts_found more key answer c o)
-  if_found_keeps n more answer c None m s h = no_effect_keeps key e c s
-  if_found_keeps n more answer c (Some a) m s h = found_keeps 0 n more answer c a m s h (none_gone a answer)
+  -- what an actor may do that stands among these, after its turn
+  abbrev Stands : List Actor → Actor → Type 0
+  Stands actors a = IsSoundActor a × (find (is_actor a.number) actors ≡ Some a)
 
-  most_keep : (most n : ℕ) (answer : Answer) (c : Core) → IsSound c → KeepsEffect key e 0 c (acts_most most key n answer c)
-  most_keep zero n answer c s = no_effect_keeps key e c s
-  most_keep (suc most) n answer c s = if_found_keeps n (acts_most most key n) answer c (actor_numbered n c) (most_keep most n) s refl
+  turn_stands : (gone n : ℕ) (answer : Answer) (c : Core) (a : Actor) → IsSound c → actor_numbered n c ≡ Some a → IsWakeWhere key.at e gone a answer → Stands (with_actor c (next a key.at answer).1).actors (next a key.at answer).1 × Sends (IsLater key.at) (next a key.at answer).0
+  turn_stands gone n answer c a s h g =
+      let sound : IsSoundActor a = find_all (is_actor n) IsSoundActor c.actors a s.actors h in
+      let x : Acts key.at e gone a (next a key.at answer) = next_acts key.at e l gone a answer sound g in
+      ((x.sound, actor_back c a (next a key.at answer).1 (actor_own c n a h) x.number), x.sends)
+
+  -- a site that came of another, and then of that
+  module _ (from : Core) (gone : ℕ) where
+    then_core : (c d : Core) → KeepsCore e gone from c → KeepsCore e 0 c d → KeepsCore e gone from d
+    then_core c d h k = record { sound = k.sound; fewer = omega (arith, h.fewer, k.fewer) }
+
+    then_queue : (c : Core) (q : Queue) → KeepsCore e gone from c → Keeps e 0 c.queue q → KeepsCore e gone from (with_queue c q)
+    then_queue c q h k = then_core c (with_queue c q) h (queue_keeps e 0 c q h.sound k)
+
+    changed_at : (c : Core) (timeout : ℕ) (x : Result (Option Load) Refusal × Queue) → KeepsCore e gone from (with_queue c x.1) → Changes (λ _ d. KeepsCore e gone from d) c timeout x
+    changed_at c timeout (Err f, q) h = tt
+    changed_at c timeout (Ok left, q) h = leaves_same (KeepsCore e gone from) (with_queue c q) (timeout == 0) (left ∷ []) h
+
+    given_at : (c : Core) (timeout : Option ℕ) (x : Queue × List Got) → KeepsCore e gone from (with_queue c x.0) → Gives (λ _ d. KeepsCore e gone from d) c timeout x
+    given_at c timeout (q, gots) h = leaves_same (KeepsCore e gone from) (with_queue c q) (timeout_of q timeout == 0) (lefts gots) h
+
+    -- the law of turns
+    abbrev moves : TurnLaw key
+    moves =
+        record {
+          Past = Unit {0};
+          At = λ _ ls c. KeepsCore e gone from c;
+          Goes = λ _ ls f. KeepsEffect key e gone from f;
+          after = λ _ _. tt;
+          done = λ _ ls f h. record { sound = h.sound; fewer = h.fewer };
+          joins = λ _ ls ms f g h k. record { sound = k.sound; fewer = k.fewer; later = All-append (λ (o : Outbound). key.at < o.at) f.sent (g f.core).sent h.later k.later };
+          quiet = λ _ ls ms c d rows h r k. with_rows key e gone from d rows k;
+          stays = λ _ ls c h. h;
+          leaves = λ _ ls c n load h. after_core key e gone from c (came_back key c n (Some load)) h (came_back_keeps key e l c n (Some load) h.sound);
+          gives = λ _ c max timeout set h. given_at c timeout (give_most c.queue key.at max timeout set) (then_queue c _ h (give_keeps key.at e l (timeout_of c.queue timeout) (to_give c.queue max set) c.queue h.sound.queue));
+          changes = λ _ c r timeout h. changed_at c timeout (change c.queue key.at r timeout) (then_queue c _ h (change_keeps key.at e l c.queue r timeout h.sound.queue));
+          deletes = λ _ a c text r h. with_rows key e gone from (with_queue c (delete c.queue key.at r).1) _ (then_queue c _ h (delete_keeps key.at e l c.queue c.queue.settings.kind r h.sound.queue));
+          sends = λ _ a c body delay group id h.
+              let q : Queue = (sends c.queue.settings.kind c.queue key.at body delay group id).1 in
+              with_rows key e gone from (with_queue c q) _ (then_queue c q h (sends_keeps c.queue.settings.kind c.queue body delay group id h.sound.queue));
+          draws = λ _ c hosts h. record { sound = sound_drawn c (drawn_uniform 0 hosts c.draws).1 h.sound; fewer = h.fewer };
+          starts = λ _ c n t i h. let u : Task = record t { move = task_started t.move key.at } in then_core c (with_task c u) h (tasks_keep c n t u h.sound i refl refl (tick_past e (key.at + 1000) (omega arith)));
+          cancels = λ _ c n t i h. let u : Task = record t { move = record t.move { status = Cancelled } } in then_core c (with_task c u) h (tasks_keep c n t u h.sound i refl refl refl);
+          Stands = Stands;
+          Sent = IsLater key.at;
+          turns = λ _ n c a w i h.
+              let s = turn_stands 0 n w c a h.sound i (none_gone a w) in
+              (then_core c (with_actor c (next a key.at w).1) h (turn_keeps 0 n w c a h.sound i (none_gone a w)), s.0, s.1);
+          polls = λ _ a c max wait timeout z s h. then_core c (with_poll key a c max wait timeout) h (with_poll_keeps a c max wait timeout h.sound s.0 s.1 z);
+          forwards = λ _ a c id o s h. record { sound = h.sound; fewer = h.fewer; later = All-cons (λ (x : Outbound). key.at < x.at) o [] s (All-nil (λ (x : Outbound). key.at < x.at)) };
+        }
+
+    without_keeps : (c : Core) → KeepsCore e gone from c → KeepsCore e gone from (without_poll c)
+    without_keeps c h = then_core c (without_poll c) h (polls_keep e 0 c (drop 1 c.polls) h.sound (omega (arith, total_drop (poll_early e) c.polls)))
 
   pub told_keeps : (n : ℕ) (answer : Answer) (c : Core) → IsSound c → KeepsEffect key e 0 c (told key n answer c)
-  told_keeps n answer c s = most_keep 3 n answer c s
+  told_keeps n answer c s = most_goes key (moves c 0) 3 n answer tt c (same_core e c s)
 
   -- an actor that wakes at the present
   pub wake_keeps : (n : ℕ) (c : Core) (a : Actor) → IsSound c → actor_numbered n c ≡ Some a → a.wake ≡ Some key.at → KeepsEffect key e (tick e key.at) c (told key n told_by.Wake c)
   wake_keeps n c a s h w =
-      subst (λ (o : Option Actor). KeepsEffect key e (tick e key.at) c (acts_found (acts_most 2 key n) key told_by.Wake c o)) (sym h)
-      (found_keeps (tick e key.at) n (acts_most 2 key n) told_by.Wake c a (most_keep 2 n) s h (inr (w, refl)))
-
-  -- waiting polls
-  poll_keeps : (p : Poll) (c : Core) → IsSound c → KeepsEffect key e 0 c (poll_answered key p c (poll_given key p c.queue))
-  poll_keeps p c s =
-      let d : KeepsCore e 0 c (without_poll c) = polls_keep e 0 c (drop 1 c.polls) s (omega (arith, total_drop (poll_early e) c.polls)) in
-      let k : Keeps e 0 c.queue (poll_given key p c.queue).0 =
-      give_keeps key.at e l (timeout_of c.queue p.timeout) (take (min p.max (room c.queue)) (available c.queue (all_hosts c.queue.settings.kind))) c.queue s.queue in
-      let f : KeepsEffect key e 0 (without_poll c) (given key (without_poll c) p.actor p.timeout (poll_given key p c.queue)) = given_keeps key e l (without_poll c) p.actor p.timeout (poll_given key p c.queue) d.sound k in
-      after_core key e 0 c (without_poll c) (poll_answered key p c (poll_given key p c.queue)) d
-      (and_then_keeps key e 0 (without_poll c) (given key (without_poll c) p.actor p.timeout (poll_given key p c.queue))
-      (told key p.actor (told_by.Got (poll_given key p c.queue).1)) f (told_keeps p.actor (told_by.Got (poll_given key p c.queue).1)))
-
-  when_keeps : (b : Bool) (p : Poll) (others : Core → Effect) (c : Core) → IsSound c → ((d : Core) → IsSound d → KeepsEffect key e 0 d (others d)) → KeepsEffect key e 0 c (answer_when b key p others c)
-  when_keeps true p others c s k = and_then_keeps key e 0 c (poll_answered key p c (poll_given key p c.queue)) others (poll_keeps p c s) k
-  when_keeps false p others c s k = no_effect_keeps key e c s
+      let gone : ℕ = tick e key.at in
+      let x : Act × Actor = next a key.at told_by.Wake in
+      let t = turn_stands gone n told_by.Wake c a s h (inr (w, refl)) in
+      subst (λ (o : Option Actor). KeepsEffect key e gone c (acts_found (acts_most 2 key n) key told_by.Wake c o)) (sym h)
+      (next_goes key (moves c gone) (acts_most 2 key n) tt c x.0 x.1 (most_goes key (moves c gone) 2 n) t.0 t.1 (turn_keeps gone n told_by.Wake c a s h (inr (w, refl))))
 
   pub polls_answered_keep : (ps : List Poll) (c : Core) → IsSound c → KeepsEffect key e 0 c (answer_polls key ps c)
-  polls_answered_keep [] c s = no_effect_keeps key e c s
-  polls_answered_keep (p ∷ ps) c s = when_keeps (can_give c.queue) p (answer_polls key ps) c s (polls_answered_keep ps)
+  polls_answered_keep ps c s = polls_go key (moves c 0) (λ _ d h. without_keeps c 0 d h) ps tt c (same_core e c s)

@@ -199,14 +199,7 @@ next_same : (f g : Answer → Core → Effect) (more : Actor → Answer → Type
     → ((w : Answer) (d : Core) → ((y : Actor) → actor_numbered n d ≡ Some y → more y w) → f w d ≡ g w d)
     → IsOverAfter more (x, a) → acts_next f key c (x, a) ≡ acts_next g key c (x, a)
 next_same f g more key n c acts.Nothing a e h o = refl
-next_same f g more key n c (acts.Send body delay group id) a e h o = on_same f g more key n c (acts.Send body delay group id) a e h o
-next_same f g more key n c (acts.Receive max wait timeout) a e h o = on_same f g more key n c (acts.Receive max wait timeout) a e h o
-next_same f g more key n c (acts.Delete text) a e h o = on_same f g more key n c (acts.Delete text) a e h o
-next_same f g more key n c (acts.Change text timeout) a e h o = on_same f g more key n c (acts.Change text timeout) a e h o
-next_same f g more key n c (acts.Prolong text timeout) a e h o = on_same f g more key n c (acts.Prolong text timeout) a e h o
-next_same f g more key n c (acts.Start task) a e h o = on_same f g more key n c (acts.Start task) a e h o
-next_same f g more key n c (acts.Cancel task) a e h o = on_same f g more key n c (acts.Cancel task) a e h o
-next_same f g more key n c (acts.Serve id r failed forward) a e h o = on_same f g more key n c (acts.Serve id r failed forward) a e h o
+next_same f g more key n c act a e h o = on_same f g more key n c act a e h o
 
 none_same : (more : ℕ) (key : Key) (n : ℕ) (w : Answer) (c : Core) → actor_numbered n c ≡ None → acts_most more key n w c ≡ no_effect c
 none_same zero key n w c e = refl
@@ -305,15 +298,8 @@ answer_over k now c x told_by.Other e h = over_by (suc k) now x told_by.Other (C
 
 -- whatever a consumer does when it wakes
 any_over : (now : ℕ) (c : ConsumerSettings) (act : Act) (a : Actor) → a.settings.role ≡ Consumer c → IsOverAfter (IsOver 2 now) (act, a)
-any_over now c (acts.Send body delay group id) a e = λ x w h l. answer_over 0 now c x w (role_left a x l ∙ e) h
-any_over now c (acts.Receive most wait timeout) a e = λ x w h l. answer_over 0 now c x w (role_left a x l ∙ e) h
-any_over now c (acts.Delete text) a e = λ x w h l. answer_over 0 now c x w (role_left a x l ∙ e) h
-any_over now c (acts.Change text timeout) a e = λ x w h l. answer_over 0 now c x w (role_left a x l ∙ e) h
-any_over now c (acts.Prolong text timeout) a e = λ x w h l. answer_over 0 now c x w (role_left a x l ∙ e) h
-any_over now c (acts.Start task) a e = λ x w h l. answer_over 0 now c x w (role_left a x l ∙ e) h
-any_over now c (acts.Cancel task) a e = λ x w h l. answer_over 0 now c x w (role_left a x l ∙ e) h
-any_over now c (acts.Serve id receipt failed forward) a e = λ x w h l. answer_over 0 now c x w (role_left a x l ∙ e) h
 any_over now c acts.Nothing a e = tt
+any_over now c act a e = λ x w h l. answer_over 0 now c x w (role_left a x l ∙ e) h
 
 wake_over : (now : ℕ) (c : ConsumerSettings) (a : Actor) (gs : List Got) → a.settings.role ≡ Consumer c → IsOverAfter (IsOver 2 now) (consumer_wake a c now gs)
 wake_over now c a gs e =

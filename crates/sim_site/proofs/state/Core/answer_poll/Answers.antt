@@ -37,7 +37,7 @@ told-requires-clause-recent c =
     let after : IsRecent key.at q = received_recent c.self.inside.queue q key.at c.poll.inside.max c.poll.inside.timeout c.all_hosts_of-set.result false _ c.in_ok-gots.ensures.received before in
     let mid : Core = record (the_view c.self.inside) { queue = q; polls = c.drop_first.new.self } in
     did_recent key.at c.args.effects.now c.give.new.effects c.give.new.self (given key mid c.poll.inside.actor c.poll.inside.timeout (q, c.as_slice.result.now)) c.in_ok-give.ensures.did
-    (given_recent key mid c.poll.inside.actor c.poll.inside.timeout (q, c.as_slice.result.now) after)
+    (given_recent key mid c.poll.inside.actor c.poll.inside.timeout (q, c.as_slice.result.now) after after)
 
 pub returns-in_err-gots-clause-stops : goal.returns-in_err-gots-clause-stops
 returns-in_err-gots-clause-stops c =

@@ -1,0 +1,345 @@
+-- Laws of a handling, and the one walk over the definitions of a handling. A new act, call or class of events has its case here,
+-- and a law that is an instance of the records below needs none of its own.
+use Rattle.std.specs.List.{list_any}
+use Rattle.std.specs.Prelude.{Bool, Err, List, None, Ok, Option, Result, Some, [], false, find, if◌then◌else◌, map, suc, true, unwrap_or, zero, ℕ, ◌-◌, ◌/◌, ◌+◌, ◌==◌, ◌∷◌, ◌≡◌}
+use Rattle.std.proofs.Common.{refl}
+use Rattle.sim_clock.specs.declared.key.Class.{Class}
+use Rattle.sim_clock.specs.declared.key.Class.TheVariants as classes
+use Rattle.sim_clock.specs.declared.key.Key.{Key}
+use Rattle.sim_clock.specs.declared.refusal.Refusal.{Refusal}
+use Rattle.sim_clock.specs.declared.refusal.Refusal.TheVariants as refusals
+use Rattle.sim_clock.specs.Firsts.{without}
+use Rattle.sqs_message.specs.declared.ids.MessageId.{MessageId}
+use Rattle.sqs_message.specs.declared.ids.Origin.{Origin}
+use Rattle.sqs_message.specs.declared.ids.Receipt.{Receipt}
+use Rattle.sqs_message.specs.declared.row.Detail.TheVariants as details
+use Rattle.sqs_message.specs.declared.row.Row.{Row}
+use Rattle.sqs_message.specs.declared.row.RowAnswer.TheVariants as answers
+use Rattle.sqs_message.specs.declared.row.RowKind.TheVariants as kinds
+use Rattle.sqs_message.specs.Ids.{read_receipt}
+use Rattle.sqs_redrive.specs.MoveTasks.{MoveTask, is_running, task_started}
+use Rattle.sqs_redrive.specs.declared.answers.Got.{Got}
+use Rattle.sqs_redrive.specs.declared.settings.Kind.{Kind}
+use Rattle.sqs_redrive.specs.declared.settings.Kind.TheVariants.{Fifo, Standard}
+use Rattle.sqs_redrive.specs.declared.settings.TaskStatus.TheVariants.{Cancelled}
+use Rattle.sqs_redrive.specs.declared.transfers.Load.{Load}
+use Rattle.sqs_redrive.specs.declared.transfers.Outbound.{Outbound}
+use Rattle.sqs_model.specs.declared.acts.Act.{Act}
+use Rattle.sqs_model.specs.declared.acts.Act.TheVariants as acts
+use Rattle.sqs_model.specs.declared.acts.Answer.{Answer}
+use Rattle.sqs_model.specs.declared.acts.Answer.TheVariants as told_by
+use Rattle.sqs_model.specs.Actor.{Actor, next}
+use Rattle.sqs_model.specs.Acts.{Made, act_made, all_came_back, came_back, cancel_done, cancel_made, change_answered, change_made, change_row, delete_done, delete_made, forward_row, given, got_row, long_poll, made, receive_as, receive_made, receive_none, receive_row, receive_some, redrive_by, runs, send_made, sends, serve_made, short_poll, start_made, task_row, with_poll}
+use Rattle.sqs_model.specs.Arrive.{arrived}
+use Rattle.sqs_model.specs.Available.{all_hosts}
+use Rattle.sqs_model.specs.Calls.{change, delete}
+use Rattle.sqs_model.specs.Draw.{Draws, drawn_uniform}
+use Rattle.sqs_model.specs.Polls.{acts_found, acts_most, acts_next, answer_polls, answer_when, can_give, poll_answered, poll_given, told, without_poll}
+use Rattle.sqs_model.specs.Queue.{Queue, id_of}
+use Rattle.sqs_model.specs.Receive.{give_most, timeout_of}
+use Rattle.sqs_model.specs.Return.{released}
+use Rattle.sqs_model.specs.Site.{Core, Effect, Poll, Site, actor_numbered, and_then, has_key, no_effect, number_of, says, task_numbered, with_actor, with_queue, with_task}
+use Rattle.sqs_model.specs.Step.{Handled, arrival_done, ends_at, handle_arrival, handle_class, handle_expiry, handle_step, handled, handled_when, is_arrival, with_polls}
+use Rattle.sqs_model.specs.Task.{Task}
+use Rattle.sqs_model.proofs.Answered.{receive_by}
+use Rattle.sqs_model.proofs.Branches.{either, either_by}
+use Rattle.sqs_model.proofs.Ledger.{marks}
+use Rattle.sqs_model.proofs.Sending.{Sends}
+
+-- a row of this handling at this site that tells of no message that came or went
+pub record IsPlain (key : Key) (c : Core) (r : Row) : Type 0 where
+  pub at_key : r.key ≡ key
+  pub at_site : r.queue ≡ number_of c
+  pub silent : (o : Origin) → marks o r ≡ false
+
+abbrev pub ArePlain : Key → Core → List Row → Type 0
+ArePlain key c [] = Unit {0}
+ArePlain key c (r ∷ rs) = IsPlain key c r × ArePlain key c rs
+
+-- of each message that a receive gave, the load that left the queue at once, if it did
+abbrev pub lefts : List Got → List (Option Load)
+lefts [] = []
+lefts (g ∷ gs) = g.left ∷ lefts gs
+
+-- what holds of a site while these loads are still to be told, or none of them where nothing came back
+abbrev pub Leaves : (List (Option Load) → Core → Type 0) → Core → Bool → List (Option Load) → Type 0
+Leaves P c true ls = P ls c
+Leaves P c false ls = P [] c
+
+pub leaves_by : (P : List (Option Load) → Core → Type 0) (c : Core) (b : Bool) (ls : List (Option Load)) → (b ≡ true → P ls c) → (b ≡ false → P [] c) → Leaves P c b ls
+leaves_by P c true ls h k = h refl
+leaves_by P c false ls h k = k refl
+
+-- the same after a receive that gave messages, and after a change of visibility: with a timeout of 0 they come back at once
+abbrev pub Gives : (List (Option Load) → Core → Type 0) → Core → Option ℕ → Queue × List Got → Type 0
+Gives P c timeout (q, gots) = Leaves P (with_queue c q) (timeout_of q timeout == 0) (lefts gots)
+
+abbrev pub Changes : (List (Option Load) → Core → Type 0) → Core → ℕ → Result (Option Load) Refusal × Queue → Type 0
+Changes P c timeout (Err e, q) = Unit {0}
+Changes P c timeout (Ok left, q) = Leaves P (with_queue c q) (timeout == 0) (left ∷ [])
+
+-- A law of turns. `At past loads site` is what holds of a site after what was done so far, while these loads have left its queue
+-- and no row has told of them yet. `Goes past loads effect` is what holds of an effect that began after what was done so far, and
+-- leaves these loads to be told. Each other field is one way in which a turn changes a site, and says that it keeps the law.
+pub record TurnLaw (key : Key) : Type 1 where
+  -- what was done so far; an effect leaves a site at which the law holds, and effects follow one another
+  pub Past : Type 0
+  pub At : Past → List (Option Load) → Core → Type 0
+  pub Goes : Past → List (Option Load) → Effect → Type 0
+  pub after : Past → Effect → Past
+  pub done : (p : Past) (ls : List (Option Load)) (e : Effect) → Goes p ls e → At (after p e) ls e.core
+  pub joins :
+      (p : Past) (ls ms : List (Option Load)) (e : Effect) (f : Core → Effect) → Goes p ls e → Goes (after p e) ms (f e.core) → Goes p ms (and_then e f)
+  -- rows that tell of no message that came or went, with any change of the site that keeps the law
+  pub quiet :
+      (p : Past) (ls ms : List (Option Load)) (c d : Core) (rows : List Row) → At p ls c → ArePlain key c rows → At p ms d
+      → Goes p ms (record { core = d; rows = rows; sent = [] })
+  -- a message that came back stays, or leaves for the dead-letter queue
+  pub stays : (p : Past) (ls : List (Option Load)) (c : Core) → At p (None ∷ ls) c → At p ls c
+  pub leaves : (p : Past) (ls : List (Option Load)) (c : Core) (n : ℕ) (load : Load) → At p (Some load ∷ ls) c → Goes p ls (redrive_by c.queue.settings.policy key c n load)
+  -- calls of a queue, each as a whole
+  pub gives : (p : Past) (c : Core) (max : ℕ) (timeout : Option ℕ) (set : ℕ) → At p [] c → Gives (At p) c timeout (give_most c.queue key.at max timeout set)
+  pub changes : (p : Past) (c : Core) (r : Receipt) (timeout : ℕ) → At p [] c → Changes (At p) c timeout (change c.queue key.at r timeout)
+  pub deletes : (p : Past) (a : Actor) (c : Core) (text : List ℕ) (r : Receipt) → At p [] c → Goes p [] (delete_done key a c text r (delete c.queue key.at r)).effect
+  pub sends :
+      (p : Past) (a : Actor) (c : Core) (body : List ℕ) (delay : Option ℕ) (group id : Option (List ℕ)) → At p [] c
+      → Goes p [] (send_made key a c body (sends c.queue.settings.kind c.queue key.at body delay group id)).effect
+  -- words drawn
+  pub draws : (p : Past) (c : Core) (hosts : ℕ) → At p [] c → At p [] (record c { draws = (drawn_uniform 0 hosts c.draws).1 })
+  -- tasks
+  pub starts : (p : Past) (c : Core) (n : ℕ) (t : Task) → task_numbered n c ≡ Some t → At p [] c → At p [] (with_task c (record t { move = task_started t.move key.at }))
+  pub cancels : (p : Past) (c : Core) (n : ℕ) (t : Task) → task_numbered n c ≡ Some t → At p [] c → At p [] (with_task c (record t { move = record t.move { status = Cancelled } }))
+  -- actors: what holds of one after its turn among the actors of its site, and of what its act may send; its poll begins to wait;
+  -- what it forwards is sent
+  pub Stands : List Actor → Actor → Type 0
+  pub Sent : Option Outbound → Type 0
+  pub turns :
+      (p : Past) (n : ℕ) (c : Core) (a : Actor) (w : Answer) → actor_numbered n c ≡ Some a → At p [] c
+      → At p [] (with_actor c (next a key.at w).1) × Stands (with_actor c (next a key.at w).1).actors (next a key.at w).1 × Sends Sent (next a key.at w).0
+  pub polls : (p : Past) (a : Actor) (c : Core) (max wait : ℕ) (timeout : Option ℕ) → (wait == 0) ≡ false → Stands c.actors a → At p [] c → At p [] (with_poll key a c max wait timeout)
+  pub forwards : (p : Past) (a : Actor) (c : Core) (id : MessageId) (o : Outbound) → Sent (Some o) → At p [] c → Goes p [] (record { core = c; rows = forward_row key a c id o.to ∷ []; sent = o ∷ [] })
+
+module _ (key : Key) (law : TurnLaw key) where
+  open law use {Past, At, Goes, after, done, joins, quiet, Stands, Sent}
+
+  -- nothing happens; there is one plain row
+  nothing : (p : Past) (ls : List (Option Load)) (c : Core) → At p ls c → Goes p ls (no_effect c)
+  nothing p ls c h = quiet p ls ls c c [] h tt h
+
+  says_so : (p : Past) (c d : Core) (r : Row) → IsPlain key c r → At p [] c → At p [] d → Goes p [] (says d r)
+  says_so p c d r i h k = quiet p [] [] c d (r ∷ []) h (i, tt) k
+
+  says_only : (p : Past) (c : Core) (r : Row) → IsPlain key c r → At p [] c → Goes p [] (says c r)
+  says_only p c r i h = says_so p c c r i h h
+
+  -- an effect, and what follows it
+  follows : (p : Past) (ls : List (Option Load)) (e : Effect) (f : Core → Effect) → ((q : Past) (d : Core) → At q ls d → Goes q [] (f d)) → Goes p ls e → Goes p [] (and_then e f)
+  follows p ls e f k h = joins p ls [] e f h (k (after p e) e.core (done p ls e h))
+
+  -- messages that come back
+  back_goes : (p : Past) (ls : List (Option Load)) (c : Core) (n : ℕ) (o : Option Load) → At p (o ∷ ls) c → Goes p ls (came_back key c n o)
+  back_goes p ls c n None h = quiet p (None ∷ ls) ls c c _ h (record { at_key = refl; at_site = refl; silent = λ o. refl }, tt) (law.stays p ls c h)
+  back_goes p ls c n (Some load) h = law.leaves p ls c n load h
+
+  pub all_back_goes : (gs : List Got) (p : Past) (c : Core) → At p (lefts gs) c → Goes p [] (all_came_back key gs c)
+  all_back_goes [] p c h = nothing p [] c h
+  all_back_goes (g ∷ gs) p c h =
+      follows p (lefts gs) (came_back key c g.id.number g.left) (all_came_back key gs) (all_back_goes gs) (back_goes p (lefts gs) c g.id.number g.left h)
+
+  got_plain : (c : Core) (agent : ℕ) (gots : List Got) → ArePlain key c (map (got_row key c agent) gots)
+  got_plain c agent [] = tt
+  got_plain c agent (g ∷ gs) = (record { at_key = refl; at_site = refl; silent = λ o. refl }, got_plain c agent gs)
+
+  pub given_goes : (p : Past) (c : Core) (agent : ℕ) (timeout : Option ℕ) (x : Queue × List Got) → At p [] c → Gives (At p) c timeout x → Goes p [] (given key c agent timeout x)
+  given_goes p c agent timeout (q, gots) h k =
+      let e : Effect = record { core = with_queue c q; rows = map (got_row key c agent) gots; sent = [] } in
+      elim (timeout_of q timeout == 0) as (λ b. Leaves (At p) (with_queue c q) b (lefts gots) → Goes p [] (if b then and_then e (all_came_back key gots) else e)) [
+        | true ↦ λ k. follows p (lefts gots) e (all_came_back key gots) (all_back_goes gots) (quiet p [] (lefts gots) c (with_queue c q) e.rows h (got_plain c agent gots) k)
+        | false ↦ λ k. quiet p [] [] c (with_queue c q) e.rows h (got_plain c agent gots) k
+      ] k
+
+  -- acts
+  abbrev Makes : Past → Made → Type 0
+  Makes p m = Goes p [] m.effect
+
+  none_goes : (p : Past) (a : Actor) (c : Core) (max wait : ℕ) (timeout : Option ℕ) → Stands c.actors a → At p [] c → Makes p (receive_none key a c max wait timeout)
+  none_goes p a c max wait timeout s h =
+      either_by (Makes p) (wait == 0) (made (says c (receive_row key c a.number answers.Empty)) (told_by.Got []))
+      (made (says (with_poll key a c max wait timeout) (receive_row key c a.number answers.Wait)) told_by.Waiting)
+      (λ e. says_only p c _ (record { at_key = refl; at_site = refl; silent = λ o. refl }) h)
+      (λ e. says_so p c (with_poll key a c max wait timeout) _ (record { at_key = refl; at_site = refl; silent = λ o. refl }) h (law.polls p a c max wait timeout e s h))
+
+  pub some_goes : (p : Past) (a : Actor) (c : Core) (max wait : ℕ) (timeout : Option ℕ) (x : Queue × List Got) → Stands c.actors a → At p [] c → Gives (At p) c timeout x → Makes p (receive_some key a c max wait timeout x.0 x.1)
+  some_goes p a c max wait timeout (q, []) s h k = none_goes p a c max wait timeout s h
+  some_goes p a c max wait timeout (q, g ∷ gs) s h k = given_goes p c a.number timeout (q, g ∷ gs) h k
+
+  receive_goes : (p : Past) (a : Actor) (c d : Core) (max wait : ℕ) (timeout : Option ℕ) (set : ℕ) (short : Bool) → d.queue ≡ c.queue → Stands d.actors a → At p [] c → At p [] d → Makes p (receive_made key a c d max wait timeout (Rattle.sqs_model.specs.Receive.receive d.queue key.at max timeout set short))
+  receive_goes p a c d max wait timeout set short e s h k =
+      receive_by (λ x. Makes p (receive_made key a c d max wait timeout x)) d.queue key.at max timeout set short
+      (λ r. says_only p c _ (record { at_key = refl; at_site = refl; silent = λ o. refl }) h)
+      (some_goes p a d max wait timeout (give_most d.queue key.at max timeout set) s k (law.gives p d max timeout set k))
+
+  as_goes : (k : Kind) (p : Past) (a : Actor) (c : Core) (max wait : ℕ) (timeout : Option ℕ) → Stands c.actors a → At p [] c → Makes p (receive_as k key a c max wait timeout)
+  as_goes (Fifo content scope) p a c max wait timeout s h = receive_goes p a c c max wait timeout (all_hosts c.queue.settings.kind) false refl s h h
+  as_goes (Standard hosts sampled) p a c max wait timeout s h =
+      let drawn : ℕ × Draws = drawn_uniform 0 (hosts - 1) c.draws in
+      either (Makes p) (wait == 0) (short_poll key a c max timeout hosts sampled drawn) (long_poll key a c max wait timeout)
+      (receive_goes p a c (record c { draws = drawn.1 }) max 0 timeout _ true refl s h (law.draws p c (hosts - 1) h))
+      (receive_goes p a c c max wait timeout (all_hosts c.queue.settings.kind) false refl s h h)
+
+  delete_goes : (p : Past) (a : Actor) (c : Core) (text : List ℕ) (o : Option Receipt) → At p [] c → Makes p (delete_made key a c text o)
+  delete_goes p a c text None h = says_only p c _ (record { at_key = refl; at_site = refl; silent = λ o. refl }) h
+  delete_goes p a c text (Some r) h = law.deletes p a c text r h
+
+  answered_goes : (p : Past) (a : Actor) (c : Core) (text : List ℕ) (timeout : ℕ) (r : Receipt) (x : Result (Option Load) Refusal × Queue) → At p [] c → Changes (At p) c timeout x → Makes p (change_answered key a c text timeout r x)
+  answered_goes p a c text timeout r (Err e, q) h k = says_only p c _ (record { at_key = refl; at_site = refl; silent = λ o. refl }) h
+  answered_goes p a c text timeout r (Ok left, q) h k =
+      let row : Row = change_row key a c text answers.Ok (Some (id_of c.queue r.number)) (details.Timeout timeout) in
+      let e : Effect = says (with_queue c q) row in
+      let plain : ArePlain key c (row ∷ []) = (record { at_key = refl; at_site = refl; silent = λ o. refl }, tt) in
+      elim (timeout == 0) as (λ b. Leaves (At p) (with_queue c q) b (left ∷ []) → Goes p [] (if b then and_then e (λ d. came_back key d r.number left) else e)) [
+        | true ↦ λ k. follows p (left ∷ []) e (λ d. came_back key d r.number left) (λ n d i. back_goes n [] d r.number left i) (quiet p [] (left ∷ []) c (with_queue c q) e.rows h plain k)
+        | false ↦ λ k. quiet p [] [] c (with_queue c q) e.rows h plain k
+      ] k
+
+  change_goes : (p : Past) (a : Actor) (c : Core) (text : List ℕ) (timeout : ℕ) (o : Option Receipt) → At p [] c → Makes p (change_made key a c text timeout o)
+  change_goes p a c text timeout None h = says_only p c _ (record { at_key = refl; at_site = refl; silent = λ o. refl }) h
+  change_goes p a c text timeout (Some r) h = answered_goes p a c text timeout r _ h (law.changes p c r timeout h)
+
+  start_goes : (p : Past) (a : Actor) (c : Core) (task : ℕ) (o : Option Task) → task_numbered task c ≡ o → At p [] c → Makes p (start_made key a c task o)
+  start_goes p a c task None e h = nothing p [] c h
+  start_goes p a c task (Some t) e h =
+      let begun : Core = with_task c (record t { move = task_started t.move key.at }) in
+      either (Makes p) (list_any runs c.tasks) (made (says c (task_row key a c task kinds.Start (answers.Refused refusals.TaskRunning))) told_by.Other)
+      (made (says begun (task_row key a c task kinds.Start answers.Ok)) told_by.Other)
+      (says_only p c _ (record { at_key = refl; at_site = refl; silent = λ o. refl }) h)
+      (says_so p c begun _ (record { at_key = refl; at_site = refl; silent = λ o. refl }) h (law.starts p c task t e h))
+
+  cancel_goes : (p : Past) (a : Actor) (c : Core) (task : ℕ) (o : Option Task) → task_numbered task c ≡ o → At p [] c → Makes p (cancel_made key a c task o)
+  cancel_goes p a c task None e h = nothing p [] c h
+  cancel_goes p a c task (Some t) e h =
+      let stopped : MoveTask = record t.move { status = Cancelled } in
+      either (λ (x : Result (Unit {0}) Refusal × MoveTask). Makes p (cancel_done key a c task t x)) (is_running t.move.status) (Ok tt, stopped) (Err refusals.NoTask, t.move)
+      (says_so p c (with_task c (record t { move = stopped })) _ (record { at_key = refl; at_site = refl; silent = λ o. refl }) h (law.cancels p c task t e h))
+      (says_only p c _ (record { at_key = refl; at_site = refl; silent = λ o. refl }) h)
+
+  serve_goes : (p : Past) (a : Actor) (c : Core) (id : MessageId) (r : Receipt) (b : Bool) (o : Option Outbound) → Sent o → At p [] c → Makes p (serve_made key a c id r b o)
+  serve_goes p a c id r true o s h = says_only p c _ (record { at_key = refl; at_site = refl; silent = λ o. refl }) h
+  serve_goes p a c id r false None s h = nothing p [] c h
+  serve_goes p a c id r false (Some o) s h = law.forwards p a c id o s h
+
+  pub act_goes : (p : Past) (a : Actor) (c : Core) (x : Act) → Stands c.actors a → Sends Sent x → At p [] c → Makes p (act_made key a c x)
+  unfolding act_made
+  act_goes p a c (acts.Send body delay group id) s o h = law.sends p a c body delay group id h
+  act_goes p a c (acts.Receive max wait timeout) s o h = as_goes c.queue.settings.kind p a c max wait timeout s h
+  act_goes p a c (acts.Delete text) s o h = delete_goes p a c text (read_receipt text) h
+  act_goes p a c (acts.Change text timeout) s o h = change_goes p a c text timeout (read_receipt text) h
+  act_goes p a c (acts.Prolong text timeout) s o h = change_goes p a c text (unwrap_or timeout (c.queue.settings.visibility / 1000)) (read_receipt text) h
+  act_goes p a c (acts.Start task) s o h = start_goes p a c task (task_numbered task c) refl h
+  act_goes p a c (acts.Cancel task) s o h = cancel_goes p a c task (task_numbered task c) refl h
+  act_goes p a c (acts.Serve id r failed forward) s o h = serve_goes p a c id r failed forward o h
+  act_goes p a c acts.Nothing s o h = nothing p [] c h
+
+  -- turns
+  abbrev Follows : (Core → Effect) → Type 0
+  Follows f = (p : Past) (c : Core) → At p [] c → Goes p [] (f c)
+
+  on : (more : Answer → Core → Effect) (p : Past) (a : Actor) (c : Core) (x : Act) → ((w : Answer) → Follows (more w)) → Stands c.actors a → Sends Sent x → At p [] c → Goes p [] (and_then (act_made key a c x).effect (more (act_made key a c x).answer))
+  on more p a c x f s o h = follows p [] (act_made key a c x).effect (more (act_made key a c x).answer) (f (act_made key a c x).answer) (act_goes p a c x s o h)
+
+  pub next_goes : (more : Answer → Core → Effect) (p : Past) (c : Core) (x : Act) (a : Actor) → ((w : Answer) → Follows (more w)) → Stands (with_actor c a).actors a → Sends Sent x → At p [] (with_actor c a) → Goes p [] (acts_next more key c (x, a))
+  next_goes more p c acts.Nothing a f s o h = nothing p [] (with_actor c a) h
+  next_goes more p c x a f s o h = on more p a (with_actor c a) x f s o h
+
+  found_goes : (more : Answer → Core → Effect) (p : Past) (n : ℕ) (w : Answer) (c : Core) (o : Option Actor) → actor_numbered n c ≡ o → ((v : Answer) → Follows (more v)) → At p [] c → Goes p [] (acts_found more key w c o)
+  found_goes more p n w c None e f h = nothing p [] c h
+  found_goes more p n w c (Some a) e f h =
+      let t = law.turns p n c a w e h in
+      next_goes more p c (next a key.at w).0 (next a key.at w).1 f t.1 t.2 t.0
+
+  pub most_goes : (most n : ℕ) (w : Answer) → Follows (acts_most most key n w)
+  most_goes zero n w p c h = nothing p [] c h
+  most_goes (suc most) n w p c h = found_goes (acts_most most key n) p n w c (actor_numbered n c) refl (most_goes most n) h
+
+  -- a poll that is answered has left those that wait
+  pub poll_goes : (p : Past) (poll : Poll) (c : Core) (x : Queue × List Got) → At p [] (without_poll c) → Gives (At p) (without_poll c) poll.timeout x → Goes p [] (poll_answered key poll c x)
+  poll_goes p poll c (q, gots) h k =
+      follows p [] (given key (without_poll c) poll.actor poll.timeout (q, gots)) (told key poll.actor (told_by.Got gots)) (most_goes 3 poll.actor (told_by.Got gots))
+      (given_goes p (without_poll c) poll.actor poll.timeout (q, gots) h k)
+
+-- A law of handlings: a law of turns that all else keeps which may be due at a site.
+pub record HandlingLaw (key : Key) (law : TurnLaw key) : Type 1 where
+  -- waiting polls: the first is answered, and one ends
+  pub answers : (p : law.Past) (c : Core) → law.At p [] c → law.At p [] (without_poll c)
+  pub ends : (p : law.Past) (c : Core) → law.At p [] c → law.At p [] (record c { polls = without (ends_at key) c.polls })
+  -- messages: one may expire, one is released, a transfer comes
+  pub MayExpire : Core → Type 0
+  pub expires : (p : law.Past) (c : Core) → MayExpire c → law.At p [] c → law.Goes p [] (handle_expiry key c)
+  pub releases : (p : law.Past) (c : Core) → law.At p [] c → law.At p ((released c.queue key.number).1 ∷ []) (with_queue c (released c.queue key.number).0)
+  pub Comes : law.Past → Option Outbound → Core → Type 0
+  pub absent : (p : law.Past) (c : Core) → Comes p None c → law.At p [] c
+  pub arrives : (p : law.Past) (o : Outbound) (c : Core) → Comes p (Some o) c → law.Goes p [] (arrival_done key o.load c (arrived c.queue key.at o.load))
+  -- samples and steps
+  pub samples : (p : law.Past) (c : Core) → law.At p [] c → law.At p [] (record c { samples = c.samples + 1 })
+  pub steps : (p : law.Past) (c : Core) (t : Task) → task_numbered key.agent c ≡ Some t → law.At p [] c → law.Goes p [] (handle_step key c (Some t))
+
+-- the answers to waiting polls, where a poll that leaves keeps the law
+module _ (key : Key) (law : TurnLaw key) (answers : (p : law.Past) (c : Core) → law.At p [] c → law.At p [] (without_poll c)) where
+  open law use {Past, At, Goes}
+
+  when_goes : (b : Bool) (poll : Poll) (others : Core → Effect) → Follows key law others → Follows key law (answer_when b key poll others)
+  when_goes true poll others f p c h =
+      let left : At p [] (without_poll c) = answers p c h in
+      follows key law p [] (poll_answered key poll c (poll_given key poll c.queue)) others f
+      (poll_goes key law p poll c (poll_given key poll c.queue) left (law.gives p (without_poll c) poll.max poll.timeout (all_hosts c.queue.settings.kind) left))
+  when_goes false poll others f p c h = nothing key law p [] c h
+
+  pub polls_go : (polls : List Poll) → Follows key law (answer_polls key polls)
+  polls_go [] p c h = nothing key law p [] c h
+  polls_go (poll ∷ polls) p c h = when_goes (can_give c.queue) poll (answer_polls key polls) (polls_go polls) p c h
+
+  pub polled : (p : Past) (e : Effect) → Goes p [] e → Goes p [] (with_polls key e)
+  polled p e h = follows key law p [] e (λ c. answer_polls key c.polls c) (λ q c i. polls_go c.polls q c i) h
+
+-- what is due, by its class
+module _ (key : Key) (law : TurnLaw key) (due : HandlingLaw key law) where
+  open law use {Past, At, Goes}
+
+  pub arrival_goes : (p : Past) (o : Option Outbound) (c : Core) → due.Comes p o c → Goes p [] (handle_arrival key o c)
+  arrival_goes p None c h = nothing key law p [] c (due.absent p c h)
+  arrival_goes p (Some o) c h = due.arrives p o c h
+
+  step_goes : (p : Past) (c : Core) (o : Option Task) → task_numbered key.agent c ≡ o → At p [] c → Goes p [] (handle_step key c o)
+  step_goes p c None e h = nothing key law p [] c h
+  step_goes p c (Some t) e h = due.steps p c t e h
+
+  pub class_goes : (k : Class) (p : Past) (c : Core) → (k ≡ classes.Expiry → due.MayExpire c) → At p [] c → Goes p [] (handle_class k key c)
+  unfolding handle_class
+  class_goes classes.Expiry p c m h = due.expires p c (m refl) h
+  class_goes classes.Release p c m h =
+      let r : Queue × Option Load = released c.queue key.number in
+      back_goes key law p [] (with_queue c r.0) key.number r.1 (due.releases p c h)
+  class_goes classes.Arrival p c m h = nothing key law p [] c h
+  class_goes classes.PollEnd p c m h =
+      let left : Core = record c { polls = without (ends_at key) c.polls } in
+      follows key law p [] (says left (receive_row key c key.agent answers.Empty)) (told key key.agent (told_by.Got [])) (most_goes key law 3 key.agent (told_by.Got []))
+      (says_so key law p c left _ (record { at_key = refl; at_site = refl; silent = λ o. refl }) h (due.ends p c h))
+  class_goes classes.Wake p c m h = most_goes key law 3 key.agent told_by.Wake p c h
+  class_goes classes.Sample p c m h = says_so key law p c (record c { samples = c.samples + 1 }) _ (record { at_key = refl; at_site = refl; silent = λ o. refl }) h (due.samples p c h)
+  class_goes classes.Step p c m h = step_goes p c (task_numbered key.agent c) refl h
+
+-- what a handling did, without what is on its way
+abbrev pub effect_of : Handled → Effect
+effect_of h = record { core = h.site.core; rows = h.rows; sent = h.sent }
+
+module _ (key : Key) (law : TurnLaw key) (due : HandlingLaw key law) (p : law.Past) (s : Site) where
+  when_handled : (b : Bool) → (b ≡ false → (key.class ≡ classes.Expiry → due.MayExpire s.core) × law.At p [] s.core) → (b ≡ true → due.Comes p (find (has_key key) s.arriving) s.core) → law.Goes p [] (effect_of (handled_when b key s))
+  when_handled true m a = polled key law due.answers p (handle_arrival key (find (has_key key) s.arriving) s.core) (arrival_goes key law due p (find (has_key key) s.arriving) s.core (a refl))
+  when_handled false m a = polled key law due.answers p (handle_class key.class key s.core) (class_goes key law due key.class p s.core (m refl).0 (m refl).1)
+
+  -- the law holds of each handling
+  pub handled_goes :
+      (is_arrival key.class ≡ false → (key.class ≡ classes.Expiry → due.MayExpire s.core) × law.At p [] s.core)
+      → (is_arrival key.class ≡ true → due.Comes p (find (has_key key) s.arriving) s.core) → law.Goes p [] (effect_of (handled key s))
+  unfolding handled
+  handled_goes m a = when_handled (is_arrival key.class) m a
