@@ -43,7 +43,7 @@ from rehearse_tools.programs import program_itself  # noqa: E402
 LATE_CRATE = "sqs_late_workers"
 # The script that runs this file, by whose name faults begin.
 NAME = "all"
-WITHOUT_PROGRAM = ("texts", "style", "types", "examples", "layers", "wrong-bodies", "bell")
+WITHOUT_PROGRAM = ("texts", "style", "house", "types", "examples", "layers", "wrong-bodies", "bell")
 # Seconds of the longest parts, as measured. They begin first, so that no long one is left at the end.
 SECONDS = {"wrong-bodies": 90, "page": 70, "memory": 60, "questions": 50, "test_clusters": 50, "long": 40,
            "test_picture": 32, "test_slurm": 25, "late": 20, "test_statistics": 20, "test_helps": 17,
