@@ -92,6 +92,18 @@ def wait_for(is_so):
         time.sleep(0.02)
 
 
+def read_whole(reader):
+    """All that was written to a pipe or a terminal, which nobody has open for writing any more."""
+    text = b""
+    try:
+        while more := os.read(reader, 65_536):
+            text += more
+    except OSError:
+        pass    # so a terminal tells it
+    os.close(reader)
+    return text
+
+
 def row_of(at, message, detail=""):
     """A row of the queue q, as what takes rows is given it, without those fields that say what it is."""
     return at, Head("q", "", "", ""), message, "", detail
