@@ -6,9 +6,9 @@ PROGRAM is by default the one that ./sqs_rehearse would run without a build. LAT
 crates/sqs_late_workers, by default the one that `rt run` has built there from the sources as they are; without it
 tests/late and a part of tests/long are left out. --only runs the named parts. --jobs says how many parts run at once,
 by default one for each processor that this process may use. --beside runs so many loops beside the parts, each of which
-takes all that it can get of a processor: so a part shows whether it hangs on what comes first by luck. --quick takes a minute or two on 4 processors: it leaves
-out wrong-bodies, long, test_clusters, test_slurm, test_picture, memory, late, huge, test_console, test_package,
-test_poison, test_statistics, test_decisions, test_helps, test_shown and page, the longest.
+takes all that it can get of a processor: so a part shows whether it hangs on luck. --quick takes a minute or two on 4
+processors: it leaves out wrong-bodies, long, test_clusters, test_slurm, test_picture, memory, late, huge, test_console,
+test_package, test_poison, test_statistics, test_decisions, test_helps, test_shown and page, the longest.
 
 A part is a program in tests/, tools/layers --check, tests/wrong-bodies/test_run.py or a file tests/tools/test_*.py. A
 program in tests/ is given PROGRAM, and its last line is `N passed, M failed`. The line of a part has what passed and

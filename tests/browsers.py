@@ -13,7 +13,7 @@ from typing import Any
 
 from rehearse_tools.console import library
 
-# Seconds after which a browser that has not started, or has not answered, is taken to hang; a busy machine may take long.
+# Seconds after which a browser that has not started, or not answered, is taken to hang; a busy machine may take long.
 START_SECONDS, ANSWER_SECONDS = 600, 1800
 # The key under which an element comes in an answer of a driver.
 ELEMENT = "element-6066-11e4-a52e-4f735466cecf"

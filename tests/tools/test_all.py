@@ -216,7 +216,8 @@ class Ends(Small):
         """The clock passes the limit once all processes of the part are there."""
         self.part_that_stays('until [ "$(wc -w < "$HERE/processes")" = 3 ]; do sleep 0.01; done; touch "$HERE/later";')
         self.write("sitecustomize.py", CLOCK)
-        status, out, _ = self.run_all("--only", "stays,layers", "--jobs", "1", "--limit", "1500", PYTHONPATH=self.folder)
+        words = "--only", "stays,layers", "--jobs", "1", "--limit", "1500"
+        status, out, _ = self.run_all(*words, PYTHONPATH=self.folder)
         self.assertEqual((status, out[-1]), (1, "1 passed, 1 failed"))
         place = next(place for place, line in enumerate(out) if line.startswith("stays "))
         self.assertRegex(out[place], "^stays +0 passed, 1 failed ")

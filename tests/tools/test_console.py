@@ -137,8 +137,8 @@ class Ends(ToolCase):
 
 class Reading(ToolCase):
     def test_progress_on_a_terminal_alone(self):
-        """A second after its beginning a tool tells how far it is, and takes the line away again. However slow it is, it
-        has begun when more is written than a pipe holds, and finds the rest more than a second later."""
+        """A second after its beginning a tool tells how far it is, and takes the line away again. However slow it is,
+        it has begun when more is written than a pipe holds, and finds the rest more than a second later."""
         log = LOG_HEADER + b"".join(b"%d,q,s,receive,wait,,,\n" % at for at in range(100_000, 160_000))
         for is_terminal in (True, False):
             reader, writer = pty.openpty() if is_terminal else os.pipe()

@@ -56,8 +56,8 @@ exec {program} "$@"
 
 
 def free_ports(case: unittest.TestCase, count: int) -> list[int]:
-    """Ports on which nobody listens, and which the system gives to nobody who asks for any port. Another run of this test
-    finds others, as this one holds the port before them."""
+    """Ports on which nobody listens, and which the system gives to nobody who asks for any port. Another run of this
+    test finds others, as this one holds the port before them."""
     for first in range(20_000, 30_000, count + 1):
         held: list[socket.socket] = []
         try:
