@@ -206,7 +206,7 @@ class Ends(Small):
     def part_that_stays(self, then=""):
         """A part with two children, of which one leaves its session and ignores what asks it to end."""
         self.part("stays", 'touch "$TMPDIR/file"; setsid bash -c \'trap "" TERM INT HUP; echo $$ >> "$HERE/processes"\n'
-                  f'while :; do sleep 60; done\' & sleep 600 & echo $$ $! >> "$HERE/processes"; {then} wait')
+                  f'while :; do sleep 60; done\' & sleep 3600 & echo $$ $! >> "$HERE/processes"; {then} wait')
 
     def assert_ended(self):
         self.assertEqual([process for process in self.processes() if self.is_running(process)], [])
@@ -227,13 +227,13 @@ class Ends(Small):
         self.assert_ended()
 
     def test_what_a_part_leaves_is_ended(self):
-        self.part("leaves", 'sleep 600 & echo $! > "$HERE/processes"')
+        self.part("leaves", 'sleep 3600 & echo $! > "$HERE/processes"')
         self.assertEqual(self.told("--only", "leaves")[2], "1 passed, 0 failed")
         self.assert_ended()
 
     def test_an_interrupt_leaves_nothing(self):
         self.part_that_stays()
-        self.part("too", 'echo $$ >> "$HERE/processes"; sleep 600')
+        self.part("too", 'echo $$ >> "$HERE/processes"; sleep 3600')
         for number in (signal.SIGINT, signal.SIGTERM):
             run = subprocess.Popen(self.command("--only", "stays,too", "--jobs", "2"), env=self.environment, text=True,
                                    stdout=subprocess.PIPE, stderr=subprocess.PIPE)
@@ -246,7 +246,7 @@ class Ends(Small):
 
     def test_loops_beside_the_parts(self):
         """They run in sessions of their own, and end with tests/all, also if it is killed."""
-        self.part("stays", 'echo $$ > "$HERE/processes"; exec sleep 600')
+        self.part("stays", 'echo $$ > "$HERE/processes"; exec sleep 3600')
         for number in (signal.SIGTERM, signal.SIGKILL):
             run = subprocess.Popen(self.command("--only", "stays", "--beside", "2"), env=self.environment,
                                    stdout=subprocess.DEVNULL, stderr=subprocess.DEVNULL)

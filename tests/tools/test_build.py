@@ -21,7 +21,7 @@ crate=$(basename "$PWD")
 echo "$$ $crate $*" >> "$RT_CALLS"
 case $RT_DOES in
   "fail $crate") echo "sim_b is wrong"; exit 1 ;;
-  "slow $crate") sleep 60 & sleep 60 ;;
+  "slow $crate") sleep 3600 & sleep 3600 ;;
   "killed $crate") [ -e "$RT_CALLS.killed" ] || { touch "$RT_CALLS.killed"; kill -9 $$; } ;;
   "always killed $crate") echo "rt: the check was killed"; exit 137 ;;
   "edit $crate") touch ../sim_a/src/lib.rt ;;

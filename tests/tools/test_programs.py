@@ -27,7 +27,7 @@ if [ $# -gt 0 ]; then shift; exec "$@"; fi
 # In the place of gzip: it unpacks once, to be compared, and then takes long.
 SLOW_GZIP = """#!/bin/bash
 if mkdir "$CALLS.first" 2> /dev/null; then exec /bin/gzip "$@"; fi
-echo slow >> "$CALLS"; exec sleep 60
+echo slow >> "$CALLS"; exec sleep 3600
 """
 
 

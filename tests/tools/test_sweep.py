@@ -31,7 +31,7 @@ queue = "q"
 """
 # It starts quickly, as many runs are needed. It reports 100 sends for each second of visibility and one for each unit of
 # the seed, and refuses a visibility over 50.
-# A seed of 77 makes the file begun and takes a minute; with a worker the greatest age is the seed in seconds, and
+# A seed of 77 makes the file begun and takes an hour; with a worker the greatest age is the seed in seconds, and
 # without one it is not there.
 STAND_IN = f"""#!/bin/sh
 [ "$*" = --help ] && exit 0
@@ -46,7 +46,7 @@ while read -r key equals value; do
 done
 if [ "$seed" = 77 ]; then
   : > begun
-  exec sleep 60
+  exec sleep 3600
 fi
 if [ "$visibility" -gt 50 ]; then
   echo "refused 14 OutOfRange at queue[0].visibility_s" >&2
