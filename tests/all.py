@@ -1,18 +1,19 @@
 """Runs everything in tests/ over the program, side by side, with a line for each part and a sum at the end:
 
-    tests/all [PROGRAM] [--quick | --only NAME,..] [--jobs N] [--late LATE] [--limit SECONDS]
+    tests/all [PROGRAM] [--quick | --only NAME,..] [--jobs N] [--late LATE] [--limit SECONDS] [--beside LOOPS]
 
 PROGRAM is by default the one that ./sqs_rehearse would run without a build. LATE is the program of
 crates/sqs_late_workers, by default the one that `rt run` has built there from the sources as they are; without it
 tests/late and a part of tests/long are left out. --only runs the named parts. --jobs says how many parts run at once,
-by default one for each processor that this process may use. --quick takes a minute or two on 4 processors: it leaves
-out wrong-bodies, long, test_clusters, test_slurm, test_picture, memory, late, huge, test_console, test_package,
-test_poison, test_statistics, test_decisions, test_helps, test_shown and page, the longest.
+by default one for each processor that this process may use. --beside runs so many loops beside the parts, each of which
+takes all that it can get of a processor: so a part shows whether it hangs on luck. --quick takes a minute or two on 4
+processors: it leaves out wrong-bodies, long, test_clusters, test_slurm, test_picture, memory, late, huge, test_console,
+test_package, test_poison, test_statistics, test_decisions, test_helps, test_shown and page, the longest.
 
 A part is a program in tests/, tools/layers --check, tests/wrong-bodies/test_run.py or a file tests/tools/test_*.py. A
 program in tests/ is given PROGRAM, and its last line is `N passed, M failed`. The line of a part has what passed and
 failed, its seconds, and those of processors; if it failed, its output stands below. A part that runs longer than
---limit (600 s) is ended and has failed. What a part prints behind `note: ` is printed again before the sum. The
+--limit (3600 s) is ended and has failed. What a part prints behind `note: ` is printed again before the sum. The
 temporary folder of a part is removed: to keep a text that fails in tests/fuzz, run tests/fuzz by itself.
 
 The last line is the sum, `N passed, M failed`, with `, K skipped` if something was left out. The status is 0 if nothing
@@ -23,7 +24,6 @@ import collections
 import ctypes
 import os
 import re
-import resource
 import shutil
 import signal
 import subprocess
@@ -55,7 +55,7 @@ SECONDS = {"wrong-bodies": 90, "page": 70, "memory": 60, "questions": 50, "test_
 NOT_QUICK = ("wrong-bodies", "long", "test_clusters", "test_slurm", "test_picture", "memory", "late", "huge",
              "test_console", "test_package", "test_poison", "test_statistics", "test_decisions", "test_helps",
              "test_shown", "page")
-SET_CHILD_SUBREAPER = 36    # of prctl(2)
+END_WITH_PARENT, SET_CHILD_SUBREAPER = 1, 36    # of prctl(2)
 LOOK_SECONDS, GRACE_SECONDS = 0.02, 3
 ENDING = (signal.SIGINT, signal.SIGTERM, signal.SIGHUP)
 
@@ -193,6 +193,13 @@ def become_reaper() -> None:
     ctypes.CDLL(None).prctl(SET_CHILD_SUBREAPER, 1, 0, 0, 0)
 
 
+def begin_loops(count: int) -> None:
+    """Begins loops that take all they can, each in a session of its own as a part is. They end with this process."""
+    for _ in range(count):
+        subprocess.Popen(["sh", "-c", "while :; do :; done"], stdin=subprocess.DEVNULL, start_new_session=True,
+                         preexec_fn=lambda: ctypes.CDLL(None).prctl(END_WITH_PARENT, signal.SIGKILL, 0, 0, 0))
+
+
 def processes() -> Iterator[tuple[int, int, int]]:
     """Each process that has not ended: its number, its parent's and its session's."""
     for name in filter(str.isdigit, os.listdir("/proc")):
@@ -254,11 +261,11 @@ class Run:
         self.output = f"{self.folder}.output"
         os.mkdir(self.folder)
         words = [*part.words, *(program for want in part.wants if (program := programs[want]))]
+        self.began = time.monotonic()
         with open(self.output, "wb") as output:
             self.process = subprocess.Popen(words, cwd=TOP, stdin=subprocess.DEVNULL, stdout=output,
                                             stderr=subprocess.STDOUT, start_new_session=True,
                                             env={**environment, "TMPDIR": self.folder})
-        self.began = time.monotonic()
 
     def seconds(self) -> float:
         return time.monotonic() - self.began
@@ -270,7 +277,7 @@ class Run:
 
     def end(self, status: int, used: float) -> None:
         """Prints what came of the part, which has ended, keeps its counts and notes, and removes what it left."""
-        seconds, self.process.returncode = self.seconds(), status
+        seconds, self.used, self.process.returncode = self.seconds(), used, status
         send(signal.SIGKILL, below(self.process.pid))
         with open(self.output, encoding="utf-8", errors="backslashreplace") as file:
             text = file.read()
@@ -305,6 +312,7 @@ def run_parts(parts: Iterable[Part], programs: Mapping[str, str | None], options
     become_reaper()
     with tempfile.TemporaryDirectory(prefix="tests-all-", ignore_cleanup_errors=True) as folder:
         try:
+            begin_loops(options.beside)
             while waiting or running:
                 while waiting and len(running) < options.jobs:
                     run = Run(waiting.popleft(), programs, folder, environment_of(programs["program"]))
@@ -332,7 +340,8 @@ def options_of(words: Sequence[str]) -> Namespace:
     reading.add_argument("--only", default="")
     reading.add_argument("--jobs", type=int, default=len(os.sched_getaffinity(0)))
     reading.add_argument("--late")
-    reading.add_argument("--limit", type=float, default=600)
+    reading.add_argument("--limit", type=float, default=3600)
+    reading.add_argument("--beside", type=int, default=0)
     options = reading.parse_args(words)
     if options.quick and options.only:
         raise Fault("--quick and --only exclude each other")
@@ -360,9 +369,9 @@ def main(words: Sequence[str]) -> int:
         print("all: interrupted", file=sys.stderr)
         return 128 + int(interrupted.args[0])
     counts = [*(run.counts for run in done), *(Counts(skipped=1) for _ in left_out)]
-    total, used = Counts(*map(sum, zip(*counts))), resource.getrusage(resource.RUSAGE_CHILDREN)
+    total, used = Counts(*map(sum, zip(*counts))), sum(run.used for run in done)
     parts = f"{len(counts)} part{'s' if len(counts) != 1 else ''}"
-    print(f"{parts}, {time.monotonic() - began:.1f} s, {used.ru_utime + used.ru_stime:.1f} s of processors")
+    print(f"{parts}, {time.monotonic() - began:.1f} s, {used:.1f} s of processors")
     print("".join(f"{note}\n" for run in done for note in run.notes) + counts_text(total))
     return 1 if total.failed else 0
 

@@ -13,7 +13,8 @@ from typing import Any
 
 from rehearse_tools.console import library
 
-START_SECONDS, ANSWER_SECONDS = 60, 180
+# Seconds after which a browser that has not started, or not answered, is taken to hang; a busy machine may take long.
+START_SECONDS, ANSWER_SECONDS = 600, 1800
 # The key under which an element comes in an answer of a driver.
 ELEMENT = "element-6066-11e4-a52e-4f735466cecf"
 KEYS = {"Tab": "\ue004", "Enter": "\ue007", "Escape": "\ue00c", "ArrowRight": "\ue014", "ArrowDown": "\ue015",
@@ -41,7 +42,7 @@ class Firefox:
         self.file = self.socket.makefile("rb")
         self.read()
         self.ask("WebDriver:NewSession", {})
-        self.ask("WebDriver:SetTimeouts", {"script": ANSWER_SECONDS * 1000})
+        self.ask("WebDriver:SetTimeouts", {name: ANSWER_SECONDS * 1000 for name in ("script", "pageLoad")})
 
     def port_in(self, folder: str) -> int:
         """The port that Firefox writes into its profile when it listens."""
@@ -112,6 +113,7 @@ class Chromium:
         service = library("selenium.webdriver.chrome.service", "python3-selenium").Service("/usr/bin/chromedriver")
         self.driver = webdriver.Chrome(options=options, service=service)
         self.driver.set_script_timeout(ANSWER_SECONDS)
+        self.driver.set_page_load_timeout(ANSWER_SECONDS)
 
     def open(self, address: str) -> None:
         self.driver.get("about:blank")

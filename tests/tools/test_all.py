@@ -7,11 +7,10 @@ import shutil
 import signal
 import subprocess
 import sys
-import time
 import unittest
 from unittest import mock
 
-from tool import ROOT, ToolCase, module_at
+from tool import LIMIT, ROOT, ToolCase, module_at, wait_for
 
 ALL = os.path.join(ROOT, "tests", "all.py")
 everything = module_at(ALL, "tests_all")
@@ -26,6 +25,13 @@ WRAPPER = """#!/bin/sh
 [ "$*" = --where ] && [ "$SQS_REHEARSE_BUILD" = never ] || exit 9
 [ "$BUILT" ] || { echo "sqs_rehearse: the program is not built yet" >&2; exit 2; }
 echo "$BUILT"
+"""
+# The clock of a tests/all, which goes on by 3,000 seconds once a file is there.
+CLOCK = """import os
+import time
+
+own = time.monotonic
+time.monotonic = lambda: own() + 3_000 * os.path.exists(os.path.join(os.environ["HERE"], "later"))
 """
 UNITTEST = """import unittest
 
@@ -77,7 +83,7 @@ class Small(ToolCase):
     def run_all(self, *words, **environment):
         """Status, the lines of standard output, and standard error; started as by a service that heeds no child."""
         run = subprocess.run(self.command(*words), env={**self.environment, **environment}, text=True,
-                             stdin=subprocess.DEVNULL, capture_output=True, cwd="/", timeout=60,
+                             stdin=subprocess.DEVNULL, capture_output=True, cwd="/", timeout=LIMIT,
                              preexec_fn=lambda: signal.signal(signal.SIGCHLD, signal.SIG_IGN))
         self.assertEqual(os.listdir(self.path("tmp")), [])
         return run.returncode, run.stdout.splitlines(), run.stderr
@@ -93,6 +99,7 @@ class Small(ToolCase):
 class Sums(Small):
     def test_each_part_has_a_line(self):
         """A part that says nothing is one; the unittest has one that passes and one that is left out."""
+        self.write_script("bin/dpkg-query", "#!/bin/sh\necho installed\n")    # so that no engine of sweeps is installed
         self.part("run", "echo done; echo '7 passed, 0 failed'")
         self.write("tests/tools/test_some.py", UNITTEST)
         self.assertEqual(self.told(), (0, {"run": "7 passed, 0 failed", "layers": "1 passed, 0 failed",
@@ -116,18 +123,21 @@ class Sums(Small):
         self.assertNotIn("hidden", "\n".join(out))
 
     def test_notes_stand_before_the_sum(self):
-        self.part("late_one", "sleep 0.2; echo 'note: the last'; echo '1 passed, 0 failed'")
-        self.part("noted", "echo 'note: the first'; echo 'no note: here'; echo '1 passed, 0 failed'")
+        """One part waits until the other has ended, and was asked for its status."""
+        self.part("late_one", 'until [ -s "$HERE/noted" ] && ! kill -0 "$(< "$HERE/noted")" 2> /dev/null; do\n'
+                  "sleep 0.01; done; echo 'note: the last'; echo '1 passed, 0 failed'")
+        self.part("noted", 'echo $$ > "$HERE/noted"\n'
+                  "echo 'note: the first'; echo 'no note: here'; echo '1 passed, 0 failed'")
         status, out, _ = self.run_all("--only", "late_one,noted", "--jobs", "2")
         self.assertEqual((status, out[-3:]), (0, ["note: the first", "note: the last", "2 passed, 0 failed"]))
 
     def test_seconds_of_the_clock_and_of_processors(self):
         self.part("sleeps", "sleep 1")
-        self.part("works", "end=$((SECONDS + 2)); while [ $SECONDS -lt $end ]; do :; done")
+        self.part("works", "exec python3 -c 'import time\nwhile time.process_time() < 0.6: pass'")
         lines = self.run_all("--only", "sleeps,works", "--jobs", "2")[1]
         found = {line.split()[0]: [float(number) for number in re.findall(r"([\d.]+) s", line)] for line in lines[:2]}
         self.assertTrue(found["sleeps"][0] >= 1 and found["sleeps"][1] < 0.5, found)
-        self.assertTrue(found["works"][0] >= found["works"][1] > 0.1, found)
+        self.assertGreater(min(found["works"]), 0.5, found)
 
     def test_counts_of_an_output(self):
         ran = "\nRan 12 tests in 0.123s\n\n"
@@ -151,12 +161,12 @@ class Order(Small):
     def test_parts_run_side_by_side(self):
         """Each of three waits for the others."""
         for name in "abc":
-            self.part(name, f'touch "$HERE/{name}.here"; for ((i = 0; i < 2000; i++)); do\n'
-                      '[ -e "$HERE/a.here" ] && [ -e "$HERE/b.here" ] && [ -e "$HERE/c.here" ] && exit 0; sleep 0.01\n'
-                      "done; exit 1")
-        self.assertEqual(self.told("--only", "a,b,c", "--jobs", "3")[2], "3 passed, 0 failed")
+            self.part(name, f'touch "$HERE/{name}.here"; until [ -e "$HERE/a.here" ] && [ -e "$HERE/b.here" ] &&\n'
+                      '[ -e "$HERE/c.here" ]; do sleep 0.01; done')
+        self.assertEqual(self.told("--only", "a,b,c", "--jobs", "3", "--limit", "60")[2], "3 passed, 0 failed")
 
     def test_no_more_than_jobs_run_at_once(self):
+        """A part that finds another one fails; each stays a moment, in which another one would come."""
         for name in "abc":
             self.part(name, 'mkdir "$HERE/alone" && sleep 0.2 && rmdir "$HERE/alone"')
         self.assertEqual(self.told("--only", "a,b,c", "--jobs", "1")[2], "3 passed, 0 failed")
@@ -193,43 +203,62 @@ class Ends(Small):
         except OSError:
             return []
 
-    def part_that_stays(self):
-        """Two parts with a child each, of which one leaves its session and ignores what asks it to end."""
+    def part_that_stays(self, then=""):
+        """A part with two children, of which one leaves its session and ignores what asks it to end."""
         self.part("stays", 'touch "$TMPDIR/file"; setsid bash -c \'trap "" TERM INT HUP; echo $$ >> "$HERE/processes"\n'
-                  'while :; do sleep 60; done\' & sleep 60 & echo $$ $! >> "$HERE/processes"; wait')
-        self.part("too", 'echo $$ >> "$HERE/processes"; sleep 60')
+                  f'while :; do sleep 60; done\' & sleep 3600 & echo $$ $! >> "$HERE/processes"; {then} wait')
 
     def assert_ended(self):
         self.assertEqual([process for process in self.processes() if self.is_running(process)], [])
         self.assertEqual(os.listdir(self.path("tmp")), [])
 
     def test_a_part_that_hangs(self):
-        self.part_that_stays()
-        status, out, _ = self.run_all("--only", "stays,layers", "--limit", "1")
+        """The clock passes the limit once all processes of the part are there."""
+        self.part_that_stays('until [ "$(wc -w < "$HERE/processes")" = 3 ]; do sleep 0.01; done; touch "$HERE/later";')
+        self.write("sitecustomize.py", CLOCK)
+        words = "--only", "stays,layers", "--jobs", "1", "--limit", "1500"
+        status, out, _ = self.run_all(*words, PYTHONPATH=self.folder)
         self.assertEqual((status, out[-1]), (1, "1 passed, 1 failed"))
         place = next(place for place, line in enumerate(out) if line.startswith("stays "))
         self.assertRegex(out[place], "^stays +0 passed, 1 failed ")
         shown = list(itertools.takewhile(lambda line: line.startswith("    "), out[place + 1:]))
-        self.assertRegex(shown[-1], "^    it was ended after [1-9] s$")
+        self.assertRegex(shown[-1], "^    it was ended after 3[0-9]{3} s$")
         self.assertEqual(len(self.processes()), 3)
         self.assert_ended()
 
     def test_what_a_part_leaves_is_ended(self):
-        self.part("leaves", 'sleep 60 & echo $! > "$HERE/processes"')
+        self.part("leaves", 'sleep 3600 & echo $! > "$HERE/processes"')
         self.assertEqual(self.told("--only", "leaves")[2], "1 passed, 0 failed")
         self.assert_ended()
 
     def test_an_interrupt_leaves_nothing(self):
+        self.part_that_stays()
+        self.part("too", 'echo $$ >> "$HERE/processes"; sleep 3600')
         for number in (signal.SIGINT, signal.SIGTERM):
-            self.part_that_stays()
             run = subprocess.Popen(self.command("--only", "stays,too", "--jobs", "2"), env=self.environment, text=True,
                                    stdout=subprocess.PIPE, stderr=subprocess.PIPE)
-            while len(self.processes()) < 4:
-                time.sleep(0.02)
+            wait_for(lambda: len(self.processes()) == 4)
             run.send_signal(number)
-            told = run.communicate(timeout=30)
+            told = run.communicate(timeout=LIMIT)
             self.assertEqual((run.returncode, *told), (128 + number, "", "all: interrupted\n"))
             self.assert_ended()
+            os.remove(self.path("processes"))
+
+    def test_loops_beside_the_parts(self):
+        """They run in sessions of their own, and end with tests/all, also if it is killed."""
+        self.part("stays", 'echo $$ > "$HERE/processes"; exec sleep 3600')
+        for number in (signal.SIGTERM, signal.SIGKILL):
+            run = subprocess.Popen(self.command("--only", "stays", "--beside", "2"), env=self.environment,
+                                   stdout=subprocess.DEVNULL, stderr=subprocess.DEVNULL)
+            wait_for(self.processes)
+            begun = [process for process, parent, session in everything.processes()
+                     if parent == run.pid and session == process]
+            self.assertEqual(len(begun), 3)
+            run.send_signal(number)
+            self.assertIn(run.wait(LIMIT), (128 + number, -number))
+            if number == signal.SIGKILL:
+                os.kill(self.processes()[0], number)
+            wait_for(lambda: not any(map(self.is_running, begun)))
             os.remove(self.path("processes"))
 
 

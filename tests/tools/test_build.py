@@ -6,11 +6,10 @@ import shutil
 import signal
 import subprocess
 import sys
-import time
 import types
 import unittest
 
-from tool import ROOT, ToolCase, module_at, module_of
+from tool import LIMIT, ROOT, ToolCase, module_at, module_of, wait_for
 
 build = module_of("build")
 side_by_side = module_at(os.path.join(ROOT, "tools", "side_by_side.py"), "side_by_side")
@@ -22,7 +21,7 @@ crate=$(basename "$PWD")
 echo "$$ $crate $*" >> "$RT_CALLS"
 case $RT_DOES in
   "fail $crate") echo "sim_b is wrong"; exit 1 ;;
-  "slow $crate") sleep 60 & sleep 60 ;;
+  "slow $crate") sleep 3600 & sleep 3600 ;;
   "killed $crate") [ -e "$RT_CALLS.killed" ] || { touch "$RT_CALLS.killed"; kill -9 $$; } ;;
   "always killed $crate") echo "rt: the check was killed"; exit 137 ;;
   "edit $crate") touch ../sim_a/src/lib.rt ;;
@@ -58,7 +57,7 @@ class Build(ToolCase):
 
     def build(self, *words, does=""):
         run = self.start(*words, does=does)
-        out, err = run.communicate(timeout=60)
+        out, err = run.communicate(timeout=LIMIT)
         self.assertEqual(os.listdir(self.path("tmp")), [])
         return run.returncode, out, [line.removeprefix("sqs_rehearse: ") for line in err.splitlines()]
 
@@ -68,9 +67,7 @@ class Build(ToolCase):
         return [line.split(" ", 2) for line in path.read_text().splitlines()] if path.exists() else []
 
     def await_call(self, crate):
-        ends = time.monotonic() + 60
-        while not any(call[1] == crate for call in self.calls()) and time.monotonic() < ends:
-            time.sleep(0.02)
+        wait_for(lambda: any(call[1] == crate for call in self.calls()))
 
     def is_running(self, process):
         """Whether a process goes on; one that has ended may still wait for somebody to ask for its status."""
@@ -147,7 +144,7 @@ class Build(ToolCase):
             run = self.start(does="slow sim_b")
             self.await_call("sim_b")
             run.send_signal(number)
-            err = run.communicate(timeout=60)[1]
+            err = run.communicate(timeout=LIMIT)[1]
             self.assertEqual((run.returncode, err.splitlines()[-1]), (expected, f"sqs_rehearse: {build.INTERRUPTED}"))
             self.assertFalse([call for call in self.calls() if self.is_running(call[0])])
             self.assertEqual(os.listdir(self.path("tmp")), [])
@@ -158,10 +155,7 @@ class Build(ToolCase):
         self.await_call("sim_b")
         run.kill()
         run.communicate()
-        ends = time.monotonic() + 60
-        while any(self.is_running(call[0]) for call in self.calls()) and time.monotonic() < ends:
-            time.sleep(0.02)
-        self.assertFalse([call for call in self.calls() if self.is_running(call[0])])
+        wait_for(lambda: not any(self.is_running(call[0]) for call in self.calls()))
 
     def test_a_second_build_waits_for_the_first(self):
         first = self.start(does="wait sim_a")
@@ -170,12 +164,15 @@ class Build(ToolCase):
         self.assertEqual(second.stderr.readline(), "sqs_rehearse: another build is under way in this folder; this one "
                          "waits for it, and takes what it proves\n")
         self.write("calls.go", "")
-        self.assertEqual((first.wait(60), second.wait(60)), (0, 0))
-        first.communicate(), second.communicate()
-        third = self.start(does="wait sim_a")
-        third.send_signal(signal.SIGTERM)
-        self.assertIn(third.wait(60), (143, -signal.SIGTERM))
-        third.communicate()
+        first.communicate(timeout=LIMIT), second.communicate(timeout=LIMIT)
+        self.assertEqual((first.returncode, second.returncode), (0, 0))
+
+    def test_a_build_that_is_ended_at_its_start(self):
+        """Wherever it is by then, it does not get past the first crate."""
+        run = self.start(does="wait sim_a")
+        run.send_signal(signal.SIGTERM)
+        run.communicate(timeout=LIMIT)
+        self.assertIn(run.returncode, (143, -signal.SIGTERM))
 
 
 class Order(unittest.TestCase):

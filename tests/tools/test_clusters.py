@@ -6,11 +6,9 @@ import signal
 import subprocess
 import sys
 import tempfile
-import time
 import unittest
-from collections.abc import Callable
 
-from tool import TOOLS, ToolCase, needs_program
+from tool import TOOLS, ToolCase, needs_program, wait_for
 
 SCHEDULER, WORKER = shutil.which("dask-scheduler"), shutil.which("dask-worker")
 needs_dask = unittest.skipUnless(SCHEDULER and WORKER, "Dask is not here: apt-get install python3-distributed")
@@ -41,13 +39,6 @@ script = "calls.csv"
 """
 CALLS = "at,call,body,group,id,delay,receipt,max,wait,timeout,task\n1000,send,hello,,,,,,,,\n"
 ROWS_BEFORE_THE_END = 6
-
-
-def wait_for(is_so: Callable[[], bool]) -> None:
-    until = time.monotonic() + 60
-    while not is_so():
-        assert time.monotonic() < until, "it has not come in a minute"
-        time.sleep(0.05)
 
 
 class Cluster:

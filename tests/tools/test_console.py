@@ -9,7 +9,7 @@ import sys
 import time
 import unittest
 
-from tool import LOG_HEADER, ROOT, SENT, TOOLS, USERS_TOOLS, ToolCase
+from tool import LIMIT, LOG_HEADER, ROOT, SENT, TOOLS, USERS_TOOLS, ToolCase, read_whole
 import helps
 from rehearse_tools.console import Fault, check_output, with_commands, write_text
 
@@ -137,23 +137,18 @@ class Ends(ToolCase):
 
 class Reading(ToolCase):
     def test_progress_on_a_terminal_alone(self):
-        """A second after its beginning a tool tells how far it is, and takes the line away again."""
+        """A second after its beginning a tool tells how far it is, and takes the line away again. However slow it is,
+        it has begun when more is written than a pipe holds, and finds the rest more than a second later."""
         log = LOG_HEADER + b"".join(b"%d,q,s,receive,wait,,,\n" % at for at in range(100_000, 160_000))
         for is_terminal in (True, False):
             reader, writer = pty.openpty() if is_terminal else os.pipe()
             run = subprocess.Popen([sys.executable, os.path.join(TOOLS, "summary"), "-"], stdin=subprocess.PIPE,
                                    stdout=subprocess.DEVNULL, stderr=writer)
             os.close(writer)
-            run.stdin.write(log[:200_000])    # more than a pipe holds, so that the tool has begun to read
+            run.stdin.write(log[:200_000])
             time.sleep(1.1)
-            run.communicate(log[200_000:], timeout=60)
-            told = b""
-            try:
-                while data := os.read(reader, 4096):
-                    told += data
-            except OSError:
-                pass    # the terminal has no writer any more
-            os.close(reader)
+            run.communicate(log[200_000:], timeout=LIMIT)
+            told = read_whole(reader)
             self.assertEqual(run.returncode, 0)
             self.assertRegex(told, rb"^(\rsummary: [0-2] MB of standard input read\x1b\[K)+\r\x1b\[K$" if is_terminal
                              else rb"^$")

@@ -3,11 +3,10 @@ import os
 import signal
 import subprocess
 import sys
-import time
 import unittest
 
 from test_sweep import SCENARIO, STAND_IN
-from tool import TOOLS, ToolCase
+from tool import LIMIT, TOOLS, ToolCase, wait_for
 
 
 class Jobs(ToolCase):
@@ -82,18 +81,18 @@ class Jobs(ToolCase):
         self.assertEqual((status, len(out.splitlines())), (0, 2))
 
     def test_a_job_that_is_ended_leaves_no_file(self) -> None:
-        """As a scheduler ends it, or a person: the seed of 77 takes a minute."""
+        """As a scheduler ends it, or a person, once it has told of one variant and the next one, of seed 77, runs."""
         words = self.scenario, "--vary", "queue.q.visibility_s=2", "--vary", "seed=1,77,3"
         for number in (signal.SIGTERM, signal.SIGINT):
             command = [sys.executable, os.path.join(TOOLS, "sweep"), *words, "--share", "1/1", "--results", "results",
                        "--program", self.program, "--jobs", "1"]
             process = subprocess.Popen(command, cwd=self.folder, stderr=subprocess.PIPE, text=True)
-            while not os.path.exists(self.path("begun")):
-                time.sleep(0.02)
-            time.sleep(0.2)
+            assert process.stderr is not None
+            self.assertIn("1 of 3 variants run", process.stderr.readline())
+            wait_for(lambda: os.path.exists(self.path("begun")))
             os.remove(self.path("begun"))
             process.send_signal(number)
-            _, err = process.communicate(timeout=60)
+            _, err = process.communicate(timeout=LIMIT)
             self.assertEqual((process.returncode, self.files()), (130, []), err)
             self.assertIn("interrupted after 1 of 3 variants", err)
         self.assertEqual(len(self.sweep(*words, "--print-jobs", "results", "--rest")[1].splitlines()), 3)

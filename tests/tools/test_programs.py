@@ -6,10 +6,9 @@ import pathlib
 import shutil
 import signal
 import subprocess
-import time
 import unittest
 
-from tool import ROOT, ToolCase, module_of
+from tool import LIMIT, ROOT, ToolCase, module_of, wait_for
 
 BUILD_IT = "./sqs_rehearse --build builds it"
 NO_DIST = f"the program is not built yet, and dist/ has no program: {BUILD_IT}"
@@ -28,7 +27,7 @@ if [ $# -gt 0 ]; then shift; exec "$@"; fi
 # In the place of gzip: it unpacks once, to be compared, and then takes long.
 SLOW_GZIP = """#!/bin/bash
 if mkdir "$CALLS.first" 2> /dev/null; then exec /bin/gzip "$@"; fi
-echo slow >> "$CALLS"; exec sleep 60
+echo slow >> "$CALLS"; exec sleep 3600
 """
 
 
@@ -239,10 +238,9 @@ class Dist(WrapperCase):
         self.make_program("kit/gzip", SLOW_GZIP)
         run = subprocess.Popen([self.path("sqs_rehearse"), "run"], env=self.environment, stdin=subprocess.DEVNULL,
                                stderr=subprocess.PIPE, text=True, start_new_session=True)
-        while not self.calls():
-            time.sleep(0.02)
+        wait_for(self.calls)
         os.killpg(run.pid, signal.SIGTERM)
-        run.communicate(timeout=60)
+        run.communicate(timeout=LIMIT)
         self.assertEqual((run.returncode, self.cached()), (-signal.SIGTERM, []))
         os.remove(self.path("kit/gzip"))
         self.assertEqual(self.run_it("run")[:2], (0, "packed run\n"))

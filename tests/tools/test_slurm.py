@@ -4,12 +4,10 @@ import shutil
 import socket
 import subprocess
 import tempfile
-import time
 import unittest
-from collections.abc import Callable
 
 from test_clusters import CALLS, SCENARIO
-from tool import PROGRAM, ROOT, ToolCase, needs_program
+from tool import PROGRAM, ROOT, ToolCase, needs_program, wait_for
 
 SCRIPT = os.path.join(ROOT, "examples", "sweeps", "slurm.sh")
 SERVERS = [shutil.which(name, path=os.environ.get("PATH", os.defpath) + ":/usr/sbin")
@@ -40,7 +38,10 @@ SchedulerType=sched/builtin
 SwitchType=switch/none
 MpiDefault=none
 ReturnToService=2
-KillWait=2
+KillWait=60
+MessageTimeout=100
+TCPTimeout=60
+BatchStartTimeout=600
 NodeName=n1 NodeHostname=localhost NodeAddr=127.0.0.1 Port={ports[1]} CPUs={cpus} State=UNKNOWN
 NodeName=n2 NodeHostname=localhost NodeAddr=127.0.0.1 Port={ports[2]} CPUs={cpus} State=UNKNOWN
 PartitionName=all Nodes=n1,n2 Default=YES MaxTime=INFINITE State=UP
@@ -54,13 +55,22 @@ exec {program} "$@"
 """
 
 
-def free_ports(count: int) -> list[int]:
-    """Ports on which nobody listens."""
-    sockets = [socket.create_server(("127.0.0.1", 0)) for _ in range(count)]
-    ports = [opened.getsockname()[1] for opened in sockets]
-    for opened in sockets:
-        opened.close()
-    return ports
+def free_ports(case: unittest.TestCase, count: int) -> list[int]:
+    """Ports on which nobody listens, and which the system gives to nobody who asks for any port. Another run of this
+    test finds others, as this one holds the port before them."""
+    for first in range(20_000, 30_000, count + 1):
+        held: list[socket.socket] = []
+        try:
+            for port in range(first, first + count + 1):
+                held.append(socket.create_server(("127.0.0.1", port)))
+        except OSError:
+            continue
+        finally:
+            for opened in held[1:] if len(held) > count else held:
+                opened.close()
+        case.addCleanup(held[0].close)
+        return list(range(first + 1, first + count + 1))
+    raise AssertionError("no ports are free")
 
 
 @needs_slurm
@@ -73,7 +83,7 @@ class Slurm(ToolCase):
         self.environment = {**os.environ, "SLURM_CONF": os.path.join(self.servers, "slurm.conf"),
                             "SQS_REHEARSE": str(PROGRAM)}
         with open(self.environment["SLURM_CONF"], "w", encoding="utf-8") as file:
-            file.write(CONFIGURATION.format(folder=self.servers, ports=free_ports(3), cpus=os.cpu_count()))
+            file.write(CONFIGURATION.format(folder=self.servers, ports=free_ports(self, 3), cpus=os.cpu_count()))
         with open(os.path.join(self.servers, "munge.key"), "wb") as key:
             os.chmod(key.fileno(), 0o400)
             key.write(os.urandom(1024))
@@ -98,11 +108,11 @@ class Slurm(ToolCase):
         files = {f"--{of}-file": os.path.join(self.servers, f"munge.{of}") for of in ("key", "log", "pid", "seed")}
         self.start(munged, "--force", "--foreground", f"--socket={self.servers}/munge.socket",
                    *(f"{option}={path}" for option, path in files.items()))
-        self.wait_for(lambda: os.path.exists(f"{self.servers}/munge.socket"))
+        wait_for(lambda: os.path.exists(f"{self.servers}/munge.socket"))
         self.start(control, "-D")
         self.start(node, "-D", "-N", "n1")
         self.start(node, "-D", "-N", "n2")
-        self.wait_for(lambda: self.answer("sinfo", "--noheader", "--format=%D %t") == "2 idle")
+        wait_for(lambda: self.answer("sinfo", "--noheader", "--format=%D %t") == "2 idle")
 
     def start(self, *words: str) -> None:
         """A process that is ended with the test."""
@@ -111,25 +121,21 @@ class Slurm(ToolCase):
         self.addCleanup(process.wait)
         self.addCleanup(process.terminate)
 
-    def wait_for(self, is_so: Callable[[], bool]) -> None:
-        until = time.monotonic() + 60
-        while not is_so():
-            self.assertLess(time.monotonic(), until, "it has not come in a minute")
-            time.sleep(0.1)
-
-    def answer(self, *words: str) -> str:
-        """What a command of Slurm prints."""
-        return subprocess.run(words, capture_output=True, text=True, env=self.environment).stdout.strip()
+    def answer(self, *words: str) -> str | None:
+        """What a command of Slurm prints; None if it fails, as it does while it reaches no server."""
+        ran = subprocess.run(words, capture_output=True, text=True, env=self.environment)
+        return None if ran.returncode else ran.stdout.strip()
 
     def submit(self, array: str, shares: int) -> str:
         """The number of the job that runs some shares."""
         told = self.answer("sbatch", f"--array={array}", "--cpus-per-task=1", f"--chdir={ROOT}",
                            f"--error={self.path('errors')}", SCRIPT, str(shares), self.path("results"), *self.words)
+        assert told is not None
         self.assertRegex(told, "^Submitted batch job [0-9]+$")
         return told.split()[-1]
 
     def wait_until_ended(self) -> None:
-        self.wait_for(lambda: not self.answer("squeue", "--noheader"))
+        wait_for(lambda: self.answer("squeue", "--noheader") == "")
 
     def collected(self) -> tuple[int, str, str]:
         return self.run_tool("sweep", "--collect", "results")
@@ -139,7 +145,7 @@ class Slurm(ToolCase):
         wanted = self.run_tool("sweep", *self.words)[1]
         hold = self.hold_runs()
         job = self.submit("1-2", 2)
-        self.wait_for(lambda: os.path.exists(self.path("begun")))
+        wait_for(lambda: os.path.exists(self.path("begun")))
         subprocess.run(["scancel", f"{job}_2"], check=True, env=self.environment)
         self.wait_until_ended()
         os.remove(hold)

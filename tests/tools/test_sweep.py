@@ -7,11 +7,10 @@ import shlex
 import signal
 import subprocess
 import sys
-import time
 import tomllib
 import unittest
 
-from tool import PROGRAM, ROOT, TOOLS, ToolCase, needs_program
+from tool import LIMIT, PROGRAM, ROOT, TOOLS, ToolCase, needs_program, read_whole, wait_for
 
 COLUMNS = ("sends,repeats,receives,empties,deletes,expiries,redrives,moves,arrivals,OverLimit,MessageNotInflight,"
            "ReceiptHandleIsInvalid,BadTimeout,MissingGroup,MissingDeduplication,BadDelay,TaskRunning,NoTask,depth_max,"
@@ -32,7 +31,7 @@ queue = "q"
 """
 # It starts quickly, as many runs are needed. It reports 100 sends for each second of visibility and one for each unit of
 # the seed, and refuses a visibility over 50.
-# A seed of 77 makes the file begun and takes a minute; with a worker the greatest age is the seed in seconds, and
+# A seed of 77 makes the file begun and takes an hour; with a worker the greatest age is the seed in seconds, and
 # without one it is not there.
 STAND_IN = f"""#!/bin/sh
 [ "$*" = --help ] && exit 0
@@ -47,7 +46,7 @@ while read -r key equals value; do
 done
 if [ "$seed" = 77 ]; then
   : > begun
-  exec sleep 60
+  exec sleep 3600
 fi
 if [ "$visibility" -gt 50 ]; then
   echo "refused 14 OutOfRange at queue[0].visibility_s" >&2
@@ -279,33 +278,30 @@ r         2     0          0      0       0         0           0      0        
                                                      ["", "q", "2", "5.5", "6.364"]))
 
     def test_rows_so_far_are_kept_on_an_interrupt(self):
+        """It comes when the first variant has been told, and the second one, of seed 77, runs."""
         for number, words in ((signal.SIGINT, ()), (signal.SIGTERM, ("--output", "rows.csv"))):
-            command = [sys.executable, os.path.join(TOOLS, "sweep"), self.scenario, "--vary", "seed=1,2,77,4",
+            command = [sys.executable, os.path.join(TOOLS, "sweep"), self.scenario, "--vary", "seed=1,77,4",
                        "--jobs", "1", "--columns", "sends", "--program", self.program, *words]
             pipe = subprocess.PIPE
             process = subprocess.Popen(command, cwd=self.folder, stdout=pipe, stderr=pipe, text=True)
-            self.assertIn("1 of 4 variants run", process.stderr.readline())
-            while not os.path.exists(self.path("begun")):
-                time.sleep(0.02)
-            time.sleep(0.5)
+            self.assertIn("1 of 3 variants run", process.stderr.readline())
+            wait_for(lambda: os.path.exists(self.path("begun")))
             os.remove(self.path("begun"))
             process.send_signal(number)
-            out, err = process.communicate(timeout=60)
+            out, err = process.communicate(timeout=LIMIT)
             if words:
                 with open(self.path("rows.csv"), encoding="utf-8") as file:
                     out = file.read()
-            self.assertEqual((process.returncode, out), (130, "seed,failed,queue,sends\n1,,q,101\n1,,r,0\n2,,q,102\n"
-                                                         "2,,r,0\n"))
-            self.assertIn("sweep: interrupted after 2 of 4 variants\n", err)
+            self.assertEqual((process.returncode, out), (130, "seed,failed,queue,sends\n1,,q,101\n1,,r,0\n"))
+            self.assertIn("sweep: interrupted after 1 of 3 variants\n", err)
 
     def test_progress_on_a_terminal_is_one_line(self):
         reader, writer = pty.openpty()
         run = subprocess.Popen([sys.executable, os.path.join(TOOLS, "sweep"), self.scenario, "--vary", "seed=1..3",
                                 "--jobs", "1", "--program", self.program], stdout=subprocess.PIPE, stderr=writer)
         os.close(writer)
-        out = run.communicate(timeout=60)[0]
-        told = os.read(reader, 4096)
-        os.close(reader)
+        out = run.communicate(timeout=LIMIT)[0]
+        told = read_whole(reader)
         self.assertEqual((run.returncode, len(out.splitlines())), (0, 7))
         self.assertRegex(told, rb"^(\r(sweep: [12] of 3 variants run, 0 failed)?\x1b\[K)+sweep: 3 of 3 variants run, "
                                rb"0 failed\r\n$")

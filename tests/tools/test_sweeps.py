@@ -18,7 +18,7 @@ echo "$@" > words
 exec xargs -d '\\n' -n 1 -P 2 sh -c
 """
 # In the place of ssh: it notes each host, of which `dead` never answers, and `dying` only the first time. A job of `alive`
-# waits until `dying` was given one, or for a minute.
+# waits until `dying` was given one, or for ten minutes.
 SSH = """#!/bin/sh
 while [ "${1#-}" != "$1" ]; do
   case $1 in -o|-l|-p) shift 2;; *) shift;; esac
@@ -29,7 +29,7 @@ echo "$host" >> "$CALLS"
 [ "$host" = dead ] && exit 255
 [ "$host" = dying ] && [ "$(grep -c dying "$CALLS")" -gt 1 ] && exit 255
 tries=0
-while [ "$host" = alive ] && [ "$1" != true ] && [ "$(grep -c dying "$CALLS")" -lt 2 ] && [ $tries -lt 600 ]; do
+while [ "$host" = alive ] && [ "$1" != true ] && [ "$(grep -c dying "$CALLS")" -lt 2 ] && [ $tries -lt 6000 ]; do
   sleep 0.1
   tries=$((tries + 1))
 done

@@ -14,6 +14,7 @@ import socket
 import subprocess
 import sys
 import tempfile
+import time
 import unittest
 
 HERE = os.path.dirname(os.path.abspath(__file__))
@@ -21,6 +22,8 @@ ROOT = os.path.dirname(os.path.dirname(HERE))
 TOOLS = os.path.join(ROOT, "tools")
 PROGRAM = os.environ.get("SQS_REHEARSE")
 needs_program = unittest.skipUnless(PROGRAM, "SQS_REHEARSE does not name the program")
+# Seconds after which what a test waits for is taken to hang; a busy machine may take long.
+LIMIT = 600
 
 sys.path.insert(0, TOOLS)
 from rehearse_tools.__main__ import TOOLS as USERS_TOOLS  # noqa: E402 (the folder of the package comes first)
@@ -79,6 +82,26 @@ HOSTILE_LOGS = {
     "backward": LOG_HEADER + SENT.replace(b"0,q", b"9,q", 1) + SENT,
     "a line without end": LOG_HEADER + b"0" * 3_000_000,
 }
+
+
+def wait_for(is_so):
+    """Waits until something holds, and fails if it hangs. So a test makes sure of what has to come first."""
+    until = time.monotonic() + LIMIT
+    while not is_so():
+        assert time.monotonic() < until, f"it has not come in {LIMIT} s"
+        time.sleep(0.02)
+
+
+def read_whole(reader):
+    """All that was written to a pipe or a terminal, which nobody has open for writing any more."""
+    text = b""
+    try:
+        while more := os.read(reader, 65_536):
+            text += more
+    except OSError:
+        pass    # so a terminal tells it
+    os.close(reader)
+    return text
 
 
 def row_of(at, message, detail=""):
