@@ -181,6 +181,14 @@ class Dist(WrapperCase):
         self.write("crates.txt", "test_a: sim_a hex\nsqs_rehearse: sim_a\nsim_a:\n")
         self.assertEqual(self.run_it("run")[:2], (0, "packed run\n"))
 
+    def test_folders_that_cd_looks_through(self):
+        """With CDPATH, cd prints where it went, and may go to another folder than was named."""
+        self.make_dist()
+        ran = subprocess.run([os.path.join(os.path.basename(self.folder), "sqs_rehearse"), "run"], text=True,
+                             cwd=os.path.dirname(self.folder), stdin=subprocess.DEVNULL, capture_output=True,
+                             env={**self.environment, "CDPATH": ".:/", "SQS_REHEARSE_BUILD": "never"})
+        self.assertEqual((ran.returncode, ran.stdout), (0, "packed run\n"), ran.stderr)
+
     def test_damage(self):
         self.make_dist()
         packed = pathlib.Path(self.path("dist/sqs_rehearse-x86_64-linux.gz"))
