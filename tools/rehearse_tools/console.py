@@ -9,6 +9,7 @@ import importlib.util
 import io
 import os
 import re
+import signal
 import stat
 import sys
 import tempfile
@@ -16,6 +17,8 @@ import time
 from collections.abc import Callable, Container
 from typing import Any, NoReturn, TextIO
 
+# The signals, beside SIGINT, by which a person or a scheduler ends a tool.
+ENDING = (signal.SIGTERM, signal.SIGHUP)
 # The folder of the commands.
 TOOLS = os.path.dirname(os.path.dirname(os.path.abspath(__file__)))
 # Where Debian's packages put libraries, which another Python than Debian's does not look into.
@@ -28,6 +31,10 @@ TOOL_NAMED = re.compile(r"(?<![\w/.-])tools/([a-z][a-z-]*)(?![\w/-]|\.\w)")
 
 class Fault(Exception):
     """Bad input or usage; its text is the one line that the user gets."""
+
+
+class Stopped(BaseException):
+    """A signal that ends the tool, by its number, once what is open is closed and what is temporary is removed."""
 
 
 class Parser(argparse.ArgumentParser):
@@ -247,8 +254,22 @@ def told(fault: str) -> int:
     return 2
 
 
+def take_signals(take: Callable[..., object] | signal.Handlers) -> None:
+    """Gives the signals that end a tool to a function, without those that are ignored, as SIGHUP is after nohup."""
+    for number in ENDING:
+        if signal.getsignal(number) != signal.SIG_IGN:
+            signal.signal(number, take)
+
+
+def stop(number: int, *_: object) -> NoReturn:
+    """Ends the tool by an exception, which no second signal disturbs."""
+    take_signals(signal.SIG_IGN)
+    raise Stopped(number)
+
+
 def ended(main: Callable[[list[str]], int]) -> int:
     """Runs `main` on the words of the command line and returns the status of the tool."""
+    take_signals(stop)
     try:
         return ended_as_told(main)
     finally:
@@ -276,5 +297,7 @@ def ended_as_told(main: Callable[[list[str]], int]) -> int:
         return told(f"cannot write standard output: {error.strerror}")
     except KeyboardInterrupt:
         return 130
+    except Stopped as stopped:
+        return 128 + int(stopped.args[0])
     except (MemoryError, RecursionError) as error:
         return told(f"the input is too {'deep' if isinstance(error, RecursionError) else 'large'}")

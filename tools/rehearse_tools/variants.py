@@ -13,7 +13,7 @@ from concurrent.futures import Future, ThreadPoolExecutor
 from contextlib import contextmanager
 from typing import Any, NamedTuple
 
-from .console import Fault, Progress, is_terminal, tool
+from .console import Fault, Progress, is_terminal, stop, take_signals, tool
 from .keys import PREVIEW
 from .programs import preview_words
 from .runs import ALL_COLUMNS, COLUMNS, Ages, Counting, Ended, Engine, Extra, Ran, Take, piped, run
@@ -251,7 +251,7 @@ class Sweep:
         """The outcomes of variants in the order of their numbers, each as soon as those before it are there. They end
         early if there is an interrupt."""
         signal.signal(signal.SIGINT, self.interrupt)
-        signal.signal(signal.SIGTERM, self.interrupt)
+        take_signals(self.interrupt)
         pool = ThreadPoolExecutor(jobs)
         waiting: deque[tuple[int, Future[Outcome]]] = deque()
         rest = iter(numbers)
@@ -275,7 +275,7 @@ class Sweep:
         """Ends the runs that are under way, so that the rows before them can be written; a second one ends all."""
         self.interrupted = True
         signal.signal(signal.SIGINT, signal.default_int_handler)
-        signal.signal(signal.SIGTERM, signal.SIG_DFL)
+        take_signals(stop)
         for process in list(self.running):
             process.kill()
         self.cancel()
