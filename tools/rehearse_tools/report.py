@@ -47,7 +47,7 @@ from .overview import cells_of
 from .programs import TOP, program_of, reading_words
 from .requirements import Failure, Requirement
 from .runs import COLUMNS, Ages, Counting, extra_of, reported
-from .scenarios import names_of, parsed, written
+from .scenarios import names_of, parsed, scripts_in, written
 from .starting import ran
 from .summaries import LINES, Queue, Reading, Run, cell_of, is_told, lost_in, lost_told, note_of, read_runs
 from .units import duration, window_of
@@ -211,7 +211,7 @@ def origin_of(text: str, scenario: dict[str, Any], folder: str) -> str:
     now = int(seconds) if seconds.isdecimal() and len(seconds) < 12 else int(time.time())
     date = datetime.datetime.fromtimestamp(now, datetime.timezone.utc).date()
     version = read_text(os.path.join(TOP, "tools", "VERSION")).strip()
-    names = dict.fromkeys(actor["script"] for actor in scenario.get("actor", []) if "script" in actor)
+    names = scripts_in(scenario)
     sums = [("scenario", checksum(text.encode("utf-8"))),
             *((name, checksum(read_bytes(os.path.join(folder, name)))) for name in names)]
     return f"sqs_rehearse {version}, {date}. SHA-256 of the {', of '.join(f'{name} {found}' for name, found in sums)}."
@@ -429,6 +429,14 @@ def text_within(text: str, options: Namespace) -> str:
     return cut
 
 
+def scripts_of(text: str, options: Namespace) -> list[str]:
+    """The paths of the scripts that a scenario's text names, if the program may take it."""
+    try:
+        return [os.path.join(options.scripts, name) for name in scripts_in(parsed(text, options.scenario))]
+    except Fault:
+        return []
+
+
 def main(words: Sequence[str]) -> int:
     options = options_of(words)
     check_title(options.title)
@@ -444,8 +452,8 @@ def main(words: Sequence[str]) -> int:
     cut_text = text_within(text, options)
     check_library("plotly", "python3-plotly")
     check_library("numpy", "python3-numpy")
-    check_output(options.output)
     program = program_of(options.program)
+    check_output(options.output, [options.scenario, program, *scripts_of(text, options)])
     # a file without a name is gone with the tool, whatever ends it
     with tempfile.TemporaryFile() as log:
         refusal = run_program(program, cut_text, reading_words(options), log)
