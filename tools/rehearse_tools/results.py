@@ -260,7 +260,8 @@ def collected(files: Iterable[tuple[str, str | Fault]], mark: str | None = None)
     """What the files of a folder hold together, each given by its name and its text.
 
     A file that is cut, changed, short of a queue or foreign is refused, and its variants are left unless another file
-    has them. A variant that two files have with equal rows counts once; else the later file is refused. Without `mark` all files have to be of one sweep; with it those of others are foreign.
+    has them. A variant that two files have with equal rows counts once; else the later file is refused. Without `mark`
+    all files have to be of one sweep; with it those of others are foreign.
     """
     results, faults = [], []
     for name, text in files:
