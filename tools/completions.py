@@ -21,16 +21,25 @@ _sqs_rehearse_words() {
 %s
   esac
 }
-# _sqs_rehearse_queues: prints the queues of the scenarios, and of the first rows of the logs, that the words name
-_sqs_rehearse_queues() {
+# _sqs_rehearse_read: prints what stands for a queue in the scenarios, and in the first rows of the logs, that the words
+# name
+_sqs_rehearse_read() {
   local path
   for path in "${COMP_WORDS[@]:1}"; do
     if [[ -f $path && $path == *.toml ]]; then
-      awk -F '"' '/^[[]/ { is_queue = /^[[][[]queue[]][]]/ } is_queue && /^name *=/ { print $2 }' "$path"
+      awk -F '"' '/^[[]/ { is_queue = /^[[][[]queue[]][]]/ } is_queue && /^name *=/ { print $2 }' < "$path"
     elif [[ -f $path ]]; then
-      head -n 1000 "$path" | awk -F , '$1 ~ /^[0-9]+$/ { print $2 }' | sort -u
+      head -n 1000 < "$path" | awk -F , '$1 ~ /^[0-9]+$/ { print $2 }' | sort -u
     fi
   done 2> /dev/null
+}
+# _sqs_rehearse_offer_queues: offers the names of queues among them that begin as the word does. What was read of a file
+# is not given to compgen -W, which would run a command in it.
+_sqs_rehearse_offer_queues() {
+  local name
+  while IFS= read -r name; do
+    if [[ $name =~ ^[A-Za-z0-9_-]{1,80}([.]fifo)?$ && $name == "$word"* ]]; then COMPREPLY+=("$name"); fi
+  done < <(_sqs_rehearse_read)
 }
 # _sqs_rehearse_offer KIND..: offers what compgen has of a kind and begins as the word does
 _sqs_rehearse_offer() {
@@ -51,7 +60,7 @@ _sqs_rehearse() {
   COMPREPLY=()
   if [[ " $files " == *" ${before:-.} "* ]]; then _sqs_rehearse_offer -f
   elif [[ " $folders " == *" ${before:-.} "* ]]; then _sqs_rehearse_offer -d
-  elif [[ " $queues " == *" ${before:-.} "* ]]; then _sqs_rehearse_offer -W "$(_sqs_rehearse_queues)"
+  elif [[ " $queues " == *" ${before:-.} "* ]]; then _sqs_rehearse_offer_queues
   elif [[ " $others " == *" ${before:-.} "* ]]; then :
   elif [[ $word == -* ]]; then _sqs_rehearse_offer -W "$options"
   elif [[ -n $words && $COMP_CWORD == "$first" ]]; then _sqs_rehearse_offer -W "$words"

@@ -13,9 +13,12 @@ export PARALLEL_SHELL=${PARALLEL_SHELL:-/bin/sh}
 if [ $# = 1 ]; then exec parallel --retries 3 < "$1"; fi
 # ssh gives up a host that hangs after 45 seconds, and parallel then gives its jobs to others
 export PARALLEL_SSH=${PARALLEL_SSH:-ssh -o ServerAliveInterval=15 -o ServerAliveCountMax=3 -o ConnectTimeout=15}
-# ask HOST: prints its line of HOSTS if it answers. parallel's own --filter-hosts drops hosts that need ten seconds.
+# ask HOST: prints its line of HOSTS if it answers. parallel's own --filter-hosts drops hosts that need ten seconds. ssh
+# and parallel would take a line that is no name for options and commands.
 ask() {
-  if [ "$1" = "${1%:}" ] && ! $PARALLEL_SSH "${1##*/}" true < /dev/null > /dev/null 2>&1; then
+  if [[ ! $1 =~ ^([0-9]+/)?(:|[A-Za-z0-9_][A-Za-z0-9_.:@%-]*)$ ]]; then
+    printf 'parallel.sh: %q is no name of a host, so it gets no jobs\n' "$1" >&2
+  elif [ "$1" = "${1%:}" ] && ! $PARALLEL_SSH "${1##*/}" true < /dev/null > /dev/null 2>&1; then
     echo "parallel.sh: ${1##*/} does not answer, so it gets no jobs" >&2
   else
     echo "$1"

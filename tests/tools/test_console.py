@@ -8,6 +8,7 @@ import subprocess
 import sys
 import time
 import unittest
+from unittest import mock
 
 from tool import LIMIT, LOG_HEADER, ROOT, SENT, TOOLS, USERS_TOOLS, ToolCase, read_whole
 import helps
@@ -161,11 +162,76 @@ class Writing(ToolCase):
 
     def test_what_cannot_be_written_is_told_before_the_work(self):
         path = self.write("file", "")
-        for wrong in (self.folder, os.path.join(path, "x"), os.path.join(path, "x", "y")):
+        for wrong in (self.folder, os.path.join(path, "x"), os.path.join(path, "x", "y"), self.path("new/x")):
             with self.assertRaises(Fault):
                 check_output(wrong)
-        check_output(os.path.join(self.folder, "new", "x"))
-        self.assertEqual(os.listdir(os.path.join(self.folder, "new")), [])
+        self.assertEqual(os.listdir(self.folder), ["file"])
+
+    def test_a_file_is_written_whole_or_not_at_all(self):
+        """It has the rights that the user gives to new files. A link that stands where it is written first is not
+        followed, and nothing is left over."""
+        before = os.umask(0o027)
+        self.addCleanup(os.umask, before)
+        write_text(self.path("new"), "x")
+        self.assertEqual(stat.S_IMODE(os.stat(self.path("new")).st_mode), 0o640)
+        self.write("other", "kept")
+        os.symlink("other", self.path("new.0.part"))
+        with mock.patch("secrets.token_hex", return_value="0"), self.assertRaisesRegex(Fault, "File exists"):
+            write_text(self.path("new"), "y")
+        with mock.patch("os.replace", side_effect=OSError(28, "No space left")), self.assertRaises(Fault):
+            write_text(self.path("new"), "y")
+        self.assertEqual(sorted(os.listdir(self.folder)), ["new", "other"])
+        self.assertEqual([pathlib.Path(self.path(name)).read_text() for name in ("new", "other")], ["x", "kept"])
+
+
+class Outputs(ToolCase):
+    """What each tool is asked to write into."""
+
+    def setUp(self):
+        super().setUp()
+        for name in ("log", "times", "plan", "rows", "queue", "measured", "a.csv", "s.svg"):
+            self.write(name, name)
+        for name in ("s.toml", "o.toml"):
+            self.write(name, 'version = 1\nhorizon = 9\n[[queue]]\nname = "q"\n[[actor]]\nscript = "a.csv"\n')
+        os.chmod(self.write("program", "#!/bin/sh\n"), 0o755)
+        os.link(self.path("s.toml"), self.path("linked"))
+        os.symlink("a.csv", self.path("led.svg"))
+
+    def test_an_input_is_not_written_over(self):
+        """Also by another name, a link or as a script of the scenario; nothing is changed or made."""
+        before = {name: pathlib.Path(self.path(name)).read_bytes() for name in os.listdir(self.folder)}
+        sweep = "sweep s.toml --vary seed=1 --program ./program "
+        for command, read in (
+                ("metrics log --output log", "log"), ("metrics log --against measured --output measured", "measured"),
+                ("metrics - --output log", "standard input"), ("picture led.svg --output led.svg", "led.svg"),
+                ("picture log --scenario s.svg --output s.svg", "s.svg"),
+                ("picture --sweep s.svg --column q.sends --output ./s.svg", "s.svg"),
+                ("from-plan plan --output ./plan", "plan"), ("from-queue queue --output queue", "queue"),
+                ("arrivals times times --output times", "times"),
+                ("report s.toml --program ./program --output linked", "s.toml"),
+                ("report s.toml --program ./program --output led.svg", "./a.csv"),
+                (sweep + "--output s.toml", "s.toml"), (sweep + "--output a.csv", "./a.csv"),
+                (sweep + "--output program", self.path("program")),
+                (sweep + "--spread seed --settling led.svg", "./a.csv"),
+                (sweep + "--spread seed --against o.toml --output o.toml", "o.toml"),
+                ("sweep s.toml --vary seed=1 --print-scenario --output s.toml", "s.toml")):
+            with self.subTest(command=command), open(self.path("log"), "rb") as file:
+                name, *words = command.split()
+                ran = subprocess.run([sys.executable, os.path.join(TOOLS, name), *words], cwd=self.folder, stdin=file,
+                                     capture_output=True, text=True)
+                told = f"{name}: cannot write {words[-1]}: it is the file that is read as {read}, and is to stay\n"
+                self.assertEqual((ran.returncode, ran.stdout, ran.stderr), (2, "", told))
+        self.assertEqual({name: pathlib.Path(self.path(name)).read_bytes() for name in os.listdir(self.folder)}, before)
+
+    def test_no_folder_is_made(self):
+        for command in ("metrics log", "picture log", "from-plan plan", "from-queue queue", "arrivals times times",
+                        "report s.toml --program ./program", "sweep s.toml --vary seed=1 --program ./program",
+                        "sweep s.toml --vary seed=1 --print-scenario"):
+            with self.subTest(command=command):
+                name, *words = command.split()
+                self.assert_fault(self.run_tool(name, *words, "--output", "a/b/c.svg"),
+                                  f"{name}: cannot write a/b/c.svg: there is no folder a/b")
+        self.assertFalse(os.path.exists(self.path("a")))
 
 
 if __name__ == "__main__":

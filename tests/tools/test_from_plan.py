@@ -369,6 +369,13 @@ class FromPlan(ToolCase):
         for words, line in ((("--parameter", "Stage"), "Stage is no parameter, as Stage=prod"),
                             (("--parameter", "Other=1"), "the template has no parameter Other")):
             self.assert_fault(self.run_tool("from-plan", self.write("given", SAM), *words), f"from-plan: {line}")
+        for number, told in (("0x" + "f" * 4_000, "a number has too many digits"), ("!!int ''", None),
+                             (":".join("1" * 3_000), "a number has too many digits")):
+            path = self.write("number", "Resources:\n  Q:\n    Type: AWS::SQS::Queue\n"
+                                        f"    Properties: {{VisibilityTimeout: {number}}}\n")
+            status, out, err = self.run_tool("from-plan", path)
+            self.assertEqual((status, out, len(err.splitlines())), (2, "", 1), err)
+            self.assertIn(f"{path} is neither JSON nor YAML: {told or ''}", err)
         self.assert_fault(self.run_tool("from-plan", self.write("given", json.dumps(PLAN)), "--parameter", "a=b"),
                           "from-plan: --parameter goes with a template; a plan has the values of its variables")
 

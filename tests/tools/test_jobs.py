@@ -5,8 +5,67 @@ import subprocess
 import sys
 import unittest
 
-from test_sweep import SCENARIO, STAND_IN
+from test_sweep import COLUMNS, SCENARIO, STAND_IN
 from tool import LIMIT, TOOLS, ToolCase, wait_for
+from rehearse_tools.results import Head, result_text
+
+
+# It reports as many sends as the script has lines, and waits at the seed 3 until the test has changed what it reads.
+OF_SCRIPT = f"""#!/bin/sh
+[ "$*" = --help ] && exit 0
+while read -r key equals value; do case $key in seed) seed=$value;; esac; done
+if [ "$seed" = 3 ]; then
+  echo > begun
+  read -r line < changed
+fi
+echo "final,queue,message,origin,place,due,enqueued,receives,group,md5"
+echo "report,queue,{COLUMNS}"
+echo "report,q,$(($(wc -l < "$3/sends.csv"))),{"0," * 22},,,"
+"""
+ACTOR = '[[actor]]\nname = "a"\nkind = "script"\nqueue = "q"\nscript = "sends.csv"\n'
+
+
+class Mixed(ToolCase):
+    """The script and the program become others in the middle of a sweep."""
+
+    def setUp(self) -> None:
+        super().setUp()
+        self.write("s.toml", SCENARIO.replace('[[queue]]\nname = "r"\n', "") + ACTOR)
+        self.write("sends.csv", "1\n")
+        os.chmod(self.write("program", OF_SCRIPT), 0o755)
+        for name in ("begun", "changed"):
+            os.mkfifo(self.path(name))
+
+    def swept(self, *words: str) -> tuple[int, str]:
+        """Status and output of a sweep in whose third run the files are changed."""
+        command = [sys.executable, os.path.join(TOOLS, "sweep"), "s.toml", "--vary", "seed=1..6", "--jobs", "1",
+                   "--program", "./program", *words]
+        process = subprocess.Popen(command, cwd=self.folder, stdout=subprocess.PIPE, stderr=subprocess.DEVNULL,
+                                   text=True)
+        self.addCleanup(process.kill)
+        with open(self.path("begun"), encoding="utf-8") as file:
+            file.read()
+        self.write("new", OF_SCRIPT.replace('$(($(wc -l < "$3/sends.csv")))', "777"))
+        os.chmod(self.path("new"), 0o755)
+        os.replace(self.path("new"), self.path("program"))
+        self.write("sends.csv", "1\n2\n3\n")
+        with open(self.path("changed"), "w", encoding="utf-8") as file:
+            file.write("go on\n")
+        out = process.communicate(timeout=60)[0]
+        return process.returncode, out
+
+    def test_a_share_has_one_script_and_one_program(self) -> None:
+        words = "s.toml", "--vary", "seed=1..6", "--program", "./program", "--print-jobs", "results"
+        mark = self.run_tool("sweep", *words)[1].split("--mark ")[1].split()[0]
+        self.assertEqual(self.swept("--share", "1/1", "--results", "results"), (0, ""))
+        self.assertEqual(os.listdir(self.path("results")), [f"1-of-1-{mark}.csv"])
+        status, out, err = self.run_tool("sweep", "--collect", "results", "--columns", "sends")
+        self.assertEqual((status, out, err),
+                         (0, "seed,failed,queue,sends\n" + "".join(f"{seed},,q,1\n" for seed in range(1, 7)), ""))
+
+    def test_a_sweep_has_one_script_and_one_program(self) -> None:
+        self.assertEqual(self.swept("--columns", "sends"), (0, "seed,failed,queue,sends\n" + "".join(
+            f"{seed},,q,1\n" for seed in range(1, 7))))
 
 
 class Jobs(ToolCase):
@@ -124,7 +183,7 @@ class Jobs(ToolCase):
             self.run_job(job)
         marks = ", ".join(sorted([old, new]))
         self.assert_fault(self.sweep("--collect", "results"),
-                          f"sweep: there are results of 2 sweeps, {marks}, which should be one")
+                          f"sweep: there are results of 2 sweeps, {marks}, which should be one: --mark names it")
         status, out, err = self.sweep("--collect", "results", "--mark", new)
         self.assertEqual((status, len(out.splitlines()), err.splitlines()[-1]),
                          (1, 7, "sweep: 3 of 6 variants are left: 4-6"))
@@ -132,6 +191,29 @@ class Jobs(ToolCase):
                           "sweep: results has no whole result of the sweep 01234567: "
                           f"{self.files()[0]} is foreign: it is of the sweep {self.files()[0][-12:-4]}, and not of "
                           "01234567")
+
+    def test_a_share_that_the_program_refuses_stays_refused(self) -> None:
+        """Asked for again, it is there, and has the status of a refusal again."""
+        words = (self.scenario, "--vary", "queue.q.visibility_s=51,2", "--share", "1/1", "--results", "results")
+        self.assertEqual(self.sweep(*words)[0], 1)
+        status, out, err = self.sweep(*words)
+        path = os.path.join("results", self.files()[0])
+        self.assertEqual((status, out, err),
+                         (1, "", f"sweep: {path} is there already, in which 1 of 2 variants failed\n"))
+
+    def test_results_of_another_version_of_the_program(self) -> None:
+        rows = {1: [["1", "", "q", "7"]]}
+        head = Head("0" * 64, "0" * 64, "0" * 64, (("vary", "seed=1"),), 1, 1)
+        os.mkdir(self.results)
+        self.write(f"results/1-of-1-{head.mark}.csv", result_text(head, ["seed", "failed", "queue", "sends"], rows))
+        self.assert_fault(self.sweep("--collect", "results", "--columns", "age_p95"),
+                          "sweep: the results in results are of another version of the program, whose report has other "
+                          "columns")
+
+    def test_a_job_is_one_line(self) -> None:
+        self.assert_fault(self.sweep(*self.words, "--print-jobs", "a\nb"),
+                          f"sweep: a job is one line, and {os.path.join(self.folder, 'a') + chr(10) + 'b'!r} has a line "
+                          "end")
 
     def test_scripts_and_the_program_are_parts_of_the_mark(self) -> None:
         scenario = self.write("a.toml", SCENARIO + '[[actor]]\nname = "a"\nkind = "script"\nqueue = "q"\n'

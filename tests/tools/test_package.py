@@ -329,8 +329,8 @@ def completed(script, folder, lines):
     """What bash has for the last word of each line of words, in the order of the alphabet."""
     text = 'source "$1"; shift; complete -p "${1##*/}" > /dev/null || exit; COMP_WORDS=("$@"); COMP_CWORD=$(($# - 1)); '
     text += '_sqs_rehearse; printf "%s\\n" "${COMPREPLY[@]}"'
-    ran = [subprocess.run(["bash", "-c", text, "bash", script, *words], cwd=folder, text=True, capture_output=True)
-           for words in lines]
+    ran = [subprocess.run(["bash", "-c", text, "bash", script, *words], cwd=folder, stdin=subprocess.DEVNULL, text=True,
+                          capture_output=True) for words in lines]
     return [sorted(run.stdout.split("\n")[:-1 if run.stdout != "\n" else 0]) + run.stderr.splitlines() for run in ran]
 
 
@@ -418,6 +418,24 @@ class Helps(ToolCase):
         }
         lines = [case.split(" ") for case in cases]
         self.assertEqual(dict(zip(cases, completed(self.script, self.folder, lines))), cases)
+
+    def test_a_completion_runs_nothing_that_it_reads(self):
+        """Neither a command in the queue of a log or a scenario, nor one in a word; and no path is taken for more."""
+        commands = "$(touch${IFS}pwned)", "`touch${IFS}pwned`", "${x:=$(touch${IFS}pwned)}", "a;touch pwned", "~", "*"
+        queues = "orders", "orders.fifo", "o" * 81, "o.fifo.fifo", *commands
+        self.write("evil.csv", "".join(f"{at},{queue},a,send\n" for at, queue in enumerate(queues)))
+        tables = "".join(f'[[queue]]\nname = "{queue}"\n' for queue in queues)
+        for name in ("evil.toml", "a=b.toml", "-f.toml", "/$(touch${IFS}pwned).toml"):
+            os.makedirs(os.path.dirname(self.path(f"./{name}")), exist_ok=True)
+            self.write(f"./{name}", tables)
+        for name in ("evil.csv", "evil.toml", "a=b.toml", "-f.toml", "$(touch${IFS}pwned).toml"):
+            for word in ("", "o", *commands):
+                with self.subTest(name=name, word=word):
+                    found, = completed(self.script, self.folder, [["sqs_rehearse", "summary", name, "--queue", word]])
+                    self.assertEqual(found, ["orders", "orders.fifo"] if word in ("", "o") else [])
+        self.assertEqual(completed(self.script, self.folder, [["sqs_rehearse", "$(touch pwned)", "-"]]), [[]])
+        self.assertEqual(sorted(os.listdir(self.folder)),
+                         ["$(touch${IFS}pwned).toml", "-f.toml", "a=b.toml", "evil.csv", "evil.toml", "script"])
 
     def test_each_option_is_completed(self):
         lines = [["sqs_rehearse", name, "--"] for name in self.tools()[:7]]

@@ -6,6 +6,7 @@ import pathlib
 import shutil
 import signal
 import subprocess
+import sys
 import unittest
 
 from tool import LIMIT, ROOT, ToolCase, module_of, wait_for
@@ -13,6 +14,7 @@ from tool import LIMIT, ROOT, ToolCase, module_of, wait_for
 BUILD_IT = "./sqs_rehearse --build builds it"
 NO_DIST = f"the program is not built yet, and dist/ has no program: {BUILD_IT}"
 OTHER_SOURCES = f"the program is not built yet, and dist/ has the program of other sources: {BUILD_IT}"
+NO_LOG = "cannot write {}: it is the file that is read as {}, and is to stay"
 # In the place of the program: it prints its own name and its words.
 PROGRAM = '#!/bin/sh\necho {} "$@"\n'
 # In the place of tools/build: it makes a program and goes on as the command that follows.
@@ -179,6 +181,14 @@ class Dist(WrapperCase):
         self.write("crates/sim_a/src/notes.txt", "")
         self.write("crates.txt", "test_a: sim_a hex\nsqs_rehearse: sim_a\nsim_a:\n")
         self.assertEqual(self.run_it("run")[:2], (0, "packed run\n"))
+
+    def test_folders_that_cd_looks_through(self):
+        """With CDPATH, cd prints where it went, and may go to another folder than was named."""
+        self.make_dist()
+        ran = subprocess.run([os.path.join(os.path.basename(self.folder), "sqs_rehearse"), "run"], text=True,
+                             cwd=os.path.dirname(self.folder), stdin=subprocess.DEVNULL, capture_output=True,
+                             env={**self.environment, "CDPATH": ".:/", "SQS_REHEARSE_BUILD": "never"})
+        self.assertEqual((ran.returncode, ran.stdout), (0, "packed run\n"), ran.stderr)
 
     def test_damage(self):
         self.make_dist()
@@ -356,6 +366,56 @@ class Words(WrapperCase):
                             "sqs_rehearse setup installs it on Debian", PATH=self.path("kit"))
         self.make_program("tools/setup", "#!/bin/bash\necho installs\n")
         self.assertEqual(self.run_it("setup", PATH=self.path("kit")), (0, "installs\n", ""))
+
+    def test_a_tool_with_an_older_python(self):
+        """It is refused in one line, and a run that prints to the tool ends as if the tool had read all."""
+        self.make_program("tools/summary", "#!/bin/sh\necho runs\n")
+        self.make_program("kit/python3", "#!/bin/sh\necho 'python3 is Python 3.9'\n")
+        line = "summary needs Python 3.11 or later, and python3 is Python 3.9"
+        self.assert_refused(["summary", "-"], line)
+        self.assert_refused(["summary", "run.log"], line)
+        reader, writer = os.pipe()
+        with open(writer, "wb") as file:
+            file.write(b"x" * 50_000)
+        with open(reader, "rb") as file:
+            ran = subprocess.run([self.path("sqs_rehearse"), "summary", "-"], env=self.environment, stdin=file,
+                                 capture_output=True, text=True)
+            self.assertEqual((ran.returncode, ran.stderr, file.read()), (2, f"sqs_rehearse: {line}\n", b""))
+        self.make_program("kit/python3", "#!/bin/sh\nexit 1\n")
+        self.assert_refused(["summary"], "summary needs Python 3.11 or later, and python3 does not run")
+
+    def test_the_package_with_an_older_python(self):
+        text = "import sys; sys.version_info = (3, 9, 1); sys.argv = ['tools/summary']; import rehearse_tools"
+        ran = subprocess.run([sys.executable, "-c", text], cwd=os.path.join(ROOT, "tools"), capture_output=True,
+                             text=True)
+        self.assertEqual((ran.returncode, ran.stdout, ran.stderr),
+                         (2, "", "summary needs Python 3.11 or later, and this is Python 3.9\n"))
+
+    def test_a_log_over_what_is_read(self):
+        """Also by another name of the file, as standard input, and as a script; else the program is run."""
+        self.make_built()
+        self.write("s.toml", "script = 'a.csv'\n\"script\"=\"b.csv\"\nbody = \"c.csv\"\n")
+        os.link(self.path("s.toml"), self.path("linked"))
+        os.mkdir(self.path("scripts"))
+        for name in ("a.csv", "b.csv", "c.csv"):
+            self.write(f"scripts/{name}", name)
+        os.symlink("b.csv", self.path("scripts/led"))
+        scenario, scripts = self.path("s.toml"), self.path("scripts")
+        for words, read in (
+                (["--log", scenario, scenario], scenario), (["--log=" + self.path("linked"), scenario], scenario),
+                (["--window", "5", "--quiet", "--log", scenario, "--", scenario], scenario),
+                (["--scripts", scripts, "--log", f"{scripts}/a.csv", scenario], f"{scripts}/a.csv"),
+                ([scenario, f"--scripts={scripts}", "--log", f"{scripts}/led"], f"{scripts}/b.csv")):
+            with self.subTest(words=words):
+                log = " ".join(words).replace("--log=", "--log ").partition("--log ")[2].split()[0]
+                self.assert_refused(["run", *words], NO_LOG.format(log, read))
+        with open(scenario, "rb") as file:
+            ran = subprocess.run([self.path("sqs_rehearse"), "run", "--log", self.path("linked")], stdin=file,
+                                 env=self.environment, text=True, capture_output=True)
+        self.assertEqual((ran.returncode, ran.stderr),
+                         (2, f"sqs_rehearse: {NO_LOG.format(self.path('linked'), '/dev/stdin')}\n"))
+        for log in (f"{scripts}/c.csv", self.path("new"), "/dev/null"):
+            self.assertEqual(self.run_it("run", "--scripts", scripts, "--log", log, scenario)[0], 0)
 
     def test_a_tool_builds_nothing(self):
         shutil.rmtree(self.path("tools"))

@@ -1,4 +1,5 @@
 """Tests the files of a sweep's jobs: what is whole is read, and what is doubled, foreign, cut or short is refused."""
+import os
 import unittest
 from unittest import mock
 
@@ -63,6 +64,12 @@ class Format(unittest.TestCase):
         row = ["5", "1", 'refused 14 "OutOfRange", at\u00e9', "", "", ""]
         text = results.result_text(head(), COLUMNS, {6: [row]})
         self.assertEqual(results.read_result(f"06-of-10-{head().mark}.csv", text).rows, {6: [row]})
+
+    def test_a_refused_scenario_without_queues(self) -> None:
+        row = ["5", "1", "refused 12 MissingKey at version", "", "", ""]
+        of_head = head()._replace(queues=0)
+        text = results.result_text(of_head, COLUMNS, {6: [row]})
+        self.assertEqual(results.read_result(f"06-of-10-{of_head.mark}.csv", text).rows, {6: [row]})
 
     def test_each_part_of_a_sweep_changes_its_mark(self) -> None:
         """The scenario (F3), its scripts by name and bytes, the program, and the settings in their order."""
@@ -208,7 +215,7 @@ class Files(ToolCase):
         with mock.patch("os.replace", side_effect=OSError(28, "No space left on device")):
             with self.assertRaisesRegex(Fault, "cannot write .*: No space left on device"):
                 self.write_share(1)
-        self.assertEqual(results.files_in(self.folder), [])
+        self.assertEqual(os.listdir(self.folder), [])
 
     def test_bytes_that_are_no_text_are_refused_by_name(self) -> None:
         name, text = file_of(4)
@@ -216,6 +223,16 @@ class Files(ToolCase):
             file.write(text.encode().replace(b"10713", b"1071\xff"))
         found = results.collected(results.files_in(self.folder))
         self.assertEqual(found.faults, [f"{name} is not as it was written: its checksum is another"])
+
+    def test_what_is_no_file_is_refused_alone(self) -> None:
+        """A folder, a link that leads nowhere and a pipe under names of results; the others count."""
+        self.write_share(1)
+        names = [file_of(number)[0] for number in (2, 3, 4)]
+        os.mkdir(self.path(names[0]))
+        os.symlink("nowhere", self.path(names[1]))
+        os.mkfifo(self.path(names[2]))
+        found = results.collected(results.files_in(self.folder))
+        self.assertEqual((found.faults, found.left), ([f"{name} is no file" for name in names], [*range(2, 11)]))
 
     def test_a_folder_that_is_not_there(self) -> None:
         with self.assertRaisesRegex(Fault, "cannot read .*/none: No such file or directory"):
@@ -261,8 +278,13 @@ class Collected(unittest.TestCase):
         del self.files[file_of(6)[0]]
         self.files[f"5-of-10-{head().mark}.csv"] = file_of(5)[1]
         found = self.collected()
-        self.assertEqual(found.left, [6])
-        self.assertEqual(found.faults, [f"5-of-10-{head().mark}.csv is doubled: {file_of(5)[0]} has variant 5 too"])
+        self.assertEqual((found.left, found.faults, len(found.rows)), ([6], [], 18))
+
+    def test_two_numbers_of_shares_in_one_folder(self) -> None:
+        """Share 1 of 2 has the variants 1, 3, .. and share 3 of 10 has 3 again, with equal rows."""
+        self.files = dict([file_of(1, 2), file_of(3), *(file_of(number) for number in (2, 4, 6, 8, 10))])
+        found = self.collected()
+        self.assertEqual((found.rows, found.faults, found.left), (self.all_rows(), [], []))
 
     def test_a_second_result_with_other_numbers(self) -> None:
         self.files.update([file_of(1, 1, sends=9)])
@@ -275,7 +297,8 @@ class Collected(unittest.TestCase):
         new = head(b"version = 1\n# fail_permille 600\n")
         self.files.update(file_of(number, of_head=new, sends=598) for number in range(1, 6))
         marks = ", ".join(sorted([head().mark, new.mark]))
-        with self.assertRaisesRegex(Fault, f"there are results of 2 sweeps, {marks}, which should be one"):
+        line = f"there are results of 2 sweeps, {marks}, which should be one: --mark names it"
+        with self.assertRaisesRegex(Fault, line):
             self.collected()
         found = self.collected(new.mark)
         self.assertEqual((found.left, len(found.rows), len(found.faults)), ([6, 7, 8, 9, 10], 10, 10))

@@ -83,6 +83,22 @@ class Sweep(ToolCase):
         self.assertEqual([row[:5] for row in rows if row[3] == "r"],
                          [[v, s, "", "r", "0"] for v in "25" for s in "123"])
 
+    def test_a_run_that_is_given_twice(self):
+        """With --spread it would count as another, independent one, however its value is spelled."""
+        for words, told in ((["--vary", "seed=3,4,3"], "seed=3"), (["--vary", "seed=3,03"], "seed=03"),
+                            (["--vary", "seed=3,+3"], "seed=+3"),
+                            (["--vary", "queue.q.visibility_s=5,5", "--vary", "seed=1,2"], "queue.q.visibility_s=5"),
+                            (["--vary", "seed=1,2,1", "--zip", "actor.a.script=a,b,a"], "seed=1 actor.a.script=a")):
+            with self.subTest(words=words):
+                self.write("s.toml", SCENARIO + '[[actor]]\nname = "a"\n')
+                self.assert_fault(self.sweep(self.scenario, *words, "--spread", "seed"), f"sweep: {told} is given "
+                                  "twice, and --spread counts each run as an independent one")
+        status, out, _ = self.sweep(self.scenario, "--vary", "seed=3,3", "--columns", "sends")
+        self.assertEqual((status, len(out.splitlines())), (0, 5))
+        status, _, err = self.sweep(self.scenario, "--vary", "seed=1,1", "--zip", "actor.a.script=a,b", "--spread",
+                                    "seed")
+        self.assertEqual(status, 0, err)
+
     def test_a_variant_that_is_refused(self):
         status, out, _ = self.sweep(self.scenario, "--vary", "queue.q.visibility_s=51,2")
         header, rows = self.records(out)
@@ -271,8 +287,8 @@ queue  runs  mean  deviation  least  median  greatest  half_width   mean  deviat
 q         2   5.5      6.364      1     5.5        10      57.178  105.5      6.364    101   105.5       110      57.178
 r         2     0          0      0       0         0           0      0          0      0       0         0           0
 """)
-        self.assertEqual(self.sweep(*words, "--spread", "seed", "--output", "new/rows.csv")[0], 0)
-        with open(self.path("new/rows.csv"), encoding="utf-8") as file:
+        self.assertEqual(self.sweep(*words, "--spread", "seed", "--output", "rows.csv")[0], 0)
+        with open(self.path("rows.csv"), encoding="utf-8") as file:
             header, rows = self.records(file.read())
         self.assertEqual((header[:5], rows[0][:5]), (["failed", "queue", "runs", "age_sum_mean", "age_sum_deviation"],
                                                      ["", "q", "2", "5.5", "6.364"]))

@@ -62,9 +62,10 @@ class Sweeps(ToolCase):
         self.assertEqual(len(os.listdir(self.path("results"))), files)
 
     def test_shares(self):
-        self.run_it(f"{FILES}/share.sh", "jobs", "1", "2")
+        os.rename(self.path("jobs"), self.path("of=1"))    # which awk would take for a setting
+        self.run_it(f"{FILES}/share.sh", "of=1", "1", "2")
         self.assertEqual(len(os.listdir(self.path("results"))), 3)
-        self.run_it(f"{FILES}/share.sh", "jobs", "2", "2")
+        self.run_it(f"{FILES}/share.sh", "of=1", "2", "2")
         self.assert_collected()
 
     def test_words_that_are_missing(self):
@@ -109,6 +110,15 @@ class Sweeps(ToolCase):
         self.assertEqual(hosts.count("dead"), 1, hosts)
         self.assertGreaterEqual(hosts.count("dying"), 2, hosts)
         self.assertEqual(hosts.count("alive"), 6, hosts)
+
+    def test_a_line_that_is_no_host(self):
+        """Neither an option of ssh nor a command of the shell: nothing is run for it."""
+        for line in ("-oProxyCommand=touch pwned", "4/-oProxyCommand=touch", "a;touch pwned", "1/$(touch pwned)"):
+            with self.subTest(line=line):
+                status, errors = self.run_on_hosts(line)
+                self.assertEqual((status, errors.splitlines()[1:]), (1, ["parallel.sh: no host of hosts answers"]))
+                self.assertIn(" is no name of a host, so it gets no jobs\n", errors)
+        self.assertEqual(sorted(os.listdir(self.folder)), ["hosts", "jobs", "program", "s.toml", "ssh"])
 
     def test_no_host_that_answers(self):
         status, errors = self.run_on_hosts("4/dead")

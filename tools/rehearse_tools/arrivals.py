@@ -316,9 +316,11 @@ def write_scripts(records: list[list[Any]], options: Namespace) -> None:
     lanes = [records[lane::options.side_by_side] for lane in range(options.side_by_side)]
     parts = [lane[place:place + RECORDS_MOST] for lane in lanes for place in range(0, len(lane), RECORDS_MOST)]
     base, end = os.path.splitext(options.output)
+    paths = [options.output] if len(parts) == 1 else [f"{base}-{number}{end}" for number in range(1, len(parts) + 1)]
+    for path in paths:
+        check_output(path, [getattr(options, "file", None)])
     tables = []
-    for number, part in enumerate(parts, 1):
-        path = options.output if len(parts) == 1 else f"{base}-{number}{end}"
+    for path, part in zip(paths, parts):
         text = script_text(part)
         if len(text.encode("utf-8", "replace")) > BYTES_MOST:
             raise Fault(f"a script has over {BYTES_MOST:,} bytes")
@@ -385,7 +387,7 @@ def main(words: Sequence[str]) -> int:
     if options.kind == "times" and not (options.group_ids is None and options.deduplication_ids is None):
         if not (options.queue or "").endswith(".fifo"):
             raise Fault("message groups and deduplication ids are of a FIFO queue, which --queue names, as orders.fifo")
-    check_output(options.output)
+    check_output(options.output, [getattr(options, "file", None)])
     found = KINDS[options.kind](options)
     arrivals: list[Arrival] = found if options.kind == "times" else [Arrival(time) for time in found]
     tell_put_off(arrivals, options.side_by_side)

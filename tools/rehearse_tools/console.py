@@ -4,18 +4,23 @@ and how they find the libraries that are not part of Python.
 The tools import it; it is not a command.
 """
 import argparse
+import contextlib
 import errno
 import importlib.util
 import io
 import os
 import re
+import secrets
+import signal
 import stat
 import sys
 import tempfile
 import time
-from collections.abc import Callable, Container
+from collections.abc import Callable, Container, Iterable
 from typing import Any, NoReturn, TextIO
 
+# The signals, beside SIGINT, by which a person or a scheduler ends a tool.
+ENDING = (signal.SIGTERM, signal.SIGHUP)
 # The folder of the commands.
 TOOLS = os.path.dirname(os.path.dirname(os.path.abspath(__file__)))
 # Where Debian's packages put libraries, which another Python than Debian's does not look into.
@@ -28,6 +33,10 @@ TOOL_NAMED = re.compile(r"(?<![\w/.-])tools/([a-z][a-z-]*)(?![\w/-]|\.\w)")
 
 class Fault(Exception):
     """Bad input or usage; its text is the one line that the user gets."""
+
+
+class Stopped(BaseException):
+    """A signal that ends the tool, by its number, once what is open is closed and what is temporary is removed."""
 
 
 class Parser(argparse.ArgumentParser):
@@ -102,15 +111,16 @@ def check_title(title: str | None) -> None:
         raise Fault(f"a title is one line of printable characters: {shown(title)}")
 
 
-def check_output(path: str | None) -> None:
-    """Checks, before the work begins, that the output file can be written. Its folder may be made."""
+def check_output(path: str | None, inputs: Iterable[str | None] = ()) -> None:
+    """Checks, before the work begins, that the output file can be written, and that it is none of the inputs."""
     if path is None:
         return
     folder = os.path.dirname(os.path.abspath(path))
     try:
-        if os.path.lexists(folder) and not os.path.isdir(folder):
+        if not os.path.exists(folder):
+            raise Fault(f"cannot write {path}: there is no folder {os.path.dirname(path)}")
+        if not os.path.isdir(folder):
             raise OSError(errno.ENOTDIR, os.strerror(errno.ENOTDIR))
-        os.makedirs(folder, exist_ok=True)
         if os.path.isdir(path):
             raise OSError(errno.EISDIR, os.strerror(errno.EISDIR))
         if not is_special(path):
@@ -118,6 +128,28 @@ def check_output(path: str | None) -> None:
                 pass
     except OSError as error:
         raise Fault(f"cannot write {path}: {error.strerror}") from None
+    except ValueError:
+        raise Fault(f"cannot write {shown(path)}: no file has such a name") from None
+    for name in inputs:
+        if name is not None and is_same_file(path, name):
+            read = "standard input" if name == "-" else name
+            raise Fault(f"cannot write {path}: it is the file that is read as {read}, and is to stay")
+
+
+def is_same_file(path: str, name: str) -> bool:
+    """Whether a path is that of a plain file that is also read by a name, which is - for standard input."""
+    try:
+        return not is_special(path) and os.path.samestat(os.stat(path), os.fstat(0) if name == "-" else os.stat(name))
+    except (OSError, ValueError):
+        return False
+
+
+def make_folder(path: str) -> None:
+    """Makes a folder for output, unless it is there."""
+    try:
+        os.makedirs(path, exist_ok=True)
+    except OSError as error:
+        raise Fault(f"cannot make the folder {path}: {error.strerror}") from None
 
 
 def is_special(path: str) -> bool:
@@ -134,14 +166,27 @@ def write_text(path: str | None, text: str) -> None:
 
 
 def write_bytes(path: str, data: bytes) -> None:
-    partial = path if is_special(path) else f"{path}.{os.getpid()}.part"
     try:
-        with open(partial, "wb") as file:
-            file.write(data)
-        if partial != path:
-            os.replace(partial, path)
+        if is_special(path):
+            with open(path, "wb") as file:
+                file.write(data)
+        else:
+            replace_file(path, data)
     except OSError as error:
         raise Fault(f"cannot write {path}: {error.strerror}") from None
+
+
+def replace_file(path: str, data: bytes) -> None:
+    """Writes a file beside a path and then renames it. Its name is a new one, also among processes of several machines
+    and containers, and no link that stands there is followed."""
+    partial = f"{path}.{secrets.token_hex(8)}.part"
+    try:
+        with open(partial, "xb") as file:
+            file.write(data)
+        os.replace(partial, path)
+    finally:
+        with contextlib.suppress(FileNotFoundError):
+            os.unlink(partial)
 
 
 def print_text(text: str) -> None:
@@ -247,8 +292,22 @@ def told(fault: str) -> int:
     return 2
 
 
+def take_signals(take: Callable[..., object] | signal.Handlers) -> None:
+    """Gives the signals that end a tool to a function, without those that are ignored, as SIGHUP is after nohup."""
+    for number in ENDING:
+        if signal.getsignal(number) != signal.SIG_IGN:
+            signal.signal(number, take)
+
+
+def stop(number: int, *_: object) -> NoReturn:
+    """Ends the tool by an exception, which no second signal disturbs."""
+    take_signals(signal.SIG_IGN)
+    raise Stopped(number)
+
+
 def ended(main: Callable[[list[str]], int]) -> int:
     """Runs `main` on the words of the command line and returns the status of the tool."""
+    take_signals(stop)
     try:
         return ended_as_told(main)
     finally:
@@ -276,5 +335,7 @@ def ended_as_told(main: Callable[[list[str]], int]) -> int:
         return told(f"cannot write standard output: {error.strerror}")
     except KeyboardInterrupt:
         return 130
+    except Stopped as stopped:
+        return 128 + int(stopped.args[0])
     except (MemoryError, RecursionError) as error:
         return told(f"the input is too {'deep' if isinstance(error, RecursionError) else 'large'}")

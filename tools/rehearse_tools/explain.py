@@ -17,7 +17,6 @@ Examples:
 import difflib
 import os
 import re
-import subprocess
 import tempfile
 import tomllib
 from collections.abc import Iterator, Sequence
@@ -30,6 +29,7 @@ from .positions import Lost, Path, Positions
 from .programs import program_of, reading_words
 from .scenarios import text_of_value as text_of
 from .scripts import fault_of_script
+from .starting import ran
 
 REFUSED = re.compile(r"refused ([0-9]+) ([A-Za-z]+)(?: at (.*))?", re.S)
 PLACE = re.compile(r"(queue|actor|task)\[([0-9]+)\](?:\.(.*))?", re.S)
@@ -469,11 +469,10 @@ def explanation(text: str, path: str, folder: str, refusal: re.Match[str]) -> st
 
 def checked(program: str, data: bytes, words: Sequence[str]) -> tuple[int, str, str]:
     """Status and lines of the program's check of a scenario's bytes, with some options."""
-    with tempfile.TemporaryFile() as file:
-        file.write(data)
-        file.seek(0)
-        run = subprocess.run([program, "check", *words], stdin=file, capture_output=True)
-    return run.returncode, run.stdout.decode("utf-8", "replace"), run.stderr.decode("utf-8", "replace")
+    with tempfile.TemporaryFile() as out:
+        status, told = ran([program, "check", *words], data, out)
+        out.seek(0)
+        return status, out.read().decode("utf-8", "replace"), told.decode("utf-8", "replace")
 
 
 def main(words: Sequence[str]) -> int:

@@ -77,7 +77,7 @@ def main(words: Sequence[str]) -> int:
     parser.add_argument("--preview", action="store_true")
     add_options(parser)
     options = parser.parse_args(words)
-    check_options(options)
+    check_options(options, [options.file])
     found, wiring, source, called = found_in(options.file, parameters_of(options.parameter))
     if not found:
         raise Fault(f"{options.file} has no queues")

@@ -74,6 +74,6 @@ def main(words: Sequence[str]) -> int:
     parser.add_argument("--depth", action="store_true")
     add_options(parser)
     options = parser.parse_args(words)
-    check_options(options)
+    check_options(options, options.files)
     queues = [queue_in(path, options.latency, options.depth) for path in options.files]
     return tell_and_write(with_dead_letters(queues, "file"), options, "their attributes")

@@ -6,11 +6,12 @@ import os
 import shlex
 from typing import NamedTuple
 
-from .console import Fault, check_output, path_of, print_text, read_bytes, shown
+from .console import Fault, check_output, make_folder, path_of, print_text, read_bytes, shown
 from .programs import preview_words
-from .results import (WINDOW, Collection, Head, Share, checksum, checksum_of_scripts, collected, files_in, left_of,
-                      name_of, ranges_of, read_result, shares_left, write_result)
-from .scenarios import items_of, names_of
+from .results import (WINDOW, Collection, Head, Rows, Share, checksum, checksum_of_scripts, collected, files_in,
+                      left_of, name_of, ranges_of, read_result, shares_left, text_at, write_result)
+from .runs import COLUMNS
+from .scenarios import names_of
 from .variants import Sweep, Told, tell
 
 # How many variants that are left are named.
@@ -26,20 +27,15 @@ class Jobs(NamedTuple):
 
 
 def scripts_of(sweep: Sweep) -> dict[str, bytes]:
-    """The scripts that some variant may read, by their names. The program reports those that are not there."""
-    names = {actor["script"] for actor in items_of(sweep.scenario, "actor") if isinstance(actor.get("script"), str)}
-    for path, words in sweep.settings.values.items():
-        if path.endswith(".script"):
-            names.update(word.strip('"') for word in words)
-    paths = {name: os.path.join(sweep.scripts, name) for name in names}
-    return {name: read_bytes(path) for name, path in paths.items() if os.path.isfile(path)}
+    """The scripts that some variant may read, by their names."""
+    return {name: read_bytes(path) for name, path in sweep.script_paths().items()}
 
 
 def head_of(sweep: Sweep, program: str) -> Head:
     """The data that distinguish the sweep from others, run by the program at a path."""
     if sweep.path == "-":
         raise Fault("jobs read the scenario from a file, and not from standard input")
-    return Head(checksum(read_bytes(sweep.path)), checksum_of_scripts(scripts_of(sweep)),
+    return Head(checksum(sweep.given_text), checksum_of_scripts(scripts_of(sweep)),
                 checksum(read_bytes(program)), tuple(sweep.settings.given), len(sweep.settings),
                 len(names_of(sweep.scenario, "queue")), window_of(sweep))
 
@@ -54,9 +50,12 @@ def command(sweep: Sweep, share: Share, folder: str, mark: str) -> str:
     words = [path_of("sweep"), os.path.abspath(sweep.path)]
     for kind, setting in (*sweep.settings.given, *window_of(sweep)):
         words += [f"--{kind}", setting]
-    words += [*preview_words(sweep.is_preview), "--program", sweep.program]
-    return shlex.join([*words, "--scripts", os.path.abspath(sweep.scripts),
-                       "--share", f"{share.number}/{share.of}", "--mark", mark, "--results", os.path.abspath(folder)])
+    words += [*preview_words(sweep.is_preview), "--program", sweep.program, "--scripts", os.path.abspath(sweep.scripts),
+              "--share", f"{share.number}/{share.of}", "--mark", mark, "--results", os.path.abspath(folder)]
+    for word in words:
+        if "\n" in word:
+            raise Fault(f"a job is one line, and {shown(word)} has a line end")
+    return shlex.join(words)
 
 
 def variants_left(head: Head, folder: str) -> list[int]:
@@ -81,11 +80,14 @@ def run_share(sweep: Sweep, head: Head, share: Share, folder: str, jobs: int) ->
     An interrupted share leaves no file. A variant whose program was ended by a signal is left out of it.
     """
     path = os.path.join(folder, name_of(share, head.mark))
+    make_folder(folder)
     check_output(path)
     numbers = share.variants(head.variants)
-    if is_whole(path, numbers):
-        tell(f"{path} is there already")
-        return 0
+    found = whole_rows(path, numbers)
+    if found is not None:
+        failed = sum(bool(of_variant[0][len(sweep.places)]) for of_variant in found.values())
+        tell(f"{path} is there already" + (f", in which {failed} of {len(numbers)} variants failed" if failed else ""))
+        return 1 if failed else 0
     rows, is_failed, has_lost = {}, False, False
     for number, outcome in sweep.outcomes(numbers, jobs, Told(len(numbers))):
         is_failed = is_failed or outcome.is_failed(len(sweep.places))
@@ -101,13 +103,13 @@ def run_share(sweep: Sweep, head: Head, share: Share, folder: str, jobs: int) ->
     return 1 if is_failed or has_lost else 0
 
 
-def is_whole(path: str, numbers: range) -> bool:
-    """Whether a file is there that has all variants of a share."""
+def whole_rows(path: str, numbers: range) -> Rows | None:
+    """The rows of a file that has all variants of a share; None if there is no such file."""
     try:
-        text = read_bytes(path).decode("utf-8", "replace")
-        return len(read_result(os.path.basename(path), text).rows) == len(numbers)
+        rows = read_result(os.path.basename(path), text_at(path)).rows
     except Fault:
-        return False
+        return None
+    return rows if len(rows) == len(numbers) else None
 
 
 def collect(folder: str, mark: str | None) -> tuple[Collection, Head]:
@@ -117,6 +119,8 @@ def collect(folder: str, mark: str | None) -> tuple[Collection, Head]:
     if collection.head is None:
         raise Fault(f"{folder} has no whole result of {'a sweep' if mark is None else f'the sweep {shown(mark)}'}"
                     + "".join(f": {fault}" for fault in collection.faults[:1]))
+    if collection.columns[len(collection.head.settings) + 2:] != COLUMNS:
+        raise Fault(f"the results in {folder} are of another version of the program, whose report has other columns")
     for fault in collection.faults:
         tell(fault)
     left = collection.left

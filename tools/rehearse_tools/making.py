@@ -54,10 +54,10 @@ def add_options(parser: ArgumentParser) -> None:
     parser.add_argument("--output", metavar="FILE.toml")
 
 
-def check_options(options: Namespace) -> None:
+def check_options(options: Namespace, inputs: Iterable[str]) -> None:
     if not 1 <= options.horizon <= 2_592_000_000 or not 1 <= options.latency <= 900_000:
         raise Fault("a horizon has 1 to 2592000000 ms, a latency 1 to 900000 ms")
-    check_output(options.output)
+    check_output(options.output, inputs)
 
 
 def tell_and_write(queues: list[Queue], options: Namespace, source: str, wiring: Wiring | None = None,

@@ -279,7 +279,7 @@ def main(words: Sequence[str]) -> int:
     if not 1 <= options.period <= PERIODS_MOST:
         raise Fault(f"a period has 1 to {PERIODS_MOST} seconds")
     alarms = [Alarm(text) for text in options.alarm]
-    check_output(options.output)
+    check_output(options.output, [options.log, options.against])
     series = series_in(options.against) if options.against else []
     metrics = Metrics(Log(options.log), options.period * 1_000)
     check_queues(metrics, [*options.queue, *(alarm.queue for alarm in alarms if alarm.queue)])

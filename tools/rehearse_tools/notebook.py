@@ -11,7 +11,6 @@ import csv
 import os
 import re
 import signal
-import subprocess
 import sys
 import tempfile
 import threading
@@ -20,11 +19,12 @@ from contextlib import contextmanager
 from typing import Any, NamedTuple
 
 from . import sweep as tool
-from .console import Fault, library
+from .console import ENDING, Fault, library
 from .logs import FINAL_HEADER, HEADERS, LOG_HEADER, Log
 from .programs import preview_words, program_of
 from .runs import first_line
 from .scenarios import Setting, scenario_at, text_of_value, varied, written
+from .starting import ran, temporary_folder
 from .summaries import Reading, read_runs, values_of
 from .units import window_of
 
@@ -70,14 +70,13 @@ def rehearse(scenario: str, settings: Mapping[str, Value] | None = None, scripts
     `preview` are as for tools/sweep."""
     check_tables(as_lists)
     command = [program_of(program), "run", *preview_words(preview), "--scripts", scripts]
-    with file_of(scenario) as path, tempfile.TemporaryDirectory() as folder:
+    with file_of(scenario) as path, tempfile.TemporaryFile() as out:
         words = {Setting(name): word_of(value) for name, value in (settings or {}).items()}
         text = written(varied(scenario_at(path), words))
-        output = os.path.join(folder, "run.out")
-        with open(output, "wb") as file:
-            ran = subprocess.run(command, input=text.encode("utf-8", "replace"), stdout=file, stderr=subprocess.PIPE)
-        if ran.returncode:
-            raise Fault(first_line(ran.stderr))
+        status, told = ran(command, text.encode("utf-8", "replace"), out)
+        if status:
+            raise Fault(first_line(told))
+        output = f"/dev/fd/{out.fileno()}"
         log = Log(output, wanted=PARTS)
         rows = table_of(LOG_HEADER, log.rows(), as_lists)
         parts = log.parts or {}
@@ -108,7 +107,7 @@ def sweep(scenario: str, vary: Mapping[str, str | Iterable[Value]], as_lists: bo
     runs, and what fails.
     """
     check_tables(as_lists)
-    with file_of(scenario) as path, tempfile.TemporaryDirectory() as folder:
+    with file_of(scenario) as path, temporary_folder() as folder:
         output = os.path.join(folder, "rows.csv")
         words = [*preview_words(preview), *(f"--vary={name}={values_word(values)}" for name, values in vary.items())]
         with called_as("sweep"):
@@ -141,7 +140,7 @@ def file_of(scenario: str) -> Iterator[str]:
     if "\n" not in scenario:
         yield scenario
         return
-    with tempfile.TemporaryDirectory() as folder:
+    with temporary_folder() as folder:
         path = os.path.join(folder, "scenario.toml")
         with open(path, "w", encoding="utf-8", errors="replace", newline="") as file:
             file.write(scenario)
@@ -154,7 +153,7 @@ def called_as(name: str) -> Iterator[None]:
     words, is_main = sys.argv, threading.current_thread() is threading.main_thread()
     if not is_main:
         raise Fault("a sweep runs in the main thread, where it can be interrupted")
-    kept = {number: signal.getsignal(number) for number in (signal.SIGINT, signal.SIGTERM)}
+    kept = {number: signal.getsignal(number) for number in (signal.SIGINT, *ENDING)}
     sys.argv = [name]
     try:
         yield

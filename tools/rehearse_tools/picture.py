@@ -355,7 +355,7 @@ def log_picture(options: Namespace) -> Any:
 
 def main(words: Sequence[str]) -> int:
     options = options_of(words)
-    check_output(options.output)
+    check_output(options.output, [options.log, options.sweep, options.scenario])
     check_library("matplotlib", "python3-matplotlib")
     figure = (sweep_picture if options.sweep else log_picture)(options)
     lacking = letters_without_font(figure) if options.kind != "svg" else ""

@@ -6,6 +6,7 @@ import sys
 from argparse import Namespace
 
 from .console import TOOLS, Fault, read_bytes
+from .starting import started
 
 TOP = os.path.dirname(TOOLS)
 WRAPPER = os.path.join(TOP, "sqs_rehearse")
@@ -41,9 +42,10 @@ def program_of(given: str | None) -> str:
     """The path of the program, which is asked for its help: of the script of the repository, the one that it runs."""
     program = named_program(given)
     found = run_by_wrapper() if is_wrapper(program) else program
+    null = subprocess.DEVNULL
     try:
-        runs = subprocess.run([found, "--help"], stdin=subprocess.DEVNULL, stdout=subprocess.DEVNULL,
-                              stderr=subprocess.DEVNULL).returncode == 0
+        with started([found, "--help"], null, null, null) as process:
+            runs = process.wait() == 0
     except OSError:
         runs = False
     if not runs:

@@ -27,14 +27,13 @@ import hashlib
 import json
 import os
 import shlex
-import subprocess
 import sys
 import tempfile
 import time
 from argparse import Namespace
 from collections.abc import Callable, Iterable, Mapping, Sequence
 from html import escape
-from typing import Any, NamedTuple
+from typing import IO, Any, NamedTuple
 
 from .console import (Fault, Parser, check_library, check_output, check_title, command_of, library, read_bytes,
                       read_text, shown, tool, write_text)
@@ -48,7 +47,8 @@ from .overview import cells_of
 from .programs import TOP, program_of, reading_words
 from .requirements import Failure, Requirement
 from .runs import COLUMNS, Ages, Counting, extra_of, reported
-from .scenarios import names_of, parsed, written
+from .scenarios import names_of, parsed, scripts_in, written
+from .starting import ran
 from .summaries import LINES, Queue, Reading, Run, cell_of, is_told, lost_in, lost_told, note_of, read_runs
 from .units import duration, window_of
 
@@ -121,16 +121,14 @@ function draw(id, traces, layout, options) {{
 """
 
 
-def run_program(program: str, text: str, words: Sequence[str], path: str) -> str | None:
+def run_program(program: str, text: str, words: Sequence[str], out: IO[bytes]) -> str | None:
     """Runs the scenario with some options and writes its log and what follows into a file; returns the refusal, or
     None."""
-    with open(path, "wb") as out:
-        run = subprocess.run([program, "run", "--quiet", *words], input=text.encode("utf-8"), stdout=out,
-                             stderr=subprocess.PIPE)
-    if run.returncode == 0:
+    status, told = ran([program, "run", "--quiet", *words], text.encode("utf-8"), out)
+    if status == 0:
         return None
-    lines = run.stderr.decode("utf-8", "replace").split("\n")
-    return next((line for line in lines if line), f"the program ended with status {run.returncode}")
+    lines = told.decode("utf-8", "replace").split("\n")
+    return next((line for line in lines if line), f"the program ended with status {status}")
 
 
 def judged(requirements: Iterable[Requirement], queues: Mapping[str, Queue], counted: Callable[[], CountedRun],
@@ -213,7 +211,7 @@ def origin_of(text: str, scenario: dict[str, Any], folder: str) -> str:
     now = int(seconds) if seconds.isdecimal() and len(seconds) < 12 else int(time.time())
     date = datetime.datetime.fromtimestamp(now, datetime.timezone.utc).date()
     version = read_text(os.path.join(TOP, "tools", "VERSION")).strip()
-    names = dict.fromkeys(actor["script"] for actor in scenario.get("actor", []) if "script" in actor)
+    names = scripts_in(scenario)
     sums = [("scenario", checksum(text.encode("utf-8"))),
             *((name, checksum(read_bytes(os.path.join(folder, name)))) for name in names)]
     return f"sqs_rehearse {version}, {date}. SHA-256 of the {', of '.join(f'{name} {found}' for name, found in sums)}."
@@ -431,6 +429,14 @@ def text_within(text: str, options: Namespace) -> str:
     return cut
 
 
+def scripts_of(text: str, options: Namespace) -> list[str]:
+    """The paths of the scripts that a scenario's text names, if the program may take it."""
+    try:
+        return [os.path.join(options.scripts, name) for name in scripts_in(parsed(text, options.scenario))]
+    except Fault:
+        return []
+
+
 def main(words: Sequence[str]) -> int:
     options = options_of(words)
     check_title(options.title)
@@ -446,15 +452,15 @@ def main(words: Sequence[str]) -> int:
     cut_text = text_within(text, options)
     check_library("plotly", "python3-plotly")
     check_library("numpy", "python3-numpy")
-    check_output(options.output)
     program = program_of(options.program)
-    with tempfile.TemporaryDirectory() as folder:
-        path = os.path.join(folder, "log")
-        refusal = run_program(program, cut_text, reading_words(options), path)
+    check_output(options.output, [options.scenario, program, *scripts_of(text, options)])
+    # a file without a name is gone with the tool, whatever ends it
+    with tempfile.TemporaryFile() as log:
+        refusal = run_program(program, cut_text, reading_words(options), log)
         if refusal:
             print(f"{tool()}: {shown(refusal)}; {command_of('explain')} tells more", file=sys.stderr)
             return 1
-        html, found = page(options, words, text, path)
+        html, found = page(options, words, text, f"/dev/fd/{log.fileno()}")
     write_text(options.output, html)
     failed = [f"{requirement.told_of(name)} {failure.word}: {failure.reason}" for requirement, name, failure in found
               if failure]

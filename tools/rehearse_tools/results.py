@@ -1,6 +1,6 @@
 """The files in which the jobs of a sweep leave their results, and what is left to run.
 
-All functions but `write_result` and `files_in` are pure.
+All functions but `write_result`, `paths_of`, `text_at` and `files_in` are pure.
 
 A sweep has numbered variants, from 1 on. Share K of N has the variants K, K + N, K + 2 N and so on, so that a job of
 one variant is a share as well: number 7 of 200 variants is share 7/200. Its file K-of-N-MARK.csv is CSV:
@@ -38,6 +38,8 @@ NAME = re.compile(r"0*([1-9][0-9]{0,6})-of-([1-9][0-9]{0,6})-([0-9a-f]{8})\.csv"
 END = re.compile("end,([0-9a-f]{64})")
 CHECKSUM = re.compile("[0-9a-f]{64}")
 COUNT = re.compile("[1-9][0-9]{0,8}")
+# A scenario that is refused may have no queues.
+COUNT_OR_NONE = re.compile("0|[1-9][0-9]{0,8}")
 NUMBER = re.compile(r"([0-9]+(\.[0-9]+)?)?")
 MARK_DIGITS = 8
 KINDS = ("vary", "zip")
@@ -145,17 +147,33 @@ def write_result(folder: str, share: Share, head: Head, columns: Sequence[str], 
     write_text(os.path.join(folder, name_of(share, head.mark)), result_text(head, columns, rows))
 
 
-def files_in(folder: str) -> list[tuple[str, str]]:
-    """The names and texts of the files in a folder that are named as results, in the order of their names."""
+def paths_of(folder: str) -> list[str]:
+    """The paths in a folder that are named as results, in the order of their names."""
     try:
-        names = sorted(filter(LIKE_NAME.fullmatch, os.listdir(folder)))
+        return [os.path.join(folder, name) for name in sorted(filter(LIKE_NAME.fullmatch, os.listdir(folder)))]
     except OSError as error:
         raise Fault(f"cannot read {folder}: {error.strerror}") from None
-    return [(name, read_bytes(os.path.join(folder, name)).decode("utf-8", "replace")) for name in names]
 
 
-def read_result(name: str, text: str) -> Result:
+def text_at(path: str) -> str | Fault:
+    """The text of a file, or why there is none."""
+    if not os.path.isfile(path):
+        return Fault(f"{shown(os.path.basename(path))} is no file")
+    try:
+        return read_bytes(path).decode("utf-8", "replace")
+    except Fault as fault:
+        return fault
+
+
+def files_in(folder: str) -> list[tuple[str, str | Fault]]:
+    """The names and texts of the files in a folder that are named as results, in the order of their names."""
+    return [(os.path.basename(path), text_at(path)) for path in paths_of(folder)]
+
+
+def read_result(name: str, text: str | Fault) -> Result:
     """The result in a file of this name, or a fault that says in one line what is wrong with it."""
+    if isinstance(text, Fault):
+        raise text
     share, mark = share_and_mark(name)
     records = whole_records(name, text)
     head, place = head_in(name, records)
@@ -204,7 +222,8 @@ def head_in(name: str, records: list[list[str]]) -> tuple[Head, int]:
     settings = tuple(pair for pair in pairs if pair[0] in KINDS)
     window = tuple(pair for pair in pairs if pair[0] in WINDOW)
     texts = [record[1] if len(record) == 2 else "" for record in fields]
-    are_right = [*map(CHECKSUM.fullmatch, texts[:3]), *map(COUNT.fullmatch, texts[-2:])]
+    are_right = [*map(CHECKSUM.fullmatch, texts[:3]), *map(COUNT.fullmatch, texts[-2:-1]),
+                 *map(COUNT_OR_NONE.fullmatch, texts[-1:])]
     if len(fields) < 5 or not all(are_right):
         raise Fault(f"{name} has no head of a sweep's result")
     head = Head(texts[0], texts[1], texts[2], settings, int(texts[-2]), int(texts[-1]), window)
@@ -237,11 +256,12 @@ def check_queues(name: str, variant: int, rows: Sequence[Sequence[str]], head: H
         raise Fault(f"{name} is short of a queue: variant {variant} has {len(queues)} of {head.queues}")
 
 
-def collected(files: Iterable[tuple[str, str]], mark: str | None = None) -> Collection:
+def collected(files: Iterable[tuple[str, str | Fault]], mark: str | None = None) -> Collection:
     """What the files of a folder hold together, each given by its name and its text.
 
-    A file that is cut, changed, short of a queue, foreign or doubled is refused, and its variants are left unless
-    another file has them. Without `mark` all files have to be of one sweep; with it those of others are foreign.
+    A file that is cut, changed, short of a queue or foreign is refused, and its variants are left unless another file
+    has them. A variant that two files have with equal rows counts once; else the later file is refused. Without `mark`
+    all files have to be of one sweep; with it those of others are foreign.
     """
     results, faults = [], []
     for name, text in files:
@@ -251,7 +271,8 @@ def collected(files: Iterable[tuple[str, str]], mark: str | None = None) -> Coll
             faults.append(str(fault))
     marks = sorted({result.head.mark for result in results} if mark is None else {mark})
     if len(marks) > 1:
-        raise Fault(f"there are results of {len(marks)} sweeps, {', '.join(marks)}, which should be one")
+        raise Fault(f"there are results of {len(marks)} sweeps, {', '.join(marks)}, which should be one: "
+                    "--mark names it")
     first: dict[int, Result] = {}
     columns, head = None, None
     for result in results:
@@ -272,10 +293,9 @@ def refused(result: Result, mark: str, columns: list[str] | None, first: Mapping
     if columns not in (None, result.columns):
         return f"{result.name} is foreign: it has other columns of the report"
     for variant, rows in result.rows.items():
-        if variant in first:
-            before = first[variant]
-            return f"{result.name} is doubled: {before.name} has variant {variant} too" + (
-                "" if before.rows[variant] == rows else ", with other numbers")
+        before = first.get(variant)
+        if before and before.rows[variant] != rows:
+            return f"{result.name} is doubled: {before.name} has variant {variant} too, with other numbers"
     return None
 
 

@@ -20,6 +20,7 @@ from .further import COLUMNS as FURTHER
 from .further import WINDOW, Further
 from .logs import FINAL_HEADER, REPORT_HEADER, Block, Head, Log, Take as TakeRow, blocks_in
 from .replay import KINDS, REFUSALS, Replay, What, both, handlers_of, replay
+from .starting import started
 from .statistics import Interval, at_rank, rank_of
 
 COLUMNS = REPORT_HEADER[2:]
@@ -260,8 +261,7 @@ def piped(command: list[str], text: str, take: Take, watch: Watch = nullcontext,
     with tempfile.TemporaryFile() as scenario, tempfile.TemporaryFile() as told:
         scenario.write(text.encode("utf-8", "replace"))
         scenario.seek(0)
-        with subprocess.Popen(command, stdin=scenario, stdout=subprocess.PIPE, stderr=told,
-                              cwd=folder) as process, watch(process):
+        with started(command, scenario, subprocess.PIPE, told, folder) as process, watch(process):
             assert process.stdout is not None
             stream = io.TextIOWrapper(process.stdout, "utf-8", "replace", newline="")
             taken = take(stream)

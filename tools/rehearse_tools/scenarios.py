@@ -9,6 +9,7 @@ from collections.abc import Mapping
 from typing import Any
 
 from .console import Fault, read_text
+from .scripts import NAME as SCRIPT_NAME
 
 LISTS = ("queue", "actor", "task")
 COPIES_MOST = 10_000
@@ -34,6 +35,12 @@ def items_of(scenario: Mapping[str, Any], of: str) -> list[dict[str, Any]]:
     """The tables of a list of a scenario. Anything else in the list, which the program refuses, is skipped."""
     found = scenario.get(of, [])
     return [item for item in found if isinstance(item, dict)] if isinstance(found, list) else []
+
+
+def scripts_in(scenario: Mapping[str, Any]) -> list[str]:
+    """The scripts that a scenario names, in its order. The program refuses what can be no name of one."""
+    names = [actor["script"] for actor in items_of(scenario, "actor") if isinstance(actor.get("script"), str)]
+    return list(filter(SCRIPT_NAME.fullmatch, dict.fromkeys(names)))
 
 
 def names_of(scenario: Mapping[str, Any], of: str) -> list[str]:

@@ -10,6 +10,8 @@ AT_MOST = 4_294_967_295
 RECORDS_MOST = 100_000
 BYTES_MOST = 16_777_216
 BODY_MOST = 1_024
+# What the program takes for the name of a script; no such name leads out of a folder.
+NAME = re.compile("[A-Za-z0-9_-][A-Za-z0-9._-]{0,79}")
 NUMBER = re.compile("0|[1-9][0-9]{0,9}")
 # For each call the fields that are needed and those that may stand; group and id only at a FIFO queue.
 CALLS: dict[str, tuple[tuple[str, ...], tuple[str, ...]]] = {

@@ -34,7 +34,8 @@
           holds if it is shown.
 --spread  puts the runs together that differ only in this setting, and gives for each number of the report its mean,
           sample standard deviation, least, median and greatest, the half-width of the mean's 95 % interval, and the
-          interval of the median; numbers that a run's report leaves empty are left out. If the runs of the variant
+          interval of the median; numbers that a run's report leaves empty are left out. No value of a setting may be
+          given twice, since each run counts as an independent one. If the runs of the variant
           with the deepest queues settle late by MSER-5 over ten of them, a line advises a --from. There is no such line
           if the traffic is not steady, or if this can't be decided.
 --against prints differences from the variant with this value, or from another scenario with the same settings, run by
@@ -70,10 +71,12 @@
 --print-jobs  runs nothing and prints a shell command for each variant, or for each of --shares N shares of them, which
           writes a file in DIR. They may run in any order and on several machines that have the same paths;
           docs/SWEEPS.md says how. With --rest only those of which something is left are printed.
---share   runs every N-th variant from number K on, and writes one file into --results, unless it is there. With --mark
-          it refuses a sweep of another scenario, program, scripts or settings than the one that has this mark.
---collect puts the files of such a folder together, as if one sweep had run all. A file that is cut, changed, doubled or
-          of another sweep is refused, and what is left is reported. --mark names the sweep, if there are several.
+--share   runs every N-th variant from number K on, and writes one file into the folder --results, which it makes,
+          unless the file is there. With --mark it refuses a sweep of another scenario, program, scripts or settings
+          than the one that has this mark.
+--collect puts the files of such a folder together, as if one sweep had run all. A file that is cut, changed or of
+          another sweep is refused, and so is one whose rows of a variant are not those of another file; what is left is
+          reported. --mark names the sweep, if there are several.
 
 Columns: the varied settings; failed, which is empty or has the line with which a variant was refused; queue; the
 columns of the report. Progress goes to standard error. An interrupt keeps the rows so far; that of a share leaves no
@@ -101,9 +104,10 @@ from .further import COST, WINDOW
 from .jobs import Jobs, collect, head_of, print_jobs, run_share, scripts_of
 from .programs import named_program, program_of
 from .runs import ALL_COLUMNS, COLUMNS, EXTRA_COLUMNS, Extra, columns_in, extra_of
-from .results import share_of
+from .results import paths_of, share_of
 from .scenarios import names_of
 from .searches import Groups, check_ascending, least, until
+from .starting import temporary_folder
 from .settling import advise, looked_at, picture_of
 from .tables import Table, against, csv_text, folded, selected, table_text
 from .units import moment_of, window_of
@@ -226,7 +230,7 @@ def check_runs(options: argparse.Namespace) -> None:
 def print_scenario(sweep: Sweep, output: str | None) -> None:
     if len(sweep.settings) != 1:
         raise Fault(f"--print-scenario prints one variant, and these are {len(sweep.settings):,}")
-    check_output(output)
+    check_output(output, sweep.inputs())
     write_text(output, sweep.text(sweep.settings.words(1)))
 
 
@@ -278,6 +282,7 @@ def check_spread(settings: Settings, options: argparse.Namespace, requirements: 
     if options.spread:
         if not settings.tied(options.spread):
             raise Fault(f"{options.spread} is not varied, so that nothing spreads over it")
+        settings.check_doubles()
         check_library("scipy", "python3-scipy")
         requirements.spread = settings.tied(options.spread)
     elif requirements.in_share:
@@ -322,7 +327,7 @@ def main_of_collect(options: argparse.Namespace, requirements: Requirements) -> 
     requirements.check_names(dict.fromkeys(row[len(head.settings) + 1] for row in collection.rows
                                            if not row[len(head.settings)]))
     check_spread(settings, options, requirements)
-    check_output(options.output)
+    check_output(options.output, paths_of(options.collect))
     rows = requirements.looked_at(collection.columns, collection.rows, {})
     has_failed = finish(collection.columns, rows, settings, options)
     return status_of(requirements, False, has_failed or bool(collection.left or collection.faults))
@@ -371,8 +376,9 @@ def main_of_runs(sweep: Sweep, requirements: Requirements, options: argparse.Nam
     sweep.needs_ages = requirements.are_open
     sweep.extra = extra_wanted(requirements, options)
     check_spread(sweep.settings, options, requirements)
-    check_output(options.output)
-    check_output(options.settling)
+    others = [sweep.of(options.against)] if has_other_scenario(options) else []
+    for output in (options.output, options.settling):
+        check_output(output, [*options.inputs, *(path for other in others for path in other.inputs())])
     if options.settling:
         check_library("matplotlib", "python3-matplotlib")
     if not options.spread and not options.least:
@@ -382,11 +388,10 @@ def main_of_runs(sweep: Sweep, requirements: Requirements, options: argparse.Nam
         name = options.least.partition("=")[0]
         check_ascending(name, sweep.settings.values[name])
     groups = Groups(sweep, requirements.spread, options.jobs)
-    other = Groups(sweep.of(options.against), requirements.spread, options.jobs) if has_other_scenario(options) \
-        else None
     is_reached = run_groups(groups, requirements, options)
     header, rows = sweep.header(), groups.all_rows()
-    if other and not sweep.interrupted:
+    if others and not sweep.interrupted:
+        other = Groups(others[0], requirements.spread, options.jobs)
         run_groups(other, Requirements([]), options)
         sweep.interrupted = other.sweep.interrupted
         header = [SCENARIO, *header]
@@ -435,26 +440,30 @@ def main(words: Sequence[str]) -> int:
         print_jobs(sweep, head_of(sweep, program_of(options.program)), jobs)
         return 0
     sweep.program = program_of(options.program)
-    cluster = cluster_of(sweep, options)
-    options.jobs = options.jobs or (cluster.jobs() if cluster else os.cpu_count() or 1)
-    if options.share:
-        head = head_of(sweep, sweep.program)
-        if options.mark not in (None, head.mark):
-            raise Fault(f"the scenario, its scripts, the settings and the program here are those of the sweep "
-                        f"{head.mark}, and not of {shown(options.mark)}")
-        return run_share(sweep, head, share_of(options.share), options.results, options.jobs)
-    try:
-        return main_of_runs(sweep, requirements, options)
-    finally:
-        if cluster:
-            cluster.close()
+    options.inputs = sweep.inputs()
+    if options.cluster:
+        return main_of_cluster(sweep, requirements, options)
+    options.jobs = options.jobs or os.cpu_count() or 1
+    with temporary_folder() as folder:
+        sweep.keep(folder)
+        return main_of_share(sweep, options) if options.share else main_of_runs(sweep, requirements, options)
 
 
-def cluster_of(sweep: Sweep, options: argparse.Namespace) -> Cluster | None:
-    """The cluster that is asked for, on whose workers the sweep then runs."""
-    if not options.cluster:
-        return None
+def main_of_share(sweep: Sweep, options: argparse.Namespace) -> int:
+    head = head_of(sweep, sweep.program)
+    if options.mark not in (None, head.mark):
+        raise Fault(f"the scenario, its scripts, the settings and the program here are those of the sweep "
+                    f"{head.mark}, and not of {shown(options.mark)}")
+    return run_share(sweep, head, share_of(options.share), options.results, options.jobs)
+
+
+def main_of_cluster(sweep: Sweep, requirements: Requirements, options: argparse.Namespace) -> int:
+    """Runs the sweep on the workers of a cluster."""
     cluster = Cluster(options.cluster, sweep.program, scripts_of(sweep))
     sweep.program, sweep.scripts = PROGRAM, SCRIPTS
     sweep.engine, sweep.cancel = cluster.engine, cluster.cancel
-    return cluster
+    options.jobs = options.jobs or cluster.jobs()
+    try:
+        return main_of_runs(sweep, requirements, options)
+    finally:
+        cluster.close()

@@ -9,6 +9,8 @@ from .found import STEPS_MOST, Found, last_name, named, number_in, table, tables
 
 PSEUDO = {"AWS::Partition": "aws", "AWS::Region": "region", "AWS::AccountId": "000000000000", "AWS::StackName": "stack",
           "AWS::URLSuffix": "amazonaws.com"}
+# How long a number may be.
+BITS_MOST = 1_000
 PROPERTIES_OF_NO_QUEUE = {"QueueName", "Tags"}
 
 
@@ -275,10 +277,17 @@ def yaml_in(text: str, path: str) -> Any:
         words = construct(node) if construct == loader.construct_scalar else construct(node, deep=True)
         return {name if name in ("Ref", "Condition") else f"Fn::{name}": words}
 
+    def whole_number(loader: Any, node: Any) -> int:
+        number: int = loader.construct_yaml_int(node)
+        if number.bit_length() > BITS_MOST:
+            raise ValueError("a number has too many digits")
+        return number
+
     loader_type.add_multi_constructor("!", written_out)
+    loader_type.add_constructor("tag:yaml.org,2002:int", whole_number)
     try:
         return yaml.load(text, loader_type)
     except RecursionError:
         raise Fault(f"{path} is nested too deep") from None
-    except (yaml.YAMLError, ValueError, TypeError) as error:
+    except (yaml.YAMLError, ValueError, IndexError, TypeError) as error:
         raise Fault(f"{path} is neither JSON nor YAML: {' '.join(str(error).split())}") from None

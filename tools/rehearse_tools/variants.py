@@ -1,6 +1,7 @@
 """The variants of a scenario that a sweep runs, and how they are run. The tools import it; it is not a command."""
 import itertools
 import math
+import os
 import re
 import signal
 import subprocess
@@ -13,11 +14,12 @@ from concurrent.futures import Future, ThreadPoolExecutor
 from contextlib import contextmanager
 from typing import Any, NamedTuple
 
-from .console import Fault, Progress, is_terminal, tool
+from .console import Fault, Progress, is_terminal, read_bytes, read_text, stop, take_signals, tool, write_bytes
 from .keys import PREVIEW
 from .programs import preview_words
 from .runs import ALL_COLUMNS, COLUMNS, Ages, Counting, Ended, Engine, Extra, Ran, Take, piped, run
-from .scenarios import Setting, scenario_at, varied, written
+from .scenarios import Setting, parsed, scripts_in, value_of, varied, written
+from .scripts import NAME as SCRIPT_NAME
 
 VARIANTS_MOST = 1_000_000
 # How far lines of progress are apart in a file or pipe.
@@ -94,6 +96,17 @@ class Settings:
                         f"{len(self.values[first])}")
         self.axes[-1].append(path)
 
+    def check_doubles(self) -> None:
+        """Makes sure that no run is there twice: runs that are put together count as independent ones."""
+        for axis in self.axes:
+            found = set()
+            for words in zip(*(self.values[name] for name in axis)):
+                value = tuple(repr(value_of(word)) for word in words)
+                if value in found:
+                    told = " ".join(f"{name}={word}" for name, word in zip(axis, words))
+                    raise Fault(f"{told} is given twice, and --spread counts each run as an independent one")
+                found.add(value)
+
     def __len__(self) -> int:
         return math.prod(len(self.values[axis[0]]) for axis in self.axes)
 
@@ -148,13 +161,15 @@ class Sweep:
 
     def __init__(self, path: str, settings: Settings, scripts: str, window: Window = Window(),
                  is_preview: bool = False) -> None:
-        self.path, self.settings, self.scripts, self.program = path, settings, scripts, ""
-        self.is_preview = is_preview
+        self.path, self.settings, self.program, self.is_preview = path, settings, "", is_preview
+        # the folder of the scripts that was named, and the one from which they are read
+        self.folder = self.scripts = scripts
         self.window, self.extra = window, Extra()
         self.needs_ages: Callable[[list[list[str]]], bool] = lambda _: False
         self.engine: Engine = self.here
         self.cancel: Callable[[], None] = lambda: None
-        self.scenario: dict[str, Any] = scenario_at(path)
+        self.given_text = read_text(path)
+        self.scenario: dict[str, Any] = parsed(self.given_text, path)
         self.check_preview()
         self.places = [Setting(place) for place in settings.names()]
         self.check_places()
@@ -176,10 +191,48 @@ class Sweep:
 
     def of(self, path: str) -> "Sweep":
         """The same sweep of another scenario."""
-        other = Sweep(path, self.settings, self.scripts, self.window, self.is_preview)
+        other = Sweep(path, self.settings, self.folder, self.window, self.is_preview)
         other.program, other.extra, other.cancel = self.program, self.extra, self.cancel
-        other.engine = other.here if self.engine == self.here else self.engine
+        if self.engine == self.here:
+            other.keep_scripts(self.scripts)
+        else:
+            other.engine, other.scripts = self.engine, self.scripts
         return other
+
+    def script_names(self) -> set[str]:
+        """The names of the scripts that some variant may read."""
+        varied_names = {word.strip('"') for path, words in self.settings.values.items() if path.endswith(".script")
+                        for word in words}
+        return {*scripts_in(self.scenario), *filter(SCRIPT_NAME.fullmatch, varied_names)}
+
+    def script_paths(self) -> dict[str, str]:
+        """The paths of these scripts by their names. The program reports those that are not there."""
+        paths = {name: os.path.join(self.scripts, name) for name in self.script_names()}
+        return {name: path for name, path in paths.items() if os.path.isfile(path)}
+
+    def inputs(self) -> list[str]:
+        """The paths of all that is read."""
+        return [self.path, self.program, *(os.path.join(self.folder, name) for name in self.script_names())]
+
+    def keep(self, folder: str) -> None:
+        """Copies the program and the scripts into a folder, from which they are taken then: all runs have the same,
+        whatever becomes of the files."""
+        if os.statvfs(folder).f_flag & os.ST_NOEXEC:
+            raise Fault(f"no program may run in {folder}: TMPDIR names another folder for temporary files")
+        program, scripts = os.path.join(folder, "sqs_rehearse"), os.path.join(folder, "scripts")
+        write_bytes(program, read_bytes(self.program))
+        os.chmod(program, 0o700)
+        os.mkdir(scripts)
+        self.program = program
+        self.keep_scripts(scripts)
+
+    def keep_scripts(self, folder: str) -> None:
+        """Copies the scripts into a folder, unless it has them, from which they are read then."""
+        for name, path in self.script_paths().items():
+            copy = os.path.join(folder, name)
+            if not os.path.exists(copy):
+                write_bytes(copy, read_bytes(path))
+        self.scripts = folder
 
     def header(self) -> list[str]:
         return [*self.settings.names(), "failed", "queue", *self.columns()]
@@ -251,7 +304,7 @@ class Sweep:
         """The outcomes of variants in the order of their numbers, each as soon as those before it are there. They end
         early if there is an interrupt."""
         signal.signal(signal.SIGINT, self.interrupt)
-        signal.signal(signal.SIGTERM, self.interrupt)
+        take_signals(self.interrupt)
         pool = ThreadPoolExecutor(jobs)
         waiting: deque[tuple[int, Future[Outcome]]] = deque()
         rest = iter(numbers)
@@ -275,7 +328,7 @@ class Sweep:
         """Ends the runs that are under way, so that the rows before them can be written; a second one ends all."""
         self.interrupted = True
         signal.signal(signal.SIGINT, signal.default_int_handler)
-        signal.signal(signal.SIGTERM, signal.SIG_DFL)
+        take_signals(stop)
         for process in list(self.running):
             process.kill()
         self.cancel()
