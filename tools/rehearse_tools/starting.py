@@ -15,7 +15,7 @@ from .console import Fault
 File = IO[bytes] | int
 # It waits until its input ends, which the tool holds open, then removes a folder, and kills its own group. Signals that
 # are sent to all that a person or a scheduler has started do not end it before.
-GUARD = """trap '' HUP INT QUIT TERM; read -r line; rm -rf -- "$@"; kill -KILL 0"""
+GUARD = """PATH=/usr/bin:/bin; trap '' HUP INT QUIT TERM; read -r line; rm -rf -- "$@"; kill -KILL 0"""
 
 
 class Guard:
@@ -29,7 +29,7 @@ class Guard:
 
     def __init__(self, *folder: str) -> None:
         self.folder = folder
-        self.process = subprocess.Popen(["sh", "-c", GUARD, "sh", *folder], stdin=subprocess.PIPE, process_group=0,
+        self.process = subprocess.Popen(["/bin/sh", "-c", GUARD, "sh", *folder], stdin=subprocess.PIPE, process_group=0,
                                         stdout=subprocess.DEVNULL, stderr=subprocess.DEVNULL, cwd="/")
 
     @classmethod
