@@ -25,6 +25,7 @@ pub mod Told
 pub mod Deciding
 pub mod Answering
 pub mod Numbered
+pub mod Rings
 pub mod Firsts
 pub mod Marked
 pub mod Picked

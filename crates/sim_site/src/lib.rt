@@ -7,6 +7,7 @@ mod agents;
 mod arrivals;
 mod dues;
 mod effects;
+mod later;
 mod loads;
 mod opening;
 mod places;
@@ -16,5 +17,5 @@ mod site;
 mod state;
 
 pub use agents::Task;
-pub use arrivals::Arriving;
+pub use arrivals::Transfers;
 pub use site::Site;

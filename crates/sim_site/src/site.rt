@@ -1,6 +1,5 @@
 //! Sites.
-ghost use Rattle.std.specs.Prelude.{All, IfErr, IfOk, OnOk, Some, [], length, map, ◌<◌, ◌^◌, ◌≡◌, ◌≤◌};
-ghost use Rattle.std.specs.Map.Iter.{ShowsInOrder, deref};
+ghost use Rattle.std.specs.Prelude.{All, IfErr, IfOk, OnOk, Some, [], map, ◌≡◌, ◌≤◌};
 ghost use Rattle.sim_actor.specs.Lives.{IsRole};
 ghost use Rattle.sqs_model.specs.Answers.{most_count};
 ghost use Rattle.sqs_model.specs.Counts.{site_count};
@@ -8,13 +7,12 @@ ghost use Rattle.sqs_model.specs.Dues.{least_due};
 ghost use Rattle.sqs_model.specs.Limits.{effect_of};
 ghost use Rattle.sqs_model.specs.Progress.{AreTimely, IsRecent};
 ghost use Rattle.sqs_model.specs.Scenario.{fresh_core};
-ghost use Rattle.sqs_redrive.specs.declared.transfers.Outbound.{Outbound as TheOutbound};
 ghost use Rattle.sim_site.specs.Kept.{IsSetUp};
 ghost use Rattle.sqs_model.specs.Step.{handled};
 ghost use Rattle.sim_site.specs.Effects.{DidHandle, Stops};
 
 use crate::agents::Task;
-use crate::arrivals::{Arrivals, Arriving};
+use crate::arrivals::{Arrivals, Transfers};
 use crate::effects::Effects;
 use crate::opening::{open_actors, open_tasks};
 use crate::state::Core;
@@ -150,10 +148,8 @@ impl Site {
     }
 
     /// The transfers on their way to it, in the order of their keys.
-    pub fn arriving(&self) -> Arriving<'_>
+    pub fn arriving(&self) -> Transfers<'_>
         ensures list { result ≡ self.now.arriving }
-        ensures runs { ShowsInOrder (deref {X = TheOutbound}) }
-        ensures fits { length result < 2 ^ 63 }
     {
         self.arriving.iter()
     }

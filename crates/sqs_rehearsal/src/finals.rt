@@ -7,7 +7,7 @@ ghost use Rattle.sqs_model.specs.Queue.{Queue as TheQueue};
 ghost use Rattle.sqs_rehearsal.specs.Left.{keyed, keyed_at, tasks_at};
 
 use sim_clock::Key;
-use sim_site::{Arriving, Site, Task};
+use sim_site::{Site, Task, Transfers};
 use sqs_message::{Message, MessageId, Text, body_md5};
 use sqs_model::{
     FinalMessage, FinalMessages, FinalTask, FinalTasks, FinalTransfer, FinalTransfers, Finals,
@@ -102,7 +102,7 @@ fn final_transfer(transfer: &Outbound) -> FinalTransfer
 // Adds transfers, each with its key.
 fn add_transfers(
     list: &mut Vec<(Key, FinalTransfer)>,
-    transfers: Arriving<'_>,
+    transfers: Transfers<'_>,
 ) -> Result<(), AllocError>
     ensures { OnOk result (list.new.items ≡ list.old.items ++ map keyed transfers.entry) }
 {

@@ -59,7 +59,7 @@ fn next_arrival(site: &Site) -> Option<u64> {
 
 // Whether what is on its way to a site arrives at these moments, one after another.
 fn has_arriving(site: &Site, moments: &[u64]) -> bool {
-    if site.arriving().len() != moments.len() {
+    if site.arriving().count() != moments.len() {
         return false;
     }
     for (transfer, at) in site.arriving().zip(moments) {
@@ -82,6 +82,37 @@ fn has_in_order(alloc: Global, site: &mut Site, accepted: &[u64], waiting: &[u64
     waits_for(site, &[]) && accept_each(alloc, site, accepted).is_ok() && waits_for(site, waiting)
 }
 
+// Whether forwards wait in the order of their moments, of which there are more than stand in a ring:
+// each second one is accepted from the first on, and then the others from the last on.
+fn has_many_in_order(alloc: Global, site: &mut Site) -> bool {
+    for half in 0..150 {
+        if accept(alloc, site, 2 * half + 1).is_err() {
+            return false;
+        }
+    }
+    for half in 0..150 {
+        if accept(alloc, site, 300 - 2 * half).is_err() {
+            return false;
+        }
+    }
+    for (transfer, at) in site.arriving().zip(1..=300) {
+        if transfer.at != at {
+            return false;
+        }
+    }
+    site.arriving().count() == 300
+}
+
+// Whether many forwards wait in the order of their moments at each of some sites.
+fn have_many_in_order(alloc: Global, sites: &mut [Site]) -> bool {
+    for site in sites {
+        if !has_many_in_order(alloc, site) {
+            return false;
+        }
+    }
+    true
+}
+
 // The numbers of two sites, each if forwards wait at it in the order of their keys.
 fn in_order(alloc: Global, sites: &mut [Site]) -> [Option<u32>; 2] {
     let mut numbers = [None; 2];
@@ -91,6 +122,17 @@ fn in_order(alloc: Global, sites: &mut [Site]) -> [Option<u32>; 2] {
         }
     }
     numbers
+}
+
+#[test]
+fn many_transfers_wait_in_the_order_of_their_keys(rt: HostRuntime) {
+    match two_sites(rt.alloc()) {
+        Some(mut sites) => {
+            let are_in_order = have_many_in_order(rt.alloc(), sites.as_mut_slice());
+            assert!(rt; are_in_order);
+        }
+        None => assert!(rt; false),
+    }
 }
 
 #[test]

@@ -1,14 +1,15 @@
-use Rattle.std.proofs.Common.{ap, map, sym, ◌∙◌}
-use Rattle.std.specs.List.{slice_get}
+use Rattle.std.proofs.Common.{IfSome, Some, ap, map, subst, sym, ◌≡◌, ◌∙◌}
 use Rattle.sim_clock.specs.Order.{least}
 use Rattle.sqs_redrive.specs.Transfers.{transfer_key}
-use Rattle.sim_site.proofs.Numbered.{behind_first, first_is_least}
+use Rattle.sim_site.proofs.Rings.{behind_is_least, none_left, taken_is_least}
 use Rattle.sim_site.proofs.arrivals.Arrivals.take_first.Goals as goal
 
-pub invariant_of-self-2 : goal.invariant_of-self-2
-invariant_of-self-2 c = behind_first c.self.inside.next _ c.self.inside.map.entries _ c.self.invariant c.in_ok-first.ensures.removal c.in_ok-first.ensures.ordered
-
-pub returns-clause-least : goal.returns-clause-least
-returns-clause-least c =
+pub returns-in-Some-clause-least : goal.returns-in-Some-clause-least
+returns-in-Some-clause-least c =
     ap (λ ts. least (map transfer_key ts)) (sym c.self.view_is)
-    ∙ sym (first_is_least c.self.inside.next _ c.self.inside.map.entries c.self.invariant (ap (λ es. slice_get es 0) c.in_ok-first.ensures.removal))
+    ∙ taken_is_least c.in-Some.first c.pop_front.new.self.items c.self.inside.soon.items c.self.inside.later c.in-Some.ensures.items c.self.invariant
+
+pub returns-in-None-clause-least : goal.returns-in-None-clause-least
+returns-in-None-clause-least c =
+    subst (λ ts. IfSome c.take_first.result (λ first. least (map transfer_key ts) ≡ Some (transfer_key first))) c.self.view_is
+    (behind_is_least c.take_first.result c.self.inside.soon.items c.self.inside.later c.take_first.new.self (none_left c.self.inside.soon.items c.pop_front.new.self.items c.in-None.ensures.items c.in-None.ensures.rest) c.self.invariant c.take_first.ensures)

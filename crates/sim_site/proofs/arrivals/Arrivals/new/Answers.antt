@@ -1,5 +1,0 @@
-use Rattle.sim_site.proofs.Numbered.{none_arriving}
-use Rattle.sim_site.proofs.arrivals.Arrivals.new.Goals as goal
-
-pub invariant_of-result : goal.invariant_of-result
-invariant_of-result c = none_arriving c.new.result.entries c.new.ensures.empty
