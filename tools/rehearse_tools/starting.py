@@ -29,7 +29,7 @@ class Guard:
 
     def __init__(self, *folder: str) -> None:
         self.folder = folder
-        self.process = subprocess.Popen(["sh", "-c", GUARD, "sh", *folder], stdin=subprocess.PIPE, process_group=0,
+        self.process = subprocess.Popen(["/bin/sh", "-c", GUARD, "sh", *folder], stdin=subprocess.PIPE, process_group=0,
                                         stdout=subprocess.DEVNULL, stderr=subprocess.DEVNULL, cwd="/")
 
     @classmethod
