@@ -149,6 +149,7 @@ class Arrivals(ToolCase):
     def test_several_files(self):
         words = "poisson", "--rate", "300/s", "--duration", "500s", "--queue", "q"
         self.assertEqual(self.run_tool("arrivals", *words)[0], 2)
+        os.mkdir(self.path("in"))
         status, out, _ = self.run_tool("arrivals", *words, "--output", "in/a.csv")
         self.assertEqual(status, 0)
         actor = '[[actor]]\nname = "a-{0}"\nkind = "script"\nqueue = "q"\nscript = "a-{0}.csv"\n'

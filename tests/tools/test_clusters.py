@@ -9,6 +9,8 @@ import tempfile
 import unittest
 
 from tool import TOOLS, ToolCase, needs_program, wait_for
+from rehearse_tools.jobs import scripts_of
+from rehearse_tools.variants import Given, Settings, Sweep
 
 SCHEDULER, WORKER = shutil.which("dask-scheduler"), shutil.which("dask-worker")
 needs_dask = unittest.skipUnless(SCHEDULER and WORKER, "Dask is not here: apt-get install python3-distributed")
@@ -187,11 +189,14 @@ class Faults(ToolCase):
             self.assert_fault(self.run_tool("sweep", scenario, "--vary", "seed=1", *words), f"sweep: {line}")
 
     def test_scripts_outside_their_folder(self) -> None:
-        self.write("calls.csv", CALLS)
+        """What leads out of the folder of the scripts is no name of one: it is neither read nor sent."""
+        outside = self.write("calls.csv", CALLS)
         os.mkdir(self.path("scripts"))
-        scenario = self.write("s.toml", SCENARIO.replace("calls.csv", "../calls.csv"))
-        ran = self.run_tool("sweep", scenario, "--vary", "seed=1", "--scripts", "scripts", "--cluster", "tcp://h:1")
-        self.assert_fault(ran, "sweep: --cluster sends the scripts below --scripts alone, and not ../calls.csv")
+        self.write("scripts/own.csv", CALLS)
+        for name, found in (("../calls.csv", []), (outside, []), ("own.csv", ["own.csv"])):
+            sweep = Sweep(self.write("s.toml", SCENARIO.replace("calls.csv", name)),
+                          Settings([Given("vary", f"actor.operator.script={name}")]), self.path("scripts"))
+            self.assertEqual(list(scripts_of(sweep)), found)
 
     def test_without_its_library(self) -> None:
         """A Python that finds no Dask tells which package has it."""

@@ -33,6 +33,13 @@ COMMANDS = {
 TIMEOUT = 60
 
 
+def ignore_no_signal() -> None:
+    """What a shell starts in the background may ignore some of them."""
+    for number in SIGNALS:
+        if number != signal.SIGKILL:
+            signal.signal(number, signal.SIG_DFL)
+
+
 class Ends(ToolCase):
     def start(self, name: str, *words: str) -> tuple["subprocess.Popen[bytes]", int]:
         """A tool in a folder of its own whose program runs, and the pipe that the program holds open."""
@@ -47,7 +54,7 @@ class Ends(ToolCase):
         command = [words[0] if words[0] == "-c" else os.path.join(TOOLS, words[0]), *words[1:]]
         process = subprocess.Popen(
             [sys.executable, *command], cwd=folder, stdin=subprocess.DEVNULL, stdout=subprocess.DEVNULL,
-            stderr=subprocess.PIPE, preexec_fn=lambda: signal.signal(signal.SIGINT, signal.default_int_handler),
+            stderr=subprocess.PIPE, preexec_fn=ignore_no_signal,
             env={**os.environ, "TMPDIR": os.path.join(folder, "tmp"), "SQS_REHEARSE": os.path.join(folder, "program"),
                  "PYTHONPATH": TOOLS})
         self.addCleanup(process.communicate)

@@ -53,8 +53,8 @@ class Metrics(ToolCase):
     def test_all_numbers(self):
         log = self.write("log", LOG)
         self.assertEqual(self.run_tool("metrics", log), (0, NAMES + ROWS, ""))
-        self.assertEqual(self.run_tool("metrics", log, "--queue", "d", "--output", "new/d.csv"), (0, "", ""))
-        with open(self.path("new/d.csv"), encoding="utf-8") as file:
+        self.assertEqual(self.run_tool("metrics", log, "--queue", "d", "--output", "d.csv"), (0, "", ""))
+        with open(self.path("d.csv"), encoding="utf-8") as file:
             self.assertEqual(file.read(), NAMES + "".join(line for line in ROWS.splitlines(True) if ",d," in line))
 
     def test_from_standard_input(self):

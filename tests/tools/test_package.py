@@ -199,7 +199,7 @@ class Package(PackageCase):
         for words, line in (
                 (("--program", "/none"), "there is no program /none"),
                 (("--program", "./script"), f"{self.path('script')} is a script, and not the program itself"),
-                (("--program", ECHO, "--output", "file"), "cannot write file/SHA256SUMS: Not a directory"),
+                (("--program", ECHO, "--output", "file"), "cannot make the folder file: File exists"),
                 (("x",), "unrecognized arguments: x (--help tells the usage)")):
             with self.subTest(words=words):
                 self.assert_fault(self.run_tool("package", *words), f"package: {line}")

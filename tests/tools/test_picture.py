@@ -305,6 +305,7 @@ class Tool(ToolCase):
     def test_formats(self):
         log = self.write("log", LOG)
         self.write("s.toml", "version = 1\nseed = 5\nhorizon = 6020\n")
+        os.mkdir(self.path("new"))
         for name, head in (("p.PNG", b"\x89PNG"), ("p.pdf", b"%PDF"), ("p.svg", b"<?xml")):
             made = []
             for output, run in ((name, self.run_tool), (f"new/{name}", self.run_command)):

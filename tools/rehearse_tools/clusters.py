@@ -72,13 +72,6 @@ def files_of(program: str, scripts: Mapping[str, bytes]) -> dict[str, bytes]:
             **{os.path.join(SCRIPTS, name): data for name, data in scripts.items()}}
 
 
-def check_scripts(scripts: Mapping[str, bytes]) -> None:
-    """Checks that all scripts are in the folder of the scripts, because others could not be sent."""
-    for name in scripts:
-        if os.path.isabs(name) or os.path.normpath(name).startswith(".."):
-            raise Fault(f"--cluster sends the scripts below --scripts alone, and not {shown(name)}")
-
-
 def libraries() -> tuple[Any, Any]:
     """Dask, and what it sends functions by."""
     try:
@@ -93,7 +86,6 @@ class Cluster:
     def __init__(self, address: str, program: str, scripts: Mapping[str, bytes]) -> None:
         if not ADDRESS.fullmatch(address):
             raise Fault(f"{shown(address)} is no address of a Dask scheduler, as tcp://HOST:8786")
-        check_scripts(scripts)
         self.distributed, cloudpickle = libraries()
         logging.disable(logging.CRITICAL)
         warnings.filterwarnings("ignore", module="distributed")
