@@ -374,7 +374,7 @@ def page(options: Namespace, words: Sequence[str], text: str, path: str) -> tupl
     found = judged(requirements, run.queues, functools.cache(lambda: counted_at(path, counting)), bool(options.first))
     body = lost_html(run) + requirements_html(found)
     if run.row_count:
-        histories = Histories(Log(path, wanted=("final", "report")))
+        histories = Histories(Log(path))
         queues, left_out = histories.chosen(options.queue, QUEUES_MOST)
         start = max(histories.first, options.first or 0)
         end = max(histories.end_of_traffic(), start + 1)

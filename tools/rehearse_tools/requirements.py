@@ -11,7 +11,8 @@ from typing import NamedTuple
 from .console import Fault, shown
 from .doors import DOOR_SHARES
 from .further import BACKLOG_GONE, CENSORED, MOVED_SHARES, NEW_SHARES
-from .runs import ALL_COLUMNS, COLUMNS, EXTRA_COLUMNS, PERCENTILES, PLACES, Ages
+from .logs import PLACES
+from .runs import ALL_COLUMNS, COLUMNS, EXTRA_COLUMNS, PERCENTILES, Ages
 from .statistics import Interval, censored_percentile, holds_within, rank_of, share_left
 from .units import duration, number_of, quantity
 
