@@ -2,6 +2,7 @@
 import csv
 import functools
 import io
+import itertools
 import math
 import operator
 import os
@@ -331,6 +332,28 @@ class Censored(unittest.TestCase):
         self.assertEqual(figures.censored_percentile([1, 2, 3, 4], [9], 0.95), (9, math.inf))
         self.assertEqual(figures.censored_percentile([], [5], 0.5), (5, math.inf))
         self.assertIsNone(figures.censored_percentile([], [], 0.5))
+
+    def test_messages_that_may_come(self) -> None:
+        """With a hundred that come at once the 190th of 200 is 90; one that is older than all raises nothing yet."""
+        hundred = list(range(1, 101))
+        self.assertEqual(figures.censored_percentile(hundred, [], 0.95, [0] * 100), (90, math.inf))
+        self.assertEqual(figures.censored_percentile(hundred, [], 0.95, [1_000]), (95, 96))
+        self.assertEqual(figures.censored_percentile([], [], 0.5, [7, 5]), (5, math.inf))
+
+    def test_the_bounds_are_those_of_all_cases(self) -> None:
+        """Any of those that may come do, and end now or never."""
+        chance = random.Random(1)
+        for _ in range(300):
+            known, left, coming = ([chance.randrange(9) for _ in range(chance.randrange(size))] for size in (6, 4, 4))
+            share, found = chance.choice([0.5, 0.9, 0.95, 1.0]), []
+            for count in range(len(coming) + 1):
+                for some in itertools.combinations(coming, count):
+                    unknown = [*left, *some]
+                    found += [figures.percentile([*known, *unknown], share),
+                              figures.percentile([*known, *[math.inf] * len(unknown)], share)]
+            ages = [age for age in found if age is not None]
+            self.assertEqual(figures.censored_percentile(known, left, share, coming),
+                             (min(ages), max(ages)) if ages else None)
 
     def test_share_left(self) -> None:
         self.assertEqual([figures.share_left(*counts) for counts in ((3, 1), (0, 0), (0, 2), (2, 0))], [0.25, 0, 1, 0])

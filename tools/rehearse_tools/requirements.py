@@ -85,18 +85,24 @@ class Requirement:
         text = numbers[ALL_COLUMNS.index(self.column)]
         if not text:
             return Failure("fails", self.why_empty())
-        number, left = number_of(text), left_of(numbers)
+        number, left = number_of(text), self.left_told(numbers, ages)
         if not left or self.column not in (*SHARES, *CENSORED):
             return None if self.holds(number, self.bound) else Failure("fails", self.told_number(number))
         interval = bounds_by_report(self.column, numbers) if ages is None else bounds_by_ages(self.column, ages)
         is_held = holds_within(interval, self.holds, self.bound)
         if is_held:
             return None
-        share = 100 * share_left(int(numbers[COLUMNS.index("deletes")]), left)
         bounds = f"{interval.low} ms or more" if math.isinf(interval.high) else f"{interval.low} to {interval.high} ms"
         return Failure("fails" if is_held is False else "is undecided",
-                       f"{self.told_number(number)}, of those deleted, and {bounds} with the {left:,} that are left "
-                       f"({share:.3g} %)")
+                       f"{self.told_number(number)}, of those deleted, and {bounds} with {left}")
+
+    def left_told(self, numbers: Sequence[str], ages: Ages | None = None) -> str:
+        """The messages that are left, or that may still come, in words; nothing if there are none."""
+        left, coming = left_of(numbers), len(may_come_of(self.column, ages))
+        share = 100 * share_left(int(numbers[COLUMNS.index("deletes")]), left + coming)
+        told = " and ".join(text for text in (f"the {left:,} that are left" if left else "",
+                                              f"the {coming:,} that may still come" if coming else "") if text)
+        return told and f"{told} ({share:.3g} %)"
 
     def why_empty(self) -> str:
         """Why there is no number."""
@@ -121,6 +127,11 @@ def left_of(numbers: Sequence[str]) -> int:
     return sum(int(numbers[COLUMNS.index(place)]) for place in PLACES.values())
 
 
+def may_come_of(column: str, ages: Ages | None) -> Sequence[int]:
+    """How old those are since their first send that may still come, if a column is on such ages."""
+    return ages.since_first_send.may_come if column in DOOR_SHARES and ages and ages.since_first_send else ()
+
+
 def bounds_by_report(column: str, numbers: Sequence[str]) -> Interval:
     """The bounds of a percentile of ages if any message that is left may get any age, by the ranks of a report in which
     some messages were deleted."""
@@ -138,4 +149,4 @@ def bounds_by_ages(column: str, ages: Ages) -> Interval:
         return ages.bounds[column]
     known = ages.since_first_send or ages if column in DOOR_SHARES else ages
     deleted = list(Counter(known.deleted).elements())
-    return censored_percentile(deleted, known.left, SHARES[column]) or Interval(0, math.inf)
+    return censored_percentile(deleted, known.left, SHARES[column], known.may_come) or Interval(0, math.inf)

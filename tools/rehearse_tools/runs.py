@@ -36,10 +36,11 @@ Engine = Callable[[list[str], str, Take], "Ended"]
 
 class Ages(NamedTuple):
     """The ages of a queue's messages in milliseconds: how many were deleted at each, and how old each one that is left
-    is at the end. `since_first_send` has the same since the first send, and `bounds` those of further columns, if they
-    are asked for."""
+    is at the end. `since_first_send` has the same since the first send, with those that may still come; `bounds` has
+    the bounds of further columns. Both are there if they are asked for."""
     deleted: Mapping[int, int]
     left: list[int]
+    may_come: Sequence[int] = ()
     since_first_send: "Ages | None" = None
     bounds: Mapping[str, Interval] = {}
 
@@ -165,19 +166,20 @@ def extra_of(columns: Iterable[str], window: int = WINDOW, price: float | None =
 
 class Counting(NamedTuple):
     """How a report is counted from the log: from a moment on, of a run that ends at another, in milliseconds, and what
-    is counted beside it."""
+    is counted beside it. `ways` has the ways of the scenario from queue to queue."""
     first: int
     end: int
     extra: Extra = Extra()
+    ways: frozenset[tuple[str, str]] = frozenset()
 
 
 class Counts:
     """What the rows of a log say of each queue from a moment on, as `counting` has it."""
 
     def __init__(self, counting: Counting) -> None:
-        first, self.end, extra = counting
+        first, self.end, extra, ways = counting
         self.queues: dict[str, QueueCounts] = {}
-        self.doors = Doors(first) if extra.with_doors else None
+        self.doors = Doors(first, ways) if extra.with_doors else None
         self.further = Further(first, extra.window, extra.price) if extra.with_further else None
         self.rows = Replay(self.queues, lambda name: self.queues.setdefault(name, QueueCounts()), HANDLERS,
                            self.follower)
@@ -206,13 +208,15 @@ class Counts:
         """The records of a report on queues with these names, each with the extra columns if some are counted, and the
         ages by queue; messages that are left are as old as they are at the end of the run."""
         records, ages = [], {}
-        left = self.doors.left(self.end) if self.doors else {}
+        left = self.doors.left() if self.doors else None
         for name in names:
             queue = self.queues.get(name) or QueueCounts()
             record = [name, *queue.columns()]
             of_queue = Ages(queue.deleted_at_age(), [self.end - enqueued for enqueued in queue.enqueued])
-            if self.doors:
-                of_queue = of_queue._replace(since_first_send=Ages(self.doors.ages_of(name), left.get(name, [])))
+            if self.doors and left:
+                of_queue = of_queue._replace(since_first_send=Ages(
+                    self.doors.ages_of(name), [self.end - at for at in left.there.get(name, ())],
+                    [self.end - at for at in left.may_come(name)]))
             if self.doors or self.further:
                 record += text_of(self.doors.columns(name) if self.doors else dict.fromkeys(DOOR_SHARES))
             if self.further:

@@ -10,6 +10,7 @@ M. J. Cobb and S. C. Spratt, Winter Simulation Conference 2000, 755; A. Wald, Se
 J. Ville, Étude critique de la notion de collectif, 1939; H. Robbins, Annals of Mathematical Statistics 41 (1970) 1397.
 """
 import math
+from bisect import bisect_left, bisect_right
 from collections.abc import Callable, Iterator, Mapping, Sequence
 from fractions import Fraction
 from functools import lru_cache
@@ -324,16 +325,27 @@ def share_left(known: int, left: int) -> float:
     return left / (known + left) if left else 0.0
 
 
-def censored_percentile(known: Sequence[float], left: Sequence[float], share: float) -> Interval | None:
-    """The bounds of a percentile of ages if the messages in `left` are at least as old as they are now.
+def censored_percentile(known: Sequence[float], left: Sequence[float], share: float,
+                        may_come: Sequence[float] = ()) -> Interval | None:
+    """The bounds of a percentile of ages if the messages in `left`, and those in `may_come`, are at least as old as
+    they are now, and if any of those in `may_come` need not count.
 
-    The least is as if each ended now, and the greatest as if none ever ended. None if there are no messages.
+    The least is as if each ended now, and of those in `may_come` just the youngest counted: an age that is not above a
+    percentile does not raise it, and one above does not lower it. The greatest is as if all counted, and none ever
+    ended. None if there are no messages.
     """
-    least = percentile([*known, *left], share)
-    if least is None:
+    certain, doubtful = sorted([*known, *left]), sorted(may_come)
+
+    def is_reached(age: float) -> bool:
+        more = bisect_right(doubtful, age)
+        return bisect_right(certain, age) + more >= rank_of(len(certain) + more, share)
+
+    ages = sorted({*certain, *doubtful})
+    if not ages:
         return None
-    rank = rank_of(len(known) + len(left), share)
-    return Interval(least, sorted(known)[rank - 1] if rank <= len(known) else math.inf)
+    rank = rank_of(len(certain) + len(doubtful), share)
+    return Interval(ages[bisect_left(ages, True, key=is_reached)],
+                    sorted(known)[rank - 1] if rank <= len(known) else math.inf)
 
 
 def holds_within(interval: Interval, holds: Callable[[Any, Any], bool], bound: float | Fraction) -> bool | None:

@@ -6,7 +6,7 @@ from collections.abc import Callable, Collection, Iterable, Mapping, Sequence
 from typing import Any, NamedTuple
 
 from .console import Fault, shown
-from .doors import Doors
+from .doors import Doors, Left
 from .logs import NAME, NUMBER, PLACES, REFUSALS, Head, Log, What, check_number
 from .replay import BadRow, Replay, handlers_of, is_forward, replay
 from .units import duration
@@ -379,6 +379,7 @@ class Run:
         self.tasks: set[str] = set()
         self.first, self.last = reading.first, reading.last
         self.doors = Doors(reading.first or 0) if reading.with_doors else None
+        self.left_of_doors: Left | None = None
         self.row_count, self.has_report = 0, False
         self.last_at: int | None = None
 
@@ -406,6 +407,7 @@ class Run:
         self.queues = {queue.name: queue for queue in sorted(self.queues.values(), key=lambda queue: queue.number)}
         for queue in self.queues.values():
             queue.fold_ages()
+        self.left_of_doors = self.doors.left() if self.doors else None
 
     def begin(self) -> None:
         """Forgets what was counted before."""
@@ -476,7 +478,8 @@ def doors_in(run: Run, name: str) -> dict[str, Any]:
         return {}
     number, agents = run.doors.open_of(name)
     return {**{f"{column}_ms": age for column, age in run.doors.columns(name).items()},
-            "door_age_open": number, "door_age_open_by": agents}
+            "door_age_open": number, "door_age_open_by": agents,
+            "door_may_come": len(run.left_of_doors.may_come(name)) if run.left_of_doors else 0}
 
 
 def lost_in(run: Run) -> dict[str, int]:
@@ -542,6 +545,7 @@ LINES = (
     Line("door_age_p95_ms", "age since first send, 95 %", duration, True),
     Line("door_age_max_ms", "age since first send, most", duration, True),
     Line("door_age_open", "  first send open of", grouped, False),
+    Line("door_may_come", "  may still come", grouped, False),
     Line("depth_greatest", "greatest depth", grouped, True),
     Line("depth_greatest_at_ms", "greatest depth at", duration, True),
     Line("backlog_gone_at_ms", "backlog gone at", duration, True),

@@ -21,7 +21,8 @@ the rows after it, and the report with them; messages that are left are those le
 --door adds the ages of deleted messages since their first send, over redrives, moves and forwards: in the last queue of
 a chain those from door to door. A log does not say which arrival belongs to which forward. The forwards of one consumer
 are assigned in their order, which is right if only one of them is under way, or if all take equally long. Otherwise the
-ages are open, and the number of messages concerned is printed in their place.
+ages are open, and the number of messages concerned is printed in their place. Messages that may still come into the
+queue, from where messages of the log did, are counted too.
 
 sent          rows `send,new`. Messages that came otherwise have a line of their own: a forward is a message sent by a
               consumer of another queue. A message is an id in one queue: after a redrive or a move it is another one.
