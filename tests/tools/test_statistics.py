@@ -44,6 +44,36 @@ class Intervals(unittest.TestCase):
         self.assertAlmostEqual(figures.half_width([0, 2]), 12.7062, 4)
         self.assertEqual([figures.half_width(few) for few in ([], [7], [7, 7])], [None, None, 0])
 
+    def test_the_interval_of_a_skew_mean(self) -> None:
+        """Of 100 and 400 the skewness is 0, that of a lognormal law 3 times 0.8485, and so 2 is taken. Student's end is
+        8.9846 deviations of 212.13 away. Hall's cubic is (x + 2 x² / 3 + 4 x³ / 27 + 2 / 12) for x deviations, which is
+        8.9846 for -2.477 and for 5.380."""
+        low, high = figures.skew_interval([100, 400])
+        self.assertEqual(low, 0)
+        self.assertAlmostEqual(high, 250 + 5.380 * 212.132, delta=1)
+        for away in (5.380, -2.477):
+            self.assertAlmostEqual(abs(-away + 2 * away ** 2 / 3 - 4 * away ** 3 / 27 + 2 / 12), 8.9846, delta=0.02)
+        self.assertEqual([figures.skew_interval(few) for few in ([], [7], [7, 7], [0, 0])],
+                         [None, None, (7, 7), (0, 0)])
+
+    def test_the_coverage_of_the_interval_of_a_skew_mean(self) -> None:
+        """Over 2,000 redraws the true mean is within in 94 to 97 %, and not above in more than 3.5 %: of a lognormal
+        law with a skewness of 1.9, and of two symmetric ones. Student's interval has it below in 6 % and more."""
+        laws = ((math.exp(0.532 ** 2 / 2), lambda chance: chance.lognormvariate(0, 0.532)),
+                (1.0, lambda chance: max(0.0, chance.gauss(1, 0.3))), (1.0, lambda chance: chance.gauss(1, 0.1)))
+        for place, (mean, draw) in enumerate(laws):
+            for runs in (5, 10, 20, 50):
+                chance, low, high, short = random.Random(runs), 0, 0, 0
+                for _ in range(2_000):
+                    numbers = [draw(chance) for _ in range(runs)]
+                    interval = figures.skew_interval(numbers)
+                    low, high = low + (mean < interval.low), high + (mean > interval.high)
+                    short += mean > figures.mean_of(numbers) + figures.half_width(numbers)
+                with self.subTest(place=place, runs=runs, below=low / 20, above=high / 20, student=short / 20):
+                    self.assertTrue(60 <= low + high <= 120)
+                    self.assertLess(high, 70)
+                    self.assertTrue(place or runs > 20 or short > 120)
+
     def test_nearest_ranks(self) -> None:
         """0.95 of 20 is rank 19 and not 20, as a float's 0.95 * 20 would have it in other cases."""
         for count, share, rank in ((20, 0.95, 19), (21, 0.95, 20), (100, 0.07, 7), (1, 0.5, 1), (2, 0.5, 1), (3, 0, 1)):

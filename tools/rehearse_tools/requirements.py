@@ -13,14 +13,29 @@ from .doors import DOOR_SHARES
 from .further import BACKLOG_GONE, CENSORED, MOVED_SHARES, NEW_SHARES
 from .logs import PLACES
 from .runs import ALL_COLUMNS, COLUMNS, EXTRA_COLUMNS, PERCENTILES, Ages
-from .statistics import Interval, censored_percentile, holds_within, rank_of, share_left
+from .statistics import (Interval, censored_percentile, half_width, holds_within, mean_of, rank_of, share_left,
+                         skew_interval)
 from .units import duration, number_of, quantity
 
 # Which percentile a column of ages is.
 SHARES = {**PERCENTILES, **DOOR_SHARES}
 
-# What a sweep tells of a column over several runs.
-FOLDED = ("mean", "deviation", "least", "median", "greatest", "half_width", "median_low", "median_high")
+# The columns of ages, whose law over runs has a long upper tail.
+AGES = {*SHARES, *CENSORED}
+
+
+def folded_as(column: str) -> tuple[str, ...]:
+    """What a sweep tells of a column over several runs."""
+    interval = ("mean_low", "mean_high") if column in AGES else ("half_width",)
+    return "mean", "deviation", "least", "median", "greatest", *interval, "median_low", "median_high"
+
+
+def interval_of_mean(column: str, numbers: Sequence[float]) -> Interval | None:
+    """The interval of the mean of a column over runs; None for fewer than two."""
+    if column in AGES:
+        return skew_interval(numbers)
+    half = half_width(numbers)
+    return None if half is None else Interval(mean_of(numbers) - half, mean_of(numbers) + half)
 
 
 class Failure(NamedTuple):
