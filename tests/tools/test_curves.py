@@ -90,14 +90,19 @@ class Curves(Readable):
         self.assertEqual(str(fault.exception), "q.age_p95<5s: no --column is drawn of it")
 
     def test_intervals_of_means(self):
-        """Of 100 and 400 the deviation is 150 sqrt(2), and Student's quantile for one degree of freedom 12.7062."""
+        """Of 1, 3 and 2 sends the mean is 2, the deviation 1, and Student's quantile for two degrees of freedom 4.3027.
+        The mean of the ages 100 and 400 is nearer to the low end of its interval, which is not below 0."""
         rows = Rows(self.write("rows.csv", ROWS))
+        curve, = curves_of(rows, "queue.q.visibility_s", "q.sends")
+        self.assertAlmostEqual(curve.interval("5").low, 2 - 4.3027 / 3 ** 0.5, places=3)
+        self.assertAlmostEqual(curve.interval("5").high, 2 + 4.3027 / 3 ** 0.5, places=3)
         curve, = curves_of(rows, "queue.q.visibility_s", "q.age_p95")
-        self.assertAlmostEqual(curve.half_width("5"), 12.7062 * 150, places=1)
-        folded = FOLDED.replace("age_p95_greatest", "age_p95_greatest,age_p95_half_width")
-        folded = folded.replace(",400\n", ",400,77.5\n").replace(",3000\n", ",3000,\n")
+        self.assertEqual(curve.interval("5").low, 0)
+        self.assertGreater(curve.interval("5").high, 500)
+        folded = FOLDED.replace("age_p95_greatest", "age_p95_greatest,age_p95_mean_low,age_p95_mean_high")
+        folded = folded.replace(",400\n", ",400,90.5,380\n").replace(",3000\n", ",3000,,\n")
         curve, = curves_of(Rows(self.write("rows.csv", folded)), "queue.q.visibility_s", "q.age_p95")
-        self.assertEqual((curve.half_width("5"), curve.half_width("20"), curve.half_width("60")), (77.5, None, None))
+        self.assertEqual([curve.interval(word) for word in ("5", "20", "60")], [(90.5, 380), None, None])
 
     def test_texts(self):
         texts = self.texts(ROWS, "--column", "q.age_p95", "--column", "q.sends", "--column", "r.age_p95")
@@ -124,7 +129,7 @@ class Curves(Readable):
                 (ROWS, ("--column", "sends"), "sends: the sweep has no queue ''; it has q, r"),
                 (ROWS, (*column, "--setting", "x"), "rows.csv does not vary x; it varies queue.q.visibility_s, seed"),
                 (ROWS, (*column, "--queue", "q"),
-                 "--queue, --from, --to and --scenario go with a LOG, not with --sweep"),
+                 "--rest, --queue, --from, --to and --scenario go with a LOG, not with --sweep"),
                 (ROWS, (*column, "--height", "90"), "a height of 90 is too small for 1 columns: 192 is enough"),
                 ("seed,failed,queue,sends\n1,,q,1\n", column,
                  "rows.csv varies no setting other than a seed; --setting seed draws that"),

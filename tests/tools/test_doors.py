@@ -94,7 +94,7 @@ class ByHand(ToolCase):
     def test_messages_that_are_left(self) -> None:
         """Without its last row it is in b, and 10 s after its first send 10 s old."""
         doors = doors_of(CHAIN.rpartition("9300")[0])
-        self.assertEqual(doors.left(10_100), {"b": [10_000]})
+        self.assertEqual(doors.left().there, {"b": [100]})
 
     def test_when_the_order_of_forwards_is_known(self) -> None:
         for what, text, number in (("one after another", two_forwards(100, 300, 200, 450), 0),
@@ -166,6 +166,29 @@ def chain(seed: int) -> str:
     return "".join(parts)
 
 
+class MayStillCome(unittest.TestCase):
+    def test_the_messages_that_are_before_a_queue(self) -> None:
+        """Of b: m-0-1 in a, m-0-2 redriven to d, m-0-3 forwarded to b. From b no way leads to a, nor from z to b."""
+        found = doors_of(HEADER + """0,a,shop,send,new,m-0-0,,x
+1,a,shop,send,new,m-0-1,,x
+2,a,shop,send,new,m-0-2,,x
+3,a,shop,send,new,m-0-3,,x
+4,z,shop,send,new,m-3-0,,x
+5,a,w,receive,ok,m-0-0,r-0-0-1,o-0-0
+6,a,w,forward,out,m-0-0,r-0-0-1,b
+6,a,w,delete,deleted,m-0-0,r-0-0-1,6
+7,b,w,arrive,new,m-1-0,,o-1-0
+8,a,w,receive,ok,m-0-3,r-0-3-1,o-0-3
+9,a,w,forward,out,m-0-3,r-0-3-1,b
+9,a,w,delete,deleted,m-0-3,r-0-3-1,6
+9,a,a,redrive,out,m-0-2,,d
+""").left()
+        self.assertEqual(sorted(found.may_come("b")), [1, 3])
+        self.assertEqual(sorted(found.may_come("d")), [1, 2])
+        self.assertEqual((found.may_come("a"), found.may_come("z")), ([], []))
+        self.assertEqual(sorted(found._replace(ways=found.ways | {("d", "a")}).may_come("b")), [1, 2, 3])
+
+
 @needs_program
 class Random(unittest.TestCase):
     def test_what_is_known_is_right(self) -> None:
@@ -205,6 +228,47 @@ class Sweeps(ToolCase):
         self.assertEqual(self.run_tool("sweep", *words, "--from", "10s")[1].splitlines()[2], "1,,b,3,2500,2500")
         ran = self.run_tool("report", scenario, "--require", "b.door_age_p95<1s", "--output", "r.html")
         self.assertEqual(ran, (1, "", "report: b.door_age_p95<1s fails: it is 2500 ms, 2.50 s\n"))
+
+    def test_messages_that_may_still_come(self) -> None:
+        """Message k is sent at 500 k ms and served in a for a second from 1001 k on, as its consumer rests for 1 ms. It
+        is deleted in b 1.5 s later, 501 k + 2500 ms old. By 20 s those up to 17 are, the last one 11017 ms old, 18 is in
+        b, and 19 to 40 are in a, 10500 ms old or less. With these, 39 of 41 ages may be up to the 10516 ms of 16."""
+        text = STEADY.replace("count = 5", "count = 50").replace("5000", "500").replace("60000", "20000")
+        scenario = self.write("s.toml", text)
+        told = ("it is 11017 ms, 11.0 s, of those deleted, and 10516 ms or more with the 1 that are left and the 22 "
+                "that may still come (56.1 %)")
+        require = "--require", "b.door_age_p95<12s"
+        status, _, err = self.run_tool("sweep", scenario, *require)
+        self.assertEqual((status, err.splitlines()[1]),
+                         (1, f"sweep: {require[1]} is undecided with the scenario as it is: {told}"))
+        self.assertEqual(self.run_tool("report", scenario, *require, "--output", "r.html"),
+                         (1, "", f"report: {require[1]} is undecided: {told}\n"))
+        status, _, err = self.run_tool("sweep", scenario, "--require", "b.door_age_p95<10s")
+        self.assertEqual(status, 1)
+        self.assertIn("b.door_age_p95<10s fails", err)
+        # the middle one of those deleted is 6508 ms old, and 4504 ms if the youngest come
+        for bound, word in (("4504ms", ""), ("4505ms", "is undecided"), ("6509ms", "is undecided")):
+            require = "--require", f"b.door_age_p50>={bound}"
+            _, _, err = self.run_tool("report", scenario, *require, "--output", "r.html")
+            self.assertIn(word, err)
+            self.assertEqual(bool(err), bool(word), bound)
+        self.assertEqual(self.run_tool("report", scenario, "--require", "b.door_age_max>=11s", "--output", "r.html"),
+                         (0, "", ""))
+        with open(self.path("r.html"), encoding="utf-8") as file:
+            self.assertIn("<td>also with the 1 that are left and the 22 that may still come (56.1 %)</td>", file.read())
+        log = subprocess.run([str(PROGRAM), "run", scenario], capture_output=True, check=True).stdout
+        self.assertIn("\n     may still come                      22\n",
+                      self.run_tool("summary", "-", "--door", "--queue", "b", stdin=log)[1])
+
+    def test_a_way_that_no_message_went(self) -> None:
+        """The scenario has a way from c to b by a dead-letter queue and its task, which the log does not show."""
+        more = ('[[queue]]\nname = "c"\ndead_letter = "d"\nmax_receives = 1\nlatency_ms = 9\n[[queue]]\nname = "d"\n'
+                '[[actor]]\nname = "late"\nkind = "producer"\nqueue = "c"\ncount = 3\ngap_min_ms = 1\n'
+                'gap_max_ms = 1\nbody = "m"\n[[task]]\nname = "t"\nqueue = "d"\nto = "b"\nlatency_ms = 9\n')
+        for text, status in ((STEADY, 0), (STEADY + more, 1)):
+            ran = self.run_tool("sweep", self.write("s.toml", text), "--require", "b.door_age_p95<3s")
+            self.assertEqual(ran[0], status, ran[2])
+        self.assertIn("with the 3 that may still come (37.5 %)", ran[2])
 
 
 if __name__ == "__main__":

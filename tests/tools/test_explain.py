@@ -111,7 +111,8 @@ REASONS_OF_3 = (
     (SERVED + "fails_to_ms = 5\n", "11 UnknownKey at actor[0].fails_to_ms", "11:1",
      "fails_to_ms stands only together with fails_from_ms, which the consumer packer does not have."),
     (SERVED + "fails_from_ms = 5\n", "12 MissingKey at actor[0].fails_to_ms", "5:1",
-     "The consumer packer has no fails_to_ms, which is required beside fails_from_ms. It has 0 to 2,592,000,000."),
+     "The consumer packer has no fails_to_ms, which is required beside fails_from_ms. It has 5 to 2,592,000,000, "
+     "as fails_from_ms is 5."),
     (SERVED + "fails_from_ms = 5\nfails_to_ms = 4\n", "14 OutOfRange at actor[0].fails_to_ms", "12:15",
      "fails_to_ms of the consumer packer is 4. It may not be less than fails_from_ms, which is 5."),
     (SERVED + "start_ms = 5\nstop_ms = 4\n", "14 OutOfRange at actor[0].stop_ms", "12:11",

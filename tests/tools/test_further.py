@@ -188,7 +188,8 @@ class Sweeps(ToolCase):
                            (("cost", "--price", "-1"), "--price is 0 to 1,000,000"),
                            (("cost", "--price", "nan"), "--price is 0 to 1,000,000"),
                            (("window_age_p95", "--window", "0"), "--window is a time over 0"),
-                           (("window_age_p95", "--window", "x"), "--window x is no time, as 90s or 1.5h")):
+                           (("window_age_p95", "--window", "x"),
+                            "--window x is no time, as 90s, 1.5h, 1h30m or 1:30:00")):
             self.assert_fault(self.sweep(*words, *more), f"sweep: {line}")
         self.assertEqual(self.sweep("--vary", "seed=1", "--share", "1/1", "--results", "d")[0], 0)
         status, _, err = self.run_tool("sweep", "--collect", "d", "--columns", "requests")

@@ -4,7 +4,7 @@ import subprocess
 import sys
 import unittest
 
-from tool import TOOLS, ToolCase, needs_program
+from tool import TOOLS, ToolCase, ended, needs_program, open_end
 
 HEADER = "at,queue,agent,call,answer,message,receipt,detail\n"
 LOG = HEADER + """0,a,shop,send,new,m-0-0,,900150983cd24fb0d6963f7d28e17f72
@@ -54,10 +54,7 @@ FIFO = HEADER + """0,f.fifo,shop,send,new,m-0-0,,900150983cd24fb0d6963f7d28e17f7
 9,f.fifo,other,arrive,repeat,m-0-0,,o-0-0
 60000,f.fifo,f.fifo,expire,expired,m-0-0,,60000
 """
-FINALS = """final,queue,message,origin,place,due,enqueued,receives,group,md5
-final,d,m-1-1,o-1-1,inflight,90000,67020,3,,900150983cd24fb0d6963f7d28e17f72
-transfer,from,to,kind,due,number,message,origin,md5
-"""
+FINAL = "final,d,m-1-1,o-1-1,inflight,90000,67020,3,,900150983cd24fb0d6963f7d28e17f72\n"
 
 
 class Life(ToolCase):
@@ -67,17 +64,17 @@ class Life(ToolCase):
         return out.splitlines()[-1]
 
     def test_whole_story(self):
-        log = self.write("log", LOG)
+        log = self.write("log", ended(LOG))
         self.assertEqual(self.run_tool("life", log, "o-0-0"), (0, STORY, ""))
 
     def test_ids_of_one_message_tell_the_same(self):
-        log = self.write("log", LOG)
+        log = self.write("log", ended(LOG))
         for name in ("m-0-0", "m-1-0", "m-0-2"):
             self.assertEqual(self.run_tool("life", log, name), (0, STORY, ""))
 
     def test_standard_input_is_read_for_each_kind_of_id(self):
         for name in ("o-0-0", "m-0-2"):
-            run = subprocess.run([sys.executable, os.path.join(TOOLS, "life"), "-", name], input=LOG, text=True,
+            run = subprocess.run([sys.executable, os.path.join(TOOLS, "life"), "-", name], input=ended(LOG), text=True,
                                  capture_output=True)
             self.assertEqual((run.returncode, run.stdout, run.stderr), (0, STORY, ""))
 
@@ -117,7 +114,7 @@ In the end: expired from f.fifo at 60000 ms
 
     def test_worst(self):
         """The message o-0-1 is there for 67015 ms, o-0-0 for 67000, over a redrive and a move, and o-1-1 not at all."""
-        log, worst = self.write("log", LOG), """\
+        log, worst = self.write("log", ended(LOG)), """\
    o-0-1  for 1 min 7 s  from 5 ms to 67020 ms      received 0 times  left in a
    o-0-0  for 1 min 7 s  from 0 ms to 67000 ms      received 3 times  deleted from a
    o-1-1  for 0 ms       from 67020 ms to 67020 ms  received 0 times  left in d
@@ -134,7 +131,7 @@ In the end: expired from f.fifo at 60000 ms
    o-1-1  for 33.0 s     from 67020 ms to 99999 ms  received 1 time   on its way from d to a
 """)
         empty = self.write("empty", HEADER)
-        self.assertEqual(self.run_tool("life", empty, "--worst"), (0, "", ""))
+        self.assertEqual(self.run_tool("life", empty, "--worst"), (0, "", open_end("life", empty)))
 
     def test_where_a_message_stands(self):
         lines = LOG.splitlines(keepends=True)
@@ -146,7 +143,7 @@ In the end: expired from f.fifo at 60000 ms
                          "In the end: visible in a since 3700 ms; the log ends at 3700 ms")
         self.assertEqual(self.last_line("".join(lines[:10]), "o-0-0"),
                          "In the end: on its way from a to d since 4000 ms")
-        self.assertEqual(self.last_line(LOG + FINALS, "o-1-1"),
+        self.assertEqual(self.last_line(ended(LOG, FINAL), "o-1-1"),
                          "In the end: in flight in d until 90000 ms; times received there: 3")
 
     @needs_program
@@ -156,7 +153,7 @@ In the end: expired from f.fifo at 60000 ms
             self.assertIn(f"```\n{out}```\n", file.read())
 
     def test_faults(self):
-        log = self.write("log", LOG)
+        log = self.write("log", ended(LOG))
         self.assert_fault(self.run_tool("life", log, "o-0-17"), f"life: {log} has no message with the origin o-0-17")
         self.assert_fault(self.run_tool("life", log, "m-0-17"), f"life: {log} has no message m-0-17")
         self.assert_fault(self.run_tool("life", log, "17"), "life: 17 is no id of a message, as o-0-17 or m-0-17")

@@ -5,7 +5,7 @@ import subprocess
 import sys
 import unittest
 
-from tool import TOOLS, ToolCase, needs_program
+from tool import ROOT, TOOLS, ToolCase, ended, needs_program
 
 HEADER = "at,queue,agent,call,answer,message,receipt,detail\n"
 # In the first minute m-0-0 is sent and received; m-0-1 is sent with a delay that ends in the third minute; a repeat and
@@ -43,38 +43,93 @@ ROWS = """0,a,2,1,0,1,0,1,1,59
 180,d,0,0,0,0,2,0,0,179
 240,d,0,0,0,0,1,0,0,177
 """
-FINALS = """final,queue,message,origin,place,due,enqueued,receives,group,md5
-final,a,m-0-0,o-0-0,delayed,901000,1000,0,,x
-transfer,from,to,kind,due,number,message,origin,md5
-"""
+FINAL = "final,a,m-0-0,o-0-0,delayed,901000,1000,0,,x\n"
+# The run ends after 5 minutes.
+END = "--to", "5min"
+# Both are sent at once, nobody receives them, and there is another queue. The run ends after an hour.
+QUIET = HEADER + "0,a,shop,send,new,m-0-0,,x\n0,a,shop,send,new,m-0-1,,x\n"
+HOUR = 'version = 1\nhorizon = 3600000\nqueue = [{name = "z"}, {name = "a"}, {name = "b"}]\n'
+SCENARIO = "--scenario", os.path.join(ROOT, "examples", "dead_letters.toml")
+ALARM = "failed.ApproximateAgeOfOldestMessage>60 for 3"
+
+
+def open_row(clock):
+    """What the tool says where the end of the run is not known."""
+    return (f"metrics: the last period ends with the last row, at {clock}, as a log does not say when the run ends "
+            "(--scenario FILE.toml or --to TIME does)\n")
 
 
 class Metrics(ToolCase):
     def test_all_numbers(self):
-        log = self.write("log", LOG)
-        self.assertEqual(self.run_tool("metrics", log), (0, NAMES + ROWS, ""))
-        self.assertEqual(self.run_tool("metrics", log, "--queue", "d", "--output", "d.csv"), (0, "", ""))
+        log = self.write("log", ended(LOG))
+        self.assertEqual(self.run_tool("metrics", log, *END), (0, NAMES + ROWS, ""))
+        self.assertEqual(self.run_tool("metrics", log, *END, "--queue", "d", "--output", "d.csv"), (0, "", ""))
         with open(self.path("d.csv"), encoding="utf-8") as file:
             self.assertEqual(file.read(), NAMES + "".join(line for line in ROWS.splitlines(True) if ",d," in line))
 
     def test_from_standard_input(self):
-        run = subprocess.run([sys.executable, os.path.join(TOOLS, "metrics"), "-"], input=LOG, text=True,
+        run = subprocess.run([sys.executable, os.path.join(TOOLS, "metrics"), "-", *END], input=ended(LOG), text=True,
                              capture_output=True)
         self.assertEqual((run.returncode, run.stdout, run.stderr), (0, NAMES + ROWS, ""))
 
     def test_another_period(self):
         """In one period of five minutes all is counted, and what is left is m-1-1 of d."""
-        self.assertEqual(self.run_tool("metrics", self.write("log", LOG), "--period", "300")[1],
+        self.assertEqual(self.run_tool("metrics", self.write("log", LOG), *END, "--period", "300")[1],
                          NAMES + "0,a,2,2,2,1,0,0,0,0\n0,d,1,0,0,0,1,0,0,177\n")
 
     def test_delayed_to_the_end(self):
         """Only the final queues tell that a message is delayed."""
-        for finals, places in (("", "1,0,0"), (FINALS, "0,0,1")):
-            log = self.write("log", "".join(LOG.splitlines(True)[:2]) + finals)
-            self.assertEqual(self.run_tool("metrics", log)[1], f"{NAMES}0,a,1,0,0,0,{places},59\n")
+        for finals, places in (("", "1,0,0"), (FINAL, "0,0,1")):
+            log = self.write("log", ended("".join(LOG.splitlines(True)[:2]), finals))
+            self.assertEqual(self.run_tool("metrics", log, "--to", "1m")[1], f"{NAMES}0,a,1,0,0,0,{places},59\n")
+
+    def test_the_last_period_ends_with_the_run(self):
+        """Periods go on to the horizon without rows, and nothing is counted past it. A row at the horizon is in the
+        last period, and each queue of the run has periods."""
+        log = self.write("log", ended(QUIET, queues=["b"]))
+        for end, ages in (("9s", [9]), ("1m", [60]), ("150s", [60, 120, 150]), ("0:02:00.000", [60, 120])):
+            rows = {"a": [], "b": []}
+            for place, age in enumerate(ages):
+                rows["a"].append(f"{60 * place},a,{2 if place == 0 else 0},0,0,0,2,0,0,{age}\n")
+                rows["b"].append(f"{60 * place},b,0,0,0,0,0,0,0,0\n")
+            self.assertEqual(self.run_tool("metrics", log, "--to", end),
+                             (0, NAMES + "".join(rows["a"] + rows["b"]), ""))
+        late = self.write("late", ended(QUIET + "120000,a,c,receive,empty,,,\n"))
+        self.assertEqual(self.run_tool("metrics", late, "--to", "2m"),
+                         (0, NAMES + "0,a,2,0,0,0,2,0,0,60\n60,a,0,0,0,1,2,0,0,120\n", ""))
+
+    def test_alarms_ring_to_the_horizon(self):
+        """The age is 300 s at 5 min, and over it at 6 min; a run of 9 s ends before an age of 30 s."""
+        scenario, log = self.write("s.toml", HOUR), self.write("log", ended(QUIET))
+        alarm = "--alarm", "a.ApproximateAgeOfOldestMessage>300"
+        self.assertEqual(self.run_tool("metrics", log, "--scenario", scenario, *alarm),
+                         (1, "a: ApproximateAgeOfOldestMessage>300 rings at 0:06:00.000\n", ""))
+        self.assertEqual(self.run_tool("metrics", log, "--to", "9s", "--alarm", "ApproximateAgeOfOldestMessage>30"),
+                         (0, "no alarm rings up to the end at 0:00:09.000\n", ""))
+        status, out, err = self.run_tool("metrics", log, *alarm)
+        self.assertEqual((status, out), (0, "no alarm rings up to the last row at 0:00:00.000\n"))
+        self.assertEqual(err, open_row("0:00:00.000"))
+        out = self.run_tool("metrics", log, "--scenario", scenario, "--period", "3600")[1]
+        self.assertEqual(out, NAMES + "0,z,0,0,0,0,0,0,0,0\n0,a,2,0,0,0,2,0,0,3600\n0,b,0,0,0,0,0,0,0,0\n")
+
+    def test_a_log_that_is_not_of_the_scenario(self):
+        log, scenario = self.write("log", ended(LOG)), self.write("s.toml", HOUR)
+        none = self.write("none.toml", "version = 1\n")
+        for words, line in (
+                (("--scenario", scenario), f"{scenario} has no queue d: is it the scenario of this run?"),
+                (("--scenario", none), f"{none} has no horizon"),
+                (("--to", "4min"), "the log has a row at 0:04:00.003, after --to at 0:04:00.000"),
+                (("--to", "4min", "--scenario", scenario),
+                 "--scenario and --to both tell when the run ends: one is enough"),
+                (("--to", "soon"), "--to soon is no time, as 90s, 1.5h, 1h30m or 1:30:00")):
+            with self.subTest(words=words):
+                self.assert_fault(self.run_tool("metrics", log, *words), f"metrics: {line}")
+        short = self.write("short.toml", HOUR.replace("3600000", "240002").replace('"z"', '"d"'))
+        self.assert_fault(self.run_tool("metrics", log, "--scenario", short), "metrics: the log has a row at "
+                          f"0:04:00.003, after the horizon of {short} at 0:04:00.002")
 
     def test_alarms(self):
-        log = self.write("log", LOG)
+        log = self.write("log", ended(LOG))
         for text, lines in (
                 ("ApproximateAgeOfOldestMessage>170 for 2", ["a: {} rings at 0:04:00.000, until 0:05:00.000",
                                                              "d: {} rings at 0:05:00.000"]),
@@ -85,16 +140,17 @@ class Metrics(ToolCase):
             with self.subTest(text=text):
                 name = text.removeprefix("a.").removeprefix("d.")
                 out = "".join(line.format(name) + "\n" for line in lines)
-                self.assertEqual(self.run_tool("metrics", log, "--alarm", text), (1, out, ""))
+                self.assertEqual(self.run_tool("metrics", log, *END, "--alarm", text), (1, out, ""))
         quiet = "--alarm", "NumberOfMessagesSent>2", "--alarm", "d.ApproximateAgeOfOldestMessage>170 for 3"
-        self.assertEqual(self.run_tool("metrics", log, *quiet), (0, "no alarm rings\n", ""))
+        self.assertEqual(self.run_tool("metrics", log, *END, *quiet),
+                         (0, "no alarm rings up to the end at 0:05:00.000\n", ""))
 
     def measured(self, *results, **more):
         return self.write("m.json", json.dumps({"MetricDataResults": list(results), **more}))
 
     def test_against_what_was_measured(self):
         """Of a 2, 0, 0, 0, 0 were rehearsed and 3, 0, 1 measured; the age of d is 59 s and was 60.5 s."""
-        log, minutes = self.write("log", LOG), [f"2024-05-07T10:0{minute}:00+00:00" for minute in range(9)]
+        log, minutes = self.write("log", ended(LOG)), [f"2024-05-07T10:0{minute}:00+00:00" for minute in range(9)]
         sent = {"Id": "s", "Label": "a NumberOfMessagesSent", "StatusCode": "Complete", "Timestamps": minutes[2::-1],
                 "Values": [1.0, 0.0, 3.0]}
         age = {"Id": "x", "Label": "d ApproximateAgeOfOldestMessage", "Timestamps": [minutes[1], minutes[8]],
@@ -108,7 +164,7 @@ class Metrics(ToolCase):
                 "on average, at most 1 at 0:00:00.000",
                 "metrics: d ApproximateAgeOfOldestMessage: 1 period, mean 59 rehearsed, 60.5 measured (-2 %); 1.5 "
                 "apart on average, at most 1.5 at 0:01:00.000")
-        self.assertEqual(self.run_tool("metrics", log, "--against", path),
+        self.assertEqual(self.run_tool("metrics", log, *END, "--against", path),
                          (0, header + rows, "".join(f"{line}\n" for line in told)))
         origin = "--origin", "2024-05-07T09:59:00Z"
         self.assertEqual(self.run_tool("metrics", log, "--against", self.measured(sent), *origin)[1],
@@ -141,14 +197,15 @@ class Metrics(ToolCase):
                 self.assertEqual((status, out, len(err.splitlines())), (2, "", 1), err)
 
     def test_faults(self):
-        log = self.write("log", LOG)
+        log = self.write("log", ended(LOG))
+        alone = self.write("alone", LOG)
         names = NAMES.strip().removeprefix("second,queue,").replace(",", ", ")
         for words, line in (
                 (("none",), "cannot read none: No such file or directory"),
                 ((log, "--period", "0"), "a period has 1 to 86400 seconds"),
                 ((log, "--period", "1m"), "argument --period: invalid int value: '1m' (--help tells the usage)"),
-                ((log, "--queue", "x"), "no row of the log is of queue x"),
-                ((log, "--alarm", "x.NumberOfMessagesSent>1"), "no row of the log is of queue x"),
+                ((alone, "--queue", "x"), "no row of the log is of queue x, and no report follows it"),
+                ((log, "--alarm", "x.NumberOfMessagesSent>1"), "the run has no queue x"),
                 ((log, "--output", "log/x"), "cannot write log/x: Not a directory"),
                 *(((log, "--alarm", text), f"{text} is no alarm, as 'ApproximateAgeOfOldestMessage>300 for 5'; the "
                    f"metrics are {names}") for text in ("Age>3", "NumberOfMessagesSent>", "NumberOfMessagesSent",
@@ -168,8 +225,8 @@ class Metrics(ToolCase):
     @needs_program
     def test_example_of_the_documents(self):
         log = self.log_of_example("dead_letters.toml")
-        _, rows, _ = self.run_tool("metrics", log, "--queue", "orders")
-        _, alarms, _ = self.run_tool("metrics", log, "--alarm", "failed.ApproximateAgeOfOldestMessage>60 for 3")
+        _, rows, _ = self.run_tool("metrics", log, *SCENARIO, "--queue", "orders")
+        _, alarms, _ = self.run_tool("metrics", log, *SCENARIO, "--alarm", ALARM)
         with open(os.path.join(TOOLS, "README.md"), encoding="utf-8") as file:
             text = file.read()
         for line in rows.splitlines()[:3]:

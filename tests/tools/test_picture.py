@@ -6,7 +6,7 @@ import os
 import re
 import unittest
 
-from tool import ROOT, ToolCase, module_of, needs_program, row_of
+from tool import ROOT, ToolCase, ended, module_of, needs_program, row_of
 from rehearse_tools.console import Fault, library
 from rehearse_tools.logs import Log
 from rehearse_tools.histories import (PLACES, Course, Histories, History, ages_in, counts_in, course_of, levels,
@@ -32,15 +32,11 @@ LOG = HEADER + """0,a,shop,send,new,m-0-0,,900150983cd24fb0d6963f7d28e17f72
 6000,a,a,redrive,out,m-0-1,,d
 6020,d,a,arrive,new,m-1-0,,o-0-1
 """
-REPORT_HEADERS = "final,queue,message,origin,place,due,enqueued,receives,group,md5\n" \
-    "report,queue,sends,repeats,receives,empties,deletes,expiries,redrives,moves,arrivals,OverLimit," \
-    "MessageNotInflight,ReceiptHandleIsInvalid,BadTimeout,MissingGroup,MissingDeduplication,BadDelay," \
-    "TaskRunning,NoTask,depth_max,visible,in_flight,delayed,age_sum,age_max,age_p50,age_p95,age_p99\n"
-REPORT_OF_QUIET = REPORT_HEADERS + "report,quiet" + ",0" * 23 + "," * 4 + "\n"
+
 
 
 def histories_of(path):
-    return Histories(Log(path, wanted=("final", "report")))
+    return Histories(Log(path))
 
 
 def pairs(arrays):
@@ -50,7 +46,7 @@ def pairs(arrays):
 @needs_numpy
 class Counts(ToolCase):
     def test_levels_of_a_small_log(self):
-        found = histories_of(self.write("log", LOG))
+        found = histories_of(self.write("log", ended(LOG)))
         a, d = found.queues["a"], found.queues["d"]
         self.assertEqual((found.first, found.last), (0, 6020))
         visible, in_flight, delayed = PLACES.values()
@@ -66,7 +62,7 @@ class Counts(ToolCase):
 
     def test_the_oldest_message(self):
         """m-0-0 is the oldest until it is deleted at 2,500 ms; then it is m-0-1, which came at 5, until 6,000."""
-        a = histories_of(self.write("log", LOG)).queues["a"]
+        a = histories_of(self.write("log", ended(LOG))).queues["a"]
         times, ages = oldest(a, 0, 6020).corners()
         found = [(int(at), None if numpy.isnan(age) else int(age)) for at, age in zip(times, ages)]
         self.assertEqual([pair for pair, _ in itertools.groupby(found)],
@@ -218,15 +214,15 @@ class Readable(ToolCase):
 
 @needs_numpy
 class Geometry(Readable):
-    def texts_of(self, log, *words):
+    def texts_of(self, log, *words, queues=()):
         """The texts of a picture, each of which is inside it and apart from all others."""
-        options = picture.options_of([self.write("log", log), *words])
+        options = picture.options_of([self.write("log", ended(log, queues=queues)), *words])
         found = histories_of(options.log)
         start = found.first if options.start is None else options.start
         end = found.last if options.end is None else options.end
-        queues, left_out = found.chosen(options.queue, picture.QUEUES_MOST)
+        drawn, left_out = found.chosen(options.queue, picture.QUEUES_MOST)
         requirements = [picture.Requirement(text) for text in options.require]
-        parts = [picture.Part(queue, start, end, options.width, requirements) for queue in queues]
+        parts = [picture.Part(queue, start, end, options.width, requirements) for queue in drawn]
         figure = picture.picture(parts, start, end, (options.title or "", left_out), options.width, options.height)
         return self.assert_readable(figure)
 
@@ -275,7 +271,7 @@ class Geometry(Readable):
         self.assertIn("no message was deleted and none was redriven or expired.", " ".join(texts))
 
     def test_a_queue_without_rows_is_drawn_where_it_is_asked_for(self):
-        texts = self.texts_of(LOG + REPORT_OF_QUIET, "--queue", "quiet", "--queue", "a")
+        texts = self.texts_of(LOG, "--queue", "quiet", "--queue", "a", queues=["quiet"])
         self.assertIn("quiet", texts)
         self.assertIn("no message was there and no message was deleted", " ".join(texts))
 
@@ -303,7 +299,7 @@ class Geometry(Readable):
 @needs_numpy
 class Tool(ToolCase):
     def test_formats(self):
-        log = self.write("log", LOG)
+        log = self.write("log", ended(LOG))
         self.write("s.toml", "version = 1\nseed = 5\nhorizon = 6020\n")
         os.mkdir(self.path("new"))
         for name, head in (("p.PNG", b"\x89PNG"), ("p.pdf", b"%PDF"), ("p.svg", b"<?xml")):
@@ -321,13 +317,13 @@ class Tool(ToolCase):
         self.assertIn("s.toml, version 1, seed 5", text)
 
     def test_a_text_for_those_who_do_not_see_it(self):
-        out = self.run_tool("picture", self.write("log", LOG), "--title", "A <b>")[1]
+        out = self.run_tool("picture", self.write("log", ended(LOG)), "--title", "A <b>")[1]
         self.assertIn("<title>A &lt;b&gt;</title>\n <desc>a: 2 came in, 1 deleted, 1 redriven, 0 left.\n"
                       "d: 1 came in, 1 left.</desc>", out)
 
     def test_without_a_folder_for_matplotlib(self):
         """Matplotlib keeps what it finds of fonts in the user's folder; if there is none, nothing is said of it."""
-        log, file = self.write("log", LOG), self.write("file", "")
+        log, file = self.write("log", ended(LOG)), self.write("file", "")
         status, _, err = self.run_command("picture", log, HOME=file, XDG_CONFIG_HOME=file, MPLCONFIGDIR="")
         self.assertEqual((status, err), (0, ""))
 
@@ -339,7 +335,7 @@ class Tool(ToolCase):
 
     def test_letters_that_no_font_has(self):
         """A PNG tells them in one line, unless a font of this machine has them; an SVG has them as they are."""
-        log, title = self.write("log", LOG), "orders \u6ce8\u6587"
+        log, title = self.write("log", ended(LOG)), "orders \u6ce8\u6587"
         status, out, err = self.run_tool("picture", log, "--title", title, "--output", "p.png")
         self.assertEqual((status, out), (0, ""))
         self.assertIn(err, ("", "picture: no font of this machine has \u6ce8\u6587: boxes stand there, and an SVG "
@@ -350,7 +346,7 @@ class Tool(ToolCase):
 
     def test_width_of_a_png(self):
         self.write("s.toml", "seed = 5\n")
-        self.run_tool("picture", self.write("log", LOG), "--output", "p.png", "--width", "1600", "--height", "1200",
+        self.run_tool("picture", self.write("log", ended(LOG)), "--output", "p.png", "--width", "1600", "--height", "1200",
                       "--scenario", "s.toml")
         with open(self.path("p.png"), "rb") as file:
             data = file.read(24)
@@ -362,19 +358,19 @@ class Tool(ToolCase):
         for i in range(33_400):
             rows.append(f"{30 * i},q,p,send,new,m-0-{i},,x\n{30 * i + 5},q,c,receive,ok,m-0-{i},r-0-{i}-1,o-0-{i}\n")
             rows.append(f"{30 * i + 6 + i % 20},q,c,delete,deleted,m-0-{i},r-0-{i}-1,{6 + i % 20}\n")
-        status, out, err = self.run_tool("picture", "-", stdin="".join(rows).encode())
+        status, out, err = self.run_tool("picture", "-", stdin=ended("".join(rows)).encode())
         self.assertEqual((status, err), (0, ""))
         self.assertIn("Whole run: 33,400 came in, 33,400 deleted, 0 left.", out)
         self.assertLess(len(out), 700_000)
 
     def test_faults(self):
-        log = self.write("log", LOG)
-        report = self.write("all", LOG + REPORT_HEADERS)
+        log = self.write("log", ended(LOG))
+        alone = self.write("alone", LOG)
         for words, line in (
                 (("none",), "cannot read none: No such file or directory"),
                 ((self.write("empty", HEADER),), f"{self.path('empty')} has no rows to draw"),
-                ((report, "--queue", "x"), "the run has no queue x"),
-                ((log, "--queue", "x"), "no row of the log is of queue x, and no report follows it"),
+                ((log, "--queue", "x"), "the run has no queue x"),
+                ((alone, "--queue", "x"), "no row of the log is of queue x, and no report follows it"),
                 ((log, "--title", "a\x01b"), "a title is one line of printable characters: 'a\\x01b'"),
                 ((log, "--width", "639"), "a width of 639 will not do: it is 640 to 20000"),
                 ((log, "--width", "x"), "argument --width: invalid int value: 'x' (--help tells the usage)"),
@@ -393,7 +389,7 @@ class Tool(ToolCase):
         self.assert_hostile_logs("picture")
 
     def test_a_height_that_is_too_small_tells_one_that_is_enough(self):
-        log = self.write("log", LOG)
+        log = self.write("log", ended(LOG))
         status, _, err = self.run_tool("picture", log, "--height", "100")
         self.assertEqual(status, 2)
         enough = err.split(": ")[-1].split()[0]

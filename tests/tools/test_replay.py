@@ -3,14 +3,13 @@ import unittest
 import unittest.mock
 from collections import Counter
 
-from tool import LOG_HEADER, ToolCase, row_of
+from tool import LOG_HEADER, ToolCase, ended, row_of
 from rehearse_tools import logs
 from rehearse_tools.console import Fault
 from rehearse_tools.logs import Log
 from rehearse_tools.replay import (DELAYED, IN_FLIGHT, KINDS, VISIBLE, BadRow, Checked, Places, Replay, handlers_of,
                                    replay, take_finals)
-
-FINALS = "final,queue,message,origin,place,due,enqueued,receives,group,md5\n"
+HEADER = LOG_HEADER.decode()
 
 
 class Names:
@@ -44,7 +43,7 @@ class Noted(Places):
 
 class Rows(ToolCase):
     def log_of(self, rows: str) -> Log:
-        return Log(self.write("run.log", LOG_HEADER.decode() + rows))
+        return Log(self.write("run.log", HEADER + rows))
 
     def queues_of(self, rows: str, is_strict: bool = False, kind: type = Replay, moments: tuple = ()) -> tuple:
         """The queues that took the rows of a log, and the time of its last row."""
@@ -105,10 +104,10 @@ class Rows(ToolCase):
                 self.assertEqual(str(caught.exception), f"{self.path('run.log')} line 3{reason}")
 
     def test_all_rows(self) -> None:
-        log = self.log_of("1,q,shop,send,new,m-0-0,,x\n2,q,w,receive,wait,,,\n" + FINALS)
+        log = Log(self.write("run.out", ended(HEADER + "1,q,shop,send,new,m-0-0,,x\n2,q,w,receive,wait,,,\n")))
         self.assertEqual(log.rows(), [[1, "q", "shop", "send", "new", "m-0-0", "", "x"],
                                       [2, "q", "w", "receive", "wait", "", "", ""]])
-        self.assertEqual((log.at, log.line, log.parts), (2, 4, {"final": []}))
+        self.assertEqual((log.at, log.line, log.parts), (2, 8, {"final": []}))
 
     def test_rows_that_are_checked(self) -> None:
         """An id has a site and a number; a deletion has an age; what enters has an id."""
@@ -135,9 +134,9 @@ class PlacesOfMessages(ToolCase):
         self.assertEqual(places.notes, [("m-0-0", IN_FLIGHT), ("m-0-0", DELAYED), ("m-0-0", VISIBLE)])
 
     def test_final_queues_tell_of_delays(self) -> None:
-        log = Log(self.write("run.out", LOG_HEADER.decode() + "1,q,shop,send,new,m-0-0,,x\n" + FINALS
-                             + "final,q,m-0-0,o-0-0,delayed,900,1,0,,x\nfinal,q,m-0-1,o-0-1,visible,,1,0,,x\n"
-                             + "final,p,m-1-0,o-1-0,delayed,900,1,0,,x\n"))
+        finals = ("final,q,m-0-0,o-0-0,delayed,900,1,0,,x\nfinal,q,m-0-1,o-0-1,visible,,1,0,,x\n"
+                  "final,p,m-1-0,o-1-0,delayed,900,1,0,,x\n")
+        log = Log(self.write("run.out", ended(HEADER + "1,q,shop,send,new,m-0-0,,x\n", finals, ["p"])))
         log.rows()
         places = Noted()
         take_finals(log, {"q": places})

@@ -123,13 +123,13 @@ class Whole(unittest.TestCase):
 
 class Cut(ToolCase):
     def test_output_that_ends_anywhere(self) -> None:
-        """A program that is ended within its output has no report, or one of which rows are cut."""
+        """A program that is ended within its output has no report, or one that is cut."""
         text = LOG + PARTS
-        for end in range(len(text)):
+        for end in range(len(text) + 1):
             for first, is_extra in ((0, False), (2_500, True)):
                 counting = runs.Counting(first, 60_000, runs.Extra(is_extra, is_extra))
                 found = runs.reported(io.StringIO(text[:end]), counting)
-                self.assertEqual(found is None, end < text.index("\n", text.index("report,queue")), end)
+                self.assertEqual(found is None, end < len(text), end)
 
     def test_from_a_moment_on(self) -> None:
         """From 2.5 s on queue a has a delete of a message that is kept, two deletes, a receive and what follows."""
@@ -172,7 +172,7 @@ class Cut(ToolCase):
         path = self.write("run.txt", WAYS)
         status, out, err = self.run_tool("summary", path, "--from", "1.5s", "--to", "1700")
         self.assertEqual((status, err), (0, ""))
-        self.assertEqual(out.splitlines()[:3], [
+        self.assertEqual(out.splitlines()[1:4], [
             f"{path}: 4 rows, the last at 1.70 s", "   counted from 1.50 s to 1.70 s",
             "   it is not told which of the messages left are delayed"])
         self.assertIn("   deleted                                1 of 2\n", out)
@@ -188,8 +188,9 @@ class Cut(ToolCase):
 
     def test_faults(self) -> None:
         log = self.write("run.txt", LOG)
-        for words, line in ((("--from", "soon"), "--from soon is no time, as 90s or 1.5h"),
-                            (("--to", "0.1"), "--to 0.1 is no time, as 90s or 1.5h"),
+        for words, line in ((("--from", "soon"), "--from soon is no time, as 90s, 1.5h, 1h30m or 1:30:00"),
+                            (("--to", "0.1"), "--to 0.1 is no time, as 90s, 1.5h, 1h30m or 1:30:00"),
+                            (("--from", "1:00:00"), f"--from 3600000 ms is after the last row of {log}, at 60200 ms"),
                             (("--from", "2s", "--to", "1s"), "--from 2s is after --to 1s")):
             self.assert_fault(self.run_tool("summary", log, *words), f"summary: {line}")
 
@@ -230,7 +231,8 @@ class Sweeps(ToolCase):
 
     def test_faults(self) -> None:
         for words, line in ((("--from", "2m"), "--from 120000 ms is after the horizon of 60000 ms"),
-                            (("--from", "x"), "--from x is no time, as 90s or 1.5h"),
+                            (("--from", "x"), "--from x is no time, as 90s, 1.5h, 1h30m or 1:30:00"),
+                            (("--from", "1m30s"), "--from 90000 ms is after the horizon of 60000 ms"),
                             (("--from", "1s", "--print-scenario"), "--from and --to go with runs, and nothing is run")):
             ran = self.run_tool("sweep", self.scenario, "--vary", "seed=1", *words)
             self.assert_fault(ran, f"sweep: {line}")

@@ -2,6 +2,7 @@
 import csv
 import functools
 import io
+import itertools
 import math
 import operator
 import os
@@ -42,6 +43,36 @@ class Intervals(unittest.TestCase):
         # t of one degree of freedom is 12.706; the deviation of 0 and 2 is the root of 2
         self.assertAlmostEqual(figures.half_width([0, 2]), 12.7062, 4)
         self.assertEqual([figures.half_width(few) for few in ([], [7], [7, 7])], [None, None, 0])
+
+    def test_the_interval_of_a_skew_mean(self) -> None:
+        """Of 100 and 400 the skewness is 0, that of a lognormal law 3 times 0.8485, and so 2 is taken. Student's end is
+        8.9846 deviations of 212.13 away. Hall's cubic is (x + 2 x² / 3 + 4 x³ / 27 + 2 / 12) for x deviations, which is
+        8.9846 for -2.477 and for 5.380."""
+        low, high = figures.skew_interval([100, 400])
+        self.assertEqual(low, 0)
+        self.assertAlmostEqual(high, 250 + 5.380 * 212.132, delta=1)
+        for away in (5.380, -2.477):
+            self.assertAlmostEqual(abs(-away + 2 * away ** 2 / 3 - 4 * away ** 3 / 27 + 2 / 12), 8.9846, delta=0.02)
+        self.assertEqual([figures.skew_interval(few) for few in ([], [7], [7, 7], [0, 0])],
+                         [None, None, (7, 7), (0, 0)])
+
+    def test_the_coverage_of_the_interval_of_a_skew_mean(self) -> None:
+        """Over 2,000 redraws the true mean is within in 94 to 97 %, and not above in more than 3.5 %: of a lognormal
+        law with a skewness of 1.9, and of two symmetric ones. Student's interval has it below in 6 % and more."""
+        laws = ((math.exp(0.532 ** 2 / 2), lambda chance: chance.lognormvariate(0, 0.532)),
+                (1.0, lambda chance: max(0.0, chance.gauss(1, 0.3))), (1.0, lambda chance: chance.gauss(1, 0.1)))
+        for place, (mean, draw) in enumerate(laws):
+            for runs in (5, 10, 20, 50):
+                chance, low, high, short = random.Random(runs), 0, 0, 0
+                for _ in range(2_000):
+                    numbers = [draw(chance) for _ in range(runs)]
+                    interval = figures.skew_interval(numbers)
+                    low, high = low + (mean < interval.low), high + (mean > interval.high)
+                    short += mean > figures.mean_of(numbers) + figures.half_width(numbers)
+                with self.subTest(place=place, runs=runs, below=low / 20, above=high / 20, student=short / 20):
+                    self.assertTrue(60 <= low + high <= 120)
+                    self.assertLess(high, 70)
+                    self.assertTrue(place or runs > 20 or short > 120)
 
     def test_nearest_ranks(self) -> None:
         """0.95 of 20 is rank 19 and not 20, as a float's 0.95 * 20 would have it in other cases."""
@@ -331,6 +362,28 @@ class Censored(unittest.TestCase):
         self.assertEqual(figures.censored_percentile([1, 2, 3, 4], [9], 0.95), (9, math.inf))
         self.assertEqual(figures.censored_percentile([], [5], 0.5), (5, math.inf))
         self.assertIsNone(figures.censored_percentile([], [], 0.5))
+
+    def test_messages_that_may_come(self) -> None:
+        """With a hundred that come at once the 190th of 200 is 90; one that is older than all raises nothing yet."""
+        hundred = list(range(1, 101))
+        self.assertEqual(figures.censored_percentile(hundred, [], 0.95, [0] * 100), (90, math.inf))
+        self.assertEqual(figures.censored_percentile(hundred, [], 0.95, [1_000]), (95, 96))
+        self.assertEqual(figures.censored_percentile([], [], 0.5, [7, 5]), (5, math.inf))
+
+    def test_the_bounds_are_those_of_all_cases(self) -> None:
+        """Any of those that may come do, and end now or never."""
+        chance = random.Random(1)
+        for _ in range(300):
+            known, left, coming = ([chance.randrange(9) for _ in range(chance.randrange(size))] for size in (6, 4, 4))
+            share, found = chance.choice([0.5, 0.9, 0.95, 1.0]), []
+            for count in range(len(coming) + 1):
+                for some in itertools.combinations(coming, count):
+                    unknown = [*left, *some]
+                    found += [figures.percentile([*known, *unknown], share),
+                              figures.percentile([*known, *[math.inf] * len(unknown)], share)]
+            ages = [age for age in found if age is not None]
+            self.assertEqual(figures.censored_percentile(known, left, share, coming),
+                             (min(ages), max(ages)) if ages else None)
 
     def test_share_left(self) -> None:
         self.assertEqual([figures.share_left(*counts) for counts in ((3, 1), (0, 0), (0, 2), (2, 0))], [0.25, 0, 1, 0])

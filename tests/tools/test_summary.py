@@ -11,7 +11,7 @@ import subprocess
 import sys
 import unittest
 
-from tool import PROGRAM, ROOT, TOOLS, ToolCase, module_of, needs_program
+from tool import PROGRAM, ROOT, TOOLS, ToolCase, module_of, needs_program, open_end
 from rehearse_tools import summaries
 
 HEADER = "at,queue,agent,call,answer,message,receipt,detail\n"
@@ -127,7 +127,7 @@ WAYS = HEADER + """0,a,shop,send,new,m-0-0,,900150983cd24fb0d6963f7d28e17f72
 2000,a,a,redrive,out,m-0-1,,d
 """
 summary = module_of("summary")
-KEYS = ["log", "rows", "last_row_at_ms", "has_report", "queues"]
+KEYS = ["log", "end_seen", "rows", "last_row_at_ms", "has_report", "queues"]
 
 
 def cases():
@@ -179,6 +179,16 @@ class Definitions(SummaryCase):
         self.assert_values(self.queues(LOG)["a"], handled_once=2, handled_more_than_once=1, times_handled_greatest=2)
         self.assert_values(self.queues(FIFO)["f.fifo"], handled_once=0, handled_more_than_once=1, deleted=1,
                            times_handled_greatest=2, repeated_sends=1, tries_mean=2.0, tries_greatest=2)
+
+    def test_a_receipt_whose_service_failed(self):
+        """A script deletes with it: before the timeout ends, which deletes the message, or after it."""
+        log = HEADER + "0,q,s,send,new,m-0-0,,x\n0,q,c,receive,ok,m-0-0,r-0-0-1,o-0-0\n10,q,c,fail,ok,m-0-0,r-0-0-1,\n"
+        after = "1000,q,q,release,visible,m-0-0,,\n2000,q,c,receive,ok,m-0-0,r-0-0-2,o-0-0\n" \
+            "5000,q,s,delete,kept,m-0-0,r-0-0-1,\n"
+        self.assert_values(self.queues(log + "500,q,s,delete,deleted,m-0-0,r-0-0-1,500\n")["q"], handled_once=1)
+        self.assert_values(self.queues(log + after)["q"], handled_once=0, DeleteMessage=1)
+        self.assertIn("with the receipt of a service that has failed, only an answer of deleted\n",
+                      self.run_tool("summary", "--help")[1])
 
     def test_requests(self):
         self.assert_values(self.queues(FIFO)["f.fifo"], SendMessage=3, ReceiveMessage=2, DeleteMessage=5,
@@ -332,8 +342,9 @@ class SideBySide(SummaryCase):
         before, after = self.write("before", LOG + PARTS), self.write("after", FIFO)
         status, out, err = self.run_tool("summary", before, after)
         self.assertEqual((status, err), (0, ""))
+        end = open_end("", after).removeprefix(": ")
         self.assertTrue(out.startswith(f"before, {before}: 25 rows, the last at 1 min 0 s\n!! LOST BY EXPIRY: 1 in d\n"
-                                       f"after, {after}: 11 rows, the last at 3.60 s\n   no report follows"))
+                                       f"{end}after, {after}: 11 rows, the last at 3.60 s\n   it is not told which"))
         sections = out.split("\n\n")
         self.assertEqual([section.split()[0] for section in sections[1:]], ["a", "d", "f.fifo"])
         self.assertIn("!! LOST BY EXPIRY                          1            -             -\n", sections[2])
@@ -457,7 +468,7 @@ class Faults(SummaryCase):
 
     def test_files(self):
         first = f"its first line is not {HEADER.strip()}"
-        self.assert_told("", f"text is no log: {first}")
+        self.assert_told("", "text is empty: no run has written to it")
         self.assert_told("a,b\n", f"text is no log: {first}")
         self.assert_told(HEADER[:-9], f"text is no log: {first}")
         self.assert_told(PARTS, "text has no log, and no log without its report stands before it")
@@ -542,7 +553,8 @@ class Faults(SummaryCase):
         self.assertGreater(refused, 200)
 
     def test_reports(self):
-        text, differs = LOG + PARTS, "text: its report is not of this log: {} by what follows them"
+        text = LOG + PARTS
+        differs = "text: its report is not of this log, or rows are lost or doubled: {} by what follows"
         for old, new, reason in (
                 ("report,a,3,", "report,a,4,", differs.format("sends of a is 3 by the rows, and 4")),
                 ("report,a,3,", "report,c,3,", differs.format("sends of c is 0 by the rows, and 3")),
@@ -550,12 +562,12 @@ class Faults(SummaryCase):
                 ("report,a,3,", "report,a,three,", "text: three is no number for sends in a report"),
                 ("report,a,3,", "report,a,,", "text: '' is no number for sends in a report"),
                 ("report,d,0,", "report,a,0,", "text: a is no name of a queue, or stands twice in the report"),
-                (PARTS.splitlines()[-1] + "\n", "", "text: its report lacks the queue d"),
+                (PARTS.splitlines()[-1] + "\n", "", "text: the run did not end: its report lacks the queue d"),
                 ("task,name", "a,d,move,9,0,m-0-0,o-0-0,x\ntask,name",
                  "text line 29 is no record of the part transfer after a log"),
                 ("task,name", "transfer,a,d,move,9,0,m-0-0,o-0-0,x\ntask,name",
                  differs.format("transfers of d is 0 by the rows, and 1")),
-                ("task,name", "transfer,a,e,move,9,0,m-0-0,o-0-0,x\ntask,name", "text: its report lacks the queue e"),
+                ("task,name", "transfer,a,e,move,9,0,m-0-0,o-0-0,x\ntask,name", "text: the run did not end: its report lacks the queue e"),
                 ("report,d,0,", 'report,"d\n,0,', "text is not CSV: unexpected end of data")):
             with self.subTest(new=new):
                 self.assertIn(old, text)
@@ -564,8 +576,8 @@ class Faults(SummaryCase):
     def test_files_of_two_runs(self):
         self.write("parts", PARTS)
         self.write("other", FIFO)
-        self.assert_fault(self.run_tool("summary", "other", "parts"), "summary: parts: its report is not of this log: "
-                          "sends of a is 0 by the rows, and 3 by what follows them")
+        self.assert_fault(self.run_tool("summary", "other", "parts"), "summary: parts: its report is not of this log, "
+                          "or rows are lost or doubled: sends of a is 0 by the rows, and 3 by what follows")
 
 
 class Program(SummaryCase):

@@ -6,6 +6,7 @@ Without SQS_REHEARSE the tests that need the program are left out.
 """
 import atexit
 import contextlib
+import csv
 import importlib.machinery
 import importlib.util
 import os
@@ -104,6 +105,39 @@ def read_whole(reader):
     return text
 
 
+FINAL_HEADER = "final,queue,message,origin,place,due,enqueued,receives,group,md5\n"
+REPORT_HEADER = (
+    "report,queue,sends,repeats,receives,empties,deletes,expiries,redrives,moves,arrivals,OverLimit,MessageNotInflight,"
+    "ReceiptHandleIsInvalid,BadTimeout,MissingGroup,MissingDeduplication,BadDelay,TaskRunning,NoTask,depth_max,visible,"
+    "in_flight,delayed,age_sum,age_max,age_p50,age_p95,age_p99\n")
+# What the first eighteen columns of a report count, by call and answer; refusals follow, by their names.
+COUNTED = ("send,new", "send,repeat", "receive,ok", "receive,empty", "delete,deleted", "expire,expired", "redrive,out",
+           "move,out", "arrive,new")
+
+
+def ended(log, finals="", queues=()):
+    """What a run prints that has this log: these records of its final queues follow, and a report that counts the rows
+    of the log's queues, and of others. It has no numbers of ages, and no greatest depth."""
+    rows = list(csv.reader(log.splitlines()))[1:]
+    parts = [log, FINAL_HEADER, finals, "transfer,from,to,kind,due,number,message,origin,md5\n",
+             "task,name,status,moved\n", REPORT_HEADER]
+    for queue in dict.fromkeys([*(row[1] for row in rows), *queues]):
+        kinds = [f"{row[3]},{row[4]}" for row in rows if row[1] == queue]
+        counts = [kinds.count(kind) for kind in COUNTED]
+        counts[1] += kinds.count("arrive,repeat")
+        counts += [sum(row[1] == queue and row[4] == name for row in rows) for name in REPORT_HEADER.split(",")[11:20]]
+        left = [record[4] for record in csv.reader(finals.splitlines()) if record[1] == queue]
+        places = [left.count(place) for place in ("visible", "inflight", "delayed")]
+        parts.append(",".join(map(str, ["report", queue, *counts, 0, *places, 0])) + ",,,,\n")
+    return "".join(parts)
+
+
+def open_end(name, log):
+    """What a tool says of a log whose end it does not see."""
+    return (f"{name}: the end of {log} was not seen, so it is not known whether the log is whole (--rest OUTPUT names "
+            "the file with the rest)\n")
+
+
 def row_of(at, message, detail=""):
     """A row of the queue q, as what takes rows is given it, without those fields that say what it is."""
     return at, Head("q", "", "", ""), message, "", detail
@@ -126,10 +160,10 @@ class ToolCase(unittest.TestCase):
         return self.path(name)
 
     def log_of_example(self, name):
-        """The log of a scenario of examples/, by the program."""
+        """What the program prints of a scenario of examples/: the log, and what follows it."""
         path = self.path("run.log")
-        subprocess.run([PROGRAM, "run", "--log", path, os.path.join(ROOT, "examples", name)], check=True,
-                       stdout=subprocess.DEVNULL)
+        with open(path, "wb") as file:
+            subprocess.run([PROGRAM, "run", os.path.join(ROOT, "examples", name)], check=True, stdout=file)
         return path
 
     def run_command(self, name, *words, **environment):

@@ -12,9 +12,9 @@ from typing import Any
 
 from .console import Fault, read_text, shown
 from .drawing import ALARM, CAPTION, FOOT, GREY, LEFT, LINE, RIGHT, Sheet, head_of, ticks_of
-from .requirements import FOLDED, Requirement
+from .requirements import Requirement, folded_as, interval_of_mean
 from .runs import ALL_COLUMNS
-from .statistics import half_width
+from .statistics import Interval
 
 NUMBER = re.compile(r"[0-9]{1,19}(?:\.[0-9]{1,9})?")
 HUES = ("#0072b2", "#d55e00", "#009e73", "#8e63b5", "#e69f00", "#c51b7d", "#111111", "#8c564b")
@@ -25,8 +25,8 @@ SPREAD_LEAST, SPREAD, SPREAD_GAPS = 4, 20, 10
 # The pixels of a letter, at most on average.
 LETTER = 8
 
-# The mean, the least and the greatest of a column over runs, and half the width of the interval of the mean or None.
-Point = tuple[float, float, float, float | None]
+# The mean, the least and the greatest of a column over runs, and the interval of the mean or None.
+Point = tuple[float, float, float, Interval | None]
 
 
 def is_age(column: str) -> bool:
@@ -47,7 +47,8 @@ class Rows:
         rest = header[len(self.settings):]
         self.is_folded = rest[2:3] == ["runs"]
         self.columns = rest[3:] if self.is_folded else rest[2:]
-        known = [f"{column}_{of}" for column in ALL_COLUMNS for of in FOLDED] if self.is_folded else ALL_COLUMNS
+        known = [f"{column}_{of}" for column in ALL_COLUMNS for of in folded_as(column)] \
+            if self.is_folded else ALL_COLUMNS
         if rest[:2] != ["failed", "queue"] or not set(self.columns) <= set(known):
             raise Fault(f"{path} has no rows of a sweep")
         self.rows: list[tuple[dict[str, str], str, int, dict[str, float]]] = []
@@ -79,8 +80,8 @@ class Rows:
 class Curve:
     """For each word of a setting the numbers of a column: mean, least and greatest, and of how many runs."""
 
-    def __init__(self, name: str) -> None:
-        self.name = name
+    def __init__(self, name: str, column: str) -> None:
+        self.name, self.column = name, column
         self.numbers: dict[str, list[tuple[int, Point]]] = {}
 
     def add(self, word: str, runs: int, numbers: Point) -> None:
@@ -95,12 +96,14 @@ class Curve:
         mean = statistics.fmean(number[0] for _, number in found)
         return mean, min(number[1] for _, number in found), max(number[2] for _, number in found), runs
 
-    def half_width(self, word: str) -> float | None:
-        """Half the width of the 95 % interval of the mean: of single runs, or as folded rows have it; else None."""
+    def interval(self, word: str) -> Interval | None:
+        """The 95 % interval of the mean: of single runs, or as folded rows have it; else None."""
         found = self.numbers.get(word, [])
         if len(found) == 1:
             return found[0][1][3]
-        return half_width([number[0] for _, number in found]) if all(runs == 1 for runs, _ in found) else None
+        if any(runs != 1 for runs, _ in found):
+            return None
+        return interval_of_mean(self.column, [number[0] for _, number in found])
 
 
 def setting_of(rows: Rows, wanted: str | None) -> str:
@@ -125,15 +128,23 @@ def curves_of(rows: Rows, setting: str, text: str) -> list[Curve]:
     for varied, name, runs, numbers in rows.rows:
         if name == queue:
             others = [(key, word) for key, word in varied.items() if key not in (setting, "seed")]
-            curve = curves.setdefault(tuple(others), Curve(", ".join(f"{key} = {word}" for key, word in others)))
+            curve = curves.setdefault(tuple(others), Curve(", ".join(f"{key} = {word}" for key, word in others), column))
             if keys[0] in numbers:
-                half = numbers.get(f"{column}_half_width") if rows.is_folded else None
                 mean, least, greatest = (numbers[key] for key in keys)
-                curve.add(varied[setting], runs, (mean, least, greatest, half))
+                curve.add(varied[setting], runs, (mean, least, greatest, interval_in(column, mean, numbers)))
     if len(curves) > len(HUES):
         raise Fault(f"{len(curves)} curves are too many to tell apart: other settings than {setting} are varied, of "
                     f"which {len(HUES)} combinations can be drawn")
     return list(curves.values())
+
+
+def interval_in(column: str, mean: float, numbers: dict[str, float]) -> Interval | None:
+    """The interval of a mean that a folded row has; None if it has none."""
+    ends = [numbers.get(f"{column}_mean_{end}") for end in ("low", "high")]
+    half = numbers.get(f"{column}_half_width")
+    if half is not None:
+        return Interval(mean - half, mean + half)
+    return None if ends[0] is None or ends[1] is None else Interval(ends[0], ends[1])
 
 
 def are_spread(numbers: list[float]) -> bool:
@@ -207,10 +218,11 @@ def draw_curves(axes: Any, axis: Axis, curves: Sequence[Curve]) -> float:
         width = 1 if axis.is_number else 5
         axes.vlines(*zip(*there) if there else ([], [], []), color=hue, alpha=0.45, linewidth=width)
         axes.plot(places, means, color=hue, linewidth=1.8 if axis.is_number else 0, marker="o", markersize=3.5)
-        bars = [(place, mean, half) for word, place, mean in zip(axis.places, places, means)
-                if (half := curve.half_width(word))]
+        bars = [(place, mean, (mean - interval.low, interval.high - mean))
+                for word, place, mean in zip(axis.places, places, means)
+                if (interval := curve.interval(word)) and interval.low < interval.high]
         if bars:
-            axes.errorbar(*list(zip(*bars))[:2], yerr=[half for _, _, half in bars], fmt="none", ecolor=hue,
+            axes.errorbar(*list(zip(*bars))[:2], yerr=list(zip(*(sides for *_, sides in bars))), fmt="none", ecolor=hue,
                           elinewidth=1.6, capsize=4)
         greatest = max([greatest, *(number for number in most if not math.isnan(number))])
     return greatest
@@ -252,7 +264,7 @@ class Panel:
         self.required = [one for one in requirements if one.is_of(text.rpartition(".")[0])
                          and one.column == text.rpartition(".")[2]]
         bounds = [(f"required: {one.text}", ALARM) for one in self.required]
-        has_intervals = any(curve.half_width(word) for curve in self.curves for word in axis.places)
+        has_intervals = any(curve.interval(word) for curve in self.curves for word in axis.places)
         bars = [("(bars: 95 % interval of the mean)", GREY)] if has_intervals else []
         self.lines = lines_of([(f"{text}{unit}: {runs_told(self.curves, axis)}", GREY), *bars, *bounds, *named], room)
         self.head = CAPTION + LINE * (len(self.lines) - 1)

@@ -3,8 +3,11 @@ is not a command.
 
 Messages are followed by their origins and by the order of forwards, as origins.py has it. Where that order leaves open
 which message was forwarded, the ages behind it are open too.
+
+A message that is still elsewhere may come into a queue yet, if a way leads there.
 """
 from collections import Counter
+from collections.abc import Iterable
 from typing import NamedTuple
 
 from .logs import Head, Take
@@ -24,10 +27,11 @@ class Door(NamedTuple):
 
 class Doors:
     """Follows all messages of a log, row by row, and counts by queue the ages since the first send of those that are
-    deleted from a moment on. `served` has what each consumer serves."""
+    deleted from a moment on. `served` has what each consumer serves. `ways` has the ways from queue to queue that are
+    known before, or that a message went."""
 
-    def __init__(self, first: int = 0) -> None:
-        self.first = first
+    def __init__(self, first: int = 0, ways: Iterable[tuple[str, str]] = ()) -> None:
+        self.first, self.ways = first, set(ways)
         self.origins, self.forwards = Origins[Door](), Forwards[Door]()
         self.served: dict[tuple[str, str], Door] = {}
         self.ages: dict[str, dict[frozenset[tuple[str, str]], Counter[int]]] = {}
@@ -67,6 +71,7 @@ class Doors:
         if door is None:
             raise BadRow(f"{head.agent} did not receive {message}: is this the whole log?")
         self.forwards.sent(at, head, to, door)
+        self.ways.add((head.queue, to))
 
     def failed(self, at: int, head: Head, message: str, receipt: str, detail: str) -> None:
         """The end of a service, whose receipt tells the message even if that is gone."""
@@ -80,6 +85,8 @@ class Doors:
 
     def leaves(self, at: int, head: Head, message: str, receipt: str, detail: str) -> None:
         self.origins.leaves(head, message, detail)
+        if head.answer == "out":
+            self.ways.add((head.queue, detail))
 
     def count(self, queue: str, at: int, door: Door) -> None:
         if at >= self.first:
@@ -111,12 +118,39 @@ class Doors:
         return {column: at_rank(ages, rank_of(ages.total(), share)) if is_known else None
                 for column, share in DOOR_SHARES.items()}
 
-    def left(self, end: int) -> dict[str, list[int]]:
-        """How long ago each message was first sent that is left at the end, by queue."""
-        found: dict[str, list[int]] = {}
+    def left(self) -> "Left":
+        """The messages that are left at the end."""
+        there: dict[str, list[int]] = {}
+        under_way: dict[str, list[int]] = {}
         for door, _, queue in self.origins.there.values():
-            found.setdefault(queue, []).append(end - door.at)
+            there.setdefault(queue, []).append(door.at)
+        for door, leave in self.origins.under_way.values():
+            under_way.setdefault(leave.to, []).append(door.at)
+        for (_, to), edge in self.forwards.edges.items():
+            under_way.setdefault(to, []).extend(door.at for _, door in edge.under_way)
+        return Left(there, under_way, self.ways)
+
+
+class Left(NamedTuple):
+    """When the messages were first sent that are left at the end, by the queue in which they are, or to which they are
+    under way; and the ways from queue to queue."""
+    there: dict[str, list[int]]
+    under_way: dict[str, list[int]]
+    ways: set[tuple[str, str]]
+
+    def before(self, queue: str) -> set[str]:
+        """The queues from which a queue can be reached, with itself."""
+        found, wave = {queue}, {queue}
+        while wave:
+            wave = {start for start, to in self.ways if to in wave} - found
+            found |= wave
         return found
+
+    def may_come(self, queue: str) -> list[int]:
+        """When those were first sent that may still come into a queue."""
+        before = self.before(queue)
+        return [at for name in before for at in (*self.under_way.get(name, ()),
+                                                 *(self.there.get(name, ()) if name != queue else ()))]
 
 
 HANDLERS = handlers_of(Doors)

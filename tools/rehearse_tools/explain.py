@@ -194,7 +194,7 @@ def missing_key(scenario: Scenario) -> str:
         text += f" beside {found.beside}"
     if found and found.queues:
         text += f" at a {found.queues} queue"
-    return f"{text}{in_its_place(scenario, key)}.{range_text(found)}{nearest_key(scenario)}"
+    return f"{text}{in_its_place(scenario, key)}.{range_beside(scenario, found)}{nearest_key(scenario)}"
 
 
 def in_its_place(scenario: Scenario, key: str) -> str:
@@ -228,6 +228,14 @@ def range_text(key: Key | None) -> str:
         return f" It is {key.kind}."
     default = "" if key.default in (None, REQUIRED) else f", and {key.default:,} where it is not given"
     return f" It has {key.low:,} to {key.high:,}{default}."
+
+
+def range_beside(scenario: Scenario, key: Key | None) -> str:
+    """The range of a key, which begins at the value of another one where that is its least."""
+    least = scenario.value(key.least) if key and key.least else None
+    if not key or not isinstance(least, int) or not (key.low or 0) <= least <= (key.high or 0):
+        return range_text(key)
+    return f" It has {least:,} to {key.high:,}, as {key.least} is {least:,}."
 
 
 def wrong_type(scenario: Scenario) -> str:
@@ -300,7 +308,7 @@ def out_of_range(scenario: Scenario) -> str:
     least = scenario.value(found.least) if found and found.least else None
     if found and isinstance(least, int) and isinstance(value, int) and value < least:
         return f"{text} It may not be less than {found.least}, which is {least:,}."
-    return f"{text}{range_text(found)}{nearest(value, found.words) if found and found.words else ''}"
+    return f"{text}{range_beside(scenario, found)}{nearest(value, found.words) if found and found.words else ''}"
 
 
 def copies_of(scenario: Scenario, item: Any) -> list[str]:

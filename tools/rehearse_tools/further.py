@@ -8,7 +8,7 @@ import math
 from collections import Counter
 from typing import NamedTuple
 
-from .logs import Head, Take
+from .logs import Head, Log, Take
 from .replay import both, handlers_of, ignored, is_forward
 from .statistics import Interval, at_rank, censored_percentile, rank_of
 from .summaries import ACTIONS, HANDLERS as HANDLERS_OF_SUMMARY, Queue, Reading, Run
@@ -90,7 +90,7 @@ class Further:
 
     def __init__(self, first: int, window: int, price: float | None) -> None:
         self.first, self.window, self.price = first, window, price
-        self.run = Run("-", Reading())
+        self.run = Run(Log("-"), Reading())
         self.queues: dict[str, Apart] = {}
 
     def window_of(self, at: int) -> int:

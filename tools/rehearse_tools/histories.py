@@ -10,9 +10,8 @@ from collections.abc import Sequence
 from typing import Any, NamedTuple
 
 from .console import Fault, library, shown
-from .logs import NUMBER, Head, Log
-from .replay import (DELAYED, IN_FLIGHT, NOWHERE, VISIBLE, BadRow, Places, Replay, What, handlers_of, replay,
-                     take_finals)
+from .logs import NUMBER, Head, Log, What
+from .replay import DELAYED, IN_FLIGHT, NOWHERE, VISIBLE, BadRow, Places, Replay, handlers_of, replay, take_finals
 
 # A change is four times the place that a message leaves and the place that it comes to.
 PLACES = {"visible": VISIBLE, "in flight": IN_FLIGHT, "delayed": DELAYED}
@@ -161,8 +160,7 @@ class Histories:
         if not self.queues:
             raise Fault(f"{log.path} has no rows to draw")
         take_finals(log, self.queues)
-        report = (log.parts or {}).get("report")
-        self.known = None if report is None else [record[1] for record in report]
+        self.known = None if log.is_open else list(log.report)
 
     def read(self, log: Log) -> None:
         queues = self.queues

@@ -1,7 +1,7 @@
 """Says in words what happened to one message in the log of a run, or which messages fared worst:
 
-    tools/life LOG ID
-    tools/life LOG --worst [--most N]
+    tools/life LOG [--rest OUTPUT] ID
+    tools/life LOG [--rest OUTPUT] --worst [--most N]
 
 ID is an origin, such as o-0-17, which a message keeps over redrives and moves, or the id that it had in one of its
 queues, such as m-0-17. LOG is a file made by `run --log`, or what `run` prints without it; - is standard input. Each
@@ -27,9 +27,9 @@ from collections import Counter
 from collections.abc import Callable, Container, Mapping, Sequence
 
 from .console import Fault, Parser
-from .logs import Final, Head, Log, Row, Rows, Take, message_of_receipt
+from .logs import Final, Head, Log, Row, Rows, Take, What, message_of_receipt, tell_open
 from .origins import Forwards, Origins, origin_of
-from .replay import ENTERS, LEAVES, Checked, What, checked, faults_told, handlers_of, ignored, is_forward, replay
+from .replay import ENTERS, LEAVES, Checked, checked, faults_told, handlers_of, ignored, is_forward, replay
 from .units import clock, duration as rounded
 
 ID = re.compile(r"[mo]-(0|[1-9][0-9]*)-(0|[1-9][0-9]*)")
@@ -258,14 +258,15 @@ def tell_life(life: Life, finals: Mapping[str, Final] | None, last: int) -> None
     print(f"In the end: {told_end(life.rows, finals, last)}")
 
 
-def tell_lives(path: str, name: str) -> None:
-    log = Log(path)
-    if path == "-":
+def tell_lives(log: Log, name: str) -> None:
+    if log.path == "-":
         keep_standard_input()
     origin = origin_named(log, name)
-    if path == "-":
+    if log.path == "-":
         os.lseek(0, 0, os.SEEK_SET)
-    for number, life in enumerate(Lives(log, origin).all.values()):
+    lives = Lives(log, origin)
+    tell_open(log)
+    for number, life in enumerate(lives.all.values()):
         if number:
             print()
         tell_life(life, log.finals, log.at)
@@ -326,9 +327,10 @@ class Stays:
 HANDLERS = handlers_of(Stays)
 
 
-def tell_worst(path: str, most: int) -> None:
+def tell_worst(log: Log, most: int) -> None:
     """Prints the messages that fared worst, the worst first."""
-    worst = sorted(Stays(Log(path), most).worst, reverse=True)
+    worst = sorted(Stays(log, most).worst, reverse=True)
+    tell_open(log)
     cells = [(stay.origin, f"for {rounded(stay.until - stay.since)}", f"from {stay.since} ms to {stay.until} ms",
               f"received {stay.receives:,} time{'s' if stay.receives != 1 else ''}", stay.end) for stay in worst]
     widths = [max(map(len, column)) for column in zip(*cells)]
@@ -340,16 +342,18 @@ def tell_worst(path: str, most: int) -> None:
 def main(words: Sequence[str]) -> int:
     parser = Parser(__doc__)
     parser.add_argument("log", metavar="LOG")
+    parser.add_argument("--rest", metavar="OUTPUT")
     parser.add_argument("id", metavar="ID", nargs="?")
     parser.add_argument("--worst", action="store_true")
     parser.add_argument("--most", type=int, default=10, metavar="N")
-    options = parser.parse_args(words)
+    options = parser.parse_intermixed_args(words)
     if options.worst == (options.id is not None):
         raise Fault("an ID or --worst is needed, and not both (--help tells the usage)")
     if not 1 <= options.most <= MOST:
         raise Fault(f"--most is 1 to {MOST:,}")
+    log = Log(options.log, rest=options.rest)
     if options.worst:
-        tell_worst(options.log, options.most)
+        tell_worst(log, options.most)
     else:
-        tell_lives(options.log, options.id)
+        tell_lives(log, options.id)
     return 0

@@ -1,12 +1,13 @@
 """Reads what a run writes; docs/FORMATS.md has the formats. The tools import it; it is not a command."""
 import csv
 import re
-from collections.abc import Callable, Iterator, Sequence
+from collections import Counter
+from collections.abc import Callable, Iterator, Mapping, Sequence
 from itertools import chain
 from operator import length_hint
 from typing import Any, NamedTuple, TextIO
 
-from .console import Fault, Progress
+from .console import Fault, Progress, note, shown
 
 
 class Row(NamedTuple):
@@ -31,6 +32,10 @@ class Head(NamedTuple):
     answer: str
 
 
+# The call and answer of a row.
+What = tuple[str, str]
+# The numbers of a queue in a report by their columns, None where there is none.
+Numbers = dict[str, Any]
 # What takes a row: its time, its head, message, receipt and detail.
 Take = Callable[[int, Head, str, str, str], object]
 
@@ -58,6 +63,19 @@ REPORT_HEADER = (
     "ReceiptHandleIsInvalid,BadTimeout,MissingGroup,MissingDeduplication,BadDelay,TaskRunning,NoTask,depth_max,visible,"
     "in_flight,delayed,age_sum,age_max,age_p50,age_p95,age_p99").split(",")
 
+REFUSALS = REPORT_HEADER[REPORT_HEADER.index("OverLimit"):REPORT_HEADER.index("depth_max")]
+# The columns of a report that count rows, by the calls and answers of these; a refusal is a column of its own name.
+COLUMN_OF: dict[What, str] = {
+    ("send", "new"): "sends", ("send", "repeat"): "repeats", ("arrive", "repeat"): "repeats",
+    ("receive", "ok"): "receives", ("receive", "empty"): "empties", ("delete", "deleted"): "deletes",
+    ("expire", "expired"): "expiries", ("redrive", "out"): "redrives", ("move", "out"): "moves",
+    ("arrive", "new"): "arrivals"}
+COUNTED = dict.fromkeys((*COLUMN_OF.values(), *REFUSALS))
+# The columns of the places of messages that are left, by what the final queues call them.
+PLACES = {"visible": "visible", "inflight": "in_flight", "delayed": "delayed"}
+# The columns of ages, which are empty if no message was deleted.
+AGES = ("age_max", "age_p50", "age_p95", "age_p99")
+
 # The parts of what `run` prints after the log. The first field of each record is the name of its part.
 HEADERS = {header[0]: header for header in (FINAL_HEADER, TRANSFER_HEADER, TASK_HEADER, REPORT_HEADER)}
 
@@ -66,6 +84,7 @@ LOG_FIELDS = len(LOG_HEADER)
 # Numbers have so many digits at most.
 DIGITS = 19
 NUMBER = re.compile(f"[0-9]{{1,{DIGITS}}}")
+NAME = re.compile(r"[A-Za-z0-9_-]{1,80}(?:\.fifo)?")
 RECEIPT = re.compile(r"r-(0|[1-9][0-9]*)-(0|[1-9][0-9]*)-[1-9][0-9]*")
 
 # How many letters are read at once, and the most that a line may have.
@@ -130,19 +149,20 @@ class BadLine(Exception):
 
 
 class Taken:
-    """What takes the rows that have a head, and how many it was given."""
+    """What takes the rows that have a head, how many it was given, and how many of these its queue has noted."""
 
-    __slots__ = "head", "take", "rows"
+    __slots__ = "head", "take", "rows", "noted"
 
     def __init__(self, head: Head, take: Take) -> None:
-        self.head, self.take, self.rows = head, take, 0
+        self.head, self.take, self.rows, self.noted = head, take, 0, 0
 
 
 class Rows:
     """Gives rows to what takes those with their head; `take_of` is asked for that at the first of them.
 
     `at` is the time of the last row. `moments` has, in ascending order, what is called before the first row from a
-    moment on. `texts` has what takes rows by the text of their head, where no row had quotes.
+    moment on. `texts` has what takes rows by the text of their head, where no row had quotes. `forgotten` counts the
+    rows of heads that are no longer kept.
     """
 
     # So many heads are kept at once.
@@ -151,6 +171,7 @@ class Rows:
     def __init__(self, take_of: Callable[[Head], Take]) -> None:
         self.take_of = take_of
         self.heads, self.texts = dict[tuple[str, ...], Taken](), dict[str, Taken]()
+        self.forgotten: Counter[tuple[str, What]] = Counter()
         self.at, self.text = 0, ""
         self.moments: list[tuple[int, Callable[[], None]]] = []
 
@@ -206,8 +227,16 @@ class Rows:
 
     def forget(self) -> None:
         """Forgets what takes rows, so that it is asked for anew."""
+        self.forgotten = self.counts()
         self.heads.clear()
         self.texts.clear()
+
+    def counts(self) -> "Counter[tuple[str, What]]":
+        """How many rows were given, by their queue, and their call and answer."""
+        found = Counter(self.forgotten)
+        for taken in self.heads.values():
+            found[taken.head.queue, (taken.head.call, taken.head.answer)] += taken.rows
+        return found
 
     def pass_to(self, text: str) -> int:
         """Notes the time of a row, which is not before the last one."""
@@ -225,16 +254,34 @@ class Rows:
 class Log:
     """A log in a file, or on standard input if its path is -, read row by row in its order.
 
-    A run without `--log` prints the final queues and more after the log. Once the rows have been read, `parts` has
-    the records of those parts that were wanted and are there, by the names of the parts, or None where nothing
-    follows. A file may have these parts alone where `may_lack_rows` says so; `has_rows` tells it. `line` is the number
-    of the line that was read last, and `at` the time of the row that was.
+    A run without `--log` prints the final queues and the report after the log. Once the rows have been read, `parts`
+    has the records of those parts that were wanted and are there, by the names of the parts, or None where nothing
+    follows; `report` has the numbers of each queue by its columns. A file may have these parts alone where
+    `may_lack_rows` says so; `has_rows` tells it. `rest` is the path of the file with these parts, if they do not follow
+    the log. `line` is the number of the line that was read last, and `at` the time of the row that was.
+
+    Rows are lost where a run was ended, or a file cut. So a log of standard input must have its report, and each report
+    must agree with the rows. A log in a file may stand alone; `is_open` says that its end was not seen.
     """
 
-    def __init__(self, path: str, wanted: Sequence[str] = ("final",), may_lack_rows: bool = False) -> None:
-        self.path, self.wanted, self.may_lack_rows = path, wanted, may_lack_rows
+    def __init__(self, path: str, wanted: Sequence[str] = ("final",), may_lack_rows: bool = False,
+                 rest: str | None = None) -> None:
+        self.path, self.wanted, self.may_lack_rows, self.rest = path, wanted, may_lack_rows, rest
         self.line, self.at, self.has_rows = 0, 0, True
         self.parts: dict[str, list[list[str]]] | None = None
+        self.report: dict[str, Numbers] = {}
+        self.counts: Counter[tuple[str, What]] = Counter()
+        self.left: Counter[tuple[str, str]] = Counter()
+        if path == rest == "-":
+            raise Fault("standard input can be read once")
+
+    @property
+    def name(self) -> str:
+        return "standard input" if self.path == "-" else self.path
+
+    @property
+    def is_open(self) -> bool:
+        return self.parts is None
 
     @property
     def finals(self) -> dict[str, Final] | None:
@@ -262,11 +309,58 @@ class Log:
                 self.line, self.at = self.line + len(lines) - length_hint(left), rows.at
             if is_over:
                 self.read_parts(chain(left, (line for block in blocks for line in block.lines)))
-                return
+                break
+        if self.has_rows:
+            self.counts = rows.counts()
+            self.check_end()
+
+    def check_end(self) -> None:
+        """Makes sure that the log is whole, as far as what follows it is there."""
+        if self.parts is not None:
+            self.check_report()
+        elif self.rest is not None:
+            self.complete(rest_in(self.rest, self.wanted))
+        elif not self.may_lack_rows:
+            self.check_open()
+
+    def check_open(self) -> None:
+        """Makes sure that a log of standard input was seen to its end."""
+        if self.is_open and self.path == "-":
+            raise self.not_ended()
+
+    def complete(self, rest: "Log") -> None:
+        """Takes what follows the log from another file, which has that alone."""
+        self.parts, self.report, self.left = rest.parts, rest.report, rest.left
+        rest.counts = self.counts
+        rest.check_report()
+
+    def not_ended(self) -> Fault:
+        return Fault(f"{self.name}: the run did not end: its report is missing")
+
+    def check_report(self) -> None:
+        """Makes sure that the report is there, and counts the rows, and the messages left, that are."""
+        if not self.report:
+            raise self.not_ended()
+        kinds: dict[str, Counter[What]] = {}
+        for (name, what), count in self.counts.items():
+            kinds.setdefault(name, Counter())[what] = count
+        for name, given in self.report.items():
+            for column, number in counted_columns(kinds.get(name, {})).items():
+                check_number(self.name, f"{column} of {name}", number, given[column])
+            for place, column in PLACES.items():
+                check_number(self.name, f"{column} of {name}", self.left[name, place], given[column], "final queues")
+        for name in (*kinds, *(name for name, _ in self.left)):
+            if name not in self.report:
+                raise self.lacking(name)
+
+    def lacking(self, queue: str) -> Fault:
+        return Fault(f"{self.name}: the run did not end: its report lacks the queue {shown(queue)}")
 
     def begun(self, blocks: Iterator[Block]) -> Iterator[Block]:
         """The lines after the first one, which must be the header of a log."""
-        lines, has_quotes, _ = next((block for block in blocks if block.lines), Block([""], False))
+        lines, has_quotes, _ = next((block for block in blocks if block.lines), Block([], False))
+        if not lines:
+            raise Fault(f"{self.name} is empty: no run has written to it")
         header, self.line, self.at = lines[0].split(","), 1, 0
         rest = chain([Block(lines[1:], has_quotes)], blocks)
         if header == FINAL_HEADER and self.may_lack_rows:
@@ -298,8 +392,70 @@ class Log:
                     header, parts[record[0]] = record, []
                 elif record[:1] != header[:1] or len(record) != len(header):
                     raise Fault(f"{self.path} line {self.line} is no record of the part {header[0]} after a log")
-                elif header[0] in self.wanted:
-                    parts[header[0]].append(record)
+                else:
+                    self.take_record(record)
+                    if header[0] in self.wanted:
+                        parts[header[0]].append(record)
         except csv.Error as error:
             raise Fault(f"{self.path} is not CSV: {error}") from None
         self.parts = {name: records for name, records in parts.items() if name in self.wanted}
+
+    def take_record(self, record: Sequence[str]) -> None:
+        """Takes in a record of the report, or of the final queues."""
+        if record[:1] == ["final"]:
+            self.left[record[1], record[4]] += 1
+        elif record[:1] == ["report"]:
+            numbers, name = numbers_of(record, self.name), record[1]
+            if name in self.report or not NAME.fullmatch(name):
+                raise Fault(f"{self.path}: {shown(name)} is no name of a queue, or stands twice in the report")
+            self.report[name] = numbers
+
+
+def rest_in(path: str, wanted: Sequence[str]) -> Log:
+    """What follows a log, from a file that has that alone."""
+    rest = Log(path, wanted, may_lack_rows=True)
+    next(rest.begun(rest.blocks()), None)
+    if rest.has_rows:
+        raise Fault(f"{rest.name} has a log of its own, and is not the rest of another one")
+    return rest
+
+
+def numbers_of(record: Sequence[str], path: str) -> Numbers:
+    """The numbers of a record of the report by their columns; None for the ages that nothing has."""
+    numbers: Numbers = {}
+    if len(record) != len(REPORT_HEADER):
+        raise Fault(f"{path}: its report has a line of {len(record)} fields")
+    for column, text in zip(REPORT_HEADER[2:], record[2:]):
+        if not NUMBER.fullmatch(text) and (text or column not in AGES):
+            raise Fault(f"{path}: {shown(text)} is no number for {column} in a report")
+        numbers[column] = int(text) if text else None
+    return numbers
+
+
+def counted_columns(kinds: Mapping[What, int]) -> dict[str, int]:
+    """The columns of a report that count rows, of a queue with so many rows of each call and answer."""
+    columns = dict.fromkeys(COUNTED, 0)
+    for what, count in kinds.items():
+        column = COLUMN_OF.get(what, what[1])
+        if column in columns:
+            columns[column] += count
+    return columns
+
+
+def check_number(path: str, what: str, counted: int | None, given: int | None, by: str = "rows") -> None:
+    """Makes sure that a number of the report is the one that is counted."""
+    if counted != given:
+        raise Fault(f"{path}: its report is not of this log, or rows are lost or doubled: {what} is {counted} by the "
+                    f"{by}, and {given} by what follows")
+
+
+def open_told(log: Log) -> str:
+    """That the end of a log was not seen."""
+    return (f"the end of {log.path} was not seen, so it is not known whether the log is whole (--rest OUTPUT names the "
+            "file with the rest)")
+
+
+def tell_open(log: Log) -> None:
+    """Says on standard error if the end of a log was not seen."""
+    if log.is_open:
+        note(open_told(log))

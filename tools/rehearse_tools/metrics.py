@@ -1,11 +1,19 @@
 """Prints what CloudWatch would show of a run: the metrics of SQS by their names, for each queue and period, as CSV:
 
-    tools/metrics LOG [--period S] [--queue NAME ...] [--output FILE.csv]
-    tools/metrics LOG [--period S] [--queue NAME ...] --alarm 'ApproximateAgeOfOldestMessage>300 for 5'
-    tools/metrics LOG [--period S] [--queue NAME ...] --against FILE.json [--origin TIME] [--output FILE.csv]
+    tools/metrics LOG [--rest OUTPUT] [--scenario FILE.toml | --to TIME] [--period S] [--queue NAME ...]
+        [--output FILE.csv]
+    tools/metrics LOG [..] --alarm 'ApproximateAgeOfOldestMessage>300 for 5'
+    tools/metrics LOG [..] --against FILE.json [--origin TIME] [--output FILE.csv]
 
-LOG is a file made by `run --log`, or what `run` prints without it; - is standard input. A period has 60 seconds unless
---period says otherwise; the first one begins at the beginning of the run, and the last one has the last row.
+LOG is what `run` prints, or a file made by `run --log`; then OUTPUT is what that run prints. - is standard input. A run
+that was ended has no report: its log is refused if it comes by standard input. Of a file without OUTPUT a line on
+standard error says that the end was not seen.
+
+A period has 60 seconds unless --period says otherwise; the first one begins at the beginning of the run. A log does not
+say when the run ends. With --scenario, the file that was run, that is its horizon, and with --to the time that is
+given, such as 1h30m. The periods go on to there, although no row is there any more. The last period ends with the run,
+so it may be shorter, and counts what happens at that moment. Without these words it ends with the last row, which a
+line on standard error says. A queue without rows has periods too, if the report or --scenario names it.
 
 The four numbers of messages count what happened within a period. NumberOfMessagesSent counts messages added by a send
 or a forward, but not repeats, dead letters and what a move task brings. NumberOfMessagesReceived counts each message of
@@ -19,8 +27,8 @@ the log, or if the final queues follow the log and say so.
 
 --alarm prints, in place of the CSV, when an alarm would ring: when a metric is beyond a bound at the ends of that many
 periods in a row. With a queue before the metric, as in orders.ApproximateAgeOfOldestMessage, only that queue is
-watched; without one each queue is. It may be given several times. The status is 0 if none rang, 1 if one did, 2 for a
-fault.
+watched; without one each queue is. It may be given several times. An alarm that has not rung by the end of the run, or
+by the last row, may ring later. The status is 0 if none rang, 1 if one did, 2 for a fault.
 
 --against compares the rehearsal with what CloudWatch measured, for example to rehearse last Tuesday first. FILE.json is
 what `aws cloudwatch get-metric-data` or get-metric-statistics printed for periods of --period seconds. The label of
@@ -33,23 +41,28 @@ of both.
 
 Examples:
 
-    ./sqs_rehearse run examples/dead_letters.toml | tools/metrics - --queue orders --output metrics.csv
     ./sqs_rehearse run examples/dead_letters.toml
-        | tools/metrics - --alarm 'failed.ApproximateAgeOfOldestMessage>60 for 3'
+        | tools/metrics - --scenario examples/dead_letters.toml --queue orders --output metrics.csv
+    ./sqs_rehearse run examples/dead_letters.toml
+        | tools/metrics - --to 10min --alarm 'failed.ApproximateAgeOfOldestMessage>60 for 3'
 """
+import math
 import operator
 import re
 import sys
 from collections import Counter, defaultdict, deque
+from argparse import Namespace
 from collections.abc import Iterable, Iterator, Sequence
+from typing import NamedTuple
 
 from .console import Fault, Parser, check_output, note, print_text, shown, write_text
-from .logs import NUMBER, Head, Log
+from .logs import NUMBER, Head, Log, What, tell_open
 from .measured import csv_of, differences_of, series_in, sums_of
-from .replay import (DELAYED, IN_FLIGHT, MESSAGE, NOWHERE, NUMBERED, VISIBLE, Checked, Places, UnknownKind, What,
+from .replay import (DELAYED, IN_FLIGHT, MESSAGE, NOWHERE, NUMBERED, VISIBLE, Checked, Places, UnknownKind,
                      handlers_of, is_forward, replay, take_finals)
+from .scenarios import names_of, scenario_at
 from .units import NUMBER as MEASURE
-from .units import clock
+from .units import clock, moment_of
 
 COUNTS = ("NumberOfMessagesSent", "NumberOfMessagesReceived", "NumberOfMessagesDeleted", "NumberOfEmptyReceives")
 SENT, RECEIVED, DELETED, EMPTY = range(len(COUNTS))
@@ -69,6 +82,7 @@ class Queue(Places):
     in it, `steps` by how many messages more are in each place at its end, and `oldest` when the oldest one had come.
 
     `now` is the period of the last row, which ends at `until`; `happened` and `moved` have its counts and steps so far.
+    All that comes after the period `last` is in that one.
     `stands` has the place of each message that is there, or, if it has not moved since it came, `-1 - period` with the
     period of that. `order` has the messages in the order in which they entered, with the time.
     """
@@ -76,21 +90,21 @@ class Queue(Places):
     # These methods look at their rows themselves.
     SURE = frozenset(("sent", "arrived", "received", "released", "deleted", "leaves"))
 
-    def __init__(self, name: str, path: str, period: int) -> None:
-        self.name, self.path, self.period, self.kinds = name, path, period, Counter[What]()
+    def __init__(self, name: str, path: str, period: int, last: float) -> None:
+        self.name, self.path, self.period, self.last, self.kinds = name, path, period, last, Counter[What]()
         self.counts: list[defaultdict[int, int]] = [defaultdict(int) for _ in COUNTS]
         self.steps: list[defaultdict[int, int]] = [defaultdict(int) for _ in (*PLACES, NOWHERE)]
         self.stands: dict[str, int] = {}
         self.order: deque[tuple[str, int]] = deque()
         self.oldest: dict[int, int | None] = {}
-        self.now, self.until = 0, period
+        self.now, self.until = 0, period if last else math.inf
         self.happened, self.moved = [0] * len(self.counts), [0] * len(self.steps)
 
     def pass_to(self, at: int) -> None:
         """Takes in that a period has ended, as a moment is in a later one."""
         self.end_period()
-        self.now = at // self.period
-        self.until = (self.now + 1) * self.period
+        self.now = int(min(at // self.period, self.last))
+        self.until = (self.now + 1) * self.period if self.now < self.last else math.inf
 
     def end_period(self) -> None:
         """Notes what happened in a period, and when the oldest message came that is there at its end."""
@@ -178,20 +192,36 @@ class Queue(Places):
 HANDLERS = handlers_of(Queue)
 
 
-class Metrics:
-    """The queues of a log by name, and how many periods of so many milliseconds it has."""
+class Scope(NamedTuple):
+    """What is known of a run before its log is read: when it ends, in milliseconds, and its queues."""
+    end: int | None = None
+    queues: Sequence[str] = ()
 
-    def __init__(self, log: Log, period: int) -> None:
-        self.period, self.queues = period, dict[str, Queue]()
+
+class Metrics:
+    """The queues of a log by name, in the order of the run, and how many periods of so many milliseconds there are. The
+    last of them ends at `end`: with the run if that is known, else with the last row."""
+
+    def __init__(self, log: Log, period: int, scope: Scope = Scope()) -> None:
+        self.period = period
+        last = math.inf if scope.end is None else max(0, scope.end - 1) // period
+        found: dict[str, Queue] = {}
 
         def named(name: str) -> Queue:
-            return self.queues.setdefault(name, Queue(name, log.path, period))
+            return found.setdefault(name, Queue(name, log.path, period, last))
 
-        last = replay(log, Checked(self.queues, named, HANDLERS))
-        self.periods = 0 if last is None else last // period + 1
-        for queue in self.queues.values():
+        last_row = replay(log, Checked(found, named, HANDLERS))
+        for queue in found.values():
             queue.end_period()
-        take_finals(log, self.queues)
+        take_finals(log, found)
+        self.queues = {name: named(name) for name in (*scope.queues, *log.report, *found)}
+        self.last_row, self.is_ended = last_row or 0, scope.end is not None
+        self.end = self.last_row if scope.end is None else scope.end
+        self.periods = 0 if last_row is None and scope.end is None else int(min(self.end // period, last)) + 1
+
+    def end_of(self, period: int) -> int:
+        """When a period ends."""
+        return min((period + 1) * self.period, self.end)
 
     def values(self, queue: Queue) -> Iterator[list[int]]:
         """The values of all metrics, period by period."""
@@ -201,7 +231,7 @@ class Metrics:
             for place in PLACES:
                 levels[place] += queue.steps[place].get(period, 0)
             since = queue.oldest.get(period, since)
-            age = 0 if since is None else ((period + 1) * self.period - since) // 1_000
+            age = 0 if since is None else (self.end_of(period) - since) // 1_000
             yield [*(counts.get(period, 0) for counts in queue.counts), *levels.values(), age]
 
 
@@ -239,8 +269,8 @@ def ringing(alarms: Iterable[Alarm], metrics: Metrics, queues: Sequence[Queue]) 
         name = alarm.text.removeprefix(f"{alarm.queue}.")
         for queue in queues if alarm.queue is None else [metrics.queues[alarm.queue]]:
             for since, until in alarm.rings(metrics.values(queue)):
-                end = "" if until is None else f", until {clock((until + 1) * metrics.period)}"
-                yield f"{queue.name}: {name} rings at {clock((since + 1) * metrics.period)}{end}\n"
+                end = "" if until is None else f", until {clock(metrics.end_of(until))}"
+                yield f"{queue.name}: {name} rings at {clock(metrics.end_of(since))}{end}\n"
 
 
 def write_csv(metrics: Metrics, queues: Sequence[Queue], path: str | None) -> None:
@@ -256,15 +286,52 @@ def write_csv(metrics: Metrics, queues: Sequence[Queue], path: str | None) -> No
         write_text(path, header + "".join(rows))
 
 
-def check_queues(metrics: Metrics, names: Iterable[str]) -> None:
+def scope_of(options: Namespace) -> Scope:
+    """When the run ends, and which queues it has, as far as the command line tells."""
+    if options.scenario is None:
+        return Scope(moment_of("--to", options.to))
+    scenario = scenario_at(options.scenario)
+    horizon = scenario.get("horizon")
+    if not isinstance(horizon, int) or horizon < 1:
+        raise Fault(f"{options.scenario} has no horizon")
+    return Scope(horizon, names_of(scenario, "queue"))
+
+
+def check_run(metrics: Metrics, scope: Scope, options: Namespace) -> None:
+    """Makes sure that the log may be of the run that the command line tells of."""
+    if metrics.last_row > metrics.end:
+        what = "--to" if options.scenario is None else f"the horizon of {options.scenario}"
+        raise Fault(f"the log has a row at {clock(metrics.last_row)}, after {what} at {clock(metrics.end)}")
+    other = next((name for name in metrics.queues if name not in scope.queues), None)
+    if scope.queues and other is not None:
+        raise Fault(f"{options.scenario} has no queue {shown(other)}: is it the scenario of this run?")
+
+
+def check_queues(metrics: Metrics, log: Log, names: Iterable[str]) -> None:
     for name in names:
         if name not in metrics.queues:
-            raise Fault(f"no row of the log is of queue {shown(name)}")
+            raise Fault(f"no row of the log is of queue {shown(name)}, and no report follows it" if log.is_open else
+                        f"the run has no queue {shown(name)}")
 
 
-def main(words: Sequence[str]) -> int:
+def tell_end(metrics: Metrics) -> None:
+    """Says on standard error that the end of the run is not known, if it is not."""
+    if not metrics.is_ended:
+        note(f"the last period ends with the last row, at {clock(metrics.last_row)}, as a log does not say when the run "
+             "ends (--scenario FILE.toml or --to TIME does)")
+
+
+def quiet_told(metrics: Metrics) -> str:
+    """That no alarm rings, and until when that is known."""
+    return f"no alarm rings up to the {'end' if metrics.is_ended else 'last row'} at {clock(metrics.end)}\n"
+
+
+def options_of(words: Sequence[str]) -> Namespace:
     parser = Parser(__doc__)
     parser.add_argument("log", metavar="LOG")
+    parser.add_argument("--rest", metavar="OUTPUT")
+    parser.add_argument("--scenario", metavar="FILE.toml")
+    parser.add_argument("--to", metavar="TIME")
     parser.add_argument("--period", type=int, default=60, metavar="S")
     parser.add_argument("--queue", action="append", default=[], metavar="NAME")
     parser.add_argument("--alarm", action="append", default=[], metavar="ALARM")
@@ -276,18 +343,30 @@ def main(words: Sequence[str]) -> int:
         raise Fault("--against and --alarm do not go together")
     if options.origin and not options.against:
         raise Fault("--origin goes with --against")
+    if options.scenario is not None and options.to is not None:
+        raise Fault("--scenario and --to both tell when the run ends: one is enough")
     if not 1 <= options.period <= PERIODS_MOST:
         raise Fault(f"a period has 1 to {PERIODS_MOST} seconds")
+    return options
+
+
+def main(words: Sequence[str]) -> int:
+    options = options_of(words)
     alarms = [Alarm(text) for text in options.alarm]
     check_output(options.output, [options.log, options.against])
     series = series_in(options.against) if options.against else []
-    metrics = Metrics(Log(options.log), options.period * 1_000)
-    check_queues(metrics, [*options.queue, *(alarm.queue for alarm in alarms if alarm.queue)])
+    log, scope = Log(options.log, rest=options.rest), scope_of(options)
+    metrics = Metrics(log, options.period * 1_000, scope)
+    check_run(metrics, scope, options)
+    check_queues(metrics, log, [*options.queue, *(alarm.queue for alarm in alarms if alarm.queue)])
     queues = [metrics.queues[name] for name in dict.fromkeys(options.queue or metrics.queues)]
     if len(queues) * metrics.periods > VALUES_MOST:
         raise Fault(f"{metrics.periods:,} periods of {len(queues):,} queues are too many: a longer --period is needed")
+    differences = list(differences_of(metrics, [queue.name for queue in queues], METRICS, series, options.origin)) \
+        if options.against else []
+    tell_open(log)
+    tell_end(metrics)
     if options.against:
-        differences = list(differences_of(metrics, [queue.name for queue in queues], METRICS, series, options.origin))
         write_text(options.output, csv_of(differences, metrics.period))
         for line in sums_of(differences, metrics.period):
             note(line)
@@ -296,5 +375,5 @@ def main(words: Sequence[str]) -> int:
         write_csv(metrics, queues, options.output)
         return 0
     lines = list(ringing(alarms, metrics, queues))
-    write_text(options.output, "".join(lines) or "no alarm rings\n")
+    write_text(options.output, "".join(lines) or quiet_told(metrics))
     return 1 if lines else 0

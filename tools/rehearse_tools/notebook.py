@@ -20,7 +20,7 @@ from typing import Any, NamedTuple
 
 from . import sweep as tool
 from .console import ENDING, Fault, library
-from .logs import FINAL_HEADER, HEADERS, LOG_HEADER, Log
+from .logs import FINAL_HEADER, HEADERS, LOG_HEADER, Log, tell_open
 from .programs import preview_words, program_of
 from .runs import first_line
 from .scenarios import Setting, scenario_at, text_of_value, varied, written
@@ -92,6 +92,8 @@ def summary(paths: str | Sequence[str], first: str | None = None, last: str | No
     """
     check_tables(as_lists)
     runs = read_runs([paths] if isinstance(paths, str) else paths, Reading(*window_of(first, last), door))
+    for run in runs:
+        tell_open(run.log)
     values = [{**({"run": number} if len(runs) > 1 else {}), **side}
               for sides in values_of(runs, None).values() for number, side in enumerate(sides, 1) if side]
     return values if as_lists else pandas().DataFrame(values)

@@ -1,7 +1,7 @@
 """Draws the log of a run, or the rows of a sweep, as one picture, SVG, PNG or PDF by the file's ending:
 
-    tools/picture LOG [--output FILE.svg] [--queue NAME ...] [--from MS] [--to MS] [--title TEXT]
-        [--scenario FILE.toml] [--require 'QUEUE.COLUMN<NUMBER' ..] [--width W] [--height H]
+    tools/picture LOG [--rest OUTPUT] [--output FILE.svg] [--queue NAME ...] [--from TIME] [--to TIME]
+        [--title TEXT] [--scenario FILE.toml] [--require 'QUEUE.COLUMN<NUMBER' ..] [--width W] [--height H]
     tools/picture --sweep ROWS.csv --column QUEUE.COLUMN ... [--setting NAME] [--output FILE.svg]
         [--title TEXT] [--require 'QUEUE.COLUMN<NUMBER' ..] [--width W] [--height H]
 
@@ -28,8 +28,8 @@ queues follow the log and say so. A picture shows the counts at the end of each 
 
 --sweep draws what tools/sweep has written, also with --spread: each column of the report that is named with
 its queue, such as orders.age_p95, against a setting. The setting is that of --setting, else the first that was varied
-and is no seed. A point is the mean of the runs of all seeds, with a bar for its 95 % interval by Student's
-distribution; the band around it goes from the least to the greatest run. If other settings were varied, each
+and is no seed. A point is the mean of the runs of all seeds, with a bar for its 95 % interval, as
+tools/sweep has it; the band around it goes from the least to the greatest run. If other settings were varied, each
 combination of them has a curve of its own. Numbers of a setting that are far apart have a logarithmic axis. --require
 draws the bound of a column that is drawn.
 
@@ -52,11 +52,11 @@ from .drawing import (ALARM, CAPTION, COLOURS, FOOT, FORMATS, GREY, LEFT, LINE, 
                       letters_without_font, ticks_of)
 from .histories import (PLACES, Course, Histories, History, ages_are_spread, ages_in, counts_in, course_of, edges,
                         levels, oldest)
-from .logs import Log
+from .logs import Log, tell_open
 from .requirements import Requirement
 from .scenarios import scenario_at
 from .summaries import lost_told, named
-from .units import duration
+from .units import duration, window_of
 
 # Each line is thinner than the one that is drawn before it, so that lines of equal numbers are seen side by side.
 THICKNESSES = {"delayed": 3.6, "in flight": 2.4, "visible": 1.2}
@@ -298,13 +298,14 @@ def origin_of(path: str | None) -> str:
 def options_of(words: Sequence[str]) -> Namespace:
     parser = Parser(__doc__)
     parser.add_argument("log", metavar="LOG")
+    parser.add_argument("--rest", metavar="OUTPUT")
     parser.add_argument("--sweep", action="store_true")
     parser.add_argument("--column", action="append", default=[], metavar="QUEUE.COLUMN")
     parser.add_argument("--setting", metavar="NAME")
     parser.add_argument("--output", metavar="FILE.svg")
     parser.add_argument("--queue", action="append", metavar="NAME")
-    parser.add_argument("--from", type=int, metavar="MS", dest="start")
-    parser.add_argument("--to", type=int, metavar="MS", dest="end")
+    parser.add_argument("--from", metavar="TIME", dest="start")
+    parser.add_argument("--to", metavar="TIME", dest="end")
     parser.add_argument("--title")
     parser.add_argument("--require", action="append", default=[], metavar="QUEUE.COLUMN<NUMBER")
     parser.add_argument("--scenario", metavar="FILE.toml")
@@ -319,10 +320,11 @@ def options_of(words: Sequence[str]) -> Namespace:
     if ending not in FORMATS:
         raise Fault(f"{options.output} ends in none of {', '.join(FORMATS)}")
     options.kind = FORMATS[ending]
+    options.start, options.end = window_of(options.start, options.end)
     check_title(options.title)
-    of_logs = options.queue, options.start, options.end, options.scenario
+    of_logs = options.rest, options.queue, options.start, options.end, options.scenario
     if options.sweep and any(option is not None for option in of_logs):
-        raise Fault("--queue, --from, --to and --scenario go with a LOG, not with --sweep")
+        raise Fault("--rest, --queue, --from, --to and --scenario go with a LOG, not with --sweep")
     if not options.sweep and (options.column or options.setting is not None):
         raise Fault("--column and --setting go with --sweep")
     return options
@@ -330,8 +332,9 @@ def options_of(words: Sequence[str]) -> Namespace:
 
 def log_picture(options: Namespace) -> Any:
     """The figure of the queues of a log."""
-    told = origin_of(options.scenario)
-    histories = Histories(Log(options.log, wanted=("final", "report")))
+    log = Log(options.log, rest=options.rest)
+    histories = Histories(log)
+    told = ", ".join(filter(None, [origin_of(options.scenario), "the log's end was not seen" if log.is_open else ""]))
     start = histories.first if options.start is None else options.start
     end = histories.end_of_traffic() if options.end is None else options.end
     if options.end is None and end < histories.last:
@@ -350,6 +353,7 @@ def log_picture(options: Namespace) -> Any:
     lost = {queue.name: len(queue.expiries) for queue in histories.queues.values() if queue.expiries}
     titles = (options.title or "Queues over time", ", ".join(text for text in (told, left_out) if text),
               f"Lost by expiry in the whole run: {lost_told(lost)}" if lost else "")
+    tell_open(log)
     return picture(parts, start, end, titles, options.width, options.height)
 
 

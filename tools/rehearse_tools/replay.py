@@ -12,11 +12,8 @@ from contextlib import contextmanager
 from typing import Generic, NamedTuple, Protocol, TypeVar
 
 from .console import Fault
-from .logs import NUMBER, REPORT_HEADER, Head, Log, Rows, Take
+from .logs import NUMBER, REFUSALS, Head, Log, Rows, Take, What
 
-# The call and answer of a row.
-What = tuple[str, str]
-REFUSALS = REPORT_HEADER[REPORT_HEADER.index("OverLimit"):REPORT_HEADER.index("depth_max")]
 # Each kind of rows, with the methods that may take it: the first of them that a class has does.
 KINDS: dict[What, tuple[str, ...]] = {
     ("send", "new"): ("sent", "enters"), ("send", "repeat"): ("sent_again",),
@@ -109,8 +106,8 @@ class Replay(Rows, Generic[Taker]):
         """Adds to the queues how many rows of each kind they were given since this was done last."""
         for taken in self.heads.values() if not self.is_over else ():
             head = taken.head
-            self.queues[head.queue].kinds[head.call, head.answer] += taken.rows
-            taken.rows = 0
+            self.queues[head.queue].kinds[head.call, head.answer] += taken.rows - taken.noted
+            taken.noted = taken.rows
 
     def forget(self) -> None:
         self.count()

@@ -47,15 +47,13 @@ from .overview import cells_of
 from .programs import TOP, program_of, reading_words
 from .requirements import Failure, Requirement
 from .runs import COLUMNS, Ages, Counting, extra_of, reported
-from .scenarios import names_of, parsed, scripts_in, written
+from .scenarios import names_of, parsed, scripts_in, ways_of, written
 from .starting import ran
 from .summaries import LINES, Queue, Reading, Run, cell_of, is_told, lost_in, lost_told, note_of, read_runs
 from .units import duration, window_of
 
 # The columns and the ages of each queue, counted from the log.
 CountedRun = tuple[dict[str, list[str]], dict[str, Ages]]
-# A requirement, the queue that it was looked at for, and why it fails there, or None.
-Judged = tuple[Requirement, str, Failure | None]
 
 QUEUES_MOST = 20
 # A line that changes more often than this is a mean over an extent, in so many columns.
@@ -121,6 +119,14 @@ function draw(id, traces, layout, options) {{
 """
 
 
+class Judged(NamedTuple):
+    """A requirement, the queue that it was looked at for, why it fails there, or None, and what is left there."""
+    requirement: Requirement
+    queue: str
+    failure: Failure | None
+    left: str
+
+
 def run_program(program: str, text: str, words: Sequence[str], out: IO[bytes]) -> str | None:
     """Runs the scenario with some options and writes its log and what follows into a file; returns the refusal, or
     None."""
@@ -147,7 +153,8 @@ def judged(requirements: Iterable[Requirement], queues: Mapping[str, Queue], cou
             if is_cut or requirement.is_extra or requirement.is_open(texts):
                 records, of_queues = counted()
                 ages, texts = of_queues.get(name), records.get(name, texts)
-            found.append((requirement, name, requirement.failure(texts, ages)))
+            left = requirement.left_told(texts, ages) if requirement.is_age else ""
+            found.append(Judged(requirement, name, requirement.failure(texts, ages), left))
     return found
 
 
@@ -160,8 +167,8 @@ def requirements_html(found: list[Judged]) -> str:
     if not found:
         return ""
     rows = [((' class="holds"', "holds") if failure is None else (' class="fails"', failure.word),
-             ("", requirement.text), ("", name), ("", failure.reason if failure else ""))
-            for requirement, name, failure in found]
+             ("", requirement.text), ("", name), ("", failure.reason if failure else left and f"also with {left}"))
+            for requirement, name, failure, left in found]
     return f"<h2>Requirements</h2>\n<table>{rows_of_table(rows)}</table>\n"
 
 
@@ -368,11 +375,12 @@ def page(options: Namespace, words: Sequence[str], text: str, path: str) -> tupl
     run, = read_runs([path], Reading(options.first))
     requirements = [Requirement(requirement) for requirement in options.require]
     extra = extra_of(requirement.column for requirement in requirements)
-    counting = Counting(options.first or 0, min(scenario["horizon"], options.last or scenario["horizon"]), extra)
+    counting = Counting(options.first or 0, min(scenario["horizon"], options.last or scenario["horizon"]), extra,
+                        ways_of(scenario))
     found = judged(requirements, run.queues, functools.cache(lambda: counted_at(path, counting)), bool(options.first))
     body = lost_html(run) + requirements_html(found)
     if run.row_count:
-        histories = Histories(Log(path, wanted=("final", "report")))
+        histories = Histories(Log(path))
         queues, left_out = histories.chosen(options.queue, QUEUES_MOST)
         start = max(histories.first, options.first or 0)
         end = max(histories.end_of_traffic(), start + 1)
@@ -462,8 +470,8 @@ def main(words: Sequence[str]) -> int:
             return 1
         html, found = page(options, words, text, f"/dev/fd/{log.fileno()}")
     write_text(options.output, html)
-    failed = [f"{requirement.told_of(name)} {failure.word}: {failure.reason}" for requirement, name, failure in found
-              if failure]
+    failed = [f"{requirement.told_of(name)} {failure.word}: {failure.reason}"
+              for requirement, name, failure, _ in found if failure]
     for line in failed:
         print(f"{tool()}: {line}", file=sys.stderr)
     return 1 if failed else 0

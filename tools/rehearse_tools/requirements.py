@@ -11,15 +11,31 @@ from typing import NamedTuple
 from .console import Fault, shown
 from .doors import DOOR_SHARES
 from .further import BACKLOG_GONE, CENSORED, MOVED_SHARES, NEW_SHARES
-from .runs import ALL_COLUMNS, COLUMNS, EXTRA_COLUMNS, PERCENTILES, PLACES, Ages
-from .statistics import Interval, censored_percentile, holds_within, rank_of, share_left
+from .logs import PLACES
+from .runs import ALL_COLUMNS, COLUMNS, EXTRA_COLUMNS, PERCENTILES, Ages
+from .statistics import (Interval, censored_percentile, half_width, holds_within, mean_of, rank_of, share_left,
+                         skew_interval)
 from .units import duration, number_of, quantity
 
 # Which percentile a column of ages is.
 SHARES = {**PERCENTILES, **DOOR_SHARES}
 
-# What a sweep tells of a column over several runs.
-FOLDED = ("mean", "deviation", "least", "median", "greatest", "half_width", "median_low", "median_high")
+# The columns of ages, whose law over runs has a long upper tail.
+AGES = {*SHARES, *CENSORED}
+
+
+def folded_as(column: str) -> tuple[str, ...]:
+    """What a sweep tells of a column over several runs."""
+    interval = ("mean_low", "mean_high") if column in AGES else ("half_width",)
+    return "mean", "deviation", "least", "median", "greatest", *interval, "median_low", "median_high"
+
+
+def interval_of_mean(column: str, numbers: Sequence[float]) -> Interval | None:
+    """The interval of the mean of a column over runs; None for fewer than two."""
+    if column in AGES:
+        return skew_interval(numbers)
+    half = half_width(numbers)
+    return None if half is None else Interval(mean_of(numbers) - half, mean_of(numbers) + half)
 
 
 class Failure(NamedTuple):
@@ -84,18 +100,24 @@ class Requirement:
         text = numbers[ALL_COLUMNS.index(self.column)]
         if not text:
             return Failure("fails", self.why_empty())
-        number, left = number_of(text), left_of(numbers)
+        number, left = number_of(text), self.left_told(numbers, ages)
         if not left or self.column not in (*SHARES, *CENSORED):
             return None if self.holds(number, self.bound) else Failure("fails", self.told_number(number))
         interval = bounds_by_report(self.column, numbers) if ages is None else bounds_by_ages(self.column, ages)
         is_held = holds_within(interval, self.holds, self.bound)
         if is_held:
             return None
-        share = 100 * share_left(int(numbers[COLUMNS.index("deletes")]), left)
         bounds = f"{interval.low} ms or more" if math.isinf(interval.high) else f"{interval.low} to {interval.high} ms"
         return Failure("fails" if is_held is False else "is undecided",
-                       f"{self.told_number(number)}, of those deleted, and {bounds} with the {left:,} that are left "
-                       f"({share:.3g} %)")
+                       f"{self.told_number(number)}, of those deleted, and {bounds} with {left}")
+
+    def left_told(self, numbers: Sequence[str], ages: Ages | None = None) -> str:
+        """The messages that are left, or that may still come, in words; nothing if there are none."""
+        left, coming = left_of(numbers), len(may_come_of(self.column, ages))
+        share = 100 * share_left(int(numbers[COLUMNS.index("deletes")]), left + coming)
+        told = " and ".join(text for text in (f"the {left:,} that are left" if left else "",
+                                              f"the {coming:,} that may still come" if coming else "") if text)
+        return told and f"{told} ({share:.3g} %)"
 
     def why_empty(self) -> str:
         """Why there is no number."""
@@ -120,6 +142,11 @@ def left_of(numbers: Sequence[str]) -> int:
     return sum(int(numbers[COLUMNS.index(place)]) for place in PLACES.values())
 
 
+def may_come_of(column: str, ages: Ages | None) -> Sequence[int]:
+    """How old those are since their first send that may still come, if a column is on such ages."""
+    return ages.since_first_send.may_come if column in DOOR_SHARES and ages and ages.since_first_send else ()
+
+
 def bounds_by_report(column: str, numbers: Sequence[str]) -> Interval:
     """The bounds of a percentile of ages if any message that is left may get any age, by the ranks of a report in which
     some messages were deleted."""
@@ -137,4 +164,4 @@ def bounds_by_ages(column: str, ages: Ages) -> Interval:
         return ages.bounds[column]
     known = ages.since_first_send or ages if column in DOOR_SHARES else ages
     deleted = list(Counter(known.deleted).elements())
-    return censored_percentile(deleted, known.left, SHARES[column]) or Interval(0, math.inf)
+    return censored_percentile(deleted, known.left, SHARES[column], known.may_come) or Interval(0, math.inf)

@@ -18,8 +18,9 @@ from .console import Fault
 from .doors import DOOR_SHARES, Doors
 from .further import COLUMNS as FURTHER
 from .further import WINDOW, Further
-from .logs import FINAL_HEADER, REPORT_HEADER, Block, Head, Log, Take as TakeRow, blocks_in
-from .replay import KINDS, REFUSALS, Replay, What, both, handlers_of, replay
+from .logs import (FINAL_HEADER, PLACES, REPORT_HEADER, Block, Head, Log, Take as TakeRow, What, blocks_in,
+                   counted_columns)
+from .replay import Replay, both, handlers_of, replay
 from .starting import started
 from .statistics import Interval, at_rank, rank_of
 
@@ -27,8 +28,6 @@ COLUMNS = REPORT_HEADER[2:]
 # With those that a report does not have, and for which the log is read.
 EXTRA_COLUMNS = [*DOOR_SHARES, *FURTHER]
 ALL_COLUMNS = [*COLUMNS, *EXTRA_COLUMNS]
-# The columns of the places of messages that are left, by what the final queues call them.
-PLACES = {"visible": "visible", "inflight": "in_flight", "delayed": "delayed"}
 PERCENTILES = {"age_p50": 0.5, "age_p95": 0.95, "age_p99": 0.99, "age_max": 1.0}
 Watch = Callable[["subprocess.Popen[bytes]"], AbstractContextManager[object]]
 # What takes something from what the program prints, and what runs the program for that: a command, the scenario's text
@@ -39,10 +38,11 @@ Engine = Callable[[list[str], str, Take], "Ended"]
 
 class Ages(NamedTuple):
     """The ages of a queue's messages in milliseconds: how many were deleted at each, and how old each one that is left
-    is at the end. `since_first_send` has the same since the first send, and `bounds` those of further columns, if they
-    are asked for."""
+    is at the end. `since_first_send` has the same since the first send, with those that may still come; `bounds` has
+    the bounds of further columns. Both are there if they are asked for."""
     deleted: Mapping[int, int]
     left: list[int]
+    may_come: Sequence[int] = ()
     since_first_send: "Ages | None" = None
     bounds: Mapping[str, Interval] = {}
 
@@ -55,13 +55,6 @@ class Ran(NamedTuple):
     told: str
     ages: dict[str, Ages]
 
-
-# The columns that count rows, by their calls and answers.
-KINDS_OF_COLUMNS: dict[str, set[What]] = {
-    "sends": {("send", "new")}, "repeats": {("send", "repeat"), ("arrive", "repeat")}, "receives": {("receive", "ok")},
-    "empties": {("receive", "empty")}, "deletes": {("delete", "deleted")}, "expiries": {("expire", "expired")},
-    "redrives": {("redrive", "out")}, "moves": {("move", "out")}, "arrivals": {("arrive", "new")},
-    **{refusal: {what for what in KINDS if what[1] == refusal} for refusal in REFUSALS}}
 
 
 class QueueCounts:
@@ -100,8 +93,7 @@ class QueueCounts:
     def columns(self) -> list[str]:
         """The texts of the columns of a report."""
         ages = self.deleted_at_age()
-        numbers = {**{column: sum(self.kinds[what] for what in of) for column, of in KINDS_OF_COLUMNS.items()},
-                   **self.places, "depth_max": self.depth_max,
+        numbers = {**counted_columns(self.kinds), **self.places, "depth_max": self.depth_max,
                    "age_sum": sum(age * count for age, count in ages.items())}
         ranks = {column: str(at_rank(ages, rank_of(numbers["deletes"], share))) if ages else ""
                  for column, share in PERCENTILES.items()}
@@ -116,18 +108,35 @@ HANDLERS = handlers_of(QueueCounts)
 
 
 class Output(Log):
-    """What a run prints into a pipe. It may end anywhere, if the program was ended; `rest` has what follows the log."""
+    """What a run prints into a pipe. It may end anywhere, if the program was ended; `records` has what follows the log,
+    and the report among it is looked at once it is read."""
 
     def __init__(self, stream: TextIO) -> None:
         super().__init__("-")
         self.stream = stream
-        self.rest: Iterator[list[str]] = iter(())
+        self.records: Iterator[list[str]] = iter(())
+        self.is_cut = False
 
     def blocks(self) -> Iterator[Block]:
-        return blocks_in(self.stream, self.path)
+        for block in blocks_in(self.stream, self.path):
+            self.is_cut = block.is_cut
+            yield block
 
     def read_parts(self, lines: Iterator[str]) -> None:
-        self.rest = csv.reader(lines)
+        self.records = csv.reader(lines)
+
+    def check_end(self) -> None:
+        pass
+
+    def has_whole_report(self) -> bool:
+        """Reads the report, and says whether it is whole and of these rows."""
+        try:
+            for record in self.records:
+                self.take_record(record)
+            self.check_report()
+        except Fault:
+            return False
+        return not self.is_cut
 
     def is_whole(self, rows: Replay[Any]) -> bool:
         """Gives the rows, and whether none of them is cut."""
@@ -159,19 +168,20 @@ def extra_of(columns: Iterable[str], window: int = WINDOW, price: float | None =
 
 class Counting(NamedTuple):
     """How a report is counted from the log: from a moment on, of a run that ends at another, in milliseconds, and what
-    is counted beside it."""
+    is counted beside it. `ways` has the ways of the scenario from queue to queue."""
     first: int
     end: int
     extra: Extra = Extra()
+    ways: frozenset[tuple[str, str]] = frozenset()
 
 
 class Counts:
     """What the rows of a log say of each queue from a moment on, as `counting` has it."""
 
     def __init__(self, counting: Counting) -> None:
-        first, self.end, extra = counting
+        first, self.end, extra, ways = counting
         self.queues: dict[str, QueueCounts] = {}
-        self.doors = Doors(first) if extra.with_doors else None
+        self.doors = Doors(first, ways) if extra.with_doors else None
         self.further = Further(first, extra.window, extra.price) if extra.with_further else None
         self.rows = Replay(self.queues, lambda name: self.queues.setdefault(name, QueueCounts()), HANDLERS,
                            self.follower)
@@ -200,13 +210,15 @@ class Counts:
         """The records of a report on queues with these names, each with the extra columns if some are counted, and the
         ages by queue; messages that are left are as old as they are at the end of the run."""
         records, ages = [], {}
-        left = self.doors.left(self.end) if self.doors else {}
+        left = self.doors.left() if self.doors else None
         for name in names:
             queue = self.queues.get(name) or QueueCounts()
             record = [name, *queue.columns()]
             of_queue = Ages(queue.deleted_at_age(), [self.end - enqueued for enqueued in queue.enqueued])
-            if self.doors:
-                of_queue = of_queue._replace(since_first_send=Ages(self.doors.ages_of(name), left.get(name, [])))
+            if self.doors and left:
+                of_queue = of_queue._replace(since_first_send=Ages(
+                    self.doors.ages_of(name), [self.end - at for at in left.there.get(name, ())],
+                    [self.end - at for at in left.may_come(name)]))
             if self.doors or self.further:
                 record += text_of(self.doors.columns(name) if self.doors else dict.fromkeys(DOOR_SHARES))
             if self.further:
@@ -229,11 +241,12 @@ def reported(stream: TextIO, counting: Counting) -> tuple[list[list[str]], dict[
     counts, output = Counts(counting), Output(stream)
     if not output.is_whole(counts.rows):
         return None
-    for record in output.rest:
+    for record in output.records:
         if record[0] == "final" and len(record) == len(FINAL_HEADER):
+            output.take_record(record)
             counts.left(record[1], record[2], record[4], int(record[6]))
         elif record == REPORT_HEADER:
-            return counts.reported(record[1] for record in output.rest if len(record) > 1)
+            return counts.reported(output.report) if output.has_whole_report() else None
     return None
 
 

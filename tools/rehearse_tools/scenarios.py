@@ -47,6 +47,17 @@ def names_of(scenario: Mapping[str, Any], of: str) -> list[str]:
     return [item["name"] for item in items_of(scenario, of) if isinstance(item.get("name"), str)]
 
 
+def ways_of(scenario: Mapping[str, Any]) -> frozenset[tuple[str, str]]:
+    """From which queue to which messages may go, by redrives, forwards and moves. A task without a destination brings
+    each message back to where it came from."""
+    redrives = [(queue.get("name"), queue.get("dead_letter")) for queue in items_of(scenario, "queue")]
+    forwards = [(actor.get("queue"), actor.get("forward")) for actor in items_of(scenario, "actor")]
+    moves = [(task.get("queue"), to) for task in items_of(scenario, "task")
+             for to in ([task["to"]] if "to" in task else [name for name, dead in redrives if dead == task.get("queue")])]
+    return frozenset((start, to) for start, to in (*redrives, *forwards, *moves)
+                     if isinstance(start, str) and isinstance(to, str))
+
+
 def text_of_string(text: str) -> str:
     """A string in TOML's double quotes; JSON's escapes are also TOML's, which wants one more."""
     return json.dumps(text, ensure_ascii=False).replace("\x7f", "\\u007F")

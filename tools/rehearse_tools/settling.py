@@ -6,7 +6,8 @@ from functools import partial
 from typing import Any, NamedTuple, TextIO
 
 from .drawing import ALARM, CAPTION, COLOURS, FOOT, GREY, RIGHT, Sheet, head_of, ticks_of
-from .replay import REFUSALS, Replay, What, handlers_of
+from .logs import REFUSALS, What
+from .replay import Replay, handlers_of
 from .runs import COLUMNS, Output
 from .searches import Groups
 from .statistics import mean_of, moving_means, settled_from

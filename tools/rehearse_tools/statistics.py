@@ -5,11 +5,12 @@ lie between 0 and 1. docs/STATISTICS.md says the same for users.
 
 Sources: A. M. Law, Simulation Modeling and Analysis, 5th edition 2015, chapters 9 and 10 (Law & Kelton in earlier
 editions); C. J. Clopper and E. S. Pearson, Biometrika 26 (1934) 404; W. J. Conover, Practical Nonparametric
-Statistics, 3rd edition 1999, section 3.2; S. Holm, Scandinavian Journal of Statistics 6 (1979) 65; K. P. White,
+Statistics, 3rd edition 1999, section 3.2; P. Hall, Journal of the Royal Statistical Society B 54 (1992) 221; S. Holm, Scandinavian Journal of Statistics 6 (1979) 65; K. P. White,
 M. J. Cobb and S. C. Spratt, Winter Simulation Conference 2000, 755; A. Wald, Sequential Analysis, 1947;
 J. Ville, Étude critique de la notion de collectif, 1939; H. Robbins, Annals of Mathematical Statistics 41 (1970) 1397.
 """
 import math
+from bisect import bisect_left, bisect_right
 from collections.abc import Callable, Iterator, Mapping, Sequence
 from fractions import Fraction
 from functools import lru_cache
@@ -28,6 +29,8 @@ ODDS_STEP, ALTERNATIVES = 1.1, 40
 # No verdict is forecast for more runs than this.
 FORECAST_MOST = 1_000_000
 BATCH = 5
+# The greatest skewness that is taken out: more makes intervals that are too wide.
+SKEWNESS_MOST = 2.0
 ROUNDING = 1e-12
 
 
@@ -80,6 +83,28 @@ def half_width(numbers: Sequence[float], confidence: float = CONFIDENCE) -> floa
         return None
     quantile = float(special().stdtrit(runs - 1, (1 + confidence) / 2))
     return quantile * deviation_of(numbers) / math.sqrt(runs)
+
+
+def skew_interval(numbers: Sequence[float], confidence: float = CONFIDENCE) -> Interval | None:
+    """The interval of the mean of independent runs whose law has a long upper tail, as that of ages; None for fewer than
+    two runs.
+
+    It is Student's interval after Hall's cubic transformation, which takes out the skewness. Few runs show little of
+    that. So it is taken as the sample's, or that of a lognormal law with the same spread if this is greater, and as 2
+    at most. The law has no negative numbers.
+    """
+    runs, half = len(numbers), half_width(numbers, confidence)
+    if half is None or half == 0:
+        return None if half is None else Interval(mean_of(numbers), mean_of(numbers))
+    mean, deviation = mean_of(numbers), deviation_of(numbers)
+    sample = math.fsum(((number - mean) / deviation) ** 3 for number in numbers) * runs / (runs - 1) / max(1, runs - 2)
+    skewness = min(SKEWNESS_MOST, max(sample, 3 * deviation / mean))
+    rest, point = skewness / 6 / runs, half / deviation
+
+    def shift(share: float) -> float:
+        return (math.cbrt(1 + skewness * (share - rest)) - 1) * 3 / skewness
+
+    return Interval(max(0.0, mean - deviation * shift(point)), mean - deviation * shift(-point))
 
 
 def rank_of(count: int, share: float) -> int:
@@ -324,16 +349,27 @@ def share_left(known: int, left: int) -> float:
     return left / (known + left) if left else 0.0
 
 
-def censored_percentile(known: Sequence[float], left: Sequence[float], share: float) -> Interval | None:
-    """The bounds of a percentile of ages if the messages in `left` are at least as old as they are now.
+def censored_percentile(known: Sequence[float], left: Sequence[float], share: float,
+                        may_come: Sequence[float] = ()) -> Interval | None:
+    """The bounds of a percentile of ages if the messages in `left`, and those in `may_come`, are at least as old as
+    they are now, and if any of those in `may_come` need not count.
 
-    The least is as if each ended now, and the greatest as if none ever ended. None if there are no messages.
+    The least is as if each ended now, and of those in `may_come` just the youngest counted: an age that is not above a
+    percentile does not raise it, and one above does not lower it. The greatest is as if all counted, and none ever
+    ended. None if there are no messages.
     """
-    least = percentile([*known, *left], share)
-    if least is None:
+    certain, doubtful = sorted([*known, *left]), sorted(may_come)
+
+    def is_reached(age: float) -> bool:
+        more = bisect_right(doubtful, age)
+        return bisect_right(certain, age) + more >= rank_of(len(certain) + more, share)
+
+    ages = sorted({*certain, *doubtful})
+    if not ages:
         return None
-    rank = rank_of(len(known) + len(left), share)
-    return Interval(least, sorted(known)[rank - 1] if rank <= len(known) else math.inf)
+    rank = rank_of(len(certain) + len(doubtful), share)
+    return Interval(ages[bisect_left(ages, True, key=is_reached)],
+                    sorted(known)[rank - 1] if rank <= len(known) else math.inf)
 
 
 def holds_within(interval: Interval, holds: Callable[[Any, Any], bool], bound: float | Fraction) -> bool | None:

@@ -6,9 +6,9 @@ from collections.abc import Callable, Collection, Iterable, Mapping, Sequence
 from typing import Any, NamedTuple
 
 from .console import Fault, shown
-from .doors import Doors
-from .logs import NUMBER, REPORT_HEADER, Head, Log
-from .replay import REFUSALS, BadRow, Replay, What, handlers_of, is_forward, replay
+from .doors import Doors, Left
+from .logs import NAME, NUMBER, PLACES, REFUSALS, Head, Log, What, check_number
+from .replay import BadRow, Replay, handlers_of, is_forward, replay
 from .units import duration
 
 ACTIONS = {"send": "SendMessage", "receive": "ReceiveMessage", "delete": "DeleteMessage",
@@ -23,11 +23,10 @@ BY_KIND: dict[str, set[What]] = {
 COUNTED = (*CAME_IN, "repeated_sends", "deleted", "handled_once", "handled_more_than_once", "receives",
            "received_messages", "failed_services", "forwarded", "moved_away", "dead_lettered", "lost_by_expiry",
            *ACTIONS.values(), "empty_receives", "refused_requests")
-NAME = re.compile(r"[A-Za-z0-9_-]{1,80}(?:\.fifo)?")
 ID = re.compile("m-[0-9]{1,19}-[0-9]{1,19}")
 WAITING = -1
 PERCENTS = (50, 95, 99)
-# What a report has in common with the rows where only some of them are counted.
+# What is still compared with a report where only some rows are counted.
 STATE = ("in_flight", "transfers", "left")
 # More messages than these that are not in flight are a backlog, unless --backlog says otherwise.
 BACKLOG = 10
@@ -325,17 +324,11 @@ class Queue:
         return {f"{kind}_age_p{percent}_ms": nearest_rank(ages, percent)
                 for kind, ages in (("new", new), ("moved", moved)) for percent in (50, 95)}
 
-    def counted_by_report(self) -> dict[str, int | None]:
-        """The numbers of the rows that a report or the transfers after a log have, too."""
-        counts = self.counts
-        columns = {"sends": "sent", "repeats": "repeated_sends", "receives": "receives", "empties": "empty_receives",
-                   "deletes": "deleted", "expiries": "lost_by_expiry", "redrives": "dead_lettered",
-                   "moves": "moved_away"}
-        return {**{column: counts[key] for column, key in columns.items()},
-                "arrivals": sum(counts[key] for key in CAME_IN) - counts["sent"],
-                "depth_max": self.depth_greatest, "in_flight": self.in_flight, "age_sum": self.age_sum,
+    def compared_with_report(self) -> dict[str, int | None]:
+        """The numbers that a report or the transfers after a log have, too, beside the counts of rows."""
+        return {"depth_max": self.depth_greatest, "in_flight": self.in_flight, "age_sum": self.age_sum,
                 "age_max": self.age_greatest if self.ages else None,
-                "refusals": counts["refused_requests"], "transfers": self.on_their_way, "left": len(self.alive),
+                "transfers": self.on_their_way, "left": len(self.alive),
                 **{f"age_p{percent}": self.age_at(percent) for percent in PERCENTS}}
 
     def values(self) -> Values:
@@ -380,12 +373,13 @@ class Run:
     """The queues of a run by name, in the order of its scenario. Rows are counted from a moment to another, both
     included; None if nothing is cut at that end."""
 
-    def __init__(self, path: str, reading: Reading) -> None:
-        self.path, self.backlog = path, reading.backlog
+    def __init__(self, log: Log, reading: Reading) -> None:
+        self.log, self.backlog = log, reading.backlog
         self.queues: dict[str, Queue] = {}
         self.tasks: set[str] = set()
         self.first, self.last = reading.first, reading.last
         self.doors = Doors(reading.first or 0) if reading.with_doors else None
+        self.left_of_doors: Left | None = None
         self.row_count, self.has_report = 0, False
         self.last_at: int | None = None
 
@@ -396,7 +390,7 @@ class Run:
             self.queues[name] = Queue(name, self)
         return self.queues[name]
 
-    def take_rows(self, log: Log) -> None:
+    def take_rows(self) -> None:
         """Reads the rows, and counts those that are to be counted."""
         rows = Replay(self.queues, self.queue_named, HANDLERS, self.doors.take_of if self.doors else None)
 
@@ -406,11 +400,14 @@ class Run:
 
         rows.moments = [(moment, pass_moment) for moment, pass_moment in (
             (self.first, begin), (None if self.last is None else self.last + 1, rows.end)) if moment is not None]
-        self.last_at = replay(log, rows)
+        self.last_at = replay(self.log, rows)
+        if self.first is not None and self.log.counts and self.first > self.log.at:
+            raise Fault(f"--from {self.first} ms is after the last row of {self.log.name}, at {self.log.at} ms")
         self.row_count = sum(queue.kinds.total() for queue in self.queues.values())
         self.queues = {queue.name: queue for queue in sorted(self.queues.values(), key=lambda queue: queue.number)}
         for queue in self.queues.values():
             queue.fold_ages()
+        self.left_of_doors = self.doors.left() if self.doors else None
 
     def begin(self) -> None:
         """Forgets what was counted before."""
@@ -418,68 +415,50 @@ class Run:
             queue.begin(self.first or 0)
 
     def take_parts(self, log: Log) -> None:
-        """Reads what followed the log, which must be of this run. If the end is cut, it is not used."""
+        """Takes in what followed the log. If the end is cut, it is not used."""
         if self.last is not None:
             return
-        parts = log.parts or {}
-        if "report" not in parts:
-            raise Fault(f"{log.path} ends before its report")
-        on_their_way = dict.fromkeys(self.queues, 0)
-        for record in parts.get("transfer", ()):
-            on_their_way[record[2]] = on_their_way.get(record[2], 0) + 1
+        on_their_way = Counter(record[2] for record in (log.parts or {}).get("transfer", ()))
         queues: dict[str, Queue] = {}
-        for record in parts["report"]:
-            name = record[1]
-            if name in queues or not NAME.fullmatch(name):
-                raise Fault(f"{log.path}: {shown(name)} is no name of a queue, or stands twice in the report")
+        for name, numbers in log.report.items():
             queue = queues[name] = self.queues.pop(name) if name in self.queues else Queue(name, self)
-            queue.report = numbers_of(record, log.path)
-            check_report(queue, on_their_way.pop(name, 0), log.path)
+            queue.report = numbers
+            check_report(queue, on_their_way.pop(name, 0), log.name)
         if self.queues or on_their_way:
-            raise Fault(f"{log.path}: its report lacks the queue {shown([*self.queues, *on_their_way][0])}")
+            raise log.lacking([*self.queues, *on_their_way][0])
         self.queues, self.has_report = queues, True
-
-
-def numbers_of(record: Sequence[str], path: str) -> Values:
-    """The numbers of a record of the report by their columns; None for the ages that nothing has."""
-    numbers: Values = {}
-    for column, text in zip(REPORT_HEADER[2:], record[2:]):
-        if not NUMBER.fullmatch(text) and (text or column not in ("age_max", "age_p50", "age_p95", "age_p99")):
-            raise Fault(f"{path}: {shown(text)} is no number for {column} in a report")
-        numbers[column] = int(text) if text else None
-    return numbers
 
 
 def check_report(queue: Queue, on_their_way: int, path: str) -> None:
     """Checks that a report agrees with the rows; if not, the files are of two runs, or one of them is damaged."""
-    given = {**queue.report, "transfers": on_their_way, "refusals": sum(queue.report[name] for name in REFUSALS),
-             "left": sum(queue.report[place] for place in ("visible", "in_flight", "delayed"))}
+    given = {**queue.report, "transfers": on_their_way, "left": sum(queue.report[place] for place in PLACES.values())}
     for percent in PERCENTS:
         age = given[f"age_p{percent}"]
         given[f"age_p{percent}"] = age and leading(age)
-    counted = queue.counted_by_report()
+    counted = queue.compared_with_report()
     for column in STATE if queue.is_cut else counted:
-        number = counted[column]
-        if number != given[column]:
-            raise Fault(f"{path}: its report is not of this log: {column} of {queue.name} is {number} by the rows, "
-                        f"and {given[column]} by what follows them")
+        check_number(path, f"{column} of {queue.name}", counted[column], given[column])
 
 
 def read_runs(paths: Iterable[str], reading: Reading = Reading()) -> list[Run]:
     """The runs in the files, in their order."""
     runs = []
     for path in paths:
-        log = Log(path, wanted=("transfer", "report"), may_lack_rows=True)
-        run = Run(path, reading)
-        run.take_rows(log)
+        log = Log(path, wanted=("transfer",), may_lack_rows=True)
+        run = Run(log, reading)
+        run.take_rows()
         if log.has_rows:
             runs.append(run)
-        elif not runs or runs[-1].has_report:
+        elif not runs or not runs[-1].log.is_open:
             raise Fault(f"{path} has no log, and no log without its report stands before it")
+        else:
+            runs[-1].log.complete(log)
         if len(runs) > 2:
             raise Fault(f"{path} is the log of a third run: two can be told side by side")
         if log.parts is not None:
             runs[-1].take_parts(log)
+    for run in runs:
+        run.log.check_open()
     return runs
 
 
@@ -499,7 +478,8 @@ def doors_in(run: Run, name: str) -> dict[str, Any]:
         return {}
     number, agents = run.doors.open_of(name)
     return {**{f"{column}_ms": age for column, age in run.doors.columns(name).items()},
-            "door_age_open": number, "door_age_open_by": agents}
+            "door_age_open": number, "door_age_open_by": agents,
+            "door_may_come": len(run.left_of_doors.may_come(name)) if run.left_of_doors else 0}
 
 
 def lost_in(run: Run) -> dict[str, int]:
@@ -565,6 +545,7 @@ LINES = (
     Line("door_age_p95_ms", "age since first send, 95 %", duration, True),
     Line("door_age_max_ms", "age since first send, most", duration, True),
     Line("door_age_open", "  first send open of", grouped, False),
+    Line("door_may_come", "  may still come", grouped, False),
     Line("depth_greatest", "greatest depth", grouped, True),
     Line("depth_greatest_at_ms", "greatest depth at", duration, True),
     Line("backlog_gone_at_ms", "backlog gone at", duration, True),

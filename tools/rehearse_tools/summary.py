@@ -1,15 +1,18 @@
 """Prints in plain units what happened in each queue of a run, or of two runs side by side:
 
     ./sqs_rehearse run SCENARIO | tools/summary -
-    tools/summary LOG [OUTPUT] [--queue NAME ...] [--from TIME] [--to TIME] [--door] [--backlog N] [--json]
+    tools/summary LOG [--rest OUTPUT] [--queue NAME ...] [--from TIME] [--to TIME] [--door] [--backlog N] [--json]
     tools/summary BEFORE.log [OUTPUT] AFTER.log [OUTPUT] [--queue NAME ...] [--from TIME] [--to TIME] [--door]
         [--backlog N] [--json]
 
 LOG is what `run` prints, or a file made by `run --log`; OUTPUT is what that run prints then, and completes the log
-before it. One of the files may be -, which is standard input. If one run has several queues, a table comes first, with
-a line for each; those that lost messages are marked with !!. A log without its final queues and report leaves two
-things open: which of the messages that are left are delayed, and the ages at 50, 95 and 99 % beyond one part in 32,768.
-A report that does not agree with the rows is refused. --queue leaves out all other queues.
+before it, also without the word --rest. One of the files may be -, which is standard input. If one run has several
+queues, a table comes first, with a line for each; those that lost messages are marked with !!. --queue leaves out all
+other queues.
+
+A run that was ended has no report. Its log is refused if it comes by standard input. Of a file without OUTPUT the first
+line says that the end was not seen. That also leaves two things open: which of the messages that are left are delayed,
+and the ages at 50, 95 and 99 % beyond one part in 32,768. A report that does not agree with the rows is refused.
 
 --from TIME, such as 90s or 1.5h, counts rows from then on, so that a warm-up is left out. Messages that are in a queue
 by then are there, with the age that they have, but what they went through before does not count. --to TIME leaves out
@@ -18,14 +21,16 @@ the rows after it, and the report with them; messages that are left are those le
 --door adds the ages of deleted messages since their first send, over redrives, moves and forwards: in the last queue of
 a chain those from door to door. A log does not say which arrival belongs to which forward. The forwards of one consumer
 are assigned in their order, which is right if only one of them is under way, or if all take equally long. Otherwise the
-ages are open, and the number of messages concerned is printed in their place.
+ages are open, and the number of messages concerned is printed in their place. Messages that may still come into the
+queue, from where messages of the log did, are counted too.
 
 sent          rows `send,new`. Messages that came otherwise have a line of their own: a forward is a message sent by a
               consumer of another queue. A message is an id in one queue: after a redrive or a move it is another one.
 handled       A receive of a message is handled if DeleteMessage is called with its receipt, whatever that answers: a
               row `delete` of deleted, kept, gone or a refusal, with the receipt of a row `receive,ok` of the queue.
               The services of consumers that end well are such; one that fails (`fail`), or is under way in the end,
-              is not. A message is handled more than once if two or more of its receives are handled, which takes
+              is not. If a script deletes with the receipt of a service that has failed, only an answer of deleted
+              counts. A message is handled more than once if two or more of its receives are handled, which takes
               two or more receipts: a second call with the same receipt does not count. A message that is handled, but
               not deleted, had its timeout end first: it is still in the queue, was dead-lettered or moved, or has
               expired.
@@ -59,6 +64,7 @@ import sys
 from collections.abc import Mapping, Sequence
 
 from .console import Fault, Parser, is_terminal, print_text
+from .logs import open_told
 from .overview import lines_of
 from .summaries import (BACKLOG, LINES, Queue, Reading, Run, Sides, Values, cell_of, cell_of_difference, difference,
                         is_told, lost_in, lost_told, note_of, read_runs, values_of)
@@ -121,11 +127,12 @@ def text_of_run(title: str, run: Run, style: Style) -> str:
     """The lines on a run before its queues."""
     last = "no rows" if run.last_at is None else f"{run.row_count:,} rows, the last at {duration(run.last_at)}"
     lines = [f"{title}: {last}"]
+    if run.log.is_open:
+        lines.insert(0, open_told(run.log))
     if run.first is not None or run.last is not None:
         lines.append(f"   counted {window_told(run)}")
     if not run.has_report:
-        lines.append("   no report follows, so that it is not told which of the messages left are delayed"
-                     if run.last is None else "   it is not told which of the messages left are delayed")
+        lines.append("   it is not told which of the messages left are delayed")
     lost = lost_in(run)
     if lost:
         lines.append(style.alarm(f"!! LOST BY EXPIRY: {lost_told(lost)}"))
@@ -142,7 +149,7 @@ def table_of(queues: Mapping[str, Sides], style: Style) -> str:
 
 
 def text_of(runs: Sequence[Run], queues: Mapping[str, Sides], style: Style) -> str:
-    titles = ["standard input" if run.path == "-" else run.path for run in runs]
+    titles = [run.log.name for run in runs]
     if len(runs) == 2:
         titles = [f"before, {titles[0]}", f"after, {titles[1]}"]
     heads = [text_of_run(title, run, style) for title, run in zip(titles, runs)]
@@ -153,7 +160,7 @@ def text_of(runs: Sequence[Run], queues: Mapping[str, Sides], style: Style) -> s
 
 def json_of(runs: Sequence[Run], queues: Mapping[str, Sides]) -> str:
     """The same numbers with fixed keys."""
-    shares = [{"log": run.path, **{key: at for key, at in (("from_ms", run.first), ("to_ms", run.last))
+    shares = [{"log": run.log.path, "end_seen": not run.log.is_open, **{key: at for key, at in (("from_ms", run.first), ("to_ms", run.last))
                                    if at is not None},
                "rows": run.row_count, "last_row_at_ms": run.last_at, "has_report": run.has_report,
                "queues": [sides[place] for sides in queues.values() if sides[place]]}
@@ -171,6 +178,7 @@ def is_coloured() -> bool:
 def main(words: Sequence[str]) -> int:
     parser = Parser(__doc__)
     parser.add_argument("files", nargs="+", metavar="FILE")
+    parser.add_argument("--rest", metavar="OUTPUT")
     parser.add_argument("--queue", action="append", metavar="NAME")
     parser.add_argument("--from", dest="first", metavar="TIME")
     parser.add_argument("--to", dest="last", metavar="TIME")
@@ -178,12 +186,13 @@ def main(words: Sequence[str]) -> int:
     parser.add_argument("--backlog", type=int, default=BACKLOG, metavar="N")
     parser.add_argument("--json", action="store_true")
     options = parser.parse_args(words)
-    if options.files.count("-") > 1:
+    files = [*options.files, *([options.rest] if options.rest else [])]
+    if files.count("-") > 1:
         raise Fault("standard input can be read once")
     if options.backlog < 0:
         raise Fault("--backlog is at least 0")
     reading = Reading(*window_of(options.first, options.last), options.door, options.backlog)
-    runs = read_runs(options.files, reading)
+    runs = read_runs(files, reading)
     queues = values_of(runs, options.queue)
     print_text(json_of(runs, queues) if options.json else text_of(runs, queues, Style(is_coloured())))
     return 0

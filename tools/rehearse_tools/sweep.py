@@ -33,11 +33,11 @@
           --spread, that share of all runs must meet it: it is shown, refuted or undecided with 95 % confidence, and
           holds if it is shown.
 --spread  puts the runs together that differ only in this setting, and gives for each number of the report its mean,
-          sample standard deviation, least, median and greatest, the half-width of the mean's 95 % interval, and the
-          interval of the median; numbers that a run's report leaves empty are left out. No value of a setting may be
-          given twice, since each run counts as an independent one. If the runs of the variant
-          with the deepest queues settle late by MSER-5 over ten of them, a line advises a --from. There is no such line
-          if the traffic is not steady, or if this can't be decided.
+          sample standard deviation, least, median and greatest, the half-width of the mean's 95 % interval, of ages
+          both ends of it (mean_low and mean_high), and the interval of the median; numbers that a run's report leaves
+          empty are left out. No value of a setting may be given twice, since each run counts as an independent one. If
+          the runs of the variant with the deepest queues settle late by MSER-5 over ten of them, a line advises a
+          --from. There is no such line if the traffic is not steady, or if this can't be decided.
 --against prints differences from the variant with this value, or from another scenario with the same settings, run by
           run over the setting of --spread: their mean with its 95 % interval, in how many runs each is greater and
           less, its probability by Holm's correction over all differences printed, and whether it is shown.

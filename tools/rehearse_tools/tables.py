@@ -10,9 +10,9 @@ import statistics
 from collections.abc import Iterable, Iterator, Sequence
 from typing import NamedTuple
 
-from .requirements import FOLDED
+from .requirements import AGES, folded_as, interval_of_mean
 from .runs import ALL_COLUMNS, columns_in
-from .statistics import Difference, half_width, holm, paired, percentile_interval
+from .statistics import Difference, Interval, half_width, holm, paired, percentile_interval
 from .units import number_of
 
 # What a table for people leaves out of what is shown of a column.
@@ -40,16 +40,26 @@ def decimal(value: float) -> str:
     return f"{value:.3f}".rstrip("0").rstrip(".")
 
 
-def spread_of(texts: Iterable[str]) -> list[str]:
-    """What FOLDED names, of the numbers among some texts."""
+def spread_of(column: str, texts: Iterable[str]) -> list[str]:
+    """What `folded_as` names, of the numbers among the texts of a column."""
     numbers = [number_of(text) for text in texts if text]
     if not numbers:
-        return [""] * len(FOLDED)
-    half, median = half_width(numbers), percentile_interval(numbers, 0.5)
+        return [""] * len(folded_as(column))
     deviation = decimal(statistics.stdev(numbers)) if len(numbers) > 1 else ""
     return [decimal(statistics.fmean(numbers)), deviation, str(min(numbers)), decimal(statistics.median(numbers)),
-            str(max(numbers)), "" if half is None else decimal(half),
-            *(["", ""] if median is None else map(decimal, median))]
+            str(max(numbers)), *mean_texts(column, numbers), *interval_texts(percentile_interval(numbers, 0.5))]
+
+
+def mean_texts(column: str, numbers: Sequence[float]) -> list[str]:
+    """The ends of the interval of a mean of ages; of other numbers half the width of Student's."""
+    if column in AGES:
+        return interval_texts(interval_of_mean(column, numbers))
+    half = half_width(numbers)
+    return ["" if half is None else decimal(half)]
+
+
+def interval_texts(interval: Interval | None) -> list[str]:
+    return ["", ""] if interval is None else [*map(decimal, interval)]
 
 
 def folded(table: Table, tied: Iterable[str]) -> Table:
@@ -59,9 +69,9 @@ def folded(table: Table, tied: Iterable[str]) -> Table:
     groups: dict[tuple[str, ...], list[Row]] = {}
     for row in rows:
         groups.setdefault(tuple(row[place] for place in places), []).append(row[-len(columns):])
-    told = [f"{column}_{of}" for column in columns for of in FOLDED]
+    told = [f"{column}_{of}" for column in columns for of in folded_as(column)]
     return Table([*(header[place] for place in places), "runs", *told],
-                 [[*key, str(len(group)), *itertools.chain(*map(spread_of, zip(*group)))]
+                 [[*key, str(len(group)), *itertools.chain(*map(spread_of, columns, zip(*group)))]
                   for key, group in groups.items()], told)
 
 
@@ -128,9 +138,9 @@ def difference_texts(found: Difference | None, probabilities: Iterator[float]) -
 def heads_of(name: str) -> tuple[str, str]:
     """The two lines above a column of a table: for runs that were put together the column of the report, and what is
     shown of it."""
-    for of in (*FOLDED, *AGAINST):
-        column = name.removesuffix(f"_{of}")
-        if column in ALL_COLUMNS and column != name:
+    for column in ALL_COLUMNS:
+        of = name.removeprefix(f"{column}_")
+        if of != name and of in (*folded_as(column), *AGAINST):
             return column, of
     return "", name
 

@@ -8,7 +8,12 @@ from .console import Fault, shown
 # The units of a time in milliseconds.
 UNITS = {"ms": 1, "s": 1_000, "m": 60_000, "min": 60_000, "h": 3_600_000, "d": 86_400_000}
 NUMBER = r"[0-9]{1,18}(?:\.[0-9]{1,9})?"
-QUANTITY = re.compile(rf"({NUMBER})[ ]?({'|'.join(sorted(UNITS, key=len, reverse=True))})?")
+UNIT = "|".join(sorted(UNITS, key=len, reverse=True))
+QUANTITY = re.compile(rf"({NUMBER})[ ]?({UNIT})?")
+# A time of several numbers, as 1h30m, and one by the clock, as 4:40:00 or 0:01:02.003.
+SEVERAL = re.compile(rf"(?:{NUMBER} ?(?:{UNIT}) ?){{2,6}}")
+PART = re.compile(rf"({NUMBER}) ?({UNIT})")
+CLOCK = re.compile(r"([0-9]{1,9}):([0-5][0-9]):([0-5][0-9](?:\.[0-9]{1,3})?)")
 
 # The times below which a duration is shown to a step, in milliseconds.
 STEPS: tuple[tuple[float, int], ...] = (
@@ -16,11 +21,17 @@ STEPS: tuple[tuple[float, int], ...] = (
 
 
 def quantity(text: str) -> tuple[Fraction, str | None] | None:
-    """The number in a text, in milliseconds if it has a unit, and the unit or None; None if it is neither."""
-    match = QUANTITY.fullmatch(text.strip())
-    if not match:
+    """The number in a text, in milliseconds if it is a time, and its least unit or None; None if it is neither."""
+    text = text.strip()
+    if match := QUANTITY.fullmatch(text):
+        return Fraction(match[1]) * UNITS.get(match[2], 1), match[2]
+    if match := CLOCK.fullmatch(text):
+        return Fraction(match[1]) * UNITS["h"] + Fraction(match[2]) * UNITS["m"] + Fraction(match[3]) * UNITS["s"], "s"
+    parts = PART.findall(text) if SEVERAL.fullmatch(text) else []
+    sizes = [UNITS[unit] for _, unit in parts]
+    if not parts or sizes != sorted(set(sizes), reverse=True):
         return None
-    return Fraction(match[1]) * UNITS.get(match[2], 1), match[2]
+    return sum((Fraction(number) * UNITS[unit] for number, unit in parts), Fraction()), parts[-1][1]
 
 
 def number_of(text: str) -> float:
@@ -61,13 +72,13 @@ def clock(milliseconds: int) -> str:
 
 
 def moment_of(option: str, text: str | None) -> int | None:
-    """The milliseconds of a time that an option has, such as 90s or 1.5h, without a unit milliseconds; None without
+    """The milliseconds of a time that an option has, such as 90s or 1h30m, without a unit milliseconds; None without
     one."""
     if text is None:
         return None
     found = quantity(text)
     if found is None or found[0].denominator != 1:
-        raise Fault(f"{option} {shown(text)} is no time, as 90s or 1.5h")
+        raise Fault(f"{option} {shown(text)} is no time, as 90s, 1.5h, 1h30m or 1:30:00")
     return int(found[0])
 
 

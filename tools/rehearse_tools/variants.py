@@ -18,7 +18,7 @@ from .console import Fault, Progress, is_terminal, read_bytes, read_text, stop, 
 from .keys import PREVIEW
 from .programs import preview_words
 from .runs import ALL_COLUMNS, COLUMNS, Ages, Counting, Ended, Engine, Extra, Ran, Take, piped, run
-from .scenarios import Setting, parsed, scripts_in, value_of, varied, written
+from .scenarios import Setting, parsed, scripts_in, value_of, varied, ways_of, written
 from .scripts import NAME as SCRIPT_NAME
 
 VARIANTS_MOST = 1_000_000
@@ -275,7 +275,7 @@ class Sweep:
     def run(self, words: Sequence[str], is_counted: bool) -> Ran:
         """Runs the variant of some words, of which the log may be counted."""
         scenario = self.varied(words)
-        counting = Counting(self.window.first or 0, horizon_of(scenario), self.extra)
+        counting = Counting(self.window.first or 0, horizon_of(scenario), self.extra, ways_of(scenario))
         return run(self.command(), written(scenario), counting if is_counted else None, self.engine)
 
     def taken(self, scenarios: Sequence[dict[str, Any]], take: Take, jobs: int) -> list[Any]:
