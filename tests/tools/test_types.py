@@ -14,7 +14,8 @@ TYPED = '"""A tool."""\n\n\ndef twice(number: int) -> int:\n    return 2 * numbe
 class Types(ToolCase):
     def setUp(self):
         super().setUp()
-        for path, text in {"tests/all.py": TYPED, "tools/rehearse_tools/__init__.py": "", "tools/one.py": TYPED,
+        for path, text in {"tests/all.py": TYPED, "tests/house": f"#!/usr/bin/env python3\n{TYPED}",
+                           "tools/rehearse_tools/__init__.py": "", "tools/one.py": TYPED,
                            "tools/text": "#!/bin/sh\n"}.items():
             self.write_file(path, text)
         shutil.copy2(os.path.join(ROOT, "tests", "types"), self.path("tests/types"))
@@ -30,8 +31,8 @@ class Types(ToolCase):
         return ran.returncode, ran.stdout.splitlines()
 
     def test_all_is_well(self):
-        """mypy takes one.py, the package's __init__.py, all.py and types; pyflakes takes the same four."""
-        self.assertEqual(self.looked(), (0, ["4 files by mypy, 4 by pyflakes", "8 passed, 0 failed"]))
+        """mypy takes one.py, the package's __init__.py, all.py, house and types; pyflakes takes the same five."""
+        self.assertEqual(self.looked(), (0, ["5 files by mypy, 5 by pyflakes", "10 passed, 0 failed"]))
 
     def test_faults(self):
         """A signature without types, a call against the types of another one, and an import that is not used."""
@@ -39,7 +40,7 @@ class Types(ToolCase):
         self.write_file("tools/wrong", "#!/usr/bin/env python3\nimport one\n\none.twice('2')\n")
         self.write_file("tests/unused", "#!/usr/bin/env python3\nimport os\n")
         status, lines = self.looked()
-        self.assertEqual((status, lines[-2:]), (1, ["6 files by mypy, 7 by pyflakes", "10 passed, 3 failed"]))
+        self.assertEqual((status, lines[-2:]), (1, ["7 files by mypy, 8 by pyflakes", "12 passed, 3 failed"]))
         self.assertEqual([line.split(": ")[0].split(":")[0:2] for line in lines[:-2]],
                          [["tools/bare.py", "1"], ["tools/wrong", "4"], ["tests/unused", "2"]])
 
