@@ -7,9 +7,8 @@ import subprocess
 import unittest
 
 from test_runs import OVERLOADED, random_scenario
-from tool import PROGRAM, ToolCase, needs_program
+from tool import LOG_HEADER, PROGRAM, ToolCase, ended, needs_program
 from rehearse_tools.further import COLUMNS as FURTHER
-from rehearse_tools.logs import FINAL_HEADER, LOG_HEADER, REPORT_HEADER
 from rehearse_tools.requirements import Requirement
 from rehearse_tools.runs import ALL_COLUMNS, COLUMNS, Ages, Counting, Extra, reported
 from rehearse_tools.statistics import Interval
@@ -32,9 +31,8 @@ ROWS = """100,a,shop,send,new,m-0-0,,x
 6000,a,w,receive,empty,,,
 9000,a,shop,send,new,m-0-3,,x
 """
-REST = (f"final,{','.join(FINAL_HEADER[1:])}\nfinal,a,m-0-3,o-0-3,visible,,9000,0,,x\n"
-        f"report,{','.join(REPORT_HEADER[1:])}\nreport,a\nreport,d\n")
-TEXT = ",".join(LOG_HEADER) + "\n" + ROWS + REST
+HEADER = LOG_HEADER.decode()
+TEXT = ended(HEADER + ROWS, "final,a,m-0-3,o-0-3,visible,,9000,0,,x\n")
 
 
 def found_in(text: str, counting: Counting) -> tuple[dict[str, dict[str, str]], dict[str, Ages]]:
@@ -90,9 +88,8 @@ class ByHand(ToolCase):
     def test_backlogs(self) -> None:
         """Eleven that wait are a backlog, which ends with the first that is received; at the end it is not gone."""
         sends = "".join(f"{at},a,shop,send,new,m-0-{at},,x\n" for at in range(11))
-        head, rest = ",".join(LOG_HEADER) + "\n", f"final,{','.join(FINAL_HEADER[1:])}\n{REST[REST.index('report'):]}"
         for rows, gone in ((sends, ""), (sends + "70,a,w,receive,ok,m-0-0,r-0-0-1,o-0-0\n", "70")):
-            found, _ = found_in(head + rows + rest, Counting(0, 100, Extra(with_further=True)))
+            found, _ = found_in(ended(HEADER + rows), Counting(0, 100, Extra(with_further=True)))
             self.assertEqual(found["a"]["backlog_gone"], gone)
 
 

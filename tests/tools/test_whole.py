@@ -32,8 +32,8 @@ gap_max_ms = 1
 body = "m"
 """
 # The tools that read a log, with what they need besides it.
-WORDS = {"metrics": (), "picture": (), "life": ("m-0-0",), "summary": ()}
-MORE_WORDS = {**WORDS, "life": ("--worst",), "metrics": ("--alarm", "NumberOfMessagesSent>9")}
+WORDS = {"metrics": ("--to", "1s"), "picture": (), "life": ("m-0-0",), "summary": ()}
+MORE_WORDS = {**WORDS, "life": ("--worst",), "metrics": ("--to", "1s", "--alarm", "NumberOfMessagesSent>9")}
 CALLS = [*WORDS.items(), *MORE_WORDS.items()]
 # summary compares more than the other tools, so its report needs the greatest depths and the ages as well.
 DEPTHS = {"q": ("2,1,0,0,20,20,20,20,20", "0,1,0,0,0,,,,"), "p": ("0,0,0,0,0,,,,", "0,0,0,0,0,,,,")}

@@ -1,14 +1,16 @@
 """Says in words what happened to one message in the log of a run, or which messages fared worst:
 
-    tools/life LOG [--rest OUTPUT] ID
-    tools/life LOG [--rest OUTPUT] --worst [--most N]
+    tools/life LOG [--rest REST.out] ID
+    tools/life LOG [--rest REST.out] --worst [--most N]
 
 ID is an origin, such as o-0-17, which a message keeps over redrives and moves, or the id that it had in one of its
-queues, such as m-0-17. LOG is a file made by `run --log`, or what `run` prints without it; - is standard input. Each
-line has the time in milliseconds and by the clock of the run, the queue, and what happened; the last line says where
-the message is in the end. A message that a consumer forwards becomes another one, which follows after it. A log does
-not say which arrival belongs to which forward. The forwards of one consumer are assigned in their order, which is right
-if the latency is always the same.
+queues, such as m-0-17. LOG is a file made by `run --log`, and REST.out what that run prints; or LOG is what `run`
+prints without --log; - is standard input. A log without a report is that of a run that was ended: it is refused if it
+comes by standard input, and of a file standard error says that the end was not seen. Each line has the time in
+milliseconds and by the clock of the run, the queue, and what happened; the last line says where the message is in the
+end. A message that a consumer forwards becomes another one, which follows after it. A log does not say which arrival
+belongs to which forward. The forwards of one consumer are assigned in their order, which is right if the latency is
+always the same.
 
 --worst lists the ten messages that fared worst, or N: first those that expired, then those that were there longest,
 from the first acceptance to the deletion or the end of the log, over redrives and moves.
@@ -342,7 +344,7 @@ def tell_worst(log: Log, most: int) -> None:
 def main(words: Sequence[str]) -> int:
     parser = Parser(__doc__)
     parser.add_argument("log", metavar="LOG")
-    parser.add_argument("--rest", metavar="OUTPUT")
+    parser.add_argument("--rest", metavar="REST.out")
     parser.add_argument("id", metavar="ID", nargs="?")
     parser.add_argument("--worst", action="store_true")
     parser.add_argument("--most", type=int, default=10, metavar="N")

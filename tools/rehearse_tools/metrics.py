@@ -1,13 +1,13 @@
 """Prints what CloudWatch would show of a run: the metrics of SQS by their names, for each queue and period, as CSV:
 
-    tools/metrics LOG [--rest OUTPUT] [--scenario FILE.toml | --to TIME] [--period S] [--queue NAME ...]
+    tools/metrics LOG [--rest REST.out] [--scenario FILE.toml | --to TIME] [--period S] [--queue NAME ...]
         [--output FILE.csv]
     tools/metrics LOG [..] --alarm 'ApproximateAgeOfOldestMessage>300 for 5'
     tools/metrics LOG [..] --against FILE.json [--origin TIME] [--output FILE.csv]
 
-LOG is what `run` prints, or a file made by `run --log`; then OUTPUT is what that run prints. - is standard input. A run
-that was ended has no report: its log is refused if it comes by standard input. Of a file without OUTPUT a line on
-standard error says that the end was not seen.
+LOG is what `run` prints, or a file made by `run --log`; then REST.out is what that run prints. - is standard input. A
+run that was ended has no report: its log is refused if it comes by standard input. Of a log in a file of its own a line
+on standard error says that the end was not seen, unless REST.out is named.
 
 A period has 60 seconds unless --period says otherwise; the first one begins at the beginning of the run. A log does not
 say when the run ends. With --scenario, the file that was run, that is its horizon, and with --to the time that is
@@ -329,7 +329,7 @@ def quiet_told(metrics: Metrics) -> str:
 def options_of(words: Sequence[str]) -> Namespace:
     parser = Parser(__doc__)
     parser.add_argument("log", metavar="LOG")
-    parser.add_argument("--rest", metavar="OUTPUT")
+    parser.add_argument("--rest", metavar="REST.out")
     parser.add_argument("--scenario", metavar="FILE.toml")
     parser.add_argument("--to", metavar="TIME")
     parser.add_argument("--period", type=int, default=60, metavar="S")

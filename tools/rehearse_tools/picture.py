@@ -1,6 +1,6 @@
 """Draws the log of a run, or the rows of a sweep, as one picture, SVG, PNG or PDF by the file's ending:
 
-    tools/picture LOG [--rest OUTPUT] [--output FILE.svg] [--queue NAME ...] [--from TIME] [--to TIME]
+    tools/picture LOG [--rest REST.out] [--output FILE.svg] [--queue NAME ...] [--from TIME] [--to TIME]
         [--title TEXT] [--scenario FILE.toml] [--require 'QUEUE.COLUMN<NUMBER' ..] [--width W] [--height H]
     tools/picture --sweep ROWS.csv --column QUEUE.COLUMN ... [--setting NAME] [--output FILE.svg]
         [--title TEXT] [--require 'QUEUE.COLUMN<NUMBER' ..] [--width W] [--height H]
@@ -8,11 +8,14 @@
 For each queue it draws how many messages are visible, in flight and delayed over time. It draws the middle, 95 % and
 greatest age of messages when they were deleted, in steps, if any were; and the age of the oldest message in the queue.
 Bars show how many messages left for the dead-letter queue or expired. A part that has nothing to show is left out, and
-a note says so; the top says how many messages expired in which queue. LOG is a file made by `run --log`, or what `run`
-prints without it; - is standard input. Without --output an SVG goes to standard output. Without --queue every queue is
-drawn, or the 20 with the most rows if there are more. --queue may be given several times, and also names a queue
-without rows if the report of the run follows the log. --from and --to draw a part of the run, in milliseconds.
---scenario names the scenario that was run, which is shown with its seed below the title. W and H are in pixels.
+a note says so; the top says how many messages expired in which queue. LOG is a file made by `run --log`, and REST.out
+what that run prints; or LOG is what `run` prints without --log; - is standard input. A log without a report is that of
+a run that was ended: it is refused if it comes by standard input, and of a file the picture says that the end was not
+seen. Without --output an SVG goes to standard output. Without --queue every queue is drawn, or the 20 with the most
+rows if there are more. --queue may be given several times, and also names a queue without rows if the report of the run
+follows the log. --from and --to draw a part of the run: a time as 90s, 1.5h, 1h30m or 1:30:00, without a unit
+milliseconds. --scenario names the scenario that was run, which is shown with its seed below the title. W and H are in
+pixels.
 
 If a line changes more than once a pixel, its mean is drawn over a paler extent from the least to the greatest number.
 Ages have a logarithmic axis if the greatest is over 100 times that in the middle. Without --to a picture ends with the
@@ -26,12 +29,12 @@ to the program that shows it.
 A log does not show a delay when it begins: a message counts as delayed if its release is in the log, or if the final
 queues follow the log and say so. A picture shows the counts at the end of each millisecond.
 
---sweep draws what tools/sweep has written, also with --spread: each column of the report that is named with
-its queue, such as orders.age_p95, against a setting. The setting is that of --setting, else the first that was varied
-and is no seed. A point is the mean of the runs of all seeds, with a bar for its 95 % interval, as
-tools/sweep has it; the band around it goes from the least to the greatest run. If other settings were varied, each
-combination of them has a curve of its own. Numbers of a setting that are far apart have a logarithmic axis. --require
-draws the bound of a column that is drawn.
+--sweep draws what tools/sweep has written, also with --spread: each column of the report that is named with its queue,
+such as orders.age_p95, against a setting. The setting is that of --setting, else the first that was varied and is no
+seed. A point is the mean of the runs of all seeds, with a bar for its 95 % interval, as tools/sweep has it; the band
+around it goes from the least to the greatest run. If other settings were varied, each combination of them has a curve
+of its own. Numbers of a setting that are far apart have a logarithmic axis. --require draws the bound of a column that
+is drawn.
 
 Examples:
 
@@ -298,7 +301,7 @@ def origin_of(path: str | None) -> str:
 def options_of(words: Sequence[str]) -> Namespace:
     parser = Parser(__doc__)
     parser.add_argument("log", metavar="LOG")
-    parser.add_argument("--rest", metavar="OUTPUT")
+    parser.add_argument("--rest", metavar="REST.out")
     parser.add_argument("--sweep", action="store_true")
     parser.add_argument("--column", action="append", default=[], metavar="QUEUE.COLUMN")
     parser.add_argument("--setting", metavar="NAME")

@@ -1,18 +1,19 @@
 """Prints in plain units what happened in each queue of a run, or of two runs side by side:
 
     ./sqs_rehearse run SCENARIO | tools/summary -
-    tools/summary LOG [--rest OUTPUT] [--queue NAME ...] [--from TIME] [--to TIME] [--door] [--backlog N] [--json]
+    tools/summary LOG [--rest REST.out] [--queue NAME ...] [--from TIME] [--to TIME] [--door] [--backlog N]
+        [--json]
     tools/summary BEFORE.log [OUTPUT] AFTER.log [OUTPUT] [--queue NAME ...] [--from TIME] [--to TIME] [--door]
         [--backlog N] [--json]
 
-LOG is what `run` prints, or a file made by `run --log`; OUTPUT is what that run prints then, and completes the log
-before it, also without the word --rest. One of the files may be -, which is standard input. If one run has several
-queues, a table comes first, with a line for each; those that lost messages are marked with !!. --queue leaves out all
-other queues.
+LOG is what `run` prints, or a file made by `run --log`; REST.out, or an OUTPUT after LOG, is what that run prints then.
+One of the files may be -, which is standard input. If one run has several queues, a table comes first, with a line for
+each; those that lost messages are marked with !!. --queue leaves out all other queues.
 
-A run that was ended has no report. Its log is refused if it comes by standard input. Of a file without OUTPUT the first
-line says that the end was not seen. That also leaves two things open: which of the messages that are left are delayed,
-and the ages at 50, 95 and 99 % beyond one part in 32,768. A report that does not agree with the rows is refused.
+A run that was ended has no report. Its log is refused if it comes by standard input. Of a log in a file of its own the
+first line says that the end was not seen, unless REST.out is named. That also leaves two things open: which of the
+messages that are left are delayed, and the ages at 50, 95 and 99 % beyond one part in 32,768. A report that does not
+agree with the rows is refused.
 
 --from TIME, such as 90s or 1.5h, counts rows from then on, so that a warm-up is left out. Messages that are in a queue
 by then are there, with the age that they have, but what they went through before does not count. --to TIME leaves out
@@ -178,7 +179,7 @@ def is_coloured() -> bool:
 def main(words: Sequence[str]) -> int:
     parser = Parser(__doc__)
     parser.add_argument("files", nargs="+", metavar="FILE")
-    parser.add_argument("--rest", metavar="OUTPUT")
+    parser.add_argument("--rest", metavar="REST.out")
     parser.add_argument("--queue", action="append", metavar="NAME")
     parser.add_argument("--from", dest="first", metavar="TIME")
     parser.add_argument("--to", dest="last", metavar="TIME")
