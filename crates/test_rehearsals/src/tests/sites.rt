@@ -59,15 +59,14 @@ fn next_arrival(site: &Site) -> Option<u64> {
 
 // Whether what is on its way to a site arrives at these moments, one after another.
 fn has_arriving(site: &Site, moments: &[u64]) -> bool {
-    if site.arriving().count() != moments.len() {
-        return false;
-    }
-    for (transfer, at) in site.arriving().zip(moments) {
-        if transfer.at != *at {
-            return false;
+    let mut arriving = site.arriving();
+    for at in moments {
+        match arriving.next() {
+            Some(transfer) if transfer.at == *at => {}
+            _ => return false,
         }
     }
-    true
+    arriving.next().is_none()
 }
 
 // Whether a site that has no task has forwards on their way that arrive at these moments.
@@ -95,12 +94,14 @@ fn has_many_in_order(alloc: Global, site: &mut Site) -> bool {
             return false;
         }
     }
-    for (transfer, at) in site.arriving().zip(1..=300) {
-        if transfer.at != at {
-            return false;
+    let mut arriving = site.arriving();
+    for at in 1..=300 {
+        match arriving.next() {
+            Some(transfer) if transfer.at == at => {}
+            _ => return false,
         }
     }
-    site.arriving().count() == 300
+    arriving.next().is_none()
 }
 
 // Whether many forwards wait in the order of their moments at each of some sites.
