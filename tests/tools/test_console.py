@@ -10,7 +10,7 @@ import time
 import unittest
 from unittest import mock
 
-from tool import LIMIT, LOG_HEADER, ROOT, SENT, TOOLS, USERS_TOOLS, ToolCase, read_whole
+from tool import LIMIT, LOG_HEADER, ROOT, SENT, TOOLS, USERS_TOOLS, ToolCase, ended, read_whole
 import helps
 from rehearse_tools.console import Fault, check_output, with_commands, write_text
 
@@ -69,7 +69,7 @@ class Ends(ToolCase):
                 # what another tool was called by, and left in the environment
                 ("SQS_REHEARSE_TOOL='sqs_rehearse sweep' summary", "./sqs_rehearse", "tools/summary", "summary")):
             with self.subTest(command=command):
-                self.assertIn(f"\n    {program} run SCENARIO | {tool} -\n    {tool} LOG [OUTPUT]",
+                self.assertIn(f"\n    {program} run SCENARIO | {tool} -\n    {tool} LOG [--rest REST.out]",
                               self.ended(f"{command} --help")[1])
                 self.assertEqual(self.ended(f"{command} none"),
                                  (2, "", f"{told}: cannot read none: No such file or directory\n"))
@@ -109,9 +109,8 @@ class Ends(ToolCase):
             self.assertEqual([name for name in USERS_TOOLS if name not in out], [])
 
     def test_an_output_that_is_full_or_closed(self):
-        with open(self.path("log"), "wb") as file:
-            file.write(LOG_HEADER + SENT)
-        for command in ("metrics log", "summary log", "life log o-0-0", "picture log", "arrivals times times"):
+        self.write("log", ended((LOG_HEADER + SENT).decode()))
+        for command in ("metrics log --to 1s", "summary log --to 1s", "life log o-0-0", "picture log", "arrivals times times"):
             self.write("times", "1\n2\n")
             name = command.split()[0]
             with self.subTest(command=command):
@@ -140,7 +139,8 @@ class Reading(ToolCase):
     def test_progress_on_a_terminal_alone(self):
         """A second after its beginning a tool tells how far it is, and takes the line away again. However slow it is,
         it has begun when more is written than a pipe holds, and finds the rest more than a second later."""
-        log = LOG_HEADER + b"".join(b"%d,q,s,receive,wait,,,\n" % at for at in range(100_000, 160_000))
+        rows = "".join(f"{at},q,s,receive,wait,,,\n" for at in range(100_000, 160_000))
+        log = ended(LOG_HEADER.decode() + rows).encode()
         for is_terminal in (True, False):
             reader, writer = pty.openpty() if is_terminal else os.pipe()
             run = subprocess.Popen([sys.executable, os.path.join(TOOLS, "summary"), "-"], stdin=subprocess.PIPE,

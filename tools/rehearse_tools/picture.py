@@ -29,12 +29,12 @@ to the program that shows it.
 A log does not show a delay when it begins: a message counts as delayed if its release is in the log, or if the final
 queues follow the log and say so. A picture shows the counts at the end of each millisecond.
 
---sweep draws what tools/sweep has written, also with --spread: each column of the report that is named with its queue,
-such as orders.age_p95, against a setting. The setting is that of --setting, else the first that was varied and is no
-seed. A point is the mean of the runs of all seeds, with a bar for its 95 % interval, as tools/sweep has it; the band
-around it goes from the least to the greatest run. If other settings were varied, each combination of them has a curve
-of its own. Numbers of a setting that are far apart have a logarithmic axis. --require draws the bound of a column that
-is drawn.
+--sweep draws what tools/sweep has written, also with --spread: each column of the report that is named with
+its queue, such as orders.age_p95, against a setting. The setting is that of --setting, else the first that
+was varied and is no seed. A point is the mean of the runs of all seeds, with a bar for its 95 % interval, as
+tools/sweep has it; the band around it goes from the least to the greatest run. If other settings were varied,
+each combination of them has a curve of its own. Numbers of a setting that are far apart have a logarithmic
+axis. --require draws the bound of a column that is drawn.
 
 Examples:
 
