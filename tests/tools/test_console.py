@@ -110,7 +110,8 @@ class Ends(ToolCase):
 
     def test_an_output_that_is_full_or_closed(self):
         self.write("log", ended((LOG_HEADER + SENT).decode()))
-        for command in ("metrics log --to 1s", "summary log --to 1s", "life log o-0-0", "picture log", "arrivals times times"):
+        for command in ("metrics log --to 1s", "summary log --to 1s", "life log o-0-0", "picture log",
+                        "arrivals times times"):
             self.write("times", "1\n2\n")
             name = command.split()[0]
             with self.subTest(command=command):

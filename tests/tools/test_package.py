@@ -403,6 +403,7 @@ class Helps(ToolCase):
         cases = {
             "sqs_rehearse su": ["summary"], "sqs_rehearse --": ["--help", "--see", "--version"],
             "sqs_rehearse-summary --": ["--backlog", "--door", "--from", "--help", "--json", "--queue", "--rest", "--to"],
+            "sqs_rehearse summary run.log --rest ru": ["run.log"],
             "sqs_rehearse summary s.toml run.log --j": ["--json"],
             "sqs_rehearse arrivals ": ["bursts", "hours", "metric", "poisson", "times"],
             "sqs_rehearse arrivals times ru": ["run.log"],
