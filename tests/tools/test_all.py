@@ -56,7 +56,7 @@ class Small(ToolCase):
         for name in ("all", "all.py"):
             shutil.copy(os.path.join(ROOT, "tests", name), self.path("tests"))
         for name in ("crate_list.py", "rehearse_tools/__init__.py", "rehearse_tools/console.py",
-                     "rehearse_tools/programs.py"):
+                     "rehearse_tools/programs.py", "rehearse_tools/starting.py"):
             shutil.copy(os.path.join(ROOT, "tools", name), self.path(f"tools/{name}"))
         self.write("crates.txt", "low:\nsqs_late_workers: low\n")
         self.write("tests/wrong-bodies/test_run.py", UNITTEST)
