@@ -110,7 +110,8 @@ class Bench(ToolCase):
         status, out, err = self.run_tool("bench", "--beside", second, first, PATH=path)
         self.assertEqual((status, err), (0, ""))
         head, *lines, means = [line.split() for line in out.splitlines()]
-        self.assertEqual(" ".join(head), "kind size rows user seconds instructions a row writes a row mispredicted a row")
+        self.assertEqual(" ".join(head),
+                         "kind size rows user seconds instructions a row writes a row mispredicted a row")
         self.assertEqual([line[0] for line in lines], list(KINDS))
         for line in lines:
             self.assertEqual((line[1:3], line[6:]),

@@ -402,7 +402,8 @@ class Helps(ToolCase):
         self.write("run.log", "at,queue,agent\n0,orders,shop\n5,failed,shop\nfinal,queue,x\n")
         cases = {
             "sqs_rehearse su": ["summary"], "sqs_rehearse --": ["--help", "--see", "--version"],
-            "sqs_rehearse-summary --": ["--backlog", "--door", "--from", "--help", "--json", "--queue", "--rest", "--to"],
+            "sqs_rehearse-summary --": [
+                "--backlog", "--door", "--from", "--help", "--json", "--queue", "--rest", "--to"],
             "sqs_rehearse summary run.log --rest ru": ["run.log"],
             "sqs_rehearse summary s.toml run.log --j": ["--json"],
             "sqs_rehearse arrivals ": ["bursts", "hours", "metric", "poisson", "times"],

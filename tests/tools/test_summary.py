@@ -567,7 +567,8 @@ class Faults(SummaryCase):
                  "text line 29 is no record of the part transfer after a log"),
                 ("task,name", "transfer,a,d,move,9,0,m-0-0,o-0-0,x\ntask,name",
                  differs.format("transfers of d is 0 by the rows, and 1")),
-                ("task,name", "transfer,a,e,move,9,0,m-0-0,o-0-0,x\ntask,name", "text: the run did not end: its report lacks the queue e"),
+                ("task,name", "transfer,a,e,move,9,0,m-0-0,o-0-0,x\ntask,name",
+                 "text: the run did not end: its report lacks the queue e"),
                 ("report,d,0,", 'report,"d\n,0,', "text is not CSV: unexpected end of data")):
             with self.subTest(new=new):
                 self.assertIn(old, text)

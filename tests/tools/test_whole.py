@@ -92,7 +92,7 @@ class Damaged(ToolCase):
                                                                                                    "queues, and"))
 
     def test_a_log_in_a_file_of_its_own(self):
-        """Its end was not seen, which each tool says first, unless it is told where the rest is."""
+        """Its end was not seen, which each tool says first, unless --rest names the file with the rest."""
         log, rest = self.write("run.log", LOG), self.write("run.out", for_summary(WHOLE.removeprefix(LOG)))
         for name, words in CALLS:
             with self.subTest(name=name, words=words):
@@ -102,7 +102,8 @@ class Damaged(ToolCase):
                 self.assertEqual(status, 0)
                 self.assertEqual(f"{told.splitlines()[0]}\n".removeprefix(f"{name}: "),
                                  open_end(name, log).removeprefix(f"{name}: "))
-                self.assertIn("the log&#x27;s end was not seen" if name == "picture" else "", out.replace("'", "&#x27;"))
+                remark = "the log&#x27;s end was not seen" if name == "picture" else ""
+                self.assertIn(remark, out.replace("'", "&#x27;"))
                 status, out, err = self.run_tool(name, log, "--rest", rest, *words)
                 self.assertEqual((status, out.replace(log, self.path("whole")), err), whole)
                 cut = self.write("cut.out", "".join(WHOLE.removeprefix(LOG).splitlines(True)[:-2]))

@@ -134,8 +134,8 @@ def ended(log, finals="", queues=()):
 
 def open_end(name, log):
     """What a tool says of a log whose end it does not see."""
-    return (f"{name}: the end of {log} was not seen, so it is not known whether the log is whole (--rest REST.out names "
-            "the file with the rest)\n")
+    return (f"{name}: the end of {log} was not seen, so it is not known whether the log is whole (--rest REST.out "
+            "names the file with the rest)\n")
 
 
 def row_of(at, message, detail=""):

@@ -128,7 +128,8 @@ def curves_of(rows: Rows, setting: str, text: str) -> list[Curve]:
     for varied, name, runs, numbers in rows.rows:
         if name == queue:
             others = [(key, word) for key, word in varied.items() if key not in (setting, "seed")]
-            curve = curves.setdefault(tuple(others), Curve(", ".join(f"{key} = {word}" for key, word in others), column))
+            title = ", ".join(f"{key} = {word}" for key, word in others)
+            curve = curves.setdefault(tuple(others), Curve(title, column))
             if keys[0] in numbers:
                 mean, least, greatest = (numbers[key] for key in keys)
                 curve.add(varied[setting], runs, (mean, least, greatest, interval_in(column, mean, numbers)))

@@ -451,8 +451,8 @@ def check_number(path: str, what: str, counted: int | None, given: int | None, b
 
 def open_told(log: Log) -> str:
     """That the end of a log was not seen."""
-    return (f"the end of {log.path} was not seen, so it is not known whether the log is whole (--rest REST.out names the "
-            "file with the rest)")
+    return (f"the end of {log.path} was not seen, so it is not known whether the log is whole (--rest REST.out names "
+            "the file with the rest)")
 
 
 def tell_open(log: Log) -> None:

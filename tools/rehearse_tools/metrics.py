@@ -317,8 +317,8 @@ def check_queues(metrics: Metrics, log: Log, names: Iterable[str]) -> None:
 def tell_end(metrics: Metrics) -> None:
     """Says on standard error that the end of the run is not known, if it is not."""
     if not metrics.is_ended:
-        note(f"the last period ends with the last row, at {clock(metrics.last_row)}, as a log does not say when the run "
-             "ends (--scenario FILE.toml or --to TIME does)")
+        note(f"the last period ends with the last row, at {clock(metrics.last_row)}, as a log does not say when the "
+             "run ends (--scenario FILE.toml or --to TIME does)")
 
 
 def quiet_told(metrics: Metrics) -> str:

@@ -52,8 +52,8 @@ def ways_of(scenario: Mapping[str, Any]) -> frozenset[tuple[str, str]]:
     each message back to where it came from."""
     redrives = [(queue.get("name"), queue.get("dead_letter")) for queue in items_of(scenario, "queue")]
     forwards = [(actor.get("queue"), actor.get("forward")) for actor in items_of(scenario, "actor")]
-    moves = [(task.get("queue"), to) for task in items_of(scenario, "task")
-             for to in ([task["to"]] if "to" in task else [name for name, dead in redrives if dead == task.get("queue")])]
+    moves = [(task.get("queue"), to) for task in items_of(scenario, "task") for to in (
+        [task["to"]] if "to" in task else [name for name, dead in redrives if dead == task.get("queue")])]
     return frozenset((start, to) for start, to in (*redrives, *forwards, *moves)
                      if isinstance(start, str) and isinstance(to, str))
 

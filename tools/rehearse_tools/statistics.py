@@ -5,7 +5,8 @@ lie between 0 and 1. docs/STATISTICS.md says the same for users.
 
 Sources: A. M. Law, Simulation Modeling and Analysis, 5th edition 2015, chapters 9 and 10 (Law & Kelton in earlier
 editions); C. J. Clopper and E. S. Pearson, Biometrika 26 (1934) 404; W. J. Conover, Practical Nonparametric
-Statistics, 3rd edition 1999, section 3.2; P. Hall, Journal of the Royal Statistical Society B 54 (1992) 221; S. Holm, Scandinavian Journal of Statistics 6 (1979) 65; K. P. White,
+Statistics, 3rd edition 1999, section 3.2; P. Hall, Journal of the Royal Statistical Society B 54 (1992) 221; S. Holm,
+Scandinavian Journal of Statistics 6 (1979) 65; K. P. White,
 M. J. Cobb and S. C. Spratt, Winter Simulation Conference 2000, 755; A. Wald, Sequential Analysis, 1947;
 J. Ville, Étude critique de la notion de collectif, 1939; H. Robbins, Annals of Mathematical Statistics 41 (1970) 1397.
 """
@@ -86,8 +87,8 @@ def half_width(numbers: Sequence[float], confidence: float = CONFIDENCE) -> floa
 
 
 def skew_interval(numbers: Sequence[float], confidence: float = CONFIDENCE) -> Interval | None:
-    """The interval of the mean of independent runs whose law has a long upper tail, as that of ages; None for fewer than
-    two runs.
+    """The interval of the mean of independent runs whose law has a long upper tail, as that of ages; None for fewer
+    than two runs.
 
     It is Student's interval after Hall's cubic transformation, which takes out the skewness. Few runs show little of
     that. So it is taken as the sample's, or that of a lognormal law with the same spread if this is greater, and as 2

@@ -161,8 +161,8 @@ def text_of(runs: Sequence[Run], queues: Mapping[str, Sides], style: Style) -> s
 
 def json_of(runs: Sequence[Run], queues: Mapping[str, Sides]) -> str:
     """The same numbers with fixed keys."""
-    shares = [{"log": run.log.path, "end_seen": not run.log.is_open, **{key: at for key, at in (("from_ms", run.first), ("to_ms", run.last))
-                                   if at is not None},
+    shares = [{"log": run.log.path, "end_seen": not run.log.is_open,
+               **{key: at for key, at in (("from_ms", run.first), ("to_ms", run.last)) if at is not None},
                "rows": run.row_count, "last_row_at_ms": run.last_at, "has_report": run.has_report,
                "queues": [sides[place] for sides in queues.values() if sides[place]]}
               for place, run in enumerate(runs)]
