@@ -6,9 +6,15 @@ import signal
 import subprocess
 import sys
 import tempfile
+import threading
 import unittest
+from collections.abc import Callable
+from types import SimpleNamespace
+from typing import NoReturn
 
 from tool import TOOLS, ToolCase, needs_program, wait_for
+from rehearse_tools import clusters
+from rehearse_tools.console import Fault
 from rehearse_tools.jobs import scripts_of
 from rehearse_tools.variants import Given, Settings, Sweep
 
@@ -207,6 +213,28 @@ class Faults(ToolCase):
                                PYTHONPATH=self.path("without"))
         self.assert_fault(ran, "sweep: --cluster needs Debian's package python3-distributed, which is for Debian's "
                                "python3")
+
+    def test_what_the_library_raises(self) -> None:
+        """Whatever it raises of a run that is cancelled, the run was cancelled; else its reason is in the fault."""
+        class Future:
+            def __init__(self, before: Callable[[], None]) -> None:
+                self.before = before
+
+            def result(self) -> NoReturn:
+                self.before()
+                raise TypeError("exceptions must derive from BaseException")
+
+        cluster = object.__new__(clusters.Cluster)
+        cluster.name, cluster.lock, cluster.is_cancelled, cluster.futures = "n", threading.Lock(), False, set()
+        cluster.distributed = SimpleNamespace(CancelledError=OSError, KilledWorker=KeyError,
+                                              comm=SimpleNamespace(CommClosedError=OSError))
+        for before in (lambda: None, cluster.cancel):
+            cluster.client = SimpleNamespace(submit=lambda *words, pure: Future(before), cancel=lambda futures: None)
+            if before == cluster.cancel:
+                self.assertEqual(cluster.ran(["./program"], b""), (-signal.SIGTERM, b"", b""))
+            else:
+                with self.assertRaisesRegex(Fault, "^a worker of the cluster cannot run the program: exceptions must"):
+                    cluster.ran(["./program"], b"")
 
     @needs_dask
     def test_nobody_answers(self) -> None:

@@ -132,6 +132,9 @@ class Cluster:
         except self.distributed.KilledWorker:
             return -signal.SIGKILL, b"", b""
         except Exception as error:
+            # of a run that is cancelled the library may raise anything, such as a TypeError
+            if self.is_cancelled:
+                return -signal.SIGTERM, b"", b""
             raise Fault(f"a worker of the cluster cannot run the program: {reason_of(error)}") from None
         finally:
             with self.lock:
