@@ -220,8 +220,12 @@ class Sweep:
         if os.statvfs(folder).f_flag & os.ST_NOEXEC:
             raise Fault(f"no program may run in {folder}: TMPDIR names another folder for temporary files")
         program, scripts = os.path.join(folder, "sqs_rehearse"), os.path.join(folder, "scripts")
-        write_bytes(program, read_bytes(self.program))
-        os.chmod(program, 0o700)
+        if self.program.endswith(".mjs"):
+            # it is one of several files, of which it checks that they belong together
+            os.symlink(self.program, program)
+        else:
+            write_bytes(program, read_bytes(self.program))
+            os.chmod(program, 0o700)
         os.mkdir(scripts)
         self.program = program
         self.keep_scripts(scripts)
