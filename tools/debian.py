@@ -19,7 +19,7 @@ Version: {version}
 Architecture: {architecture}
 Maintainer: {maintainer}
 Installed-Size: {size}
-{depends}Recommends: python3 (>= 3.11), python3-yaml, python3-matplotlib, python3-plotly, python3-scipy
+{depends}Recommends: python3 (>= 3.9), python3-yaml, python3-matplotlib, python3-plotly, python3-scipy
 Suggests: bash-completion, python3-distributed, python3-pandas
 Section: utils
 Priority: optional

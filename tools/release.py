@@ -1,5 +1,7 @@
 """Makes dist/: the program that was built, packed, and the manifest, which names what it was made from.
 tools/package imports it; it is not a command."""
+from __future__ import annotations
+
 import gzip
 import hashlib
 import io

@@ -5,10 +5,10 @@ import io
 import os
 import subprocess
 import sys
-import tomllib
 import unittest
 
 from tool import PROGRAM, ROOT, TOOLS, ToolCase, module_of, needs_program
+from rehearse_tools.console import toml_of
 from rehearse_tools.positions import Positions
 
 TOP = "version = 1\nhorizon = 60000\n"
@@ -289,8 +289,8 @@ class Places(unittest.TestCase):
             with open(path, encoding="utf-8", errors="replace", newline="") as file:
                 text = file.read()
             try:
-                read = tomllib.loads(text.removeprefix("\ufeff"))
-            except tomllib.TOMLDecodeError:
+                read = toml_of(text.removeprefix("\ufeff"))
+            except ValueError:
                 continue
             found = Positions(text)
             for key, value in paths_in(read):

@@ -7,11 +7,10 @@ import os
 import random
 import subprocess
 import sys
-import tomllib
 import unittest
 
 from tool import PROGRAM, ROOT, TOOLS, ToolCase, module_of, needs_program
-from rehearse_tools.console import Fault
+from rehearse_tools.console import Fault, toml_of
 
 ARN = "arn:aws:sqs:eu-central-1:123456789012:"
 
@@ -265,7 +264,7 @@ class FromPlan(ToolCase):
         """The scenario that is made of a stored plan, and what standard error reports."""
         status, out, err = self.run_tool("from-plan", os.path.join(HERE, "plans", name))
         self.assertEqual(status, 0, err)
-        return tomllib.loads(out), err
+        return toml_of(out), err
 
     def dead_letters(self, scenario):
         """For each queue with a dead-letter queue its name and after how many receives."""
@@ -316,7 +315,7 @@ class FromPlan(ToolCase):
         path = os.path.join(HERE, "plans", "wiring", "plan.json")
         without, plain_err = self.stored("wiring/plan.json")
         status, out, err = self.run_tool("from-plan", path, "--preview")
-        scenario = tomllib.loads(out)
+        scenario = toml_of(out)
         self.assertEqual((status, scenario["version"], without["version"]), (0, 3, 1))
         self.assertIn("here each message fails by itself, and with --preview its batch does\n", plain_err)
         self.assertIn("# Version 3 is a preview: run this with --preview.\n", out)
@@ -357,11 +356,11 @@ class FromPlan(ToolCase):
 
     def test_sam_and_conditions(self):
         """By the parameter Stage the queue Extra is there, and the visibility timeout of Jobs is given."""
-        made = tomllib.loads(self.made(SAM))
+        made = toml_of(self.made(SAM))
         self.assertEqual([(queue["name"], queue.get("visibility_s")) for queue in made["queue"]], [("Jobs", None)])
         self.assertEqual([(actor["name"], actor["queue"], actor.get("batch")) for actor in made["actor"]],
                          [("News-to-Jobs", "Jobs", None), ("Work-1", "Jobs", 4), ("Work-2", "Jobs", 4)])
-        made = tomllib.loads(self.made(SAM, "--parameter", "Stage=prod"))
+        made = toml_of(self.made(SAM, "--parameter", "Stage=prod"))
         self.assertEqual([(queue["name"], queue.get("visibility_s")) for queue in made["queue"]],
                          [("Jobs", 90), ("Extra", 70)])
         self.assertEqual([(actor["name"], actor["queue"], actor.get("batch")) for actor in made["actor"][3:]],

@@ -7,10 +7,10 @@ import shlex
 import signal
 import subprocess
 import sys
-import tomllib
 import unittest
 
 from tool import LIMIT, PROGRAM, ROOT, TOOLS, ToolCase, needs_program, read_whole, wait_for
+from rehearse_tools.console import toml_of
 
 COLUMNS = ("sends,repeats,receives,empties,deletes,expiries,redrives,moves,arrivals,OverLimit,MessageNotInflight,"
            "ReceiptHandleIsInvalid,BadTimeout,MissingGroup,MissingDeduplication,BadDelay,TaskRunning,NoTask,depth_max,"
@@ -152,7 +152,7 @@ class Sweep(ToolCase):
         words = "--vary", "queue.q.visibility_s=7", "--vary", "seed=3", "--print-scenario"
         ran = self.run_tool("sweep", self.scenario, *words, SQS_REHEARSE="/none")
         wanted = SCENARIO.replace("visibility_s = 1", "visibility_s = 7").replace("seed = 0", "seed = 3")
-        self.assertEqual((ran[0], tomllib.loads(ran[1]), ran[2]), (0, tomllib.loads(wanted), ""))
+        self.assertEqual((ran[0], toml_of(ran[1]), ran[2]), (0, toml_of(wanted), ""))
         self.assert_fault(self.sweep(self.scenario, "--vary", "seed=1..20", "--print-scenario"),
                           "sweep: --print-scenario prints one variant, and these are 20")
         self.assert_fault(self.sweep(self.scenario, "--vary", "seed=1", "--print-scenario", "--spread", "seed"),
@@ -177,7 +177,7 @@ class Sweep(ToolCase):
         words = self.scenario, "--vary", "queue.q.x=[5, 30],[[0, 1], [9, 2]],[],\"[a]\",[b]", "--vary", "seed=1"
         ran = [self.sweep(*words[:2], f"queue.q.x={word}", "--print-scenario") for word in
                ("[5, 30]", "[[0, 1], [9, 2]]", "[]", '"[a]"', "[b]")]
-        self.assertEqual([tomllib.loads(out)["queue"][0]["x"] for _, out, _ in ran],
+        self.assertEqual([toml_of(out)["queue"][0]["x"] for _, out, _ in ran],
                          [[5, 30], [[0, 1], [9, 2]], [], "[a]", "[b]"])
         self.assertEqual(self.sweep(*words)[2].splitlines()[-1], "sweep: 5 of 5 variants run, 0 failed")
 

@@ -3,6 +3,8 @@
 Some values are not known before a plan is applied, such as the ARN of a new queue. They are found by the configuration:
 which resource an argument refers to, through variables and outputs of modules.
 """
+from __future__ import annotations
+
 import dataclasses
 import functools
 import json

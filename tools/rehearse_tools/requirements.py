@@ -1,4 +1,6 @@
 """What must hold of the report of a run. tools/sweep and tools/report import it; it is not a command."""
+from __future__ import annotations
+
 import fnmatch
 import math
 import operator

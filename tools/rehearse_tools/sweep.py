@@ -90,13 +90,15 @@ Examples:
     tools/sweep examples/short_timeout.toml --least queue.jobs.visibility_s=1..10 --vary seed=1..100
         --spread seed --require 'jobs.age_p95<15s in 80%'
 """
+from __future__ import annotations
+
 import argparse
 import os
 import re
 from collections.abc import Callable, Iterable, Iterator, Sequence
 
 from .clusters import PROGRAM, SCRIPTS, Cluster
-from .console import (Fault, Parser, check_library, check_output, print_text, shown, write_bytes,
+from .console import (Fault, Parser, check_library, check_output, print_text, shown, tell, write_bytes,
                       write_text)
 from .decisions import Requirements
 from .drawing import FORMATS, bytes_of
@@ -111,7 +113,7 @@ from .starting import temporary_folder
 from .settling import advise, looked_at, picture_of
 from .tables import Table, against, csv_text, folded, selected, table_text
 from .units import moment_of, window_of
-from .variants import Given, Settings, Sweep, Told, Window, tell
+from .variants import Given, Settings, Sweep, Told, Window
 
 JOBS_MOST = 1_024
 SHARES_MOST = 1_000_000
