@@ -1,6 +1,7 @@
 """Runs everything in tests/ over the program, side by side, with a line for each part and a sum at the end:
 
     tests/all [PROGRAM] [--quick | --only NAME,..] [--jobs N] [--late LATE] [--limit SECONDS] [--beside LOOPS]
+              [--install]
 
 PROGRAM is by default the one that ./sqs_rehearse would run without a build. LATE is the program of
 crates/sqs_late_workers, by default the one that `rt run` has built there from the sources as they are; without it
@@ -17,8 +18,8 @@ failed, its seconds, and those of processors; if it failed, its output stands be
 temporary folder of a part is removed: to keep a text that fails in tests/fuzz, run tests/fuzz by itself.
 
 The last line is the sum, `N passed, M failed`, with `, K skipped` if something was left out. The status is 0 if nothing
-failed, 1 if something did, and 2 if the tests cannot run. What tools/setup finds missing is installed first, or named
-if this user may not install it; the script tests/all does that.
+failed, 1 if something did, and 2 if the tests cannot run. If packages are missing, a line names them, and no test
+begins; with --install they are installed first. The script tests/all does that.
 """
 from __future__ import annotations
 
