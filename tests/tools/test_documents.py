@@ -18,6 +18,7 @@ USED = re.compile(r"pub use [^;]*?(?:\{([^}]*)\}|::(\w+))\s*;")
 DECLARED = re.compile(r"pub (?:fn|struct|enum|trait|const|type) (\w+)")
 # Names of places in a table of calls and answers, and in a command.
 PLACES = {"ID", "RECEIPT", "BODY", "AGE", "NUMBER", "PLACE", "ORIGIN", "CRATE", "SITE", "COUNT"}
+NUMBERS = ("no", "One", "Two", "Three", "Four", "Five", "Six", "Seven", "Eight", "Nine", "Ten")
 
 
 def own_files(crate: pathlib.Path) -> list[pathlib.Path]:
@@ -83,6 +84,36 @@ class Counted(unittest.TestCase):
         said = re.search(r"`unreachable!\(\)` is in (\d+) places", (TOP / "docs" / "DECISIONS.md").read_text())
         assert said is not None
         self.assertEqual(int(said[1]), count)
+
+    def test_public_functions_without_a_contract(self) -> None:
+        """Their number, and how many of them each crate has that PROOFS.md names."""
+        found: dict[str, int] = {}
+        for crate in CRATES:
+            for path in [] if crate.name.startswith("test_") else sorted((crate / "src").rglob("*.rt")):
+                text = path.read_text(encoding="utf-8")
+                for match in re.finditer(r"^ *pub (?:const )?fn \w+", text, re.M):
+                    if "ensures" not in re.split(r"\n *\{|\{\n|;\n", text[match.start():], maxsplit=1)[0]:
+                        found[crate.name] = found.get(crate.name, 0) + 1
+        text = " ".join((TOP / "docs" / "PROOFS.md").read_text(encoding="utf-8").split())
+        said = re.search(r"is exact, but for (\d+), which have none\. (\w+) are of `sqs_shell`", text)
+        assert said is not None
+        self.assertEqual((int(said[1]), said[2]), (sum(found.values()), NUMBERS[found["sqs_shell"]]))
+
+    def test_the_order_of_reading(self) -> None:
+        """Each file of the table in PROOFS.md uses only those before it, and none of another file of definitions."""
+        text = (TOP / "docs" / "PROOFS.md").read_text(encoding="utf-8")
+        table = [line.split("|")[2] for line in text.split("## What to read in order")[1].split("## The properties")[0]
+                 .splitlines() if line.startswith("|")][2:]
+        crate, before = "", set[str]()
+        for name, file in re.findall(r"`(\w+)`: |(\w+) \d+", " ".join(table)):
+            crate = name or crate
+            if file:
+                path = TOP / "crates" / crate / "specs" / f"{file}.antt"
+                used = re.findall(r"use Rattle\.(\w+)\.specs\.(\w+)", path.read_text(encoding="utf-8"))
+                mine = {f"{of}/{it}" for of, it in used if (TOP / "crates" / of / "specs" / f"{it}.antt").exists()}
+                self.assertEqual(mine - before, set(), f"{crate}/{file}")
+                before.add(f"{crate}/{file}")
+        self.assertGreater(len(before), 50)
 
     def test_each_document_ends_with_a_line_end(self) -> None:
         for path in [*TOP.glob("*.md"), *(TOP / "docs").glob("*.md"), *(crate / "README.md" for crate in CRATES)]:
