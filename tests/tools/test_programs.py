@@ -16,6 +16,7 @@ from tool import LIMIT, PROGRAM as PROVED, ROOT, ToolCase, module_of, needs_prog
 BUILD_IT = "./sqs_rehearse --build builds it"
 NO_DIST = f"the program is not built yet, and dist/ has no program: {BUILD_IT}"
 OTHER_SOURCES = f"the program is not built yet, and dist/ has the program of other sources: {BUILD_IT}"
+NO_PAGE = "note: dist/manifest does not name the page: tools/page --module dist/playground.html has it named"
 NO_LOG = "cannot write {}: it is the file that is read as {}, and is to stay"
 # In the place of the program: it prints its own name and its words.
 PROGRAM = '#!/bin/sh\necho {} "$@"\n'
@@ -560,43 +561,63 @@ class Gate(WrapperCase):
         super().make_dist(program)
         manifest = pathlib.Path(self.path("dist/manifest"))
         manifest.write_text(manifest.read_text().replace("version 1.2", f"version {self.version}"))
+        sums = dict(line.split(" ", 1) for line in manifest.read_text().splitlines())
+        self.write("CHANGELOG.md", f"# Changes\n\n## {sums['sources'][:8]}, program {sums['program'][:8]}, 1 May 2026\n\n"
+                                   "## 00000000, program 00000000, 1 April 2026\n")
 
     def test_the_same(self):
         self.make_dist()
-        same = ["note: dist/ has the program that was built here from these sources", "2 passed, 0 failed"]
+        same = [NO_PAGE, "note: dist/ has the program that was built here from these sources", "3 passed, 0 failed"]
         self.assertEqual(self.compared(), (0, same))
         os.remove(self.path("kit/rt"))
         self.assertEqual(self.compared(), (0, same))
         self.make_program("unpacked", PROGRAM.format("built"))
-        self.assertEqual(self.compared("unpacked"), (0, ["2 passed, 0 failed"]))
+        self.assertEqual(self.compared("unpacked"), (0, [NO_PAGE, "3 passed, 0 failed"]))
 
     def test_another_program_of_the_same_sources(self):
         self.make_dist(PROGRAM.format("packed"))
         status, lines = self.compared()
-        self.assertEqual((status, len(lines), lines[-1]), (1, 2, "1 passed, 1 failed"))
+        self.assertEqual((status, len(lines), lines[-1]), (1, 3, "2 passed, 1 failed"))
 
     def test_damage(self):
         self.make_dist()
         pathlib.Path(self.path("dist/sqs_rehearse-x86_64-linux.gz")).write_bytes(b"")
         status, lines = self.compared()
-        self.assertEqual((status, lines[-1]), (1, "1 passed, 1 failed"))
+        self.assertEqual((status, lines[-1]), (1, "2 passed, 1 failed"))
+
+    def test_the_page_and_the_changes(self):
+        """The page is the one that the manifest names, and the newest entry is of the program of dist/."""
+        self.make_dist()
+        self.write("dist/playground.html", "page")
+        with open(self.path("dist/manifest"), "a", encoding="utf-8") as file:
+            file.write(f"page {hashlib.sha256(b'page').hexdigest()}\n")
+        self.assertEqual(self.compared()[1][-1], "4 passed, 0 failed")
+        self.write("dist/playground.html", "another")
+        self.assertEqual(self.compared()[1][-1], "3 passed, 1 failed")
+        self.write("dist/playground.html", "page")
+        text = pathlib.Path(self.path("CHANGELOG.md")).read_text()
+        for changed in ("", text.replace("\n## ", "\n## 12345678, program 12345678, 2 May 2026\n\n## ", 1)):
+            self.write("CHANGELOG.md", changed)
+            status, lines = self.compared()
+            self.assertEqual((status, lines[-1]), (1, "3 passed, 1 failed"))
+            self.assertRegex(lines[0], "^CHANGELOG.md: its newest entry is not of the program of dist/, ## [0-9a-f]{8}, program ")
 
     def test_behind(self):
         makes = ": tools/package --dist makes it anew"
         self.make_dist()
         self.make_program("kit/rt", "#!/bin/sh\necho kit 2\n")
-        self.assertEqual(self.compared(), (0, [
+        self.assertEqual(self.compared(), (0, [NO_PAGE,
             "note: dist/ is behind, with a program that kit 1 built, where kit 2 is here" + makes,
-            "1 passed, 0 failed"]))
+            "2 passed, 0 failed"]))
         self.write("crates/sim_a/src/lib.rt", "changed")
-        self.assertEqual(self.compared(), (0, [
-            "note: dist/ is behind, with the program of other sources" + makes, "1 passed, 0 failed"]))
+        self.assertEqual(self.compared(), (0, [NO_PAGE,
+            "note: dist/ is behind, with the program of other sources" + makes, "2 passed, 0 failed"]))
         self.make_dist()
         self.make_program("kit/rt", "#!/bin/sh\necho kit 1\n")
         self.write("tools/VERSION", "9.9\n")
-        self.assertEqual(self.compared(), (0, [
+        self.assertEqual(self.compared(), (0, [NO_PAGE,
             f"note: dist/ is behind, with version {self.version}, where tools/VERSION has another" + makes,
-            "1 passed, 0 failed"]))
+            "2 passed, 0 failed"]))
 
 
 class Words(WrapperCase):
