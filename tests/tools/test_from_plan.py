@@ -271,6 +271,32 @@ class FromPlan(ToolCase):
         return {queue["name"]: (queue["dead_letter"], queue["max_receives"]) for queue in scenario["queue"]
                 if "dead_letter" in queue}
 
+    def test_the_instance_of_a_key_or_a_number(self):
+        """module.sqs[each.key].queue_arn is of the instance that has the key of the resource, and of its queue, not of
+        its dead-letter queue; module.sqs[count.index] is that of the number. Without that instance nothing is taken."""
+        for keys, by in (('"orders"', '"mail"'), "each.key"), (("0", "1"), "count.index"):
+            names = [f"q{number}" for number in range(2)]
+            modules = [{"address": f"module.sqs[{key}]", "resources": [
+                resource(f"module.sqs[{key}].aws_sqs_queue.this", name=name, redrive_policy=json.dumps(
+                    {"deadLetterTargetArn": f"arn:aws:sqs:x:1:{name}-dead", "maxReceiveCount": 3})),
+                resource(f"module.sqs[{key}].aws_sqs_queue.dead", name=f"{name}-dead")]} for key, name in zip(keys, names)]
+            wired = [resource(f"{kind}.it[{key}]", of=kind, **more) for key in (*keys, '"none"') for kind, more in (
+                ("aws_lambda_event_source_mapping", {"function_name": f"f{key}".replace('"', "")}),
+                ("aws_sns_topic_subscription", {"protocol": "sqs", "topic_arn": f"t{key}".replace('"', "")}))]
+            found = [configured("aws_lambda_event_source_mapping.it", event_source_arn=["module.sqs", by]),
+                     configured("aws_sns_topic_subscription.it", endpoint=["module.sqs", by])]
+            text = json.dumps({"planned_values": {"root_module": {"resources": wired, "child_modules": modules}},
+                               "configuration": {"root_module": {"resources": found, "module_calls": {"sqs": {
+                                   "module": {"resources": [], "outputs": {}}}}}}})
+            status, out, err = self.run_tool("from-plan", self.write("given", text))
+            self.assertEqual(status, 0, err)
+            actors = {actor["name"]: actor["queue"] for actor in toml_of(out)["actor"]}
+            for key, name in zip(keys, names):
+                short = key.replace('"', "")
+                taken = {queue for actor, queue in actors.items() if actor.startswith((f"f{short}", f"t{short}"))}
+                self.assertEqual(taken, {name}, actors)
+            self.assertEqual(err.count('it["none"] is left out'), 2, err)
+
     def test_modules_with_for_each_whose_resources_have_count(self):
         """max_receives is what main.tf says, but for audit, pay and ship, whose number the plan does not have."""
         scenario, err = self.stored("modules/plan.json")

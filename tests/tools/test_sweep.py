@@ -185,9 +185,11 @@ class Sweep(ToolCase):
         known = (f"{COLUMNS},door_age_p50,door_age_p95,door_age_max,requests,cost,backlog_gone,new_age_p50,new_age_p95,"
                  "new_age_max,moved_age_p50,moved_age_p95,moved_age_max,window_age_p95").replace(",", ", ")
         for words, line in (
-                ((), "a SCENARIO and at least one --vary or --require are needed (--help tells the usage)"),
+                ((), "a SCENARIO and at least one --vary, --require or --columns are needed (--help tells the usage)"),
                 ((self.scenario,),
-                 "a SCENARIO and at least one --vary or --require are needed (--help tells the usage)"),
+                 "a SCENARIO and at least one --vary, --require or --columns are needed (--help tells the usage)"),
+                ((self.scenario, "--require", "q.sends=1 in 100%"),
+                 "q.sends=1 in 100%: a share of the runs is under 100 %; without `in` it must hold in all"),
                 ((self.scenario, "--vary", "seed"), "seed is no setting with values, as seed=1..20"),
                 ((self.scenario, "--vary", "seed=1,,2"), "1,,2 is no list of values, as 2,5,10 or 1..20"),
                 ((self.scenario, "--vary", "seed=3..1"), "3..1 has no values or over 1000000"),

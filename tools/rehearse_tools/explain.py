@@ -221,6 +221,8 @@ def range_text(key: Key | None) -> str:
         return ""
     if key.words:
         return f" It is {', '.join(key.words[:-1])} or {key.words[-1]}."
+    if key.name == "version":
+        return f" It is {VERSIONS[0]} or {VERSIONS[1]}, or {PREVIEW}, a preview, for the word --preview."
     if key.kind in LISTS:
         return f" It has {key.low:,} to {key.high:,} {LISTS[key.kind]}{of_each(key)}."
     if key.kind == TEXT and key.high:
