@@ -342,7 +342,7 @@ class Dist(WrapperCase):
         self.make_checked()
         for few, held, changed, said in (
                 (12, "", False, ""),
-                (20, "3<&0 4<&0 5<&0 6<&0 7<&0 8<&0 9<&0", False, "the program cannot be opened: too few file descriptors "
+                (40, "3<&0 4<&0 5<&0 6<&0 7<&0 8<&0 9<&0", False, "the program cannot be opened: too few file descriptors "
                  "are left"),
                 (20, "", True, "the sources cannot be read: sources: it opens up to 32 files at once, and 20 are allowed "
                  "(ulimit -n)")):
