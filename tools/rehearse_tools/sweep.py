@@ -29,9 +29,9 @@
           --spread those that do in each run. A requirement on an age also fails if no message was deleted, because
           there is no age. Messages that are left are at least as old as they are now. If they could turn a requirement
           on age_p50, age_p95, age_p99 or age_max, it fails or is undecided, which counts as a failure, and the share
-          that is left is printed. Without --vary, but with --require or --columns, the scenario runs as it is. With `in 95%` after it, which goes with
-          --spread, that share of all runs must meet it: it is shown, refuted or undecided with 95 % confidence, and
-          holds if it is shown.
+          that is left is printed. Without --vary, but with --require or --columns, the scenario runs as it is. With `in
+          95%` after it, which goes with --spread, that share of all runs must meet it: it is shown, refuted or
+          undecided with 95 % confidence, and holds if it is shown.
 --spread  puts the runs together that differ only in this setting, and gives for each number of the report its mean,
           sample standard deviation, least, median and greatest, the half-width of the mean's 95 % interval, of ages
           both ends of it (mean_low and mean_high), and the interval of the median; numbers that a run's report leaves
