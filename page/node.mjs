@@ -87,7 +87,8 @@ function sumOfSources() {
   };
   add('sqs_rehearse');
   const folders = [...added].flatMap(name => ['src', 'specs', 'proofs'].map(part => `crates/${name}/${part}`));
-  const sums = inByteOrder(folders.flatMap(sourcesIn)).map(name => `${sumOf(fs.readFileSync(path.join(TOP, name)))}  ${name}`);
+  const sums = inByteOrder(folders.flatMap(sourcesIn))
+    .map(name => `${sumOf(fs.readFileSync(path.join(TOP, name)))}  ${name}`);
   return sumOf([...inByteOrder([...added].map(name => named.get(name))), ...sums].map(line => `${line}\n`).join(''));
 }
 
@@ -97,7 +98,8 @@ function checkedPage() {
     .map(line => [line.split(' ')[0], line.slice(line.indexOf(' ') + 1)]));
   const page = fs.readFileSync(PAGE);
   if (manifest.get('sources') !== sumOfSources()) {
-    throw new Stop(2, 'sqs_rehearse: dist/ has the page of other sources: the program itself is built on Linux on x86-64');
+    throw new Stop(2, 'sqs_rehearse: dist/ has the page of other sources: the program itself is built on Linux on '
+      + 'x86-64');
   }
   if (manifest.has('page') && manifest.get('page') !== sumOf(page)) {
     throw new Stop(2, 'sqs_rehearse: dist/playground.html is damaged: it is not the page that dist/manifest names');
@@ -130,7 +132,9 @@ function optionsOf(command, words) {
     else if (numbers.includes(name) && !/^\+?[0-9]+$/.test(options[name])) throw usage(`'--${name}' takes a number`);
   }
   if (options.paths.length < least || options.paths.length > most) throw usage(`${command} takes other words`);
-  if (options.preview) throw new Stop(2, 'sqs_rehearse: the page\'s module reads versions 1 and 2, and takes no --preview');
+  if (options.preview) {
+    throw new Stop(2, 'sqs_rehearse: the page\'s module reads versions 1 and 2, and takes no --preview');
+  }
   return options;
 }
 
@@ -149,7 +153,8 @@ function filesOf({ Scenario, said }, texts, folder) {
 
 // The line of a refusal, and its status. The module writes into its memory, so that a write that fails is that.
 function refusal(it, code, bytes) {
-  const line = it.lineOf(code, bytes).replace(/^refused 36 Write$/, 'refused 34 Memory'), number = Number(line.split(' ')[1]);
+  const line = it.lineOf(code, bytes).replace(/^refused 36 Write$/, 'refused 34 Memory');
+  const number = Number(line.split(' ')[1]);
   return new Stop(number < IN_RUN ? 1 : number < OF_WRITING ? 3 : 4, line);
 }
 
@@ -221,7 +226,8 @@ async function main([command, ...words]) {
 
 main(process.argv.slice(2)).catch(error => {
   try {
-    const line = error instanceof Stop ? error.message : `sqs_rehearse: the page's module does not run: ${error.message}`;
+    const isTold = error instanceof Stop;
+    const line = isTold ? error.message : `sqs_rehearse: the page's module does not run: ${error.message}`;
     write(2, Buffer.from(`${line}\n`));
   } catch {
     // there is no standard error

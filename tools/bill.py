@@ -1,5 +1,5 @@
-"""The bill of materials of a package, in the JSON of CycloneDX: the program with the crates that are in it, the libraries
-of the kit that these use, and the page. tools/package imports it; it is not a command."""
+"""The bill of materials of a package, in the JSON of CycloneDX: the program with the crates that are in it, the
+libraries of the kit that these use, and the page. tools/package imports it; it is not a command."""
 from __future__ import annotations
 
 import json

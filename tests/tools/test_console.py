@@ -179,7 +179,8 @@ class OnATerminal(ToolCase):
             with self.subTest(words=words):
                 text, piped = self.shown(*words)
                 self.assertIn("o\\x1b[31mr\\x1b[2J\\u202ed\\x9b", text)
-                self.assertEqual(re.findall("[\x00-\x08\x0b-\x1f\x7f-\x9f\u202e]", re.sub("\r[^\n]*?\x1b\\[K", "", text)), [])
+                text = re.sub("\r[^\n]*?\x1b\\[K", "", text)
+                self.assertEqual(re.findall("[\x00-\x08\x0b-\x1f\x7f-\x9f\u202e]", text), [])
                 self.assertIn(name, piped)
 
     def test_what_is_long(self):

@@ -39,7 +39,8 @@ def exports_of(crate: pathlib.Path) -> set[str]:
     """The names that a crate's lib.rt exports."""
     path = crate / "src" / "lib.rt"
     text = path.read_text(encoding="utf-8") if path.exists() else ""
-    used = (name.strip().split(" as ")[-1] for match in USED.finditer(text) for name in (match[1] or match[2]).split(","))
+    used = (name.strip().split(" as ")[-1] for match in USED.finditer(text)
+            for name in (match[1] or match[2]).split(","))
     return {*filter(None, used), *DECLARED.findall(text)}
 
 
@@ -66,7 +67,7 @@ class Readmes(unittest.TestCase):
     def test_constants_are_those_of_the_crate(self) -> None:
         for crate in CRATES:
             text = BLOCK.sub("", (crate / "README.md").read_text(encoding="utf-8"))
-            found = {word for quoted in QUOTED.findall(text) if re.fullmatch("[A-Z][A-Z_]+", quoted) for word in [quoted]}
+            found = {quoted for quoted in QUOTED.findall(text) if re.fullmatch("[A-Z][A-Z_]+", quoted)}
             self.assertEqual(found - self.words[crate.name] - PLACES, set(), crate.name)
 
     def test_exports_stand_in_the_readme(self) -> None:

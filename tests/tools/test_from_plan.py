@@ -279,7 +279,8 @@ class FromPlan(ToolCase):
             modules = [{"address": f"module.sqs[{key}]", "resources": [
                 resource(f"module.sqs[{key}].aws_sqs_queue.this", name=name, redrive_policy=json.dumps(
                     {"deadLetterTargetArn": f"arn:aws:sqs:x:1:{name}-dead", "maxReceiveCount": 3})),
-                resource(f"module.sqs[{key}].aws_sqs_queue.dead", name=f"{name}-dead")]} for key, name in zip(keys, names)]
+                resource(f"module.sqs[{key}].aws_sqs_queue.dead", name=f"{name}-dead")]}
+                for key, name in zip(keys, names)]
             wired = [resource(f"{kind}.it[{key}]", of=kind, **more) for key in (*keys, '"none"') for kind, more in (
                 ("aws_lambda_event_source_mapping", {"function_name": f"f{key}".replace('"', "")}),
                 ("aws_sns_topic_subscription", {"protocol": "sqs", "topic_arn": f"t{key}".replace('"', "")}))]

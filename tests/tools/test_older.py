@@ -1,5 +1,5 @@
-"""The tools run under each Python from 3.9 on: all their files can be read by 3.9, and under an older Python that is there
-their tests pass that need no library beside Python's own."""
+"""The tools run under each Python from 3.9 on: all their files can be read by 3.9, and under an older Python that is
+there their tests pass that need no library beside Python's own."""
 from __future__ import annotations
 
 import ast
@@ -24,8 +24,8 @@ NEWER = re.compile(r"^from (__future__|typing|collections\.abc|dataclasses) impo
 NEWER_NAMES = {"Self", "LiteralString", "ParamSpec", "TypeAlias", "TypeGuard", "Concatenate", "Never", "assert_never",
                "NotRequired", "Required", "override", "Buffer", "KW_ONLY", "Unpack", "TypeVarTuple", "reveal_type"}
 # Calls that a version after 3.9 brought.
-NEWER_CALLS = re.compile(r"\.total\(\)|\bpairwise\(|\bbatched\(|math\.cbrt|math\.exp2|\bzip\([^)]*strict=|process_group=|"
-                         r"\.bit_count\(|import tomllib|datetime\.UTC|StrEnum|contextlib\.chdir|bisect\w*\([^)]*key=")
+NEWER_CALLS = re.compile(r"\.total\(\)|\bpairwise\(|\bbatched\(|math\.cbrt|math\.exp2|\bzip\([^)]*strict=|"
+                         r"process_group=|\.bit_count\(|import tomllib|datetime\.UTC|StrEnum|contextlib\.chdir|bisect\w*\([^)]*key=")
 
 
 def python_files() -> list[str]:
@@ -62,7 +62,8 @@ class Older(unittest.TestCase):
         """A file with `X | None` in an annotation says that annotations are not computed."""
         annotated = [node.annotation for node in ast.walk(tree) if isinstance(node, (ast.AnnAssign, ast.arg))]
         returned = [node.returns for node in ast.walk(tree) if isinstance(node, ast.FunctionDef)]
-        is_used = any(isinstance(part, ast.BinOp) for node in [*annotated, *returned] if node for part in ast.walk(node))
+        parts = (part for node in [*annotated, *returned] if node for part in ast.walk(node))
+        is_used = any(isinstance(part, ast.BinOp) for part in parts)
         waits = any(isinstance(node, ast.ImportFrom) and node.module == "__future__" for node in tree.body)
         self.assertTrue(waits or not is_used)
 

@@ -128,7 +128,8 @@ class Package(PackageCase):
         named = {word for line in lines if line.startswith(("sim_scenario", "sqs_rehearse"))
                  for word in line.partition("#")[0].partition(":")[2].split()}
         self.assertEqual(named - set(parts), set())
-        self.assertTrue("toml" in parts and "sim_scenario" in parts and not any(name.startswith("test_") for name in parts))
+        self.assertTrue("toml" in parts and "sim_scenario" in parts)
+        self.assertFalse(any(name.startswith("test_") for name in parts))
         refs = [part["bom-ref"] for part in bill["components"]]
         self.assertEqual(len(set(refs)), len(refs))
         self.assertLessEqual(set(bill["dependencies"][0]["dependsOn"]), set(refs))

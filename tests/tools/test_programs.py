@@ -20,8 +20,8 @@ NO_PAGE = "note: dist/manifest does not name the page: tools/page --module dist/
 NO_LOG = "cannot write {}: it is the file that is read as {}, and is to stay"
 # In the place of the program: it prints its own name and its words.
 PROGRAM = '#!/bin/sh\necho {} "$@"\n'
-# The same with control characters in a row, and in the refusal that follows: a command for a terminal, a carriage return,
-# two characters that a terminal obeys, a line end and a long key.
+# The same with control characters in a row, and in the refusal that follows: a command for a terminal, a carriage
+# return, two characters that a terminal obeys, a line end and a long key.
 HOSTILE_ROW = b"0,q,\x1b[31m\tr\xc3\xa9d\r\xe2\x80\xae\n"
 HOSTILE_FAULT = b"refused 11 UnknownKey at \x1b]52;c;eA==\x07\xc2\x9b\nrefused 15 BadName at " + 2000 * b"k" + b"\n"
 HOSTILE = """#!/bin/sh
@@ -163,8 +163,8 @@ class Dist(WrapperCase):
         sum_of_it = self.make_dist()
         status, out, err = self.run_it("run", "x.toml")
         self.assertEqual((status, out), (0, "packed run x.toml\n"))
-        self.assertEqual(err, "sqs_rehearse: this runs the proved program of dist/, version 1.2; dist/manifest names it as "
-                              "built from these sources, and ./sqs_rehearse --verify builds it anew and compares\n")
+        self.assertEqual(err, "sqs_rehearse: this runs the proved program of dist/, version 1.2; dist/manifest names it "
+                              "as built from these sources, and ./sqs_rehearse --verify builds it anew and compares\n")
         self.assertEqual(self.run_it("run", "x.toml"), (0, "packed run x.toml\n", ""))
         place = self.path(f"home/.cache/sqs_rehearse/{sum_of_it[:16]}/sqs_rehearse")
         self.assertEqual(self.run_it("--where"), (0, place + "\n", ""))
@@ -251,8 +251,8 @@ class Dist(WrapperCase):
             os.chmod(folder, mode)
             self.assertEqual(self.run_it("--where")[1], self.path(
                 f"tmp/sqs_rehearse-{os.geteuid()}/{sum_of_it[:16]}/sqs_rehearse\n"))
-            refused = f"the program of dist/ cannot be unpacked: {folder} is not this user's alone; XDG_CACHE_HOME names " \
-                      "another folder"
+            refused = f"the program of dist/ cannot be unpacked: {folder} is not this user's alone; XDG_CACHE_HOME " \
+                      "names another folder"
             self.assert_refused(["run"], refused, TMPDIR="/dev/null")
             os.chmod(folder, 0o700)
             self.assertEqual(self.run_it("--where")[1], self.path(f"{place}/sqs_rehearse\n"))
@@ -334,7 +334,8 @@ class Dist(WrapperCase):
         self.make_dist()
         self.make_program("kit/sha256sum", '#!/bin/sh\nif [ $# = 0 ]; then exec /usr/bin/sha256sum; fi\n'
                                            'echo "sha256sum: $1: Permission denied" >&2; exit 1\n')
-        self.assert_refused(["run"], "the sources cannot be read: sha256sum: crates/sim_a/src/lib.rt: Permission denied")
+        self.assert_refused(["run"], "the sources cannot be read: sha256sum: crates/sim_a/src/lib.rt: Permission "
+                            "denied")
         self.assertEqual(self.calls(), [])
 
     def test_few_descriptors(self):
@@ -342,15 +343,16 @@ class Dist(WrapperCase):
         self.make_checked()
         for few, held, changed, said in (
                 (12, "", False, ""),
-                (40, "3<&0 4<&0 5<&0 6<&0 7<&0 8<&0 9<&0", False, "the program cannot be opened: too few file descriptors "
-                 "are left"),
-                (20, "", True, "the sources cannot be read: sources: it opens up to 32 files at once, and 20 are allowed "
-                 "(ulimit -n)")):
+                (40, "3<&0 4<&0 5<&0 6<&0 7<&0 8<&0 9<&0", False, "the program cannot be opened: too few file "
+                 "descriptors are left"),
+                (20, "", True, "the sources cannot be read: sources: it opens up to 32 files at once, and 20 are "
+                 "allowed (ulimit -n)")):
             if changed:
                 os.utime(self.path("crates.txt"))
             ran = subprocess.run(["bash", "-c", f'ulimit -n {few}; exec "$0" run {held}', self.path("sqs_rehearse")],
                                  env=self.environment, stdin=subprocess.DEVNULL, capture_output=True, text=True)
-            self.assertEqual((ran.returncode, ran.stderr), (2 if said else 0, f"sqs_rehearse: {said}\n" if said else ""))
+            wanted = (2, f"sqs_rehearse: {said}\n") if said else (0, "")
+            self.assertEqual((ran.returncode, ran.stderr), wanted)
         os.remove(self.path("calls"))
         self.assertEqual(self.calls(), [])
 
@@ -439,7 +441,8 @@ class Terminals(WrapperCase):
                 self.assertEqual((ended, piped), (status, list(wanted[2:])))
                 self.assertTrue(text.startswith(wanted[0] + wanted[1]), text)
                 rest = text[len(wanted[0] + wanted[1]):]
-                self.assertTrue(rest.endswith("k\u2026\n".encode()) and len(rest) < 1000 if wanted[1] else not rest, rest)
+                is_cut = rest.endswith("k\u2026\n".encode()) and len(rest) < 1000
+                self.assertTrue(is_cut if wanted[1] else not rest, rest)
 
     def test_progress_is_shown_beside_what_is_plain(self):
         """The program still sees a terminal, if neither the words nor their files have what could do harm."""
@@ -473,8 +476,8 @@ class ByNode(WrapperCase):
         return ran.returncode, ran.stdout, ran.stderr.decode()
 
     def test_without_node(self):
-        needed = "the program of dist/ is for Linux on x86-64, and this is Darwin arm64: Node 18 or later runs the module " \
-                 "of dist/playground.html in its place, and node is "
+        needed = "the program of dist/ is for Linux on x86-64, and this is Darwin arm64: Node 18 or later runs the " \
+                 "module of dist/playground.html in its place, and node is "
         for text, told in (("exit 127", "not on the PATH"), ("echo v16.20.1", "v16.20.1")):
             self.make_program("kit/node", f"#!/bin/sh\n{text}\n")
             for words in (["run"], ["--where"]):
@@ -495,10 +498,11 @@ class ByNode(WrapperCase):
 
     @unittest.skipUnless(shutil.which("node"), "node is not here")
     def test_words(self):
-        self.assertEqual(self.run_there("--where"), (0, os.path.realpath(self.path("page/node.mjs")).encode() + b"\n", ""))
+        place = os.path.realpath(self.path("page/node.mjs"))
+        self.assertEqual(self.run_there("--where"), (0, place.encode() + b"\n", ""))
         for words, status, line in ((["run", "none"], 1, "cannot read none"), (["run", "--log", "x/y", "s.toml"], 4,
-                                    "refused 36 Write"), (["check", "--preview", "s.toml"], 2, "sqs_rehearse: the page's "
-                                    "module reads versions 1 and 2, and takes no --preview")):
+                                    "refused 36 Write"), (["check", "--preview", "s.toml"], 2, "sqs_rehearse: the "
+                                    "page's module reads versions 1 and 2, and takes no --preview")):
             shutil.copy(os.path.join(ROOT, "examples", "first.toml"), self.path("s.toml"))
             self.assertEqual(self.run_there(*words), (status, b"", f"{NODE_NOTE}{line}\n"))
         self.assertEqual(self.run_there("run", "--bogus")[0], 2)
@@ -528,8 +532,8 @@ class ByNode(WrapperCase):
                              'kind = "script"\nqueue = "q"\nscript = "calls.csv"\n')
         shutil.copy(os.path.join(ROOT, "examples", "dead_letters.toml"), self.path("b.toml"))
         self.write("c.toml", "version")
-        for words in (["run", "a.toml"], ["run", "--scripts", "none", "a.toml"], ["check", "a.toml"], ["check", "b.toml"],
-                      ["check", "c.toml"], ["compare", "a.toml", "b.toml"], ["compare", "c.toml", "none"],
+        for words in (["run", "a.toml"], ["run", "--scripts", "none", "a.toml"], ["check", "a.toml"],
+                      ["check", "b.toml"], ["check", "c.toml"], ["compare", "a.toml", "b.toml"], ["compare", "c.toml", "none"],
                       ["compare", "a.toml", "c.toml"], ["compare", "a.toml", "none"], ["run", "--log=x.log", "b.toml"]):
             ran = subprocess.run([PROVED, *words], cwd=self.folder, capture_output=True)
             wanted = ran.returncode, ran.stdout, NODE_NOTE + ran.stderr.decode()
@@ -562,7 +566,8 @@ class Gate(WrapperCase):
         manifest = pathlib.Path(self.path("dist/manifest"))
         manifest.write_text(manifest.read_text().replace("version 1.2", f"version {self.version}"))
         sums = dict(line.split(" ", 1) for line in manifest.read_text().splitlines())
-        self.write("CHANGELOG.md", f"# Changes\n\n## {sums['sources'][:8]}, program {sums['program'][:8]}, 1 May 2026\n\n"
+        entry = f"## {sums['sources'][:8]}, program {sums['program'][:8]}, 1 May 2026\n"
+        self.write("CHANGELOG.md", f"# Changes\n\n{entry}\n"
                                    "## 00000000, program 00000000, 1 April 2026\n")
 
     def test_the_same(self):
@@ -600,7 +605,7 @@ class Gate(WrapperCase):
             self.write("CHANGELOG.md", changed)
             status, lines = self.compared()
             self.assertEqual((status, lines[-1]), (1, "3 passed, 1 failed"))
-            self.assertRegex(lines[0], "^CHANGELOG.md: its newest entry is not of the program of dist/, ## [0-9a-f]{8}, program ")
+            self.assertRegex(lines[0], "^CHANGELOG.md: its newest entry is not of the program of dist/, ## [0-9a-f]{8}, ")
 
     def test_behind(self):
         makes = ": tools/package --dist makes it anew"
