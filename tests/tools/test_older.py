@@ -12,7 +12,7 @@ import subprocess
 import sys
 import unittest
 
-from tool import LIMIT, ROOT, TOOLS
+from tool import LIMIT, PROGRAM, ROOT, TOOLS, needs_program
 
 OLDEST = (3, 9)
 # Files of tests/tools that need no library, and are quick.
@@ -47,6 +47,12 @@ def older_pythons() -> dict[str, str]:
     return found
 
 
+def environment_of(python: str) -> dict[str, str]:
+    """The environment in which a Python runs the tools, and is the one that they find."""
+    kept = {name: value for name, value in os.environ.items() if not name.startswith("PYTHON")}
+    return {**kept, "PATH": os.path.dirname(python) + os.pathsep + os.environ.get("PATH", os.defpath)}
+
+
 class Older(unittest.TestCase):
     def test_each_file_can_be_read(self) -> None:
         for path in python_files():
@@ -72,15 +78,31 @@ class Older(unittest.TestCase):
         if not there:
             self.skipTest("no Python 3.9 or 3.10 is here")
         for version, python in list(there.items())[:1]:
-            environment = {name: value for name, value in os.environ.items() if not name.startswith("PYTHON")}
-            path = os.path.dirname(python) + os.pathsep + os.environ.get("PATH", os.defpath)
+            environment = environment_of(python)
+            # with the program some of them need libraries
+            environment.pop("SQS_REHEARSE", None)
             for name in TESTS:
                 with self.subTest(version=version, tests=name):
                     words = [python, "-B", "-m", "unittest", "discover", "-s", os.path.join("tests", "tools"), "-p",
                              f"test_{name}.py"]
-                    ran = subprocess.run(words, cwd=ROOT, env={**environment, "PATH": path}, text=True, timeout=LIMIT,
+                    ran = subprocess.run(words, cwd=ROOT, env=environment, text=True, timeout=LIMIT,
                                          stdin=subprocess.DEVNULL, capture_output=True)
                     self.assertEqual(ran.returncode, 0, ran.stderr)
+
+    @needs_program
+    def test_the_same_is_printed(self) -> None:
+        """By each Python from 3.9 on that is there, as by this one."""
+        example = os.path.join(ROOT, "examples", "short_timeout.toml")
+        log = subprocess.run([str(PROGRAM), "run", example], check=True, capture_output=True).stdout
+        for words in (["sweep", example, "--vary", "seed=1..3", "--columns", "deletes,age_p95,door_age_p95"],
+                      ["explain", os.path.join(ROOT, "tests", "cases", "faults", "version_three.toml")],
+                      ["summary", "-", "--json"], ["metrics", "-"], ["life", "-", "--worst"]):
+            told = [subprocess.run([python, "-B", os.path.join(TOOLS, words[0]), *words[1:]], input=log, cwd=ROOT,
+                                   env=environment_of(python), capture_output=True)
+                    for python in (sys.executable, *older_pythons().values())]
+            for ran in told:
+                self.assertEqual((ran.returncode, ran.stdout), (told[0].returncode, told[0].stdout), ran.stderr)
+            self.assertNotEqual(told[0].stdout, b"", words)
 
     def test_an_older_one_is_refused(self) -> None:
         """In one line, by each tool, and also where annotations could not be read."""
