@@ -181,6 +181,11 @@ class Sweep(ToolCase):
                          [[5, 30], [[0, 1], [9, 2]], [], "[a]", "[b]"])
         self.assertEqual(self.sweep(*words)[2].splitlines()[-1], "sweep: 5 of 5 variants run, 0 failed")
 
+    def test_a_scenario_as_it_is(self):
+        """With columns alone it is run once; the visibility of a second reports 100 sends."""
+        self.assertEqual(self.sweep(self.scenario, "--columns", "sends"), (
+            0, "failed,queue,sends\n,q,100\n,r,0\n", "sweep: 1 of 1 variants run, 0 failed\n"))
+
     def test_faults(self):
         known = (f"{COLUMNS},door_age_p50,door_age_p95,door_age_max,requests,cost,backlog_gone,new_age_p50,new_age_p95,"
                  "new_age_max,moved_age_p50,moved_age_p95,moved_age_max,window_age_p95").replace(",", ", ")
