@@ -139,6 +139,7 @@ class Fault {
 
 function rangeText(key) {
   if (!key) return '';
+  if (key.name === 'version') return ' It is 1 or 2, or 3, a preview, for the word --preview.';
   if (LISTS[key.kind]) return ` It has ${key.low} to ${key.high} ${LISTS[key.kind].items}.`;
   if (key.words) return ` It is ${key.words.slice(0, -1).join(', ')} or ${key.words.at(-1)}.`;
   if (key.kind === KINDS.text && key.high) return ` It has ${key.low} to ${key.high} bytes.`;

@@ -1,6 +1,7 @@
 """Runs everything in tests/ over the program, side by side, with a line for each part and a sum at the end:
 
     tests/all [PROGRAM] [--quick | --only NAME,..] [--jobs N] [--late LATE] [--limit SECONDS] [--beside LOOPS]
+              [--install]
 
 PROGRAM is by default the one that ./sqs_rehearse would run without a build. LATE is the program of
 crates/sqs_late_workers, by default the one that `rt run` has built there from the sources as they are; without it
@@ -8,7 +9,7 @@ tests/late and a part of tests/long are left out. --only runs the named parts. -
 by default one for each processor that this process may use. --beside runs so many loops beside the parts, each of which
 takes all that it can get of a processor: so a part shows whether it hangs on luck. --quick takes a minute or two on 4
 processors: it leaves out wrong-bodies, long, test_clusters, test_slurm, test_picture, memory, late, huge, test_console,
-test_package, test_poison, test_statistics, test_decisions, test_helps, test_shown and page, the longest.
+test_package, test_poison, test_statistics, test_decisions, test_helps, test_shown, test_older and page, the longest.
 
 A part is a program in tests/, tools/layers --check, tests/wrong-bodies/test_run.py or a file tests/tools/test_*.py. A
 program in tests/ is given PROGRAM, and its last line is `N passed, M failed`. The line of a part has what passed and
@@ -17,9 +18,11 @@ failed, its seconds, and those of processors; if it failed, its output stands be
 temporary folder of a part is removed: to keep a text that fails in tests/fuzz, run tests/fuzz by itself.
 
 The last line is the sum, `N passed, M failed`, with `, K skipped` if something was left out. The status is 0 if nothing
-failed, 1 if something did, and 2 if the tests cannot run. What tools/setup finds missing is installed first, or named
-if this user may not install it; the script tests/all does that.
+failed, 1 if something did, and 2 if the tests cannot run. If packages are missing, a line names them, and no test
+begins; with --install they are installed first. The script tests/all does that.
 """
+from __future__ import annotations
+
 import collections
 import ctypes
 import os
@@ -50,11 +53,11 @@ SECONDS = {"wrong-bodies": 90, "page": 70, "memory": 60, "questions": 50, "test_
            "test_package": 16, "test_console": 15, "underway": 15, "test_all": 14, "huge": 13, "test_shown": 12,
            "groups": 10, "test_poison": 10, "test_summary": 10, "fuzz": 9, "test_decisions": 9, "test_from_plan": 9,
            "run": 8, "test_build": 8, "test_reference": 8, "test_runs": 8, "test_sweeps": 8, "terminal": 7, "bell": 7,
-           "types": 7, "test_ends": 8, "test_curves": 7, "test_programs": 6, "test_report": 6, "test_settling": 6,
+           "types": 7, "test_older": 30, "test_programs": 30, "test_ends": 8, "test_curves": 7, "test_report": 6, "test_settling": 6,
            "test_sweep": 5, "test_types": 5, "test_arrivals": 4, "test_doors": 4}
 NOT_QUICK = ("wrong-bodies", "long", "test_clusters", "test_slurm", "test_picture", "memory", "late", "huge",
              "test_console", "test_package", "test_poison", "test_statistics", "test_decisions", "test_helps",
-             "test_shown", "page")
+             "test_shown", "test_older", "page")
 END_WITH_PARENT, SET_CHILD_SUBREAPER = 1, 36    # of prctl(2)
 LOOK_SECONDS, GRACE_SECONDS = 0.02, 3
 ENDING = (signal.SIGINT, signal.SIGTERM, signal.SIGHUP)

@@ -1,4 +1,6 @@
 """The scenarios that tools/bench measures; it imports them, and this is not a command."""
+from __future__ import annotations
+
 from collections.abc import Iterable, Iterator, Mapping
 
 HORIZON_MOST = 2_592_000_000

@@ -1,12 +1,15 @@
 """Makes bash completions from the help texts that helps.py reads. tools/package imports it; it is not a command."""
+from __future__ import annotations
+
 import re
 from collections import defaultdict
 from collections.abc import Mapping
+from typing import Optional
 
 import helps
 
 # Words and options by their kinds; those of None take nothing.
-Words = defaultdict[str | None, set[str]]
+Words = defaultdict[Optional[str], set[str]]
 
 OPTION = re.compile(r"(?<![\w-])(--[a-z][a-z-]*)(?: ([^\s\[\]]+))?")
 # What an option takes as prose names it; and what stands for a file.

@@ -15,15 +15,16 @@ its Lib.antt) and run `rt check` there: a case that the definitions do not meet 
 
 Each MD5 in the output is given by the body that has it, so that the checker need not compute it.
 """
+from __future__ import annotations
+
 import csv
 import hashlib
 import io
 import os
 import sys
-import tomllib
 from collections.abc import Iterable, Mapping, Sequence
 
-from rehearse_tools.console import Fault, Parser, check_output, ended, print_text, read_bytes, write_text
+from rehearse_tools.console import Fault, Parser, check_output, ended, print_text, read_bytes, toml_of, write_text
 
 OPEN = ("reading_on_literals running_on_literals columns_of")
 
@@ -69,7 +70,7 @@ def bodies(text: bytes) -> dict[str, bytes]:
     def add(body: bytes) -> None:
         found[hashlib.md5(body).hexdigest()] = body
 
-    for actor in tomllib.loads(text.decode("utf-8").lstrip("\ufeff")).get("actor", []):
+    for actor in toml_of(text.decode("utf-8").lstrip("\ufeff")).get("actor", []):
         if actor.get("kind") == "producer":
             for n in range(min(actor["count"], 2000)):
                 add(actor["body"].replace("{n}", str(n)).encode("utf-8"))

@@ -1,5 +1,7 @@
 """How the crates depend on one another, as crates.txt lists them, and when their sources were last changed. The tools
 import it; it is not a command."""
+from __future__ import annotations
+
 import os
 from collections.abc import Iterable, Mapping, Sequence
 

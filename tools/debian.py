@@ -19,7 +19,7 @@ Version: {version}
 Architecture: {architecture}
 Maintainer: {maintainer}
 Installed-Size: {size}
-{depends}Recommends: python3 (>= 3.11), python3-yaml, python3-matplotlib, python3-plotly, python3-scipy
+{depends}Recommends: python3 (>= 3.9), python3-yaml, python3-matplotlib, python3-plotly, python3-scipy
 Suggests: bash-completion, python3-distributed, python3-pandas
 Section: utils
 Priority: optional
@@ -61,10 +61,16 @@ NO_BYTECODE = f"""{SHELL}rm -rf "$DPKG_ROOT/{PLACE}/tools/rehearse_tools/__pycac
 SCRIPTS = {"preinst": NO_LINK, "prerm": NO_BYTECODE}
 
 
+def library_version(program: bytes) -> str:
+    """The version of the C library that a program needs, or nothing."""
+    versions = [(int(major), int(minor)) for major, minor in LIBRARY.findall(program)]
+    return "{}.{}".format(*max(versions)) if versions else ""
+
+
 def control(version: str, architecture: str, size: int, program: bytes) -> str:
     """The control file. `size` is in bytes; the program decides which C library the package depends on."""
-    versions = [(int(major), int(minor)) for major, minor in LIBRARY.findall(program)]
-    depends = "Depends: libc6 (>= {}.{})\n".format(*max(versions)) if versions else ""
+    needs = library_version(program)
+    depends = f"Depends: libc6 (>= {needs})\n" if needs else ""
     return CONTROL.format(version=version, architecture=architecture, size=-(-size // 1024), depends=depends,
                           maintainer=MAINTAINER)
 

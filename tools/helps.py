@@ -4,6 +4,8 @@ command.
 Empty lines separate the blocks. Commands are indented by four spaces; a line indented by eight continues the one above.
 A list has terms, each with its explanation after it, whose next lines keep its column. All else is a paragraph.
 """
+from __future__ import annotations
+
 import ast
 import os
 import re

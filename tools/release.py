@@ -1,5 +1,7 @@
 """Makes dist/: the program that was built, packed, and the manifest, which names what it was made from.
 tools/package imports it; it is not a command."""
+from __future__ import annotations
+
 import gzip
 import hashlib
 import io
@@ -22,6 +24,7 @@ kit {kit}
 sources {sources}
 program {program}
 """
+PAGE = os.path.join(DIST, "playground.html")
 
 
 def packed(data: bytes, moment: float = 0) -> bytes:
@@ -61,7 +64,18 @@ def manifest_of(data: bytes) -> bytes:
     """The manifest of a program that was built from the sources as they are."""
     return TEXT.format(packed=PACKED, version=read_text(os.path.join(TOP, "tools", "VERSION")).strip(),
                        kit=printed_by(["rt", "version"]).decode().strip(), program=sum_of(data),
-                       sources=sum_of(printed_by([os.path.join(TOP, "tools", "sources")]))).encode()
+                       sources=sum_of(printed_by([os.path.join(TOP, "tools", "sources")]))).encode() + page_line()
+
+
+def page_line() -> bytes:
+    """The line of the manifest that names the page of dist/, if there is one."""
+    return f"page {sum_of(read_bytes(PAGE))}\n".encode() if os.path.exists(PAGE) else b""
+
+
+def name_page() -> None:
+    """Names the page of dist/ in the manifest, as it is now."""
+    kept = [line for line in read_bytes(MANIFEST).splitlines(keepends=True) if not line.startswith(b"page ")]
+    write_bytes(MANIFEST, b"".join(kept) + page_line())
 
 
 def make(given: str | None) -> str:

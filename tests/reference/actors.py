@@ -1,4 +1,6 @@
 """Scripts, producers and consumers: what each does when it wakes, and when it wakes next."""
+from __future__ import annotations
+
 from collections.abc import Sequence
 from typing import Protocol
 

@@ -1,4 +1,6 @@
 """The keys of a scenario as the reader's code has them: each is read in one line, with its type, range and default."""
+from __future__ import annotations
+
 import os
 import re
 from collections.abc import Iterator

@@ -6,6 +6,8 @@ SOCKET is the number of an open socket. Each message is a tool's name, its words
 brings the three files that are its standard input, output and error. The answer is the tool's status. Each run is a
 process of its own: what it changes or imports is gone with it.
 """
+from __future__ import annotations
+
 import os
 import pickle
 import socket

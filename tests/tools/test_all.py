@@ -283,7 +283,7 @@ class Wants(Small):
 
     @unittest.skipUnless(os.geteuid() == 0, "this user may not install packages")
     def test_what_is_missing_is_installed(self):
-        words = "--only", "layers"
+        words = "--only", "layers", "--install"
         status, out, _ = self.run_all(*words, MISSING="gcc git")
         self.assertEqual((status, out[0]), (0, "tools/setup installs gcc git"))
         self.assertTrue(os.path.exists(self.path("installed")))
@@ -291,13 +291,19 @@ class Wants(Small):
         self.assertEqual(self.run_all(*words, MISSING="gcc git", SETUP_STATUS="1")[::2],
                          (2, "all: tools/setup could not install gcc git\n"))
 
+    def test_nothing_is_installed_unasked(self):
+        for words in (("--only", "layers"), ("--quick",), ()):
+            self.assertEqual(self.run_all(*words, MISSING="gcc git"), (
+                2, [], "all: packages are missing: tests/all --install installs them by apt-get: gcc git\n"))
+        self.assertFalse(os.path.exists(self.path("installed")))
+
     def test_what_is_missing_is_named_where_it_may_not_be_installed(self):
         self.write_script("bin/id", "#!/bin/sh\necho 1000\n")
         self.write_script("bin/sudo", "#!/bin/sh\nexit 1\n")
-        self.assertEqual(self.run_all("--only", "layers", MISSING="gcc git"), (
+        self.assertEqual(self.run_all("--install", "--only", "layers", MISSING="gcc git"), (
             2, [], "all: packages are missing: as root, apt-get install -y --no-install-recommends gcc git\n"))
         self.write_script("bin/sudo", "#!/bin/sh\n")
-        self.assertEqual(self.run_all("--only", "layers", MISSING="gcc git")[0], 0)
+        self.assertEqual(self.run_all("--only", "layers", "--install", MISSING="gcc git")[0], 0)
 
     def test_python_is_installed_too(self):
         os.remove(self.path("bin/python3"))
@@ -307,7 +313,7 @@ class Wants(Small):
         self.assertEqual(self.run_all("--help", **words), (2, [], "all: python3 is not on the PATH\n"))
         links = f"{shutil.which('ln')} -s {sys.executable} {self.path('bin/python3')}"
         self.write_script("tools/setup", f"#!/bin/sh\nif [ $# = 0 ]; then {links}; else echo python3; exit 1; fi\n")
-        status, out, _ = self.run_all("--only", "layers", **words)
+        status, out, _ = self.run_all("--install", "--only", "layers", **words)
         self.assertEqual((status, out[0], out[-1]), (0, "tools/setup installs python3", "1 passed, 0 failed"))
 
     def test_another_system_than_debian(self):

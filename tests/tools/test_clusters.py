@@ -1,4 +1,6 @@
 """Tests tools/sweep --cluster on a real Dask cluster of this machine, against the bytes of a sweep without one."""
+from __future__ import annotations
+
 import json
 import os
 import shutil

@@ -156,6 +156,48 @@ class Reading(ToolCase):
                              else rb"^$")
 
 
+class OnATerminal(ToolCase):
+    """No control character of a log, a scenario, a path or a word comes to a terminal, and all bytes to a pipe."""
+
+    def shown(self, name, *words):
+        """What a terminal gets that is standard output and error, and what pipes get."""
+        command = [sys.executable, os.path.join(TOOLS, name), *words]
+        reader, writer = pty.openpty()
+        process = subprocess.Popen(command, stdin=subprocess.DEVNULL, stdout=writer, stderr=writer, cwd=self.folder)
+        os.close(writer)
+        text = read_whole(reader).replace(b"\r\n", b"\n").decode()
+        process.wait(LIMIT)
+        piped = subprocess.run(command, stdin=subprocess.DEVNULL, capture_output=True, cwd=self.folder)
+        return text, (piped.stdout + piped.stderr).decode()
+
+    def test_a_log(self):
+        """Escapes of a foreign log, also those that erase, and the character that turns the order of letters."""
+        name = "o\x1b[31mr\x1b[2J\u202ed\x9b"
+        self.write("run.log", LOG_HEADER.decode() + f"0,{name},shop,send,new,m-0-0,,x\n5,{name},a,receive,ok,m-0-0,"
+                   "r-0-0-1,o-0-0\n")
+        for words in (["life", "run.log", "--worst"], ["life", "run.log", "o-0-0"], ["metrics", "run.log"]):
+            with self.subTest(words=words):
+                text, piped = self.shown(*words)
+                self.assertIn("o\\x1b[31mr\\x1b[2J\\u202ed\\x9b", text)
+                text = re.sub("\r[^\n]*?\x1b\\[K", "", text)
+                self.assertEqual(re.findall("[\x00-\x08\x0b-\x1f\x7f-\x9f\u202e]", text), [])
+                self.assertIn(name, piped)
+
+    def test_what_is_long(self):
+        self.write("run.log", LOG_HEADER.decode() + f"0,{'q' * 50_000},shop,send,new,m-0-0,,x\n")
+        text, piped = self.shown("life", "run.log", "o-0-0")
+        self.assertIn("q" * 50_000, piped)
+        self.assertTrue("q\u2026\n" in text and max(map(len, text.split("\n"))) <= 4_001)
+        text, piped = self.shown("summary", "n" * 5_000)
+        self.assertTrue("n" * 5_000 in piped and len(text) < 1_100, text)
+
+    def test_a_path_and_a_quoted_line(self):
+        self.assertIn("cannot read \\x1b[31m: ", self.shown("summary", "\x1b[31m")[0])
+        self.write("s.toml", 'version = 1\nhorizon = 1\nspeed = "\u202e" # \x9b\n[[queue]]\nname = "q"\n')
+        text = self.shown("explain", "s.toml")[0]
+        self.assertNotRegex(text, "[\u202e\x9b]")
+
+
 class Writing(ToolCase):
     def test_special_files_are_written_and_stay(self):
         write_text("/dev/null", "x")

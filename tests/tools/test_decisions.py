@@ -155,7 +155,7 @@ class Decisions(ToolCase):
                  "q.sends<1 in 95%: a share of runs goes with --spread"),
                 ((*spread, "--require", "q.sends<1 in 0%"), "q.sends<1 in 0% is no requirement, as orders.age_p95<60s"),
                 ((*spread, "--require", "q.sends<1 in 100%"),
-                 "q.sends<1 in 100%: 1 in 100% is not a number without a unit"),
+                 "q.sends<1 in 100%: a share of the runs is under 100 %; without `in` it must hold in all"),
                 (spread[:2] + ("--against", "seed=1"), "--against goes with --spread (--help tells the usage)"),
                 ((*spread, "--against", "seed=1"), "--against seed=1: seed is no setting that is varied"),
                 ((*spread, "--against", "horizon=1"), "--against horizon=1: horizon is no setting that is varied"),

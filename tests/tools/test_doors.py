@@ -1,4 +1,6 @@
 """Tests the ages since the first send: by logs written by hand, and by the bodies of messages in random chains."""
+from __future__ import annotations
+
 import csv
 import hashlib
 import io

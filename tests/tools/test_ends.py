@@ -1,4 +1,6 @@
 """Tests that a program ends with the tool that started it, whatever ends the tool, and that nothing of it is left."""
+from __future__ import annotations
+
 import os
 import select
 import signal

@@ -5,10 +5,10 @@ import io
 import os
 import subprocess
 import sys
-import tomllib
 import unittest
 
 from tool import PROGRAM, ROOT, TOOLS, ToolCase, module_of, needs_program
+from rehearse_tools.console import toml_of
 from rehearse_tools.positions import Positions
 
 TOP = "version = 1\nhorizon = 60000\n"
@@ -98,7 +98,7 @@ PAIR = "It is a pair [permille, ms]. The first permille is 0 and the last 1,000;
 REASONS_OF_3 = (
     (NEW, "14 OutOfRange at version", "1:11",
      "version is 3. It is a preview, which is read only for the word --preview."),
-    (NEW.replace("= 3\n", "= 4\n", 1), "14 OutOfRange at version", "1:11", "version is 4. It has 1 to 3."),
+    (NEW.replace("= 3\n", "= 4\n", 1), "14 OutOfRange at version", "1:11", "version is 4. It is 1 or 2, or 3, a preview, for the word --preview."),
     (SERVED.replace("= 3\n", "= 2\n", 1) + "heartbeat_s = 5\n", "11 UnknownKey at actor[0].heartbeat_s", "11:1",
      "heartbeat_s is a key of version 3; version 2 has no such key."),
     (SERVED.replace("= 3\n", "= 1\n", 1) + "latency_max_ms = 5\n", "11 UnknownKey at actor[0].latency_max_ms", "11:1",
@@ -289,8 +289,8 @@ class Places(unittest.TestCase):
             with open(path, encoding="utf-8", errors="replace", newline="") as file:
                 text = file.read()
             try:
-                read = tomllib.loads(text.removeprefix("\ufeff"))
-            except tomllib.TOMLDecodeError:
+                read = toml_of(text.removeprefix("\ufeff"))
+            except ValueError:
                 continue
             found = Positions(text)
             for key, value in paths_in(read):

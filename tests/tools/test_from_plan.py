@@ -7,11 +7,10 @@ import os
 import random
 import subprocess
 import sys
-import tomllib
 import unittest
 
 from tool import PROGRAM, ROOT, TOOLS, ToolCase, module_of, needs_program
-from rehearse_tools.console import Fault
+from rehearse_tools.console import Fault, toml_of
 
 ARN = "arn:aws:sqs:eu-central-1:123456789012:"
 
@@ -265,12 +264,39 @@ class FromPlan(ToolCase):
         """The scenario that is made of a stored plan, and what standard error reports."""
         status, out, err = self.run_tool("from-plan", os.path.join(HERE, "plans", name))
         self.assertEqual(status, 0, err)
-        return tomllib.loads(out), err
+        return toml_of(out), err
 
     def dead_letters(self, scenario):
         """For each queue with a dead-letter queue its name and after how many receives."""
         return {queue["name"]: (queue["dead_letter"], queue["max_receives"]) for queue in scenario["queue"]
                 if "dead_letter" in queue}
+
+    def test_the_instance_of_a_key_or_a_number(self):
+        """module.sqs[each.key].queue_arn is of the instance that has the key of the resource, and of its queue, not of
+        its dead-letter queue; module.sqs[count.index] is that of the number. Without that instance nothing is taken."""
+        for keys, by in (('"orders"', '"mail"'), "each.key"), (("0", "1"), "count.index"):
+            names = [f"q{number}" for number in range(2)]
+            modules = [{"address": f"module.sqs[{key}]", "resources": [
+                resource(f"module.sqs[{key}].aws_sqs_queue.this", name=name, redrive_policy=json.dumps(
+                    {"deadLetterTargetArn": f"arn:aws:sqs:x:1:{name}-dead", "maxReceiveCount": 3})),
+                resource(f"module.sqs[{key}].aws_sqs_queue.dead", name=f"{name}-dead")]}
+                for key, name in zip(keys, names)]
+            wired = [resource(f"{kind}.it[{key}]", of=kind, **more) for key in (*keys, '"none"') for kind, more in (
+                ("aws_lambda_event_source_mapping", {"function_name": f"f{key}".replace('"', "")}),
+                ("aws_sns_topic_subscription", {"protocol": "sqs", "topic_arn": f"t{key}".replace('"', "")}))]
+            found = [configured("aws_lambda_event_source_mapping.it", event_source_arn=["module.sqs", by]),
+                     configured("aws_sns_topic_subscription.it", endpoint=["module.sqs", by])]
+            text = json.dumps({"planned_values": {"root_module": {"resources": wired, "child_modules": modules}},
+                               "configuration": {"root_module": {"resources": found, "module_calls": {"sqs": {
+                                   "module": {"resources": [], "outputs": {}}}}}}})
+            status, out, err = self.run_tool("from-plan", self.write("given", text))
+            self.assertEqual(status, 0, err)
+            actors = {actor["name"]: actor["queue"] for actor in toml_of(out)["actor"]}
+            for key, name in zip(keys, names):
+                short = key.replace('"', "")
+                taken = {queue for actor, queue in actors.items() if actor.startswith((f"f{short}", f"t{short}"))}
+                self.assertEqual(taken, {name}, actors)
+            self.assertEqual(err.count('it["none"] is left out'), 2, err)
 
     def test_modules_with_for_each_whose_resources_have_count(self):
         """max_receives is what main.tf says, but for audit, pay and ship, whose number the plan does not have."""
@@ -316,7 +342,7 @@ class FromPlan(ToolCase):
         path = os.path.join(HERE, "plans", "wiring", "plan.json")
         without, plain_err = self.stored("wiring/plan.json")
         status, out, err = self.run_tool("from-plan", path, "--preview")
-        scenario = tomllib.loads(out)
+        scenario = toml_of(out)
         self.assertEqual((status, scenario["version"], without["version"]), (0, 3, 1))
         self.assertIn("here each message fails by itself, and with --preview its batch does\n", plain_err)
         self.assertIn("# Version 3 is a preview: run this with --preview.\n", out)
@@ -357,11 +383,11 @@ class FromPlan(ToolCase):
 
     def test_sam_and_conditions(self):
         """By the parameter Stage the queue Extra is there, and the visibility timeout of Jobs is given."""
-        made = tomllib.loads(self.made(SAM))
+        made = toml_of(self.made(SAM))
         self.assertEqual([(queue["name"], queue.get("visibility_s")) for queue in made["queue"]], [("Jobs", None)])
         self.assertEqual([(actor["name"], actor["queue"], actor.get("batch")) for actor in made["actor"]],
                          [("News-to-Jobs", "Jobs", None), ("Work-1", "Jobs", 4), ("Work-2", "Jobs", 4)])
-        made = tomllib.loads(self.made(SAM, "--parameter", "Stage=prod"))
+        made = toml_of(self.made(SAM, "--parameter", "Stage=prod"))
         self.assertEqual([(queue["name"], queue.get("visibility_s")) for queue in made["queue"]],
                          [("Jobs", 90), ("Extra", 70)])
         self.assertEqual([(actor["name"], actor["queue"], actor.get("batch")) for actor in made["actor"][3:]],

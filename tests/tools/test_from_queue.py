@@ -2,10 +2,10 @@
 import json
 import os
 import subprocess
-import tomllib
 import unittest
 
 from tool import PROGRAM, ToolCase, needs_program
+from rehearse_tools.console import toml_of
 
 ARN = "arn:aws:sqs:eu-central-1:123456789012:"
 ORDERS = {
@@ -96,7 +96,7 @@ class FromQueue(ToolCase):
         report = dict(zip(records[0], next(record for record in records if record[1] == "orders")))
         self.assertEqual([report[key] for key in ("sends", "visible", "delayed")], ["2508", "2501", "7"])
         with open(self.path("s.toml"), "rb") as file:
-            actors = tomllib.load(file)["actor"]
+            actors = toml_of(file.read().decode())["actor"]
         self.assertEqual([(actor["name"], actor["count"], actor.get("delay_s")) for actor in actors],
                          [("orders-depth-1", 834, 0), ("orders-depth-2", 834, 0), ("orders-depth-3", 833, 0),
                           ("orders-depth-delayed-1", 7, None)])

@@ -1,5 +1,7 @@
 """Tests the columns of a sweep that no report has: by a log written by hand, by random scenarios against the report and
 the summary, and by the program."""
+from __future__ import annotations
+
 import io
 import json
 import math
@@ -38,7 +40,8 @@ TEXT = ended(HEADER + ROWS, "final,a,m-0-3,o-0-3,visible,,9000,0,,x\n")
 def found_in(text: str, counting: Counting) -> tuple[dict[str, dict[str, str]], dict[str, Ages]]:
     """By queue the further columns that are counted in what a run prints, and the ages."""
     records, ages = reported(io.StringIO(text), counting)
-    return {name: dict(zip(ALL_COLUMNS, numbers, strict=True)) for name, *numbers in records}, ages
+    assert all(len(record) == 1 + len(ALL_COLUMNS) for record in records)
+    return {name: dict(zip(ALL_COLUMNS, numbers)) for name, *numbers in records}, ages
 
 
 class ByHand(ToolCase):

@@ -3,6 +3,7 @@ dist/ is made of a stand-in; manual pages and completions are made of a help tex
 import glob
 import gzip
 import hashlib
+import json
 import os
 import pathlib
 import re
@@ -46,7 +47,7 @@ class PackageCase(ToolCase):
     def package(self, program):
         status, out, err = self.run_tool("package", "--program", program, "--output", "made")
         self.assertEqual((status, err), (0, ""))
-        return [self.path(line) for line in out.splitlines()]
+        return [self.path(line) for line in out.splitlines()[:2]]
 
     def dpkg(self, *words):
         """Runs dpkg on a root of its own, in which the package's scripts find no shell."""
@@ -79,7 +80,7 @@ class Package(PackageCase):
         words = ["--program", ECHO, "--output", folder.name]
         run = subprocess.run([sys.executable, f"{TOOLS}/package", *words], text=True, capture_output=True)
         assert (run.returncode, run.stderr) == (0, ""), run.stderr
-        cls.made, cls.packed = run.stdout.splitlines()
+        cls.made, cls.packed, cls.bill = run.stdout.splitlines()
 
 
     def test_what_is_in_it(self):
@@ -109,6 +110,29 @@ class Package(PackageCase):
                          pathlib.Path(ECHO).read_bytes())
         self.check_documents(f"{root}/usr/share/doc/sqs-rehearse")
         self.check_help(f"{root}/usr")
+
+        self.assertEqual(pathlib.Path(f"{root}/usr/lib/sqs_rehearse/dist/playground.html").read_bytes(),
+                         pathlib.Path(ROOT, "dist", "playground.html").read_bytes())
+        self.assertTrue(os.path.exists(f"{root}/usr/share/doc/sqs-rehearse/dist/playground.html"))
+
+    def test_the_bill(self):
+        """It names the program and the page by their checksums, each crate and each library of the kit, and no test."""
+        with open(self.bill, encoding="utf-8") as file:
+            bill = json.load(file)
+        whole, parts = bill["metadata"]["component"], {part["name"]: part for part in bill["components"]}
+        self.assertEqual((bill["bomFormat"], whole["name"]), ("CycloneDX", "sqs_rehearse"))
+        for part, path in ((whole, ECHO), (parts["dist/playground.html"], f"{ROOT}/dist/playground.html")):
+            self.assertEqual(part["hashes"], [
+                {"alg": "SHA-256", "content": hashlib.sha256(pathlib.Path(path).read_bytes()).hexdigest()}])
+        lines = pathlib.Path(ROOT, "crates.txt").read_text().splitlines()
+        named = {word for line in lines if line.startswith(("sim_scenario", "sqs_rehearse"))
+                 for word in line.partition("#")[0].partition(":")[2].split()}
+        self.assertEqual(named - set(parts), set())
+        self.assertTrue("toml" in parts and "sim_scenario" in parts)
+        self.assertFalse(any(name.startswith("test_") for name in parts))
+        refs = [part["bom-ref"] for part in bill["components"]]
+        self.assertEqual(len(set(refs)), len(refs))
+        self.assertLessEqual(set(bill["dependencies"][0]["dependsOn"]), set(refs))
 
     def check_tools(self, root):
         """The package of the tools is whole, without what Python keeps; `sqs_rehearse TOOL` is sqs_rehearse-TOOL."""
@@ -289,11 +313,27 @@ class Dist(PackageCase):
         self.assertEqual(self.make("--program", ECHO)[0], 0)
         self.assertEqual(self.made(), made)
 
+    def test_the_manifest_names_the_page(self):
+        """The one that is there, and then the one that tools/page makes."""
+        for name in ("page", "examples", "docs"):
+            os.symlink(os.path.join(ROOT, name), self.path(name))
+        os.mkdir(self.path("dist"))
+        for made in (self.make, lambda: self.run_in(self.folder, self.path("tools/page"), "--module", f"{ROOT}/dist/"
+                                                    "playground.html")):
+            if made == self.make:
+                self.write("dist/playground.html", "page")
+            self.assertEqual(made()[0], 0)
+            page = pathlib.Path(self.path("dist/playground.html")).read_bytes()
+            lines = self.made()["manifest"].decode().splitlines()
+            self.assertEqual([line for line in lines if line.startswith("page ")],
+                             [f"page {hashlib.sha256(page).hexdigest()}"])
+        self.assertGreater(len(page), 100_000)
+
     def test_the_manifest_goes_with_its_program(self):
         """And a licence, once there is one, with all."""
         self.make()
         self.write("LICENSE", "Do as you like.\n\nNo warranty.\n")
-        for name in ("docs", "examples", "README.md", "sqs_rehearse"):
+        for name in ("docs", "examples", "README.md", "SECURITY.md", "CHANGELOG.md", "sqs_rehearse", "crates.txt"):
             os.symlink(os.path.join(ROOT, name), self.path(name))
         for program, is_there in ((ECHO, True), (shutil.which("true"), False)):
             folder = self.path(os.path.basename(program))

@@ -3,20 +3,37 @@ import gzip
 import hashlib
 import os
 import pathlib
+import pty
 import shutil
 import signal
 import subprocess
 import sys
+import tty
 import unittest
 
-from tool import LIMIT, ROOT, ToolCase, module_of, wait_for
+from tool import LIMIT, PROGRAM as PROVED, ROOT, ToolCase, module_of, needs_program, read_whole, wait_for
 
 BUILD_IT = "./sqs_rehearse --build builds it"
 NO_DIST = f"the program is not built yet, and dist/ has no program: {BUILD_IT}"
 OTHER_SOURCES = f"the program is not built yet, and dist/ has the program of other sources: {BUILD_IT}"
+NO_PAGE = "note: dist/manifest does not name the page: tools/page --module dist/playground.html has it named"
 NO_LOG = "cannot write {}: it is the file that is read as {}, and is to stay"
 # In the place of the program: it prints its own name and its words.
 PROGRAM = '#!/bin/sh\necho {} "$@"\n'
+# The same with control characters in a row, and in the refusal that follows: a command for a terminal, a carriage
+# return, two characters that a terminal obeys, a line end and a long key.
+HOSTILE_ROW = b"0,q,\x1b[31m\tr\xc3\xa9d\r\xe2\x80\xae\n"
+HOSTILE_FAULT = b"refused 11 UnknownKey at \x1b]52;c;eA==\x07\xc2\x9b\nrefused 15 BadName at " + 2000 * b"k" + b"\n"
+HOSTILE = """#!/bin/sh
+if [ -t 2 ]; then exit 9; fi
+printf '0,q,\\033[31m\\tr\\303\\251d\\r\\342\\200\\256\\n'
+printf 'refused 11 UnknownKey at \\033]52;c;eA==\\007\\302\\233\\nrefused 15 BadName at %s\\n' {} >&2
+exit 3
+""".format(2000 * "k")
+# In the place of uname and node, on another machine.
+OTHER_MACHINE = {"OSTYPE": "darwin23", "HOSTTYPE": "arm64"}
+UNAME, NODE_NOTE = "#!/bin/sh\necho Darwin arm64\n", (
+    "sqs_rehearse: Node runs the proved module of dist/playground.html here, on one thread\n")
 # In the place of tools/build: it makes a program and goes on as the command that follows.
 BUILD = """#!/bin/bash
 echo build >> "$CALLS"
@@ -70,8 +87,9 @@ class WrapperCase(ToolCase):
         return sums[1]
 
     def cached(self):
-        """The files below the folder of the unpacked programs."""
-        return [path for path in pathlib.Path(self.path("home")).rglob("*") if path.is_file()]
+        """The files below the folder of the unpacked programs, but for what is noted of them."""
+        found = pathlib.Path(self.path("home")).rglob("*")
+        return [path for path in found if path.is_file() and path.parent.name != "checked"]
 
     def run_it(self, *words, program="sqs_rehearse", **more):
         ran = subprocess.run([self.path(program), *words], env={**self.environment, **more}, text=True,
@@ -145,7 +163,8 @@ class Dist(WrapperCase):
         sum_of_it = self.make_dist()
         status, out, err = self.run_it("run", "x.toml")
         self.assertEqual((status, out), (0, "packed run x.toml\n"))
-        self.assertRegex(err, r"^sqs_rehearse: this runs the proved program of dist/, version 1\.2, [^\n]*\n$")
+        self.assertEqual(err, "sqs_rehearse: this runs the proved program of dist/, version 1.2; dist/manifest names it "
+                              "as built from these sources, and ./sqs_rehearse --verify builds it anew and compares\n")
         self.assertEqual(self.run_it("run", "x.toml"), (0, "packed run x.toml\n", ""))
         place = self.path(f"home/.cache/sqs_rehearse/{sum_of_it[:16]}/sqs_rehearse")
         self.assertEqual(self.run_it("--where"), (0, place + "\n", ""))
@@ -223,12 +242,132 @@ class Dist(WrapperCase):
                             f"sqs_rehearse-{os.geteuid()} cannot be written; XDG_CACHE_HOME names another folder",
                             XDG_CACHE_HOME="/dev/null", TMPDIR="/dev/null")
 
+    def test_folders_that_others_may_write(self):
+        """They are not used, whatever is in them: neither the program's own nor the one around it."""
+        sum_of_it = self.make_dist()
+        self.run_it("run")
+        own, place = self.path("home/.cache/sqs_rehearse"), f"home/.cache/sqs_rehearse/{sum_of_it[:16]}"
+        for folder, mode in ((own, 0o777), (own, 0o770), (self.path(place), 0o702)):
+            os.chmod(folder, mode)
+            self.assertEqual(self.run_it("--where")[1], self.path(
+                f"tmp/sqs_rehearse-{os.geteuid()}/{sum_of_it[:16]}/sqs_rehearse\n"))
+            refused = f"the program of dist/ cannot be unpacked: {folder} is not this user's alone; XDG_CACHE_HOME " \
+                      "names another folder"
+            self.assert_refused(["run"], refused, TMPDIR="/dev/null")
+            os.chmod(folder, 0o700)
+            self.assertEqual(self.run_it("--where")[1], self.path(f"{place}/sqs_rehearse\n"))
+        shutil.rmtree(self.path(f"tmp/sqs_rehearse-{os.geteuid()}"))
+        self.cached()[0].chmod(0o707)
+        self.assertEqual(self.run_it("run")[:2], (0, "packed run\n"))
+        self.assertEqual(self.cached()[0].stat().st_mode & 0o777, 0o700)
+
+    def test_what_was_checked_is_what_runs(self):
+        """A file that takes the place of the program once its checksum is taken does not run."""
+        sum_of_it = self.make_dist()
+        place = self.path(f"home/.cache/sqs_rehearse/{sum_of_it[:16]}/sqs_rehearse")
+        self.make_program("other", PROGRAM.format("other"))
+        self.make_program("kit/sha256sum", f'#!/bin/sh\n/usr/bin/sha256sum "$@"\n'
+                                           f'if [ -e {place} ]; then cp -p {self.path("other")} {place}.new; '
+                                           f'mv {place}.new {place}; fi\n')
+        for _ in range(3):
+            self.assertEqual(self.run_it("run")[:2], (0, "packed run\n"))
+        self.assertEqual(pathlib.Path(place).read_text(), PROGRAM.format("other"))
+
+    def make_checked(self):
+        """Runs the program until it is noted that all was checked, and gives how often checksums were taken by then."""
+        self.make_dist()
+        self.make_program("kit/sha256sum", '#!/bin/sh\necho sum >> "$CALLS"; exec /usr/bin/sha256sum "$@"\n')
+        checked = pathlib.Path(self.path("home/.cache/sqs_rehearse/checked"))
+        shutil.rmtree(checked, ignore_errors=True)
+        wait_for(lambda: self.run_it("run")[:2] == (0, "packed run\n") and list(checked.glob("*.list")))
+        return len(self.calls())
+
+    def test_checksums_are_kept(self):
+        """They are taken once, and again after each change: also of a file that keeps its size and its time."""
+        for what, change in (
+                ("a text", lambda path: self.write(path, "sim_b")), ("a file is new", lambda path: self.write(
+                    f"{path}.rt", "")), ("a file is gone", lambda path: os.remove(self.path(path))),
+                ("a folder is new", lambda path: os.mkdir(self.path("crates/sim_a/specs")) or self.write(
+                    "crates/sim_a/specs/A.antt", ""))):
+            with self.subTest(what):
+                self.write("crates/sim_a/src/lib.rt", "sim_a")
+                before = self.make_checked()
+                self.assertEqual(self.run_it("run"), (0, "packed run\n", ""))
+                self.assertEqual(len(self.calls()), before)
+                path = self.path("crates/sim_a/src/lib.rt")
+                times = os.stat(path).st_atime_ns, os.stat(path).st_mtime_ns
+                change("crates/sim_a/src/lib.rt")
+                if os.path.exists(path):
+                    os.utime(path, ns=times)
+                self.assert_refused(["run"], OTHER_SOURCES, SQS_REHEARSE_BUILD="never")
+                shutil.rmtree(self.path("crates/sim_a"))
+                os.makedirs(self.path("crates/sim_a/src"))
+
+    def test_a_changed_program_is_seen(self):
+        self.make_checked()
+        path, = self.cached()
+        times = path.stat().st_atime_ns, path.stat().st_mtime_ns
+        path.write_text(path.read_text().replace("packed", "forged"))
+        os.utime(path, ns=times)
+        self.assertEqual(self.run_it("run")[:2], (0, "packed run\n"))
+        path.chmod(0o600)
+        self.assertEqual(self.run_it("run")[:2], (0, "packed run\n"))
+
+    def test_what_is_noted_is_of_this_checkout(self):
+        """Another checkout of other sources does not take the place of this one."""
+        self.make_checked()
+        other = self.path("other")
+        for name in ("dist", "tools", "crates"):
+            shutil.copytree(self.path(name), f"{other}/{name}")
+        for name in ("sqs_rehearse", "crates.txt"):
+            shutil.copy(self.path(name), other)
+        self.write("other/crates/sim_a/src/lib.rt", "other")
+        ran = subprocess.run([f"{other}/sqs_rehearse", "run"], env={**self.environment, "SQS_REHEARSE_BUILD": "never"},
+                             capture_output=True, text=True)
+        self.assertEqual((ran.returncode, ran.stderr), (2, f"sqs_rehearse: {OTHER_SOURCES}\n"))
+        before = len(self.calls())
+        self.assertEqual(self.run_it("run"), (0, "packed run\n", ""))
+        self.assertEqual(len(self.calls()), before)
+
+    def test_sources_that_cannot_be_read(self):
+        """The line says what is wrong, and nothing is built."""
+        self.make_dist()
+        self.make_program("kit/sha256sum", '#!/bin/sh\nif [ $# = 0 ]; then exec /usr/bin/sha256sum; fi\n'
+                                           'echo "sha256sum: $1: Permission denied" >&2; exit 1\n')
+        self.assert_refused(["run"], "the sources cannot be read: sha256sum: crates/sim_a/src/lib.rt: Permission "
+                            "denied")
+        self.assertEqual(self.calls(), [])
+
+    def test_few_descriptors(self):
+        """It runs with a dozen of them once all was checked. Before that, and if none is left, the line says it."""
+        self.make_checked()
+        for few, held, changed, said in (
+                (12, "", False, ""),
+                (40, "3<&0 4<&0 5<&0 6<&0 7<&0 8<&0 9<&0", False, "the program cannot be opened: too few file "
+                 "descriptors are left"),
+                (20, "", True, "the sources cannot be read: sources: it opens up to 32 files at once, and 20 are "
+                 "allowed (ulimit -n)")):
+            if changed:
+                os.utime(self.path("crates.txt"))
+            ran = subprocess.run(["bash", "-c", f'ulimit -n {few}; exec "$0" run {held}', self.path("sqs_rehearse")],
+                                 env=self.environment, stdin=subprocess.DEVNULL, capture_output=True, text=True)
+            wanted = (2, f"sqs_rehearse: {said}\n") if said else (0, "")
+            self.assertEqual((ran.returncode, ran.stderr), wanted)
+        os.remove(self.path("calls"))
+        self.assertEqual(self.calls(), [])
+
+    def test_options_of_the_shell_that_calls(self):
+        self.make_dist()
+        for options in ("noclobber", "noglob", "noclobber:noglob"):
+            self.assertEqual(self.run_it("run", SHELLOPTS=options)[:2], (0, "packed run\n"))
+            shutil.rmtree(self.path("home/.cache"))
+
     def test_a_folder_of_somebody_else(self):
         self.make_dist()
         os.mkdir(self.path("other"))
         os.symlink(self.path("other"), self.path(f"tmp/sqs_rehearse-{os.geteuid()}"))
         self.assertEqual(self.run_it("run", HOME="")[0], 2)
-        self.assertEqual([path for path in pathlib.Path(self.path("other")).rglob("*") if path.is_file()], [])
+        self.assertEqual(list(pathlib.Path(self.path("other")).rglob("*")), [])
 
     def test_a_program_that_does_not_run(self):
         self.make_dist("#!/bin/sh\necho libc is missing >&2\nexit 1\n")
@@ -270,6 +409,142 @@ class Dist(WrapperCase):
         self.assert_refused(["--verify", "x"], "--verify stands alone")
 
 
+class Terminals(WrapperCase):
+    """What the program prints is shown on a terminal without a control character, and goes elsewhere as it is."""
+
+    def setUp(self):
+        super().setUp()
+        self.make_program("crates/sqs_rehearse/out/sqs_rehearse", HOSTILE)
+        self.write("plain.toml", 'version = 1 # caf\u00e9\n"a b" = "c\\\\d"\n')
+
+    def shown(self, *words, out=True, err=True):
+        """The status, what a terminal gets, and what pipes get; standard output and error are the one or the other."""
+        reader, writer = pty.openpty()
+        tty.setraw(writer)
+        process = subprocess.Popen([self.path("sqs_rehearse"), *words], env=self.environment, stdin=subprocess.DEVNULL,
+                                   stdout=writer if out else subprocess.PIPE, stderr=writer if err else subprocess.PIPE)
+        os.close(writer)
+        text = read_whole(reader)
+        piped = [said or b"" for said in process.communicate(timeout=LIMIT)]
+        return process.returncode, text, *piped
+
+    def test_control_characters(self):
+        row = "0,q,\\u001b[31m\tr\u00e9d\\u000d\\u202e\n".encode()
+        fault = b"refused 11 UnknownKey at \\u001b]52;c;eA==\\u0007\\u009b\\nrefused 15 BadName at "
+        for words, out, err, status, wanted in (
+                (["run"], True, True, 3, (row, fault, b"", b"")),
+                (["run"], False, True, 3, (b"", fault, HOSTILE_ROW, b"")),
+                (["run", "plain.toml"], True, False, 3, (row, b"", b"", HOSTILE_FAULT)),
+                (["run"], False, False, 3, (b"", b"", HOSTILE_ROW, HOSTILE_FAULT))):
+            with self.subTest(words=words, out=out, err=err):
+                ended, text, *piped = self.shown(*words, out=out, err=err)
+                self.assertEqual((ended, piped), (status, list(wanted[2:])))
+                self.assertTrue(text.startswith(wanted[0] + wanted[1]), text)
+                rest = text[len(wanted[0] + wanted[1]):]
+                is_cut = rest.endswith("k\u2026\n".encode()) and len(rest) < 1000
+                self.assertTrue(is_cut if wanted[1] else not rest, rest)
+
+    def test_progress_is_shown_beside_what_is_plain(self):
+        """The program still sees a terminal, if neither the words nor their files have what could do harm."""
+        self.assertEqual(self.shown("run", "--log", "x", self.path("plain.toml"))[:2], (9, b""))
+        for text in ('"\\u001b" = 1\n', "'a\u009b' = 1\n", '[["a\\nb"]]\n', '{"\\u0007".a = 1}\n', "a\x1b\n",
+                     "k" * 2000 + " = 1\n", "'\u202e' = 1\n", '"\\\\" = 1\n'):
+            with self.subTest(text=text):
+                self.assertEqual(self.shown("run", "--log", "x", self.write("s.toml", text))[0], 3)
+        self.assertEqual(self.shown("run", "--log", "x", "\x1b[31m")[0], 3)
+
+    def test_a_line_of_the_script_itself(self):
+        name = "\x1b[31m.toml"
+        self.write(name, "")
+        status, text, *_ = self.shown("run", "--log", self.path(name), self.path(name))
+        self.assertEqual((status, b"\x1b" in text, b"\\u001b[31m.toml: it is the file" in text), (2, False, True), text)
+
+
+class ByNode(WrapperCase):
+    """On another machine Node runs the module of the page."""
+
+    def setUp(self):
+        super().setUp()
+        self.make_program("kit/uname", UNAME)
+        shutil.copytree(os.path.join(ROOT, "page"), self.path("page"))
+        shutil.copy(os.path.join(ROOT, "dist", "playground.html"), self.path("dist"))
+        self.make_dist()
+
+    def run_there(self, *words, stdin=b"", **more):
+        ran = subprocess.run([self.path("sqs_rehearse"), *words], cwd=self.folder, capture_output=True, input=stdin,
+                             env={**self.environment, **OTHER_MACHINE, **more})
+        return ran.returncode, ran.stdout, ran.stderr.decode()
+
+    def test_without_node(self):
+        needed = "the program of dist/ is for Linux on x86-64, and this is Darwin arm64: Node 18 or later runs the " \
+                 "module of dist/playground.html in its place, and node is "
+        for text, told in (("exit 127", "not on the PATH"), ("echo v16.20.1", "v16.20.1")):
+            self.make_program("kit/node", f"#!/bin/sh\n{text}\n")
+            for words in (["run"], ["--where"]):
+                self.assertEqual(self.run_there(*words), (2, b"", f"sqs_rehearse: {needed}{told}\n"))
+
+    @unittest.skipUnless(shutil.which("node"), "node is not here")
+    def test_stored_cases(self):
+        """A tenth of the stored cases of versions 1 and 2, by their outputs and statuses."""
+        cases = sorted(path for path in pathlib.Path(ROOT, "tests", "cases").glob("*/*.toml")
+                       if not path.parent.name.endswith("-3"))
+        self.assertGreater(len(cases), 200)
+        for path in cases[::10]:
+            with self.subTest(case=path.name):
+                stored = {kind: path.with_suffix(f".{kind}") for kind in ("out", "err", "status")}
+                out, err, status = (it.read_bytes() if it.exists() else b"" for it in stored.values())
+                self.assertEqual(self.run_there("run", stdin=path.read_bytes()),
+                                 (int(status or b"0"), out, NODE_NOTE + err.decode()))
+
+    @unittest.skipUnless(shutil.which("node"), "node is not here")
+    def test_words(self):
+        place = os.path.realpath(self.path("page/node.mjs"))
+        self.assertEqual(self.run_there("--where"), (0, place.encode() + b"\n", ""))
+        for words, status, line in ((["run", "none"], 1, "cannot read none"), (["run", "--log", "x/y", "s.toml"], 4,
+                                    "refused 36 Write"), (["check", "--preview", "s.toml"], 2, "sqs_rehearse: the "
+                                    "page's module reads versions 1 and 2, and takes no --preview")):
+            shutil.copy(os.path.join(ROOT, "examples", "first.toml"), self.path("s.toml"))
+            self.assertEqual(self.run_there(*words), (status, b"", f"{NODE_NOTE}{line}\n"))
+        self.assertEqual(self.run_there("run", "--bogus")[0], 2)
+        self.assertEqual(self.run_there("compare", "s.toml")[0], 2)
+
+    @unittest.skipUnless(shutil.which("node"), "node is not here")
+    def test_damage_and_other_sources(self):
+        sum_of = hashlib.sha256(pathlib.Path(self.path("dist/playground.html")).read_bytes()).hexdigest()
+        manifest = pathlib.Path(self.path("dist/manifest"))
+        scenario = pathlib.Path(ROOT, "examples", "first.toml").read_bytes()
+        manifest.write_text(manifest.read_text() + f"page {sum_of}\n")
+        self.assertEqual(self.run_there("check", stdin=scenario)[0], 0)
+        with open(self.path("dist/playground.html"), "a", encoding="utf-8") as file:
+            file.write("\n")
+        self.assertEqual(self.run_there("check", stdin=scenario), (2, b"", NODE_NOTE + (
+            "sqs_rehearse: dist/playground.html is damaged: it is not the page that dist/manifest names\n")))
+        self.write("crates/sim_a/src/lib.rt", "changed")
+        self.assertEqual(self.run_there("check", stdin=scenario), (2, b"", NODE_NOTE + (
+            "sqs_rehearse: dist/ has the page of other sources: the program itself is built on Linux on x86-64\n")))
+
+    @needs_program
+    @unittest.skipUnless(shutil.which("node"), "node is not here")
+    def test_as_the_program(self):
+        """Scripts in files, check and compare; a log in a file; and a tool that runs it."""
+        self.write("calls.csv", "at,call,body,group,id,delay,receipt,max,wait,timeout,task\n5,send,a,,,,,,,,\n")
+        self.write("a.toml", 'version = 2\nhorizon = 100\n[[queue]]\nname = "q"\n[[actor]]\nname = "s"\n'
+                             'kind = "script"\nqueue = "q"\nscript = "calls.csv"\n')
+        shutil.copy(os.path.join(ROOT, "examples", "dead_letters.toml"), self.path("b.toml"))
+        self.write("c.toml", "version")
+        for words in (["run", "a.toml"], ["run", "--scripts", "none", "a.toml"], ["check", "a.toml"],
+                      ["check", "b.toml"], ["check", "c.toml"], ["compare", "a.toml", "b.toml"], ["compare", "c.toml", "none"],
+                      ["compare", "a.toml", "c.toml"], ["compare", "a.toml", "none"], ["run", "--log=x.log", "b.toml"]):
+            ran = subprocess.run([PROVED, *words], cwd=self.folder, capture_output=True)
+            wanted = ran.returncode, ran.stdout, NODE_NOTE + ran.stderr.decode()
+            log = pathlib.Path(self.path("x.log")).read_bytes() if words[1].startswith("--log") else b""
+            self.assertEqual(self.run_there(*words), wanted, words)
+            self.assertEqual(pathlib.Path(self.path("x.log")).read_bytes() if log else b"", log)
+        status, out, err = self.run_tool("sweep", self.path("a.toml"), "--vary", "seed=1", "--columns", "sends",
+                                         "--program", self.path("page/node.mjs"))
+        self.assertEqual((status, out), (0, "seed,failed,queue,sends\n1,,q,1\n"), err)
+
+
 class Gate(WrapperCase):
     """What the gate says of dist/ and of the program that it has built."""
 
@@ -290,43 +565,64 @@ class Gate(WrapperCase):
         super().make_dist(program)
         manifest = pathlib.Path(self.path("dist/manifest"))
         manifest.write_text(manifest.read_text().replace("version 1.2", f"version {self.version}"))
+        sums = dict(line.split(" ", 1) for line in manifest.read_text().splitlines())
+        entry = f"## {sums['sources'][:8]}, program {sums['program'][:8]}, 1 May 2026\n"
+        self.write("CHANGELOG.md", f"# Changes\n\n{entry}\n"
+                                   "## 00000000, program 00000000, 1 April 2026\n")
 
     def test_the_same(self):
         self.make_dist()
-        same = ["note: dist/ has the program that was built here from these sources", "2 passed, 0 failed"]
+        same = [NO_PAGE, "note: dist/ has the program that was built here from these sources", "3 passed, 0 failed"]
         self.assertEqual(self.compared(), (0, same))
         os.remove(self.path("kit/rt"))
         self.assertEqual(self.compared(), (0, same))
         self.make_program("unpacked", PROGRAM.format("built"))
-        self.assertEqual(self.compared("unpacked"), (0, ["2 passed, 0 failed"]))
+        self.assertEqual(self.compared("unpacked"), (0, [NO_PAGE, "3 passed, 0 failed"]))
 
     def test_another_program_of_the_same_sources(self):
         self.make_dist(PROGRAM.format("packed"))
         status, lines = self.compared()
-        self.assertEqual((status, len(lines), lines[-1]), (1, 2, "1 passed, 1 failed"))
+        self.assertEqual((status, len(lines), lines[-1]), (1, 3, "2 passed, 1 failed"))
 
     def test_damage(self):
         self.make_dist()
         pathlib.Path(self.path("dist/sqs_rehearse-x86_64-linux.gz")).write_bytes(b"")
         status, lines = self.compared()
-        self.assertEqual((status, lines[-1]), (1, "1 passed, 1 failed"))
+        self.assertEqual((status, lines[-1]), (1, "2 passed, 1 failed"))
+
+    def test_the_page_and_the_changes(self):
+        """The page is the one that the manifest names, and the newest entry is of the program of dist/."""
+        self.make_dist()
+        self.write("dist/playground.html", "page")
+        with open(self.path("dist/manifest"), "a", encoding="utf-8") as file:
+            file.write(f"page {hashlib.sha256(b'page').hexdigest()}\n")
+        self.assertEqual(self.compared()[1][-1], "4 passed, 0 failed")
+        self.write("dist/playground.html", "another")
+        self.assertEqual(self.compared()[1][-1], "3 passed, 1 failed")
+        self.write("dist/playground.html", "page")
+        text = pathlib.Path(self.path("CHANGELOG.md")).read_text()
+        for changed in ("", text.replace("\n## ", "\n## 12345678, program 12345678, 2 May 2026\n\n## ", 1)):
+            self.write("CHANGELOG.md", changed)
+            status, lines = self.compared()
+            self.assertEqual((status, lines[-1]), (1, "3 passed, 1 failed"))
+            self.assertRegex(lines[0], "^CHANGELOG.md: its newest entry is not of the program of dist/, ## [0-9a-f]{8}, ")
 
     def test_behind(self):
         makes = ": tools/package --dist makes it anew"
         self.make_dist()
         self.make_program("kit/rt", "#!/bin/sh\necho kit 2\n")
-        self.assertEqual(self.compared(), (0, [
+        self.assertEqual(self.compared(), (0, [NO_PAGE,
             "note: dist/ is behind, with a program that kit 1 built, where kit 2 is here" + makes,
-            "1 passed, 0 failed"]))
+            "2 passed, 0 failed"]))
         self.write("crates/sim_a/src/lib.rt", "changed")
-        self.assertEqual(self.compared(), (0, [
-            "note: dist/ is behind, with the program of other sources" + makes, "1 passed, 0 failed"]))
+        self.assertEqual(self.compared(), (0, [NO_PAGE,
+            "note: dist/ is behind, with the program of other sources" + makes, "2 passed, 0 failed"]))
         self.make_dist()
         self.make_program("kit/rt", "#!/bin/sh\necho kit 1\n")
         self.write("tools/VERSION", "9.9\n")
-        self.assertEqual(self.compared(), (0, [
+        self.assertEqual(self.compared(), (0, [NO_PAGE,
             f"note: dist/ is behind, with version {self.version}, where tools/VERSION has another" + makes,
-            "1 passed, 0 failed"]))
+            "2 passed, 0 failed"]))
 
 
 class Words(WrapperCase):
@@ -336,6 +632,8 @@ class Words(WrapperCase):
         version = pathlib.Path(ROOT, "tools", "VERSION").read_text()
         shutil.rmtree(self.path("tools"))
         shutil.copytree(os.path.join(ROOT, "tools"), self.path("tools"))
+        sum_of = hashlib.sha256(subprocess.run([self.path("tools/sources")], check=True, capture_output=True).stdout)
+        sum_of = sum_of.hexdigest()[:8]
         status, out, err = self.run_it("--help")
         self.assertEqual((status, err), (0, f"sqs_rehearse: {NO_DIST}\n"))
         self.assertTrue(out.startswith("sqs_rehearse rehearses networks of Amazon SQS queues"))
@@ -349,7 +647,7 @@ class Words(WrapperCase):
         self.assertTrue(all(len(line) <= 120 for line in out.splitlines()))
         self.assertEqual(self.run_it(), (2, "", out))
         self.assertEqual(self.run_it("help", "run"), (0, "built help run\n", ""))
-        self.assertEqual(self.run_it("--version"), (0, f"sqs_rehearse {version}", ""))
+        self.assertEqual(self.run_it("--version"), (0, f"sqs_rehearse {version.strip()} (sources {sum_of})\n", ""))
         self.assertEqual(self.calls(), [])
 
     def test_a_tool(self):
@@ -362,7 +660,7 @@ class Words(WrapperCase):
         self.assertEqual((ran.stdout, ran.stderr), ("sqs_rehearse summary x\n", ""))
         for name in ("bash", "sha256sum", "readlink", "env"):
             os.symlink(shutil.which(name), self.path(f"kit/{name}"))
-        self.assert_refused(["summary"], "summary needs Python 3.11 or later, and python3 is not on the PATH; "
+        self.assert_refused(["summary"], "summary needs Python 3.9 or later, and python3 is not on the PATH; "
                             "sqs_rehearse setup installs it on Debian", PATH=self.path("kit"))
         self.make_program("tools/setup", "#!/bin/bash\necho installs\n")
         self.assertEqual(self.run_it("setup", PATH=self.path("kit")), (0, "installs\n", ""))
@@ -370,8 +668,8 @@ class Words(WrapperCase):
     def test_a_tool_with_an_older_python(self):
         """It is refused in one line, and a run that prints to the tool ends as if the tool had read all."""
         self.make_program("tools/summary", "#!/bin/sh\necho runs\n")
-        self.make_program("kit/python3", "#!/bin/sh\necho 'python3 is Python 3.9'\n")
-        line = "summary needs Python 3.11 or later, and python3 is Python 3.9"
+        self.make_program("kit/python3", "#!/bin/sh\necho 'python3 is Python 3.8'\n")
+        line = "summary needs Python 3.9 or later, and python3 is Python 3.8"
         self.assert_refused(["summary", "-"], line)
         self.assert_refused(["summary", "run.log"], line)
         reader, writer = os.pipe()
@@ -382,14 +680,14 @@ class Words(WrapperCase):
                                  capture_output=True, text=True)
             self.assertEqual((ran.returncode, ran.stderr, file.read()), (2, f"sqs_rehearse: {line}\n", b""))
         self.make_program("kit/python3", "#!/bin/sh\nexit 1\n")
-        self.assert_refused(["summary"], "summary needs Python 3.11 or later, and python3 does not run")
+        self.assert_refused(["summary"], "summary needs Python 3.9 or later, and python3 does not run")
 
     def test_the_package_with_an_older_python(self):
-        text = "import sys; sys.version_info = (3, 9, 1); sys.argv = ['tools/summary']; import rehearse_tools"
+        text = "import sys; sys.version_info = (3, 8, 1); sys.argv = ['tools/summary']; import rehearse_tools"
         ran = subprocess.run([sys.executable, "-c", text], cwd=os.path.join(ROOT, "tools"), capture_output=True,
                              text=True)
         self.assertEqual((ran.returncode, ran.stdout, ran.stderr),
-                         (2, "", "summary needs Python 3.11 or later, and this is Python 3.9\n"))
+                         (2, "", "summary needs Python 3.9 or later, and this is Python 3.8\n"))
 
     def test_a_log_over_what_is_read(self):
         """Also by another name of the file, as standard input, and as a script; else the program is run."""

@@ -69,7 +69,7 @@ class Rows(ToolCase):
         rows = "1,q,shop,send,new,m-0-0,,x\n1,q,shop,send,new,m-0-1,,x\n"
         for end, taken, last in ((1, 0, None), (2, 2, 1), (3, 3, 2), (9, 3, 2)):
             queues, found = self.queues_of(rows + "2,q,shop,send,new,m-0-2,,x\n", moments=((end, "end"),))
-            self.assertEqual((sum(queue.kinds.total() for queue in queues.values()), found), (taken, last))
+            self.assertEqual((sum(sum(queue.kinds.values()) for queue in queues.values()), found), (taken, last))
             self.assertEqual(sum(len(queue.taken) for queue in queues.values()), taken)
         with self.assertRaisesRegex(Fault, "line 5 is earlier than the row before it"):
             self.queues_of(rows + "3,q,shop,send,new,m-0-2,,x\n2,q,shop,send,new,m-0-3,,x\n", moments=((2, "end"),))
@@ -117,7 +117,7 @@ class Rows(ToolCase):
                             ("1,q,w,delete,deleted,m-0-0,r-0-0-1,", False), ("1,q,w,leap,up,,,", True)):
             with self.subTest(row=row):
                 if is_row:
-                    self.assertEqual(self.queues_of(row + "\n", kind=Checked)[0]["q"].kinds.total(), 1)
+                    self.assertEqual(sum(self.queues_of(row + "\n", kind=Checked)[0]["q"].kinds.values()), 1)
                 else:
                     self.assertRaisesRegex(Fault, "line 2 is no row of a log", self.queues_of, row + "\n", kind=Checked)
 

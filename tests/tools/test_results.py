@@ -1,4 +1,6 @@
 """Tests the files of a sweep's jobs: what is whole is read, and what is doubled, foreign, cut or short is refused."""
+from __future__ import annotations
+
 import os
 import unittest
 from unittest import mock

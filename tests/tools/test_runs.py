@@ -1,5 +1,7 @@
 """Tests what is counted of a run: by the stored cases and random scenarios against the program's own reports, and
 between two moments by logs written by hand."""
+from __future__ import annotations
+
 import csv
 import io
 import json
@@ -109,7 +111,9 @@ class Whole(unittest.TestCase):
                 ended = text.replace("\nhorizon = ", f"\nhorizon = {half - 1} # ")
                 first = runs.run(command, ended, runs.Counting(0, 0)).records
                 second = runs.run(command, text, runs.Counting(half, 0)).records
-                for of_first, of_second, of_whole in zip(first or [], second or [], whole.records or [], strict=True):
+                of_each = first or [], second or [], whole.records or []
+                self.assertEqual(len({len(records) for records in of_each}), 1)
+                for of_first, of_second, of_whole in zip(*of_each):
                     numbers = [dict(zip(COLUMNS, record[1:])) for record in (of_first, of_second, of_whole)]
                     for column in ADDED:
                         self.assertEqual(sum(int(record[column]) for record in numbers[:2]), int(numbers[2][column]))

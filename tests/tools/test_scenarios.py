@@ -1,11 +1,10 @@
 """Tests that the module scenarios finds what a text has, changes one setting and nothing else, and writes it whole."""
 import glob
 import os
-import tomllib
 import unittest
 
 import tool  # which also puts the tools on the path
-from rehearse_tools.console import Fault, read_text
+from rehearse_tools.console import Fault, read_text, toml_of
 from rehearse_tools.scenarios import Setting, parsed, varied, written
 
 TEXT = r'''# A scenario.
@@ -39,10 +38,10 @@ def changed(*texts):
 
 class Written(unittest.TestCase):
     def test_what_is_written_is_what_was_read(self):
-        read = tomllib.loads(TEXT)
-        self.assertEqual(tomllib.loads(written(read)), read)
+        read = toml_of(TEXT)
+        self.assertEqual(toml_of(written(read)), read)
         odd = {"a b": "\x7f\x00\"\\\n\u2028", "empty": [], "mixed": [1, {"x": {"y": True}}], "": 0, "list": [{}]}
-        self.assertEqual(tomllib.loads(written(odd)), odd)
+        self.assertEqual(toml_of(written(odd)), odd)
 
     def test_stored_scenarios(self):
         paths = [path for folder in ("worked", "by-hand", "one-queue", "networks", "version-2", "version-3")
@@ -56,7 +55,7 @@ class Written(unittest.TestCase):
 
 class Varied(unittest.TestCase):
     def test_a_value_is_put_in_its_place_and_nothing_else_changes(self):
-        whole = tomllib.loads(TEXT)
+        whole = toml_of(TEXT)
         self.assertEqual(changed("horizon=1"), {**whole, "horizon": 1})
         self.assertEqual(changed("seed=-7"), {**whole, "seed": -7})
         first, second = whole["queue"]

@@ -3,12 +3,11 @@ import glob
 import json
 import os
 import re
-import tomllib
 import unittest
 
 from code_keys import code_keys, constant, listed_keys
 from tool import ROOT
-from rehearse_tools.console import Fault, library
+from rehearse_tools.console import Fault, library, toml_of
 from rehearse_tools.keys import (CONSUMER, FIFO, HEAD, ITEMS, NUMBER, NUMBERS, PREVIEW, PRODUCER, QUANTILES, QUEUE,
                                  REQUIRED, SCRIPT, STANDARD, TASK, TOP, TRUTH, VERSIONS, WEIGHTS, consumer_keys,
                                  keys_of, latency)
@@ -48,7 +47,7 @@ def cases(folders):
 
 def read(path):
     with open(path, "rb") as file:
-        return tomllib.loads(file.read().decode("utf-8").removeprefix("\ufeff"))
+        return toml_of(file.read().decode("utf-8").removeprefix("\ufeff"))
 
 
 def documented_tables():
@@ -94,7 +93,7 @@ class Schema(unittest.TestCase):
                 is_unsaid = UNSAID.fullmatch(file.read())
             try:
                 is_valid = self.validator.is_valid(read(path))
-            except (tomllib.TOMLDecodeError, UnicodeDecodeError):
+            except (ValueError, UnicodeDecodeError):
                 is_valid = is_unsaid = True
             with self.subTest(path=path):
                 self.assertTrue(is_unsaid or not is_valid)

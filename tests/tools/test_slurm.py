@@ -1,4 +1,6 @@
 """Tests examples/sweeps/slurm.sh on a real Slurm of this machine, with two nodes, against the bytes of one sweep."""
+from __future__ import annotations
+
 import os
 import shutil
 import socket

@@ -308,7 +308,8 @@ class Differences(unittest.TestCase):
         """Four times the least, three times the next and so on, none less than one before it, and 1 at most."""
         for given, wanted in (([0.01, 0.04, 0.03, 0.005], [0.03, 0.06, 0.06, 0.02]), ([0.5, 0.6], [1, 1]), ([], []),
                               ([0.02], [0.02])):
-            for found, expected in zip(figures.holm(given), wanted, strict=True):
+            self.assertEqual(len(figures.holm(given)), len(wanted))
+            for found, expected in zip(figures.holm(given), wanted):
                 self.assertAlmostEqual(found, expected)
 
     def test_that_any_of_nine_is_wrong_has_5_percent(self) -> None:

@@ -7,10 +7,10 @@ import shlex
 import signal
 import subprocess
 import sys
-import tomllib
 import unittest
 
 from tool import LIMIT, PROGRAM, ROOT, TOOLS, ToolCase, needs_program, read_whole, wait_for
+from rehearse_tools.console import toml_of
 
 COLUMNS = ("sends,repeats,receives,empties,deletes,expiries,redrives,moves,arrivals,OverLimit,MessageNotInflight,"
            "ReceiptHandleIsInvalid,BadTimeout,MissingGroup,MissingDeduplication,BadDelay,TaskRunning,NoTask,depth_max,"
@@ -152,7 +152,7 @@ class Sweep(ToolCase):
         words = "--vary", "queue.q.visibility_s=7", "--vary", "seed=3", "--print-scenario"
         ran = self.run_tool("sweep", self.scenario, *words, SQS_REHEARSE="/none")
         wanted = SCENARIO.replace("visibility_s = 1", "visibility_s = 7").replace("seed = 0", "seed = 3")
-        self.assertEqual((ran[0], tomllib.loads(ran[1]), ran[2]), (0, tomllib.loads(wanted), ""))
+        self.assertEqual((ran[0], toml_of(ran[1]), ran[2]), (0, toml_of(wanted), ""))
         self.assert_fault(self.sweep(self.scenario, "--vary", "seed=1..20", "--print-scenario"),
                           "sweep: --print-scenario prints one variant, and these are 20")
         self.assert_fault(self.sweep(self.scenario, "--vary", "seed=1", "--print-scenario", "--spread", "seed"),
@@ -177,17 +177,24 @@ class Sweep(ToolCase):
         words = self.scenario, "--vary", "queue.q.x=[5, 30],[[0, 1], [9, 2]],[],\"[a]\",[b]", "--vary", "seed=1"
         ran = [self.sweep(*words[:2], f"queue.q.x={word}", "--print-scenario") for word in
                ("[5, 30]", "[[0, 1], [9, 2]]", "[]", '"[a]"', "[b]")]
-        self.assertEqual([tomllib.loads(out)["queue"][0]["x"] for _, out, _ in ran],
+        self.assertEqual([toml_of(out)["queue"][0]["x"] for _, out, _ in ran],
                          [[5, 30], [[0, 1], [9, 2]], [], "[a]", "[b]"])
         self.assertEqual(self.sweep(*words)[2].splitlines()[-1], "sweep: 5 of 5 variants run, 0 failed")
+
+    def test_a_scenario_as_it_is(self):
+        """With columns alone it is run once; the visibility of a second reports 100 sends."""
+        self.assertEqual(self.sweep(self.scenario, "--columns", "sends"), (
+            0, "failed,queue,sends\n,q,100\n,r,0\n", "sweep: 1 of 1 variants run, 0 failed\n"))
 
     def test_faults(self):
         known = (f"{COLUMNS},door_age_p50,door_age_p95,door_age_max,requests,cost,backlog_gone,new_age_p50,new_age_p95,"
                  "new_age_max,moved_age_p50,moved_age_p95,moved_age_max,window_age_p95").replace(",", ", ")
         for words, line in (
-                ((), "a SCENARIO and at least one --vary or --require are needed (--help tells the usage)"),
+                ((), "a SCENARIO and at least one --vary, --require or --columns are needed (--help tells the usage)"),
                 ((self.scenario,),
-                 "a SCENARIO and at least one --vary or --require are needed (--help tells the usage)"),
+                 "a SCENARIO and at least one --vary, --require or --columns are needed (--help tells the usage)"),
+                ((self.scenario, "--require", "q.sends=1 in 100%"),
+                 "q.sends=1 in 100%: a share of the runs is under 100 %; without `in` it must hold in all"),
                 ((self.scenario, "--vary", "seed"), "seed is no setting with values, as seed=1..20"),
                 ((self.scenario, "--vary", "seed=1,,2"), "1,,2 is no list of values, as 2,5,10 or 1..20"),
                 ((self.scenario, "--vary", "seed=3..1"), "3..1 has no values or over 1000000"),

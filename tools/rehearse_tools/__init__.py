@@ -7,7 +7,7 @@ path.
 import os
 import sys
 
-if sys.version_info < (3, 11):
-    sys.stderr.write("%s needs Python 3.11 or later, and this is Python %d.%d\n"
+if sys.version_info < (3, 9):
+    sys.stderr.write("%s needs Python 3.9 or later, and this is Python %d.%d\n"
                      % ((os.path.basename(sys.argv[0]),) + sys.version_info[:2]))
     sys.exit(2)

@@ -3,6 +3,8 @@
 A file of real queues says at most who sends and receives, but not how many messages and how long their service takes.
 So what is made here is marked SKELETON in a comment.
 """
+from __future__ import annotations
+
 import dataclasses
 import math
 import re

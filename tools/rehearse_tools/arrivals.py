@@ -38,6 +38,8 @@ Examples:
     tools/arrivals poisson --rate 5/s --duration 1h --queue orders --output orders.csv
     tools/arrivals bursts --size 100 --every 10min --over 5s --duration 1h --seed 7 > bursts.csv
 """
+from __future__ import annotations
+
 import collections
 import csv
 import datetime
@@ -96,6 +98,16 @@ def rate_of(text: str) -> Fraction:
     return Fraction(match[1]) / UNITS[match[2]]
 
 
+def older_form(text: str) -> str:
+    """A moment of the calendar as Python reads it before 3.11: six digits of a second, and +00:00 as the zone."""
+    parts = re.fullmatch("(.*[T ][0-9:]+)(?:[.,]([0-9]+))?(?:(Z)|([+-][0-9]{2}):?([0-9]{2})?)?", text)
+    if not parts:
+        return text
+    start, fraction, _, hours, minutes = parts.groups()
+    zone = f"{hours or '+00'}:{minutes or '00'}"
+    return f"{start}.{(fraction or '0')[:6]:0<6}{zone}"
+
+
 def moment(text: str, unit: int) -> Fraction | None:
     """A time in milliseconds: a number of units, or a moment of the calendar."""
     if PLAIN_NUMBER.fullmatch(text):
@@ -103,7 +115,7 @@ def moment(text: str, unit: int) -> Fraction | None:
     if not CALENDAR.match(text):
         return None
     try:
-        found = datetime.datetime.fromisoformat(text)
+        found = datetime.datetime.fromisoformat(text if sys.version_info >= (3, 11) else older_form(text))
     except ValueError:
         return None
     if found.tzinfo is None:

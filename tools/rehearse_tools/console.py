@@ -3,9 +3,12 @@ and how they find the libraries that are not part of Python.
 
 The tools import it; it is not a command.
 """
+from __future__ import annotations
+
 import argparse
 import contextlib
 import errno
+import importlib
 import importlib.util
 import io
 import os
@@ -17,7 +20,7 @@ import sys
 import tempfile
 import time
 from collections.abc import Callable, Container, Iterable
-from typing import Any, NoReturn, TextIO
+from typing import Any, NoReturn, TextIO, cast
 
 # The signals, beside SIGINT, by which a person or a scheduler ends a tool.
 ENDING = (signal.SIGTERM, signal.SIGHUP)
@@ -25,6 +28,9 @@ ENDING = (signal.SIGTERM, signal.SIGHUP)
 TOOLS = os.path.dirname(os.path.dirname(os.path.abspath(__file__)))
 # Where Debian's packages put libraries, which another Python than Debian's does not look into.
 DEBIAN_LIBRARIES = "/usr/lib/python3/dist-packages"
+# What summary marks words by on a terminal: bold, bold and red, and the end of it.
+COLOURS = BOLD, RED, PLAIN = "\033[1m", "\033[1;31m", "\033[0m"
+COLOUR = re.compile("(" + "|".join(map(re.escape, COLOURS)) + ")")
 # How the commands of an installed package begin, which run its tools.
 COMMAND = "sqs_rehearse-"
 WRAPPER_NAMED = re.compile(r"(?<![\w/.])\./sqs_rehearse(?![\w/.-])")
@@ -67,6 +73,19 @@ def library(name: str, package: str) -> Any:
         raise missing_library(name, package) from None
 
 
+def toml_of(text: str) -> dict[str, Any]:
+    """The tables of a text, by Python's own reader of TOML, which it has since 3.11. An older one takes tomli, of which
+    that is a copy: as a package, or as pip has it for itself."""
+    for name in ("tomllib", "tomli", "pip._vendor.tomli"):
+        try:
+            found: dict[str, Any] = importlib.import_module(name).loads(text)
+            return found
+        except ImportError:
+            pass
+    raise Fault("the library tomli is missing: Python has it since 3.11; for an older one `pip install tomli`, or Debian's "
+                "package python3-tomli")
+
+
 def missing_library(name: str, package: str) -> Fault:
     return Fault(f"the library {name} is missing: Debian's package {package} has it for Debian's python3, and "
                  f"{command_of('setup')} installs it")
@@ -103,6 +122,35 @@ def read_text(path: str) -> str:
 def shown(text: str) -> str:
     """A text of the input for a message: in one line, and not too long."""
     return text[:100] if text and text.isprintable() else f"{text[:100]!a}"
+
+
+def seen(text: str, most: int = 4_000) -> str:
+    """A text for a terminal: with its control characters escaped, and with lines that are longer than `most` cut. Line
+    ends and tabs stay."""
+    lines = text.split("\n")
+    if all(len(line) <= most and line.isprintable() for line in lines):
+        return text
+    return "\n".join(line if len(line) <= most else f"{line[:most]}\u2026" for line in map(escaped, lines))
+
+
+def escaped(line: str) -> str:
+    """A line with its control characters escaped, but for tabs and the tools' own colours."""
+    return "".join(part if part in COLOURS else "".join(
+        letter if letter.isprintable() or letter == "\t" else f"{letter!a}"[1:-1] for letter in part)
+        for part in COLOUR.split(line))
+
+
+class Terminal:
+    """An output that goes to a terminal: it gets no control character, whatever is in the input of a tool."""
+
+    def __init__(self, stream: TextIO) -> None:
+        self.stream = stream
+
+    def write(self, text: str) -> int:
+        return self.stream.write(seen(text))
+
+    def __getattr__(self, name: str) -> Any:
+        return getattr(self.stream, name)
 
 
 def check_title(title: str | None) -> None:
@@ -279,11 +327,15 @@ def tool() -> str:
     return f"{os.path.basename(wrapper)} {own}" if before.endswith(" ") else own
 
 
+def tell(line: str) -> None:
+    """Prints a line on standard error."""
+    Progress.clear()
+    print(f"{tool()}: {seen(line, 1_000) if is_terminal(sys.stderr) else line}", file=sys.stderr)
+
+
 def note(text: str) -> None:
     """Prints one line on standard error, whatever is in the text."""
-    Progress.clear()
-    line = "".join(letter if letter.isprintable() else f"{letter!a}"[1:-1] for letter in text)
-    print(f"{tool()}: {line}", file=sys.stderr)
+    tell("".join(letter if letter.isprintable() else f"{letter!a}"[1:-1] for letter in text))
 
 
 def told(fault: str) -> int:
@@ -319,6 +371,8 @@ def ended_as_told(main: Callable[[list[str]], int]) -> int:
         sys.stdout.reconfigure(encoding="utf-8", errors="backslashreplace")
     if isinstance(sys.stderr, io.TextIOWrapper):
         sys.stderr.reconfigure(encoding="utf-8", errors="backslashreplace")
+    if is_terminal(sys.stdout):
+        sys.stdout = cast(TextIO, Terminal(sys.stdout))
     try:
         status = main(sys.argv[1:])
         if sys.stdout is not None:

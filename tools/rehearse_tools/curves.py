@@ -1,6 +1,8 @@
 """Draws a setting against a column of the report, over the rows of a sweep. tools/picture imports it; it is not a
 command.
 """
+from __future__ import annotations
+
 import csv
 import io
 import math
@@ -8,7 +10,7 @@ import re
 import statistics
 from argparse import Namespace
 from collections.abc import Iterable, Sequence
-from typing import Any
+from typing import Any, Optional
 
 from .console import Fault, read_text, shown
 from .drawing import ALARM, CAPTION, FOOT, GREY, LEFT, LINE, RIGHT, Sheet, head_of, ticks_of
@@ -26,7 +28,7 @@ SPREAD_LEAST, SPREAD, SPREAD_GAPS = 4, 20, 10
 LETTER = 8
 
 # The mean, the least and the greatest of a column over runs, and the interval of the mean or None.
-Point = tuple[float, float, float, Interval | None]
+Point = tuple[float, float, float, Optional[Interval]]
 
 
 def is_age(column: str) -> bool:

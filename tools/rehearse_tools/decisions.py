@@ -2,13 +2,14 @@
 
 The tools import it; it is not a command.
 """
+from __future__ import annotations
+
 from collections.abc import Iterable, Iterator, Mapping, Sequence
 
-from .console import Fault
+from .console import Fault, tell
 from .requirements import Requirement
 from .runs import Ages, columns_in
 from .statistics import Interval, Verdict, share_bounds, share_interval, verdict
-from .variants import tell
 
 # How many variants that meet all requirements are named.
 NAMED_MOST = 8

@@ -6,6 +6,8 @@ which message was forwarded, the ages behind it are open too.
 
 A message that is still elsewhere may come into a queue yet, if a way leads there.
 """
+from __future__ import annotations
+
 from collections import Counter
 from collections.abc import Iterable
 from typing import NamedTuple
@@ -60,7 +62,7 @@ class Doors:
         """
         found = self.forwards.arrived(at, head)
         if found is None or not found.may_be_other:
-            return found and found.known
+            return found.known if found else None
         return found.known._replace(doubts=found.known.doubts | {(head.agent, head.queue)})
 
     def received(self, at: int, head: Head, message: str, receipt: str, detail: str) -> None:
@@ -99,7 +101,7 @@ class Doors:
         for doubts, counts in self.ages.get(queue, {}).items():
             open_doubts = {edge[0] for edge in doubts if not self.forwards.edges[edge].keeps_order}
             if open_doubts:
-                number += counts.total()
+                number += sum(counts.values())
                 agents |= open_doubts
         return number, sorted(agents)
 
@@ -115,7 +117,7 @@ class Doors:
         open."""
         ages = self.ages_of(queue)
         is_known = bool(ages) and not self.open_of(queue)[0]
-        return {column: at_rank(ages, rank_of(ages.total(), share)) if is_known else None
+        return {column: at_rank(ages, rank_of(sum(ages.values()), share)) if is_known else None
                 for column, share in DOOR_SHARES.items()}
 
     def left(self) -> "Left":

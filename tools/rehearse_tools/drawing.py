@@ -1,6 +1,8 @@
 """A sheet of matplotlib that is laid out in pixels from its top, with axes of times and counts. The tools that draw
 import it; it is not a command.
 """
+from __future__ import annotations
+
 import functools
 import html
 import io

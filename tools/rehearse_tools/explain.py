@@ -14,15 +14,16 @@ Examples:
     tools/explain examples/first.toml
     sed 's/horizon = .*/horizon = 0/' examples/first.toml | tools/explain -
 """
+from __future__ import annotations
+
 import difflib
 import os
 import re
 import tempfile
-import tomllib
 from collections.abc import Iterator, Sequence
 from typing import Any
 
-from .console import Fault, Parser, print_text, read_bytes, read_text, shown
+from .console import Fault, Parser, print_text, read_bytes, read_text, shown, toml_of
 from .keys import (ACTORS, FIFO, ITEMS, NUMBER, NUMBERS, PREVIEW, QUANTILES, REQUIRED, TABLES, TEXT, VERSIONS, WEIGHTS,
                    Key, keys_of)
 from .positions import Lost, Path, Positions
@@ -62,7 +63,7 @@ class Scenario:
         self.text, self.positions = text, Positions("")
         self.found: dict[str, Any] = {}
         try:
-            self.found = tomllib.loads(text.removeprefix("\ufeff"))
+            self.found = toml_of(text.removeprefix("\ufeff"))
             self.positions = Positions(text)
         except (ValueError, RecursionError, Lost):
             pass
@@ -220,6 +221,8 @@ def range_text(key: Key | None) -> str:
         return ""
     if key.words:
         return f" It is {', '.join(key.words[:-1])} or {key.words[-1]}."
+    if key.name == "version":
+        return f" It is {VERSIONS[0]} or {VERSIONS[1]}, or {PREVIEW}, a preview, for the word --preview."
     if key.kind in LISTS:
         return f" It has {key.low:,} to {key.high:,} {LISTS[key.kind]}{of_each(key)}."
     if key.kind == TEXT and key.high:
@@ -391,7 +394,7 @@ def too_many(scenario: Scenario) -> str:
 def not_toml(scenario: Scenario) -> tuple[tuple[int, int] | None, str]:
     """What Python's reader of TOML says, which need not be what stopped the program's."""
     try:
-        tomllib.loads(scenario.text.removeprefix("\ufeff"))
+        toml_of(scenario.text.removeprefix("\ufeff"))
     except RecursionError:
         return None, "The text is nested too deep."
     except ValueError as error:

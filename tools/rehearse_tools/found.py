@@ -1,4 +1,6 @@
 """The queues of a plan or template. plans and templates share it; it is not a command."""
+from __future__ import annotations
+
 import json
 import re
 from typing import Any

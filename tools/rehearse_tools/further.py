@@ -4,6 +4,8 @@ columns.
 
 The tools import it; it is not a command.
 """
+from __future__ import annotations
+
 import math
 from collections import Counter
 from typing import NamedTuple
@@ -78,7 +80,7 @@ class Apart:
 
 
 def age_at(ages: Counter[int], share: float) -> int | None:
-    return at_rank(ages, rank_of(ages.total(), share)) if ages else None
+    return at_rank(ages, rank_of(sum(ages.values()), share)) if ages else None
 
 
 def bounds_of(ages: Counter[int], left: list[int], share: float) -> Interval | None:

@@ -2,6 +2,8 @@
 
 A history has few bytes for each row, so that logs of some million rows can be drawn; numpy works them out.
 """
+from __future__ import annotations
+
 import math
 import re
 from array import array
@@ -192,7 +194,7 @@ class Histories:
                 raise Fault(f"no row of the log is of queue {shown(name)}, and no report follows it")
         if names:
             return [self.queues.get(name) or History(name) for name in dict.fromkeys(names)], ""
-        busiest = sorted(self.queues.values(), key=lambda queue: -queue.kinds.total())[:most]
+        busiest = sorted(self.queues.values(), key=lambda queue: -sum(queue.kinds.values()))[:most]
         left_out = f"the {most} busiest of {len(self.queues):,} queues" if len(self.queues) > most else ""
         return sorted(busiest, key=lambda queue: queue.number), left_out
 

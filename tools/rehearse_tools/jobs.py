@@ -2,17 +2,19 @@
 
 The tools import it; it is not a command. docs/SWEEPS.md shows users how.
 """
+from __future__ import annotations
+
 import os
 import shlex
 from typing import NamedTuple
 
-from .console import Fault, check_output, make_folder, path_of, print_text, read_bytes, shown
+from .console import Fault, check_output, make_folder, path_of, print_text, read_bytes, shown, tell
 from .programs import preview_words
 from .results import (WINDOW, Collection, Head, Rows, Share, checksum, checksum_of_scripts, collected, files_in,
                       left_of, name_of, ranges_of, read_result, shares_left, text_at, write_result)
 from .runs import COLUMNS
 from .scenarios import names_of
-from .variants import Sweep, Told, tell
+from .variants import Sweep, Told
 
 # How many variants that are left are named.
 LEFT_MOST = 40

@@ -2,6 +2,8 @@
 
 tools/explain imports it, and the tests compare it with the document, the schema and the program.
 """
+from __future__ import annotations
+
 from collections.abc import Sequence
 from typing import Any, NamedTuple
 

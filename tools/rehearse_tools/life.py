@@ -20,6 +20,8 @@ Examples:
     ./sqs_rehearse run examples/dead_letters.toml | tools/life - o-0-4
     ./sqs_rehearse run examples/dead_letters.toml | tools/life - --worst --most 5
 """
+from __future__ import annotations
+
 import heapq
 import os
 import re
@@ -27,6 +29,7 @@ import shutil
 import tempfile
 from collections import Counter
 from collections.abc import Callable, Container, Mapping, Sequence
+from typing import Optional
 
 from .console import Fault, Parser
 from .logs import Final, Head, Log, Row, Rows, Take, What, message_of_receipt, tell_open
@@ -105,7 +108,7 @@ class Life:
 
 
 # Of a forward its row, and if it is of a life that is printed, that life and the row's place in it.
-Forward = tuple[Row, tuple[Life, int] | None]
+Forward = tuple[Row, Optional[tuple[Life, int]]]
 
 
 class Lives:

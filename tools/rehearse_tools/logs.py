@@ -1,4 +1,6 @@
 """Reads what a run writes; docs/FORMATS.md has the formats. The tools import it; it is not a command."""
+from __future__ import annotations
+
 import csv
 import re
 from collections import Counter

@@ -1,4 +1,6 @@
 """Writes a scenario that is made of queues and actors. from-queue and from-plan import it; it is not a command."""
+from __future__ import annotations
+
 import re
 from argparse import ArgumentParser, Namespace
 from collections.abc import Iterable, Sequence

@@ -1,4 +1,6 @@
 """Metrics that CloudWatch measured, beside those of a rehearsal. tools/metrics imports it; it is not a command."""
+from __future__ import annotations
+
 import dataclasses
 from collections.abc import Iterator
 from fractions import Fraction

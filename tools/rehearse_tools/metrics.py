@@ -46,6 +46,8 @@ Examples:
     ./sqs_rehearse run examples/dead_letters.toml
         | tools/metrics - --to 10min --alarm 'failed.ApproximateAgeOfOldestMessage>60 for 3'
 """
+from __future__ import annotations
+
 import math
 import operator
 import re

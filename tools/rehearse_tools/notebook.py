@@ -7,6 +7,8 @@ is a DataFrame of pandas, which Debian's package python3-pandas has; with `as_li
 each row, and needs no library. Numbers are numbers, and what is empty is None, or NaN in a DataFrame. Times are in
 milliseconds. What is wrong with a call or its input is a Fault, whose text is one line.
 """
+from __future__ import annotations
+
 import csv
 import os
 import re
@@ -16,7 +18,7 @@ import tempfile
 import threading
 from collections.abc import Iterable, Iterator, Mapping, Sequence
 from contextlib import contextmanager
-from typing import Any, NamedTuple
+from typing import Any, NamedTuple, Union
 
 from . import sweep as tool
 from .console import ENDING, Fault, library
@@ -42,8 +44,8 @@ OPTIONS = {"zip": "--zip", "require": "--require", "spread": "--spread", "agains
 JOINED = ("columns",)
 INTERRUPTED = 130
 # A value of a setting, and the words of an option.
-Value = str | int | bool | list[Any]
-Words = str | float | Sequence[str]
+Value = Union[str, int, bool, list[Any]]
+Words = Union[str, float, Sequence[str]]
 
 
 class Rehearsal(NamedTuple):

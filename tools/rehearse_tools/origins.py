@@ -4,8 +4,11 @@ A message that is redriven or moved keeps its origin, by which it is known again
 log does not tell which arrival is of which forward. Those of one consumer are taken in their order. That is right where
 only one of them is under way, or where all take equally long; else it is open.
 """
+from __future__ import annotations
+
 import re
 from collections import deque
+from dataclasses import dataclass
 from typing import Generic, NamedTuple, TypeVar
 
 from .logs import Head
@@ -68,8 +71,10 @@ class Origins(Generic[Known]):
         return known
 
 
-class Arrival(NamedTuple, Generic[Known]):
+@dataclass(frozen=True)
+class Arrival(Generic[Known]):
     """What is known of the forward that arrives, and whether others were under way with it."""
+
     known: Known
     may_be_other: bool
 

@@ -42,6 +42,8 @@ Examples:
     tools/sweep examples/short_timeout.toml --vary queue.jobs.visibility_s=2..10 --vary seed=1..10 > rows.csv
         && tools/picture --sweep rows.csv --column jobs.age_p95 --output curve.svg
 """
+from __future__ import annotations
+
 import math
 import os
 import textwrap

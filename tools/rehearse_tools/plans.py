@@ -3,6 +3,8 @@
 Some values are not known before a plan is applied, such as the ARN of a new queue. They are found by the configuration:
 which resource an argument refers to, through variables and outputs of modules.
 """
+from __future__ import annotations
+
 import dataclasses
 import functools
 import json
@@ -26,6 +28,9 @@ ARGUMENTS = {
 }
 RECEIVES, RECEIVES_MOST, DEPTH_MOST, REFERENCES_MOST = 10, 1_000, 20, 1_000
 INDEX = r'\[(?:"(?:[^"\\]|\\.)*"|[0-9]+)\]'
+# The references by which an expression takes the instance of its own key or number.
+INSTANCE = {"each.key", "count.index"}
+DEAD_LETTER = re.compile(r'"deadLetterTargetArn"\s*:\s*"([^"]*)"')
 STEP = re.compile(rf"module\.([^.\[]+)({INDEX})?\.")
 PART = re.compile(rf"\.?([^.\[]+)({INDEX})?")
 
@@ -179,10 +184,24 @@ class Plan:
         constant = expression.get("constant_value")
         if isinstance(constant, str):
             found |= self.of_name(last_name(constant))
-        for reference in specific(expression.get("references")) if depth < DEPTH_MOST else ():
+        references = specific(expression.get("references")) if depth < DEPTH_MOST else []
+        is_repeated = not INSTANCE.isdisjoint(references)
+        for reference in references:
             self.count_step()
-            found |= self.referred_once(scope, parts_of(reference), depth + 1)
+            parts = parts_of(reference)
+            if is_repeated and len(parts) == 2 and parts[0][0] == "module":
+                found |= self.of_instance((*scope.path, (parts[1][0], scope.index)))
+            else:
+                found |= self.referred_once(scope, parts, depth + 1)
         return found
+
+    def of_instance(self, path: Path) -> set[str]:
+        """The queue of module.NAME[each.key], of which a plan has no more than module.NAME and each.key: all queues of
+        that instance, but for those that are dead-letter queues of others there."""
+        found = {place for place, address in self.addresses.items() if address.path[:len(path)] == path}
+        policies = [self.queues[place].attributes.get("RedrivePolicy", "") for place in found]
+        behind = {name for policy in policies for name in DEAD_LETTER.findall(policy)}
+        return {place for place in found if self.queues[place].name not in map(last_name, behind)}
 
     def referred_once(self, scope: Scope, parts: Sequence[tuple[str, str]], depth: int) -> set[str]:
         kind, names = parts[0][0], [name for name, _ in parts]

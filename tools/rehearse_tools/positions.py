@@ -2,8 +2,11 @@
 
 A reader of TOML has accepted the text, so it is enough to find where keys and values end.
 """
+from __future__ import annotations
+
 import json
 import re
+from typing import Union
 
 SPACE = re.compile(r"(?:[ \t\r\n]|#[^\n]*)*")
 BARE_KEY = re.compile(r"[A-Za-z0-9_-]+")
@@ -12,7 +15,7 @@ SHORT_STRING = re.compile(r'''"(?:[^"\\\n]|\\.)*"|'[^'\n]*\'''')
 ENDS_OF_LONG_STRINGS = {'"""': re.compile(r'\\.|("{3,5})', re.S), "'''": re.compile("('{3,5})")}
 
 # The keys and numbers that lead to a value, as ("queue", 0, "name").
-Path = tuple[str | int, ...]
+Path = tuple[Union[str, int], ...]
 
 
 class Lost(Exception):

@@ -1,4 +1,6 @@
 """Finds the program, for the tools that run it. They import it; it is not a command."""
+from __future__ import annotations
+
 import os
 import shutil
 import subprocess

@@ -2,6 +2,8 @@
 
 Attributes are texts by the names that SQS's GetQueueAttributes gives them.
 """
+from __future__ import annotations
+
 import codecs
 import json
 import re

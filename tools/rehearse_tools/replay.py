@@ -4,6 +4,8 @@ it; it is not run by itself.
 What a tool makes of the rows of a queue is a class, which has a method for each kind of rows that it takes. KINDS has
 the names of these methods.
 """
+from __future__ import annotations
+
 import gc
 import re
 from collections import Counter

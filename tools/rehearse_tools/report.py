@@ -19,6 +19,8 @@ Examples:
     tools/report examples/dead_letters.toml --require 'orders.age_p95<10s' --require 'failed.expiries=0'
         --output report.html
 """
+from __future__ import annotations
+
 import base64
 import datetime
 import functools
@@ -27,7 +29,6 @@ import hashlib
 import json
 import os
 import shlex
-import sys
 import tempfile
 import time
 from argparse import Namespace
@@ -36,7 +37,7 @@ from html import escape
 from typing import IO, Any, NamedTuple
 
 from .console import (Fault, Parser, check_library, check_output, check_title, command_of, library, read_bytes,
-                      read_text, shown, tool, write_text)
+                      read_text, shown, tell, write_text)
 from .drawing import ALARM, COLOURS, unit_of
 from .further import COST
 from .histories import (PLACES, Course, Histories, History, ages_are_spread, ages_in, counts_in, course_of, edges,
@@ -466,12 +467,12 @@ def main(words: Sequence[str]) -> int:
     with tempfile.TemporaryFile() as log:
         refusal = run_program(program, cut_text, reading_words(options), log)
         if refusal:
-            print(f"{tool()}: {shown(refusal)}; {command_of('explain')} tells more", file=sys.stderr)
+            tell(f"{shown(refusal)}; {command_of('explain')} tells more")
             return 1
         html, found = page(options, words, text, f"/dev/fd/{log.fileno()}")
     write_text(options.output, html)
     failed = [f"{requirement.told_of(name)} {failure.word}: {failure.reason}"
               for requirement, name, failure, _ in found if failure]
     for line in failed:
-        print(f"{tool()}: {line}", file=sys.stderr)
+        tell(line)
     return 1 if failed else 0

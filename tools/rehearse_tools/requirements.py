@@ -1,4 +1,6 @@
 """What must hold of the report of a run. tools/sweep and tools/report import it; it is not a command."""
+from __future__ import annotations
+
 import fnmatch
 import math
 import operator
@@ -54,11 +56,13 @@ class Requirement:
     COMPARISONS = {"<": operator.lt, "<=": operator.le, ">": operator.gt, ">=": operator.ge, "=": operator.eq,
                    "==": operator.eq, "!=": operator.ne}
     WORDS = re.compile(r"([^<>=!]+)\.([A-Za-z0-9_]+)\s*(<=|>=|==|!=|<|>|=)\s*(.*)")
-    SHARE = re.compile(r"(.*\S)\s+in\s+([0-9]{1,2}(?:\.[0-9]{1,6})?)\s*%")
+    SHARE = re.compile(r"(.*\S)\s+in\s+([0-9]{1,3}(?:\.[0-9]{1,6})?)\s*%")
 
     def __init__(self, text: str) -> None:
         shared = self.SHARE.fullmatch(text.strip())
         self.share = float(Fraction(shared[2]) / 100) if shared else None
+        if shared and self.share is not None and self.share >= 1:
+            raise Fault(f"{shown(text)}: a share of the runs is under 100 %; without `in` it must hold in all")
         match = self.WORDS.fullmatch(shared[1] if shared else text.strip())
         if not match or self.share == 0:
             raise Fault(f"{shown(text)} is no requirement, as orders.age_p95<60s")

@@ -20,6 +20,8 @@ one variant is a share as well: number 7 of 200 variants is share 7/200. Its fil
 The mark is eight digits of the checksum of the lines from scenario to queues: whatever changes the results changes it.
 A variant that was killed has no rows, so that it is run again.
 """
+from __future__ import annotations
+
 import csv
 import hashlib
 import io

@@ -3,6 +3,8 @@
 The tools import it; it is not a command. It needs nothing but the program, so that a worker of a cluster runs it as
 well.
 """
+from __future__ import annotations
+
 import csv
 import io
 import os

@@ -1,14 +1,15 @@
 """Reads a scenario, changes settings of it, and writes it. The tools import it; it is not a command."""
+from __future__ import annotations
+
 import copy
 import datetime
 import fnmatch
 import json
 import re
-import tomllib
 from collections.abc import Mapping
 from typing import Any
 
-from .console import Fault, read_text
+from .console import Fault, read_text, toml_of
 from .scripts import NAME as SCRIPT_NAME
 
 LISTS = ("queue", "actor", "task")
@@ -20,7 +21,7 @@ WHOLE_NUMBER = re.compile("[+-]?[0-9]{1,30}")
 def parsed(text: str, path: str) -> dict[str, Any]:
     """The tables of a scenario's text, as the program finds them."""
     try:
-        return tomllib.loads(text.removeprefix("\ufeff"))
+        return toml_of(text.removeprefix("\ufeff"))
     except (ValueError, RecursionError) as error:
         reason = "it is nested too deep" if isinstance(error, RecursionError) else error
         raise Fault(f"{path} is no TOML: {reason}") from None
@@ -100,7 +101,7 @@ def written(scenario: Mapping[str, Any]) -> str:
 def list_of(word: str) -> list[Any] | None:
     """The list that a word is, as TOML has it, or None."""
     try:
-        found = tomllib.loads(f"word = {word}")["word"]
+        found = toml_of(f"word = {word}")["word"]
     except (ValueError, RecursionError):
         return None
     return found if isinstance(found, list) else None

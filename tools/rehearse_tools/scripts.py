@@ -1,4 +1,6 @@
 """The calls of scripts: how they are written, and what is wrong with one. The tools import it; it is not a command."""
+from __future__ import annotations
+
 import csv
 import difflib
 import io

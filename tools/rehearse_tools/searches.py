@@ -1,13 +1,15 @@
 """Sweeps that end on their own: once a mean is known well enough, a requirement is decided, or the least value of a
 setting is found. The tools import it; it is not a command.
 """
+from __future__ import annotations
+
 from collections.abc import Callable, Iterable, Sequence
 
-from .console import Fault
+from .console import Fault, tell
 from .decisions import Requirements, key_of
 from .statistics import is_precise, looks
 from .units import number_of
-from .variants import Sweep, Told, tell
+from .variants import Sweep, Told
 
 Rows = list[list[str]]
 

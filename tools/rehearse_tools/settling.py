@@ -1,5 +1,7 @@
 """Looks if the runs of a sweep have settled, and advises from when on to count. The tools import it; it is not a
 command."""
+from __future__ import annotations
+
 from collections import Counter
 from collections.abc import Iterable, Sequence
 from functools import partial

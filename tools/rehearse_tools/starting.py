@@ -2,20 +2,30 @@
 
 What a tool has started ends with it, whatever ends the tool, SIGKILL too; so does a folder of its own.
 """
+from __future__ import annotations
+
+import os
 import subprocess
+import sys
 import tempfile
 import threading
 from collections.abc import Iterator, Sequence
 from contextlib import contextmanager
-from typing import IO
+from typing import IO, Any, Union
 
 from .console import Fault
 
 # What a standard file of the program is: an open file, or subprocess.DEVNULL or PIPE.
-File = IO[bytes] | int
+File = Union[IO[bytes], int]
 # It waits until its input ends, which the tool holds open, then removes a folder, and kills its own group. Signals that
 # are sent to all that a person or a scheduler has started do not end it before.
 GUARD = """PATH=/usr/bin:/bin; trap '' HUP INT QUIT TERM; read -r line; rm -rf -- "$@"; kill -KILL 0"""
+
+
+def in_group(group: int) -> dict[str, Any]:
+    """What puts a process that starts into a group, or into one of its own if the number is 0."""
+    is_known: bool = sys.version_info >= (3, 11)
+    return {"process_group": group} if is_known else {"preexec_fn": lambda: os.setpgid(0, group)}
 
 
 class Guard:
@@ -29,8 +39,8 @@ class Guard:
 
     def __init__(self, *folder: str) -> None:
         self.folder = folder
-        self.process = subprocess.Popen(["/bin/sh", "-c", GUARD, "sh", *folder], stdin=subprocess.PIPE, process_group=0,
-                                        stdout=subprocess.DEVNULL, stderr=subprocess.DEVNULL, cwd="/")
+        self.process = subprocess.Popen(["/bin/sh", "-c", GUARD, "sh", *folder], stdin=subprocess.PIPE, cwd="/",
+                                        stdout=subprocess.DEVNULL, stderr=subprocess.DEVNULL, **in_group(0))
 
     @classmethod
     def group(cls) -> int:
@@ -45,7 +55,7 @@ def started(command: Sequence[str], stdin: File, stdout: File, stderr: File,
             folder: str | None = None) -> Iterator["subprocess.Popen[bytes]"]:
     """Starts the program in a folder. It has ended when this is left: an exception kills it."""
     with subprocess.Popen(command, stdin=stdin, stdout=stdout, stderr=stderr, cwd=folder,
-                          process_group=Guard.group()) as process:
+                          **in_group(Guard.group())) as process:
         try:
             yield process
         except BaseException:

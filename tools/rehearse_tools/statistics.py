@@ -10,8 +10,10 @@ Scandinavian Journal of Statistics 6 (1979) 65; K. P. White,
 M. J. Cobb and S. C. Spratt, Winter Simulation Conference 2000, 755; A. Wald, Sequential Analysis, 1947;
 J. Ville, Étude critique de la notion de collectif, 1939; H. Robbins, Annals of Mathematical Statistics 41 (1970) 1397.
 """
+from __future__ import annotations
+
 import math
-from bisect import bisect_left, bisect_right
+from bisect import bisect_right
 from collections.abc import Callable, Iterator, Mapping, Sequence
 from fractions import Fraction
 from functools import lru_cache
@@ -102,8 +104,11 @@ def skew_interval(numbers: Sequence[float], confidence: float = CONFIDENCE) -> I
     skewness = min(SKEWNESS_MOST, max(sample, 3 * deviation / mean))
     rest, point = skewness / 6 / runs, half / deviation
 
+    # Python has it since 3.11
+    cube_root = getattr(math, "cbrt", None) or (lambda number: math.copysign(abs(number) ** (1 / 3), number))
+
     def shift(share: float) -> float:
-        return (math.cbrt(1 + skewness * (share - rest)) - 1) * 3 / skewness
+        return float((cube_root(1 + skewness * (share - rest)) - 1) * 3 / skewness)
 
     return Interval(max(0.0, mean - deviation * shift(point)), mean - deviation * shift(-point))
 
@@ -350,6 +355,15 @@ def share_left(known: int, left: int) -> float:
     return left / (known + left) if left else 0.0
 
 
+def first_of(items: Sequence[float], holds: Callable[[float], bool]) -> float:
+    """The first of some items that holds; those behind it do too, and the last one holds."""
+    low, high = 0, len(items) - 1
+    while low < high:
+        middle = (low + high) // 2
+        low, high = (low, middle) if holds(items[middle]) else (middle + 1, high)
+    return items[low]
+
+
 def censored_percentile(known: Sequence[float], left: Sequence[float], share: float,
                         may_come: Sequence[float] = ()) -> Interval | None:
     """The bounds of a percentile of ages if the messages in `left`, and those in `may_come`, are at least as old as
@@ -369,7 +383,7 @@ def censored_percentile(known: Sequence[float], left: Sequence[float], share: fl
     if not ages:
         return None
     rank = rank_of(len(certain) + len(doubtful), share)
-    return Interval(ages[bisect_left(ages, True, key=is_reached)],
+    return Interval(first_of(ages, is_reached),
                     sorted(known)[rank - 1] if rank <= len(known) else math.inf)
 
 

@@ -1,9 +1,11 @@
 """What happened in each queue of a run, in plain units. tools/summary and tools/report import it."""
+from __future__ import annotations
+
 import math
 import re
 from collections import Counter
 from collections.abc import Callable, Collection, Iterable, Mapping, Sequence
-from typing import Any, NamedTuple
+from typing import Any, NamedTuple, Optional
 
 from .console import Fault, shown
 from .doors import Doors, Left
@@ -39,7 +41,7 @@ AGE_EXACT = 1 << AGE_BITS
 # Numbers by what they are, None where there is none.
 Values = dict[str, Any]
 # The values of a queue in each run, None where a run lacks it.
-Sides = Sequence[Values | None]
+Sides = Sequence[Optional[Values]]
 
 
 class Message:
@@ -403,7 +405,7 @@ class Run:
         self.last_at = replay(self.log, rows)
         if self.first is not None and self.log.counts and self.first > self.log.at:
             raise Fault(f"--from {self.first} ms is after the last row of {self.log.name}, at {self.log.at} ms")
-        self.row_count = sum(queue.kinds.total() for queue in self.queues.values())
+        self.row_count = sum(sum(queue.kinds.values()) for queue in self.queues.values())
         self.queues = {queue.name: queue for queue in sorted(self.queues.values(), key=lambda queue: queue.number)}
         for queue in self.queues.values():
             queue.fold_ages()

@@ -64,7 +64,7 @@ import os
 import sys
 from collections.abc import Mapping, Sequence
 
-from .console import Fault, Parser, is_terminal, print_text
+from .console import BOLD, PLAIN, RED, Fault, Parser, is_terminal, print_text
 from .logs import open_told
 from .overview import lines_of
 from .summaries import (BACKLOG, LINES, Queue, Reading, Run, Sides, Values, cell_of, cell_of_difference, difference,
@@ -82,10 +82,10 @@ class Style:
         self.coloured = coloured
 
     def bold(self, text: str) -> str:
-        return f"\033[1m{text}\033[0m" if self.coloured else text
+        return f"{BOLD}{text}{PLAIN}" if self.coloured else text
 
     def alarm(self, text: str) -> str:
-        return f"\033[1;31m{text}\033[0m" if self.coloured else text
+        return f"{RED}{text}{PLAIN}" if self.coloured else text
 
 
 def heading_of(name: str, titles: str, style: Style) -> str:

@@ -29,9 +29,9 @@
           --spread those that do in each run. A requirement on an age also fails if no message was deleted, because
           there is no age. Messages that are left are at least as old as they are now. If they could turn a requirement
           on age_p50, age_p95, age_p99 or age_max, it fails or is undecided, which counts as a failure, and the share
-          that is left is printed. Without --vary the scenario runs as it is. With `in 95%` after it, which goes with
-          --spread, that share of all runs must meet it: it is shown, refuted or undecided with 95 % confidence, and
-          holds if it is shown.
+          that is left is printed. Without --vary, but with --require or --columns, the scenario runs as it is. With `in
+          95%` after it, which goes with --spread, that share of all runs must meet it: it is shown, refuted or
+          undecided with 95 % confidence, and holds if it is shown.
 --spread  puts the runs together that differ only in this setting, and gives for each number of the report its mean,
           sample standard deviation, least, median and greatest, the half-width of the mean's 95 % interval, of ages
           both ends of it (mean_low and mean_high), and the interval of the median; numbers that a run's report leaves
@@ -90,13 +90,15 @@ Examples:
     tools/sweep examples/short_timeout.toml --least queue.jobs.visibility_s=1..10 --vary seed=1..100
         --spread seed --require 'jobs.age_p95<15s in 80%'
 """
+from __future__ import annotations
+
 import argparse
 import os
 import re
 from collections.abc import Callable, Iterable, Iterator, Sequence
 
 from .clusters import PROGRAM, SCRIPTS, Cluster
-from .console import (Fault, Parser, check_library, check_output, print_text, shown, write_bytes,
+from .console import (Fault, Parser, check_library, check_output, print_text, shown, tell, write_bytes,
                       write_text)
 from .decisions import Requirements
 from .drawing import FORMATS, bytes_of
@@ -111,7 +113,7 @@ from .starting import temporary_folder
 from .settling import advise, looked_at, picture_of
 from .tables import Table, against, csv_text, folded, selected, table_text
 from .units import moment_of, window_of
-from .variants import Given, Settings, Sweep, Told, Window, tell
+from .variants import Given, Settings, Sweep, Told, Window
 
 JOBS_MOST = 1_024
 SHARES_MOST = 1_000_000
@@ -182,8 +184,8 @@ def check_mode(options: argparse.Namespace) -> None:
                             or options.first or options.last or options.preview
                             or any(getattr(options, mode) for mode in MODES[:-1])):
         raise Fault("--collect reads what was run, and takes no SCENARIO, --vary, --print-jobs or --print-scenario")
-    if not options.collect and not (options.scenario and (options.vary or options.require)):
-        raise Fault("a SCENARIO and at least one --vary or --require are needed (--help tells the usage)")
+    if not options.collect and not (options.scenario and (options.vary or options.require or options.columns)):
+        raise Fault("a SCENARIO and at least one --vary, --require or --columns are needed (--help tells the usage)")
     if options.print_scenario and (options.first or options.last):
         raise Fault("--from and --to go with runs, and nothing is run")
     if any(getattr(options, mode) for mode in MODES[:-1]) and any(getattr(options, of) for of in OF_RUNS):

@@ -2,6 +2,8 @@
 
 The tools import it; it is not a command.
 """
+from __future__ import annotations
+
 import csv
 import io
 import itertools

@@ -1,5 +1,7 @@
 """A template of CloudFormation or SAM: its queues, and who sends to them and receives from them. from-plan imports it.
 """
+from __future__ import annotations
+
 import re
 from typing import Any
 

@@ -1,4 +1,6 @@
 """Times with units, as people write and read them. The tools import it; it is not a command."""
+from __future__ import annotations
+
 import math
 import re
 from fractions import Fraction

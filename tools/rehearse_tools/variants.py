@@ -1,4 +1,6 @@
 """The variants of a scenario that a sweep runs, and how they are run. The tools import it; it is not a command."""
+from __future__ import annotations
+
 import itertools
 import math
 import os
@@ -14,7 +16,7 @@ from concurrent.futures import Future, ThreadPoolExecutor
 from contextlib import contextmanager
 from typing import Any, NamedTuple
 
-from .console import Fault, Progress, is_terminal, read_bytes, read_text, stop, take_signals, tool, write_bytes
+from .console import Fault, Progress, is_terminal, read_bytes, read_text, stop, take_signals, tell, write_bytes
 from .keys import PREVIEW
 from .programs import preview_words
 from .runs import ALL_COLUMNS, COLUMNS, Ages, Counting, Ended, Engine, Extra, Ran, Take, piped, run
@@ -29,12 +31,6 @@ AHEAD = 256
 # A word of a list of values: a text in quotes, a list with no list in its lists, or anything else.
 WORDS = re.compile(r'("[^"]*"|\[(?:[^\[\]]|\[[^\[\]]*\])*\]|[^",]+)(?:,(?!$)|$)')
 RANGE = re.compile(r"(-?[0-9]+)\.\.(-?[0-9]+)(?:\.\.([1-9][0-9]*))?")
-
-
-def tell(line: str) -> None:
-    """Prints a line on standard error."""
-    Progress.clear()
-    print(f"{tool()}: {line}", file=sys.stderr)
 
 
 def values_of(text: str) -> list[str]:
@@ -220,8 +216,12 @@ class Sweep:
         if os.statvfs(folder).f_flag & os.ST_NOEXEC:
             raise Fault(f"no program may run in {folder}: TMPDIR names another folder for temporary files")
         program, scripts = os.path.join(folder, "sqs_rehearse"), os.path.join(folder, "scripts")
-        write_bytes(program, read_bytes(self.program))
-        os.chmod(program, 0o700)
+        if self.program.endswith(".mjs"):
+            # it is one of several files, of which it checks that they belong together
+            os.symlink(self.program, program)
+        else:
+            write_bytes(program, read_bytes(self.program))
+            os.chmod(program, 0o700)
         os.mkdir(scripts)
         self.program = program
         self.keep_scripts(scripts)
