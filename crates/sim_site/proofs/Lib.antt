@@ -30,6 +30,7 @@ pub mod Firsts
 pub mod Marked
 pub mod Picked
 pub mod Ordered
+pub mod Going
 pub mod Grown
 pub mod Ending
 pub mod Greatest

@@ -16,7 +16,7 @@ use Rattle.sim_site.specs.Effects.{Did, Effects}
 use Rattle.sim_site.specs.Reading.{cancelled_task, started_task}
 use Rattle.sim_site.specs.Tasks.{Rewritten}
 use Rattle.sim_site.proofs.Carried.{says_if}
-use Rattle.std.specs.declared.alloc.AllocError.{AllocError}
+use Rattle.sim_clock.specs.declared.refusal.Refusal.{Refusal}
 
 -- one that is found
 pub record Found {A : Type 0} (p : A → Bool) (xs : List A) : Type 0 where
@@ -27,7 +27,7 @@ pub stands_found : {A : Type 0} (p : A → Bool) (xs : List A) (i : ℕ) → Sta
 stands_found p [] i s = absurd (omega (arith, s.within))
 stands_found p (x ∷ xs) i s = record { one = _; is = s.found x }
 
-module _ (key : Key) (a : Actor) (c : Core) (before after : Effects) (r : Result (Unit {0}) AllocError) (n : ℕ) (x : Row) (rows : OnOk r (after.rows.items ≡ before.rows.items ++ x ∷ [])) (sent : after.sent ≡ before.sent) where
+module _ (key : Key) (a : Actor) (c : Core) (before after : Effects) (r : Result (Unit {0}) Refusal) (n : ℕ) (x : Row) (rows : OnOk r (after.rows.items ≡ before.rows.items ++ x ∷ [])) (sent : after.sent ≡ before.sent) where
   pub start_refused :
       (i : ℕ) → Stands (is_task n) c.tasks i → list_any runs c.tasks ≡ true → x ≡ task_row key a c n kinds.Start (answers.Refused refusals.TaskRunning)
       → OnOk r (Did before after c (start_made key a c n (task_numbered n c)).effect)
