@@ -4,7 +4,6 @@ pub mod Least
 pub mod Refusals
 pub mod Waits
 pub mod Said
-pub mod Made
 pub mod Hosts
 pub mod Waiting
 pub mod Rewriting

@@ -32,7 +32,7 @@ use Rattle.sqs_model.proofs.Growth.{Grows, MayStand, all_back_up, moves_up, same
 use Rattle.sqs_model.specs.Receive.{to_give}
 use Rattle.sim_site.specs.Steps.{stepped_moves}
 use Rattle.sim_site.proofs.Rewriting.{is_its_number}
-use Rattle.sim_site.proofs.Passing.{actor_passes, passes_after, passes_before, passes_site, rows_pass, site_passes, task_passes, words_within}
+use Rattle.sim_site.proofs.Passing.{actor_passes, passes_before, passes_site, rows_pass, site_passes, task_passes, words_within}
 
 -- a receive that waits for one more poll
 pub polls_pass :
@@ -47,14 +47,6 @@ polls_pass key c n max wait timeout a e f long full =
     let p : most_count < actor_count b = omega (arith, l, m, full) in
     let q : most_count < site_count (with_actor c b) = actor_passes c a b found p in
     rw z (site_passes (receive_none key a c max 1 timeout).effect (site_count (with_actor c b)) q (omega arith))
-
--- what a receive gave, of which all come back at once
-pub back_limited :
-    (key : Key) (c : Core) (n : ℕ) (timeout : Option ℕ) (q : Queue) (gots : List Got) → (timeout_of q timeout == 0) ≡ true
-    → PassesCount (all_came_back key gots (with_queue c q)) → PassesCount (given key c n timeout (q, gots))
-back_limited key c n timeout q gots z h =
-    let e : Effect = record { core = with_queue c q; rows = map (got_row key c n) gots; sent = [] } in
-    rw z (passes_after e (all_came_back key gots) h)
 
 -- how often each that was given was received
 abbrev pub counts_of : List Got → ℕ
