@@ -1,6 +1,4 @@
 -- Effects one after another.
-use Rattle.std.specs.Prelude.{Err, Ok, OnOk, Result}
-use Rattle.sim_clock.specs.declared.refusal.Refusal.{Refusal}
 use Rattle.sqs_message.specs.declared.row.Row.{Row}
 use Rattle.sqs_redrive.specs.declared.transfers.Outbound.{Outbound}
 use Rattle.std.proofs.Common.{Global, Vec, ◌≡◌, [], ◌∷◌, ◌++◌, append_assoc, append-nil, arith, refl, ap, subst, sym, ◌∙◌, ◌≤◌}
@@ -23,13 +21,6 @@ did_then a b d c e f g p q =
 pub did_nothing : (a : Effects) (c : Core) → Did a a c (no_effect c)
 did_nothing a c = record { core = refl; rows = sym (append-nil a.rows.items); sent = sym (append-nil a.sent.items) }
 
--- the same of what may be refused
-pub then_if :
-    (r : Result (Unit {0}) Refusal) (a b d : Effects) (c e : Core) (f : Effect) (g : Core → Effect)
-    → Did a b c f → OnOk r (Did b d e (g c)) → OnOk r (Did a d e (and_then f g))
-then_if (Ok u) a b d c e f g p q = did_then a b d c e f g p q
-then_if (Err x) a b d c e f g p q = tt
-
 -- a row was added, and nothing else
 pub did_say : (a b : Effects) (c d : Core) (x y : Row) → b.rows.items ≡ a.rows.items ++ x ∷ [] → b.sent ≡ a.sent → c ≡ d → x ≡ y → Did a b c (says d y)
 did_say a b c d x y rows sent same row =
@@ -38,13 +29,6 @@ did_say a b c d x y rows sent same row =
       rows = rows ∙ ap (λ z. a.rows.items ++ z ∷ []) row;
       sent = ap (λ (v : Vec Outbound Global). v.items) sent ∙ sym (append-nil a.sent.items);
     }
-
--- the same of what may be refused
-pub says_if :
-    {E : Type 0} (r : Result (Unit {0}) E) (a b : Effects) (c d : Core) (x y : Row)
-    → OnOk r (b.rows.items ≡ a.rows.items ++ x ∷ []) → b.sent ≡ a.sent → c ≡ d → x ≡ y → OnOk r (Did a b c (says d y))
-says_if (Ok u) a b c d x y rows sent same row = did_say a b c d x y rows sent same row
-says_if (Err e) a b c d x y rows sent same row = tt
 
 -- all of an effect remains before anything is done
 pub remains_all : (a : Effects) (f : Effect) → Remains a a f f

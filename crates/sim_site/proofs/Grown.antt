@@ -1,5 +1,5 @@
 -- What an actor does at its site adds polls after those that wait, and takes none away.
-use Rattle.std.specs.Prelude.{List, Option, [], drop, get_or, length, ℕ, ◌++◌, ◌+◌, ◌<◌, ◌∷◌, ◌≡◌}
+use Rattle.std.specs.Prelude.{List, [], drop, get_or, length, ℕ, ◌++◌, ◌+◌, ◌<◌, ◌∷◌, ◌≡◌}
 use Rattle.std.proofs.Common.{add-one, ap, append-nil, append_assoc, arith, drop-cons, length-append, length-drop, subst, sym, ◌∙◌}
 use Rattle.sim_clock.specs.declared.key.Key.{Key}
 use Rattle.sqs_redrive.specs.declared.answers.Got.{Got}

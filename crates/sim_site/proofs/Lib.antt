@@ -4,7 +4,6 @@ pub mod Least
 pub mod Refusals
 pub mod Waits
 pub mod Said
-pub mod Made
 pub mod Hosts
 pub mod Waiting
 pub mod Rewriting
@@ -30,6 +29,7 @@ pub mod Firsts
 pub mod Marked
 pub mod Picked
 pub mod Ordered
+pub mod Going
 pub mod Grown
 pub mod Ending
 pub mod Greatest

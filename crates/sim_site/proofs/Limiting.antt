@@ -21,8 +21,8 @@ use Rattle.sqs_model.specs.Counts.{actor_count, greatest, site_count, task_count
 use Rattle.sqs_model.specs.Queue.{Queue, in_flight, room}
 use Rattle.sqs_model.specs.Receive.{answered, give, give_after, give_most, given_one, is_bad_timeout, receive, timeout_of}
 use Rattle.sqs_model.specs.Site.{Core, Effect, actor_numbered, and_then, is_task, task_numbered, with_actor, with_queue, with_task}
-use Rattle.sqs_model.specs.Step.{handle_step, handle_taken, moves, one_sent}
-use Rattle.sqs_model.specs.Task.{Task, take_movable}
+use Rattle.sqs_model.specs.Step.{moves, one_sent, step_moved}
+use Rattle.sqs_model.specs.Task.{Task}
 use Rattle.sqs_redrive.specs.MoveTasks.{MoveTask}
 use Rattle.sqs_redrive.specs.declared.answers.Rest.{Rest}
 use Rattle.sqs_model.proofs.Counts.{find_picked}
@@ -32,7 +32,7 @@ use Rattle.sqs_model.proofs.Growth.{Grows, MayStand, all_back_up, moves_up, same
 use Rattle.sqs_model.specs.Receive.{to_give}
 use Rattle.sim_site.specs.Steps.{stepped_moves}
 use Rattle.sim_site.proofs.Rewriting.{is_its_number}
-use Rattle.sim_site.proofs.Passing.{actor_passes, passes_after, passes_before, passes_site, rows_pass, site_passes, task_passes, words_within}
+use Rattle.sim_site.proofs.Passing.{actor_passes, passes_before, passes_site, rows_pass, site_passes, task_passes, words_within}
 
 -- a receive that waits for one more poll
 pub polls_pass :
@@ -47,14 +47,6 @@ polls_pass key c n max wait timeout a e f long full =
     let p : most_count < actor_count b = omega (arith, l, m, full) in
     let q : most_count < site_count (with_actor c b) = actor_passes c a b found p in
     rw z (site_passes (receive_none key a c max 1 timeout).effect (site_count (with_actor c b)) q (omega arith))
-
--- what a receive gave, of which all come back at once
-pub back_limited :
-    (key : Key) (c : Core) (n : ℕ) (timeout : Option ℕ) (q : Queue) (gots : List Got) → (timeout_of q timeout == 0) ≡ true
-    → PassesCount (all_came_back key gots (with_queue c q)) → PassesCount (given key c n timeout (q, gots))
-back_limited key c n timeout q gots z h =
-    let e : Effect = record { core = with_queue c q; rows = map (got_row key c n) gots; sent = [] } in
-    rw z (passes_after e (all_came_back key gots) h)
 
 -- how often each that was given was received
 abbrev pub counts_of : List Got → ℕ
@@ -183,17 +175,14 @@ after_passes key c t loads rest p =
     omega (arith, p, up)
 
 -- a step of a site's task
-pub step_limited :
-    (key : Key) (c : Core) (t : Task) (loads : List (ℕ × Load)) (rest : Rest) (q : Queue) → task_numbered key.agent c ≡ Some t
-    → take_movable c.queue t.move.settings.per_second t.move.settings.to ≡ ((loads, rest), q)
-    → most_count < task_count (stepped_moves key (with_queue c q) t loads rest).task
-    → PassesCount (handle_step key c (task_numbered key.agent c))
-step_limited key c t loads rest q found taken p =
-    let d : Core = with_queue c q in
-    let after : Task = (stepped_moves key d t loads rest).task in
-    let m = moves_up d key d t loads in
+pub step_passes :
+    (key : Key) (c : Core) (t : Task) (loads : List (ℕ × Load)) (rest : Rest) → task_numbered key.agent c ≡ Some t
+    → most_count < task_count (stepped_moves key c t loads rest).task
+    → PassesCount (step_moved key c (length loads) rest (moves key c t loads))
+step_passes key c t loads rest found p =
+    let after : Task = (stepped_moves key c t loads rest).task in
+    let m = moves_up c key c t loads in
     let its : t.number ≡ key.agent = is_its_number key.agent t (find_picked (is_task key.agent) c.tasks t found) in
-    let there : task_numbered after.number d ≡ Some t = subst (λ i. task_numbered i d ≡ Some t) (sym (m.0 ∙ its)) found in
-    let past : most_count < site_count (with_task d after) = task_passes d t after there p in
-    subst (λ o. PassesCount (handle_step key c o)) (sym found)
-    (subst (λ x. PassesCount (handle_taken key c t x)) (sym taken) (site_passes (handle_taken key c t ((loads, rest), q)) (site_count (with_task d after)) past (omega arith)))
+    let there : task_numbered after.number c ≡ Some t = subst (λ i. task_numbered i c ≡ Some t) (sym (m.0 ∙ its)) found in
+    let past : most_count < site_count (with_task c after) = task_passes c t after there p in
+    site_passes (step_moved key c (length loads) rest (moves key c t loads)) (site_count (with_task c after)) past (omega arith)

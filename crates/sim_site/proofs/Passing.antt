@@ -1,5 +1,5 @@
 -- Where a part of an effect takes a count past the limit, the whole does.
-use Rattle.std.specs.Prelude.{Bool, Err, IfErr, IsErrAnd, List, Ok, Result, Some, [], cond, false, find, map, max, true, ℕ, ◌++◌, ◌<◌, ◌∷◌, ◌≡◌, ◌≤◌}
+use Rattle.std.specs.Prelude.{Bool, Err, IfErr, IsErrAnd, List, MatchResult, Ok, Result, Some, [], cond, false, find, map, max, true, ℕ, ◌++◌, ◌<◌, ◌∷◌, ◌≡◌, ◌≤◌}
 use Rattle.std.proofs.Common.{arith, subst, sym}
 use Rattle.std.proofs.Math.Nat.{le-max_left, le-max_right, max-le}
 use Rattle.sim_clock.specs.declared.refusal.Refusal.{Refusal}
@@ -112,9 +112,11 @@ stops_then r a b c e f did h =
     stops_if (PassesCount (f e.core)) (PassesCount (and_then e f)) r (passes_after e f) k
 
 -- `?` passes a refusal up as it is
-pub stops_up : {A : Type 0} (L M : Type 0) (r : Result A Refusal) (x : Refusal) → IsErrAnd r (λ y. y ≡ x) → (L → M) → StopsWhere L x → IfErr r (StopsWhere M)
-stops_up L M (Ok a) x e f h = tt
-stops_up L M (Err y) x e f h = subst (StopsWhere M) (sym e) (stops_for L M x f h)
+pub stops_up :
+    {A : Type 0} (P : A → Type 0) (L M : Type 0) (r : Result A Refusal) (x : Refusal) → IsErrAnd r (λ y. y ≡ x) → (L → M) → StopsWhere L x
+    → MatchResult r P (StopsWhere M)
+stops_up P L M (Ok a) x e f h = elim e [ ]
+stops_up P L M (Err y) x e f h = subst (StopsWhere M) (sym e) (stops_for L M x f h)
 
 -- what remains of an effect
 pub passes_rest : (a b : Effects) (rest whole : Effect) → Remains a b rest whole → PassesCount rest → PassesCount whole

@@ -1,6 +1,6 @@
 -- Polls: their ends, and the answers that they get.
 use Rattle.std.proofs.Common.{Bool, true, false, suc, ◌+◌, ◌<◌, Option, add-one, drop, drop-cons, get_or, length, if◌then◌else◌, ◌≡◌, ℕ, List, [], ◌∷◌, ◌++◌, refl, ap, subst, sym, ◌∙◌}
-use Rattle.std.specs.Prelude.{Err, IfErr, Ok, OnOk, Result}
+use Rattle.std.specs.Prelude.{Err, Ok, Result}
 use Rattle.sim_clock.specs.declared.refusal.Refusal.TheVariants as refusals
 use Rattle.sqs_model.specs.Available.{all_hosts}
 use Rattle.sqs_model.specs.Queue.{Queue}
@@ -15,35 +15,30 @@ use Rattle.sqs_model.specs.declared.acts.Answer.TheVariants as told_by
 use Rattle.sim_clock.specs.Firsts.{without}
 use Rattle.sqs_model.specs.Acts.{given, receive_row}
 use Rattle.sqs_model.specs.Polls.{answer_polls, can_give, poll_answered, poll_given, told, without_poll}
-use Rattle.sqs_model.specs.Site.{Core, Poll, and_then, no_effect, says}
+use Rattle.sqs_model.specs.Site.{Core, Effect, Poll, and_then, no_effect, says}
 use Rattle.sqs_model.specs.Step.{ends_at, handle_poll_end}
-use Rattle.sim_site.specs.Effects.{Did, Effects, Stops}
-use Rattle.sim_site.proofs.Carried.{did_say, then_if}
-use Rattle.sim_site.proofs.Passing.{stops_then}
+use Rattle.sqs_model.proofs.Growth.{same, told_to}
+use Rattle.sqs_model.specs.Limits.{PassesCount}
+use Rattle.sim_site.specs.Effects.{Did, Does, GoesOn}
+use Rattle.sim_site.specs.declared.handling.Handling.{Handling}
+use Rattle.sim_site.proofs.Carried.{did_say}
+use Rattle.sim_site.proofs.Going.{does_then}
+use Rattle.sim_site.proofs.Passing.{passes_after, passes_before}
 
 -- a poll that ends, whose row was added
-module _ (key : Key) (c : Core) (before mid : Effects) (r : Result (Unit {0}) Refusal) (polls : List Poll) (gots : List Got) (x : Row) (left : polls ≡ without (ends_at key) c.polls) (none : gots ≡ [])
-    (rows : mid.rows.items ≡ before.rows.items ++ x ∷ []) (sent : mid.sent ≡ before.sent) (row : x ≡ receive_row key c key.agent answers.Empty) where
-  abbrev ended : Core
-  ended = record c { polls = without (ends_at key) c.polls }
-
-  row_told : Did before mid ended (says ended (receive_row key c key.agent answers.Empty))
-  row_told = did_say before mid ended ended x (receive_row key c key.agent answers.Empty) rows sent refl row
-
-  told_there : told key key.agent (told_by.Got gots) (record c { polls = polls }) ≡ told key key.agent (told_by.Got []) ended
-  told_there = ap (λ g. told key key.agent (told_by.Got g) (record c { polls = polls })) none ∙ ap (λ p. told key key.agent (told_by.Got []) (record c { polls = p })) left
-
-  pub poll_end_did :
-      (d : Core) (after : Effects) → OnOk r (Did mid after d (told key key.agent (told_by.Got gots) (record c { polls = polls })))
-      → OnOk r (Did before after d (handle_poll_end key c))
-  poll_end_did d after more =
-      then_if r before mid after ended d (says ended (receive_row key c key.agent answers.Empty)) (told key key.agent (told_by.Got []))
-      row_told (subst (λ f. OnOk r (Did mid after d f)) told_there more)
-
-  pub poll_end_stops : IfErr r (Stops (told key key.agent (told_by.Got gots) (record c { polls = polls }))) → IfErr r (Stops (handle_poll_end key c))
-  poll_end_stops more =
-      stops_then r before mid ended (says ended (receive_row key c key.agent answers.Empty)) (told key key.agent (told_by.Got []))
-      row_told (subst (λ f. IfErr r (Stops f)) told_there more)
+pub poll_end_does :
+    {A : Type 0} (r : Result A Refusal) (a b end : Handling) (c d : Core) (polls : List Poll) (gots : List Got) (x : Row)
+    → polls ≡ without (ends_at a.key) c.polls → gots ≡ [] → GoesOn a b → a.agent ≡ a.key.agent
+    → b.effects.now.rows.items ≡ a.effects.now.rows.items ++ x ∷ [] → b.effects.now.sent ≡ a.effects.now.sent → x ≡ receive_row a.key c a.agent answers.Empty
+    → Does r b end d (told b.key b.agent (told_by.Got gots) (record c { polls = polls })) → Does r a end d (handle_poll_end a.key c)
+poll_end_does r a b end c d polls gots x left none on agent rows sent row more =
+    let ended : Core = record c { polls = without (ends_at a.key) c.polls } in
+    let first : Effect = says ended (receive_row a.key c a.agent answers.Empty) in
+    let did : Did a.effects.now b.effects.now ended first = did_say a.effects.now b.effects.now ended ended x (receive_row a.key c a.agent answers.Empty) rows sent refl row in
+    let there : told b.key b.agent (told_by.Got gots) (record c { polls = polls }) ≡ told b.key b.agent (told_by.Got []) ended =
+    ap (λ g. told b.key b.agent (told_by.Got g) (record c { polls = polls })) none ∙ ap (λ p. told b.key b.agent (told_by.Got []) (record c { polls = p })) left in
+    subst (λ n. Does r a end d (and_then (says ended (receive_row a.key c n answers.Empty)) (told a.key n (told_by.Got [])))) agent
+    (does_then r a b end ended d first (λ k n e. told k n (told_by.Got []) e) (on, did) (subst (λ f. Does r b end d f) there more))
 
 -- a receive that is not refused gives what the definition gives
 gives_by :
@@ -59,22 +54,43 @@ pub receive_gives :
     (q new : Queue) (now max : ℕ) (timeout : Option ℕ) (set : ℕ) (gots : List Got) → receive q now max timeout set false ≡ (Ok gots, new) → give_most q now max timeout set ≡ (new, gots)
 receive_gives q new now max timeout set gots h = gives_by (is_bad_timeout timeout) q new (give_most q now max timeout set) gots h
 
-pub poll_answered_did :
-    (key : Key) (p : Poll) (c e d : Core) (before mid after : Effects) (r : Result (Unit {0}) Refusal) (set : ℕ) (q : Queue) (polls : List Poll) (gots slice batch : List Got)
-    → all_hosts c.queue.settings.kind ≡ set → receive c.queue key.at p.max p.timeout set false ≡ (Ok gots, q) → q.site ≡ c.queue.site
-    → polls ≡ drop 1 c.polls → slice ≡ gots → batch ≡ gots
-    → Did before mid e (given key (record c { queue = q; polls = polls }) p.actor p.timeout (q, slice))
-    → OnOk r (Did mid after d (told key p.actor (told_by.Got batch) e))
-    → OnOk r (Did before after d (poll_answered key p c (poll_given key p c.queue)))
-poll_answered_did key p c e d before mid after r set q polls gots slice batch all h site left same same_batch first more =
-    let g : poll_given key p c.queue ≡ (q, gots) = ap (give_most c.queue key.at p.max p.timeout) all ∙ receive_gives c.queue q key.at p.max p.timeout set gots h in
-    let s : given key (record c { queue = q; polls = polls }) p.actor p.timeout (q, slice) ≡ given key (without_poll c) p.actor p.timeout (q, gots) =
-    ap (λ ps. given key (record c { queue = q; polls = ps }) p.actor p.timeout (q, slice)) left
-    ∙ ap (λ l. given key (record c { queue = q; polls = drop 1 c.polls }) p.actor p.timeout (q, l)) same
-    ∙ given_same key (without_poll c) q p.actor p.timeout gots site in
-    rw g
-    (then_if r before mid after e d (given key (without_poll c) p.actor p.timeout (q, gots)) (told key p.actor (told_by.Got gots))
-    (subst (λ f. Did before mid e f) s first) (subst (λ b. OnOk r (Did mid after d (told key p.actor (told_by.Got b) e))) same_batch more))
+-- the answer to a poll of the actor that acts: what it is given, and what its actor does then
+module _ (a : Handling) (p : Poll) (c : Core) (set : ℕ) (q : Queue) (polls : List Poll) (gots slice : List Got) (agent : a.agent ≡ p.actor) (all : all_hosts c.queue.settings.kind ≡ set)
+    (h : receive c.queue a.key.at p.max p.timeout set false ≡ (Ok gots, q)) (site : q.site ≡ c.queue.site) (left : polls ≡ drop 1 c.polls) (alike : slice ≡ gots) where
+  abbrev giving : Effect
+  giving = given a.key (record c { queue = q; polls = polls }) a.agent p.timeout (q, slice)
+
+  answer_is : and_then giving (told a.key a.agent (told_by.Got gots)) ≡ poll_answered a.key p c (poll_given a.key p c.queue)
+  answer_is =
+      let gives : poll_given a.key p c.queue ≡ (q, gots) = ap (give_most c.queue a.key.at p.max p.timeout) all ∙ receive_gives c.queue q a.key.at p.max p.timeout set gots h in
+      let same : giving ≡ given a.key (without_poll c) a.agent p.timeout (q, gots) =
+      ap (λ ps. given a.key (record c { queue = q; polls = ps }) a.agent p.timeout (q, slice)) left
+      ∙ ap (λ l. given a.key (record c { queue = q; polls = drop 1 c.polls }) a.agent p.timeout (q, l)) alike
+      ∙ given_same a.key (without_poll c) q a.agent p.timeout gots site in
+      ap (λ e. and_then e (told a.key a.agent (told_by.Got gots))) same
+      ∙ ap (λ n. and_then (given a.key (without_poll c) n p.timeout (q, gots)) (told a.key n (told_by.Got gots))) agent
+      ∙ ap (poll_answered a.key p c) (sym gives)
+
+  pub poll_does :
+      {A : Type 0} (r : Result A Refusal) (b end : Handling) (e d : Core) (batch : List Got) → batch ≡ gots → GoesOn a b × Did a.effects.now b.effects.now e giving
+      → Does r b end d (told b.key b.agent (told_by.Got batch) e) → Does r a end d (poll_answered a.key p c (poll_given a.key p c.queue))
+  poll_does r b end e d batch own first more =
+      subst (Does r a end d) answer_is
+      (does_then r a b end e d giving (λ k n x. told k n (told_by.Got gots) x) first (subst (λ g. Does r b end d (told b.key b.agent (told_by.Got g) e)) own more))
+
+  -- one whose giving stops
+  pub giving_limited : PassesCount giving → PassesCount (poll_answered a.key p c (poll_given a.key p c.queue))
+  giving_limited k = subst PassesCount answer_is (passes_before giving (told a.key a.agent (told_by.Got gots)) (told_to giving.core a.key a.agent (told_by.Got gots) giving.core (same giving.core)) k)
+
+  -- one whose actor stops
+  pub telling_limited :
+      (b : Handling) (e : Core) (batch : List Got) → batch ≡ gots → GoesOn a b × Did a.effects.now b.effects.now e giving
+      → PassesCount (told b.key b.agent (told_by.Got batch) e) → PassesCount (poll_answered a.key p c (poll_given a.key p c.queue))
+  telling_limited b e batch own (on, did) k =
+      let own_is = subst (λ g. PassesCount (told b.key b.agent (told_by.Got g) e)) own k in
+      let key_is = subst (λ i. PassesCount (told i b.agent (told_by.Got gots) e)) on.key own_is in
+      let agent_is = subst (λ n. PassesCount (told a.key n (told_by.Got gots) e)) on.agent key_is in
+      subst PassesCount answer_is (passes_after giving (told a.key a.agent (told_by.Got gots)) (subst (λ x. PassesCount (told a.key a.agent (told_by.Got gots) x)) did.core agent_is))
 
 -- the answers to polls, of which the first is answered or none is
 pub polls_go :

@@ -15,13 +15,15 @@ use Rattle.sqs_model.specs.Progress.{IsRecent}
 use Rattle.sqs_model.specs.Queue.{Queue}
 use Rattle.sqs_model.specs.Receive.{receive}
 use Rattle.sqs_model.specs.Site.{Core, Effect, Poll, with_actor}
-use Rattle.sim_site.specs.Effects.{Did, Effects}
+use Rattle.sim_site.specs.Effects.{Did, GoesOn}
+use Rattle.sim_site.specs.declared.handling.Handling.{Handling}
 use Rattle.sim_site.specs.Turns.{turn_by, turn_next, turn_of}
 use Rattle.sim_site.proofs.Polling.{polls_go}
 
--- a site after an effect
-pub did_recent : (now : ℕ) (before after : Effects) (c : Core) (e : Effect) → Did before after c e → IsRecent now e.core.queue → IsRecent now c.queue
-did_recent now before after c e did h = subst (λ (x : Core). IsRecent now x.queue) (sym did.core) h
+-- a site after an effect by which a handling went on
+pub goes_recent : (a b : Handling) (c : Core) (e : Effect) → GoesOn a b × Did a.effects.now b.effects.now c e → IsRecent a.key.at e.core.queue → IsRecent b.key.at c.queue
+goes_recent a b c e p h =
+    subst (λ (k : Key). IsRecent k.at c.queue) (sym p.0.key) (subst (λ (x : Core). IsRecent a.key.at x.queue) (sym p.1.core) h)
 
 -- a queue after a receive
 pub received_recent :

@@ -1,19 +1,25 @@
 -- The step of a move task, message by message.
-use Rattle.std.specs.Prelude.{Err, List, Ok, OnOk, Result, Some, find, get_or, length, set, ℕ}
-use Rattle.std.proofs.Common.{Global, Vec, ◌≡◌, [], ◌∷◌, ◌++◌, append_assoc, append-nil, refl, ap, sym, ◌∙◌}
+use Rattle.std.specs.Prelude.{Err, List, Ok, Result, Some, get_or, length, set, ℕ, ◌<◌}
+use Rattle.std.proofs.Common.{Global, Vec, ◌≡◌, [], ◌∷◌, ◌++◌, append_assoc, append-nil, refl, ap, subst, sym, ◌∙◌}
 use Rattle.sim_clock.specs.declared.key.Key.{Key}
+use Rattle.sqs_model.specs.Answers.{most_count}
+use Rattle.sqs_model.specs.Counts.{task_count}
+use Rattle.sqs_model.specs.Limits.{PassesCount}
 use Rattle.sim_clock.specs.declared.refusal.Refusal.{Refusal}
-use Rattle.sim_site.specs.Effects.{Effects}
+use Rattle.sim_site.specs.Effects.{Did, Does, Effects, GoesOn}
+use Rattle.sim_site.specs.declared.handling.Handling.{Handling}
+use Rattle.sim_site.proofs.Limiting.{step_passes}
+use Rattle.sim_site.proofs.Passing.{stops_for}
 use Rattle.sqs_message.specs.declared.row.Row.{Row}
 use Rattle.sim_clock.specs.Firsts.{changed}
 use Rattle.sim_clock.specs.Places.{Stands}
-use Rattle.sqs_model.specs.Site.{Core, is_task, number_of}
-use Rattle.sqs_model.specs.Step.{Moved, end_row, move_row, moves}
+use Rattle.sqs_model.specs.Site.{Core, is_task, number_of, task_numbered, with_task}
+use Rattle.sqs_model.specs.Step.{Moved, end_row, move_row, moves, step_moved}
 use Rattle.sqs_model.specs.Task.{Task}
 use Rattle.sqs_redrive.specs.declared.answers.Rest.{Rest}
 use Rattle.sqs_redrive.specs.declared.transfers.Load.{Load}
 use Rattle.sqs_redrive.specs.declared.transfers.Outbound.{Outbound}
-use Rattle.sim_site.specs.Steps.{DidMove, MoveRemains, SendsOn, Stepped, stepped_moves, task_after}
+use Rattle.sim_site.specs.Steps.{DidMove, MoveRemains, Moves, SendsOn, stepped_moves, task_after}
 use Rattle.sqs_redrive.specs.declared.settings.TaskSettings.{TaskSettings}
 use Rattle.sqs_model.proofs.Counts.{find_picked}
 use Rattle.sim_site.specs.Kept.{numbered_settings}
@@ -21,20 +27,19 @@ use Rattle.sim_site.proofs.Rewriting.{is_its_number, task_at}
 
 -- one message is moved
 pub did_one :
-    (r : Result (Unit {0}) Refusal) (a b d : Effects) (key : Key) (site : ℕ) (t after : Task) (to : ℕ) (load : Load) (x : Row) (o : Outbound)
+    (a b d : Effects) (key : Key) (site : ℕ) (t after : Task) (to : ℕ) (load : Load) (x : Row) (o : Outbound)
     → b.rows.items ≡ a.rows.items ++ x ∷ [] → b.sent ≡ a.sent
     → ((c : Core) → number_of c ≡ site → x ≡ move_row key c t to load)
     → SendsOn key site t to load o after
-    → OnOk r (d.sent.items ≡ b.sent.items ++ o ∷ []) → d.rows ≡ b.rows
-    → OnOk r ((c : Core) → number_of c ≡ site → DidMove a d after (moves key c t ((to, load) ∷ [])))
-did_one (Ok u) a b d key site t after to load x o rows same row sends sent kept = λ c n.
+    → d.sent.items ≡ b.sent.items ++ o ∷ [] → d.rows ≡ b.rows
+    → (c : Core) → number_of c ≡ site → DidMove a d after (moves key c t ((to, load) ∷ []))
+did_one a b d key site t after to load x o rows same row sends sent kept c n =
     let s = sends c n in
     record {
       task = s.1;
       rows = ap (λ (v : Vec Row Global). v.items) kept ∙ rows ∙ ap (λ z. a.rows.items ++ z ∷ []) (row c n);
       sent = sent ∙ ap (λ (v : Vec Outbound Global). v.items ++ o ∷ []) same ∙ ap (λ z. a.sent.items ++ z ∷ []) s.0;
     }
-did_one (Err e) a b d key site t after to load x o rows same row sends sent kept = tt
 
 -- all is left to move before anything is
 pub move_remains_all : (a : Effects) (m : Moved) → MoveRemains a a m m
@@ -68,39 +73,38 @@ move_remains_none a b key c t whole m =
 
 -- a whole step
 pub did_step :
-    (r : Result (Unit {0}) Refusal) (a b d : Effects) (key : Key) (site taken : ℕ) (t mid after : Task) (loads : List (ℕ × Load)) (rest : Rest)
-    → ((c : Core) → number_of c ≡ site → DidMove a b mid (moves key c t loads))
+    (a b d : Effects) (key : Key) (c : Core) (taken : ℕ) (t mid after : Task) (loads : List (ℕ × Load)) (rest : Rest)
+    → DidMove a b mid (moves key c t loads)
     → after ≡ task_after key.at taken rest mid → taken ≡ length loads
-    → OnOk r ((c : Core) → number_of c ≡ site → d.rows.items ≡ b.rows.items ++ end_row key c after rest) → d.sent ≡ b.sent
-    → OnOk r ((c : Core) → number_of c ≡ site → DidMove a d after (stepped_moves key c t loads rest))
-did_step (Ok u) a b d key site taken t mid after loads rest moved e counted told kept = λ c n.
-    let m = moved c n in
+    → d.rows.items ≡ b.rows.items ++ end_row key c after rest → d.sent ≡ b.sent
+    → DidMove a d after (stepped_moves key c t loads rest)
+did_step a b d key c taken t mid after loads rest m e counted told kept =
     let same : after ≡ task_after key.at (length loads) rest (moves key c t loads).task =
     e ∙ ap (λ k. task_after key.at k rest mid) counted ∙ ap (task_after key.at (length loads) rest) m.task in
     record {
       task = same;
       rows =
-          told c n ∙ ap (λ rs. rs ++ end_row key c after rest) m.rows ∙ append_assoc a.rows.items (moves key c t loads).rows (end_row key c after rest)
+          told ∙ ap (λ rs. rs ++ end_row key c after rest) m.rows ∙ append_assoc a.rows.items (moves key c t loads).rows (end_row key c after rest)
           ∙ ap (λ x. a.rows.items ++ ((moves key c t loads).rows ++ end_row key c x rest)) same;
       sent = ap (λ (v : Vec Outbound Global). v.items) kept ∙ m.sent;
     }
-did_step (Err x) a b d key site taken t mid after loads rest moved e counted told kept = tt
 
 -- the step of the task at a place
-pub stepped_if :
-    (r : Result (Unit {0}) Refusal) (key : Key) (site : ℕ) (loads : List (ℕ × Load)) (rest : Rest) (a b : Effects) (xs : List Task) (i : ℕ) (s : Stands (is_task key.agent) xs i)
-    (t after : Task) (e : t ≡ get_or xs i t)
-    → numbered_settings after ≡ numbered_settings t
-    → OnOk r ((c : Core) → number_of c ≡ site → DidMove a b after (stepped_moves key c t loads rest))
-    → OnOk r (Stepped key.agent key site loads rest a b xs (set xs i after))
-stepped_if (Ok u) key site loads rest a b xs i s t after e kept moved =
-    let found : find (is_task key.agent) xs ≡ Some t = task_at key.agent xs i s t e in
-    let number : after.number ≡ key.agent = ap (λ (x : ℕ × TaskSettings). x.0) kept ∙ is_its_number key.agent t (find_picked (is_task key.agent) xs t found) in
-    record {
-      before = t;
-      after = after;
-      found = found;
-      moved = moved;
-      list = sym (s.change (λ _. after) t) ∙ ap (λ m. changed (is_task m) (λ _. after) xs) (sym number);
-    }
-stepped_if (Err x) key site loads rest a b xs i s t after e kept moved = tt
+pub step_does :
+    (r : Result (Unit {0}) Refusal) (a b : Handling) (c : Core) (site : ℕ) (t u after : Task) (loads : List (ℕ × Load)) (rest : Rest) (i : ℕ) → number_of c ≡ site → Stands (is_task a.key.agent) c.tasks i
+    → t ≡ get_or c.tasks i t → task_numbered a.key.agent c ≡ Some u → numbered_settings after ≡ numbered_settings t
+    → Moves r a b site after (λ d. stepped_moves a.key d t loads rest)
+    → Does r a b (record c { tasks = set c.tasks i after }) (step_moved a.key c (length loads) rest (moves a.key c u loads))
+step_does (Ok v) a b c site t u after loads rest i n s e found kept (on, moved) =
+    let m = moved c n in
+    let one : task_numbered a.key.agent c ≡ Some t = task_at a.key.agent c.tasks i s t e in
+    let is : t ≡ u = let k : Some t ≡ Some u = sym one ∙ found in cc in
+    let number : after.number ≡ a.key.agent = ap (λ (x : ℕ × TaskSettings). x.0) kept ∙ is_its_number a.key.agent t (find_picked (is_task a.key.agent) c.tasks t one) in
+    let list : set c.tasks i after ≡ changed (is_task after.number) (λ _. after) c.tasks = sym (s.change (λ _. after) t) ∙ ap (λ n. changed (is_task n) (λ _. after) c.tasks) (sym number) in
+    subst (λ (x : Task). GoesOn a b × Did a.effects.now b.effects.now (record c { tasks = set c.tasks i after }) (step_moved a.key c (length loads) rest (moves a.key c x loads))) is
+    (on, record { core = ap (λ xs. record c { tasks = xs }) list ∙ ap (with_task c) m.task; rows = m.rows; sent = m.sent })
+step_does (Err x) a b c site t u after loads rest i n s e found kept m =
+    let one : task_numbered a.key.agent c ≡ Some t = task_at a.key.agent c.tasks i s t e in
+    let is : t ≡ u = let k : Some t ≡ Some u = sym one ∙ found in cc in
+    stops_for _ (PassesCount (step_moved a.key c (length loads) rest (moves a.key c u loads))) x
+    (λ h. step_passes a.key c u loads rest found (subst (λ (y : Task). most_count < task_count (stepped_moves a.key c y loads rest).task) is (h c n))) m

@@ -1,5 +1,5 @@
 -- The first transfer that is taken is the one that arrives.
-use Rattle.std.specs.Prelude.{Err, IfErr, IfSome, Ok, OnOk, Result, List, MatchOption, None, Option, Some, [], cond, false, find, if◌then◌else◌, map, true, ◌∷◌, ◌≡◌, ◌⊎◌, Bool}
+use Rattle.std.specs.Prelude.{Err, IfSome, Ok, Result, List, MatchOption, None, Option, Some, [], cond, false, find, if◌then◌else◌, map, true, ◌∷◌, ◌≡◌, ◌⊎◌, Bool}
 use Rattle.std.specs.Ordering.{is_eq, is_lt}
 use Rattle.std.proofs.Common.{ap, inl, inr, refl, subst, sym, ◌∙◌}
 use Rattle.std.proofs.lemmas.Cmp.{tied_itself}
@@ -15,7 +15,8 @@ use Rattle.sqs_model.specs.Limits.{effect_of}
 use Rattle.sqs_model.specs.Site.{Core, Effect, Site, has_key}
 use Rattle.sqs_model.specs.Step.{Handled, handle_arrival, handled, handled_when, is_arrival, left_with, with_polls}
 use Rattle.sqs_model.proofs.WorldMoves.{least_in}
-use Rattle.sim_site.specs.Effects.{Did, DidHandle, Effects, Stops}
+use Rattle.sim_site.specs.Effects.{Did, DidHandle, Does, Effects, HasHandled, Stops}
+use Rattle.sim_site.specs.declared.handling.Handling.{Handling}
 use Rattle.sim_site.proofs.Due.{no_arrival}
 use Rattle.sim_site.proofs.Least.{due_parts}
 
@@ -73,16 +74,10 @@ handled_taken s key taken after is t =
 did_left : (a b : Effects) (c : Core) (ts : List Outbound) (e : Effect) → Did a b c e → DidHandle a b (record { core = c; arriving = ts }) (left_with ts e)
 did_left a b c ts e d = record { site = ap (λ (x : Core). record { core = x; arriving = ts }) d.core; rows = d.rows; sent = d.sent }
 
--- an arrival is handled where its effect is done at the rest of the site
-pub arrival_did :
-    (r : Result (Unit {0}) Refusal) (a b : Effects) (c : Core) (s : Site) (key : Key) (taken : Option Outbound) (after : List Outbound) → key.class ≡ Arrival → Takes key s.arriving taken after
-    → OnOk r (Did a b c (with_polls key (handle_arrival key taken s.core))) → OnOk r (DidHandle a b (record { core = c; arriving = after }) (handled key s))
-arrival_did (Ok u) a b c s key taken after is t d =
-    subst (DidHandle a b (record { core = c; arriving = after })) (sym (handled_taken s key taken after is t)) (did_left a b c after (with_polls key (handle_arrival key taken s.core)) d)
-arrival_did (Err x) a b c s key taken after is t d = tt
-
--- it stops where its effect stops
-pub arrival_stops :
-    (r : Result (Unit {0}) Refusal) (s : Site) (key : Key) (taken : Option Outbound) (after : List Outbound) → key.class ≡ Arrival → Takes key s.arriving taken after
-    → IfErr r (Stops (with_polls key (handle_arrival key taken s.core))) → IfErr r (Stops (effect_of (handled key s)))
-arrival_stops r s key taken after is t h = subst (λ (x : Handled). IfErr r (Stops (effect_of x))) (sym (handled_taken s key taken after is t)) h
+-- an arrival is handled where its effect is done at the rest of the site, and stops where that stops
+pub arrival_done :
+    (r : Result (Unit {0}) Refusal) (a b : Handling) (c : Core) (s : Site) (key : Key) (taken : Option Outbound) (after : List Outbound) → key.class ≡ Arrival → Takes key s.arriving taken after
+    → Does r a b c (with_polls key (handle_arrival key taken s.core)) → HasHandled r a b (record { core = c; arriving = after }) (handled key s)
+arrival_done (Ok u) a b c s key taken after is t (on, d) =
+    (on, subst (DidHandle a.effects.now b.effects.now (record { core = c; arriving = after })) (sym (handled_taken s key taken after is t)) (did_left a.effects.now b.effects.now c after (with_polls key (handle_arrival key taken s.core)) d))
+arrival_done (Err x) a b c s key taken after is t h = subst (λ (y : Handled). Stops (effect_of y) x) (sym (handled_taken s key taken after is t)) h

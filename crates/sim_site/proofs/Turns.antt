@@ -1,6 +1,6 @@
 -- Turns of an actor, one after another.
 use Rattle.sqs_model.specs.Limits.{PassesCount}
-use Rattle.std.specs.Prelude.{Err, IfErr, Ok, OnOk, Result}
+use Rattle.std.specs.Prelude.{Ok, Result}
 use Rattle.sim_clock.specs.declared.refusal.Refusal.{Refusal}
 use Rattle.std.proofs.Common.{◌≡◌, ℕ, suc, Option, Some, None, refl, ap, subst, sym, ◌∙◌}
 use Rattle.sim_clock.specs.declared.key.Key.{Key}
@@ -11,11 +11,13 @@ use Rattle.sqs_model.specs.Actor.{Actor, next}
 use Rattle.sqs_model.specs.Acts.{act_made}
 use Rattle.sqs_model.specs.Polls.{acts_found, acts_most, acts_next}
 use Rattle.sqs_model.specs.Site.{Core, Effect, actor_numbered, and_then}
-use Rattle.sim_site.specs.Effects.{Did, Effects, Stops}
+use Rattle.sim_site.specs.Effects.{Did, Does, Effects, GoesOn}
 use Rattle.sim_site.specs.Turns.{DidTurn, Turn, turn_next, turn_of}
 use Rattle.sqs_model.proofs.Growth.{Grows, most_up, same}
-use Rattle.sim_site.proofs.Passing.{passes_after, passes_before, stops_if}
-use Rattle.sim_site.proofs.Carried.{did_nothing, did_then}
+use Rattle.sim_site.specs.declared.handling.Handling.{Handling}
+use Rattle.sim_site.proofs.Passing.{passes_before}
+use Rattle.sim_site.proofs.Carried.{did_nothing}
+use Rattle.sim_site.proofs.Going.{does_then, stays}
 
 -- what comes of a turn, and of what its actor is told of it
 followed_by : (Answer → Core → Effect) → Effect → Option Answer → Effect
@@ -41,25 +43,25 @@ module _ (key : Key) (n most : ℕ) (answer : Answer) (c : Core) (a b : Effects)
       found_follows (acts_most most key n) key answer c (actor_numbered n c) ∙ ap (followed_by (acts_most most key n) (turn_of key answer c (actor_numbered n c)).effect) (sym t.answer) in
       rw e t.effect
 
-  -- of any other turn its actor is told something
-  pub turn_goes : (end : Effects) (f : Core) (told : Answer) → DidTurn a b d (Some told) (turn_of key answer c (actor_numbered n c)) → Did b end f (acts_most most key n told d) → Did a end f (acts_most (suc most) key n answer c)
-  unfolding followed_by
-  turn_goes end f told t more =
-      let e : acts_most (suc most) key n answer c ≡ followed_by (acts_most most key n) (turn_of key answer c (actor_numbered n c)).effect (Some told) =
-      found_follows (acts_most most key n) key answer c (actor_numbered n c) ∙ ap (followed_by (acts_most most key n) (turn_of key answer c (actor_numbered n c)).effect) (sym t.answer) in
-      rw e (did_then a b end d f (turn_of key answer c (actor_numbered n c)).effect (acts_most most key n told) t.effect more)
-
-  -- the same of turns that may be refused
-  pub turn_goes_if :
-      (end : Effects) (f : Core) (told : Answer) → DidTurn a b d (Some told) (turn_of key answer c (actor_numbered n c)) → (r : Result (Unit {0}) Refusal)
-      → OnOk r (Did b end f (acts_most most key n told d)) → OnOk r (Did a end f (acts_most (suc most) key n answer c))
-  turn_goes_if end f told t (Ok u) more = turn_goes end f told t more
-  turn_goes_if end f told t (Err refusal) more = tt
+-- of any other turn its actor is told something
+pub turn_goes :
+    {A : Type 0} (r : Result A Refusal) (a b end : Handling) (most : ℕ) (answer told : Answer) (c d f : Core)
+    → GoesOn a b × DidTurn a.effects.now b.effects.now d (Some told) (turn_of a.key answer c (actor_numbered a.agent c))
+    → Does r b end f (acts_most most b.key b.agent told d) → Does r a end f (acts_most (suc most) a.key a.agent answer c)
+unfolding followed_by
+turn_goes r a b end most answer told c d f (on, t) more =
+    let turn : Turn = turn_of a.key answer c (actor_numbered a.agent c) in
+    let e : acts_most (suc most) a.key a.agent answer c ≡ followed_by (acts_most most a.key a.agent) turn.effect (Some told) =
+    found_follows (acts_most most a.key a.agent) a.key answer c (actor_numbered a.agent c) ∙ ap (followed_by (acts_most most a.key a.agent) turn.effect) (sym t.answer) in
+    rw e (does_then r a b end d f turn.effect (λ k n x. acts_most most k n told x) (on, t.effect) more)
 
 -- the last of the turns that are taken at most
-pub turn_last : (key : Key) (n : ℕ) (answer : Answer) (c : Core) (a b : Effects) (d : Core) (told : Option Answer) → DidTurn a b d told (turn_of key answer c (actor_numbered n c)) → Did a b d (acts_most 1 key n answer c)
-turn_last key n answer c a b d None t = turn_ends key n 0 answer c a b d t
-turn_last key n answer c a b d (Some told) t = turn_goes key n 0 answer c a b d b d told t (did_nothing b d)
+pub turn_last :
+    (a b : Handling) (answer : Answer) (c d : Core) (told : Option Answer)
+    → GoesOn a b × DidTurn a.effects.now b.effects.now d told (turn_of a.key answer c (actor_numbered a.agent c))
+    → GoesOn a b × Did a.effects.now b.effects.now d (acts_most 1 a.key a.agent answer c)
+turn_last a b answer c d None (on, t) = (on, turn_ends a.key a.agent 0 answer c a.effects.now b.effects.now d t)
+turn_last a b answer c d (Some told) p = turn_goes (Ok (tt {0})) a b b 0 answer told c d d p (stays b, did_nothing b.effects.now d)
 
 -- an effect, and what comes of it
 followed_limited : (more : Answer → Core → Effect) → ((w : Answer) (d : Core) → Grows d (more w d).core) → (e : Effect) (o : Option Answer) → PassesCount e → PassesCount (followed_by more e o)
@@ -75,20 +77,3 @@ module _ (key : Key) (n most : ℕ) (answer : Answer) (c : Core) where
       let more : Answer → Core → Effect = acts_most most key n in
       subst PassesCount (sym (found_follows more key answer c (actor_numbered n c)))
       (followed_limited more (λ w d. most_up d most key n w d (same d)) t.effect t.answer h)
-
-  -- one of the turns after it
-  pub turns_limited :
-      (a b : Effects) (d : Core) (told : Answer) → DidTurn a b d (Some told) (turn_of key answer c (actor_numbered n c)) → PassesCount (acts_most most key n told d)
-      → PassesCount (acts_most (suc most) key n answer c)
-  unfolding followed_by
-  turns_limited a b d told t h =
-      let turn : Turn = turn_of key answer c (actor_numbered n c) in
-      let more : Answer → Core → Effect = acts_most most key n in
-      let e : acts_most (suc most) key n answer c ≡ followed_by more turn.effect (Some told) = found_follows more key answer c (actor_numbered n c) ∙ ap (followed_by more turn.effect) (sym t.answer) in
-      subst PassesCount (sym e) (passes_after turn.effect (more told) (subst (λ (x : Core). PassesCount (more told x)) t.effect.core h))
-
-  -- the turns after it are not carried out
-  pub turns_stop :
-      (a b : Effects) (d : Core) (told : Answer) → DidTurn a b d (Some told) (turn_of key answer c (actor_numbered n c)) → (r : Result (Unit {0}) Refusal)
-      → IfErr r (Stops (acts_most most key n told d)) → IfErr r (Stops (acts_most (suc most) key n answer c))
-  turns_stop a b d told t r h = stops_if _ _ r (turns_limited a b d told t) h

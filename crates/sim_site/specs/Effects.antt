@@ -1,16 +1,20 @@
 -- How the methods of a site carry out the effects of the definitions: rows and transfers are appended to those made
 -- before.
-use Rattle.std.specs.Prelude.{◌++◌, ◌≡◌, ◌≤◌}
+use Rattle.std.specs.Prelude.{MatchResult, Result, Some, ◌++◌, ◌≡◌, ◌≤◌}
 use Rattle.sim_clock.specs.declared.refusal.Refusal.{Refusal}
 use Rattle.sim_engine.specs.declared.effects.Effects.{Effects as EffectsOf}
 use Rattle.sim_engine.specs.Limits.{StopsWhere}
 use Rattle.sqs_message.specs.declared.row.Row.{Row}
 use Rattle.sqs_redrive.specs.declared.transfers.Outbound.{Outbound}
 use Rattle.sqs_model.specs.declared.acts.Answer.{Answer}
+use Rattle.sqs_model.specs.Actor.{Actor}
 use Rattle.sqs_model.specs.Acts.{Made}
-use Rattle.sqs_model.specs.Limits.{PassesCount, rows_count}
-use Rattle.sqs_model.specs.Site.{Core, Effect, Site}
+use Rattle.sqs_model.specs.Limits.{PassesCount, effect_of, rows_count}
+use Rattle.sqs_model.specs.Site.{Core, Effect, Site, actor_numbered}
 use Rattle.sqs_model.specs.Step.{Handled}
+use Rattle.sim_actor.specs.declared.replies.Reply.{Reply}
+use Rattle.sim_actor.specs.Lives.{answer_of}
+use Rattle.sim_site.specs.declared.handling.Handling.{Handling}
 
 -- rows of the log made and transfers to other queues sent so far
 abbrev pub Effects : Type 0
@@ -28,7 +32,7 @@ pub record DidHandle (before after : Effects) (s : Site) (h : Handled) : Type 0 
   pub rows : after.rows.items ≡ before.rows.items ++ h.rows
   pub sent : after.sent.items ≡ before.sent.items ++ h.sent
 
--- the same of an act, with the answer that its actor gets
+-- a site after an act, with the answer that its actor gets
 pub record DidMake (before after : Effects) (c : Core) (told : Answer) (m : Made) : Type 0 where
   pub effect : Did before after c m.effect
   pub answer : told ≡ m.answer
@@ -43,3 +47,33 @@ pub record Remains (before after : Effects) (rest whole : Effect) : Type 0 where
 -- why an effect is not carried out: out of memory, or a count that it takes past the limit
 abbrev pub Stops : Effect → Refusal → Type 0
 Stops e = StopsWhere (PassesCount e)
+
+-- a handling that went on: what is handled, who acts and the list of effects are the same
+pub record GoesOn (before after : Handling) : Type 0 where
+  pub key : after.key ≡ before.key
+  pub agent : after.agent ≡ before.agent
+  pub effects : after.effects.ghost_name ≡ before.effects.ghost_name
+
+-- how a call ends: the handling went on by an effect at the site, or the effect is not carried out
+abbrev pub Does : {A : Type 0} → Result A Refusal → Handling → Handling → Core → Effect → Type 0
+Does result before after c e =
+    MatchResult result (λ _. GoesOn before after × Did before.effects.now after.effects.now c e) (Stops e)
+
+-- the same of what depends on who acts
+abbrev pub ActorDoes : {A : Type 0} → Result A Refusal → Handling → Handling → Core → (Actor → Effect) → Type 0
+ActorDoes result before after c e = (a : Actor) → a.number ≡ before.agent → Does result before after c (e a)
+
+-- how an act ends: the handling went on by it, and the actor gets its answer, or it is not carried out
+abbrev pub HasMade : Result Reply Refusal → Handling → Handling → Core → Made → Type 0
+HasMade result before after c m =
+    MatchResult result (λ reply. GoesOn before after × DidMake before.effects.now after.effects.now c (answer_of reply) m) (Stops m.effect)
+
+-- the same of an act of one of the site's actors
+abbrev pub Makes : Result Reply Refusal → Handling → Handling → Core → Core → (Actor → Made) → Type 0
+Makes result before after old new m =
+    (a : Actor) → a.number ≡ before.agent → actor_numbered before.agent old ≡ Some a → HasMade result before after new (m a)
+
+-- how the handling of a site's next entry ends
+abbrev pub HasHandled : {A : Type 0} → Result A Refusal → Handling → Handling → Site → Handled → Type 0
+HasHandled result before after s h =
+    MatchResult result (λ _. GoesOn before after × DidHandle before.effects.now after.effects.now s h) (Stops (effect_of h))

@@ -1,10 +1,14 @@
 -- The step of a move task, message by message.
-use Rattle.std.specs.Prelude.{List, Some, find, length, ℕ, ◌++◌, ◌≡◌}
+use Rattle.std.specs.Prelude.{List, MatchResult, Result, length, ℕ, ◌++◌, ◌<◌, ◌≡◌}
 use Rattle.sim_clock.specs.declared.key.Key.{Key}
-use Rattle.sim_site.specs.Effects.{Effects}
+use Rattle.sim_clock.specs.declared.refusal.Refusal.{Refusal}
+use Rattle.sim_engine.specs.Limits.{StopsWhere}
+use Rattle.sim_site.specs.Effects.{Effects, GoesOn}
+use Rattle.sim_site.specs.declared.handling.Handling.{Handling}
+use Rattle.sqs_model.specs.Answers.{most_count}
+use Rattle.sqs_model.specs.Counts.{task_count}
 use Rattle.sqs_model.specs.Draw.{drawn_latency}
-use Rattle.sim_clock.specs.Firsts.{changed}
-use Rattle.sqs_model.specs.Site.{Core, is_task, number_of}
+use Rattle.sqs_model.specs.Site.{Core, number_of}
 use Rattle.sqs_model.specs.Step.{Moved, end_row, move_out, moves, one_sent}
 use Rattle.sqs_model.specs.Task.{Task}
 use Rattle.sqs_redrive.specs.MoveTasks.{task_stepped}
@@ -30,6 +34,13 @@ pub record DidMove (before after : Effects) (t : Task) (m : Moved) : Type 0 wher
   pub rows : after.rows.items ≡ before.rows.items ++ m.rows
   pub sent : after.sent.items ≡ before.sent.items ++ m.sent
 
+-- how moves end at a site: the handling went on by them, or they take a count of the task past the limit
+abbrev pub Moves : {A : Type 0} → Result A Refusal → Handling → Handling → ℕ → Task → (Core → Moved) → Type 0
+Moves result before after site t m =
+    MatchResult result
+    (λ _. GoesOn before after × ((c : Core) → number_of c ≡ site → DidMove before.effects.now after.effects.now t (m c)))
+    (StopsWhere ((c : Core) → number_of c ≡ site → most_count < task_count (m c).task))
+
 -- of some moves these are done, and these are left
 pub record MoveRemains (before after : Effects) (rest whole : Moved) : Type 0 where
   pub task : rest.task ≡ whole.task
@@ -46,11 +57,3 @@ stepped_moves key c t loads rest =
     let m : Moved = moves key c t loads in
     let after : Task = task_after key.at (length loads) rest m.task in
     record { rows = m.rows ++ end_row key c after rest; sent = m.sent; task = after }
-
--- the task with a number takes a step, and takes its own place afterwards
-pub record Stepped (n : ℕ) (key : Key) (site : ℕ) (loads : List (ℕ × Load)) (rest : Rest) (a b : Effects) (old new : List Task) : Type 0 where
-  pub before : Task
-  pub after : Task
-  pub found : find (is_task n) old ≡ Some before
-  pub moved : (c : Core) → number_of c ≡ site → DidMove a b after (stepped_moves key c before loads rest)
-  pub list : new ≡ changed (is_task after.number) (λ _. after) old

@@ -1,5 +1,6 @@
 -- One turn of an actor at its site: it gets an answer, decides, and acts.
-use Rattle.std.specs.Prelude.{Bool, List, None, Option, Some, false, find, true, ℕ, ◌+◌, ◌≡◌}
+use Rattle.std.specs.Prelude.{Bool, List, MatchResult, None, Option, Result, Some, false, find, true, ℕ, ◌+◌, ◌≡◌}
+use Rattle.sim_clock.specs.declared.refusal.Refusal.{Refusal}
 use Rattle.sim_clock.specs.declared.key.Key.{Key}
 use Rattle.sqs_model.specs.declared.acts.Act.{Act}
 use Rattle.sqs_model.specs.declared.acts.Answer.{Answer}
@@ -9,7 +10,8 @@ use Rattle.sim_clock.specs.Firsts.{changed}
 use Rattle.sqs_model.specs.Actor.{Actor, next}
 use Rattle.sqs_model.specs.Acts.{Made, act_made}
 use Rattle.sqs_model.specs.Site.{Core, Effect, is_actor, no_effect, with_actor}
-use Rattle.sim_site.specs.Effects.{Did, Effects}
+use Rattle.sim_site.specs.Effects.{Did, Effects, GoesOn, Stops}
+use Rattle.sim_site.specs.declared.handling.Handling.{Handling}
 
 -- the actor with a number decides on the answer that it gets, and takes its own place afterwards
 pub record Turned (n now : ℕ) (told : Answer) (act : Act) (old new : List Actor) : Type 0 where
@@ -56,3 +58,8 @@ turn_of key answer c (Some a) = turn_next key c (next a key.at answer)
 pub record DidTurn (before after : Effects) (c : Core) (told : Option Answer) (t : Turn) : Type 0 where
   pub effect : Did before after c t.effect
   pub answer : told ≡ t.answer
+
+-- how a turn ends: the handling went on by it, and its result says what the actor is answered, or it is not carried out
+abbrev pub Takes : {A : Type 0} → (A → Option Answer) → Result A Refusal → Handling → Handling → Core → Turn → Type 0
+Takes answers result before after c t =
+    MatchResult result (λ x. GoesOn before after × DidTurn before.effects.now after.effects.now c (answers x) t) (Stops t.effect)

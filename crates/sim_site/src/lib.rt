@@ -7,6 +7,7 @@ mod agents;
 mod arrivals;
 mod dues;
 mod effects;
+mod handling;
 mod later;
 mod loads;
 mod opening;

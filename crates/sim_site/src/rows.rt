@@ -1,43 +1,9 @@
-//! Rows of the log.
+//! Rows that a site makes itself.
 ghost use Rattle.std.specs.Prelude.{◌≡◌};
 ghost use Rattle.sqs_message.specs.declared.row.RowReceipt.TheVariants as receipts;
 
 use sim_clock::Key;
 use sqs_message::{Detail, MessageId, Row, RowAnswer, RowKind, RowReceipt};
-
-/// A row without a receipt.
-pub fn row(
-    key: Key,
-    queue: u32,
-    agent: u32,
-    kind: RowKind,
-    answer: RowAnswer,
-    message: Option<MessageId>,
-    detail: Detail,
-) -> Row
-    ensures { result
-        ≡ record {
-          key = key;
-          queue = queue;
-          agent = agent;
-          kind = kind;
-          answer = answer;
-          message = message;
-          receipt = receipts.Absent;
-          detail = detail;
-        } }
-{
-    Row {
-        key,
-        queue,
-        agent,
-        kind,
-        answer,
-        message,
-        receipt: RowReceipt::Absent,
-        detail,
-    }
-}
 
 /// A row that a site makes itself, of one of its messages.
 pub fn site_row(
@@ -60,7 +26,16 @@ pub fn site_row(
           detail = detail;
         } }
 {
-    row(key, site, site, kind, answer, Some(id), detail)
+    Row {
+        key,
+        queue: site,
+        agent: site,
+        kind,
+        answer,
+        message: Some(id),
+        receipt: RowReceipt::Absent,
+        detail,
+    }
 }
 
 /// The row with this receipt.

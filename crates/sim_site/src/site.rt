@@ -1,19 +1,19 @@
 //! Sites.
-ghost use Rattle.std.specs.Prelude.{All, IfErr, IfOk, OnOk, Some, [], map, ◌≡◌, ◌≤◌};
+ghost use Rattle.std.specs.Prelude.{All, IfOk, Some, [], map, ◌≡◌, ◌≤◌};
 ghost use Rattle.sim_actor.specs.Lives.{IsRole};
 ghost use Rattle.sqs_model.specs.Answers.{most_count};
 ghost use Rattle.sqs_model.specs.Counts.{site_count};
 ghost use Rattle.sqs_model.specs.Dues.{least_due};
-ghost use Rattle.sqs_model.specs.Limits.{effect_of};
 ghost use Rattle.sqs_model.specs.Progress.{AreTimely, IsRecent};
 ghost use Rattle.sqs_model.specs.Scenario.{fresh_core};
 ghost use Rattle.sim_site.specs.Kept.{IsSetUp};
 ghost use Rattle.sqs_model.specs.Step.{handled};
-ghost use Rattle.sim_site.specs.Effects.{DidHandle, Stops};
+ghost use Rattle.sim_site.specs.Effects.{HasHandled};
 
 use crate::agents::Task;
 use crate::arrivals::{Arrivals, Transfers};
 use crate::effects::Effects;
+use crate::handling::Handling;
 use crate::opening::{open_actors, open_tasks};
 use crate::state::Core;
 use sim_clock::{Class, Key, Refusal, lesser};
@@ -62,24 +62,22 @@ fn least_of(core: &mut Core, arriving: &Arrivals) -> Option<Key>
 fn handle_due(
     core: &mut Core,
     arriving: &mut Arrivals,
-    key: Key,
-    effects: &mut Effects,
+    handling: &mut Handling<'_>,
 ) -> Result<(), Refusal>
-    requires due { least_due (record { core = core.old; arriving = arriving.old }) ≡ Some key }
-    requires moment { key.at ≤ most_count }
-    requires recent { IsRecent key.at core.old.queue }
+    requires due { least_due (record { core = core.old; arriving = arriving.old })
+        ≡ Some handling.old.key }
+    requires agent { handling.old.agent ≡ handling.old.key.agent }
+    requires recent { IsRecent handling.old.key.at core.old.queue }
     requires timely { AreTimely arriving.old }
-    ensures done { OnOk result (DidHandle effects.old effects.new
+    ensures { HasHandled result handling.old handling.new
         (record { core = core.new; arriving = arriving.new })
-        (handled key (record { core = core.old; arriving = arriving.old }))) }
-    ensures stops { IfErr result
-        (Stops (effect_of (handled key (record { core = core.old; arriving = arriving.old })))) }
+        (handled handling.old.key (record { core = core.old; arriving = arriving.old })) }
 {
-    if key.class == Class::Arrival {
+    if handling.key.class == Class::Arrival {
         let transfer = arriving.take_first();
-        core.handle_arrival(key, transfer, effects)
+        core.handle_arrival(handling, transfer)
     } else {
-        core.handle(key, effects)
+        core.handle(handling)
     }
 }
 
@@ -200,7 +198,12 @@ impl sim_engine::Site for Site {
     }
 
     fn handle_into(&mut self, key: Key, effects: &mut Effects) -> Result<(), Refusal> {
-        let done = handle_due(&mut self.core, &mut self.arriving, key, effects);
+        let mut handling = Handling {
+            key,
+            agent: key.agent,
+            effects,
+        };
+        let done = handle_due(&mut self.core, &mut self.arriving, &mut handling);
         self.due = least_of(&mut self.core, &self.arriving);
         done
     }

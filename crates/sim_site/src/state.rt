@@ -15,6 +15,7 @@ mod receives;
 mod returns;
 mod samples;
 mod sends;
+mod services;
 mod steps;
 mod tasks;
 mod turns;

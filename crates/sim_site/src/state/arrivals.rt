@@ -1,5 +1,5 @@
 //! The arrival of transfers.
-ghost use Rattle.std.specs.Prelude.{◌<◌, IfErr, IfOk, OnOk, Option, ◌≡◌, ◌≤◌};
+ghost use Rattle.std.specs.Prelude.{IfErr, IfOk, ◌<◌, ◌≡◌, ◌≤◌};
 ghost use Rattle.sqs_message.specs.declared.ids.MessageId.{MessageId};
 ghost use Rattle.sqs_redrive.specs.declared.transfers.Load.{Load};
 ghost use Rattle.sqs_model.specs.Answers.{most_count};
@@ -8,13 +8,13 @@ ghost use Rattle.sqs_model.specs.Progress.{IsRecent, WasEnqueuedBy};
 ghost use Rattle.sqs_model.specs.Queue.{IsFramed};
 ghost use Rattle.sqs_model.specs.Site.{Core, number_of};
 ghost use Rattle.sqs_model.specs.Step.{arrival_done, arrival_row as the_arrival_row, load_age as the_load_age, load_origin};
-ghost use Rattle.sim_site.specs.Effects.{Did, Stops};
+ghost use Rattle.sim_site.specs.Effects.{Does};
 ghost use Rattle.sim_engine.specs.Limits.{StopsWhere};
 ghost use Rattle.sim_site.specs.Origins.{origin_or};
 
 use super::Core;
-use crate::effects::Effects;
-use crate::rows::{row, site_row};
+use crate::handling::Handling;
+use crate::rows::site_row;
 use sim_clock::{Key, Refusal};
 use sqs_message::{Detail, MessageId, Origin, Row, RowAnswer, RowKind};
 use sqs_queue::Queue;
@@ -64,52 +64,46 @@ fn arrival_row(key: Key, site: u32, origin: Option<Origin>, answer: RowAnswer, i
         → load_origin load id ≡ origin_or origin id
         → result ≡ the_arrival_row key c load answer id }
 {
-    let origin = match origin {
-        None => Origin {
-            site: id.site,
-            number: id.number,
-        },
-        Some(origin) => origin,
+    let own = Origin {
+        site: id.site,
+        number: id.number,
     };
-    let detail = Detail::From(origin);
-    row(
-        key,
-        site,
-        key.agent,
-        RowKind::Arrive,
-        answer,
-        Some(id),
-        detail,
-    )
+    let detail = Detail::From(origin.unwrap_or(own));
+    let row = site_row(key, site, RowKind::Arrive, answer, id, detail);
+    Row {
+        agent: key.agent,
+        ..row
+    }
 }
 
 impl Core {
     /// A load arrives by a transfer; its enqueue time is no later than its arrival.
-    pub fn arrive(&mut self, key: Key, load: Load, effects: &mut Effects) -> Result<(), Refusal>
-        requires moment { key.at ≤ most_count }
-        requires enqueued { WasEnqueuedBy key.at load }
-        requires recent { IsRecent key.at self.old.queue }
-        ensures did { OnOk result (Did effects.old effects.new self.new
-            (arrival_done key load self.old (arrived self.old.queue key.at load))) }
-        ensures stops { IfErr result
-            (Stops (arrival_done key load self.old (arrived self.old.queue key.at load))) }
+    pub fn arrive(&mut self, handling: &mut Handling<'_>, load: Load) -> Result<(), Refusal>
+        requires enqueued { WasEnqueuedBy handling.old.key.at load }
+        requires recent { IsRecent handling.old.key.at self.old.queue }
+        ensures { Does result handling.old handling.new self.new (arrival_done handling.old.key load
+            self.old (arrived self.old.queue handling.old.key.at load)) }
     {
+        let key = handling.key;
         let site = self.queue.site();
         let origin = origin_of(&load);
         let age = age_of(&load, key.at);
         let (sent, expired) = arrive_by(&mut self.queue, key.at, load)?;
         match sent {
             Sent::Repeat(id) => {
-                effects.say(arrival_row(key, site, origin, RowAnswer::Repeat, id))?;
+                let row = arrival_row(key, site, origin, RowAnswer::Repeat, id);
+                handling.effects.say(row)?;
                 return Ok(());
             }
             Sent::New(id) => {
-                effects.say(arrival_row(key, site, origin, RowAnswer::New, id))?;
+                let row = arrival_row(key, site, origin, RowAnswer::New, id);
+                handling.effects.say(row)?;
                 if !expired {
                     return Ok(());
                 }
                 let (kind, answer) = (RowKind::Expire, RowAnswer::Expired);
-                effects.say(site_row(key, site, kind, answer, id, Detail::Age(age)))?;
+                let row = site_row(key, site, kind, answer, id, Detail::Age(age));
+                handling.effects.say(row)?;
                 Ok(())
             }
         }

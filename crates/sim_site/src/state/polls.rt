@@ -1,6 +1,5 @@
 //! Polls that wait: their ends, and their answers.
-ghost use Rattle.std.specs.Prelude.{IfErr, OnOk, false, ◌-◌, ◌^◌, ◌≡◌, ◌≤◌};
-ghost use Rattle.sqs_model.specs.Answers.{most_count};
+ghost use Rattle.std.specs.Prelude.{false, ◌-◌, ◌^◌, ◌≡◌, ◌≤◌};
 ghost use Rattle.sqs_model.specs.Available.{all_hosts};
 ghost use Rattle.sqs_model.specs.Polls.{answer_polls, poll_answered, poll_given};
 ghost use Rattle.sqs_model.specs.Site.{no_effect};
@@ -8,14 +7,14 @@ ghost use Rattle.sim_clock.specs.declared.key.Key.{Key};
 ghost use Rattle.sqs_model.specs.Valid.{IsQueueSettings, MayBeTimeout};
 ghost use Rattle.sqs_model.specs.Progress.{IsRecent};
 ghost use Rattle.sqs_model.specs.Step.{handle_poll_end};
-ghost use Rattle.sim_site.specs.Effects.{Did, Stops};
+ghost use Rattle.sim_site.specs.Effects.{Does};
 
 use super::Core;
 use super::receives::{all_hosts_of, receive_row, received_by};
 use crate::agents::Poll;
-use crate::effects::Effects;
+use crate::handling::Handling;
 use sim_actor::Reply;
-use sim_clock::{Key, Refusal};
+use sim_clock::Refusal;
 use sqs_message::RowAnswer;
 use sqs_queue::Queue;
 use sqs_redrive::{Batch, Kind};
@@ -33,37 +32,38 @@ fn host_count(queue: &Queue) -> u64
 }
 
 impl Core {
-    // Answers the first poll, which leaves the list; its actor acts on the answer.
-    fn answer_poll(&mut self, key: Key, poll: Poll, effects: &mut Effects) -> Result<(), Refusal>
+    // Answers the first poll, which leaves the list; its actor acts on the answer. Afterwards the
+    // handling's agent is who it was.
+    fn answer_poll(&mut self, handling: &mut Handling<'_>, poll: Poll) -> Result<(), Refusal>
         requires allowed { MayBeTimeout poll.timeout }
-        requires moment { key.at ≤ most_count }
-        requires recent { IsRecent key.at self.old.queue }
-        ensures did { OnOk result (Did effects.old effects.new self.new
-            (poll_answered key poll self.old (poll_given key poll self.old.queue))) }
-        ensures stops { IfErr result
-            (Stops (poll_answered key poll self.old (poll_given key poll self.old.queue))) }
+        requires recent { IsRecent handling.old.key.at self.old.queue }
+        ensures { Does result handling.old handling.new self.new
+            (poll_answered handling.old.key poll self.old
+            (poll_given handling.old.key poll self.old.queue)) }
     {
+        let agent = handling.agent;
+        handling.agent = poll.actor;
         let set = all_hosts_of(host_count(&self.queue));
-        let (max, timeout) = (poll.max, poll.timeout);
-        let gots = match received_by(&mut self.queue, key.at, max, timeout, set, false)? {
+        let (now, max, timeout) = (handling.key.at, poll.max, poll.timeout);
+        let gots = match received_by(&mut self.queue, now, max, timeout, set, false)? {
             Ok(gots) => gots,
             // The timeout was allowed when the poll began to wait.
             Err(_) => unreachable!(),
         };
         self.polls.drop_first();
-        self.give(key, poll.actor, timeout, gots.as_slice(), effects)?;
-        self.told(key, poll.actor, Reply::Got(Batch::new(gots)), effects)
+        self.give(handling, timeout, gots.as_slice())?;
+        self.told(handling, Reply::Got(Batch::new(gots)))?;
+        handling.agent = agent;
+        Ok(())
     }
 
     // Answers waiting polls, oldest first, while there is something to give. It is apart from
     // `answer_polls`, which follows each handling.
     #[inline(never)]
-    fn answer_each(&mut self, key: Key, effects: &mut Effects) -> Result<(), Refusal>
-        requires moment { key.at ≤ most_count }
-        requires recent { IsRecent key.at self.old.queue }
-        ensures did { OnOk result
-            (Did effects.old effects.new self.new (answer_polls key self.old.polls self.old)) }
-        ensures stops { IfErr result (Stops (answer_polls key self.old.polls self.old)) }
+    fn answer_each(&mut self, handling: &mut Handling<'_>) -> Result<(), Refusal>
+        requires { IsRecent handling.old.key.at self.old.queue }
+        ensures { Does result handling.old handling.new self.new
+            (answer_polls handling.old.key self.old.polls self.old) }
     {
         for _ in 0..self.polls.len() {
             let gives = self.queue.can_give();
@@ -74,7 +74,7 @@ impl Core {
                 // Polls that were there and have no answer yet still wait.
                 unreachable!();
             };
-            self.answer_poll(key, poll, effects)?;
+            self.answer_poll(handling, poll)?;
         }
         Ok(())
     }
@@ -88,32 +88,30 @@ impl Core {
     }
 
     /// Answers waiting polls, oldest first, while there is something to give.
-    pub fn answer_polls(&mut self, key: Key, effects: &mut Effects) -> Result<(), Refusal>
-        requires moment { key.at ≤ most_count }
-        requires recent { IsRecent key.at self.old.queue }
-        ensures did { OnOk result
-            (Did effects.old effects.new self.new (answer_polls key self.old.polls self.old)) }
-        ensures stops { IfErr result (Stops (answer_polls key self.old.polls self.old)) }
+    pub fn answer_polls(&mut self, handling: &mut Handling<'_>) -> Result<(), Refusal>
+        requires { IsRecent handling.old.key.at self.old.queue }
+        ensures { Does result handling.old handling.new self.new
+            (answer_polls handling.old.key self.old.polls self.old) }
     {
         if self.may_answer() {
-            self.answer_each(key, effects)
+            self.answer_each(handling)
         } else {
             Ok(())
         }
     }
 
     /// A long poll ends with nothing, and its actor acts on that.
-    pub fn handle_poll_end(&mut self, key: Key, effects: &mut Effects) -> Result<(), Refusal>
-        requires moment { key.at ≤ most_count }
-        requires recent { IsRecent key.at self.old.queue }
-        ensures did { OnOk result
-            (Did effects.old effects.new self.new (handle_poll_end key self.old)) }
-        ensures stops { IfErr result (Stops (handle_poll_end key self.old)) }
+    pub fn handle_poll_end(&mut self, handling: &mut Handling<'_>) -> Result<(), Refusal>
+        requires recent { IsRecent handling.old.key.at self.old.queue }
+        requires agent { handling.old.agent ≡ handling.old.key.agent }
+        ensures { Does result handling.old handling.new self.new
+            (handle_poll_end handling.old.key self.old) }
     {
         let site = self.queue.site();
-        self.polls.end(key);
-        effects.say(receive_row(key, site, key.agent, RowAnswer::Empty))?;
+        let row = receive_row(handling, site, RowAnswer::Empty);
+        handling.effects.say(row)?;
+        self.polls.end(handling.key);
         let nothing = Reply::Got(Batch::new(Vec::new(self.alloc)));
-        self.told(key, key.agent, nothing, effects)
+        self.told(handling, nothing)
     }
 }

@@ -1,7 +1,5 @@
 //! Receives by actors.
-ghost use Rattle.std.specs.Prelude.{Any, Err, IfErr, IfOk, IfSome, IsOk, None, OnErr, Some, true, ℕ, ◌-◌, ◌<◌, ◌^◌, ◌≡◌, ◌≤◌};
-ghost use Rattle.sim_actor.specs.Lives.{answer_of};
-ghost use Rattle.sqs_model.specs.Actor.{Actor};
+ghost use Rattle.std.specs.Prelude.{Any, Err, IfErr, IfOk, IfSome, IsOk, None, OnErr, true, ℕ, ◌-◌, ◌<◌, ◌^◌, ◌≡◌, ◌≤◌};
 ghost use Rattle.sqs_model.specs.Acts.{receive_row as the_receive_row, hosts_from as the_hosts_from, long_poll, receive_as, receive_none, receive_some, short_poll};
 ghost use Rattle.sqs_model.specs.Answers.{most_count};
 ghost use Rattle.sqs_model.specs.Available.{all_hosts};
@@ -9,20 +7,19 @@ ghost use Rattle.sqs_model.specs.Draw.{drawn_uniform};
 ghost use Rattle.sqs_model.specs.Queue.{IsFramed};
 ghost use Rattle.sqs_model.specs.Receive.{answered, give_most, receive};
 ghost use Rattle.std.specs.Result.{result_map_both};
-ghost use Rattle.sqs_model.specs.Site.{Core, actor_numbered, number_of};
+ghost use Rattle.sqs_model.specs.Site.{Core, number_of};
 ghost use Rattle.sqs_model.specs.Valid.{IsStandard, MayBeTimeout};
 ghost use Rattle.sqs_model.specs.Receive.{to_give};
-ghost use Rattle.sim_site.specs.Effects.{DidMake, Stops};
+ghost use Rattle.sim_site.specs.Effects.{Makes};
 ghost use Rattle.sim_engine.specs.Limits.{StopsWhere};
 ghost use Rattle.sim_site.specs.Kept.{most_wait};
 
 use super::Core;
 use super::sends::told_refusal;
 use crate::agents::Poll;
-use crate::effects::Effects;
-use crate::rows::row;
+use crate::handling::Handling;
 use sim_actor::Reply;
-use sim_clock::{Key, Refusal};
+use sim_clock::Refusal;
 use sqs_message::{Detail, Row, RowAnswer, RowKind};
 use sqs_model::{LONGEST_TIMEOUT, MOST_COUNT};
 use sqs_queue::Queue;
@@ -98,57 +95,46 @@ pub fn received_by(
 }
 
 // The row of a receive that got no message.
-pub fn receive_row(key: Key, site: u32, agent: u32, answer: RowAnswer) -> Row
-    ensures { (c : Core) → number_of c ≡ site → result ≡ the_receive_row key c agent answer }
+pub fn receive_row(handling: &Handling<'_>, site: u32, answer: RowAnswer) -> Row
+    ensures { (c : Core) → number_of c ≡ site
+        → result ≡ the_receive_row handling.now.key c handling.now.agent answer }
 {
-    row(
-        key,
-        site,
-        agent,
-        RowKind::Receive,
-        answer,
-        None,
-        Detail::Absent,
-    )
+    handling.row(site, RowKind::Receive, answer, None, Detail::Absent)
 }
 
 impl Core {
     // A receive that finds nothing. It is empty, or waits if it is a long poll.
     fn receive_none(
         &mut self,
-        key: Key,
-        agent: u32,
+        handling: &mut Handling<'_>,
         max: u64,
         wait: u64,
         timeout: Option<u64>,
-        effects: &mut Effects,
     ) -> Result<Reply, Refusal>
         requires allowed { MayBeTimeout timeout }
-        requires moment { key.at ≤ most_count }
         requires wait { wait ≤ most_wait }
-        ensures did { (a : Actor) → a.number ≡ agent → actor_numbered agent self.old ≡ Some a
-            → IfOk result (λ reply.
-            DidMake effects.old effects.new self.new (answer_of reply)
-            (receive_none key a self.old max wait timeout)) }
-        ensures stops { (a : Actor) → a.number ≡ agent → actor_numbered agent self.old ≡ Some a
-            → IfErr result (Stops (receive_none key a self.old max wait timeout).effect) }
+        ensures { Makes result handling.old handling.new self.old self.new
+            (λ a. receive_none handling.old.key a self.old max wait timeout) }
     {
         let site = self.queue.site();
         if wait == 0 {
-            effects.say(receive_row(key, site, agent, RowAnswer::Empty))?;
+            let row = receive_row(handling, site, RowAnswer::Empty);
+            handling.effects.say(row)?;
             return Ok(Reply::Got(Batch::new(Vec::new(self.alloc))));
         }
+        let agent = handling.agent;
         let Some(place) = self.actors.place_of(agent) else {
             return Ok(Reply::Waiting);
         };
-        effects.say(receive_row(key, site, agent, RowAnswer::Wait))?;
+        let row = receive_row(handling, site, RowAnswer::Wait);
+        handling.effects.say(row)?;
         let number = self.actors.polled_at(place, agent)?;
         let poll = Poll {
             actor: agent,
             number,
             max,
             timeout,
-            end: key.at + 1000 * wait,
+            end: handling.key.at + 1000 * wait,
         };
         self.polls.push(poll)?;
         Ok(Reply::Waiting)
@@ -159,61 +145,45 @@ impl Core {
     #[inline(always)]
     fn receive_some(
         &mut self,
-        key: Key,
-        agent: u32,
+        handling: &mut Handling<'_>,
         max: u64,
         wait: u64,
         timeout: Option<u64>,
         gots: Vec<Got>,
-        effects: &mut Effects,
     ) -> Result<Reply, Refusal>
         requires allowed { MayBeTimeout timeout }
-        requires moment { key.at ≤ most_count }
         requires wait { wait ≤ most_wait }
-        ensures did { (a : Actor) → a.number ≡ agent → actor_numbered agent self.old ≡ Some a
-            → IfOk result (λ reply.
-            DidMake effects.old effects.new self.new (answer_of reply)
-            (receive_some key a self.old max wait timeout self.old.queue gots.items)) }
-        ensures stops { (a : Actor) → a.number ≡ agent → actor_numbered agent self.old ≡ Some a
-            → IfErr result (Stops
-            (receive_some key a self.old max wait timeout self.old.queue gots.items).effect) }
+        ensures { Makes result handling.old handling.new self.old self.new
+            (λ a. receive_some handling.old.key a self.old max wait timeout self.old.queue gots.items) }
     {
         if gots.is_empty() {
-            return self.receive_none(key, agent, max, wait, timeout, effects);
+            return self.receive_none(handling, max, wait, timeout);
         }
-        self.give(key, agent, timeout, gots.as_slice(), effects)?;
+        self.give(handling, timeout, gots.as_slice())?;
         Ok(Reply::Got(Batch::new(gots)))
     }
 
     // A short poll, from a first host that is drawn. If it is refused, it draws no word.
     fn short_poll(
         &mut self,
-        key: Key,
-        agent: u32,
+        handling: &mut Handling<'_>,
         max: u64,
         timeout: Option<u64>,
         hosts: u64,
         sampled: u64,
-        effects: &mut Effects,
     ) -> Result<Reply, Refusal>
-        requires moment { key.at ≤ most_count }
         requires some { 1 ≤ hosts }
         requires few { hosts ≤ 16 }
         requires sampled { sampled ≤ hosts }
         requires standard { IsStandard self.old.queue.settings.kind }
-        ensures did { (a : Actor) → a.number ≡ agent → actor_numbered agent self.old ≡ Some a
-            → IfOk result (λ reply.
-            DidMake effects.old effects.new self.new (answer_of reply) (short_poll key a self.old max
-            timeout hosts sampled (drawn_uniform 0 (hosts - 1) self.old.draws))) }
-        ensures stops { (a : Actor) → a.number ≡ agent → actor_numbered agent self.old ≡ Some a
-            → IfErr result (Stops
-            (short_poll key a self.old max timeout hosts sampled
-            (drawn_uniform 0 (hosts - 1) self.old.draws)).effect) }
+        ensures { Makes result handling.old handling.new self.old self.new
+            (λ a. short_poll handling.old.key a self.old max timeout hosts sampled
+            (drawn_uniform 0 (hosts - 1) self.old.draws)) }
     {
         let site = self.queue.site();
         if let Some(refusal) = short_refusal(&self.queue, timeout) {
-            let answer = RowAnswer::Refused(refusal);
-            effects.say(receive_row(key, site, agent, answer))?;
+            let row = receive_row(handling, site, RowAnswer::Refused(refusal));
+            handling.effects.say(row)?;
             return Ok(Reply::Other);
         }
         if self.draws.taken() >= MOST_COUNT {
@@ -221,8 +191,8 @@ impl Core {
         }
         let start = self.draws.uniform(0, hosts - 1);
         let set = hosts_from(hosts, sampled, start);
-        match received_by(&mut self.queue, key.at, max, timeout, set, true)? {
-            Ok(gots) => self.receive_some(key, agent, max, 0, timeout, gots, effects),
+        match received_by(&mut self.queue, handling.key.at, max, timeout, set, true)? {
+            Ok(gots) => self.receive_some(handling, max, 0, timeout, gots),
             Err(_) => unreachable!(),
         }
     }
@@ -231,32 +201,25 @@ impl Core {
     #[inline(always)]
     fn long_poll(
         &mut self,
-        key: Key,
-        agent: u32,
+        handling: &mut Handling<'_>,
         max: u64,
         wait: u64,
         timeout: Option<u64>,
         hosts: u64,
-        effects: &mut Effects,
     ) -> Result<Reply, Refusal>
-        requires moment { key.at ≤ most_count }
         requires wait { wait ≤ most_wait }
         requires few { hosts ≤ 16 }
         requires all { all_hosts self.old.queue.settings.kind ≡ 2 ^ hosts - 1 }
-        ensures did { (a : Actor) → a.number ≡ agent → actor_numbered agent self.old ≡ Some a
-            → IfOk result (λ reply.
-            DidMake effects.old effects.new self.new (answer_of reply)
-            (long_poll key a self.old max wait timeout)) }
-        ensures stops { (a : Actor) → a.number ≡ agent → actor_numbered agent self.old ≡ Some a
-            → IfErr result (Stops (long_poll key a self.old max wait timeout).effect) }
+        ensures { Makes result handling.old handling.new self.old self.new
+            (λ a. long_poll handling.old.key a self.old max wait timeout) }
     {
         let site = self.queue.site();
         let set = all_hosts_of(hosts);
-        match received_by(&mut self.queue, key.at, max, timeout, set, false)? {
-            Ok(gots) => self.receive_some(key, agent, max, wait, timeout, gots, effects),
+        match received_by(&mut self.queue, handling.key.at, max, timeout, set, false)? {
+            Ok(gots) => self.receive_some(handling, max, wait, timeout, gots),
             Err(refusal) => {
-                let answer = RowAnswer::Refused(refusal);
-                effects.say(receive_row(key, site, agent, answer))?;
+                let row = receive_row(handling, site, RowAnswer::Refused(refusal));
+                handling.effects.say(row)?;
                 Ok(Reply::Other)
             }
         }
@@ -265,33 +228,25 @@ impl Core {
     /// An actor receives at most `max` messages.
     pub fn receive(
         &mut self,
-        key: Key,
-        agent: u32,
+        handling: &mut Handling<'_>,
         max: u64,
         wait: u64,
         timeout: Option<u64>,
-        effects: &mut Effects,
     ) -> Result<Reply, Refusal>
-        requires moment { key.at ≤ most_count }
-        requires wait { wait ≤ most_wait }
-        ensures did { (a : Actor) → a.number ≡ agent → actor_numbered agent self.old ≡ Some a
-            → IfOk result (λ reply.
-            DidMake effects.old effects.new self.new (answer_of reply)
-            (receive_as self.old.queue.settings.kind key a self.old max wait timeout)) }
-        ensures stops { (a : Actor) → a.number ≡ agent → actor_numbered agent self.old ≡ Some a
-            → IfErr result (Stops
-            (receive_as self.old.queue.settings.kind key a self.old max wait timeout).effect) }
+        requires { wait ≤ most_wait }
+        ensures { Makes result handling.old handling.new self.old self.new
+            (λ a. receive_as self.old.queue.settings.kind handling.old.key a self.old max wait timeout) }
     {
         match self.queue.settings().kind {
             Kind::Standard { hosts, sampled } => {
                 if wait == 0 {
-                    return self.short_poll(key, agent, max, timeout, hosts, sampled, effects);
+                    return self.short_poll(handling, max, timeout, hosts, sampled);
                 }
-                self.long_poll(key, agent, max, wait, timeout, hosts, effects)
+                self.long_poll(handling, max, wait, timeout, hosts)
             }
             // It has no short polls. It gives whatever hosts are seen, as if all messages were on
             // one.
-            Kind::Fifo { .. } => self.long_poll(key, agent, max, wait, timeout, 1, effects),
+            Kind::Fifo { .. } => self.long_poll(handling, max, wait, timeout, 1),
         }
     }
 }

@@ -2,19 +2,17 @@
 ghost use Rattle.std.specs.Prelude.{IfErr, IfOk, List, OnOk, Option, ℕ, ◌<◌, ◌≡◌, ◌≢◌, ◌≤◌};
 ghost use Rattle.md5.specs.Md5.{md5};
 ghost use Rattle.sim_clock.specs.declared.refusal.Refusal.TheVariants as refusals;
-ghost use Rattle.sqs_model.specs.Actor.{Actor};
 ghost use Rattle.sqs_model.specs.Acts.{send_made, send_row as the_send_row, sends};
 ghost use Rattle.sqs_model.specs.Answers.{most_count};
 ghost use Rattle.sqs_model.specs.Progress.{IsRecent};
 ghost use Rattle.sqs_model.specs.Queue.{IsFramed};
 ghost use Rattle.sqs_model.specs.Site.{Core, number_of};
-ghost use Rattle.sim_site.specs.Effects.{Did, Stops};
+ghost use Rattle.sim_site.specs.Effects.{ActorDoes};
 ghost use Rattle.sim_engine.specs.Limits.{StopsWhere};
 
 use super::Core;
-use crate::effects::Effects;
-use crate::rows::row;
-use sim_clock::{Key, Refusal};
+use crate::handling::Handling;
+use sim_clock::Refusal;
 use sqs_message::{Detail, Row, RowAnswer, RowKind, Text, body_md5};
 use sqs_queue::Queue;
 use sqs_redrive::Sent;
@@ -59,44 +57,21 @@ fn sent_by(
 }
 
 // The row of a send of a body with this MD5.
-fn send_row(key: Key, site: u32, agent: u32, digest: [u8; 16], answer: Result<Sent, Refusal>) -> Row
+fn send_row(
+    handling: &Handling<'_>,
+    site: u32,
+    digest: [u8; 16],
+    answer: Result<Sent, Refusal>,
+) -> Row
     ensures { (c : Core) (body : List ℕ) → number_of c ≡ site → digest ≡ md5 body
-        → result ≡ the_send_row key agent c body answer }
+        → result ≡ the_send_row handling.now.key handling.now.agent c body answer }
 {
-    let digest = Detail::Digest(digest);
-    match answer {
-        Ok(Sent::New(id)) => {
-            row(
-                key,
-                site,
-                agent,
-                RowKind::Send,
-                RowAnswer::New,
-                Some(id),
-                digest,
-            )
-        }
-        Ok(Sent::Repeat(id)) => {
-            row(
-                key,
-                site,
-                agent,
-                RowKind::Send,
-                RowAnswer::Repeat,
-                Some(id),
-                digest,
-            )
-        }
-        Err(refusal) => row(
-            key,
-            site,
-            agent,
-            RowKind::Send,
-            RowAnswer::Refused(refusal),
-            None,
-            Detail::Absent,
-        ),
-    }
+    let (answer, message, detail) = match answer {
+        Ok(Sent::New(id)) => (RowAnswer::New, Some(id), Detail::Digest(digest)),
+        Ok(Sent::Repeat(id)) => (RowAnswer::Repeat, Some(id), Detail::Digest(digest)),
+        Err(refusal) => (RowAnswer::Refused(refusal), None, Detail::Absent),
+    };
+    handling.row(site, RowKind::Send, answer, message, detail)
 }
 
 impl Core {
@@ -104,29 +79,22 @@ impl Core {
     /// message group and with a deduplication id, if it gives them.
     pub fn send(
         &mut self,
-        key: Key,
-        agent: u32,
+        handling: &mut Handling<'_>,
         body: Text,
         delay: Option<u64>,
         group: Option<Text>,
         id: Option<Text>,
-        effects: &mut Effects,
     ) -> Result<(), Refusal>
-        requires moment { key.at ≤ most_count }
-        requires recent { IsRecent key.at self.old.queue }
-        ensures did { (a : Actor) → a.number ≡ agent
-            → OnOk result (Did effects.old effects.new self.new
-            (send_made key a self.old body
-            (sends self.old.queue.settings.kind self.old.queue key.at body delay group id)).effect) }
-        ensures stops { (a : Actor) → a.number ≡ agent
-            → IfErr result (Stops
-            (send_made key a self.old body
-            (sends self.old.queue.settings.kind self.old.queue key.at body delay group id)).effect) }
+        requires recent { IsRecent handling.old.key.at self.old.queue }
+        ensures { ActorDoes result handling.old handling.new self.new
+            (λ a. (send_made handling.old.key a self.old body
+            (sends self.old.queue.settings.kind self.old.queue handling.old.key.at body delay group id)).effect) }
     {
         let site = self.queue.site();
         let digest = body_md5(body.as_bytes());
-        let answer = sent_by(&mut self.queue, key.at, body, delay, group, id)?;
-        effects.say(send_row(key, site, agent, digest, answer))?;
+        let answer = sent_by(&mut self.queue, handling.key.at, body, delay, group, id)?;
+        let row = send_row(handling, site, digest, answer);
+        handling.effects.say(row)?;
         Ok(())
     }
 }

@@ -8,22 +8,22 @@ ghost use Rattle.sqs_model.specs.Dues.{core_dues};
 ghost use Rattle.sqs_model.specs.Counts.{task_count};
 ghost use Rattle.sim_clock.specs.Places.{Stands};
 ghost use Rattle.sqs_model.specs.Site.{Core as TheCore, is_task, number_of, task_numbered};
-ghost use Rattle.sqs_model.specs.Step.{handle_step, end_row as the_end_row, load_id as the_load_id, move_row as the_move_row, moves, one_sent};
+ghost use Rattle.sqs_model.specs.Step.{handle_step, end_row as the_end_row, load_id as the_load_id, move_row as the_move_row, moves, one_sent, step_moved};
 ghost use Rattle.sqs_model.specs.Task.{Task as TheTask};
 ghost use Rattle.sqs_model.specs.Valid.{IsLatency};
 ghost use Rattle.sim_site.specs.Due.{IsAmong};
-ghost use Rattle.sim_site.specs.Effects.{Did, Stops};
+ghost use Rattle.sim_site.specs.Effects.{Does, GoesOn};
 ghost use Rattle.sim_engine.specs.Limits.{StopsWhere};
 ghost use Rattle.sim_site.specs.Kept.{numbered_settings};
-ghost use Rattle.sim_site.specs.Steps.{DidMove, IsKept, SendsOn, Stepped, stepped_moves};
+ghost use Rattle.sim_site.specs.Steps.{IsKept, Moves, SendsOn, stepped_moves};
 
 use super::Core;
 use crate::agents::Task;
-use crate::effects::Effects;
+use crate::handling::Handling;
 use crate::places::place_of_task;
-use crate::rows::row;
+use crate::rows::site_row;
 use sim_clock::{Key, Refusal};
-use sqs_message::{Detail, MessageId, Row, RowAnswer, RowKind};
+use sqs_message::{Detail, MessageId, Row, RowAnswer, RowKind, RowReceipt};
 use sqs_model::MOST_COUNT;
 use sqs_redrive::{Latency, Load, Outbound, Rest};
 use std::alloc::AllocError;
@@ -45,16 +45,15 @@ fn move_row(key: Key, site: u32, task: u32, to: u32, load: &Load) -> Row
         → result ≡ the_move_row key c t to load.now }
 {
     let id = load_id(load);
-    let detail = Detail::Queue(to);
-    row(
+    let row = site_row(
         key,
         site,
-        task,
         RowKind::Move,
         RowAnswer::Out,
-        Some(id),
-        detail,
-    )
+        id,
+        Detail::Queue(to),
+    );
+    Row { agent: task, ..row }
 }
 
 impl Task {
@@ -91,100 +90,90 @@ impl Task {
     // Makes the row of one message and sends it on.
     fn move_one(
         &mut self,
-        key: Key,
+        handling: &mut Handling<'_>,
         site: u32,
         to: u32,
         load: Load,
-        effects: &mut Effects,
     ) -> Result<(), Refusal>
-        requires moment { key.at ≤ most_count }
-        requires latency { IsLatency self.old.move.settings.latency }
-        ensures moved { OnOk result ((c : TheCore) → number_of c ≡ site
-            → DidMove effects.old effects.new self.new (moves key c self.old ((to, load) ∷ []))) }
+        requires { IsLatency self.old.move.settings.latency }
+        ensures moved { Moves result handling.old handling.new site self.new
+            (λ c. moves handling.old.key c self.old ((to, load) ∷ [])) }
         ensures counted { OnOk result (self.new.sent ≡ self.old.sent + 1) }
         ensures kept { IsKept self.old self.new }
-        ensures stops { IfErr result (StopsWhere (most_count
-            < task_count (one_sent self.old
-            (drawn_latency self.old.move.settings.latency self.old.draws).1))) }
     {
-        effects.say(move_row(key, site, self.number, to, &load))?;
-        let outbound = self.send_on(key, site, to, load)?;
-        effects.send(outbound)?;
+        let row = move_row(handling.key, site, self.number, to, &load);
+        handling.effects.say(row)?;
+        let outbound = self.send_on(handling.key, site, to, load)?;
+        handling.effects.send(outbound)?;
         Ok(())
     }
 
     // Sends messages on, one after another, each after its row.
     fn move_all(
         &mut self,
-        key: Key,
+        handling: &mut Handling<'_>,
         site: u32,
         loads: Vec<(u32, Load)>,
-        effects: &mut Effects,
     ) -> Result<(), Refusal>
-        requires moment { key.at ≤ most_count }
-        requires latency { IsLatency self.old.move.settings.latency }
-        ensures moved { OnOk result ((c : TheCore) → number_of c ≡ site
-            → DidMove effects.old effects.new self.new (moves key c self.old loads.items)) }
+        requires { IsLatency self.old.move.settings.latency }
+        ensures moved { Moves result handling.old handling.new site self.new
+            (λ c. moves handling.old.key c self.old loads.items) }
         ensures counted { OnOk result (self.new.sent ≡ self.old.sent + length loads.items) }
         ensures kept { IsKept self.old self.new }
-        ensures stops { IfErr result (StopsWhere ((c : TheCore) → number_of c ≡ site
-            → most_count < task_count (moves key c self.old loads.items).task)) }
     {
         for (to, load) in loads {
-            self.move_one(key, site, to, load, effects)?;
+            self.move_one(handling, site, to, load)?;
         }
         Ok(())
     }
 
     // Makes the row of the task's end, if this step was its last.
-    fn tell_end(
-        &self,
-        key: Key,
-        site: u32,
-        rest: Rest,
-        effects: &mut Effects,
-    ) -> Result<(), AllocError>
+    fn tell_end(&self, handling: &mut Handling<'_>, site: u32, rest: Rest) -> Result<(), AllocError>
+        ensures on { GoesOn handling.old handling.new }
         ensures rows { OnOk result ((c : TheCore) → number_of c ≡ site
-            → effects.new.rows.items ≡ effects.old.rows.items ++ the_end_row key c self.now rest) }
-        ensures sent { effects.new.sent ≡ effects.old.sent }
+            → handling.new.effects.now.rows.items
+            ≡ handling.old.effects.now.rows.items ++ the_end_row handling.old.key c self.now rest) }
+        ensures sent { handling.new.effects.now.sent ≡ handling.old.effects.now.sent }
     {
         let answer = match rest {
             Rest::Empty => RowAnswer::Completed,
             Rest::More => return Ok(()),
             Rest::NoSource => RowAnswer::Failed,
         };
-        let detail = Detail::Moved(self.movement.moved());
-        let number = self.number;
-        effects.say(row(key, site, number, RowKind::Task, answer, None, detail))
+        handling.effects.say(Row {
+            key: handling.key,
+            queue: site,
+            agent: self.number,
+            kind: RowKind::Task,
+            answer,
+            message: None,
+            receipt: RowReceipt::Absent,
+            detail: Detail::Moved(self.movement.moved()),
+        })
     }
 
     /// A step that took these messages and left this. It sends them on, and if it was the last
     /// step, makes the row of the task's end.
     pub fn step(
         &mut self,
-        key: Key,
+        handling: &mut Handling<'_>,
         site: u32,
         loads: Vec<(u32, Load)>,
         rest: Rest,
-        effects: &mut Effects,
     ) -> Result<(), Refusal>
         requires running { runs self.old ≡ true }
-        requires moment { key.at ≤ most_count }
         requires latency { IsLatency self.old.move.settings.latency }
-        ensures stepped { OnOk result ((c : TheCore) → number_of c ≡ site
-            → DidMove effects.old effects.new self.new
-            (stepped_moves key c self.old loads.items rest)) }
+        ensures stepped { Moves result handling.old handling.new site self.new
+            (λ c. stepped_moves handling.old.key c self.old loads.items rest) }
         ensures settings { numbered_settings self.new ≡ numbered_settings self.old }
-        ensures stops { IfErr result (StopsWhere ((c : TheCore) → number_of c ≡ site
-            → most_count < task_count (stepped_moves key c self.old loads.items rest).task)) }
     {
         if self.movement.steps() >= MOST_COUNT {
             return Err(Refusal::CountLimit);
         }
         let taken = loads.len() as u64;
-        self.move_all(key, site, loads, effects)?;
-        self.movement.step(key.at, taken, rest);
-        self.tell_end(key, site, rest, effects)?;
+        self.move_all(handling, site, loads)?;
+        self.movement.step(handling.key.at, taken, rest);
+        self.tell_end(handling, site, rest)?;
         Ok(())
     }
 }
@@ -193,44 +182,40 @@ impl Task {
 fn step_at(
     tasks: &mut Vec<Task>,
     place: usize,
-    key: Key,
+    handling: &mut Handling<'_>,
     site: u32,
     loads: Vec<(u32, Load)>,
     rest: Rest,
-    effects: &mut Effects,
 ) -> Result<(), Refusal>
-    requires place { Stands (is_task key.agent) tasks.old.items place }
-    requires running { IfSome (find (is_task key.agent) tasks.old.items) (λ t. runs t ≡ true) }
+    requires place { Stands (is_task handling.old.key.agent) tasks.old.items place }
+    requires running { IfSome (find (is_task handling.old.key.agent) tasks.old.items)
+        (λ t. runs t ≡ true) }
     requires latencies { All (λ t. IsLatency t.1.latency) (map numbered_settings tasks.old.items) }
-    requires moment { key.at ≤ most_count }
-    ensures stepped { OnOk result (Stepped key.agent key site loads.items rest effects.old
-        effects.new tasks.old.items tasks.new.items) }
+    ensures stepped { (c : TheCore) (t : TheTask) → number_of c ≡ site → c.tasks ≡ tasks.old.items
+        → task_numbered handling.old.key.agent c ≡ Some t
+        → Does result handling.old handling.new (record c { tasks = tasks.new.items })
+        (step_moved handling.old.key c (length loads.items) rest
+        (moves handling.old.key c t loads.items)) }
     ensures settings { map numbered_settings tasks.new.items
         ≡ map numbered_settings tasks.old.items }
-    ensures stops { IfErr result (StopsWhere ((c : TheCore) (t : TheTask) → number_of c ≡ site
-        → find (is_task key.agent) tasks.old.items ≡ Some t
-        → most_count < task_count (stepped_moves key c t loads.items rest).task)) }
 {
-    tasks[place].step(key, site, loads, rest, effects)
+    tasks[place].step(handling, site, loads, rest)
 }
 
 impl Core {
     /// A move task, which is running, takes its next step.
-    pub fn handle_step(&mut self, key: Key, effects: &mut Effects) -> Result<(), Refusal>
-        requires moment { key.at ≤ most_count }
-        requires class { key.class ≡ StepClass }
-        requires due { IsAmong (core_dues self.old) key }
-        ensures did { OnOk result (Did effects.old effects.new self.new
-            (handle_step key self.old (task_numbered key.agent self.old))) }
-        ensures stops { IfErr result
-            (Stops (handle_step key self.old (task_numbered key.agent self.old))) }
+    pub fn handle_step(&mut self, handling: &mut Handling<'_>) -> Result<(), Refusal>
+        requires class { handling.old.key.class ≡ StepClass }
+        requires due { IsAmong (core_dues self.old) handling.old.key }
+        ensures { Does result handling.old handling.new self.new (handle_step handling.old.key
+            self.old (task_numbered handling.old.key.agent self.old)) }
     {
         let site = self.queue.site();
-        let Some(place) = place_of_task(&self.tasks, key.agent) else {
+        let Some(place) = place_of_task(&self.tasks, handling.key.agent) else {
             return Ok(());
         };
         let settings = self.tasks[place].settings();
         let (loads, rest) = self.queue.take_movable(settings.per_second, settings.to)?;
-        step_at(&mut self.tasks, place, key, site, loads, rest, effects)
+        step_at(&mut self.tasks, place, handling, site, loads, rest)
     }
 }

@@ -1,24 +1,22 @@
 //! Starts and cancels of move tasks by actors.
-ghost use Rattle.std.specs.Prelude.{IfSome, OnOk, false, find, map, true, ◌≡◌, ◌≤◌};
+ghost use Rattle.std.specs.Prelude.{IfSome, false, find, map, true, ◌≡◌, ◌≤◌};
 ghost use Rattle.std.specs.List.{list_any};
 ghost use Rattle.sqs_model.specs.Actor.{Actor};
 ghost use Rattle.sqs_model.specs.Acts.{cancel_made, runs, start_made, task_row as the_task_row};
 ghost use Rattle.sqs_model.specs.Answers.{most_count};
 ghost use Rattle.sim_clock.specs.Places.{Stands};
 ghost use Rattle.sqs_model.specs.Site.{Core, is_task, number_of, task_numbered};
-ghost use Rattle.sim_site.specs.Effects.{Did};
+ghost use Rattle.sim_site.specs.Effects.{ActorDoes};
 ghost use Rattle.sim_site.specs.Kept.{numbered_settings};
 ghost use Rattle.sim_site.specs.Reading.{cancelled_task, started_task};
 ghost use Rattle.sim_site.specs.Tasks.{Rewritten};
 
 use super::Core;
 use crate::agents::Task;
-use crate::effects::Effects;
+use crate::handling::Handling;
 use crate::places::place_of_task;
-use crate::rows::row;
-use sim_clock::{Key, Refusal};
+use sim_clock::Refusal;
 use sqs_message::{Detail, Row, RowAnswer, RowKind};
-use std::alloc::AllocError;
 
 // Whether one of some tasks is running.
 fn any_runs(tasks: &[Task]) -> bool
@@ -57,27 +55,19 @@ fn cancel_at(tasks: &mut Vec<Task>, place: usize, number: u32) -> bool
 }
 
 // The row of a start or cancel.
-fn task_row(key: Key, site: u32, agent: u32, task: u32, kind: RowKind, answer: RowAnswer) -> Row
-    ensures { (a : Actor) (c : Core) → a.number ≡ agent → number_of c ≡ site
-        → result ≡ the_task_row key a c task kind answer }
+fn task_row(handling: &Handling<'_>, site: u32, task: u32, kind: RowKind, answer: RowAnswer) -> Row
+    ensures { (a : Actor) (c : Core) → a.number ≡ handling.now.agent → number_of c ≡ site
+        → result ≡ the_task_row handling.now.key a c task kind answer }
 {
-    let detail = Detail::Task(task);
-    row(key, site, agent, kind, answer, None, detail)
+    handling.row(site, kind, answer, None, Detail::Task(task))
 }
 
 impl Core {
-    /// An actor starts a task. It is refused while a task of the site is running.
-    pub fn start(
-        &mut self,
-        key: Key,
-        agent: u32,
-        task: u32,
-        effects: &mut Effects,
-    ) -> Result<(), AllocError>
-        requires { key.at ≤ most_count }
-        ensures { (a : Actor) → a.number ≡ agent
-            → OnOk result (Did effects.old effects.new self.new
-            (start_made key a self.old task (task_numbered task self.old)).effect) }
+    /// An actor starts a task. It is refused while a task of the site is running. The only error is
+    /// `Memory`.
+    pub fn start(&mut self, handling: &mut Handling<'_>, task: u32) -> Result<(), Refusal>
+        ensures { ActorDoes result handling.old handling.new self.new
+            (λ a. (start_made handling.old.key a self.old task (task_numbered task self.old)).effect) }
     {
         let site = self.queue.site();
         let Some(place) = place_of_task(&self.tasks, task) else {
@@ -85,23 +75,21 @@ impl Core {
         };
         if any_runs(&self.tasks) {
             let answer = RowAnswer::Refused(Refusal::TaskRunning);
-            return effects.say(task_row(key, site, agent, task, RowKind::Start, answer));
+            let row = task_row(handling, site, task, RowKind::Start, answer);
+            handling.effects.say(row)?;
+            return Ok(());
         }
-        start_at(&mut self.tasks, place, task, key.at);
-        effects.say(task_row(key, site, agent, task, RowKind::Start, RowAnswer::Ok))
+        start_at(&mut self.tasks, place, task, handling.key.at);
+        let row = task_row(handling, site, task, RowKind::Start, RowAnswer::Ok);
+        handling.effects.say(row)?;
+        Ok(())
     }
 
-    /// An actor cancels a task. It is refused if the task is not running.
-    pub fn cancel(
-        &mut self,
-        key: Key,
-        agent: u32,
-        task: u32,
-        effects: &mut Effects,
-    ) -> Result<(), AllocError>
-        ensures { (a : Actor) → a.number ≡ agent
-            → OnOk result (Did effects.old effects.new self.new
-            (cancel_made key a self.old task (task_numbered task self.old)).effect) }
+    /// An actor cancels a task. It is refused if the task is not running. The only error is
+    /// `Memory`.
+    pub fn cancel(&mut self, handling: &mut Handling<'_>, task: u32) -> Result<(), Refusal>
+        ensures { ActorDoes result handling.old handling.new self.new
+            (λ a. (cancel_made handling.old.key a self.old task (task_numbered task self.old)).effect) }
     {
         let site = self.queue.site();
         let Some(place) = place_of_task(&self.tasks, task) else {
@@ -109,8 +97,12 @@ impl Core {
         };
         if !cancel_at(&mut self.tasks, place, task) {
             let answer = RowAnswer::Refused(Refusal::NoTask);
-            return effects.say(task_row(key, site, agent, task, RowKind::Cancel, answer));
+            let row = task_row(handling, site, task, RowKind::Cancel, answer);
+            handling.effects.say(row)?;
+            return Ok(());
         }
-        effects.say(task_row(key, site, agent, task, RowKind::Cancel, RowAnswer::Ok))
+        let row = task_row(handling, site, task, RowKind::Cancel, RowAnswer::Ok);
+        handling.effects.say(row)?;
+        Ok(())
     }
 }

@@ -1,4 +1,4 @@
-use Rattle.std.proofs.Common.{ap, rules, sym, ◌∙◌}
+use Rattle.std.proofs.Common.{ap, sym, ◌∙◌}
 use Rattle.std.specs.Ordering.{is_lt}
 use Rattle.sim_clock.specs.Order.{key_cmp}
 use Rattle.sqs_redrive.specs.Transfers.{transfer_key}

@@ -1,7 +1,7 @@
 use Rattle.std.proofs.Common.{map, subst, sym, ◌∙◌}
 use Rattle.std.specs.Prelude.{IfSome, List, MatchOption, Some}
 use Rattle.sqs_model.specs.Actor.{Actor}
-use Rattle.sim_clock.specs.Places.{IsAbsent, Stands, place_from_position}
+use Rattle.sim_clock.specs.Places.{IsAbsent, Stands}
 use Rattle.sqs_model.specs.Site.{is_actor}
 use Rattle.sim_site.specs.Marked.{IsFirst}
 use Rattle.sim_site.proofs.Firsts.{first_found}

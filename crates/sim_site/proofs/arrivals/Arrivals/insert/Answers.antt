@@ -1,8 +1,7 @@
-use Rattle.std.proofs.Common.{List, ap, rules, subst, sym, ◌≡◌, ◌++◌, ◌∙◌}
+use Rattle.std.proofs.Common.{rules, subst, ◌≡◌, ◌++◌}
 use Rattle.std.specs.Ordering.{on}
 use Rattle.std.specs.Prelude.{OnOk}
 use Rattle.sim_clock.specs.Order.{inserted_by, key_cmp}
-use Rattle.sqs_redrive.specs.declared.transfers.Outbound.{Outbound}
 use Rattle.sqs_redrive.specs.Transfers.{transfer_key}
 use Rattle.sim_site.specs.Arrivals.{ComesBehind, ComesFirst}
 use Rattle.sim_site.proofs.Rings.{back_in_order, front_in_order, more_among, more_behind, none_more, still_in_order}

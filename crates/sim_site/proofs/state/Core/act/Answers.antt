@@ -1,65 +1,70 @@
-use Rattle.std.specs.Prelude.{IfErr, Some, unwrap_or, ◌/◌}
-use Rattle.std.proofs.Common.{refl, subst, sym}
+use Rattle.std.specs.Prelude.{Err, Ok, Result, Some, option_map, unwrap_or, ◌/◌, ◌≡◌}
+use Rattle.std.proofs.Common.{ap, refl, subst, sym}
+use Rattle.std.specs.Result.{result_map_both}
+use Rattle.sim_actor.specs.Lives.{answer_of}
+use Rattle.sim_actor.specs.declared.replies.Reply.TheVariants.{Other}
+use Rattle.sim_clock.specs.declared.refusal.Refusal.{Refusal}
+use Rattle.sqs_message.specs.Ids.{read_receipt}
+use Rattle.sqs_model.specs.Acts.{act_made}
+use Rattle.sqs_model.specs.Site.{Core, task_numbered}
 use Rattle.sqs_model.specs.declared.acts.Act.{Act}
 use Rattle.sqs_model.specs.declared.acts.Answer.TheVariants as told_by
-use Rattle.sqs_model.specs.Acts.{act_made}
-use Rattle.sim_site.specs.Effects.{Stops}
-use Rattle.sim_site.specs.Turns.{DidTurn, turn_by}
-use Rattle.sqs_message.specs.Ids.{read_receipt}
-use Rattle.sqs_model.specs.Site.{task_numbered}
-use Rattle.sim_site.proofs.Passing.{stops_up}
+use Rattle.sim_site.specs.Effects.{Does}
+use Rattle.sim_site.specs.Turns.{Takes, Turn, turn_by}
+use Rattle.sim_site.specs.declared.handling.Handling.{Handling}
 use Rattle.sim_site.proofs.Told.{cancel_done_is, change_done_is, delete_done_is, serve_done_is, start_done_is}
 use Rattle.sim_site.proofs.state.Core.act.Goals as goal
-use Rattle.sim_site.proofs.state.Core.act.Goals.{in-Send+in_ok-send-in-Send, in-Delete+in_ok-delete-in-Delete, in-Change+in_ok-change-in-Change, in-Prolong+in_ok-prolong-in-Prolong, in-Start+in_ok-start-in-Start, in-Cancel+in_ok-cancel-in-Cancel, in-Serve+in_ok-serve-in-Serve}
+use Rattle.sim_site.proofs.state.Core.act.Goals.{in-Send, in-Delete, in-Change, in-Prolong, in-Start, in-Cancel, in-Serve}
 
-pub returns-in_err-send-in-Send-clause-stops : goal.returns-in_err-send-in-Send-clause-stops
-unfolding act_made
-returns-in_err-send-in-Send-clause-stops c = λ a e f.
-    subst (λ (x : Act). IfErr c.from_residual.result (Stops (act_made c.args.key a c.args.self.now x).effect)) (sym c.in-Send.is)
-    (stops_up _ _ c.from_residual.result c.in_err-send-in-Send.field-0.0 c.from_residual.ensures.1 (λ h. h) (c.in_err-send-in-Send.ensures.stops a e))
+-- a turn by an act that is no receive, as far as it is done
+abbrev IsDone : Result (Unit {0}) Refusal → Handling → Handling → Core → Turn → Type 0
+IsDone r a b c t = Does r a b c t.effect × (Some told_by.Other ≡ t.answer)
 
-pub returns-in_err-change-in-Change-clause-stops : goal.returns-in_err-change-in-Change-clause-stops
-unfolding act_made
-returns-in_err-change-in-Change-clause-stops c = λ a e f.
-    subst (λ (x : Act). IfErr c.from_residual-in_err-change-in-Change.result (Stops (act_made c.args.key a c.args.self.now x).effect)) (sym c.in-Change.is)
-    (stops_up _ _ c.from_residual-in_err-change-in-Change.result c.in_err-change-in-Change.field-0.0 c.from_residual-in_err-change-in-Change.ensures.1 (λ h. h) (c.in_err-change-in-Change.ensures.stops a e))
+takes : (r : Result (Unit {0}) Refusal) (a b : Handling) (c : Core) (t : Turn) → IsDone r a b c t → Takes (option_map answer_of) (result_map_both (λ _. Some Other) (λ refusal. refusal) r) a b c t
+takes (Ok u) a b c t d = (d.0.0, record { effect = d.0.1; answer = d.1 })
+takes (Err x) a b c t d = d.0
 
-pub returns-in_err-prolong-in-Prolong-clause-stops : goal.returns-in_err-prolong-in-Prolong-clause-stops
+pub returns-in-Receive : goal.returns-in-Receive
 unfolding act_made
-returns-in_err-prolong-in-Prolong-clause-stops c = λ a e f.
-    subst (λ (x : Act). IfErr c.from_residual-in_err-prolong-in-Prolong.result (Stops (act_made c.args.key a c.args.self.now x).effect)) (sym c.in-Prolong.is)
-    (stops_up _ _ c.from_residual-in_err-prolong-in-Prolong.result c.in_err-prolong-in-Prolong.field-0.0 c.from_residual-in_err-prolong-in-Prolong.ensures.1 (λ h. h) (c.in_err-prolong-in-Prolong.ensures.stops a e))
+returns-in-Receive c a e f =
+    let made = c.in_ok-receive-in-Receive.ensures a e f in
+    subst (λ (x : Act). Takes (option_map answer_of) (Ok (Some c.in_ok-receive-in-Receive.field-0)) c.args.handling.now c.receive.new.handling c.receive.new.self (turn_by x (act_made c.args.handling.now.key a c.args.self.now x))) (sym c.in-Receive.is)
+    (made.0, record { effect = made.1.effect; answer = ap (λ x. Some x) made.1.answer })
 
-pub returns-clause-did : goal.returns-clause-did
+pub returns : goal.returns
 unfolding act_made
-returns-clause-did c = λ a e f.
-    elim c.match-act.branch as (λ _. DidTurn c.args.effects.now c.match-act.effects c.match-act.self (Some told_by.Other) (turn_by c.args.act (act_made c.args.key a c.args.self.now c.args.act))) [
-      | in-Send+in_ok-send-in-Send w ↦
-          rw (w.self-is, w.effects-is)
-          (subst (λ (x : Act). DidTurn c.args.effects.now w.send.new.effects w.send.new.self (Some told_by.Other) (turn_by x (act_made c.args.key a c.args.self.now x))) (sym w.in-Send.is)
-          (record { effect = w.in_ok-send-in-Send.ensures.did a e; answer = refl }))
-      | in-Delete+in_ok-delete-in-Delete w ↦
-          rw (w.self-is, w.effects-is)
-          (subst (λ (x : Act). DidTurn c.args.effects.now w.delete.new.effects w.delete.new.self (Some told_by.Other) (turn_by x (act_made c.args.key a c.args.self.now x))) (sym w.in-Delete.is)
-          (record { effect = w.in_ok-delete-in-Delete.ensures a e; answer = delete_done_is c.args.key a c.args.self.now w.in-Delete.receipt (read_receipt w.in-Delete.receipt) }))
-      | in-Change+in_ok-change-in-Change w ↦
-          rw (w.self-is, w.effects-is)
-          (subst (λ (x : Act). DidTurn c.args.effects.now w.change.new.effects w.change.new.self (Some told_by.Other) (turn_by x (act_made c.args.key a c.args.self.now x))) (sym w.in-Change.is)
-          (record { effect = w.in_ok-change-in-Change.ensures.did a e; answer = change_done_is c.args.key a c.args.self.now w.in-Change.receipt w.in-Change.timeout (read_receipt w.in-Change.receipt) }))
-      | in-Prolong+in_ok-prolong-in-Prolong w ↦
-          rw (w.self-is, w.effects-is)
-          (subst (λ (x : Act). DidTurn c.args.effects.now w.prolong.new.effects w.prolong.new.self (Some told_by.Other) (turn_by x (act_made c.args.key a c.args.self.now x))) (sym w.in-Prolong.is)
-          (record { effect = w.in_ok-prolong-in-Prolong.ensures.did a e; answer = change_done_is c.args.key a c.args.self.now w.in-Prolong.receipt (unwrap_or w.in-Prolong.timeout (c.args.self.now.queue.settings.visibility / 1000)) (read_receipt w.in-Prolong.receipt) }))
-      | in-Start+in_ok-start-in-Start w ↦
-          rw (w.self-is, w.effects-is)
-          (subst (λ (x : Act). DidTurn c.args.effects.now w.start.new.effects w.start.new.self (Some told_by.Other) (turn_by x (act_made c.args.key a c.args.self.now x))) (sym w.in-Start.is)
-          (record { effect = w.in_ok-start-in-Start.ensures a e; answer = start_done_is c.args.key a c.args.self.now w.in-Start.task (task_numbered w.in-Start.task c.args.self.now) }))
-      | in-Cancel+in_ok-cancel-in-Cancel w ↦
-          rw (w.self-is, w.effects-is)
-          (subst (λ (x : Act). DidTurn c.args.effects.now w.cancel.new.effects w.cancel.new.self (Some told_by.Other) (turn_by x (act_made c.args.key a c.args.self.now x))) (sym w.in-Cancel.is)
-          (record { effect = w.in_ok-cancel-in-Cancel.ensures a e; answer = cancel_done_is c.args.key a c.args.self.now w.in-Cancel.task (task_numbered w.in-Cancel.task c.args.self.now) }))
-      | in-Serve+in_ok-serve-in-Serve w ↦
-          rw (w.self-is, w.effects-is)
-          (subst (λ (x : Act). DidTurn c.args.effects.now w.serve.new.effects w.serve.new.self (Some told_by.Other) (turn_by x (act_made c.args.key a c.args.self.now x))) (sym w.in-Serve.is)
-          (record { effect = w.in_ok-serve-in-Serve.ensures a e; answer = serve_done_is c.args.key a c.args.self.now w.in-Serve.id w.in-Serve.receipt w.in-Serve.failed w.in-Serve.forward }))
-    ]
+returns c a e f =
+    let key = c.args.handling.now.key in
+    let core = c.args.self.now in
+    let done : IsDone c.match-act.done c.args.handling.now c.match-act.handling c.match-act.self (turn_by c.args.act (act_made key a core c.args.act)) =
+    elim c.match-act.branch as (λ _. IsDone c.match-act.done c.args.handling.now c.match-act.handling c.match-act.self (turn_by c.args.act (act_made key a core c.args.act))) [
+      | in-Send w ↦
+          rw (w.self-is, w.handling-is, w.done-is)
+          (subst (λ (x : Act). IsDone w.send-done.result c.args.handling.now w.send-done.new.handling w.send-done.new.self (turn_by x (act_made key a core x))) (sym w.in-Send.is)
+          (w.send-done.ensures a e, refl))
+      | in-Delete w ↦
+          rw (w.self-is, w.handling-is, w.done-is)
+          (subst (λ (x : Act). IsDone w.delete-done.result c.args.handling.now w.delete-done.new.handling w.delete-done.new.self (turn_by x (act_made key a core x))) (sym w.in-Delete.is)
+          (w.delete-done.ensures a e, delete_done_is key a core w.in-Delete.receipt (read_receipt w.in-Delete.receipt)))
+      | in-Change w ↦
+          rw (w.self-is, w.handling-is, w.done-is)
+          (subst (λ (x : Act). IsDone w.change-done.result c.args.handling.now w.change-done.new.handling w.change-done.new.self (turn_by x (act_made key a core x))) (sym w.in-Change.is)
+          (w.change-done.ensures a e, change_done_is key a core w.in-Change.receipt w.in-Change.timeout (read_receipt w.in-Change.receipt)))
+      | in-Prolong w ↦
+          rw (w.self-is, w.handling-is, w.done-is)
+          (subst (λ (x : Act). IsDone w.prolong-done.result c.args.handling.now w.prolong-done.new.handling w.prolong-done.new.self (turn_by x (act_made key a core x))) (sym w.in-Prolong.is)
+          (w.prolong-done.ensures a e, change_done_is key a core w.in-Prolong.receipt (unwrap_or w.in-Prolong.timeout (core.queue.settings.visibility / 1000)) (read_receipt w.in-Prolong.receipt)))
+      | in-Start w ↦
+          rw (w.self-is, w.handling-is, w.done-is)
+          (subst (λ (x : Act). IsDone w.start-done.result c.args.handling.now w.start-done.new.handling w.start-done.new.self (turn_by x (act_made key a core x))) (sym w.in-Start.is)
+          (w.start-done.ensures a e, start_done_is key a core w.in-Start.task (task_numbered w.in-Start.task core)))
+      | in-Cancel w ↦
+          rw (w.self-is, w.handling-is, w.done-is)
+          (subst (λ (x : Act). IsDone w.cancel-done.result c.args.handling.now w.cancel-done.new.handling w.cancel-done.new.self (turn_by x (act_made key a core x))) (sym w.in-Cancel.is)
+          (w.cancel-done.ensures a e, cancel_done_is key a core w.in-Cancel.task (task_numbered w.in-Cancel.task core)))
+      | in-Serve w ↦
+          rw (w.self-is, w.handling-is, w.done-is)
+          (subst (λ (x : Act). IsDone w.serve-done.result c.args.handling.now w.serve-done.new.handling w.serve-done.new.self (turn_by x (act_made key a core x))) (sym w.in-Serve.is)
+          (w.serve-done.ensures a e, serve_done_is key a core w.in-Serve.id w.in-Serve.receipt w.in-Serve.failed w.in-Serve.forward))
+    ] in
+    rw c.reply_to.ensures (takes c.match-act.done c.args.handling.now c.match-act.handling c.match-act.self (turn_by c.args.act (act_made key a core c.args.act)) done)

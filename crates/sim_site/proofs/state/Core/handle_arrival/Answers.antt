@@ -1,31 +1,28 @@
 use Rattle.sqs_model.specs.Limits.{PassesCount}
 use Rattle.sqs_model.proofs.Growth.{polls_up, same}
-use Rattle.sqs_model.specs.Site.{Effect}
-use Rattle.sqs_model.specs.Step.{with_polls}
-use Rattle.sim_site.proofs.Passing.{passes_before, stops_then, stops_up}
 use Rattle.sqs_model.proofs.Kept.{arrival_recent}
-use Rattle.sim_site.proofs.Recent.{did_recent}
 use Rattle.sqs_model.specs.Polls.{answer_polls}
-use Rattle.sqs_model.specs.Site.{Core}
-use Rattle.sqs_model.specs.Step.{handle_arrival}
-use Rattle.sim_site.proofs.Carried.{then_if}
+use Rattle.sqs_model.specs.Site.{Core, Effect}
+use Rattle.sqs_model.specs.Step.{handle_arrival, with_polls}
+use Rattle.sim_site.proofs.Going.{does_then}
+use Rattle.sim_site.proofs.Passing.{passes_before, stops_up}
+use Rattle.sim_site.proofs.Recent.{goes_recent}
 use Rattle.sim_site.proofs.state.Core.handle_arrival.Goals as goal
 
-pub returns-clause-did : goal.returns-clause-did
-returns-clause-did c =
-    then_if c.answer_polls.result c.args.effects.now c.handle_transfer.new.effects c.answer_polls.new.effects c.handle_transfer.new.self c.answer_polls.new.self
-    (handle_arrival c.args.key c.args.transfer c.args.self.now) (λ (x : Core). answer_polls c.args.key x.polls x) c.in_ok-handle_transfer.ensures.did c.answer_polls.ensures.did
+pub returns : goal.returns
+returns c =
+    let handling = c.args.handling.now in
+    does_then c.answer_polls.result handling c.handle_transfer.new.handling c.answer_polls.new.handling c.handle_transfer.new.self c.answer_polls.new.self
+    (handle_arrival handling.key c.args.transfer c.args.self.now) (λ k n x. answer_polls k x.polls x) c.in_ok-handle_transfer.ensures c.answer_polls.ensures
 
-pub answer_polls-requires-clause-recent : goal.answer_polls-requires-clause-recent
-answer_polls-requires-clause-recent c =
-    did_recent c.args.key.at c.args.effects.now c.handle_transfer.new.effects c.handle_transfer.new.self (handle_arrival c.args.key c.args.transfer c.args.self.now) c.in_ok-handle_transfer.ensures.did (arrival_recent c.args.key c.args.transfer c.args.self.now c.requires.recent)
+pub answer_polls-requires : goal.answer_polls-requires
+answer_polls-requires c =
+    let handling = c.args.handling.now in
+    goes_recent handling c.handle_transfer.new.handling c.handle_transfer.new.self (handle_arrival handling.key c.args.transfer c.args.self.now) c.in_ok-handle_transfer.ensures (arrival_recent handling.key c.args.transfer c.args.self.now c.requires.recent)
 
-pub returns-clause-stops : goal.returns-clause-stops
-returns-clause-stops c =
-    stops_then c.answer_polls.result c.args.effects.now c.handle_transfer.new.effects c.handle_transfer.new.self (handle_arrival c.args.key c.args.transfer c.args.self.now) (λ (x : Core). answer_polls c.args.key x.polls x) c.in_ok-handle_transfer.ensures.did c.answer_polls.ensures.stops
-
-pub returns-in_err-handle_transfer-clause-stops : goal.returns-in_err-handle_transfer-clause-stops
-returns-in_err-handle_transfer-clause-stops c =
-    let e : Effect = (handle_arrival c.args.key c.args.transfer c.args.self.now) in
-    stops_up _ (PassesCount (with_polls c.args.key e)) c.from_residual.result c.in_err-handle_transfer.field-0.0 c.from_residual.ensures.1
-    (passes_before e (λ (x : Core). answer_polls c.args.key x.polls x) (polls_up e.core c.args.key e.core.polls e.core (same e.core))) c.in_err-handle_transfer.ensures.stops
+pub returns-in_err-handle_transfer : goal.returns-in_err-handle_transfer
+returns-in_err-handle_transfer c =
+    let handling = c.args.handling.now in
+    let e : Effect = handle_arrival handling.key c.args.transfer c.args.self.now in
+    stops_up _ _ (PassesCount (with_polls handling.key e)) c.from_residual.result c.in_err-handle_transfer.field-0.0 c.from_residual.ensures.1
+    (passes_before e (λ (x : Core). answer_polls handling.key x.polls x) (polls_up e.core handling.key e.core.polls e.core (same e.core))) c.in_err-handle_transfer.ensures

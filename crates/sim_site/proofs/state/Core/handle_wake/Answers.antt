@@ -6,34 +6,39 @@ use Rattle.sqs_model.specs.Limits.{PassesCount}
 use Rattle.sqs_model.specs.Polls.{acts_most}
 use Rattle.sqs_model.specs.Site.{actor_numbered}
 use Rattle.sqs_model.specs.declared.acts.Answer.TheVariants.{Wake}
+use Rattle.sim_site.specs.Effects.{Did, Does, GoesOn}
 use Rattle.sim_site.specs.Turns.{DidTurn, turn_of}
 use Rattle.sim_site.proofs.Passing.{stops_up}
-use Rattle.sim_site.proofs.Recent.{did_recent, turn_recent}
-use Rattle.sim_site.proofs.Turns.{turn_ends, turn_goes_if, turn_limited, turns_stop}
+use Rattle.sim_site.proofs.Recent.{goes_recent, turn_recent}
+use Rattle.sim_site.proofs.Turns.{turn_ends, turn_goes, turn_limited}
 use Rattle.sim_site.proofs.state.Core.handle_wake.Goals as goal
 
-pub returns-in_default-clause-did : goal.returns-in_default-clause-did
-returns-in_default-clause-did c =
-    let one = subst (λ (o : Option Reply). DidTurn c.args.effects.now c.first_turn.new.effects c.first_turn.new.self (option_map answer_of o) (turn_of c.args.key Wake c.args.self.now (actor_numbered c.args.key.agent c.args.self.now))) c.in_default.is c.in_ok-reply.ensures.did in
-    turn_ends c.args.key c.args.key.agent 2 Wake c.args.self.now c.args.effects.now c.first_turn.new.effects c.first_turn.new.self one
+pub returns-in_default : goal.returns-in_default
+returns-in_default c =
+    let handling = c.args.handling.now in
+    let one = subst (λ (o : Option Reply). DidTurn handling.effects.now c.first_turn.new.handling.effects.now c.first_turn.new.self (option_map answer_of o) (turn_of handling.key Wake c.args.self.now (actor_numbered handling.agent c.args.self.now))) c.in_default.is c.in_ok-reply.ensures.1 in (
+      c.in_ok-reply.ensures.0,
+      subst (λ n. Did handling.effects.now c.first_turn.new.handling.effects.now c.first_turn.new.self (acts_most 3 handling.key n Wake c.args.self.now)) c.requires.agent
+          (turn_ends handling.key handling.agent 2 Wake c.args.self.now handling.effects.now c.first_turn.new.handling.effects.now c.first_turn.new.self one),
+    )
 
-pub returns-clause-did : goal.returns-clause-did
-returns-clause-did c =
-    let one = subst (λ (o : Option Reply). DidTurn c.args.effects.now c.first_turn.new.effects c.first_turn.new.self (option_map answer_of o) (turn_of c.args.key Wake c.args.self.now (actor_numbered c.args.key.agent c.args.self.now))) c.in-Some.is c.in_ok-reply.ensures.did in
-    turn_goes_if c.args.key c.args.key.agent 2 Wake c.args.self.now c.args.effects.now c.first_turn.new.effects c.first_turn.new.self c.last_turns.new.effects c.last_turns.new.self (answer_of c.in-Some.reply) one c.last_turns.result c.last_turns.ensures.did
+pub returns : goal.returns
+returns c =
+    let handling = c.args.handling.now in
+    let mid = c.first_turn.new.handling in
+    let one = subst (λ (o : Option Reply). GoesOn handling mid × DidTurn handling.effects.now mid.effects.now c.first_turn.new.self (option_map answer_of o) (turn_of handling.key Wake c.args.self.now (actor_numbered handling.agent c.args.self.now))) c.in-Some.is c.in_ok-reply.ensures in
+    subst (λ n. Does c.last_turns.result handling c.last_turns.new.handling c.last_turns.new.self (acts_most 3 handling.key n Wake c.args.self.now)) c.requires.agent
+    (turn_goes c.last_turns.result handling mid c.last_turns.new.handling 2 Wake (answer_of c.in-Some.reply) c.args.self.now c.first_turn.new.self c.last_turns.new.self one c.last_turns.ensures)
 
-pub returns-clause-stops : goal.returns-clause-stops
-returns-clause-stops c =
-    let one = subst (λ (o : Option Reply). DidTurn c.args.effects.now c.first_turn.new.effects c.first_turn.new.self (option_map answer_of o) (turn_of c.args.key Wake c.args.self.now (actor_numbered c.args.key.agent c.args.self.now))) c.in-Some.is c.in_ok-reply.ensures.did in
-    turns_stop c.args.key c.args.key.agent 2 Wake c.args.self.now c.args.effects.now c.first_turn.new.effects c.first_turn.new.self (answer_of c.in-Some.reply) one c.last_turns.result c.last_turns.ensures.stops
+pub last_turns-requires : goal.last_turns-requires
+last_turns-requires c =
+    let handling = c.args.handling.now in
+    let actor = actor_numbered handling.agent c.args.self.now in
+    goes_recent handling c.first_turn.new.handling c.first_turn.new.self (turn_of handling.key Wake c.args.self.now actor).effect (c.in_ok-reply.ensures.0, c.in_ok-reply.ensures.1.effect)
+    (turn_recent handling.key Wake c.args.self.now actor c.requires.recent)
 
-pub last_turns-requires-clause-recent : goal.last_turns-requires-clause-recent
-last_turns-requires-clause-recent c =
-    let actor = actor_numbered c.args.key.agent c.args.self.now in
-    did_recent c.args.key.at c.args.effects.now c.first_turn.new.effects c.first_turn.new.self (turn_of c.args.key Wake c.args.self.now actor).effect c.in_ok-reply.ensures.did.effect
-    (turn_recent c.args.key Wake c.args.self.now actor c.requires.recent)
-
-pub returns-in_err-reply-clause-stops : goal.returns-in_err-reply-clause-stops
-returns-in_err-reply-clause-stops c =
-    stops_up _ (PassesCount (acts_most 3 c.args.key c.args.key.agent Wake c.args.self.now)) c.from_residual.result c.in_err-reply.field-0.0 c.from_residual.ensures.1
-    (turn_limited c.args.key c.args.key.agent 2 Wake c.args.self.now) c.in_err-reply.ensures.stops
+pub returns-in_err-reply : goal.returns-in_err-reply
+returns-in_err-reply c =
+    let handling = c.args.handling.now in
+    stops_up _ _ (PassesCount (acts_most 3 handling.key handling.key.agent Wake c.args.self.now)) c.from_residual.result c.in_err-reply.field-0.0 c.from_residual.ensures.1
+    (λ h. subst (λ n. PassesCount (acts_most 3 handling.key n Wake c.args.self.now)) c.requires.agent (turn_limited handling.key handling.agent 2 Wake c.args.self.now h)) c.in_err-reply.ensures

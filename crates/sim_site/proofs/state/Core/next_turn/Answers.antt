@@ -1,18 +1,18 @@
-use Rattle.sqs_model.specs.Limits.{PassesCount}
-use Rattle.std.specs.Prelude.{IfErr}
 use Rattle.std.proofs.Common.{subst}
 use Rattle.sim_actor.specs.Lives.{answer_of}
+use Rattle.sqs_model.specs.Limits.{PassesCount}
 use Rattle.sqs_model.specs.Site.{Core, actor_numbered}
-use Rattle.sim_site.specs.Effects.{Stops}
 use Rattle.sim_site.specs.Turns.{turn_of}
 use Rattle.sim_site.specs.contracts.state.Core.{the_view}
 use Rattle.sim_site.proofs.Deciding.{turn_passes}
 use Rattle.sim_site.proofs.Passing.{stops_up}
 use Rattle.sim_site.proofs.state.Core.next_turn.Goals as goal
 
-pub returns-in_err-follow_up-clause-stops : goal.returns-in_err-follow_up-clause-stops
-returns-in_err-follow_up-clause-stops c =
-    let core : Core = the_view c.self.inside in
-    subst (λ (x : Core). IfErr c.from_residual.result (Stops (turn_of c.args.key (answer_of c.args.reply) x (actor_numbered c.args.agent x)).effect)) c.self.view_is
-    (stops_up _ (PassesCount (turn_of c.args.key (answer_of c.args.reply) core (actor_numbered c.args.agent core)).effect) c.from_residual.result c.in_err-follow_up.field-0.0 c.from_residual.ensures.1
-    (turn_passes c.args.key c.args.agent (answer_of c.args.reply) core c.in-Some.place c.in-Some.ensures) c.in_err-follow_up.ensures.stops)
+pub returns-in_err-follow_up : goal.returns-in_err-follow_up
+returns-in_err-follow_up c =
+    let key = c.args.handling.now.key in
+    let agent = c.args.handling.now.agent in
+    let answer = answer_of c.args.reply in
+    stops_up _ _ (PassesCount (turn_of key answer c.args.self.now (actor_numbered agent c.args.self.now)).effect) c.from_residual.result c.in_err-follow_up.field-0.0 c.from_residual.ensures.1
+    (λ h. subst (λ (x : Core). PassesCount (turn_of key answer x (actor_numbered agent x)).effect) c.self.view_is
+    (turn_passes key agent answer (the_view c.self.inside) c.in-Some.place c.in-Some.ensures h)) c.in_err-follow_up.ensures.stops
