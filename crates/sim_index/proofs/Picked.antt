@@ -1,8 +1,10 @@
 -- Values that stay, each by the answer about it, and their marks.
-use Rattle.std.proofs.Common.{ℕ, ◌≡◌, ◌<◌, ◌≤◌, Bool, true, false, cond, List, [], ◌∷◌, ◌++◌, filter, length, map, take, arith, refl, ap, sym, ◌∙◌}
-use Rattle.std.proofs.lemmas.List.{get_or_past, length-take-le, take_all}
-use Rattle.std.specs.List.{AllZip, items_where_true}
-use Rattle.std.specs.List.Retain.{ReturnsInTurn}
+use Rattle.std.proofs.Common.{ℕ, zero, suc, ◌≡◌, ◌+◌, ◌<◌, ◌≤◌, Bool, true, false, true≢false, cond, if◌then◌else◌, List, [], ◌∷◌, ◌++◌, drop, filter, get_or, inl, inr, length, map, set, take, append-nil, arith, refl, ap, sym, ◌∙◌}
+use Rattle.std.proofs.lemmas.Bool.{cases_lt}
+use Rattle.std.proofs.lemmas.Grind.{take-set_at}
+use Rattle.std.proofs.lemmas.List.{drop-drop, drop-set-lt, get_or-drop, get_or_past, length-set, length-take-le, take-set, take-set-le, take_all}
+use Rattle.std.proofs.lemmas.List.Edits.{swap_is}
+use Rattle.std.specs.List.{AllZip, items_where_true, swap}
 use Rattle.sim_index.specs.declared.mark.Mark.{Mark}
 use Rattle.sim_index.specs.Marked.{HasLeaves, IsPicked, Marked}
 use Rattle.sim_index.specs.Marks.{no_mark, node}
@@ -13,18 +15,6 @@ asked_more R [] [] x y h k = (k, tt)
 asked_more R [] (b ∷ ys) x y h k = absurd h
 asked_more R (a ∷ xs) [] x y h k = absurd h
 asked_more R (a ∷ xs) (b ∷ ys) x y h k = (h.0, asked_more R xs ys x y h.1 k)
-
--- a test that answers by what is left to tell tells it all
-module _ {X F : Type 0} (R : F → X → Bool → F → Type 0) (left : F → List Bool)
-    (h : (f : F) (x : X) (b : Bool) (f' : F) → R f x b f' → (told : Bool) (rest : List Bool) → left f ≡ told ∷ rest → (b ≡ told) × (left f' ≡ rest)) where
-  pub in_turn : (told bs : List Bool) (xs : List X) (f q : F) → left f ≡ told → length bs ≡ length told → ReturnsInTurn R f bs xs q → bs ≡ told
-  in_turn [] [] xs f q e l t = refl
-  in_turn [] (b ∷ bs) xs f q e l t = absurd (omega arith)
-  in_turn (b ∷ told) [] xs f q e l t = absurd (omega arith)
-  in_turn (a ∷ told) (b ∷ bs) [] f q e l t = absurd t
-  in_turn (a ∷ told) (b ∷ bs) (x ∷ xs) f q e l t =
-      let one = h f x b t.0 t.1 a told e in
-      λ j. one.0 j ∷ in_turn told bs xs t.0 q one.1 (omega arith) t.2 j
 
 -- as many values stay as marks
 pub picked_long : {A B : Type 0} (bs : List Bool) (xs : List A) (ys : List B) → length xs ≡ length ys → length (items_where_true bs xs) ≡ length (items_where_true bs ys)
@@ -81,3 +71,79 @@ module _ {A : Type 0} (answers : A → Bool → Type 0) (test : A → Bool) (tol
 -- each value keeps its mark
 pub picked_marked : {A : Type 0} (mark : A → Mark) (answers : A → Bool → Type 0) (old new : Marked A) → IsPicked answers old new → old.marks ≡ map mark old.values → new.marks ≡ map mark new.values
 picked_marked mark answers old new h e = h.marks ∙ ap (items_where_true h.told) e ∙ picked_marks mark h.told old.values ∙ ap (map mark) (sym h.values)
+
+-- the answers about one value more, which stays or leaves
+pub picked_more : {X : Type 0} (told : List Bool) (xs : List X) (place : ℕ) (b d : Bool) (x : X) → place < length told → length told ≡ length xs → get_or told place d ≡ b
+    → items_where_true (take (suc place) told) xs ≡ items_where_true (take place told) xs ++ (if b then get_or xs place x ∷ [] else [])
+picked_more [] xs place b d x within long is = absurd (omega arith)
+picked_more (t ∷ told) [] place b d x within long is = absurd (omega arith)
+picked_more (true ∷ told) (y ∷ xs) zero true d x within long is = refl
+picked_more (true ∷ told) (y ∷ xs) zero false d x within long is = absurd (true≢false is)
+picked_more (false ∷ told) (y ∷ xs) zero true d x within long is = absurd (true≢false (sym is))
+picked_more (false ∷ told) (y ∷ xs) zero false d x within long is = refl
+picked_more (true ∷ told) (y ∷ xs) (suc place) b d x within long is = ap (λ (ys : List _). y ∷ ys) (picked_more told xs place b d x (omega arith) (omega arith) is)
+picked_more (false ∷ told) (y ∷ xs) (suc place) b d x within long is = picked_more told xs place b d x (omega arith) (omega arith) is
+
+-- a value that comes to the end of those before it, in return for the one there
+pub taken_swap : {X : Type 0} (xs : List X) (k place : ℕ) (x : X) → k ≤ place → place < length xs → take (k + 1) (swap xs k place) ≡ take k xs ++ get_or xs place x ∷ []
+taken_swap {X} xs k place x before within =
+    let first = set xs k (get_or xs place x) in
+    let is : swap xs k place ≡ set first place (get_or xs k x) = sym (swap_is xs k place x (omega (arith, before, within)) within) in
+    ap (take (k + 1)) is
+    ∙ elim (cases_lt k place) [
+      | inl l ↦ take-set-le (k + 1) first place (get_or xs k x) (omega (arith, l)) ∙ take-set_at xs k (k + 1) (get_or xs place x) refl (omega (arith, before, within))
+      | inr l ↦
+          let same : place ≡ k = omega (arith, before, l) in
+          ap (λ (p : ℕ). take (k + 1) (set first p (get_or xs k x))) same
+          ∙ take-set_at first k (k + 1) (get_or xs k x) refl (omega (arith, length-set xs k (get_or xs place x), before, within))
+          ∙ ap (λ (ys : List X). ys ++ get_or xs k x ∷ []) (take-set xs k (get_or xs place x))
+          ∙ ap (λ (p : ℕ). take k xs ++ get_or xs p x ∷ []) (sym same)
+    ]
+
+pub dropped_swap : {X : Type 0} (xs : List X) (k place : ℕ) (x : X) → k ≤ place → place < length xs → drop (place + 1) (swap xs k place) ≡ drop (place + 1) xs
+dropped_swap xs k place x before within =
+    let first = set xs k (get_or xs place x) in
+    ap (drop (place + 1)) (sym (swap_is xs k place x (omega (arith, before, within)) within))
+    ∙ drop-set-lt (place + 1) first place (get_or xs k x) (omega arith)
+    ∙ drop-set-lt (place + 1) xs k (get_or xs place x) (omega (arith, before))
+
+-- what is left behind a place, one value on
+rest_more : {X : Type 0} (now old : List X) (place : ℕ) → drop place now ≡ drop place old → drop (place + 1) now ≡ drop (place + 1) old
+rest_more now old place rest = sym (drop-drop 1 place now) ∙ ap (drop 1) rest ∙ drop-drop 1 place old
+
+-- a value that stays comes to the front, and one that leaves stays where it is
+pub gathered : {X : Type 0} (told : List Bool) (old now : List X) (kept place : ℕ) → place < length told → length now ≡ length told → length told ≡ length old → kept ≤ place
+    → take kept now ≡ items_where_true (take place told) old → drop place now ≡ drop place old → get_or told place false ≡ true
+    → (take (kept + 1) (swap now kept place) ≡ items_where_true (take (place + 1) told) old) × (drop (place + 1) (swap now kept place) ≡ drop (place + 1) old)
+gathered told old [] kept place within long all before front rest is = absurd (omega (arith, within, long))
+gathered {X} told old (x ∷ now) kept place within long all before front rest is =
+    let at : place + 0 ≡ place = omega arith in
+    let next : place + 1 ≡ suc place = omega arith in
+    let here : get_or (x ∷ now) place x ≡ get_or old place x =
+    ap (λ (n : ℕ). get_or (x ∷ now) n x) (sym at) ∙ sym (get_or-drop place (x ∷ now) 0 x) ∙ ap (λ (ys : List X). get_or ys 0 x) rest ∙ get_or-drop place old 0 x ∙ ap (λ (n : ℕ). get_or old n x) at in (
+      taken_swap (x ∷ now) kept place x before (omega (arith, within, long))
+          ∙ (λ j. front j ++ here j ∷ [])
+          ∙ sym (picked_more told old place true false x within all is)
+          ∙ ap (λ (n : ℕ). items_where_true (take n told) old) (sym next),
+      dropped_swap (x ∷ now) kept place x before (omega (arith, within, long)) ∙ rest_more (x ∷ now) old place rest,
+    )
+
+pub left_out : {X : Type 0} (told : List Bool) (old now : List X) (kept place : ℕ) → place < length told → length now ≡ length told → length told ≡ length old
+    → take kept now ≡ items_where_true (take place told) old → drop place now ≡ drop place old → get_or told place false ≡ false
+    → (take kept now ≡ items_where_true (take (place + 1) told) old) × (drop (place + 1) now ≡ drop (place + 1) old)
+left_out told old [] kept place within long all front rest is = absurd (omega (arith, within, long))
+left_out told old (x ∷ now) kept place within long all front rest is =
+    let next : place + 1 ≡ suc place = omega arith in (
+      front
+          ∙ sym (append-nil (items_where_true (take place told) old))
+          ∙ sym (picked_more told old place false false x within all is)
+          ∙ ap (λ (n : ℕ). items_where_true (take n told) old) (sym next),
+      rest_more (x ∷ now) old place rest,
+    )
+
+-- as many values stay as there are answers that they do
+pub picked_count : {X : Type 0} (told : List Bool) (xs : List X) → length told ≡ length xs → length (items_where_true told xs) ≡ length (filter (λ stays. stays) told)
+picked_count [] xs e = refl
+picked_count (b ∷ told) [] e = absurd (omega arith)
+picked_count (true ∷ told) (x ∷ xs) e = let rest = picked_count told xs (omega arith) in omega (arith, rest)
+picked_count (false ∷ told) (x ∷ xs) e = picked_count told xs (omega arith)

@@ -33,3 +33,8 @@ pub record IsPicked {A : Type 0} (answers : A → Bool → Type 0) (old new : Ma
   pub asked : AllZip answers old.values told
   pub values : new.values ≡ items_where_true told old.values
   pub marks : new.marks ≡ items_where_true told old.marks
+
+-- the values, with their marks, for which a list has `true`
+pub record IsPickedBy {A : Type 0} (told : List Bool) (old new : Marked A) : Type 0 where
+  pub values : new.values ≡ items_where_true told old.values
+  pub marks : new.marks ≡ items_where_true told old.marks

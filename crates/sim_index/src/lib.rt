@@ -5,6 +5,7 @@
 mod mark;
 mod marked;
 mod marks;
+mod picking;
 
 pub use mark::{Mark, NO_MARK};
 pub use marked::MarkedList;

@@ -4,10 +4,11 @@ ghost use Rattle.std.specs.Borrow.{sem};
 ghost use Rattle.std.specs.Fn.{FnReturnsAt};
 ghost use Rattle.std.specs.List.{AllZip, items_where_true, list_any};
 ghost use Rattle.sim_index.specs.Marks.{IsNextIn, IsPlaceOfLeast, IsPower, NoneIn, least_of, meets, no_mark, node};
-ghost use Rattle.sim_index.specs.Marked.{IsPicked};
+ghost use Rattle.sim_index.specs.Marked.{IsPicked, IsPickedBy};
 
 use crate::mark::{Mark, NO_MARK, mark_at};
 use crate::marks::Marks;
+use crate::picking::{count, gather};
 use sim_clock::Key;
 use std::alloc::{AllocError, Global};
 use std::marker::Model;
@@ -65,11 +66,8 @@ fn pick<T: Drop>(values: &mut Vec<T>, told: &[bool])
     ensures length { vec_len values.new ≤ vec_len values.old }
     ensures capacity { vec_capacity values.new ≡ vec_capacity values.old }
 {
-    let mut answers = told.iter();
-    values.retain(move |_| match answers.next() {
-        None => false,
-        Some(stays) => *stays,
-    });
+    let kept = gather(values, told);
+    values.truncate(kept);
 }
 
 // The least number of places after values leave, so that not every push makes the list be scanned
@@ -273,6 +271,45 @@ impl<T> MarkedList<T> {
         Ok(())
     }
 
+    // Keeps the values for which `told` has `true` and their marks, in the tree that there is. It
+    // changes nothing and returns `false` if they would take more than half of its places, or if it
+    // has too few.
+    fn retain_here(&mut self, told: &[bool]) -> Result<bool, AllocError>
+    where
+        T: Drop,
+        requires { length told.now ≡ length self.old.values }
+        ensures picked { IfOk result (λ done. done ≡ true → IsPickedBy told.now self.old self.new) }
+        ensures ready { IfOk result (λ done. done ≡ true → self.new.ready ≡ true) }
+        ensures left { IfOk result (λ done. done ≡ false → self.new ≡ self.old) }
+        ensures unchanged { OnErr result (self.new ≡ self.old) }
+    {
+        let width = self.tree.leaves().len();
+        if width < LEAST_PLACES || width / 2 < count(told) {
+            return Ok(false);
+        }
+        self.values.reserve(width - self.values.len())?;
+        pick(&mut self.values, told);
+        self.tree.pick(told);
+        Ok(true)
+    }
+
+    // Keeps the values for which `told` has `true` and their marks, in a new tree.
+    fn retain_anew(&mut self, told: &[bool]) -> Result<(), AllocError>
+    where
+        T: Drop,
+        requires { length told.now ≡ length self.old.values }
+        ensures picked { OnOk result (IsPickedBy told.now self.old self.new) }
+        ensures ready { OnOk result (self.new.ready ≡ true) }
+        ensures unchanged { OnErr result (self.new ≡ self.old) }
+    {
+        let tree = picked_tree(self.alloc, self.tree.leaves(), told)?;
+        self.values
+            .reserve(tree.leaves().len() - self.values.len())?;
+        pick(&mut self.values, told);
+        self.tree = tree;
+        Ok(())
+    }
+
     /// Keeps the values for which the closure returns `true`, in their order, with their marks, and
     /// makes room for one more. There are then at least twice as many places as values, and no
     /// fewer than before.
@@ -289,12 +326,10 @@ impl<T> MarkedList<T> {
         ensures unchanged { OnErr result (self.new ≡ self.old) }
     {
         let told = answers(self.alloc, &self.values, keeps)?;
-        let tree = picked_tree(self.alloc, self.tree.leaves(), &told)?;
-        self.values
-            .reserve(tree.leaves().len() - self.values.len())?;
-        pick(&mut self.values, &told);
-        self.tree = tree;
-        Ok(())
+        if self.retain_here(&told)? {
+            return Ok(());
+        }
+        self.retain_anew(&told)
     }
 
     /// Removes all values, none of whose marks may have a due key or a flag. It does not scan the

@@ -1,9 +1,10 @@
 //! The tree of marks.
-ghost use Rattle.std.specs.Prelude.{◌≡◌, ◌⊎◌, if◌then◌else◌, None, [], ◌*◌, ◌+◌, ◌/◌, ◌^◌, ◌%◌, ℕ, ◌<◌, ◌≤◌, drop, false, true, IfOk, MatchOption, length, set, get_or, vec_len};
-ghost use Rattle.std.specs.List.{list_any};
+ghost use Rattle.std.specs.Prelude.{◌≡◌, ◌⊎◌, if◌then◌else◌, None, [], ◌*◌, ◌+◌, ◌/◌, ◌^◌, ◌%◌, ℕ, ◌<◌, ◌≤◌, drop, false, true, IfOk, IfSome, List, MatchOption, length, set, get_or, take, vec_len};
+ghost use Rattle.std.specs.List.{items_where_true, list_any};
 ghost use Rattle.sim_index.specs.Marks.{AreBoth, AreLeaves, ArePairs, IsBoth, IsNextIn, IsPlaceOfLeast, IsPower, IsFirstOf, IsRanked, IsTree, IsTreeBut, NoneIn, bare, beyond, least_of, meets, no_mark, no_node, node, node_in, tells, told_by};
 
 use crate::mark::{Mark, NO_MARK, NO_RANK, is_second, rank_of};
+use crate::picking::gather;
 use sim_clock::Key;
 use std::alloc::{AllocError, Global};
 use std::marker::Model;
@@ -213,6 +214,47 @@ fn write_above(marks: &[Mark], nodes: &mut Vec<Node>)
     }
 }
 
+// Empties the places from one on.
+fn empty_from(marks: &mut [Mark], from: usize)
+    requires { from ≤ length marks.old }
+    ensures before { take from marks.new ≡ take from marks.old }
+    ensures behind { (i : ℕ) → from ≤ i → node marks.new i ≡ no_mark }
+{
+    let mut place = from;
+    while place < marks.len() {
+        marks[place] = NO_MARK;
+        place += 1;
+    }
+}
+
+// Keeps the marks for which `told` has `true`, of the first ones, in their order. The places behind
+// them are empty then.
+fn pick_marks(marks: &mut [Mark], told: &[bool])
+    requires { length told.now ≤ length marks.old }
+    ensures { (i : ℕ)
+        → node marks.new i ≡ node (items_where_true told.now (take (length told.now) marks.old)) i }
+{
+    let kept = gather(&mut marks[..told.len()], told);
+    empty_from(marks, kept);
+}
+
+// Gives the leaves the ranks and the flags of these marks. Before, they are those of as many others.
+fn mark_leaves(marks: &[Mark], nodes: &mut Vec<Node>)
+    requires leaves { (before : List Mark) × (length before ≡ length marks.now)
+        × AreLeaves before nodes.old.items }
+    ensures { AreLeaves marks.now nodes.new.items }
+{
+    for (place, mark) in marks.iter().enumerate() {
+        let leaf = marks.len() + place;
+        let leaf_place = nodes[leaf].place;
+        nodes[leaf] = Node {
+            rank: rank_of(&mark.due),
+            place: leaf_place,
+            flags: mark.flags,
+        };
+    }
+}
+
 // The nodes of single places, with room for those above them before.
 fn leaves(alloc: Global, marks: &[Mark]) -> Result<Vec<Node>, AllocError>
     requires range { length marks.now ≤ 2 ^ 32 }
@@ -308,6 +350,20 @@ impl Marks {
             flags: mark.flags,
         };
         mend(&self.marks, &mut self.nodes, leaf, leaf_place);
+    }
+
+    /// Keeps the marks for which `told` has `true`, of the first places, in their order. All places
+    /// behind them are empty then.
+    pub(crate) fn pick(&mut self, told: &[bool])
+        requires { length told.now ≤ length self.old }
+        ensures marks { (i : ℕ)
+            → node self.new i
+            ≡ node (items_where_true told.now (take (length told.now) self.old)) i }
+        ensures length { length self.new ≡ length self.old }
+    {
+        pick_marks(&mut self.marks, told);
+        mark_leaves(&self.marks, &mut self.nodes);
+        write_above(&self.marks, &mut self.nodes);
     }
 
     /// Whether the mark of any place has one of these flags.

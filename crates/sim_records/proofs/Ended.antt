@@ -6,7 +6,8 @@ use Rattle.std.proofs.Math.Seq.{drop-append_seam}
 use Rattle.csv.specs.Machine.{line_feed}
 use Rattle.csv.specs.Writing.{comma, default_writer, field_text, fields_text, is_blank, quote_mark}
 use Rattle.sqs_formats.specs.Rows.{line}
-use Rattle.sim_records.specs.Lines.{with_fields}
+use Rattle.sim_records.specs.Lines.{IsPlain, with_fields}
+use Rattle.sim_records.proofs.Plain.{field_plain}
 
 -- its fields are those of `csv`
 made : (fs : List (List ℕ)) → with_fields (line_feed ∷ []) fs ≡ fields_text default_writer fs ++ line_feed ∷ []
@@ -81,3 +82,22 @@ shown_ended old rest fs behind is same h =
     let parts : old ≡ made_alone ++ rest = is ∙ apart rest fs in
     let n : length old ≡ length made_alone + length rest = ap length parts ∙ length-append made_alone rest in
     ap (drop 1) parts ∙ drop-append-le 1 made_alone rest (omega arith) ∙ ap (λ t. t ++ rest) (line_ended fs (omega arith))
+
+-- the line of a record of two fields and more, the first of which is written as it is
+pub line_of_two : (f g : List ℕ) (fs : List (List ℕ)) (rest : List ℕ) → IsPlain f → f ++ with_fields (line_feed ∷ rest) (g ∷ fs) ≡ line (f ∷ g ∷ fs) ++ rest
+unfolding fields_text is_blank
+line_of_two f g fs rest plain =
+    let ended : field_text default_writer f ++ with_fields (line_feed ∷ []) (g ∷ fs) ≡ line (f ∷ g ∷ fs) = ap (λ t. field_text default_writer f ++ t) (made (g ∷ fs)) ∙ simp append_assoc in
+    ap (λ t. t ++ with_fields (line_feed ∷ rest) (g ∷ fs)) (sym (field_plain f plain))
+    ∙ ap (λ t. field_text default_writer f ++ t) (apart rest (g ∷ fs))
+    ∙ sym (append_assoc (field_text default_writer f) (with_fields (line_feed ∷ []) (g ∷ fs)) rest)
+    ∙ ap (λ t. t ++ rest) ended
+
+-- the first columns of a row before those behind them, each of them known by its text
+pub columns_are : (is at t u q queue a agent k w answer : List ℕ) → is ≡ at ++ with_fields t (q ∷ a ∷ k ∷ w ∷ []) → q ≡ queue → a ≡ agent → w ≡ answer → t ≡ u
+    → is ≡ at ++ with_fields u (queue ∷ agent ∷ k ∷ answer ∷ [])
+columns_are is at t u q queue a agent k w answer h queued acted answered behind =
+    h ∙ ap (λ x. at ++ with_fields t (x ∷ a ∷ k ∷ w ∷ [])) queued
+    ∙ ap (λ x. at ++ with_fields t (queue ∷ x ∷ k ∷ w ∷ [])) acted
+    ∙ ap (λ x. at ++ with_fields t (queue ∷ agent ∷ k ∷ x ∷ [])) answered
+    ∙ ap (λ x. at ++ with_fields x (queue ∷ agent ∷ k ∷ answer ∷ [])) behind

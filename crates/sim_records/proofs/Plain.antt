@@ -1,17 +1,17 @@
 -- Fields that need no quotes: numbers, ids, receipts, digests and counts.
-use Rattle.std.proofs.Common.{Bool, ◌+◌, not, true≢false, ◌&&◌, List, [], arith, ap, false, get_or, length, drop, slice_set, refl, slice_index, suc, sym, ◌-◌, true, zero, ℕ, ◌++◌, ◌/◌, ◌%◌, ◌<◌, ◌==◌, ◌^◌, ◌∙◌, ◌∷◌, ◌≡◌, ◌≤◌, ◌||◌, if◌then◌else◌}
+use Rattle.std.proofs.Common.{Bool, ◌+◌, not, true≢false, ◌&&◌, List, [], arith, ap, false, get_or, length, drop, slice_set, refl, slice_index, suc, sym, ◌-◌, true, zero, ℕ, ◌++◌, ◌/◌, ◌%◌, ◌<◌, ◌==◌, ◌^◌, ◌∙◌, ◌∷◌, ◌≡◌, ◌≤◌, ◌||◌, append_assoc, if◌then◌else◌}
 use Rattle.std.specs.Fmt.{decimal}
 use Rattle.std.specs.List.{list_any}
 use Rattle.std.proofs.lemmas.Fmt.{decimal_is_IsNumeral, length-decimal-le}
 use Rattle.std.proofs.lemmas.Grind.{common_steps}
-use Rattle.std.proofs.lemmas.List.{drop-append-le, drop-drop, drop-set, drop_at, length-append, length-drop, length-take-le}
+use Rattle.std.proofs.lemmas.List.{drop-append-le, drop-drop, drop-set, length-append, length-drop}
 use Rattle.std.proofs.lemmas.List.Folds.{list_any-append}
 use Rattle.std.proofs.lemmas.Str.Parse.{digit_at}
 use Rattle.sim_clock.proofs.Booleans.{or_first, or_second}
-use borrow.Rule.Slice.PartMut.{put_mid}
 use Rattle.csv.specs.Writing.{comma, default_writer, field_text, needs_byte, needs_quotes, quoted}
 use Rattle.hex.specs.Hex.{encode_lower, encode_with, lower_digits}
-use Rattle.sim_records.specs.Lines.{IsPlain, none_quoted, with_field}
+use Rattle.sim_records.specs.Lines.{IsPlain, dashed, none_quoted, with_field}
+use Rattle.sqs_message.specs.Ids.{receipt_text}
 
 -- such a field is written as it is
 pub field_plain : (f : List ℕ) → IsPlain f → field_text default_writer f ≡ f
@@ -64,37 +64,46 @@ plain_more mark rest h plain = ap (λ x. x || list_any (needs_byte default_write
 pub plain_marked : (mark n : ℕ) (rest : List ℕ) → needs_byte default_writer mark ≡ false → n < 2 ^ 64 → IsPlain rest → IsPlain (mark ∷ (decimal n ++ rest))
 plain_marked mark n rest h k plain = plain_more mark (decimal n ++ rest) h (plain_append (decimal n) rest (plain_decimal n k) plain)
 
+-- a receipt, and an id, by the numbers in both
+pub receipt_put : (site number count : ℕ) (rest : List ℕ) → site < 2 ^ 64 → number < 2 ^ 64 → count < 2 ^ 64
+    → comma ∷ 114 ∷ (dashed site number ++ 45 ∷ (decimal count ++ rest)) ≡ with_field rest (receipt_text (record { site = site; number = number; count = count }))
+receipt_put site number count rest h k l =
+    let last = 45 ∷ decimal count in
+    let tail = 45 ∷ (decimal number ++ last) in
+    let field = 114 ∷ 45 ∷ (decimal site ++ tail) in
+    let parts : comma ∷ 114 ∷ (dashed site number ++ 45 ∷ (decimal count ++ rest)) ≡ comma ∷ (field ++ rest) = simp append_assoc in
+    let plain : IsPlain field = plain_more 114 (45 ∷ (decimal site ++ tail)) refl (plain_marked 45 site tail refl h (plain_marked 45 number last refl k (plain_more 45 (decimal count) refl (plain_decimal count l)))) in
+    parts ∙ plain_put field rest plain
+
+pub id_put : (site number : ℕ) (rest : List ℕ) → site < 2 ^ 64 → number < 2 ^ 64 → comma ∷ 109 ∷ (dashed site number ++ rest) ≡ with_field rest (109 ∷ dashed site number)
+id_put site number rest h k =
+    let tail = 45 ∷ decimal number in
+    plain_put (109 ∷ dashed site number) rest (plain_more 109 (dashed site number) refl (plain_marked 45 site tail refl h (plain_more 45 (decimal number) refl (plain_decimal number k))))
+
 -- a mark before what stands in a text from a place on
 pub set_before : (text : List ℕ) (k mark : ℕ) → 1 ≤ k → k ≤ length text → drop (k - 1) (slice_set text (k - 1) mark) ≡ mark ∷ drop k text
 set_before text k mark h l = drop-set text (k - 1) mark (omega arith) ∙ ap (λ i. mark ∷ drop i text) (omega arith)
 
--- the last of sixteen bytes that are put before a place, with a comma before them
-put_seam : (text put : List ℕ) (end : ℕ) → 16 ≤ end → end ≤ length text → drop (end - 16) (put_mid (end - 16) (end - (end - 16)) text put) ≡ put ++ drop end text
-put_seam text put end h l =
-    drop_at _ _ (end - 16) (omega (arith, length-take-le (end - 16) text))
-    ∙ ap (λ t. put ++ t) (drop-drop (end - (end - 16)) (end - 16) text ∙ ap (λ (n : ℕ). drop n text) (omega arith))
-
-put_tail : (text put : List ℕ) (end len : ℕ) → 16 ≤ end → end ≤ length text → len ≤ 16 → length put ≡ 16
-    → drop (end - len) (put_mid (end - 16) (end - (end - 16)) text put) ≡ drop (16 - len) put ++ drop end text
-put_tail text put end len h l k long =
-    let all = put_mid (end - 16) (end - (end - 16)) text put in
+-- the last of sixteen bytes that were put before a place
+pub put_tail : (text new put : List ℕ) (end len : ℕ) → 16 ≤ end → len ≤ 16 → length put ≡ 16 → drop (end - 16) new ≡ put ++ drop end text
+    → drop (end - len) new ≡ drop (16 - len) put ++ drop end text
+put_tail text new put end len h k long is =
     let place : end - len ≡ (end - 16) + (16 - len) = omega arith in
-    ap (λ (n : ℕ). drop n all) place ∙ sym (drop-drop (16 - len) (end - 16) all)
-    ∙ ap (drop (16 - len)) (put_seam text put end h l) ∙ drop-append-le (16 - len) put (drop end text) (omega arith)
+    ap (λ (n : ℕ). drop n new) place ∙ sym (drop-drop (16 - len) (end - 16) new) ∙ ap (drop (16 - len)) is ∙ drop-append-le (16 - len) put (drop end text) (omega arith)
 
-put_long : (text put : List ℕ) (end : ℕ) → 16 ≤ end → end ≤ length text → length put ≡ 16 → end ≤ length (put_mid (end - 16) (end - (end - 16)) text put)
-put_long text put end h l long =
-    let seam = ap length (put_seam text put end h l) in
-    let prefix = length-drop (end - 16) (put_mid (end - 16) (end - (end - 16)) text put) in
+put_long : (text new put : List ℕ) (end : ℕ) → 16 ≤ end → end ≤ length text → length put ≡ 16 → drop (end - 16) new ≡ put ++ drop end text → end ≤ length new
+put_long text new put end h l long is =
+    let seam = ap length is in
+    let prefix = length-drop (end - 16) new in
     let back = length-append put (drop end text) in
     omega arith
 
-pub word_put : (text put : List ℕ) (end len : ℕ) → 16 < end → end ≤ length text → len ≤ 16 → length put ≡ 16
-    → drop (end - len - 1) (slice_set (put_mid (end - 16) (end - (end - 16)) text put) (end - len - 1) comma) ≡ comma ∷ (drop (16 - len) put ++ drop end text)
-word_put text put end len h l k long =
-    let whole = put_long text put end (omega arith) l long in
-    set_before (put_mid (end - 16) (end - (end - 16)) text put) (end - len) comma (omega arith) (omega arith)
-    ∙ ap (λ t. comma ∷ t) (put_tail text put end len (omega arith) l k long)
+-- and a comma before them
+pub word_put : (text new put : List ℕ) (end len : ℕ) → 16 < end → end ≤ length text → len ≤ 16 → length put ≡ 16 → drop (end - 16) new ≡ put ++ drop end text
+    → drop (end - len - 1) (slice_set new (end - len - 1) comma) ≡ comma ∷ (drop (16 - len) put ++ drop end text)
+word_put text new put end len h l k long is =
+    let whole = put_long text new put end (omega arith) l long is in
+    set_before new (end - len) comma (omega arith) (omega arith) ∙ ap (λ t. comma ∷ t) (put_tail text new put end len (omega arith) k long is)
 
 -- of names that need no quotes none does
 first_plain : (needs others : Bool) → (not needs && others) ≡ true → needs ≡ false

@@ -1,5 +1,6 @@
 -- What a clause reads of lines that are being made.
-use Rattle.std.specs.Prelude.{◌≡◌, ℕ, ◌++◌, List, [], ◌∷◌, Bool, not, false, Option, None, IfSome, get_or}
+use Rattle.std.specs.Prelude.{◌≡◌, ℕ, ◌++◌, List, [], ◌∷◌, Bool, not, false, Option, None, IfSome, codes, get_or}
+use Rattle.std.specs.Fmt.{decimal}
 use Rattle.std.specs.List.{list_all}
 use Rattle.csv.specs.Writing.{comma, default_writer, field_text, needs_quotes}
 use Rattle.sqs_formats.specs.Rows.{name_at}
@@ -19,6 +20,10 @@ IsPlainName names n w = (w ≡ name_at names n) × IsPlain w
 -- what the list has for a number, if anything, is the name of that number, which needs no quotes
 abbrev pub AreWordsOf : List (List ℕ) → List (Option (List ℕ)) → Type 0
 AreWordsOf names words = (n : ℕ) → IfSome (get_or words n None) (IsPlainName names n)
+
+-- two numbers with a dash before each, as they stand in an id
+abbrev pub dashed : ℕ → ℕ → List ℕ
+dashed site number = codes "-" ++ (decimal site ++ (codes "-" ++ decimal number))
 
 -- the end of a line with one more field before it, in quotes if it needs them, and a comma before that
 abbrev pub with_field : List ℕ → List ℕ → List ℕ

@@ -74,6 +74,7 @@ pub(crate) fn put_before(text: &mut [u8], end: usize, mark: u8, number: u64) -> 
     requires room { NUMBER ≤ end }
     requires within { end ≤ length text.old }
     ensures written { drop result text.new ≡ mark ∷ (decimal number ++ drop end text.old) }
+    ensures long { result + 1 + length (decimal number) ≡ end }
     ensures most { end ≤ result + NUMBER }
     ensures before { result < end }
 {

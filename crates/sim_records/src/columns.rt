@@ -1,5 +1,6 @@
 //! The columns of a row of the log.
-ghost use Rattle.std.specs.Prelude.{◌≡◌, ◌++◌, ◌∷◌, [], OnOk};
+ghost use Rattle.std.specs.Prelude.{◌≡◌, ◌++◌, ◌∷◌, [], MatchResult, OnOk};
+ghost use Rattle.sim_clock.specs.Refusals.{refusal_name};
 ghost use Rattle.sim_records.specs.Lines.{IsPlain, with_field};
 ghost use Rattle.sqs_formats.specs.Rows.{answer_text, detail_text, kind_text, name_at, row_receipt, text_if};
 ghost use Rattle.sqs_message.specs.Ids.{id_text};
@@ -7,11 +8,13 @@ ghost use Rattle.sqs_message.specs.Ids.{id_text};
 use crate::line::Line;
 use crate::names::Names;
 use crate::word::Word;
+use sim_clock::Refusal;
 use sqs_message::{Detail, HandleForm, MessageId, RowAnswer, RowKind, RowReceipt};
 use std::alloc::AllocError;
 
 // The name of a row's kind.
-fn kind_word(kind: RowKind) -> Word<'static>
+#[inline(always)]
+pub(crate) fn kind_word(kind: RowKind) -> Word<'static>
     ensures name { result ≡ kind_text kind }
     ensures plain { IsPlain result }
 {
@@ -42,9 +45,11 @@ pub(crate) fn add_kind(line: &mut Line, kind: RowKind) -> Result<(), AllocError>
     line.word(kind_word(kind))
 }
 
-// The answer column: the name of the outcome.
-pub(crate) fn add_answer(line: &mut Line, answer: RowAnswer) -> Result<(), AllocError>
-    ensures { OnOk result (line.new ≡ with_field line.old (answer_text answer)) }
+// The name of an outcome. A refusal has a name of its own, which may be longer than a word.
+#[inline(always)]
+pub(crate) fn answer_word(answer: RowAnswer) -> Result<Word<'static>, Refusal>
+    ensures { MatchResult result (λ w. (w ≡ answer_text answer) × IsPlain w)
+        (λ r. refusal_name r ≡ answer_text answer) }
 {
     let name = match answer {
         RowAnswer::New => Word::new(b"             new", 3),
@@ -60,9 +65,19 @@ pub(crate) fn add_answer(line: &mut Line, answer: RowAnswer) -> Result<(), Alloc
         RowAnswer::Expired => Word::new(b"         expired", 7),
         RowAnswer::Completed => Word::new(b"       Completed", 9),
         RowAnswer::Failed => Word::new(b"          Failed", 6),
-        RowAnswer::Refused(refusal) => return line.plain(refusal.name().as_bytes()),
+        RowAnswer::Refused(refusal) => return Err(refusal),
     };
-    line.word(name)
+    Ok(name)
+}
+
+// The answer column: the name of the outcome.
+pub(crate) fn add_answer(line: &mut Line, answer: RowAnswer) -> Result<(), AllocError>
+    ensures { OnOk result (line.new ≡ with_field line.old (answer_text answer)) }
+{
+    match answer_word(answer) {
+        Ok(word) => line.word(word),
+        Err(refusal) => line.plain(refusal.name().as_bytes()),
+    }
 }
 
 // The column of a name that is not kept as a word. It is apart from `add_name` because most names

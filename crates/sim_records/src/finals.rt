@@ -117,6 +117,10 @@ impl Record for FinalMessage {
         add_name(line, names, self.id.site)?;
         line.plain(b"final")
     }
+
+    fn add_whole(&self, _: &mut Line, _: &Names) -> Result<bool, AllocError> {
+        Ok(false)
+    }
 }
 
 const TRANSFER_HEADER: &[&[u8]] = &[
@@ -147,6 +151,10 @@ impl Record for FinalTransfer {
         add_name(line, names, self.from)?;
         line.plain(b"transfer")
     }
+
+    fn add_whole(&self, _: &mut Line, _: &Names) -> Result<bool, AllocError> {
+        Ok(false)
+    }
 }
 
 const TASK_HEADER: &[&[u8]] = &[b"task", b"name", b"status", b"moved"];
@@ -161,6 +169,10 @@ impl Record for FinalTask {
         line.plain(status_name(self.status).as_bytes())?;
         add_name(line, names, self.task)?;
         line.plain(b"task")
+    }
+
+    fn add_whole(&self, _: &mut Line, _: &Names) -> Result<bool, AllocError> {
+        Ok(false)
     }
 }
 

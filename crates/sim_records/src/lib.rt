@@ -5,6 +5,7 @@
 mod answers;
 mod before;
 mod columns;
+mod fields;
 mod finals;
 mod line;
 mod lines;
@@ -12,6 +13,7 @@ mod names;
 mod printer;
 mod quotes;
 mod record;
+mod row_line;
 mod rows;
 mod sink;
 mod to_writer;

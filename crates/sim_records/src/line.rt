@@ -1,24 +1,27 @@
 //! A line of CSV, made from its end backwards.
-ghost use Rattle.std.specs.Prelude.{◌≡◌, ◌≤◌, ◌<◌, ◌++◌, ◌∷◌, ◌-◌, List, [], ℕ, IfOk, OnOk, codes, drop, false, length};
+ghost use Rattle.std.specs.Prelude.{◌≡◌, ◌≤◌, ◌<◌, ◌++◌, ◌∷◌, ◌-◌, List, [], ℕ, IfOk, OnOk, codes, drop, false, if◌then◌else◌, length};
 ghost use Rattle.std.specs.Fmt.{decimal};
 ghost use Rattle.csv.specs.Machine.{line_feed};
 ghost use Rattle.csv.specs.Writing.{comma, default_writer, field_text, needs_byte};
 ghost use Rattle.hex.specs.Hex.{encode_lower};
 ghost use Rattle.sim_records.specs.Lines.{IsPlain, with_field, with_fields};
-ghost use Rattle.sqs_formats.specs.Rows.{line, text_if};
+ghost use Rattle.sqs_formats.specs.Rows.{line, row_fields, text_if};
 ghost use Rattle.sqs_message.specs.Ids.{id_text, origin_text, receipt_text};
 
-use crate::before::{NUMBER, put_before, put_field, room_before};
+use crate::before::{NUMBER, put_field, room_before};
+use crate::fields::{
+    NUMBERS, counts_before, digest_before, number_before, numbered_before, receipt_before,
+    word_before,
+};
+use crate::names::Names;
 use crate::quotes::needs_quotes;
-use crate::word::{DIGEST, WORD, Word, put_digest, put_word};
+use crate::row_line::{ROW, put_row};
+use crate::word::{DIGEST, WORD, Word};
 use csv::Writer;
 use itoa::Integer;
-use sqs_message::{MessageId, Origin, Receipt};
+use sqs_message::{MessageId, Origin, Receipt, Row};
 use std::alloc::{AllocError, Global};
 use std::marker::Model;
-
-// Room for three numbers with marks before them, one more mark and a comma.
-const NUMBERS: usize = 3 * NUMBER + 2;
 
 // The greatest length of a number of 128 bits with a sign.
 const WIDE_NUMBER: usize = 40;
@@ -71,11 +74,13 @@ impl Line {
         }
     }
 
-    /// Removes all lines.
-    pub(crate) fn clear(&mut self)
-        ensures { self.new ≡ [] }
+    /// Removes all lines, and makes room for `bytes` bytes.
+    pub(crate) fn clear(&mut self, bytes: usize) -> Result<(), AllocError>
+        ensures { OnOk result (self.new ≡ []) }
     {
-        self.start = self.text.len();
+        let start = self.text.len();
+        self.start = room_before(&mut self.text, start, bytes)?;
+        Ok(())
     }
 
     /// The bytes so far.
@@ -105,6 +110,24 @@ impl Line {
         Ok(())
     }
 
+    /// The line of a row before the others, if none of its fields needs quotes. Returns whether there
+    /// is one.
+    #[inline(always)]
+    pub(crate) fn row(&mut self, row: &Row, names: &Names) -> Result<bool, AllocError>
+        ensures { IfOk result (λ done. self.new
+            ≡ if done then line (row_fields names.now row.now) ++ self.old else self.old) }
+    {
+        let end = room_before(&mut self.text, self.start, ROW)?;
+        self.start = end;
+        match put_row(&mut self.text, end, row, names) {
+            Some(start) => {
+                self.start = start;
+                Ok(true)
+            }
+            None => Ok(false),
+        }
+    }
+
     /// A field that needs no quotes.
     #[inline(always)]
     #[tactic(auto, using(crate::proofs::Plain::field_plain))]
@@ -117,13 +140,12 @@ impl Line {
 
     /// A word that needs no quotes.
     #[inline(always)]
-    #[tactic(auto, using(crate::proofs::Plain::field_plain))]
     pub(crate) fn word(&mut self, word: Word) -> Result<(), AllocError>
         requires { IsPlain word }
         ensures { OnOk result (self.new ≡ with_field self.old word.entry) }
     {
         let end = room_before(&mut self.text, self.start, WORD + 1)?;
-        self.start = put_word(&mut self.text, end, word);
+        self.start = word_before(&mut self.text, end, word);
         Ok(())
     }
 
@@ -165,7 +187,7 @@ impl Line {
         ensures { OnOk result (self.new ≡ with_field self.old (decimal number)) }
     {
         let end = room_before(&mut self.text, self.start, NUMBER)?;
-        self.start = put_before(self.text.as_mut_slice(), end, b',', number);
+        self.start = number_before(&mut self.text, end, number);
         Ok(())
     }
 
@@ -203,10 +225,7 @@ impl Line {
             (mark ∷ (codes "-" ++ (decimal site ++ (codes "-" ++ decimal number))))) }
     {
         let end = room_before(&mut self.text, self.start, NUMBERS)?;
-        let text = self.text.as_mut_slice();
-        let second = put_before(text, end, b'-', number);
-        let first = put_before(text, second, b'-', u64::from(site));
-        self.start = put_field(text, first, &[mark]);
+        self.start = numbered_before(&mut self.text, end, mark, site, number);
         Ok(())
     }
 
@@ -232,11 +251,7 @@ impl Line {
         ensures { OnOk result (self.new ≡ with_field self.old (receipt_text receipt)) }
     {
         let end = room_before(&mut self.text, self.start, NUMBERS)?;
-        let text = self.text.as_mut_slice();
-        let third = put_before(text, end, b'-', receipt.count);
-        let second = put_before(text, third, b'-', receipt.number);
-        let first = put_before(text, second, b'-', u64::from(receipt.site));
-        self.start = put_field(text, first, b"r");
+        self.start = receipt_before(&mut self.text, end, receipt);
         Ok(())
     }
 
@@ -246,7 +261,7 @@ impl Line {
         ensures { OnOk result (self.new ≡ with_field self.old (encode_lower md5.now)) }
     {
         let end = room_before(&mut self.text, self.start, DIGEST + 1)?;
-        self.start = put_digest(&mut self.text, end, md5);
+        self.start = digest_before(&mut self.text, end, md5);
         Ok(())
     }
 
@@ -257,10 +272,7 @@ impl Line {
             ++ (codes "/" ++ (decimal second ++ (codes "/" ++ decimal third)))))) }
     {
         let end = room_before(&mut self.text, self.start, NUMBERS)?;
-        let text = self.text.as_mut_slice();
-        let third = put_before(text, end, b'/', third);
-        let second = put_before(text, third, b'/', second);
-        self.start = put_before(text, second, b',', first);
+        self.start = counts_before(&mut self.text, end, first, second, third);
         Ok(())
     }
 

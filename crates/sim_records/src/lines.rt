@@ -58,7 +58,7 @@ fn make_line(text: &mut Line, fields: &[&[u8]], numbers: &[Option<u128>]) -> Res
     ensures { OnOk result
         (text.new ≡ line (map (λ f. f.now) fields.now ++ map (text_if decimal) numbers.now)) }
 {
-    text.clear();
+    text.clear(0)?;
     text.begin()?;
     put_numbers(text, numbers)?;
     put_fields(text, fields)?;

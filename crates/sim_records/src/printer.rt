@@ -56,7 +56,7 @@ impl Printer {
         ensures line { IfOk result (λ text. text.items ≡ line (row_fields self.old row.now)) }
         ensures same { self.new ≡ self.old }
     {
-        self.line.clear();
+        self.line.clear(0)?;
         make_lines(&mut self.line, from_ref(row), &self.names)?;
         SmallVec::from_slice(self.alloc, self.line.as_slice())
     }

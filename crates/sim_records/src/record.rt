@@ -1,6 +1,6 @@
 //! Records that have lines, and the lines of several.
-ghost use Rattle.std.specs.Prelude.{◌≡◌, ℕ, List, [], false, IfOk, OnOk, map};
-ghost use Rattle.sqs_formats.specs.Rows.{lines};
+ghost use Rattle.std.specs.Prelude.{◌≡◌, ◌++◌, ℕ, List, [], false, if◌then◌else◌, IfOk, OnOk, map};
+ghost use Rattle.sqs_formats.specs.Rows.{line, lines};
 ghost use Rattle.sim_records.specs.Lines.{with_fields};
 ghost use Rattle.sim_records.specs.Writes.{Wrote, WroteSeveral};
 
@@ -10,14 +10,12 @@ use crate::sink::{Out, write_all};
 use sim_clock::Refusal;
 use std::alloc::{AllocError, Global};
 
-/// The number of lines that are made before they are written.
-const AT_ONCE: usize = 1024;
+/// The number of lines that are made before they are written. Their text is cleared once and then
+/// used for the next ones.
+const AT_ONCE: usize = 16;
 
 /// The length that most lines do not exceed, in bytes, so that their text seldom grows.
 const LINE: usize = 96;
-
-/// The number of lines that are made in one text, which is then used for the next ones.
-const LINES_A_TEXT: usize = 16;
 
 /// A record that has a line.
 pub(crate) trait Record {
@@ -27,6 +25,22 @@ pub(crate) trait Record {
     /// Adds its fields to a line.
     fn add_to(&self, line: &mut Line, names: &Names) -> Result<(), AllocError>
         ensures { OnOk result (line.new ≡ with_fields line.old (columns names.now self.now)) };
+
+    /// Adds its line before others at once, if it can. Returns whether it did.
+    fn add_whole(&self, text: &mut Line, names: &Names) -> Result<bool, AllocError>
+        ensures { IfOk result (λ done. text.new
+            ≡ if done then line (columns names.now self.now) ++ text.old else text.old) };
+}
+
+// Adds the line of a record before others, field by field.
+#[inline(never)]
+fn add_by_fields<T: Record>(item: &T, text: &mut Line, names: &Names) -> Result<(), AllocError>
+    ensures { OnOk result (text.new ≡ line (T.columns names.now item.now) ++ text.old) }
+{
+    let behind = text.len();
+    text.begin()?;
+    item.add_to(text, names)?;
+    text.end(behind)
 }
 
 // Makes the lines of some records in an empty text. The last one is made first.
@@ -41,34 +55,17 @@ pub(crate) fn make_lines<T: Record>(
     let mut left = records.len();
     while left > 0 {
         left -= 1;
-        let behind = text.len();
-        text.begin()?;
-        records[left].add_to(text, names)?;
-        text.end(behind)?;
+        let next = &records[left];
+        if !next.add_whole(text, names)? {
+            add_by_fields(next, text, names)?;
+        }
     }
     Ok(())
 }
 
-// The lines of several records, in order, some at a time.
-fn lines_of<T: Record>(alloc: Global, records: &[T], names: &Names) -> Result<Vec<u8>, AllocError>
-    ensures { IfOk result (λ v. v.items ≡ lines (map (T.columns names.now) records.now)) }
-{
-    let mut text = Vec::with_capacity(alloc, records.len().saturating_mul(LINE))?;
-    let mut some = Line::new(alloc);
-    let mut rest = records;
-    while !rest.is_empty() {
-        let (next, others) = rest.split_at(rest.len().min(LINES_A_TEXT));
-        some.clear();
-        make_lines(&mut some, next, names)?;
-        text.extend_from_slice(some.as_slice())?;
-        rest = others;
-    }
-    Ok(text)
-}
-
-// Writes the lines of several records at once.
+// Writes the lines of several records at once. They are made in the memory of a text.
 pub(crate) fn write_at_once<W: Out, T: Record>(
-    alloc: Global,
+    text: &mut Line,
     out: &mut W,
     records: &[T],
     names: &Names,
@@ -77,7 +74,8 @@ pub(crate) fn write_at_once<W: Out, T: Record>(
     ensures { Wrote (W.held out.old) (W.held out.new) (W.failed out.new)
         (lines (map (T.columns names.now) records.now)) result }
 {
-    let text = lines_of(alloc, records, names)?;
+    text.clear(records.len().saturating_mul(LINE))?;
+    make_lines(text, records, names)?;
     write_all(out, text.as_slice())?;
     Ok(())
 }
@@ -93,10 +91,11 @@ pub(crate) fn write_records<W: Out, T: Record>(
     ensures { WroteSeveral (W.held out.old) (W.held out.new) (W.failed out.new)
         (lines (map (T.columns names.now) records.now)) result }
 {
+    let mut text = Line::new(alloc);
     let mut rest = records;
     while !rest.is_empty() {
         let (next, others) = rest.split_at(rest.len().min(AT_ONCE));
-        write_at_once(alloc, out, next, names)?;
+        write_at_once(&mut text, out, next, names)?;
         rest = others;
     }
     Ok(())

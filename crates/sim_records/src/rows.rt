@@ -45,6 +45,11 @@ impl Record for Row {
         add_name(line, names, self.queue)?;
         line.number(self.key.at)
     }
+
+    #[inline(always)]
+    fn add_whole(&self, text: &mut Line, names: &Names) -> Result<bool, AllocError> {
+        text.row(self, names)
+    }
 }
 
 /// Writes the line of a row.
@@ -63,7 +68,7 @@ pub fn write_row<W: Out>(
     ensures { Wrote (W.held out.old) (W.held out.new) (W.failed out.new)
         (line (row_fields names.now row.now)) result }
 {
-    write_at_once(alloc, out, from_ref(row), names)
+    write_at_once(&mut Line::new(alloc), out, from_ref(row), names)
 }
 
 /// Writes the lines of several rows, in order. Together with `write_header` it makes the log.

@@ -1,6 +1,6 @@
 //! Words and digests of the log, which are copied by a constant number of bytes.
 ghost use Rattle.std.specs.Option.{is_some};
-ghost use Rattle.std.specs.Prelude.{◌≡◌, ◌≤◌, ◌<◌, ◌&&◌, ◌++◌, ◌∷◌, ◌-◌, IfSome, drop, length, nat_le, not};
+ghost use Rattle.std.specs.Prelude.{◌≡◌, ◌≤◌, ◌<◌, ◌+◌, ◌&&◌, ◌++◌, ◌∷◌, ◌-◌, IfSome, drop, length, nat_le, not, take};
 ghost use Rattle.csv.specs.Writing.{comma, default_writer, needs_quotes};
 ghost use Rattle.hex.specs.Hex.{encode_lower};
 ghost use Rattle.sim_records.specs.Lines.{IsPlain};
@@ -84,16 +84,47 @@ impl KeptWord {
     }
 }
 
+// Puts these bytes before the text that begins at `end`.
+#[inline(always)]
+fn put_bytes(text: &mut [u8], end: usize, bytes: &[u8; WORD])
+    requires room { WORD ≤ end }
+    requires within { end ≤ length text.old }
+    ensures written { drop (end - WORD) text.new ≡ bytes.now ++ drop end text.old }
+    ensures long { length bytes.now ≡ WORD }
+{
+    text[end - WORD..end].copy_from_slice(bytes);
+}
+
+/// Puts the `len` bytes of the text that begin at `from` before those that begin at `end` once more.
+/// Returns where they begin.
+#[inline(always)]
+pub(crate) fn put_again(text: &mut [u8], end: usize, from: usize, len: usize) -> usize
+    requires short { len ≤ WORD }
+    requires room { WORD ≤ end }
+    requires behind { end ≤ from }
+    requires within { from + len ≤ length text.old }
+    ensures written { drop result text.new ≡ take len (drop from text.old) ++ drop end text.old }
+    ensures before { result + len ≡ end }
+{
+    let until = from + len;
+    let mut bytes = [0; WORD];
+    bytes.copy_from_slice(&text[until - WORD..until]);
+    put_bytes(text, end, &bytes);
+    end - len
+}
+
 /// Puts a comma and a word before the text that begins at `end`. Returns where they begin.
 #[inline(always)]
 pub(crate) fn put_word(text: &mut [u8], end: usize, word: Word) -> usize
     requires room { WORD < end }
     requires within { end ≤ length text.old }
     ensures written { drop result text.new ≡ comma ∷ (word.entry ++ drop end text.old) }
-    ensures within { result ≤ length text.new }
+    ensures most { end ≤ result + (WORD + 1) }
+    ensures before { result < end }
 {
-    let bytes = word.bytes;
-    text[end - WORD..end].copy_from_slice(bytes);
+    // An array of its own can't overlap the text, so it is copied at once.
+    let bytes: [u8; WORD] = *word.bytes;
+    put_bytes(text, end, &bytes);
     let start = end - word.len - 1;
     text[start] = b',';
     start
@@ -106,7 +137,7 @@ pub(crate) fn put_digest(text: &mut [u8], end: usize, md5: &[u8; 16]) -> usize
     requires room { DIGEST < end }
     requires within { end ≤ length text.old }
     ensures written { drop result text.new ≡ comma ∷ (encode_lower md5.now ++ drop end text.old) }
-    ensures within { result ≤ length text.new }
+    ensures before { end ≡ result + (DIGEST + 1) }
 {
     let start = end - DIGEST;
     match hex::encode_to_slice(md5, &mut text[start..end]) {

@@ -20,3 +20,6 @@ returns-clause-most c = let short = decimal_short c.args.number c.ranges.number.
 
 pub returns-clause-before : goal.returns-clause-before
 returns-clause-before c = let short = decimal_short c.args.number c.ranges.number.fits in omega arith
+
+pub returns-clause-long : goal.returns-clause-long
+returns-clause-long c = omega (arith, c.write_digits-start.ensures.start, decimal_short c.args.number c.ranges.number.fits, c.requires.room)

@@ -146,6 +146,62 @@ fn messages_and_receipts(rt: HostRuntime) {
     try_row(&rt, alloc, &names, &delete, line);
 }
 
+/// A message and a receipt, of which each has numbers of its own.
+const RECEIVED: [(MessageId, Receipt, &[u8]); 4] = [
+    (
+        MessageId { site: 0, number: 7 },
+        Receipt {
+            site: 0,
+            number: 7,
+            count: 10,
+        },
+        b"7,q,s,receive,ok,m-0-7,r-0-7-10,\n",
+    ),
+    (
+        MessageId { site: 0, number: 8 },
+        Receipt {
+            site: 0,
+            number: 7,
+            count: 1,
+        },
+        b"7,q,s,receive,ok,m-0-8,r-0-7-1,\n",
+    ),
+    (
+        MessageId { site: 1, number: 7 },
+        Receipt {
+            site: 0,
+            number: 7,
+            count: 1,
+        },
+        b"7,q,s,receive,ok,m-1-7,r-0-7-1,\n",
+    ),
+    (
+        MessageId {
+            site: 10_000,
+            number: 1_234_567_890_123,
+        },
+        Receipt {
+            site: 10_000,
+            number: 1_234_567_890_123,
+            count: 1,
+        },
+        b"7,q,s,receive,ok,m-10000-1234567890123,r-10000-1234567890123-1,\n",
+    ),
+];
+
+#[test]
+fn a_message_beside_a_receipt(rt: HostRuntime) {
+    let (alloc, names) = (rt.alloc(), names(&rt, rt.alloc()));
+    for &(message, receipt, line) in &RECEIVED {
+        let receive = row(7, 0, RowKind::Receive, RowAnswer::Ok, Detail::Absent);
+        let receive = Row {
+            message: Some(message),
+            ..with_receipt(receive, None, RowReceipt::Made(receipt))
+        };
+        try_row(&rt, alloc, &names, &receive, line);
+    }
+}
+
 #[test]
 fn a_log_of_two_rows(rt: HostRuntime) {
     let names = names(&rt, rt.alloc());
