@@ -38,6 +38,33 @@ pub type Done = sim_workers::Done<PrintedSite>;
 pub type Running = sim_workers::Running<PrintedSite>;
 
 /// Runs a scenario to its horizon on this thread. Each step handles the earliest event of all
+/// queues. The rows go to a sink once at least `enough` of them wait, and at the end. Returns the
+/// sites of the last world, by number.
+///
+/// # Errors
+///
+/// Those of `run_alone`.
+pub fn run_gathered<K: RowSink<Row>>(
+    alloc: Global,
+    scenario: Scenario,
+    enough: usize,
+    sink: &mut K,
+) -> Result<Vec<Site>, Refusal>
+    requires ready { K.ready sink.old }
+    ensures ready { OnOk result (K.ready sink.new) }
+    ensures whole { IfOk result
+        (λ sites. HasTaken sqs K.took (setting_of scenario) sink.old sink.new sites.items) }
+    ensures has_queues { IfOk result (λ _. HasItsQueues scenario) }
+    ensures counted { OnOk result (¬ IsOver scenario) }
+    ensures stops { IfErr result
+        (λ refusal. HasStopped sqs K.took K.broke (setting_of scenario) sink.old refusal sink.new) }
+{
+    let world = open_world(alloc, scenario)?;
+    let mut limited = Limited { sink };
+    counted(sim_windows::run_gathered(alloc, world, enough, &mut limited))
+}
+
+/// Runs a scenario to its horizon on this thread. Each step handles the earliest event of all
 /// queues and hands its rows to a sink at once. Returns the sites of the last world, by number.
 ///
 /// # Errors
@@ -60,9 +87,7 @@ pub fn run_alone<K: RowSink<Row>>(
     ensures stops { IfErr result
         (λ refusal. HasStopped sqs K.took K.broke (setting_of scenario) sink.old refusal sink.new) }
 {
-    let world = open_world(alloc, scenario)?;
-    let mut limited = Limited { sink };
-    counted(sim_windows::run_alone(alloc, world, &mut limited))
+    run_gathered(alloc, scenario, 1, sink)
 }
 
 // Checks that a window, in milliseconds, is no longer than the least latency of a scenario's
