@@ -42,8 +42,8 @@ pub record Rehearsed (q : Request) : Type 0 where
   pub one_place : EachHasOnePlace run.sites run.rows
   pub no_other : NoOtherHasPlace run.sites run.rows
 
--- a whole rehearsal: the one-list run takes no count past the limit; the writers got the log, and the finals and report,
--- and were flushed after that
+-- a whole rehearsal: the one-list run takes no count past the limit; the writers got the log, and finals and report, and
+-- were flushed after that
 pub record IsWritten (q : Request) (log report : Writer) : Type 0 where
   pub of : Rehearsed q
   pub not_over : ¬ IsOver of.scenario
@@ -97,7 +97,8 @@ fault_of_reading (errors.Fault f) = faults.Scenario f
 -- why a request is refused before anything is written
 abbrev pub IsBarred : Request → Refusal → Type 0
 IsBarred q refusals.BadMap = (s : Stated q) × (split_fault s.scenario q.options ≡ Some refusals.BadMap)
-IsBarred q (refusals.WindowTooLong w least) = (s : Stated q) × (split_fault s.scenario q.options ≡ Some (refusals.WindowTooLong w least))
+IsBarred q (refusals.WindowTooLong w least) =
+    (s : Stated q) × (split_fault s.scenario q.options ≡ Some (refusals.WindowTooLong w least))
 IsBarred q refusals.BadWorkers = (s : Stated q) × (split_fault s.scenario q.options ≡ Some refusals.BadWorkers)
 IsBarred q refusals.Memory = Unit {0}
 IsBarred q r = ⊥
