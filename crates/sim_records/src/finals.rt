@@ -184,8 +184,8 @@ fn write_part<W: Out, T: Record>(
     records: &[T],
     names: &Names,
 ) -> Result<(), Refusal>
-    requires { W.failed out.old ≡ false }
-    ensures { WroteSeveral (W.held out.old) (W.held out.new) (W.failed out.new)
+    requires { (W.state out.old).failed ≡ false }
+    ensures { WroteSeveral (W.state out.old) (W.state out.new)
         (lines (map (λ f. f.now) header.now ∷ map (T.columns names.now) records.now)) result }
 {
     write_record(alloc, out, header)?;
@@ -200,8 +200,8 @@ fn write_part<W: Out, T: Record>(
 /// `Memory` if a growth is refused: nothing is written. `Write` if the writer fails: a prefix of the
 /// line is written.
 pub fn write_message_header<W: Out>(alloc: Global, out: &mut W) -> Result<(), Refusal>
-    requires { W.failed out.old ≡ false }
-    ensures { Wrote (W.held out.old) (W.held out.new) (W.failed out.new) (line message_header)
+    requires { (W.state out.old).failed ≡ false }
+    ensures { Wrote (W.state out.old) (W.state out.new) (line message_header)
         result }
 {
     write_record(alloc, out, MESSAGE_HEADER)
@@ -219,8 +219,8 @@ pub fn write_messages<W: Out>(
     messages: &[FinalMessage],
     names: &Names,
 ) -> Result<(), Refusal>
-    requires { W.failed out.old ≡ false }
-    ensures { WroteSeveral (W.held out.old) (W.held out.new) (W.failed out.new)
+    requires { (W.state out.old).failed ≡ false }
+    ensures { WroteSeveral (W.state out.old) (W.state out.new)
         (lines (map (message_fields names.now) messages.now)) result }
 {
     write_records(alloc, out, messages, names)
@@ -240,8 +240,8 @@ pub fn write_transfers_and_tasks<W: Out>(
     tasks: &[FinalTask],
     names: &Names,
 ) -> Result<(), Refusal>
-    requires { W.failed out.old ≡ false }
-    ensures { WroteSeveral (W.held out.old) (W.held out.new) (W.failed out.new)
+    requires { (W.state out.old).failed ≡ false }
+    ensures { WroteSeveral (W.state out.old) (W.state out.new)
         (lines ((transfer_header ∷ map (transfer_fields names.now) transfers.now)
         ++ (task_header ∷ map (task_fields names.now) tasks.now))) result }
 {
@@ -262,8 +262,8 @@ pub fn write_finals<W: Out>(
     finals: &Finals,
     names: &Names,
 ) -> Result<(), Refusal>
-    requires { W.failed out.old ≡ false }
-    ensures { WroteSeveral (W.held out.old) (W.held out.new) (W.failed out.new)
+    requires { (W.state out.old).failed ≡ false }
+    ensures { WroteSeveral (W.state out.old) (W.state out.new)
         (finals_text names.now finals.now) result }
 {
     let messages = finals.messages.as_slice();

@@ -137,8 +137,8 @@ pub(crate) fn write_record<W: Out>(
     out: &mut W,
     fields: &[&[u8]],
 ) -> Result<(), Refusal>
-    requires { W.failed out.old ≡ false }
-    ensures { Wrote (W.held out.old) (W.held out.new) (W.failed out.new)
+    requires { (W.state out.old).failed ≡ false }
+    ensures { Wrote (W.state out.old) (W.state out.new)
         (line (map (λ f. f.now) fields.now)) result }
 {
     let line = line_of(alloc, fields)?;

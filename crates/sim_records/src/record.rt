@@ -70,8 +70,8 @@ pub(crate) fn write_at_once<W: Out, T: Record>(
     records: &[T],
     names: &Names,
 ) -> Result<(), Refusal>
-    requires { W.failed out.old ≡ false }
-    ensures { Wrote (W.held out.old) (W.held out.new) (W.failed out.new)
+    requires { (W.state out.old).failed ≡ false }
+    ensures { Wrote (W.state out.old) (W.state out.new)
         (lines (map (T.columns names.now) records.now)) result }
 {
     text.clear(records.len().saturating_mul(LINE))?;
@@ -87,8 +87,8 @@ pub(crate) fn write_records<W: Out, T: Record>(
     records: &[T],
     names: &Names,
 ) -> Result<(), Refusal>
-    requires { W.failed out.old ≡ false }
-    ensures { WroteSeveral (W.held out.old) (W.held out.new) (W.failed out.new)
+    requires { (W.state out.old).failed ≡ false }
+    ensures { WroteSeveral (W.state out.old) (W.state out.new)
         (lines (map (T.columns names.now) records.now)) result }
 {
     let mut text = Line::new(alloc);

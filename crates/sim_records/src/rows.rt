@@ -21,8 +21,8 @@ use std::slice::from_ref;
 /// `Memory` if a growth is refused: nothing is written. `Write` if the writer fails: a prefix of
 /// the line is written.
 pub fn write_header<W: Out>(alloc: Global, out: &mut W) -> Result<(), Refusal>
-    requires { W.failed out.old ≡ false }
-    ensures { Wrote (W.held out.old) (W.held out.new) (W.failed out.new) (line log_header) result }
+    requires { (W.state out.old).failed ≡ false }
+    ensures { Wrote (W.state out.old) (W.state out.new) (line log_header) result }
 {
     let fields: [&[u8]; 8] = [
         b"at", b"queue", b"agent", b"call", b"answer", b"message", b"receipt", b"detail",
@@ -64,8 +64,8 @@ pub fn write_row<W: Out>(
     row: &Row,
     names: &Names,
 ) -> Result<(), Refusal>
-    requires { W.failed out.old ≡ false }
-    ensures { Wrote (W.held out.old) (W.held out.new) (W.failed out.new)
+    requires { (W.state out.old).failed ≡ false }
+    ensures { Wrote (W.state out.old) (W.state out.new)
         (line (row_fields names.now row.now)) result }
 {
     write_at_once(&mut Line::new(alloc), out, from_ref(row), names)
@@ -83,8 +83,8 @@ pub fn write_rows<W: Out>(
     rows: &[Row],
     names: &Names,
 ) -> Result<(), Refusal>
-    requires { W.failed out.old ≡ false }
-    ensures { WroteSeveral (W.held out.old) (W.held out.new) (W.failed out.new)
+    requires { (W.state out.old).failed ≡ false }
+    ensures { WroteSeveral (W.state out.old) (W.state out.new)
         (lines (map (row_fields names.now) rows.now)) result }
 {
     write_records(alloc, out, rows, names)

@@ -45,11 +45,7 @@ impl<W: Write> ToWriter<W> {
 impl<W: Write> Out for ToWriter<W> {
     ghost use Rattle.sim_records.specs.Writers.{inner_of, has_failed, is_flushed};
 
-    ghost held = { λ w. W.contents (inner_of w) };
-
-    ghost failed = { λ w. has_failed w };
-
-    ghost flushed = { λ w. is_flushed w };
+    ghost state = { λ w. record { held = W.contents (inner_of w); failed = has_failed w; flushed = is_flushed w } };
 
     fn write(&mut self, bytes: &[u8]) -> Result<usize, Failed> {
         let answer = self.inner.write(bytes);

@@ -107,10 +107,10 @@ impl Report {
         out: &mut W,
         finals: &Finals,
     ) -> Result<(), Refusal>
-        requires { W.failed out.old ≡ false }
-        ensures works { OnOk result (W.failed out.new ≡ false) }
+        requires { (W.state out.old).failed ≡ false }
+        ensures works { OnOk result ((W.state out.new).failed ≡ false) }
         ensures written { (names : List (List ℕ)) (rows : List Row) → self.now ≡ running names rows
-            → Wrote (W.held out.old) (W.held out.new) (W.failed out.new)
+            → Wrote (W.state out.old) (W.state out.new)
             (report_text (report names rows finals.now)) result }
     {
         let left = self.left(alloc, finals)?;
@@ -129,11 +129,11 @@ impl Report {
         out: &mut W,
         left: &MessagesLeft,
     ) -> Result<(), Refusal>
-        requires { W.failed out.old ≡ false }
-        ensures works { OnOk result (W.failed out.new ≡ false) }
+        requires { (W.state out.old).failed ≡ false }
+        ensures works { OnOk result ((W.state out.new).failed ≡ false) }
         ensures written { (names : List (List ℕ)) (rows : List Row) (finals : TheFinals)
             → self.now ≡ running names rows → left.now ≡ lefts self.now finals.messages
-            → Wrote (W.held out.old) (W.held out.new) (W.failed out.new)
+            → Wrote (W.state out.old) (W.state out.new)
             (report_text (report names rows finals)) result }
     {
         let columns = self.columns(alloc, left)?;
@@ -183,11 +183,11 @@ pub fn compare<W: Out>(
     first: (&Report, &Finals),
     second: (&Report, &Finals),
 ) -> Result<(), Refusal>
-    requires { W.failed out.old ≡ false }
-    ensures works { OnOk result (W.failed out.new ≡ false) }
+    requires { (W.state out.old).failed ≡ false }
+    ensures works { OnOk result ((W.state out.new).failed ≡ false) }
     ensures written { (names : List (List ℕ)) (rows : List Row) (others : List (List ℕ)) (other_rows : List Row)
         → first.entry.0.now ≡ running names rows → second.entry.0.now ≡ running others other_rows
-        → Wrote (W.held out.old) (W.held out.new) (W.failed out.new)
+        → Wrote (W.state out.old) (W.state out.new)
         (comparison (report names rows first.entry.1.now)
         (report others other_rows second.entry.1.now)) result }
 {

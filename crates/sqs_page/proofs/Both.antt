@@ -1,38 +1,32 @@
 -- What two writers got, one after the other, and what of it is in a room.
 use Rattle.std.proofs.Common.{Err, List, None, Ok, Result, Some, [], ap, inl, refl, subst, sym, ℕ, ◌++◌, ◌≡◌, ◌∙◌}
-use Rattle.std.specs.Prelude.{Bool, IfErr, false}
+use Rattle.std.specs.Io.KnownBytes.{Appends}
+use Rattle.std.specs.Prelude.{IfErr, false}
 use Rattle.std.specs.Result.{IsErrAnd}
 use Rattle.sim_clock.specs.declared.refusal.Refusal.TheVariants as refusals
 use Rattle.sqs_formats.specs.Actors.{Files}
-use Rattle.sqs_formats.specs.Output.{log_of}
+use Rattle.sim_records.specs.Writes.{WriterState}
+use Rattle.sqs_formats.specs.Output.{ending_of, log_of}
 use Rattle.sqs_rehearsal.specs.Rehearsals.{IsWritten}
 use Rattle.sqs_rehearsal.specs.Writers.{Writer}
 use Rattle.sqs_rehearsal.specs.declared.rehearsal.Fault.{Fault}
 use Rattle.sqs_rehearsal.specs.declared.rehearsal.Fault.TheVariants as faults
 use Rattle.sqs_page.specs.Pages.{IsOutputOf, IsRefusedFor, asked}
 
--- a writer that held some bytes and now holds others
-abbrev pub wrote : List ℕ → List ℕ → Bool → Writer
-wrote before after failed = record { before = Some before; after = Some after; failed = failed }
-
 -- the other writer's bytes behind those of the log are all of the output
-pub output_of_both : (text : List ℕ) (files : Files) (a b log ending all : List ℕ) (f g : Bool) → a ≡ [] → b ≡ [] → all ≡ log ++ ending
-    → IsWritten (asked text files) (wrote a log f) (wrote b ending g) → IsOutputOf text files all
-output_of_both text files a b log ending all f g no_log no_ending is w =
-    let w1 = subst (λ (x : List ℕ). IsWritten (asked text files) (wrote x log f) (wrote b ending g)) no_log w in
-    let w2 : IsWritten (asked text files) (wrote [] log f) (wrote [] ending g) = subst (λ (x : List ℕ). IsWritten (asked text files) (wrote [] log f) (wrote x ending g)) no_ending w1 in
-    record {
-      of = w2.of;
-      not_over = w2.not_over;
-      whole =
-          is
-          ∙ ap (λ (l : List ℕ). l ++ ending) w2.whole_log.bytes
-          ∙ ap (λ (e : List ℕ). log_of w2.of.scenario w2.of.run ++ e) w2.whole_report.bytes;
-    }
+pub output_of_both : (text : List ℕ) (files : Files) (log report : Writer) (first second all : List ℕ)
+    → log.before.held ≡ Some [] → log.after.held ≡ Some first → report.before.held ≡ Some [] → report.after.held ≡ Some second → all ≡ first ++ second
+    → IsWritten (asked text files) log report → IsOutputOf text files all
+output_of_both text files log report first second all fresh got empty rest is w =
+    let log_is : Appends (Some []) (Some first) (log_of w.of.scenario w.of.run) =
+    subst (λ x. Appends x (Some first) (log_of w.of.scenario w.of.run)) fresh (subst (λ x. Appends log.before.held x (log_of w.of.scenario w.of.run)) got w.whole_log.bytes) in
+    let rest_is : Appends (Some []) (Some second) (ending_of w.of.scenario w.of.run) =
+    subst (λ x. Appends x (Some second) (ending_of w.of.scenario w.of.run)) empty (subst (λ x. Appends report.before.held x (ending_of w.of.scenario w.of.run)) rest w.whole_report.bytes) in
+    record { of = w.of; not_over = w.not_over; whole = is ∙ ap (λ (l : List ℕ). l ++ second) log_is ∙ ap (λ (e : List ℕ). log_of w.of.scenario w.of.run ++ e) rest_is }
 
 -- a writer that holds what it held
 abbrev unused : Writer
-unused = record { before = None; after = None; failed = false }
+unused = let s : WriterState = record { held = None; failed = false; flushed = false } in record { before = s; after = s }
 
 -- memory is refused where nothing was written
 pub memory_refused : (text : List ℕ) (files : Files) → IsRefusedFor text files (faults.Refused refusals.Memory)

@@ -5,7 +5,8 @@ use Rattle.sim_clock.specs.declared.refusal.Refusal.{Refusal}
 use Rattle.sim_exchange.specs.Layout.{is_layout}
 use Rattle.sqs_model.specs.Scenario.{Scenario, least_latency}
 use Rattle.sqs_rehearsal.specs.Rehearsals.{Bars, Request, Stated}
-use Rattle.sqs_rehearsal.specs.Options.{IsUnsplit, Options, is_within, layout_of, or_else, split_fault, window_fault, workers_fault}
+use Rattle.sqs_rehearsal.specs.Options.{Options, is_within, layout_of, or_else, split_fault, window_fault, workers_fault}
+use Rattle.sqs_rehearsal.specs.Splits.{IsUnsplit}
 use Rattle.sqs_rehearsal.specs.declared.rehearsal.Fault.TheVariants as faults
 use Rattle.sim_clock.specs.declared.refusal.Refusal.TheVariants as refusals
 use Rattle.std.proofs.lemmas.Option.{same_Some}

@@ -1,12 +1,12 @@
 -- Messages that are written some at a time, and counted.
-use Rattle.std.proofs.Common.{◌≡◌, ◌∙◌, ℕ, zero, suc, ◌+◌, ◌<◌, Bool, false, Err, List, Ok, Option, Result, [], ◌∷◌, ◌++◌, append-nil, append_assoc, ap, arith, drop, flat_map, get_or, length, map, refl, subst, sym}
+use Rattle.std.proofs.Common.{◌≡◌, ◌∙◌, ℕ, zero, suc, ◌+◌, ◌<◌, false, Err, List, Ok, Result, [], ◌∷◌, ◌++◌, append-nil, append_assoc, ap, arith, drop, flat_map, get_or, length, map, refl, subst, sym}
 use Rattle.csv.proofs.WriteFacts.{appends-more}
 use Rattle.std.specs.Io.KnownBytes.{Appends}
 use Rattle.std.specs.Result.{IsErrAnd}
 use Rattle.sim_clock.specs.declared.refusal.Refusal.{Refusal}
 use Rattle.sim_clock.specs.declared.refusal.Refusal.TheVariants as refusals
 use Rattle.sim_records.proofs.Writes.{lines-append, prefix_none, several_after, several_handed_on, several_stopped}
-use Rattle.sim_records.specs.Writes.{WroteSeveral}
+use Rattle.sim_records.specs.Writes.{WriterState, WroteSeveral}
 use Rattle.sim_report.specs.Left.{lefts}
 use Rattle.sim_report.specs.declared.left.Left.{Left}
 use Rattle.sim_report.specs.declared.queue.QueueCounts.{QueueCounts}
@@ -20,67 +20,67 @@ abbrev pub message_lines : Names → List FinalMessage → List ℕ
 message_lines names messages = lines (map (message_fields names) messages)
 
 -- of all messages some are written and counted, and the rest are not
-pub record IsWriting (names : Names) (all : List FinalMessage) (old : Option (List ℕ)) (uncounted : List Left) (rest : List FinalMessage) (now : Option (List ℕ)) (failed : Bool) (left : List Left) : Type 0 where
+pub record IsWriting (names : Names) (all : List FinalMessage) (old : WriterState) (uncounted : List Left) (rest : List FinalMessage) (now : WriterState) (left : List Left) : Type 0 where
   pub done : List FinalMessage
   pub whole : done ++ rest ≡ all
-  pub written : Appends old now (message_lines names done)
-  pub works : failed ≡ false
+  pub written : Appends old.held now.held (message_lines names done)
+  pub works : now.failed ≡ false
   pub counted : (queues : List QueueCounts) (before : List FinalMessage) → uncounted ≡ lefts queues before → left ≡ lefts queues (before ++ done)
 
-module _ (names : Names) (all : List FinalMessage) (old : Option (List ℕ)) (uncounted : List Left) where
-  abbrev Writing : List FinalMessage → Option (List ℕ) → Bool → List Left → Type 0
-  Writing rest now failed left = IsWriting names all old uncounted rest now failed left
+module _ (names : Names) (all : List FinalMessage) (old : WriterState) (uncounted : List Left) where
+  abbrev Writing : List FinalMessage → WriterState → List Left → Type 0
+  Writing rest now left = IsWriting names all old uncounted rest now left
 
   -- the next messages are not written whole
-  pub writing_stopped : (rest next others : List FinalMessage) (now new : Option (List ℕ)) (f g : Bool) (left : List Left) (e : Refusal) (r : Result (Unit {0}) Refusal)
-      → Writing rest now f left → next ++ others ≡ rest → WroteSeveral now new g (message_lines names next) (Err e) → IsErrAnd r (λ met. met ≡ e)
-      → WroteSeveral old new g (message_lines names all) r
-  writing_stopped rest next others now new f g left e r h parts stopped met =
-      let more = several_stopped now new g (message_lines names next) (message_lines names others) e stopped in
-      let after = several_after old now new g (message_lines names h.done) (message_lines names next ++ message_lines names others) (Err e) h.written more in
+  pub writing_stopped : (rest next others : List FinalMessage) (now new : WriterState) (left : List Left) (e : Refusal) (r : Result (Unit {0}) Refusal)
+      → Writing rest now left → next ++ others ≡ rest → WroteSeveral now new (message_lines names next) (Err e) → IsErrAnd r (λ met. met ≡ e)
+      → WroteSeveral old new (message_lines names all) r
+  writing_stopped rest next others now new left e r h parts stopped met =
+      let more = several_stopped now new (message_lines names next) (message_lines names others) e stopped in
+      let after = several_after old now new (message_lines names h.done) (message_lines names next ++ message_lines names others) (Err e) h.written more in
       let both : message_lines names next ++ message_lines names others ≡ message_lines names rest = sym (lines-append (message_fields names) next others) ∙ ap (message_lines names) parts in
       let is : message_lines names h.done ++ (message_lines names next ++ message_lines names others) ≡ message_lines names all =
       ap (λ t. message_lines names h.done ++ t) both ∙ sym (lines-append (message_fields names) h.done rest) ∙ ap (message_lines names) h.whole in
-      several_handed_on old new g (message_lines names all) e r met (subst (λ (t : List ℕ). WroteSeveral old new g t (Err e)) is after)
+      several_handed_on old new (message_lines names all) e r met (subst (λ (t : List ℕ). WroteSeveral old new t (Err e)) is after)
 
   -- memory runs out before more is written
-  pub writing_wants_memory : (rest : List FinalMessage) (now : Option (List ℕ)) (f : Bool) (left : List Left) (r : Result (Unit {0}) Refusal)
-      → Writing rest now f left → IsErrAnd r (λ met. met ≡ refusals.Memory) → WroteSeveral old now f (message_lines names all) r
-  writing_wants_memory rest now f left r h met =
-      writing_stopped rest rest [] now now f f left refusals.Memory r h (append-nil rest) (prefix_none now (message_lines names rest), h.works) met
+  pub writing_wants_memory : (rest : List FinalMessage) (now : WriterState) (left : List Left) (r : Result (Unit {0}) Refusal)
+      → Writing rest now left → IsErrAnd r (λ met. met ≡ refusals.Memory) → WroteSeveral old now (message_lines names all) r
+  writing_wants_memory rest now left r h met =
+      writing_stopped rest rest [] now now left refusals.Memory r h (append-nil rest) (prefix_none now.held (message_lines names rest), h.works) met
 
   -- the next messages are written and counted
-  pub writing_more : (rest next others : List FinalMessage) (now new : Option (List ℕ)) (f g : Bool) (left more : List Left) (u : Unit {0})
-      → Writing rest now f left → next ++ others ≡ rest → WroteSeveral now new g (message_lines names next) (Ok u)
+  pub writing_more : (rest next others : List FinalMessage) (now new : WriterState) (left more : List Left) (u : Unit {0})
+      → Writing rest now left → next ++ others ≡ rest → WroteSeveral now new (message_lines names next) (Ok u)
       → ((queues : List QueueCounts) (before : List FinalMessage) → left ≡ lefts queues before → more ≡ lefts queues (before ++ next))
-      → Writing others new g more
-  writing_more rest next others now new f g left more u h parts wrote adds =
+      → Writing others new more
+  writing_more rest next others now new left more u h parts wrote adds =
       record {
         done = h.done ++ next;
         whole = append_assoc h.done next others ∙ ap (λ t. h.done ++ t) parts ∙ h.whole;
-        written = subst (λ (t : List ℕ). Appends old new t) (sym (lines-append (message_fields names) h.done next)) (appends-more old now new (message_lines names h.done) (message_lines names next) h.written wrote.0);
+        written = subst (λ (t : List ℕ). Appends old.held new.held t) (sym (lines-append (message_fields names) h.done next)) (appends-more old.held now.held new.held (message_lines names h.done) (message_lines names next) h.written wrote.0);
         works = wrote.1;
         counted = λ queues before is. adds queues (before ++ h.done) (h.counted queues before is) ∙ ap (lefts queues) (append_assoc before h.done next);
       }
 
   -- the next messages are written, and then memory runs out
-  pub written_wants_memory : (rest next others : List FinalMessage) (now new : Option (List ℕ)) (f g : Bool) (left : List Left) (u : Unit {0}) (r : Result (Unit {0}) Refusal)
-      → Writing rest now f left → next ++ others ≡ rest → WroteSeveral now new g (message_lines names next) (Ok u) → IsErrAnd r (λ met. met ≡ refusals.Memory)
-      → WroteSeveral old new g (message_lines names all) r
-  written_wants_memory rest next others now new f g left u r h parts wrote met =
-      let after = several_after now new new g (message_lines names next) (message_lines names others) (Err refusals.Memory) wrote.0 (prefix_none new (message_lines names others), wrote.1) in
-      let all_rest = subst (λ (t : List ℕ). WroteSeveral now new g t (Err refusals.Memory)) (sym (lines-append (message_fields names) next others) ∙ ap (message_lines names) parts) after in
-      writing_stopped rest rest [] now new f g left refusals.Memory r h (append-nil rest) all_rest met
+  pub written_wants_memory : (rest next others : List FinalMessage) (now new : WriterState) (left : List Left) (u : Unit {0}) (r : Result (Unit {0}) Refusal)
+      → Writing rest now left → next ++ others ≡ rest → WroteSeveral now new (message_lines names next) (Ok u) → IsErrAnd r (λ met. met ≡ refusals.Memory)
+      → WroteSeveral old new (message_lines names all) r
+  written_wants_memory rest next others now new left u r h parts wrote met =
+      let after = several_after now new new (message_lines names next) (message_lines names others) (Err refusals.Memory) wrote.0 (prefix_none new.held (message_lines names others), wrote.1) in
+      let all_rest = subst (λ (t : List ℕ). WroteSeveral now new t (Err refusals.Memory)) (sym (lines-append (message_fields names) next others) ∙ ap (message_lines names) parts) after in
+      writing_stopped rest rest [] now new left refusals.Memory r h (append-nil rest) all_rest met
 
   -- none are left, so all are written and counted
-  pub writing_whole : (rest : List FinalMessage) (now : Option (List ℕ)) (f : Bool) (left : List Left) (u : Unit {0}) → Writing rest now f left → rest ≡ [] → WroteSeveral old now f (message_lines names all) (Ok u)
-  writing_whole rest now f left u h none =
+  pub writing_whole : (rest : List FinalMessage) (now : WriterState) (left : List Left) (u : Unit {0}) → Writing rest now left → rest ≡ [] → WroteSeveral old now (message_lines names all) (Ok u)
+  writing_whole rest now left u h none =
       let is : h.done ≡ all = sym (append-nil h.done) ∙ ap (λ t. h.done ++ t) (sym none) ∙ h.whole in
-      (subst (λ (ms : List FinalMessage). Appends old now (message_lines names ms)) is h.written, h.works)
+      (subst (λ (ms : List FinalMessage). Appends old.held now.held (message_lines names ms)) is h.written, h.works)
 
-  pub counted_whole : (rest : List FinalMessage) (now : Option (List ℕ)) (f : Bool) (left : List Left) → Writing rest now f left → rest ≡ []
+  pub counted_whole : (rest : List FinalMessage) (now : WriterState) (left : List Left) → Writing rest now left → rest ≡ []
       → (queues : List QueueCounts) (before : List FinalMessage) → uncounted ≡ lefts queues before → left ≡ lefts queues (before ++ all)
-  counted_whole rest now f left h none queues before is =
+  counted_whole rest now left h none queues before is =
       let same : h.done ≡ all = sym (append-nil h.done) ∙ ap (λ t. h.done ++ t) (sym none) ∙ h.whole in
       h.counted queues before is ∙ ap (λ ms. lefts queues (before ++ ms)) same
 

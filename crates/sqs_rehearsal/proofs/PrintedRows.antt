@@ -1,12 +1,12 @@
 -- What a recorder takes of printed rows is what it takes of the rows.
 use Rattle.std.specs.List.{list_all}
-use Rattle.std.specs.Prelude.{Bool, Err, IfErr, List, Ok, OnOk, Option, Result, [], flat_map, map, nat_le, ℕ, ◌++◌, ◌&&◌, ◌∷◌, ◌≡◌}
+use Rattle.std.specs.Prelude.{Err, IfErr, List, Ok, OnOk, Result, [], flat_map, map, nat_le, ℕ, ◌++◌, ◌&&◌, ◌∷◌, ◌≡◌}
 use Rattle.std.proofs.Common.{ap, refl, subst, sym, ◌∙◌}
 use Rattle.std.specs.Io.KnownBytes.{Appends}
 use Rattle.sim_clock.specs.declared.refusal.Refusal.{Refusal}
 use Rattle.sim_clock.specs.declared.refusal.Refusal.TheVariants as refusals
 use Rattle.sim_records.proofs.Writes.{several-one}
-use Rattle.sim_records.specs.Writes.{Wrote, WroteSeveral}
+use Rattle.sim_records.specs.Writes.{WriterState, Wrote, WroteSeveral}
 use Rattle.sim_report.proofs.Groups.{running-append}
 use Rattle.sim_report.specs.Running.{count_added, rows_added}
 use Rattle.sim_report.specs.Tally.{count_of}
@@ -52,38 +52,38 @@ pub if_err_each : {T E A : Type 0} (B : A → Type 0) (P : E → A → Type 0) (
 if_err_each B P (Ok t) h = tt
 if_err_each B P (Err e) h = h
 
-module _ {W P : Type 0} (held : W → Option (List ℕ)) (failed : W → Bool) (before after : Recorder W P) (made : List Printed) (rows : List Row) (are : made ≡ map (printed before.names.now) rows) (same : IsSame before after) where
+module _ {W P : Type 0} (state : W → WriterState) (before after : Recorder W P) (made : List Printed) (rows : List Row) (are : made ≡ map (printed before.names.now) rows) (same : IsSame before after) where
   -- their text is that of the rows
   text_is : text_in made ≡ lines_of before rows
   text_is = ap text_in are ∙ text_printed before.names.now rows
 
   -- all are written and counted
-  pub recorded_printed : (u : Unit {0}) → Wrote (held before.out.now) (held after.out.now) (failed after.out.now) (text_in made) (Ok u) → after.report.now ≡ printed_added before.report.now made → Recorded held failed before rows after
+  pub recorded_printed : (u : Unit {0}) → Wrote (state before.out.now) (state after.out.now) (text_in made) (Ok u) → after.report.now ≡ printed_added before.report.now made → Recorded state before rows after
   recorded_printed u wrote counted =
       let all : after.report.now ≡ printed_added before.report.now (map (printed before.names.now) rows) = counted ∙ ap (printed_added before.report.now) are in
       record {
         same = same;
-        written = subst (λ (t : List ℕ). Appends (held before.out.now) (held after.out.now) t) text_is wrote.0;
+        written = subst (λ (t : List ℕ). Appends (state before.out.now).held (state after.out.now).held t) text_is wrote.0;
         works = λ works. wrote.1;
         added = subst (λ (qs : List QueueCounts). Added before.report.now rows qs) (sym all) (added_printed before.names.now before.report.now rows);
       }
 
   -- they could not be written
-  pub stopped_printed : (e : Refusal) → Wrote (held before.out.now) (held after.out.now) (failed after.out.now) (text_in made) (Err e) → StoppedAt held failed before rows e after
+  pub stopped_printed : (e : Refusal) → Wrote (state before.out.now) (state after.out.now) (text_in made) (Err e) → StoppedAt state before rows e after
   stopped_printed e wrote =
       record {
         same = same;
         written =
-            subst (λ (t : List ℕ). WroteSeveral (held before.out.now) (held after.out.now) (failed after.out.now) t (Err e)) text_is
-            (several-one (held before.out.now) (held after.out.now) (failed after.out.now) (text_in made) (Err e) wrote);
+            subst (λ (t : List ℕ). WroteSeveral (state before.out.now) (state after.out.now) t (Err e)) text_is
+            (several-one (state before.out.now) (state after.out.now) (text_in made) (Err e) wrote);
       }
 
   -- or not counted
-  pub uncounted_printed : (u : Unit {0}) → Wrote (held before.out.now) (held after.out.now) (failed after.out.now) (text_in made) (Ok u) → StoppedAt held failed before rows refusals.Memory after
+  pub uncounted_printed : (u : Unit {0}) → Wrote (state before.out.now) (state after.out.now) (text_in made) (Ok u) → StoppedAt state before rows refusals.Memory after
   uncounted_printed u wrote =
       record {
         same = same;
         written =
-            subst (λ (t : List ℕ). WroteSeveral (held before.out.now) (held after.out.now) (failed after.out.now) t (Err refusals.Memory)) text_is
-            (all_are_prefix (held before.out.now) (held after.out.now) (text_in made) wrote.0, wrote.1);
+            subst (λ (t : List ℕ). WroteSeveral (state before.out.now) (state after.out.now) t (Err refusals.Memory)) text_is
+            (all_are_prefix (state before.out.now).held (state after.out.now).held (text_in made) wrote.0, wrote.1);
       }

@@ -1,10 +1,10 @@
 -- What comes of a run whose rows are printed comes of the run.
-use Rattle.std.specs.Global.{Global}
-use Rattle.std.specs.Prelude.{Bool, Err, IfErr, IfOk, List, MatchResult, Ok, Option, Result, Vec, [], false, map, ℕ, ◌++◌, ◌∷◌, ◌≡◌, ◌≤◌}
+use Rattle.std.specs.Prelude.{List, [], false, map, ℕ, ◌∷◌, ◌≡◌, ◌≤◌}
 use Rattle.std.proofs.Math.Nat.{max-le}
 use Rattle.std.proofs.Common.{ap, append-nil, inl, inr, refl, subst, sym, ◌∙◌}
 use Rattle.sim_clock.specs.declared.refusal.Refusal.{Refusal}
 use Rattle.sim_clock.specs.declared.refusal.Refusal.TheVariants as refusals
+use Rattle.sim_records.specs.Writes.{WriterState}
 use Rattle.sim_engine.proofs.Counted.{not_over}
 use Rattle.sim_engine.proofs.Mapping.{mapped_simulated, runs_are_mapped}
 use Rattle.sim_engine.specs.Limits.{IsOver as IsPast, StopsWhere}
@@ -14,7 +14,6 @@ use Rattle.sim_engine.specs.Simulated.{IsSimulated}
 use Rattle.sim_engine.specs.World.{Run as TheRun}
 use Rattle.sim_windows.specs.Sinks.{HasStopped, HasTaken, StopsAt}
 use Rattle.sim_workers.specs.Runs.{StopsAnyhow}
-use Rattle.sqs_message.specs.declared.row.Row.{Row}
 use Rattle.sqs_model.proofs.Growth.{handled_up}
 use Rattle.sqs_model.proofs.Instance.{sqs_laws}
 use Rattle.sqs_model.proofs.Sites.{IsFine, sound_setting}
@@ -53,12 +52,12 @@ stops_for L M refusals.CountLimit f h = f h
 stops_for L M refusals.Memory f h = tt
 stops_for L M e f h = h
 
-module _ {W P : Type 0} (held : W → Option (List ℕ)) (failed : W → Bool) (s : Scenario) (before now : Recorder W P) where
+module _ {W P : Type 0} (state : W → WriterState) (s : Scenario) (before now : Recorder W P) where
   -- the names by which rows are printed, and the run of the scenario with them
   abbrev names : List (List ℕ)
   names = before.names.now
 
-  abbrev printed_setting : Setting PrintedSite
+  abbrev pub printed_setting : Setting PrintedSite
   printed_setting = mapped_setting names (setting_of s)
 
   are_mapped : RunsAreMapped sqs row_mapping names (setting_of s)
@@ -66,23 +65,23 @@ module _ {W P : Type 0} (held : W → Option (List ℕ)) (failed : W → Bool) (
 
   -- what a recorder took of the run of the scenario, and why this stops
   abbrev pub Taken : List Site → Type 0
-  Taken sites = HasTaken sqs (TookCounted held failed) (setting_of s) before now sites
+  Taken sites = HasTaken sqs (TookCounted state) (setting_of s) before now sites
 
   abbrev Halted : Refusal → Type 0
-  Halted e = HasStopped sqs (TookCounted held failed) (BrokeCounted held failed) (setting_of s) before e now
+  Halted e = HasStopped sqs (TookCounted state) (BrokeCounted state) (setting_of s) before e now
 
   abbrev works : Recorder W P → Type 0
-  works recorder = failed recorder.out.now ≡ false
+  works recorder = (state recorder.out.now).failed ≡ false
 
   abbrev pub Stops : Refusal → Type 0
-  Stops e = StopsAnyhow sqs works (TookCounted held failed) (BrokeCounted held failed) (setting_of s) before e now
+  Stops e = StopsAnyhow sqs works (TookCounted state) (BrokeCounted state) (setting_of s) before e now
 
   -- the same of the printed rows
   abbrev pub TakenPrinted : List PrintedSite → Type 0
-  TakenPrinted sites = HasTaken printed_sqs (TookPrinted held failed) printed_setting before now sites
+  TakenPrinted sites = HasTaken printed_sqs (TookPrinted state) printed_setting before now sites
 
   abbrev pub StopsPrinted : Refusal → Type 0
-  StopsPrinted e = StopsAnyhow printed_sqs works (TookPrinted held failed) (BrokePrinted held failed) printed_setting before e now
+  StopsPrinted e = StopsAnyhow printed_sqs works (TookPrinted state) (BrokePrinted state) printed_setting before e now
 
   taken : (sites : List PrintedSite) → TakenPrinted sites → Taken (plain_sites sites)
   taken sites h =
@@ -96,7 +95,7 @@ module _ {W P : Type 0} (held : W → Option (List ℕ)) (failed : W → Bool) (
         sites_are = ap plain_sites h.sites_are ∙ ap (λ (x : TheRun printed_sqs). plain_sites x.sites) same ∙ plain_again names r.sites;
       }
 
-  halted : (r : Run) → IsRunOf s r → (e : Refusal) → HasStopped printed_sqs (TookPrinted held failed) (BrokePrinted held failed) printed_setting before e now → Halted e
+  halted : (r : Run) → IsRunOf s r → (e : Refusal) → HasStopped printed_sqs (TookPrinted state) (BrokePrinted state) printed_setting before e now → Halted e
   halted r is e h =
       let rest = h.prefix (mapped_run sqs row_mapping names r) (are_mapped.there r is) in
       let p : Parts (printed names) h.rows rest.0 r.rows = parts_of (printed names) h.rows rest.0 r.rows rest.1 in
@@ -104,7 +103,7 @@ module _ {W P : Type 0} (held : W → Option (List ℕ)) (failed : W → Bool) (
         rows = p.first;
         prefix = λ x also. (p.others, p.joined ∙ ap (λ (y : Run). y.rows) (one_run s r x is also));
         at_rows =
-            elim h.at_rows as (λ _. StopsAt sqs (TookCounted held failed) (BrokeCounted held failed) (StopsWhere (IsPast sqs (setting_of s))) p.first before e now) [
+            elim h.at_rows as (λ _. StopsAt sqs (TookCounted state) (BrokeCounted state) (StopsWhere (IsPast sqs (setting_of s))) p.first before e now) [
               | inl t ↦ inl (t.0 p.first p.first_is, stops_for (IsPast printed_sqs printed_setting) (IsPast sqs (setting_of s)) e are_mapped.over t.1)
               | inr b ↦ inr (b p.first p.first_is)
             ];
@@ -127,7 +126,7 @@ module _ {W P : Type 0} (held : W → Option (List ℕ)) (failed : W → Bool) (
       })
 
   -- rows whose counts were looked at were taken
-  pub recorded : (sites : List Site) → Taken sites → HasTaken sqs (Recorded held failed) (setting_of s) before now sites
+  pub recorded : (sites : List Site) → Taken sites → HasTaken sqs (Recorded state) (setting_of s) before now sites
   recorded sites h = record { run = h.run; is = h.is; taken = h.taken.taken; sites_are = h.sites_are }
 
   -- a whole run whose rows were looked at, and whose last sites are within the limit, is within it
@@ -137,11 +136,11 @@ module _ {W P : Type 0} (held : W → Option (List ℕ)) (failed : W → Bool) (
 
   -- why a run stops, if not at a count past the limit among its rows
   abbrev Unrecorded : Refusal → Type 0
-  Unrecorded e = HasStopped sqs (Recorded held failed) (StoppedAt held failed) (setting_of s) before e now
+  Unrecorded e = HasStopped sqs (Recorded state) (StoppedAt state) (setting_of s) before e now
 
   unrecorded : (r : Run) → IsRunOf s r → (e : Refusal) → Halted e → Unrecorded e
   unrecorded r is e h =
-      let passed : Passed (Recorded held failed) before h.rows e now → Unrecorded e = λ p.
+      let passed : Passed (Recorded state) before h.rows e now → Unrecorded e = λ p.
       record {
         rows = p.prefix;
         prefix = fewer_first (setting_of s) p.prefix p.rest h.rows p.rows_are h.prefix;
@@ -152,34 +151,39 @@ module _ {W P : Type 0} (held : W → Option (List ℕ)) (failed : W → Bool) (
         | inr b ↦ elim b as (λ _. Unrecorded e) [ inl k ↦ record { rows = h.rows; prefix = h.prefix; at_rows = inr k } | inr p ↦ passed p ]
       ]
 
-  pub unrecorded_anyhow : (x : TheRun printed_sqs) → IsTheRunOf printed_sqs printed_setting x → (e : Refusal) → Stops e
-      → StopsAnyhow sqs works (Recorded held failed) (StoppedAt held failed) (setting_of s) before e now
-  unrecorded_anyhow x is e h =
-      let run = are_mapped.back x is in
-      elim h as (λ _. StopsAnyhow sqs works (Recorded held failed) (StoppedAt held failed) (setting_of s) before e now) [
-        | inl k ↦ inl (unrecorded run.0 run.1.0 e k)
-        | inr n ↦ inr (n.0, n.1.taken)
-      ]
+  -- the world of the run with printed rows, and what comes of it
+  module _ (world : Setting PrintedSite) (is : world ≡ printed_setting) where
+    pub taken_plain : (made : List PrintedSite) (sites : List Site) → sites ≡ plain_sites made → HasTaken printed_sqs (TookPrinted state) world before now made → Taken sites
+    taken_plain made sites plain took =
+        subst Taken (sym plain) (taken made (subst (λ (w : Setting PrintedSite). HasTaken printed_sqs (TookPrinted state) w before now made) is took))
 
-  -- the last sites without their printers, or why they could not be had
-  abbrev pub IsPlain : Result (Vec PrintedSite Global) Refusal → Result (Vec Site Global) Refusal → Type 0
-  IsPlain ran result =
-      MatchResult ran (λ made. MatchResult result (λ sites. sites.items ≡ plain_sites made.items) (λ e. e ≡ refusals.Memory)) (λ e. result ≡ Err e)
+    module _ (simulated : IsSimulated printed_sqs (mapped_conditions sqs_conditions) world) where
+      its_run : (r : Run) × IsRunOf s r
+      its_run =
+          let run = are_mapped.back simulated.run (subst (λ (w : Setting PrintedSite). IsTheRunOf printed_sqs w simulated.run) is simulated.is_run) in
+          (run.0, run.1.0)
 
-  pub taken_plain : (ran : Result (Vec PrintedSite Global) Refusal) (result : Result (Vec Site Global) Refusal) → IsPlain ran result
-      → IfOk ran (λ made. TakenPrinted made.items) → IfOk result (λ sites. Taken sites.items)
-  taken_plain (Ok made) (Ok sites) plain took = subst Taken (sym plain) (taken made.items took)
-  taken_plain (Ok made) (Err e) plain took = tt
-  taken_plain (Err e) (Ok sites) plain took = absurd (let g : Ok sites ≡ Err e = plain in cc)
-  taken_plain (Err e) (Err met) plain took = tt
+      unrecorded_anyhow : (e : Refusal) → Stops e → StopsAnyhow sqs works (Recorded state) (StoppedAt state) (setting_of s) before e now
+      unrecorded_anyhow e h =
+          elim h as (λ _. StopsAnyhow sqs works (Recorded state) (StoppedAt state) (setting_of s) before e now) [
+            | inl k ↦ inl (unrecorded its_run.0 its_run.1 e k)
+            | inr n ↦ inr (n.0, n.1.taken)
+          ]
 
-  pub stops_plain : (x : TheRun printed_sqs) → IsTheRunOf printed_sqs printed_setting x → (ran : Result (Vec PrintedSite Global) Refusal) (result : Result (Vec Site Global) Refusal) → IsPlain ran result
-      → IfOk ran (λ made. TakenPrinted made.items) → IfErr ran StopsPrinted → IfErr result Stops
-  stops_plain x is (Ok made) (Ok sites) plain took stopped = tt
-  stops_plain x is (Ok made) (Err e) plain took stopped = subst Stops (sym plain) (wanting (plain_sites made.items) (taken made.items took))
-  stops_plain x is (Err e) result plain took stopped =
-      let run = are_mapped.back x is in
-      subst (λ (r : Result (Vec Site Global) Refusal). IfErr r Stops) (sym plain) (stops run.0 run.1.0 e stopped)
+      pub stops_plain : (e : Refusal) → StopsAnyhow printed_sqs works (TookPrinted state) (BrokePrinted state) world before e now → StopsAnyhow sqs works (Recorded state) (StoppedAt state) (setting_of s) before e now
+      stops_plain e h =
+          unrecorded_anyhow e
+          (stops its_run.0 its_run.1 e (subst (λ (w : Setting PrintedSite). StopsAnyhow printed_sqs works (TookPrinted state) (BrokePrinted state) w before e now) is h))
+
+      -- memory was wanting after it
+      pub wants_plain : (made : List PrintedSite) → HasTaken printed_sqs (TookPrinted state) world before now made → StopsAnyhow sqs works (Recorded state) (StoppedAt state) (setting_of s) before refusals.Memory now
+      wants_plain made took = unrecorded_anyhow refusals.Memory (wanting (plain_sites made) (taken_plain made (plain_sites made) refl took))
+
+-- the parts of a world, with printers, are those of the world with printers
+pub made_of : (names : List (List ℕ)) (s w : Setting Site) (horizon : ℕ) (made : List PrintedSite)
+    → w ≡ s → horizon ≡ s.horizon → made ≡ map (with_mapper names) w.opening → record { horizon = horizon; opening = made; edges = w.edges } ≡ mapped_setting names s
+made_of names s w horizon made same at are = λ k.
+    record { horizon = at k; opening = (are ∙ ap (λ (x : Setting Site). map (with_mapper names) x.opening) same) k; edges = (ap (λ (x : Setting Site). x.edges) same) k }
 
 -- a scenario in which time moves on is simulated with printed rows
 pub printed_simulated : (names : List (List ℕ)) (s : Scenario) → IsSoundScenario s → IsSimulated printed_sqs (mapped_conditions sqs_conditions) (mapped_setting names (setting_of s))

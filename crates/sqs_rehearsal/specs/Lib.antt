@@ -1,9 +1,10 @@
 pub mod Homes
 pub mod Options
+pub mod Splits
 pub mod Outcomes
 pub mod Writers
-pub mod Logs
 pub mod Rehearsals
+pub mod Steps
 pub mod FaultLines
 pub mod Left
 pub mod Limited

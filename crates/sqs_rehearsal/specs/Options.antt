@@ -1,10 +1,9 @@
 -- How a rehearsal is split into partitions, windows and workers, and what is wrong with that.
 use Rattle.std.specs.List.{range_with_len}
-use Rattle.std.specs.Prelude.{Bool, Err, List, None, Ok, Option, Result, Some, fold, if◌then◌else◌, length, map, max, nat_le, nat_lt, unwrap_or, ℕ, ◌%◌, ◌&&◌, ◌+◌, ◌≡◌, ◌⊎◌}
+use Rattle.std.specs.Prelude.{Bool, List, None, Option, Some, fold, if◌then◌else◌, length, map, max, nat_le, nat_lt, unwrap_or, ℕ, ◌%◌, ◌&&◌, ◌+◌}
 use Rattle.sim_clock.specs.declared.refusal.Refusal.{Refusal}
 use Rattle.sim_exchange.specs.Layout.{Layout, is_layout}
 use Rattle.sqs_model.specs.Scenario.{Scenario, least_latency}
-use Rattle.sqs_rehearsal.specs.declared.options.Split.{Split}
 use Rattle.sim_clock.specs.declared.refusal.Refusal.TheVariants as refusals
 
 -- the options: the window in milliseconds, the number of partitions, the partition of each queue, the number of workers
@@ -62,17 +61,3 @@ split_fault s o =
     if is_layout (length s.queues) (layout_of (length s.queues) o)
     then or_else (window_fault (least_latency s) o.window) (workers_fault o.workers)
     else Some refusals.BadMap
-
--- an error, if there is one
-abbrev pub unless : Option Refusal → Result (Unit {0}) Refusal
-unless None = Ok tt
-unless (Some r) = Err r
-
--- why a scenario can't be split so: that, or out of memory
-abbrev pub IsUnsplit : Scenario → Options → Refusal → Type 0
-IsUnsplit s o e = (e ≡ refusals.Memory) ⊎ (split_fault s o ≡ Some e)
-
--- how a scenario is split: without a window it has the greatest that it may have
-abbrev pub split_of : Scenario → Options → Split
-split_of s o =
-    record { layout = layout_of (length s.queues) o; window = unwrap_or o.window (least_latency s); workers = o.workers }

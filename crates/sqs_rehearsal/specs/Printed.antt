@@ -1,8 +1,9 @@
 -- Rows with their lines, and what sinks take of them.
-use Rattle.std.specs.Prelude.{Bool, List, Option, fold, map, ℕ, ◌≡◌, ◌≤◌, ◌⊎◌}
+use Rattle.std.specs.Prelude.{List, fold, map, ℕ, ◌≡◌, ◌≤◌, ◌⊎◌}
 use Rattle.std.proofs.Common.{refl}
 use Rattle.sim_clock.specs.declared.key.Key.{Key}
 use Rattle.sim_clock.specs.declared.refusal.Refusal.{Refusal}
+use Rattle.sim_records.specs.Writes.{WriterState}
 use Rattle.sim_engine.specs.Engine.{Engine}
 use Rattle.sim_engine.specs.Mapping.{KeepsRows, MappedSite, Mapping, mapped}
 use Rattle.sim_report.specs.Running.{count_added}
@@ -48,15 +49,15 @@ printed_keeps = record { key = λ names r. refl; site = λ names r. refl; count 
 abbrev pub printed_added : List QueueCounts → List Printed → List QueueCounts
 printed_added report made = fold (λ queues p. count_added queues p.count) report made
 
-module _ {W P : Type 0} (held : W → Option (List ℕ)) (failed : W → Bool) where
+module _ {W P : Type 0} (state : W → WriterState) where
   -- a recorder took rows, none of which has a count past the limit
   pub record TookCounted (before : Recorder W P) (rows : List Row) (after : Recorder W P) : Type 0 where
-    pub taken : Recorded held failed before rows after
+    pub taken : Recorded state before rows after
     pub within : rows_count rows ≤ most_count
 
   -- it broke at rows, or a count among them is past the limit
   abbrev pub BrokeCounted : Recorder W P → List Row → Refusal → Recorder W P → Type 0
-  BrokeCounted before rows refusal after = StoppedAt held failed before rows refusal after ⊎ Passed (Recorded held failed) before rows refusal after
+  BrokeCounted before rows refusal after = StoppedAt state before rows refusal after ⊎ Passed (Recorded state) before rows refusal after
 
   -- it took printed rows: of whatever rows they were printed by its names, it took these
   abbrev pub TookPrinted : Recorder W P → List Printed → Recorder W P → Type 0

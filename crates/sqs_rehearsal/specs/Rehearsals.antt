@@ -1,5 +1,5 @@
 -- What a rehearsal writes, or why it is refused.
-use Rattle.std.specs.Prelude.{Bool, Err, List, None, Ok, Some, false, true, ℕ, ◌<◌, ◌≡◌, ◌⊎◌}
+use Rattle.std.specs.Prelude.{Bool, Err, List, MatchResult, None, Ok, Result, Some, false, true, ℕ, ◌<◌, ◌≡◌, ◌⊎◌}
 use Rattle.sim_clock.specs.declared.refusal.Refusal.{Refusal}
 use Rattle.sqs_formats.specs.Output.{ending_of, log_of}
 use Rattle.sqs_formats.specs.Rows.{line, log_header}
@@ -42,12 +42,14 @@ pub record Rehearsed (q : Request) : Type 0 where
   pub one_place : EachHasOnePlace run.sites run.rows
   pub no_other : NoOtherHasPlace run.sites run.rows
 
--- a whole rehearsal: the one-list run takes no count past the limit; the writers got the log, and the finals and report
+-- a whole rehearsal: the one-list run takes no count past the limit; the writers got the log, and finals and report, and
+-- were flushed after that
 pub record IsWritten (q : Request) (log report : Writer) : Type 0 where
   pub of : Rehearsed q
   pub not_over : ¬ IsOver of.scenario
   pub whole_log : Got log (log_of of.scenario of.run)
   pub whole_report : Got report (ending_of of.scenario of.run)
+  pub flushed : (log.after.flushed ≡ true) × (report.after.flushed ≡ true)
 
 -- a rehearsal that stopped in the log: its writer got a prefix of it, and whether it failed; the other got nothing
 pub record StoppedInLog (q : Request) (log report : Writer) (failed : Bool) : Type 0 where
@@ -95,7 +97,8 @@ fault_of_reading (errors.Fault f) = faults.Scenario f
 -- why a request is refused before anything is written
 abbrev pub IsBarred : Request → Refusal → Type 0
 IsBarred q refusals.BadMap = (s : Stated q) × (split_fault s.scenario q.options ≡ Some refusals.BadMap)
-IsBarred q (refusals.WindowTooLong w least) = (s : Stated q) × (split_fault s.scenario q.options ≡ Some (refusals.WindowTooLong w least))
+IsBarred q (refusals.WindowTooLong w least) =
+    (s : Stated q) × (split_fault s.scenario q.options ≡ Some (refusals.WindowTooLong w least))
 IsBarred q refusals.BadWorkers = (s : Stated q) × (split_fault s.scenario q.options ≡ Some refusals.BadWorkers)
 IsBarred q refusals.Memory = Unit {0}
 IsBarred q r = ⊥
@@ -112,3 +115,7 @@ IsRefused q log report (faults.Refused refusals.Memory) = IsUnwritten log report
 IsRefused q log report (faults.Refused refusals.CountLimit) = StoppedByLimit q log report
 IsRefused q log report (faults.Refused refusals.NoWorker) = StoppedAtStart q log report
 IsRefused q log report f = Bars q f × IsUnwritten log report
+
+-- what came of a request: a whole rehearsal, or why it is refused, and what was written by then
+abbrev pub Rehearses : Request → Result (Unit {0}) Fault → Writer → Writer → Type 0
+Rehearses q result log report = MatchResult result (λ _. IsWritten q log report) (IsRefused q log report)

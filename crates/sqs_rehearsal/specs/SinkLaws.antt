@@ -1,5 +1,5 @@
 -- What a sink took in turn it took together.
-use Rattle.std.proofs.Common.{◌≡◌, ◌++◌, ◌∙◌, [], ℕ, Bool, Err, List, Option, ap, append-nil, append_assoc, refl, subst, sym}
+use Rattle.std.proofs.Common.{◌≡◌, ◌++◌, ◌∙◌, [], ℕ, Err, List, ap, append-nil, append_assoc, refl, subst, sym}
 use Rattle.std.proofs.lemmas.Grind.{flat_map-append}
 use Rattle.std.proofs.lemmas.List.{map-append}
 use Rattle.std.specs.Io.KnownBytes.{Appends}
@@ -7,7 +7,7 @@ use Rattle.csv.proofs.WriteFacts.{appends-more, appends-none}
 use Rattle.sim_clock.specs.declared.refusal.Refusal.{Refusal}
 use Rattle.sqs_message.specs.declared.row.Row.{Row}
 use Rattle.sqs_formats.specs.Rows.{line}
-use Rattle.sim_records.specs.Writes.{WroteSeveral}
+use Rattle.sim_records.specs.Writes.{WriterState, WroteSeveral}
 use Rattle.sim_records.proofs.Writes.{several_after}
 use Rattle.sim_report.specs.declared.queue.QueueCounts.{QueueCounts}
 use Rattle.sim_report.specs.Running.{running}
@@ -42,24 +42,24 @@ same_both a b c first second =
 lines_both : {W P : Type 0} (a b : Recorder W P) (xs ys : List Row) → IsSame a b → lines_of a xs ++ lines_of b ys ≡ lines_of a (xs ++ ys)
 lines_both a b xs ys same = rw (same.names, map-append, flat_map-append line) refl
 
-module _ {W P : Type 0} (held : W → Option (List ℕ)) (failed : W → Bool) where
+module _ {W P : Type 0} (state : W → WriterState) where
   -- a recorder as it was took nothing
-  pub recorded_none : (recorder : Recorder W P) → Recorded held failed recorder [] recorder
+  pub recorded_none : (recorder : Recorder W P) → Recorded state recorder [] recorder
   recorded_none recorder =
       record {
         same = record { names = refl; writer = refl; report = refl };
-        written = appends-none (held recorder.out.now);
+        written = appends-none (state recorder.out.now).held;
         works = λ works. works;
         added = added_none recorder.report.now;
       }
 
   -- a recorder took some rows, and then others
-  pub recorded_both : (a b c : Recorder W P) (xs ys : List Row) → Recorded held failed a xs b → Recorded held failed b ys c → Recorded held failed a (xs ++ ys) c
+  pub recorded_both : (a b c : Recorder W P) (xs ys : List Row) → Recorded state a xs b → Recorded state b ys c → Recorded state a (xs ++ ys) c
   recorded_both a b c xs ys first second =
       record {
         same = same_both a b c first.same second.same;
         written =
-            subst (λ (t : List ℕ). Appends (held a.out.now) (held c.out.now) t) (lines_both a b xs ys first.same)
+            subst (λ (t : List ℕ). Appends (state a.out.now).held (state c.out.now).held t) (lines_both a b xs ys first.same)
             (appends-more _ _ _ _ _ first.written second.written);
         works = λ works. second.works (first.works works);
         added = added_both a.report.now b.report.now c.report.now xs ys first.added second.added;
@@ -67,11 +67,11 @@ module _ {W P : Type 0} (held : W → Option (List ℕ)) (failed : W → Bool) w
 
   -- a recorder took some rows, and then stopped at others
   pub stopped_later : (a b c : Recorder W P) (xs ys : List Row) (refusal : Refusal)
-      → Recorded held failed a xs b → StoppedAt held failed b ys refusal c → StoppedAt held failed a (xs ++ ys) refusal c
+      → Recorded state a xs b → StoppedAt state b ys refusal c → StoppedAt state a (xs ++ ys) refusal c
   stopped_later a b c xs ys refusal first second =
       record {
         same = same_both a b c first.same second.same;
         written =
-            subst (λ (t : List ℕ). WroteSeveral (held a.out.now) (held c.out.now) (failed c.out.now) t (Err refusal)) (lines_both a b xs ys first.same)
-            (several_after _ _ _ _ _ _ (Err refusal) first.written second.written);
+            subst (λ (t : List ℕ). WroteSeveral (state a.out.now) (state c.out.now) t (Err refusal)) (lines_both a b xs ys first.same)
+            (several_after (state a.out.now) (state b.out.now) (state c.out.now) _ _ (Err refusal) first.written second.written);
       }

@@ -1,10 +1,10 @@
 -- What a sink took.
-use Rattle.std.specs.Prelude.{◌≡◌, ◌++◌, ℕ, List, Option, Bool, Err, false, map}
+use Rattle.std.specs.Prelude.{◌≡◌, ◌++◌, ℕ, List, Err, false, map}
 use Rattle.std.specs.Io.KnownBytes.{Appends}
 use Rattle.sim_clock.specs.declared.refusal.Refusal.{Refusal}
 use Rattle.sqs_message.specs.declared.row.Row.{Row}
 use Rattle.sqs_formats.specs.Rows.{lines, row_fields}
-use Rattle.sim_records.specs.Writes.{WroteSeveral}
+use Rattle.sim_records.specs.Writes.{WriterState, WroteSeveral}
 use Rattle.sim_report.specs.declared.queue.QueueCounts.{QueueCounts}
 use Rattle.sim_report.specs.Running.{running}
 use Rattle.sqs_rehearsal.specs.declared.counter.Counter.{Counter}
@@ -30,15 +30,15 @@ pub record IsSame {W P : Type 0} (before after : Recorder W P) : Type 0 where
   pub writer : after.out.ghost_name ≡ before.out.ghost_name
   pub report : after.report.ghost_name ≡ before.report.ghost_name
 
-module _ {W P : Type 0} (held : W → Option (List ℕ)) (failed : W → Bool) where
+module _ {W P : Type 0} (state : W → WriterState) where
   -- the writer got the lines of these rows and no more, and has not failed by that; they were added to the report
   pub record Recorded (before : Recorder W P) (rows : List Row) (after : Recorder W P) : Type 0 where
     pub same : IsSame before after
-    pub written : Appends (held before.out.now) (held after.out.now) (lines_of before rows)
-    pub works : failed before.out.now ≡ false → failed after.out.now ≡ false
+    pub written : Appends (state before.out.now).held (state after.out.now).held (lines_of before rows)
+    pub works : (state before.out.now).failed ≡ false → (state after.out.now).failed ≡ false
     pub added : Added before.report.now rows after.report.now
 
   -- the writer got a prefix of the lines of these rows, and whether it failed
   pub record StoppedAt (before : Recorder W P) (rows : List Row) (refusal : Refusal) (after : Recorder W P) : Type 0 where
     pub same : IsSame before after
-    pub written : WroteSeveral (held before.out.now) (held after.out.now) (failed after.out.now) (lines_of before rows) (Err refusal)
+    pub written : WroteSeveral (state before.out.now) (state after.out.now) (lines_of before rows) (Err refusal)

@@ -1,29 +1,28 @@
 -- What writers got.
-use Rattle.std.specs.Prelude.{Bool, List, Option, false, ℕ, ◌≡◌}
+use Rattle.std.specs.Prelude.{Bool, List, false, ℕ, ◌≡◌}
 use Rattle.std.specs.Io.KnownBytes.{Appends}
-use Rattle.sim_records.specs.Writes.{AppendsPrefix}
+use Rattle.sim_records.specs.Writes.{AppendsPrefix, WriterState}
 
--- what a writer holds before and after, and whether it has failed
+-- a writer before and after
 pub record Writer : Type 0 where
-  pub before : Option (List ℕ)
-  pub after : Option (List ℕ)
-  pub failed : Bool
+  pub before : WriterState
+  pub after : WriterState
 
 -- the same, by what a writer's kind shows of it before and after
-abbrev pub seen : {W : Type 0} → (W → Option (List ℕ)) → (W → Bool) → W → W → Writer
-seen held failed before after = record { before = held before; after = held after; failed = failed after }
+abbrev pub seen : {W : Type 0} → (W → WriterState) → W → W → Writer
+seen state before after = record { before = state before; after = state after }
 
 -- a writer that got just this text
 pub record Got (w : Writer) (text : List ℕ) : Type 0 where
-  pub bytes : Appends w.before w.after text
-  pub whole : w.failed ≡ false
+  pub bytes : Appends w.before.held w.after.held text
+  pub whole : w.after.failed ≡ false
 
 -- a writer that got a prefix of this text, and whether it failed
 pub record GotPrefix (w : Writer) (text : List ℕ) (failed : Bool) : Type 0 where
-  pub bytes : AppendsPrefix w.before w.after text
-  pub fails : w.failed ≡ failed
+  pub bytes : AppendsPrefix w.before.held w.after.held text
+  pub fails : w.after.failed ≡ failed
 
 -- a writer that got nothing
 pub record GotNothing (w : Writer) : Type 0 where
-  pub nothing : w.after ≡ w.before
-  pub whole : w.failed ≡ false
+  pub nothing : w.after.held ≡ w.before.held
+  pub whole : w.after.failed ≡ false

@@ -56,8 +56,8 @@ fn write_queue<W: Out>(
     names: &Names,
     left: &mut MessagesLeft,
 ) -> Result<(), Refusal>
-    requires { W.failed out.old ≡ false }
-    ensures written { WroteSeveral (W.held out.old) (W.held out.new) (W.failed out.new)
+    requires { (W.state out.old).failed ≡ false }
+    ensures written { WroteSeveral (W.state out.old) (W.state out.new)
         (lines (map (message_fields names.now) (map (final_message queue.now) queue.now.records)))
         result }
     ensures counted { (queues : List QueueCounts) (before : List TheMessage)
@@ -84,8 +84,8 @@ fn write_queues<W: Out>(
     names: &Names,
     left: &mut MessagesLeft,
 ) -> Result<(), Refusal>
-    requires { W.failed out.old ≡ false }
-    ensures written { WroteSeveral (W.held out.old) (W.held out.new) (W.failed out.new)
+    requires { (W.state out.old).failed ≡ false }
+    ensures written { WroteSeveral (W.state out.old) (W.state out.new)
         (lines (map (message_fields names.now) (flat_map messages_at sites.now))) result }
     ensures counted { (queues : List QueueCounts) → left.old ≡ lefts queues []
         → OnOk result (left.new ≡ lefts queues (flat_map messages_at sites.now)) }
@@ -104,8 +104,8 @@ fn write_message_part<W: Out>(
     names: &Names,
     left: &mut MessagesLeft,
 ) -> Result<(), Refusal>
-    requires { W.failed out.old ≡ false }
-    ensures written { WroteSeveral (W.held out.old) (W.held out.new) (W.failed out.new)
+    requires { (W.state out.old).failed ≡ false }
+    ensures written { WroteSeveral (W.state out.old) (W.state out.new)
         (lines (message_header ∷ map (message_fields names.now) (finals_of sites.now).messages))
         result }
     ensures counted { (queues : List QueueCounts) → left.old ≡ lefts queues []
@@ -123,8 +123,8 @@ fn write_other_parts<W: Out>(
     sites: &[Site],
     names: &Names,
 ) -> Result<(), Refusal>
-    requires { W.failed out.old ≡ false }
-    ensures { WroteSeveral (W.held out.old) (W.held out.new) (W.failed out.new)
+    requires { (W.state out.old).failed ≡ false }
+    ensures { WroteSeveral (W.state out.old) (W.state out.new)
         (lines ((transfer_header ∷ map (transfer_fields names.now) (finals_of sites.now).transfers)
         ++ (task_header ∷ map (task_fields names.now) (finals_of sites.now).tasks))) result }
 {
@@ -141,8 +141,8 @@ fn write_state<W: Out>(
     names: &Names,
     left: &mut MessagesLeft,
 ) -> Result<(), Refusal>
-    requires { W.failed out.old ≡ false }
-    ensures written { WroteSeveral (W.held out.old) (W.held out.new) (W.failed out.new)
+    requires { (W.state out.old).failed ≡ false }
+    ensures written { WroteSeveral (W.state out.old) (W.state out.new)
         (finals_text names.now (finals_of sites.now)) result }
     ensures counted { (queues : List QueueCounts) → left.old ≡ lefts queues []
         → OnOk result (left.new ≡ lefts queues (finals_of sites.now).messages) }
@@ -159,11 +159,11 @@ fn write_left<W: Out>(
     names: &Names,
     report: &Report,
 ) -> Result<(), Refusal>
-    requires { W.failed out.old ≡ false }
-    ensures works { OnOk result (W.failed out.new ≡ false) }
+    requires { (W.state out.old).failed ≡ false }
+    ensures works { OnOk result ((W.state out.new).failed ≡ false) }
     ensures written { (s : TheScenario) (r : Run) → names.now ≡ s.names
         → report.now ≡ running (queue_names s) r.rows → sites.now ≡ r.sites
-        → WroteSeveral (W.held out.old) (W.held out.new) (W.failed out.new) (ending_of s r)
+        → WroteSeveral (W.state out.old) (W.state out.new) (ending_of s r)
         result }
 {
     let mut left = report.none_left(alloc)?;
@@ -184,12 +184,12 @@ pub fn write_ending<W: Out>(
     names: &Names,
     report: &Report,
 ) -> Result<(), Refusal>
-    requires { W.failed out.old ≡ false }
+    requires { (W.state out.old).failed ≡ false }
     ensures written { (s : TheScenario) (r : Run) → names.now ≡ s.names
         → report.now ≡ running (queue_names s) r.rows → sites.now ≡ r.sites
-        → WroteSeveral (W.held out.old) (W.held out.new) (W.failed out.new) (ending_of s r)
+        → WroteSeveral (W.state out.old) (W.state out.new) (ending_of s r)
         result }
-    ensures flushed { OnOk result (W.flushed out.new ≡ true) }
+    ensures flushed { OnOk result ((W.state out.new).flushed ≡ true) }
 {
     write_left(alloc, out, sites, names, report)?;
     flush(out)

@@ -8,7 +8,6 @@ mod ending;
 mod fault_lines;
 mod finals;
 mod limited;
-mod logging;
 mod opening;
 mod options;
 mod outcome;
@@ -17,6 +16,7 @@ mod printing;
 mod recorder;
 mod rehearsal;
 mod running;
+mod steps;
 mod watch;
 
 pub use alone::rehearse_alone;

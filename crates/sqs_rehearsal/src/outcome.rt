@@ -50,9 +50,9 @@ pub fn fresh_report(alloc: Global, scenario: &Scenario) -> Result<Report, AllocE
 
 /// Makes a writer pass on what it has taken.
 pub fn flush<W: Out>(out: &mut W) -> Result<(), Refusal>
-    requires { W.failed out.old ≡ false }
-    ensures written { WroteSeveral (W.held out.old) (W.held out.new) (W.failed out.new) [] result }
-    ensures flushed { OnOk result (W.flushed out.new ≡ true) }
+    requires { (W.state out.old).failed ≡ false }
+    ensures written { WroteSeveral (W.state out.old) (W.state out.new) [] result }
+    ensures flushed { OnOk result ((W.state out.new).flushed ≡ true) }
 {
     out.flush()?;
     Ok(())
@@ -105,12 +105,12 @@ pub fn compare<W: Out>(
     first: &Outcome,
     second: &Outcome,
 ) -> Result<(), Refusal>
-    requires { W.failed out.old ≡ false }
+    requires { (W.state out.old).failed ≡ false }
     ensures written { (s t : TheScenario) (r u : Run) → IsLeftBy s r first.now
         → IsLeftBy t u second.now
-        → WroteSeveral (W.held out.old) (W.held out.new) (W.failed out.new)
+        → WroteSeveral (W.state out.old) (W.state out.new)
         (comparison (report_of s r) (report_of t u)) result }
-    ensures flushed { OnOk result (W.flushed out.new ≡ true) }
+    ensures flushed { OnOk result ((W.state out.new).flushed ≡ true) }
 {
     sim_report::compare(
         alloc,

@@ -1,8 +1,9 @@
 //! Runs whose rows are printed by the workers that made them.
 ghost use Rattle.std.specs.Arc.{arc_value};
-ghost use Rattle.std.specs.Prelude.{◌≡◌, ◌≤◌, All, Err, false, IfErr, IfOk, MatchResult, OnOk, map};
+ghost use Rattle.std.specs.Prelude.{◌≡◌, ◌<◌, ◌≤◌, All, false, IfErr, IfOk, OnOk, map};
 ghost use Rattle.sim_engine.specs.Mapping.{mapped_conditions, mapped_setting, with_mapper};
 ghost use Rattle.sim_engine.specs.Simulated.{IsSimulated};
+ghost use Rattle.sim_records.specs.Writes.{WriterState};
 ghost use Rattle.sim_windows.specs.Sinks.{HasTaken};
 ghost use Rattle.sim_workers.specs.Runs.{StopsAnyhow};
 ghost use Rattle.sqs_model.specs.Answers.{most_count};
@@ -11,18 +12,20 @@ ghost use Rattle.sqs_model.specs.Limits.{IsOver};
 ghost use Rattle.sqs_model.specs.Run.{setting_of};
 ghost use Rattle.sqs_model.specs.Sqs.{sqs};
 ghost use Rattle.sqs_rehearsal.specs.Printed.{printed_sqs};
+ghost use Rattle.sqs_rehearsal.specs.Rehearsals.{Request};
 ghost use Rattle.sqs_rehearsal.specs.Sinks.{Recorded, StoppedAt};
+ghost use Rattle.sqs_rehearsal.specs.Steps.{IsBegun, Logs, since};
 
 use crate::limited::counted;
 use crate::opening::open_world;
-use crate::outcome::copies;
+use crate::options::Split;
 use crate::printed::{PrintedSite, RowPrinter};
 use crate::recorder::Recorder;
 use crate::running::Running;
+use crate::steps::{Begun, Ended, recording};
 use crate::watch::Watch;
 use sim_clock::Refusal;
 use sim_engine::Mapped;
-use sim_exchange::PartMap;
 use sim_records::{Names, Out};
 use sim_scenario::Scenario;
 use sim_site::Site;
@@ -60,40 +63,24 @@ fn without_printers(alloc: Global, sites: Vec<PrintedSite>) -> Result<Vec<Site>,
     Ok(plain)
 }
 
-// What came of a run, without the printers. It fails with `Memory` if memory runs out.
-fn plain(alloc: Global, ran: Result<Vec<PrintedSite>, Refusal>) -> Result<Vec<Site>, Refusal>
-    ensures { MatchResult ran
-        (λ made. MatchResult result (λ sites. sites.items ≡ map (λ s. s.site) made.items)
-        (λ refusal. refusal ≡ Refusal.Memory))
-        (λ refusal. result ≡ Err refusal) }
-{
-    match ran {
-        Ok(made) => Ok(without_printers(alloc, made)?),
-        Err(refusal) => Err(refusal),
-    }
-}
-
-// A copy of names, which several printers share. It fails if memory runs out.
-fn shared(alloc: Global, names: &Names) -> Result<Arc<Names, Global>, AllocError>
-    ensures { IfOk result (λ copy. arc_value copy ≡ names.now) }
-{
-    let copy = Names::new(copies(alloc, names.as_slice())?);
-    Ok(Arc::new(alloc, copy)?)
-}
-
-// The same world with printers that have these names. It fails if memory runs out.
-fn print_world(
+// The world with which a scenario opens, with printers that have these names. It fails if memory
+// runs out.
+fn open_printed(
     alloc: Global,
-    world: World<Site>,
+    scenario: Scenario,
     names: &Arc<Names, Global>,
 ) -> Result<World<PrintedSite>, AllocError>
-    ensures { IfOk result (λ made. made ≡ mapped_setting (arc_value names.now) world) }
+    ensures setting { IfOk result
+        (λ world. world ≡ mapped_setting (arc_value names.now) (setting_of scenario)) }
+    ensures simulated { IfOk result
+        (λ world. IsSimulated printed_sqs (mapped_conditions sqs_conditions) world) }
+    ensures horizon { IfOk result (λ world. world.horizon ≤ most_count) }
+    ensures ways { IfOk result
+        (λ world. All (λ e. (1 ≤ e.least) × (e.least ≤ 900000)) world.edges) }
 {
-    let World {
-        horizon,
-        sites,
-        edges,
-    } = world;
+    let horizon = scenario.horizon();
+    let world = open_world(alloc, scenario)?;
+    let World { sites, edges, .. } = world;
     let sites = with_printers(alloc, sites, names)?;
     Ok(World {
         horizon,
@@ -102,51 +89,72 @@ fn print_world(
     })
 }
 
-// The world with which a scenario opens, with printers that have these names. It fails if memory
-// runs out.
-fn open_printed(
-    alloc: Global,
-    scenario: Scenario,
-    names: &Names,
-) -> Result<World<PrintedSite>, AllocError>
-    ensures setting { IfOk result
-        (λ world. world ≡ mapped_setting names.now (setting_of scenario)) }
-    ensures simulated { IfOk result
-        (λ world. IsSimulated printed_sqs (mapped_conditions sqs_conditions) world) }
-    ensures horizon { IfOk result (λ world. world.horizon ≤ most_count) }
-    ensures ways { IfOk result
-        (λ world. All (λ e. (1 ≤ e.least) × (e.least ≤ 900000)) world.edges) }
-{
-    let names = shared(alloc, names)?;
-    let world = open_world(alloc, scenario)?;
-    print_world(alloc, world, &names)
-}
-
-/// Runs a scenario to its horizon with several workers, which print the rows that they make.
-/// `layout` gives the partition of each queue. It does what `run_workers` does with a recorder.
-///
-/// # Errors
-///
-/// Those of `run_workers` that come after it has looked at its window and its workers.
-pub fn run_printed<G: Gate<Running> + Sync, L: Out, P: Watch, W: Threads + Wait + Sync>(
+// Runs a scenario to its horizon with several workers, which print the rows that they make. It does
+// what `run_workers` does with a recorder, but for looking at the window and the workers.
+fn run_printed<G: Gate<Running> + Sync, L: Out, P: Watch, W: Threads + Wait + Sync>(
     rt: &W,
-    alloc: Global,
     scenario: Scenario,
-    layout: PartMap,
-    workers: usize,
+    split: Split,
+    names: &Arc<Names, Global>,
     gate: &G,
     sink: &mut Recorder<'_, L, P>,
 ) -> Result<Vec<Site>, Refusal>
-    requires ready { L.failed sink.old.out.now ≡ false }
+    requires ready { (L.state sink.old.out.now).failed ≡ false }
+    requires names { arc_value names.now ≡ sink.old.names.now }
     ensures whole { IfOk result (λ sites.
-        HasTaken sqs (Recorded L.held L.failed) (setting_of scenario) sink.old sink.new sites.items) }
+        HasTaken sqs (Recorded L.state) (setting_of scenario) sink.old sink.new sites.items) }
     ensures counted { OnOk result (¬ IsOver scenario) }
     ensures stops { IfErr result (λ refusal.
-        StopsAnyhow sqs (λ recorder. L.failed recorder.out.now ≡ false)
-        (Recorded L.held L.failed) (StoppedAt L.held L.failed)
-        (setting_of scenario) sink.old refusal sink.new) }
+        StopsAnyhow sqs (λ recorder. (L.state recorder.out.now).failed ≡ false)
+        (Recorded L.state) (StoppedAt L.state) (setting_of scenario) sink.old refusal sink.new) }
 {
-    let world = open_printed(alloc, scenario, sink.names)?;
-    let ran = sim_workers::run_workers(rt, alloc, world, layout, workers, gate, sink);
-    counted(plain(alloc, ran))
+    let alloc = sink.alloc;
+    let Split {
+        layout,
+        workers,
+        ..
+    } = split;
+    let world = open_printed(alloc, scenario, names)?;
+    let made = sim_workers::run_workers(rt, alloc, world, layout, workers, gate, sink)?;
+    let sites = without_printers(alloc, made)?;
+    counted(Ok(sites))
+}
+
+/// Runs a scenario whose rehearsal has begun, with several workers. Its rows are written to the log
+/// and counted, and a watch is informed of the progress.
+///
+/// # Errors
+///
+/// `Memory` if a growth is refused. `CountLimit` only if the one-list run takes a count past 2^62 -
+/// 1. `Write` if the writer fails. After these a prefix of the log is written. `NoWorker` if the
+/// start of a thread is refused: the header is written.
+pub fn run_several<G: Gate<Running> + Sync, L: Out, P: Watch, W: Threads + Wait + Sync>(
+    rt: &W,
+    scenario: Scenario,
+    begun: Begun,
+    gate: &G,
+    log: &mut L,
+    watch: &mut P,
+) -> Result<Ended, Refusal>
+    requires { (L.state log.old).failed ≡ false }
+    ensures works { OnOk result ((L.state log.new).failed ≡ false) }
+    ensures logs { (q : Request) (start : WriterState) → 1 < q.options.workers
+        → IsBegun q scenario (since start (L.state log.old)) begun
+        → Logs q (since start (L.state log.new)) result }
+{
+    let Begun {
+        alloc,
+        horizon,
+        split,
+        names,
+        mut counts,
+    } = begun;
+    let mut recorder = recording(alloc, &names, log, &mut counts, watch, horizon);
+    let sites = run_printed(rt, scenario, split, &names, gate, &mut recorder)?;
+    Ok(Ended {
+        alloc,
+        names,
+        counts,
+        sites,
+    })
 }

@@ -42,11 +42,11 @@ impl<W: Out, P: Watch> RowSink<Row> for Recorder<'_, W, P> {
     ghost use Rattle.sqs_rehearsal.specs.SinkLaws.{recorded_both, recorded_none, stopped_later};
     ghost use Rattle.sqs_rehearsal.specs.Sinks.{Recorded, StoppedAt};
 
-    ghost ready = { λ recorder. W.failed recorder.out.now ≡ false };
+    ghost ready = { λ recorder. (W.state recorder.out.now).failed ≡ false };
 
-    ghost took = { λ before rows after. Recorded W.held W.failed before rows after };
+    ghost took = { λ before rows after. Recorded W.state before rows after };
 
-    ghost broke = { λ before rows refusal after. StoppedAt W.held W.failed before rows refusal after };
+    ghost broke = { λ before rows refusal after. StoppedAt W.state before rows refusal after };
 
     #[tactic(auto, using(crate::proofs::Prefixes::all_are_prefix))]
     fn take(&mut self, rows: &[Row]) -> Result<(), Refusal> {
@@ -58,11 +58,11 @@ impl<W: Out, P: Watch> RowSink<Row> for Recorder<'_, W, P> {
         Ok(())
     }
 
-    ghost unchanged = { λ recorder. recorded_none W.held W.failed recorder };
+    ghost unchanged = { λ recorder. recorded_none W.state recorder };
 
-    ghost took_both = { λ a b c xs ys first second. recorded_both W.held W.failed a b c xs ys first second };
+    ghost took_both = { λ a b c xs ys first second. recorded_both W.state a b c xs ys first second };
 
-    ghost broke_later = { λ a b c xs ys refusal first second. stopped_later W.held W.failed a b c xs ys refusal first second };
+    ghost broke_later = { λ a b c xs ys refusal first second. stopped_later W.state a b c xs ys refusal first second };
 }
 
 // The length that most lines do not exceed, in bytes.
@@ -81,8 +81,8 @@ fn lines_of(alloc: Global, rows: &[PrintedRow]) -> Result<Vec<u8>, AllocError>
 
 // Writes the lines of printed rows.
 fn write_printed<W: Out>(alloc: Global, out: &mut W, rows: &[PrintedRow]) -> Result<(), Refusal>
-    requires { W.failed out.old ≡ false }
-    ensures { Wrote (W.held out.old) (W.held out.new) (W.failed out.new)
+    requires { (W.state out.old).failed ≡ false }
+    ensures { Wrote (W.state out.old) (W.state out.new)
         (flat_map (λ p. p.line) rows.now) result }
 {
     let text = lines_of(alloc, rows)?;
@@ -103,12 +103,12 @@ fn count_printed(report: &mut Report, rows: &[PrintedRow]) -> Result<(), AllocEr
 impl<W: Out, P: Watch> Recorder<'_, W, P> {
     // Writes the lines of printed rows, and adds what they count.
     fn take_printed(&mut self, rows: &[PrintedRow]) -> Result<(), Refusal>
-        requires ready { W.failed self.old.out.now ≡ false }
-        ensures ready { OnOk result (W.failed self.new.out.now ≡ false) }
+        requires ready { (W.state self.old.out.now).failed ≡ false }
+        ensures ready { OnOk result ((W.state self.new.out.now).failed ≡ false) }
         ensures took { (made : List TheRow) → rows.now ≡ map (printed self.old.names.now) made
-            → OnOk result (Recorded W.held W.failed self.old made self.new) }
+            → OnOk result (Recorded W.state self.old made self.new) }
         ensures broke { (made : List TheRow) → rows.now ≡ map (printed self.old.names.now) made
-            → IfErr result (λ refusal. StoppedAt W.held W.failed self.old made refusal self.new) }
+            → IfErr result (λ refusal. StoppedAt W.state self.old made refusal self.new) }
     {
         write_printed(self.alloc, self.out, rows)?;
         count_printed(self.report, rows)?;
@@ -131,11 +131,11 @@ impl<W: Out, P: Watch> RowSink<PrintedRow> for Recorder<'_, W, P> {
     ghost use Rattle.sqs_rehearsal.specs.Printed.{BrokePrinted, TookPrinted};
     ghost use Rattle.sqs_rehearsal.specs.PrintedLaws.{broke_printed_later, printed_both, printed_none};
 
-    ghost ready = { λ recorder. W.failed recorder.out.now ≡ false };
+    ghost ready = { λ recorder. (W.state recorder.out.now).failed ≡ false };
 
-    ghost took = { λ before made after. TookPrinted W.held W.failed before made after };
+    ghost took = { λ before made after. TookPrinted W.state before made after };
 
-    ghost broke = { λ before made refusal after. BrokePrinted W.held W.failed before made refusal after };
+    ghost broke = { λ before made refusal after. BrokePrinted W.state before made refusal after };
 
     fn take(&mut self, rows: &[PrintedRow]) -> Result<(), Refusal> {
         if !are_printed_within(rows) {
@@ -144,9 +144,9 @@ impl<W: Out, P: Watch> RowSink<PrintedRow> for Recorder<'_, W, P> {
         self.take_printed(rows)
     }
 
-    ghost unchanged = { λ recorder. printed_none W.held W.failed recorder };
+    ghost unchanged = { λ recorder. printed_none W.state recorder };
 
-    ghost took_both = { λ a b c xs ys first second. printed_both W.held W.failed a b c xs ys first second };
+    ghost took_both = { λ a b c xs ys first second. printed_both W.state a b c xs ys first second };
 
-    ghost broke_later = { λ a b c xs ys refusal first second. broke_printed_later W.held W.failed a b c xs ys refusal first second };
+    ghost broke_later = { λ a b c xs ys refusal first second. broke_printed_later W.state a b c xs ys refusal first second };
 }

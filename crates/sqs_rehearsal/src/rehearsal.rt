@@ -1,20 +1,18 @@
 //! A rehearsal, from bytes to bytes.
-ghost use Rattle.std.specs.Prelude.{◌≡◌, false, true, IfErr, List, Ok, OnOk, ℕ};
-ghost use Rattle.sqs_formats.specs.Scenario.{scenario_upto};
+ghost use Rattle.std.specs.Prelude.{◌≡◌, false, List, ℕ};
 ghost use Rattle.sim_scenario.specs.Drafts.{IsDraftUpto};
-ghost use Rattle.sqs_rehearsal.specs.Rehearsals.{IsRefused, IsWritten, Request, request, request_upto};
-ghost use Rattle.sqs_rehearsal.specs.declared.rehearsal.Fault.TheVariants.{Refused};
+ghost use Rattle.sqs_rehearsal.specs.Rehearsals.{Rehearses, request, request_upto};
 ghost use Rattle.sqs_rehearsal.specs.Writers.{seen};
 
-use crate::ending::write_ending;
-use crate::logging::run_logged;
+use crate::alone::rehearse_here;
 use crate::options::Options;
-use crate::outcome::{copies, fresh_report};
+use crate::printing::run_several;
 use crate::running::Running;
+use crate::steps::begin;
 use crate::watch::{Unwatched, Watch};
 use sim_clock::Refusal;
-use sim_records::{Names, Out};
-use sim_scenario::{Draft, RELEASED, ReadError, Scenario, Scripts};
+use sim_records::Out;
+use sim_scenario::{Draft, RELEASED, ReadError, Scripts};
 use sim_workers::Gate;
 use sqs_formats::ScenarioFault;
 use std::alloc::Global;
@@ -56,47 +54,6 @@ impl From<Refusal> for Fault {
     }
 }
 
-// Rehearses a scenario that was read.
-fn rehearse_scenario<G: Gate<Running> + Sync, L: Out, R: Out, P: Watch, W: Threads + Wait + Sync>(
-    rt: &W,
-    alloc: Global,
-    scenario: Scenario,
-    options: &Options,
-    gate: &G,
-    log: &mut L,
-    report: &mut R,
-    watch: &mut P,
-) -> Result<(), Refusal>
-    requires log { L.failed log.old ≡ false }
-    requires report { R.failed report.old ≡ false }
-    ensures written { (q : Request) → scenario_upto q.newest q.scripts q.text ≡ Ok scenario
-        → q.options ≡ options.now
-        → OnOk result (IsWritten q (seen L.held L.failed log.old log.new)
-        (seen R.held R.failed report.old report.new)) }
-    ensures flushed { OnOk result ((L.flushed log.new ≡ true) × (R.flushed report.new ≡ true)) }
-    ensures refused { (q : Request) → scenario_upto q.newest q.scripts q.text ≡ Ok scenario
-        → q.options ≡ options.now
-        → IfErr result (λ refusal.
-        IsRefused q (seen L.held L.failed log.old log.new)
-        (seen R.held R.failed report.old report.new) (Refused refusal)) }
-{
-    let split = options.split(alloc, &scenario)?;
-    let names = Names::new(copies(alloc, scenario.names())?);
-    let mut counts = fresh_report(alloc, &scenario)?;
-    let sites = run_logged(
-        rt,
-        alloc,
-        scenario,
-        split,
-        gate,
-        &names,
-        log,
-        &mut counts,
-        watch,
-    )?;
-    write_ending(alloc, report, sites.as_slice(), &names, &counts)
-}
-
 /// Rehearses a scenario as `rehearse` does, from the draft of its text. Whenever rows are written,
 /// it informs a watch of the progress of the run.
 ///
@@ -120,19 +77,19 @@ pub fn rehearse_watched<
     report: &mut R,
     watch: &mut P,
 ) -> Result<(), Fault>
-    requires log { L.failed log.old ≡ false }
-    requires report { R.failed report.old ≡ false }
-    ensures written { (newest : ℕ) (text : List ℕ) → IsDraftUpto newest text draft
-        → OnOk result (IsWritten (request_upto newest text scripts.now options.now)
-        (seen L.held L.failed log.old log.new) (seen R.held R.failed report.old report.new)) }
-    ensures flushed { OnOk result ((L.flushed log.new ≡ true) × (R.flushed report.new ≡ true)) }
-    ensures refused { (newest : ℕ) (text : List ℕ) → IsDraftUpto newest text draft
-        → IfErr result (IsRefused (request_upto newest text scripts.now options.now)
-        (seen L.held L.failed log.old log.new) (seen R.held R.failed report.old report.new)) }
+    requires log { (L.state log.old).failed ≡ false }
+    requires report { (R.state report.old).failed ≡ false }
+    ensures { (newest : ℕ) (text : List ℕ) → IsDraftUpto newest text draft
+        → Rehearses (request_upto newest text scripts.now options.now) result
+        (seen L.state log.old log.new) (seen R.state report.old report.new) }
 {
     let scenario = draft.read(alloc, scripts)?;
-    rehearse_scenario(rt, alloc, scenario, options, gate, log, report, watch)?;
-    Ok(())
+    if options.workers <= 1 {
+        return rehearse_here(alloc, scenario, options, log, report, watch);
+    }
+    let begun = begin(alloc, &scenario, options, log)?;
+    let ended = run_several(rt, scenario, begun, gate, log, watch)?;
+    ended.end(log, report)
 }
 
 /// Rehearses a scenario. It reads the scenario's text, with its scripts by their names, and runs it
@@ -161,13 +118,10 @@ pub fn rehearse<G: Gate<Running> + Sync, L: Out, R: Out, W: Threads + Wait + Syn
     log: &mut L,
     report: &mut R,
 ) -> Result<(), Fault>
-    requires log { L.failed log.old ≡ false }
-    requires report { R.failed report.old ≡ false }
-    ensures written { OnOk result (IsWritten (request text.now scripts.now options.now)
-        (seen L.held L.failed log.old log.new) (seen R.held R.failed report.old report.new)) }
-    ensures flushed { OnOk result ((L.flushed log.new ≡ true) × (R.flushed report.new ≡ true)) }
-    ensures refused { IfErr result (IsRefused (request text.now scripts.now options.now)
-        (seen L.held L.failed log.old log.new) (seen R.held R.failed report.old report.new)) }
+    requires log { (L.state log.old).failed ≡ false }
+    requires report { (R.state report.old).failed ≡ false }
+    ensures { Rehearses (request text.now scripts.now options.now) result
+        (seen L.state log.old log.new) (seen R.state report.old report.new) }
 {
     rehearse_upto(
         rt, alloc, RELEASED, text, scripts, options, gate, log, report,
@@ -190,15 +144,10 @@ pub fn rehearse_upto<G: Gate<Running> + Sync, L: Out, R: Out, W: Threads + Wait 
     log: &mut L,
     report: &mut R,
 ) -> Result<(), Fault>
-    requires log { L.failed log.old ≡ false }
-    requires report { R.failed report.old ≡ false }
-    ensures written { OnOk result
-        (IsWritten (request_upto newest text.now scripts.now options.now)
-        (seen L.held L.failed log.old log.new) (seen R.held R.failed report.old report.new)) }
-    ensures flushed { OnOk result ((L.flushed log.new ≡ true) × (R.flushed report.new ≡ true)) }
-    ensures refused { IfErr result
-        (IsRefused (request_upto newest text.now scripts.now options.now)
-        (seen L.held L.failed log.old log.new) (seen R.held R.failed report.old report.new)) }
+    requires log { (L.state log.old).failed ≡ false }
+    requires report { (R.state report.old).failed ≡ false }
+    ensures { Rehearses (request_upto newest text.now scripts.now options.now) result
+        (seen L.state log.old log.new) (seen R.state report.old report.new) }
 {
     let Ok(draft) = Draft::parse_upto(alloc, newest, text) else {
         return Err(Fault::Refused(Refusal::Memory));

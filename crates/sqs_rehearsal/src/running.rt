@@ -13,7 +13,7 @@ ghost use Rattle.sqs_rehearsal.specs.Options.{is_within};
 
 use crate::limited::{Limited, counted};
 use crate::opening::open_world;
-use crate::options::check_workers;
+use crate::options::{Split, check_workers};
 use crate::printed::PrintedSite;
 use sim_clock::Refusal;
 use sim_exchange::PartMap;
@@ -38,6 +38,33 @@ pub type Done = sim_workers::Done<PrintedSite>;
 pub type Running = sim_workers::Running<PrintedSite>;
 
 /// Runs a scenario to its horizon on this thread. Each step handles the earliest event of all
+/// queues. The rows go to a sink once at least `enough` of them wait, and at the end. Returns the
+/// sites of the last world, by number.
+///
+/// # Errors
+///
+/// Those of `run_alone`.
+pub fn run_gathered<K: RowSink<Row>>(
+    alloc: Global,
+    scenario: Scenario,
+    enough: usize,
+    sink: &mut K,
+) -> Result<Vec<Site>, Refusal>
+    requires ready { K.ready sink.old }
+    ensures ready { OnOk result (K.ready sink.new) }
+    ensures whole { IfOk result
+        (λ sites. HasTaken sqs K.took (setting_of scenario) sink.old sink.new sites.items) }
+    ensures has_queues { IfOk result (λ _. HasItsQueues scenario) }
+    ensures counted { OnOk result (¬ IsOver scenario) }
+    ensures stops { IfErr result
+        (λ refusal. HasStopped sqs K.took K.broke (setting_of scenario) sink.old refusal sink.new) }
+{
+    let world = open_world(alloc, scenario)?;
+    let mut limited = Limited { sink };
+    counted(sim_windows::run_gathered(alloc, world, enough, &mut limited))
+}
+
+/// Runs a scenario to its horizon on this thread. Each step handles the earliest event of all
 /// queues and hands its rows to a sink at once. Returns the sites of the last world, by number.
 ///
 /// # Errors
@@ -60,9 +87,7 @@ pub fn run_alone<K: RowSink<Row>>(
     ensures stops { IfErr result
         (λ refusal. HasStopped sqs K.took K.broke (setting_of scenario) sink.old refusal sink.new) }
 {
-    let world = open_world(alloc, scenario)?;
-    let mut limited = Limited { sink };
-    counted(sim_windows::run_alone(alloc, world, &mut limited))
+    run_gathered(alloc, scenario, 1, sink)
 }
 
 // Checks that a window, in milliseconds, is no longer than the least latency of a scenario's
@@ -79,8 +104,7 @@ fn check_window(scenario: &Scenario, window: u64) -> Result<(), Refusal>
     Ok(())
 }
 
-/// Runs a scenario to its horizon with `workers` workers; `layout` gives the partition of each
-/// queue. One worker runs on the caller's thread, the others each on a thread of its own, started
+/// Runs a scenario to its horizon, split so. One worker runs on the caller's thread, the others each on a thread of its own, started
 /// once. A single worker runs all queues on one list, and its rows go to the sink 64 or more at a
 /// time.
 ///
@@ -106,9 +130,7 @@ pub fn run_workers<
     rt: &W,
     alloc: Global,
     scenario: Scenario,
-    layout: PartMap,
-    window: u64,
-    workers: usize,
+    split: Split,
     gate: &G,
     sink: &mut K,
 ) -> Result<Vec<Site>, Refusal>
@@ -117,20 +139,25 @@ pub fn run_workers<
     ensures whole { IfOk result
         (λ sites. HasTaken sqs K.took (setting_of scenario) sink.old sink.new sites.items) }
     ensures counted { OnOk result (¬ IsOver scenario) }
-    ensures window { the_least_latency scenario < window
-        → result ≡ Err (Refusal.WindowTooLong window (the_least_latency scenario)) }
-    ensures workers { window ≤ the_least_latency scenario → is_within 1 64 workers ≡ false
+    ensures window { the_least_latency scenario < split.window
+        → result ≡ Err (Refusal.WindowTooLong split.window (the_least_latency scenario)) }
+    ensures workers { split.window ≤ the_least_latency scenario → is_within 1 64 split.workers ≡ false
         → result ≡ Err Refusal.BadWorkers }
-    ensures stops { window ≤ the_least_latency scenario → is_within 1 64 workers ≡ true
+    ensures stops { split.window ≤ the_least_latency scenario → is_within 1 64 split.workers ≡ true
         → IfErr result (λ refusal.
         StopsAnyhow sqs K.ready K.took K.broke (setting_of scenario) sink.old refusal
         sink.new) }
-    ensures alone { window ≤ the_least_latency scenario → workers ≡ 1
+    ensures alone { split.window ≤ the_least_latency scenario → split.workers ≡ 1
         → IfErr result (λ refusal.
         HasStopped sqs K.took K.broke (setting_of scenario) sink.old refusal sink.new) }
-    ensures untaken { (the_least_latency scenario < window) ⊎ (is_within 1 64 workers ≡ false)
+    ensures untaken { (the_least_latency scenario < split.window) ⊎ (is_within 1 64 split.workers ≡ false)
         → sink.new ≡ sink.old }
 {
+    let Split {
+        layout,
+        window,
+        workers,
+    } = split;
     check_window(&scenario, window)?;
     check_workers(workers)?;
     let world = open_world(alloc, scenario)?;

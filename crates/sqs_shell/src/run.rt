@@ -23,7 +23,7 @@ fn write<'a, L: Out, W: Threads + Wait + Sync>(
     log: &mut L,
     mut progress: Progress<'_>,
 ) -> Result<(), Stop<'a>>
-    requires { L.failed log.old ≡ false }
+    requires { (L.state log.old).failed ≡ false }
 {
     let Inputs { draft, scripts } = inputs;
     let mut report = buffered(rt, rt.stdout())?;

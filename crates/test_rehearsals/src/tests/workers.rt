@@ -5,7 +5,7 @@ use crate::tests::worked::{EIGHT_QUEUES, THREE_QUEUES};
 use sim_clock::Refusal;
 use sim_windows::Limit;
 use sim_workers::{Open, Pause};
-use sqs_rehearsal::run_workers;
+use sqs_rehearsal::{Split, run_workers};
 use std::alloc::Global;
 use std::sync::Wait;
 use std::sync::atomic::{AtomicU64, Ordering};
@@ -119,10 +119,13 @@ fn limited<W: Threads + Wait + Sync>(
 ) -> Option<(Result<usize, Refusal>, u64)> {
     let scenario = scenario(alloc, THREE_QUEUES.text)?;
     let layout = in_turn(alloc, 3, 3).ok()?;
+    let split = Split {
+        layout,
+        window,
+        workers,
+    };
     let mut sink = Limit { left };
-    let ran = run_workers(
-        rt, alloc, scenario, layout, window, workers, &Open, &mut sink,
-    );
+    let ran = run_workers(rt, alloc, scenario, split, &Open, &mut sink);
     Some((ran.map(|sites| sites.len()), sink.left))
 }
 

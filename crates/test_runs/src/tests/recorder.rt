@@ -112,8 +112,8 @@ fn record<'a, W: Out, P: Watch>(
     first: &[Row],
     second: &[Row],
 ) -> Result<(), Refusal>
-    requires { W.failed out.old ≡ false }
-    ensures written { OnOk result (Appends (W.held out.old) (W.held out.new)
+    requires { (W.state out.old).failed ≡ false }
+    ensures written { OnOk result (Appends (W.state out.old).held (W.state out.new).held
         (lines (map (row_fields names.now) (first.now ++ second.now)))) }
     ensures added { OnOk result (Added report.old (first.now ++ second.now) report.new) }
 {

@@ -33,7 +33,7 @@ fn names(rt: &impl Abort, alloc: Global) -> Names {
 
 /// Writes the header and these rows.
 fn write_log<W: Out>(alloc: Global, out: &mut W, rows: &[Row], names: &Names) -> Result<(), Refusal>
-    requires { W.failed out.old ≡ false }
+    requires { (W.state out.old).failed ≡ false }
 {
     write_header(alloc, out)?;
     write_rows(alloc, out, rows, names)

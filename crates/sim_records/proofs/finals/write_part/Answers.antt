@@ -6,10 +6,10 @@ pub returns-in_err-write_record : goal.returns-in_err-write_record
 returns-in_err-write_record g c =
     let header = map (λ f. f.now) c.args.header.now in
     let rows = map (g.T.Record.columns c.args.names.now) c.args.records.now in
-    header_stopped _ _ _ header rows _ c.from_residual.result c.from_residual.ensures.1 c.in_err-write_record.ensures
+    header_stopped (g.W.Out.state c.args.out.now) (g.W.Out.state c.write_record.new.out) header rows _ c.from_residual.result c.from_residual.ensures.1 c.in_err-write_record.ensures
 
 pub returns : goal.returns
 returns g c =
     let header = map (λ f. f.now) c.args.header.now in
     let rows = map (g.T.Record.columns c.args.names.now) c.args.records.now in
-    header_and_more _ _ _ _ _ header rows _ c.write_records.result c.in_ok-write_record.ensures c.write_records.ensures
+    header_and_more (g.W.Out.state c.args.out.now) (g.W.Out.state c.write_record.new.out) (g.W.Out.state c.write_records.new.out) header rows _ c.write_records.result c.in_ok-write_record.ensures c.write_records.ensures

@@ -5,8 +5,8 @@ use Rattle.sim_records.proofs.record.write_records.Given as goal
 
 abbrev pub invariant-loop-rest : goal.invariant-loop-rest
 invariant-loop-rest g l = record {
-  whole : g.W.Out.failed l.out ≡ false;
-  prefix : (written : List ℕ) × Appends (g.W.Out.held l.initial.out) (g.W.Out.held l.out) written
+  whole : (g.W.Out.state l.out).failed ≡ false;
+  prefix : (written : List ℕ) × Appends (g.W.Out.state l.initial.out).held (g.W.Out.state l.out).held written
       × (written ++ lines (map (g.T.Record.columns l.names) l.rest) ≡ lines (map (g.T.Record.columns l.names) l.records));
 }
 

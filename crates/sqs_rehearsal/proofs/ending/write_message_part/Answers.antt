@@ -7,13 +7,13 @@ use Rattle.sqs_rehearsal.proofs.ending.write_message_part.Goals as goal
 pub returns-in_err-write_message_header-clause-written : goal.returns-in_err-write_message_header-clause-written
 returns-in_err-write_message_header-clause-written g c =
     let rows = map (message_fields c.args.names.now) (finals_of c.args.sites.now).messages in
-    header_stopped _ _ _ message_header rows c.in_err-write_message_header.field-0.0 c.from_residual.result c.from_residual.ensures.1 c.in_err-write_message_header.ensures
+    header_stopped (g.W.Out.state c.args.out.now) (g.W.Out.state c.write_message_header.new.out) message_header rows c.in_err-write_message_header.field-0.0 c.from_residual.result c.from_residual.ensures.1 c.in_err-write_message_header.ensures
 
 pub returns-clause-written : goal.returns-clause-written
 unfolding finals_of
 returns-clause-written g c =
     let rows = map (message_fields c.args.names.now) (finals_of c.args.sites.now).messages in
-    header_and_more _ _ _ _ _ message_header rows c.in_ok-write_message_header.field-0 c.write_queues.result c.in_ok-write_message_header.ensures c.write_queues.ensures.written
+    header_and_more (g.W.Out.state c.args.out.now) (g.W.Out.state c.write_message_header.new.out) (g.W.Out.state c.write_queues.new.out) message_header rows c.in_ok-write_message_header.field-0 c.write_queues.result c.in_ok-write_message_header.ensures c.write_queues.ensures.written
 
 pub returns-clause-counted : goal.returns-clause-counted
 unfolding finals_of

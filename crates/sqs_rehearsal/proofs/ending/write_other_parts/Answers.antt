@@ -11,11 +11,10 @@ pub returns : goal.returns
 unfolding finals_of
 returns g c =
     let names = c.args.names.now in
-    let old = g.W.Out.held c.args.out.now in
-    let new = g.W.Out.held c.write_transfers_and_tasks.new.out in
-    let failed = g.W.Out.failed c.write_transfers_and_tasks.new.out in
+    let old = g.W.Out.state c.args.out.now in
+    let new = g.W.Out.state c.write_transfers_and_tasks.new.out in
     let result = c.write_transfers_and_tasks.result in
     let transfers = λ (xs : List FinalTransfer). transfer_header ∷ map (transfer_fields names) xs in
     let tasks = λ (xs : List FinalTask). task_header ∷ map (task_fields names) xs in
-    let one = subst (λ (xs : List FinalTransfer). WroteSeveral old new failed (lines (transfers xs ++ tasks c.as_slice-2.result.now)) result) (c.as_slice.ensures.value ∙ c.in_ok-transfers.ensures) c.write_transfers_and_tasks.ensures in
-    subst (λ (xs : List FinalTask). WroteSeveral old new failed (lines (transfers (finals_of c.args.sites.now).transfers ++ tasks xs)) result) (c.as_slice-2.ensures.value ∙ c.in_ok-tasks.ensures) one
+    let one = subst (λ (xs : List FinalTransfer). WroteSeveral old new (lines (transfers xs ++ tasks c.as_slice-2.result.now)) result) (c.as_slice.ensures.value ∙ c.in_ok-transfers.ensures) c.write_transfers_and_tasks.ensures in
+    subst (λ (xs : List FinalTask). WroteSeveral old new (lines (transfers (finals_of c.args.sites.now).transfers ++ tasks xs)) result) (c.as_slice-2.ensures.value ∙ c.in_ok-tasks.ensures) one

@@ -6,8 +6,8 @@ use Rattle.sqs_rehearsal.proofs.ending.write_queue.Given as goal
 -- the messages that were taken are written and counted
 abbrev pub invariant-loop-some : goal.invariant-loop-some
 invariant-loop-some g l =
-    IsWriting l.names (map (final_message l.queue) l.queue.records) (g.W.Out.held l.initial.out) l.initial.left
-    (map (final_message l.queue) l.messages) (g.W.Out.held l.out) (g.W.Out.failed l.out) l.left
+    IsWriting l.names (map (final_message l.queue) l.queue.records) (g.W.Out.state l.initial.out) l.initial.left
+    (map (final_message l.queue) l.messages) (g.W.Out.state l.out) l.left
 
 abbrev pub decreases-loop-some : goal.decreases-loop-some
 decreases-loop-some g l = length l.messages

@@ -12,8 +12,8 @@ loop-site-preserved g c =
     let others = flat_map messages_at (drop (i + 1) sites) in
     let own = ap (λ t. map (final_message t) t.records) c.queue.ensures ∙ ap messages_at c.site-item.is in
     let parts = ap (λ t. t ++ others) own ∙ site_and_others messages_at sites i x c.loop-site-test.true in
-    writing_more c.args.names.now (flat_map messages_at sites) (g.W.Out.held c.args.out.now) c.args.left.now (flat_map messages_at (drop i sites)) (map (final_message q) q.records) others
-    (g.W.Out.held c.loop-site.out) (g.W.Out.held c.write_queue.new.out) (g.W.Out.failed c.loop-site.out) (g.W.Out.failed c.write_queue.new.out) c.loop-site.left c.write_queue.new.left c.in_ok-write_queue.field-0
+    writing_more c.args.names.now (flat_map messages_at sites) (g.W.Out.state c.args.out.now) c.args.left.now (flat_map messages_at (drop i sites)) (map (final_message q) q.records) others
+    (g.W.Out.state c.loop-site.out) (g.W.Out.state c.write_queue.new.out) c.loop-site.left c.write_queue.new.left c.in_ok-write_queue.field-0
     c.loop-site.invariant parts c.in_ok-write_queue.ensures.written (λ queues before is. c.in_ok-write_queue.ensures.counted queues before is)
 
 pub returns-in_err-write_queue-clause-written : goal.returns-in_err-write_queue-clause-written
@@ -25,6 +25,6 @@ returns-in_err-write_queue-clause-written g c =
     let others = flat_map messages_at (drop (i + 1) sites) in
     let own = ap (λ t. map (final_message t) t.records) c.queue.ensures ∙ ap messages_at c.site-item.is in
     let parts = ap (λ t. t ++ others) own ∙ site_and_others messages_at sites i x c.loop-site-test.true in
-    writing_stopped c.args.names.now (flat_map messages_at sites) (g.W.Out.held c.args.out.now) c.args.left.now (flat_map messages_at (drop i sites)) (map (final_message q) q.records) others
-    (g.W.Out.held c.loop-site.out) (g.W.Out.held c.write_queue.new.out) (g.W.Out.failed c.loop-site.out) (g.W.Out.failed c.write_queue.new.out) c.loop-site.left c.in_err-write_queue.field-0.0 c.from_residual.result
+    writing_stopped c.args.names.now (flat_map messages_at sites) (g.W.Out.state c.args.out.now) c.args.left.now (flat_map messages_at (drop i sites)) (map (final_message q) q.records) others
+    (g.W.Out.state c.loop-site.out) (g.W.Out.state c.write_queue.new.out) c.loop-site.left c.in_err-write_queue.field-0.0 c.from_residual.result
     c.loop-site.invariant parts c.in_err-write_queue.ensures.written c.from_residual.ensures.1

@@ -6,5 +6,5 @@ use Rattle.sqs_rehearsal.proofs.ending.write_queues.Given as goal
 -- the messages of the sites so far are written and counted
 abbrev pub invariant-loop-site : goal.invariant-loop-site
 invariant-loop-site g l =
-    IsWriting l.names (flat_map messages_at l.sites) (g.W.Out.held l.initial.out) l.initial.left
-    (flat_map messages_at (drop l.site-index l.sites)) (g.W.Out.held l.out) (g.W.Out.failed l.out) l.left
+    IsWriting l.names (flat_map messages_at l.sites) (g.W.Out.state l.initial.out) l.initial.left
+    (flat_map messages_at (drop l.site-index l.sites)) (g.W.Out.state l.out) l.left

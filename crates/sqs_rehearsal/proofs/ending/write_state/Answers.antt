@@ -8,7 +8,7 @@ pub returns-in_err-write_message_part-clause-written : goal.returns-in_err-write
 returns-in_err-write_message_part-clause-written g c =
     let names = c.args.names.now in
     let f = finals_of c.args.sites.now in
-    part_stopped _ _ _ (message_header ∷ map (message_fields names) f.messages)
+    part_stopped (g.W.Out.state c.args.out.now) (g.W.Out.state c.write_message_part.new.out) (message_header ∷ map (message_fields names) f.messages)
     ((transfer_header ∷ map (transfer_fields names) f.transfers) ++ (task_header ∷ map (task_fields names) f.tasks))
     c.in_err-write_message_part.field-0.0 c.from_residual.result c.from_residual.ensures.1 c.in_err-write_message_part.ensures.written
 
@@ -16,6 +16,6 @@ pub returns-clause-written : goal.returns-clause-written
 returns-clause-written g c =
     let names = c.args.names.now in
     let f = finals_of c.args.sites.now in
-    part_and_more _ _ _ _ _ (message_header ∷ map (message_fields names) f.messages)
+    part_and_more (g.W.Out.state c.args.out.now) (g.W.Out.state c.write_message_part.new.out) (g.W.Out.state c.write_other_parts.new.out) (message_header ∷ map (message_fields names) f.messages)
     ((transfer_header ∷ map (transfer_fields names) f.transfers) ++ (task_header ∷ map (task_fields names) f.tasks))
     c.in_ok-write_message_part.field-0 c.write_other_parts.result c.in_ok-write_message_part.ensures.written c.write_other_parts.ensures

@@ -10,13 +10,11 @@ use Rattle.sqs_rehearsal.proofs.outcome.compare.Goals as goal
 
 pub returns-clause-written : goal.returns-clause-written
 returns-clause-written g c s t r u left right =
-    let old = g.W.Out.held c.args.out.now in
-    let mid = g.W.Out.held c.compare.new.out in
-    let new = g.W.Out.held c.flush.new.out in
-    let works = g.W.Out.failed c.compare.new.out in
-    let failed = g.W.Out.failed c.flush.new.out in
+    let old = g.W.Out.state c.args.out.now in
+    let mid = g.W.Out.state c.compare.new.out in
+    let new = g.W.Out.state c.flush.new.out in
     let ok = c.in_ok-compare.field-0 in
     let told = c.in_ok-compare.ensures.written (queue_names s) r.rows (queue_names t) u.rows left.counted right.counted in
-    let first = subst (λ (f : Finals). Wrote old mid works (comparison (report (queue_names s) r.rows f) (report (queue_names t) u.rows c.args.second.now.finals)) (Ok ok)) left.finals told in
-    let both = subst (λ (f : Finals). Wrote old mid works (comparison (report_of s r) (report (queue_names t) u.rows f)) (Ok ok)) right.finals first in
-    flushed old mid new works failed (comparison (report_of s r) (report_of t u)) ok c.flush.result (several-one old mid works (comparison (report_of s r) (report_of t u)) (Ok ok) both) c.flush.ensures.written
+    let first = subst (λ (f : Finals). Wrote old mid (comparison (report (queue_names s) r.rows f) (report (queue_names t) u.rows c.args.second.now.finals)) (Ok ok)) left.finals told in
+    let both = subst (λ (f : Finals). Wrote old mid (comparison (report_of s r) (report (queue_names t) u.rows f)) (Ok ok)) right.finals first in
+    flushed old mid new (comparison (report_of s r) (report_of t u)) ok c.flush.result (several-one old mid (comparison (report_of s r) (report_of t u)) (Ok ok) both) c.flush.ensures.written

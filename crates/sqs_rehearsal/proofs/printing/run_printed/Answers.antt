@@ -1,68 +1,46 @@
-use Rattle.std.specs.Global.{Global}
-use Rattle.std.specs.Prelude.{IfErr, IfOk, Vec, [], false, ◌≡◌, ◌≤◌}
-use Rattle.std.proofs.Common.{inl, refl, subst}
+use Rattle.std.specs.Prelude.{[]}
+use Rattle.std.proofs.Common.{ap, inl, refl, ◌∙◌, ◌≡◌}
 use Rattle.sim_clock.specs.declared.refusal.Refusal.TheVariants as refusals
-use Rattle.std.proofs.lemmas.Result.{IfErr-weaker, IfOk-weaker}
-use Rattle.sim_engine.specs.Setting.{IsRunOf, Setting}
-use Rattle.sim_windows.specs.Sinks.{HasTaken}
-use Rattle.sim_workers.specs.Runs.{StopsAnyhow}
-use Rattle.sqs_model.specs.Answers.{most_count}
-use Rattle.sqs_model.specs.Limits.{sites_count}
-use Rattle.sqs_model.specs.Site.{Site}
-use Rattle.sqs_rehearsal.proofs.Counting.{if_both}
-use Rattle.sqs_rehearsal.proofs.PrintedRuns.{PrintedSite, never_over, recorded, stops_plain, taken_plain, unrecorded_anyhow}
+use Rattle.sim_engine.specs.Mapping.{mapped_setting}
+use Rattle.sqs_model.specs.Run.{setting_of}
+use Rattle.sqs_rehearsal.proofs.PrintedRuns.{never_over, printed_setting, recorded, stops_plain, taken_plain, wants_plain}
 use Rattle.sqs_rehearsal.proofs.Stopped.{handed_on}
 use Rattle.sqs_rehearsal.specs.SinkLaws.{recorded_none}
-use Rattle.sqs_rehearsal.specs.Printed.{BrokePrinted, TookPrinted, printed_sqs}
-use Rattle.sqs_rehearsal.specs.declared.recorder.Recorder.{Recorder}
 use Rattle.sqs_rehearsal.proofs.printing.run_printed.Goals as goal
-
-pub returns-clause-whole : goal.returns-clause-whole
-returns-clause-whole g c =
-    let held = g.L.Out.held in
-    let failed = g.L.Out.failed in
-    let before = c.args.sink.now in
-    let now = c.run_workers-ran.new.sink in
-    let took =
-    subst (λ (w : Setting PrintedSite). IfOk c.run_workers-ran.result (λ made. HasTaken printed_sqs (TookPrinted held failed) w before now made.items))
-    c.in_ok-world.ensures.setting c.run_workers-ran.ensures.whole in
-    rw c.counted.ensures.same
-    (IfOk-weaker c.plain.result _ _ (λ sites. recorded held failed c.args.scenario before now sites.items)
-    (taken_plain held failed c.args.scenario before now c.run_workers-ran.result c.plain.result c.plain.ensures took))
-
-pub returns-clause-counted : goal.returns-clause-counted
-returns-clause-counted g c =
-    let held = g.L.Out.held in
-    let failed = g.L.Out.failed in
-    let before = c.args.sink.now in
-    let now = c.run_workers-ran.new.sink in
-    let took =
-    subst (λ (w : Setting PrintedSite). IfOk c.run_workers-ran.result (λ made. HasTaken printed_sqs (TookPrinted held failed) w before now made.items))
-    c.in_ok-world.ensures.setting c.run_workers-ran.ensures.whole in
-    let within = subst (λ r. IfOk r (λ (sites : Vec Site Global). sites_count sites.items ≤ most_count)) c.counted.ensures.same c.counted.ensures.within in
-    rw c.counted.ensures.same
-    (if_both c.plain.result _ _ _ (λ sites told few. never_over held failed c.args.scenario before now sites.items told few)
-    (taken_plain held failed c.args.scenario before now c.run_workers-ran.result c.plain.result c.plain.ensures took) within)
-
-pub returns-clause-stops : goal.returns-clause-stops
-returns-clause-stops g c =
-    let held = g.L.Out.held in
-    let failed = g.L.Out.failed in
-    let before = c.args.sink.now in
-    let now = c.run_workers-ran.new.sink in
-    let took =
-    subst (λ (w : Setting PrintedSite). IfOk c.run_workers-ran.result (λ made. HasTaken printed_sqs (TookPrinted held failed) w before now made.items))
-    c.in_ok-world.ensures.setting c.run_workers-ran.ensures.whole in
-    let stopped =
-    subst (λ (w : Setting PrintedSite). IfErr c.run_workers-ran.result (λ e. StopsAnyhow printed_sqs (λ (r : Recorder _ _). failed r.out.now ≡ false) (TookPrinted held failed) (BrokePrinted held failed) w before e now))
-    c.in_ok-world.ensures.setting c.run_workers-ran.ensures.stops in
-    let run = c.in_ok-world.ensures.simulated.run in
-    let is = subst (λ (w : Setting PrintedSite). IsRunOf printed_sqs w run) c.in_ok-world.ensures.setting c.in_ok-world.ensures.simulated.is_run in
-    rw c.counted.ensures.same
-    (IfErr-weaker c.plain.result _ _ (λ e. unrecorded_anyhow held failed c.args.scenario before now run is e)
-    (stops_plain held failed c.args.scenario before now run is c.run_workers-ran.result c.plain.result c.plain.ensures took stopped))
 
 pub returns-in_err-world-clause-stops : goal.returns-in_err-world-clause-stops
 returns-in_err-world-clause-stops g c =
     handed_on _ c.from_residual.result refusals.Memory c.from_residual.ensures.1
-    (inl (record { rows = []; prefix = λ r is. (r.rows, refl); at_rows = inl (recorded_none g.L.Out.held g.L.Out.failed c.args.sink.now, tt) }))
+    (inl (record { rows = []; prefix = λ r is. (r.rows, refl); at_rows = inl (recorded_none g.L.Out.state c.args.sink.now, tt) }))
+
+pub returns-in_err-made-clause-stops : goal.returns-in_err-made-clause-stops
+returns-in_err-made-clause-stops g c =
+    let s = c.args.scenario in
+    let is : c.in_ok-world.world ≡ printed_setting g.L.Out.state s c.args.sink.now c.run_workers.new.sink = c.in_ok-world.ensures.setting ∙ ap (λ n. mapped_setting n (setting_of s)) c.requires.names in
+    let e = c.in_err-made.field-0.0 in
+    handed_on _ c.from_residual-in_err-made.result e c.from_residual-in_err-made.ensures.1
+    (stops_plain g.L.Out.state s c.args.sink.now c.run_workers.new.sink c.in_ok-world.world is c.in_ok-world.ensures.simulated e c.in_err-made.ensures.stops)
+
+pub returns-in_err-sites-clause-stops : goal.returns-in_err-sites-clause-stops
+returns-in_err-sites-clause-stops g c =
+    let s = c.args.scenario in
+    let is : c.in_ok-world.world ≡ printed_setting g.L.Out.state s c.args.sink.now c.run_workers.new.sink = c.in_ok-world.ensures.setting ∙ ap (λ n. mapped_setting n (setting_of s)) c.requires.names in
+    handed_on _ c.from_residual-in_err-sites.result refusals.Memory c.from_residual-in_err-sites.ensures.1
+    (wants_plain g.L.Out.state s c.args.sink.now c.run_workers.new.sink c.in_ok-world.world is c.in_ok-world.ensures.simulated c.in_ok-made.made.items c.in_ok-made.ensures.whole)
+
+pub returns-clause-whole : goal.returns-clause-whole
+returns-clause-whole g c =
+    let s = c.args.scenario in
+    let is : c.in_ok-world.world ≡ printed_setting g.L.Out.state s c.args.sink.now c.run_workers.new.sink = c.in_ok-world.ensures.setting ∙ ap (λ n. mapped_setting n (setting_of s)) c.requires.names in
+    rw c.counted.ensures.same
+    (recorded g.L.Out.state s c.args.sink.now c.run_workers.new.sink c.in_ok-sites.sites.items
+    (taken_plain g.L.Out.state s c.args.sink.now c.run_workers.new.sink c.in_ok-world.world is c.in_ok-made.made.items c.in_ok-sites.sites.items c.in_ok-sites.ensures c.in_ok-made.ensures.whole))
+
+pub returns-clause-counted : goal.returns-clause-counted
+returns-clause-counted g c =
+    let s = c.args.scenario in
+    let is : c.in_ok-world.world ≡ printed_setting g.L.Out.state s c.args.sink.now c.run_workers.new.sink = c.in_ok-world.ensures.setting ∙ ap (λ n. mapped_setting n (setting_of s)) c.requires.names in
+    let within = rw c.counted.ensures.same at c.counted.ensures.within in
+    rw c.counted.ensures.same
+    (never_over g.L.Out.state s c.args.sink.now c.run_workers.new.sink c.in_ok-sites.sites.items
+    (taken_plain g.L.Out.state s c.args.sink.now c.run_workers.new.sink c.in_ok-world.world is c.in_ok-made.made.items c.in_ok-sites.sites.items c.in_ok-sites.ensures c.in_ok-made.ensures.whole) within)

@@ -107,7 +107,7 @@ fn write_line<W: Out>(
     out: &mut W,
     fields: &[&[u8]],
 ) -> Result<(), Refusal>
-    requires { W.failed out.old ≡ false }
+    requires { (W.state out.old).failed ≡ false }
 {
     let mut lines = Lines::new(alloc);
     lines.add(fields).expect(rt, "memory");

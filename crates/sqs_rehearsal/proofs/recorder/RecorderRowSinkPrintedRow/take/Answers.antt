@@ -9,7 +9,7 @@ use Rattle.sqs_rehearsal.proofs.recorder.RecorderRowSinkPrintedRow.take.Goals as
 pub returns-then-not-are_printed_within-clause-broke : goal.returns-then-not-are_printed_within-clause-broke
 returns-then-not-are_printed_within-clause-broke g c rows are =
     let past = sym (within_printed c.args.self.now.names.now rows) ∙ sym (ap (list_all _) are) ∙ sym c.are_printed_within.ensures ∙ c.if-not-are_printed_within.true in
-    inr (record { limit = refl; prefix = []; rest = rows; rows_are = refl; taken = recorded_none g.W.Out.held g.W.Out.failed c.args.self.now; past = some_past rows past })
+    inr (record { limit = refl; prefix = []; rest = rows; rows_are = refl; taken = recorded_none g.W.Out.state c.args.self.now; past = some_past rows past })
 
 pub returns-clause-took : goal.returns-clause-took
 returns-clause-took g c =

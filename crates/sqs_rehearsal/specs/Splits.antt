@@ -1,0 +1,21 @@
+-- How a scenario is split as asked, or why it can't be.
+use Rattle.std.specs.Prelude.{Err, None, Ok, Option, Result, Some, length, unwrap_or, ◌≡◌, ◌⊎◌}
+use Rattle.sim_clock.specs.declared.refusal.Refusal.{Refusal}
+use Rattle.sqs_model.specs.Scenario.{Scenario, least_latency}
+use Rattle.sqs_rehearsal.specs.Options.{Options, layout_of, split_fault}
+use Rattle.sqs_rehearsal.specs.declared.options.Split.{Split}
+use Rattle.sim_clock.specs.declared.refusal.Refusal.TheVariants as refusals
+
+-- an error, if there is one
+abbrev pub unless : Option Refusal → Result (Unit {0}) Refusal
+unless None = Ok tt
+unless (Some r) = Err r
+
+-- why a scenario can't be split so: that, or out of memory
+abbrev pub IsUnsplit : Scenario → Options → Refusal → Type 0
+IsUnsplit s o e = (e ≡ refusals.Memory) ⊎ (split_fault s o ≡ Some e)
+
+-- how a scenario is split: without a window it has the greatest that it may have
+abbrev pub split_of : Scenario → Options → Split
+split_of s o =
+    record { layout = layout_of (length s.queues) o; window = unwrap_or o.window (least_latency s); workers = o.workers }
