@@ -33,7 +33,8 @@ from rehearse_tools.programs import TOP
 KITS = ("rattle-kit-13b logic dac8208d650f15bf", "rattle-kit-13f logic dac8208d650f15bf")
 CRATE = "sqs_page"
 SIGN = b"\0asm"
-PROCESSOR_ALONE = re.compile(r"@llvm\.x86|\basm ")
+# Code for x86-64 alone. An empty text of assembler is none: it only keeps reads and writes of memory in their order.
+PROCESSOR_ALONE = re.compile(r'@llvm\.x86|\basm (?!sideeffect "", )')
 TRIPLE = "wasm64-unknown-unknown"
 LAYOUT = "e-m:e-p:64:64-p10:8:8-p20:8:8-i64:64-i128:128-n32:64-S128-ni:1:10:20"
 # What rattle gives to clang for wasm64.

@@ -1,5 +1,5 @@
 //! Marks of a few places, worked out by hand.
-ghost use Rattle.std.specs.Prelude.{◌≡◌, ◌⊎◌, IfOk, length};
+ghost use Rattle.std.specs.Prelude.{◌≡◌, IfOk, length};
 
 use crate::tests::same::same;
 use sim_clock::{Class, Key};
@@ -84,39 +84,6 @@ fn finds_the_first_of_the_least(rt: HostRuntime) {
     ];
     let mut marks = eight(rt.alloc(), &five).expect(&rt, "memory");
     try_puts(&rt, &mut marks);
-}
-
-// How many places there are, what is put at each, the least key due and the first place that has it.
-const FEW: [(usize, [Option<u64>; 4], u64, usize); 6] = [
-    (2, [Some(7), Some(9), None, None], 7, 0),
-    (2, [Some(9), Some(7), None, None], 7, 1),
-    (2, [Some(7), Some(7), None, None], 7, 0),
-    (4, [Some(9), Some(8), Some(7), Some(8)], 7, 2),
-    (4, [Some(9), Some(8), Some(8), Some(8)], 8, 1),
-    (4, [None, Some(8), None, None], 8, 1),
-];
-
-// Puts what is due at each of two or four places, the last one first.
-fn put_few(alloc: Global, places: usize, dues: &[Option<u64>; 4]) -> Result<Marks, AllocError>
-    requires { (places ≡ 2) ⊎ (places ≡ 4) }
-{
-    let mut marks = Marks::of(alloc, places, &[])?;
-    for place in (0..places).rev() {
-        if place < marks.leaves().len() {
-            marks.put(place, &mark(dues[place], 1 << place));
-        }
-    }
-    Ok(marks)
-}
-
-#[test]
-fn finds_the_first_of_a_few(rt: HostRuntime) {
-    for (places, dues, least, first) in &FEW {
-        assert!(&rt; *places == 2 || *places == 4);
-        let marks = put_few(rt.alloc(), *places, dues).expect(&rt, "memory");
-        let told = (marks.least(), marks.place_of_least(), marks.next(1, 3));
-        same(&rt, told, (wake(Some(*least)), Some(*first), Some(1)));
-    }
 }
 
 // The place from which to look, the flags, and the first place that has a message with one of them.
