@@ -9,6 +9,8 @@ const SETTLED = 100;
 
 const EXAMPLES = DATA.examples;
 let sides = [], active = null, timer = null, settling = null, linked = 0;
+// Whether the address keeps a link that could not be opened, until the reader changes or opens something.
+let isKept = false;
 
 const editor = new Editor(text => edited(text, 'typed'));
 const numbers = new NumberPanel(changeNumber);
@@ -18,7 +20,8 @@ const log = new LogView();
 // A change of the text of the variant that is edited: it runs at once if the last run was quick.
 function edited(text, how) {
   active.text = text;
-  if (how !== 'slid') numbers.show(new Scenario(text), false);
+  releaseLink();
+  if (how !== 'slid') showNumbers(false);
   tellDifference();
   if (!byId('live').checked) {
     setText(byId('status'), 'The text has changed: Run shows what comes out.');
@@ -26,7 +29,26 @@ function edited(text, how) {
   }
   clearTimeout(timer);
   const side = active, wasQuick = !side.isRunning && (side.result?.took ?? 0) + (side.result?.read ?? 0) < LONG;
-  timer = setTimeout(() => side.run(), wasQuick ? (how === 'typed' ? 150 : 0) : PAUSE);
+  timer = setTimeout(() => runAlone(side), wasQuick ? (how === 'typed' ? 150 : 0) : PAUSE);
+}
+
+// Runs variants by themselves; says why if one of them waits for a press of Run, and ends what runs.
+function runAlone(...chosen) {
+  const why = chosen.map(side => side.whyWaits).find(it => it);
+  if (!why) {
+    for (const side of chosen) side.run();
+    return;
+  }
+  for (const side of chosen) side.stop('');
+  byId('results').classList.add('stale');
+  setText(byId('status'), byId('results').hidden ? 'Not run yet.' : 'Not run yet: below is what came out before.');
+  setText(byId('waits'), why);
+}
+
+// The numbers of the text that is edited; a long one has none.
+function showNumbers(isFresh) {
+  if (editor.isShort) numbers.show(new Scenario(editor.text), isFresh);
+  else numbers.clear();
 }
 
 // A slider has been moved. Of a pair of bounds the other one goes along, so that the first is not above the second.
@@ -71,6 +93,10 @@ function tellDifference() {
     setText(byId('difference'), '');
     return;
   }
+  if (!sides.every(side => isShort(side.text))) {
+    setText(byId('difference'), 'The texts are long, so their differences are not listed.');
+    return;
+  }
   const [before, after] = sides.map(side => placesIn(side.text)), changes = [];
   for (const key of new Set([...before.keys(), ...after.keys()])) {
     const [a, b] = [before, after].map(found => found.get(key)?.slice(0, 40) ?? 'none');
@@ -84,6 +110,7 @@ function tellDifference() {
 function changed(side) {
   byId('stop').disabled = !sides.some(it => it.isRunning);
   if (side.isRunning) {
+    setText(byId('waits'), '');
     tickWhileRunning();
     return;
   }
@@ -167,27 +194,29 @@ function showLog() {
   log.show(sides.find(({ name }) => name === choice.value) ?? sides[0]);
 }
 
-// Puts the link to the scenarios into the address of the page.
+// Puts the link to the scenarios into the address of the page, but for one that is kept; gives the link.
 async function showLink() {
   const link = await linkOf(sides.map(side => side.text), sides[0].files), status = byId('link-status');
   byId('copy').disabled = !link;
   if (!link) setText(status, 'The scenario is too long for a link: save it as a file.');
   else setText(status, '');
+  if (isKept) return link;
   try {
     history.replaceState(null, '', link ?? '#');
   } catch {
     linked++;
     location.hash = link ?? '';
   }
+  return link;
 }
 
 async function copyLink() {
-  await showLink();
-  const field = byId('link');
-  field.value = location.href;
+  const link = await showLink(), field = byId('link');
+  if (!link) return;
+  field.value = location.href.split('#')[0] + link;
   try {
-    await navigator.clipboard.writeText(location.href);
-    setText(byId('link-status'), `Copied: a link of ${grouped(location.href.length)} letters, which holds the scenario.`);
+    await navigator.clipboard.writeText(field.value);
+    setText(byId('link-status'), `Copied: a link of ${grouped(field.value.length)} letters, which holds the scenario.`);
   } catch {
     field.hidden = false;
     field.focus();
@@ -196,14 +225,47 @@ async function copyLink() {
   }
 }
 
-// Opens texts, as variant A or as A and B, with script files for both.
+// Opens texts, as variant A or as A and B, with script files for both, and runs them.
 function open(texts, files = []) {
+  releaseLink();
+  put(texts, files);
+  runAlone(...sides);
+}
+
+// Puts texts and files in the place of all.
+function put(texts, files) {
   for (const side of sides) side.stop('');
+  clearTimeout(timer);
   sides = texts.map((text, i) => Object.assign(new Side('AB'[i], changed), { text, files }));
   edit(sides.at(-1));
   pictures.zoom = null;
   tellFiles();
-  for (const side of sides) side.run();
+}
+
+// Opens the link of the address. If it cannot be opened, a line says why, and the address and the text stay. Gives
+// whether the address has a link, and not the name of a part of the page.
+async function openLink() {
+  const { hash } = location;
+  if (hash.length < 2 || byId(hash.slice(1))) return false;
+  const { fault, texts, files } = await linkedIn(hash);
+  if (!fault) {
+    open(texts, files);
+    return true;
+  }
+  isKept = true;
+  byId('link-fault').hidden = false;
+  setText(byId('link-fault'), fault);
+  if (!active) {
+    put([''], []);
+    setText(byId('status'), 'There is no scenario: open an example or a file, or write one.');
+  }
+  return true;
+}
+
+// The address need not keep its link any more.
+function releaseLink() {
+  isKept = false;
+  byId('link-fault').hidden = true;
 }
 
 // Says which script files there are.
@@ -234,14 +296,15 @@ function addScripts(scripts) {
   const kept = sides[0].files.filter(({ name }) => !scripts.some(script => script.name === name));
   for (const side of sides) side.files = [...kept, ...scripts];
   tellFiles();
-  for (const side of sides) side.run();
+  releaseLink();
+  runAlone(...sides);
 }
 
 // Shows a variant in the editor.
 function edit(side) {
   active = side;
   editor.open(side.text);
-  numbers.show(new Scenario(side.text), true);
+  showNumbers(true);
   byId('variants').hidden = sides.length < 2;
   byId('compare').hidden = sides.length > 1;
   for (const it of document.querySelectorAll('[name=variant]')) it.checked = it.value === side.name;
@@ -251,9 +314,10 @@ function edit(side) {
 
 function compare() {
   const copy = Object.assign(new Side('B', changed), { text: active.text, files: active.files });
+  releaseLink();
   sides = [sides[0], copy];
   edit(copy);
-  copy.run();
+  runAlone(copy);
 }
 
 // Saves the differences of the two variants that are shown, as the program's `compare` prints them.
@@ -268,11 +332,12 @@ async function saveDifferences() {
 function keep(name) {
   const kept = sides.find(side => side.name === name);
   for (const side of sides) if (side !== kept) side.stop('');
+  releaseLink();
   kept.name = 'A';
   sides = [kept];
   edit(kept);
   if (kept.isDone) showAll();
-  else kept.run();
+  else runAlone(kept);
 }
 
 async function start() {
@@ -282,10 +347,9 @@ async function start() {
     groups.get(folder).append(element('option', { value: i, textContent: title }));
   }
   byId('example').append(...groups.values());
-  const link = await linkedIn(location.hash);
   const first = EXAMPLES.findIndex(({ name }) => name === DATA.first);
   byId('example').value = String(first);
-  open(link?.texts ?? [EXAMPLES[first].text], link?.files);
+  if (!await openLink()) open([EXAMPLES[first].text]);
 }
 
 byId('open').onclick = () => open([EXAMPLES[byId('example').value].text]);
@@ -316,7 +380,6 @@ document.addEventListener('keydown', event => {
 window.addEventListener('hashchange', async () => {
   if (linked-- > 0) return;
   linked = 0;
-  const link = await linkedIn(location.hash);
-  if (link) open(link.texts, link.files);
+  await openLink();
 });
 start();

@@ -1,13 +1,24 @@
 // The text to edit, with its lines' numbers, colours, the marked fault, and help on the key where one types. The page
 // has this file. Below the text area, whose letters are clear, lies the same text in colours.
 
-// Longer texts have no colours, no help and no sliders.
-const COLOURED_MOST = 200000;
+// Longer texts have no colours, no help and no sliders, and do not run by themselves.
+const SHORT_MOST = 200000, SHORT_LINES = 5000;
 const TOKEN_FORMS = [/"""[^]*?"""|'''[^]*?'''|"(?:[^"\\\n]|\\.)*"|'[^'\n]*'/, /#[^\n]*/, /^[ \t]*\[\[?[^\]\n]*\]\]?/,
   /^[ \t]*[\w-]+(?=[ \t]*=)/];
 const TOKENS = new RegExp(TOKEN_FORMS.map(({ source }) => `(${source})`).join('|'), 'gm');
 const TOKEN_NAMES = ['text', 'comment', 'header', 'key'];
 const HEADER = /^\s*\[\[?\s*(queue|actor|task)\s*\]\]?/;
+
+// Whether a text is so short; no more of its lines are counted than that.
+function isShort(text) {
+  if (text.length > SHORT_MOST) return false;
+  let at = -1;
+  for (let lines = 0; lines < SHORT_LINES; lines++) {
+    at = text.indexOf('\n', at + 1);
+    if (at < 0) return true;
+  }
+  return false;
+}
 
 class Editor {
   // `changed` is called with the text as it changes.
@@ -34,16 +45,17 @@ class Editor {
   }
 
   get isShort() {
-    return this.text.length <= COLOURED_MOST;
+    return isShort(this.text);
   }
 
   // Puts another text in the place of all.
   open(text) {
     this.area.value = text;
     this.area.setSelectionRange(0, 0);
-    this.area.scrollTop = this.area.scrollLeft = 0;
     this.mark = null;
     this.draw();
+    // this lays the text out, so it comes last
+    this.area.scrollTop = this.area.scrollLeft = 0;
     this.help();
   }
 
@@ -75,14 +87,14 @@ class Editor {
   }
 
   draw() {
-    const { text, mark } = this, count = text.split('\n').length;
-    this.area.classList.toggle('plain', !this.isShort);
-    if (!this.isShort) {
+    const { text, mark, isShort } = this;
+    this.area.classList.toggle('plain', !isShort);
+    if (!isShort) {
       this.colours.replaceChildren();
       this.lines.textContent = '';
       return;
     }
-    const fault = mark ? this.lineOf(mark[0]) : 0;
+    const fault = mark ? this.lineOf(mark[0]) : 0, count = text.split('\n').length;
     this.lines.replaceChildren(...Array.from({ length: count }, (_, i) =>
       element('span', { className: i + 1 === fault ? 'fault' : '', textContent: `${i + 1}\n` })));
     const end = mark ? Math.max(mark[1], mark[0] + 1) : 0;
@@ -127,6 +139,7 @@ class Editor {
     const help = byId('help');
     if (!this.isShort) {
       help.replaceChildren('This text is long, so it has no colours and no sliders.');
+      help.dataset.state = '';
       return;
     }
     const { keys, what, there, line } = this.tableAtCursor(), word = /^\s*([\w-]*)/.exec(line)[1];

@@ -151,9 +151,9 @@ function filesOf({ Scenario, said }, texts, folder) {
   });
 }
 
-// The line of a refusal, and its status. The module writes into its memory, so that a write that fails is that.
+// The line of a refusal, and its status.
 function refusal(it, code, bytes) {
-  const line = it.lineOf(code, bytes).replace(/^refused 36 Write$/, 'refused 34 Memory');
+  const line = it.lineOf(code, bytes);
   const number = Number(line.split(' ')[1]);
   return new Stop(number < IN_RUN ? 1 : number < OF_WRITING ? 3 : 4, line);
 }

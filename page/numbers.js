@@ -36,6 +36,12 @@ class NumberPanel {
     for (const { place, node } of numbers) this.rows.get(place).take(node);
   }
 
+  // Shows none, as of a text that is long.
+  clear() {
+    this.build([], 0);
+    this.shape = '';
+  }
+
   numbersIn(scenario) {
     const found = [], version = versionOf(scenario);
     const look = (table, prefix, of, title) => {

@@ -1,6 +1,36 @@
 // A variant of the scenario: its text and its script files, the worker that runs it, and what came out. The page has
 // this file.
 
+// A run of more rows does not begin by itself, as far as they can be foreseen.
+const FORESEEN_MOST = 2e6;
+// About so many rows a message has, so many bytes a record of a script, and so many ms an empty receive's rest.
+const ROWS_OF_MESSAGE = 4, BYTES_OF_RECORD = 16, REST = 1000;
+
+const numberIn = (table, key, other) => {
+  const value = said(table, key);
+  return typeof value === 'bigint' ? Number(value) : other;
+};
+
+// About how many rows one actor gives: of messages that it sends, of its records, or of receives that find nothing.
+function rowsOf(actor, horizon, files) {
+  const left = Math.max(0, horizon - numberIn(actor, 'start_ms', 0)), kind = said(actor, 'kind');
+  if (kind === 'producer') {
+    const gap = (numberIn(actor, 'gap_min_ms', 1) + numberIn(actor, 'gap_max_ms', 1)) / 2;
+    return ROWS_OF_MESSAGE * Math.min(numberIn(actor, 'count', 1), left / Math.max(1, gap) + 1);
+  }
+  if (kind === 'consumer') {
+    return left / Math.max(1, numberIn(actor, 'idle_ms', REST) + 1000 * numberIn(actor, 'wait_s', 0));
+  }
+  const file = files.find(({ name }) => name === said(actor, 'script'));
+  return file ? ROWS_OF_MESSAGE * file.bytes.length / BYTES_OF_RECORD : 0;
+}
+
+// About how many rows a run has. Messages that go round or fail for ever are not foreseen.
+function rowsAbout(text, files) {
+  const scenario = new Scenario(text), horizon = numberIn(scenario.top, 'horizon', 0);
+  return Math.round(scenario.items('actor').reduce((rows, actor) => rows + rowsOf(actor, horizon, files), 0));
+}
+
 class Side {
   // `changed` is called as the side begins and ends to run.
   constructor(name, changed) {
@@ -12,6 +42,18 @@ class Side {
 
   get isRunning() {
     return this.began !== null;
+  }
+
+  // Why it does not run by itself; '' if it does.
+  get whyWaits() {
+    const { text, files } = this;
+    if (!isShort(text)) {
+      return `This text has more than ${grouped(SHORT_MOST)} letters or ${grouped(SHORT_LINES)} lines, so it does not `
+        + 'run by itself: press Run.';
+    }
+    const rows = rowsAbout(text, files);
+    return rows <= FORESEEN_MOST ? ''
+      : `This run may give about ${grouped(rows)} rows, so it does not begin by itself: press Run.`;
   }
 
   // Asks the worker, which is made if there is none.

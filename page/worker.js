@@ -63,8 +63,9 @@ async function answered(call, texts, files) {
   }
 }
 
-const lineOf = (code, bytes) =>
-  code === NO_MEMORY ? 'refused 34 Memory' : new TextDecoder().decode(bytes).trimEnd();
+// The line of a refusal. The module writes into its memory, so a write fails if there is no more of it.
+const lineOf = (code, bytes) => code === NO_MEMORY ? 'refused 34 Memory'
+  : new TextDecoder().decode(bytes).trimEnd().replace(/^refused 36 Write$/, 'refused 34 Memory');
 
 async function run(text, files) {
   last = null;
@@ -94,14 +95,20 @@ async function answerTo({ module, text, texts, files = [], over }) {
   return over ? { queues: last ? overTime(last, over.names, over) : [] } : run(text, files);
 }
 
+// What is said of an error: that memory is out, if it is what a browser says then.
+function toldOf(error) {
+  if (error instanceof WebAssembly.RuntimeError) return `The run was broken off: ${error.message}.`;
+  const isMemory = /out of memory|alloc|array buffer|array length/i;
+  return isMemory.test(error.message) ? `There was not enough memory for this run: ${error.message}.` : error.message;
+}
+
 async function answer(data) {
   try {
     const answer = { id: data.id, ...await answerTo(data) };
     // the bytes and the places of rows move to the page, which is quicker than a copy
     self.postMessage(answer, [answer.bytes, answer.starts].filter(it => it).map(it => it.buffer));
   } catch (error) {
-    const isTrap = error instanceof WebAssembly.RuntimeError;
-    self.postMessage({ id: data.id, error: isTrap ? `The run was broken off: ${error.message}.` : error.message });
+    self.postMessage({ id: data.id, error: toldOf(error) });
   }
 }
 

@@ -1,0 +1,178 @@
+"""Tests parts of the page in Node: its links, what of a text waits for a press of Run, and what it says of refusals."""
+from __future__ import annotations
+
+import json
+import os
+import re
+import shutil
+import subprocess
+import unittest
+from typing import Any
+
+from tool import LIMIT, ToolCase
+from rehearse_tools.console import read_text
+from rehearse_tools.programs import TOP
+
+PAGE = ("units", "dom", "scenario", "faults", "side", "link", "editor")
+WORKER = ("units", "log", "queue", "run", "overtime", "worker")
+# Refusals of how a run is split and of threads. The page splits no run and starts no thread of the module.
+OF_THE_SPLIT = ("WindowTooLong", "BadMap", "BadWorkers", "NoWorker")
+POLLS = """version = 1
+horizon = {horizon}
+[[queue]]
+name = "q"
+[[actor]]
+name = "c"
+kind = "consumer"
+queue = "q"
+idle_ms = {idle}
+service_min_ms = 1
+service_max_ms = 1
+"""
+SENDS = """version = 1
+horizon = {horizon}
+[[queue]]
+name = "q"
+[[actor]]
+name = "p"
+kind = "producer"
+queue = "q"
+count = {count}
+gap_min_ms = 1
+gap_max_ms = {gap}
+body = "b"
+"""
+# Packs JSON into a link of a form, without the bounds of the page.
+PACKED = """
+const packed = async (form, what) => {
+  const through = new CompressionStream({ 1: 'deflate-raw', 2: 'deflate' }[form]);
+  const stream = new Blob([typeof what === 'string' ? what : JSON.stringify(what)]).stream().pipeThrough(through);
+  return `#${form}${Buffer.from(await new Response(stream).arrayBuffer()).toString('base64url')}`;
+};
+"""
+DAMAGED = "This link is cut or damaged: what it held cannot be shown."
+LATER = "This link is of a later version of the page: what it holds cannot be shown."
+LARGE = "This link holds more than 1 MB, which this page does not unpack: what it holds cannot be shown."
+
+
+@unittest.skipUnless(shutil.which("node"), "node is not here")
+class Parts(ToolCase):
+    def asked(self, names: tuple[str, ...], script: str, *values: Any) -> Any:
+        """What a script returns that has parts of the page, and `values`."""
+        parts = "".join(read_text(os.path.join(TOP, "page", f"{name}.js")) for name in names)
+        text = (f"const KEYS = {{}}, self = {{}}, values = {json.dumps(values)};\n{parts}\n{PACKED}\n"
+                f"(async () => {{ {script} }})().then(it => console.log(JSON.stringify(it)));\n")
+        ran = subprocess.run(["node", "-"], input=text, capture_output=True, text=True, timeout=LIMIT)
+        self.assertEqual((ran.returncode, ran.stderr), (0, ""))
+        return json.loads(ran.stdout)
+
+    def test_links_that_open(self) -> None:
+        """A link opens as what it was made of: one text or two, with scripts of any bytes; those of form 1 too."""
+        told = self.asked(PAGE, """
+            const file = { name: 'a.csv', bytes: Uint8Array.from([0, 200, 255]) }, found = [];
+            for (const [texts, files] of [[['a = 1 # \\u{1f600}'], []], [['', 'b'], [file]]]) {
+              const link = await linkOf(texts, files), it = await linkedIn(link);
+              found.push([link.slice(0, 2), it.texts, it.files.map(({ name, bytes }) => [name, [...bytes]])]);
+            }
+            for (const texts of [['one'], ['a', 'b']]) found.push(await linkedIn(await packed(1, texts)));
+            return found;""")
+        self.assertEqual(told, [
+            ["#2", ["a = 1 # \U0001f600"], []], ["#2", ["", "b"], [["a.csv", [0, 200, 255]]]],
+            {"texts": ["one"], "files": []}, {"texts": ["a", "b"], "files": []}])
+
+    def test_each_damage_is_seen(self) -> None:
+        """A link that is cut anywhere, or has another letter anywhere, opens nothing."""
+        text = read_text(os.path.join(TOP, "examples", "first.toml"))
+        told = self.asked(PAGE, """
+            const link = await linkOf(values, []), found = new Set(), opened = [];
+            for (let i = 1; i < link.length; i++) {
+              const cut = link.slice(0, i), changed = `${cut}${link[i] === 'A' ? 'B' : 'A'}${link.slice(i + 1)}`;
+              for (const it of [cut, changed]) {
+                const { fault, texts } = await linkedIn(it);
+                found.add(fault);
+                if (texts) opened.push(it);
+              }
+            }
+            return [[...found], opened, link.length > 200];""", text)
+        self.assertEqual(told, [[DAMAGED], [], True])
+
+    def test_what_is_no_link(self) -> None:
+        """Each fault of a link has its sentence."""
+        links = (("'#!!!!'", DAMAGED), ("'#zzz'", DAMAGED), ("'#2'", DAMAGED), ("'#2!!!!'", DAMAGED),
+                 ("'#17ZPdbtswDIVf'", DAMAGED), ("'#3abc'", LATER), ("'#0'", LATER), ("await packed(2, '[')", DAMAGED),
+                 ("await packed(2, ['a', 'b', 'c'])", LATER), ("await packed(2, [])", LATER),
+                 ("await packed(2, null)", LATER), ("await packed(2, { texts: ['a'] })", LATER),
+                 ("await packed(2, { texts: ['a'], files: [['name']] })", LATER))
+        told = self.asked(PAGE, f"""const found = [];
+            for (const it of [{", ".join(link for link, _ in links)}]) found.push(await linkedIn(it));
+            return found;""")
+        self.assertEqual(told, [{"fault": fault} for _, fault in links])
+
+    def test_a_link_unpacks_one_megabyte(self) -> None:
+        """A text of 1 MB with its quotes opens, and one byte more is refused, as are 64 MB, of which 2 MB at most are
+        unpacked. No link is made that would be refused."""
+        told = self.asked(PAGE, """
+            const made = DecompressionStream;
+            let unpacked = 0;
+            globalThis.DecompressionStream = function (form) {
+              const count = new TransformStream({ transform(it, to) { unpacked += it.length; to.enqueue(it); } });
+              const { readable, writable } = new made(form);
+              return { readable: readable.pipeThrough(count), writable };
+            };
+            const large = length => packed(1, ['a'.repeat(length - 4)]), found = [];
+            found.push((await linkedIn(await large(1e6))).texts[0].length);
+            for (const length of [1e6 + 1, 64e6]) found.push((await linkedIn(await large(length))).fault);
+            const files = [{ name: 'b', bytes: { length: 1e9 } }];
+            const makes = [await linkOf(['a'.repeat(1e6 - 3)], []), await linkOf(['a'], files)];
+            return [found, unpacked < 4e6, makes, (await linkOf(['a'.repeat(1e6 - 4)], [])).length < 30000];""")
+        self.assertEqual(told, [[999_996, LARGE, LARGE], True, [None, None], True])
+
+    def test_what_waits(self) -> None:
+        """Long texts, and runs of more than 2,000,000 rows as far as they can be foreseen, wait for a press of Run."""
+        long, many = "This text has more than 200,000 letters or 5,000 lines", "This run may give about {} rows"
+        script = '[[actor]]\nkind = "script"\nscript = "a.csv"\n'
+        cases = (
+            ("a" * 200_000, ""), ("a" * 200_001, long), ("\n" * 4_999, ""), ("\n" * 5_000, long),
+            (POLLS.format(horizon=2_000_000, idle=1), ""),
+            (POLLS.format(horizon=2_000_001, idle=1), many.format("2,000,001")),
+            (POLLS.format(horizon=2_592_000_000, idle=2_000), ""),
+            (POLLS.format(horizon=2_592_000_000, idle=1), many.format("2,592,000,000")),
+            (SENDS.format(horizon=2_000_000_000, count=500_000, gap=1), ""),
+            (SENDS.format(horizon=2_000_000_000, count=500_001, gap=1), many.format("2,000,004")),
+            (SENDS.format(horizon=1_000, count=1_000_000, gap=1), ""), (SENDS.format(horizon=1, count=9, gap=0), ""),
+            (20 * script, ""), (21 * script, many.format("2,100,000")), ("no TOML", ""), ("", ""))
+        told = self.asked(PAGE, """const files = [{ name: 'a.csv', bytes: { length: 400000 } }];
+            return values[0].map(text => Object.assign(new Side('A', () => {}), { text, files }).whyWaits);""",
+                          [text for text, _ in cases])
+        self.assertEqual([why.partition(", so it does not")[0] for why in told], [why for _, why in cases])
+
+    def test_a_sentence_for_each_refusal(self) -> None:
+        """Each refusal from 10 on that the module can answer has a sentence; a write that failed was out of memory."""
+        table = re.findall(r"^\| (\d+) \| ([A-Za-z]+) \|", read_text(os.path.join(TOP, "docs", "FORMATS.md")), re.M)
+        code = read_text(os.path.join(TOP, "crates", "sim_clock", "src", "refusal.rt"))
+        self.assertEqual(sorted(table), sorted((number, name) for name, number in re.findall(
+            r"Refusal::([A-Za-z]+)(?: \{ \.\. \})? => (\d+),", code)))
+        lines = [f"refused {number} {name}{' at horizon' if 10 < int(number) < 30 else ''}"
+                 for number, name in table if int(number) >= 10 and name not in OF_THE_SPLIT]
+        given = self.asked(WORKER, "return values[0].map(it => lineOf(1, encoded(`${it}\\n`)));", lines)
+        self.assertEqual(dict(zip(lines, given))["refused 36 Write"], "refused 34 Memory")
+        reasons, known = self.asked(PAGE, """
+            return [values[0].map(it => new Fault('', it, []).reason), Object.keys(REASONS)];""", given)
+        self.assertEqual([line for line, reason in zip(lines, reasons) if len(reason) < 20], [])
+        self.assertEqual(sorted(known), sorted({line.split()[2] for line in given}))
+
+    def test_out_of_memory(self) -> None:
+        """What browsers say when memory is out is told as that; other errors are not."""
+        said = ("WebAssembly.instantiate(): Out of memory: Cannot allocate Wasm memory for new instance",
+                "WebAssembly.Memory(): could not allocate memory", "Array buffer allocation failed", "out of memory",
+                "allocation size overflow", "Invalid typed array length: 4294967296", "invalid array length")
+        told = self.asked(WORKER, "return values[0].map(it => toldOf(new RangeError(it)));", said)
+        self.assertEqual(told, [f"There was not enough memory for this run: {it}." for it in said])
+        told = self.asked(WORKER, """const errors = [new WebAssembly.RuntimeError('unreachable'), new Error('x'),
+              new Error('There is no memory for the output.')];
+            return errors.map(toldOf);""")
+        self.assertEqual(told, ["The run was broken off: unreachable.", "x", "There is no memory for the output."])
+
+
+if __name__ == "__main__":
+    unittest.main()
