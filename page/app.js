@@ -24,6 +24,7 @@ function edited(text, how) {
   if (how !== 'slid') showNumbers(false);
   tellDifference();
   if (!byId('live').checked) {
+    setText(byId('waits'), '');
     setText(byId('status'), 'The text has changed: Run shows what comes out.');
     return;
   }
@@ -39,7 +40,8 @@ function runAlone(...chosen) {
     for (const side of chosen) side.run();
     return;
   }
-  for (const side of chosen) side.stop('');
+  for (const side of chosen) if (side.isRunning) side.stop('');
+  showFault();
   byId('results').classList.add('stale');
   setText(byId('status'), byId('results').hidden ? 'Not run yet.' : 'Not run yet: below is what came out before.');
   setText(byId('waits'), why);
