@@ -162,7 +162,7 @@ class Parts(ToolCase):
         self.assertEqual(sorted(known), sorted({line.split()[2] for line in given}))
 
     def test_out_of_memory(self) -> None:
-        """What browsers say when memory is out is told as that; other errors are not."""
+        """What browsers say when memory is out is shown as that; other errors are not."""
         said = ("WebAssembly.instantiate(): Out of memory: Cannot allocate Wasm memory for new instance",
                 "WebAssembly.Memory(): could not allocate memory", "Array buffer allocation failed", "out of memory",
                 "allocation size overflow", "Invalid typed array length: 4294967296", "invalid array length")
