@@ -12,7 +12,7 @@ import threading
 import time
 from collections import deque
 from collections.abc import Callable, Iterable, Iterator, Mapping, Sequence
-from concurrent.futures import Future, ThreadPoolExecutor
+from concurrent.futures import Future, ThreadPoolExecutor, wait
 from contextlib import contextmanager
 from typing import Any, NamedTuple
 
@@ -28,6 +28,8 @@ VARIANTS_MOST = 1_000_000
 SECONDS_APART = 10
 # How many runs are asked for ahead of the one whose turn it is.
 AHEAD = 256
+# For how long at most the main thread waits for a run before it looks for signals.
+LOOK_SECONDS = 0.5
 # A word of a list of values: a text in quotes, a list with no list in its lists, or anything else.
 WORDS = re.compile(r'("[^"]*"|\[(?:[^\[\]]|\[[^\[\]]*\])*\]|[^",]+)(?:,(?!$)|$)')
 RANGE = re.compile(r"(-?[0-9]+)\.\.(-?[0-9]+)(?:\.\.([1-9][0-9]*))?")
@@ -315,6 +317,9 @@ class Sweep:
                 if not waiting:
                     return
                 number, future = waiting.popleft()
+                while not wait([future], LOOK_SECONDS).done:
+                    # Python takes a signal that comes as a wait begins only after that wait
+                    pass
                 outcome = future.result()
                 if self.interrupted:
                     tell(f"interrupted after {progress}")
