@@ -133,11 +133,14 @@ def seen(text: str, most: int = 4_000) -> str:
     return "\n".join(line if len(line) <= most else f"{line[:most]}\u2026" for line in map(escaped, lines))
 
 
+def printable(text: str, kept: str = "") -> str:
+    """A text with its control characters escaped, but for those that are kept."""
+    return "".join(letter if letter.isprintable() or letter in kept else f"{letter!a}"[1:-1] for letter in text)
+
+
 def escaped(line: str) -> str:
     """A line with its control characters escaped, but for tabs and the tools' own colours."""
-    return "".join(part if part in COLOURS else "".join(
-        letter if letter.isprintable() or letter == "\t" else f"{letter!a}"[1:-1] for letter in part)
-        for part in COLOUR.split(line))
+    return "".join(part if part in COLOURS else printable(part, "\t") for part in COLOUR.split(line))
 
 
 class Terminal:
@@ -335,7 +338,7 @@ def tell(line: str) -> None:
 
 def note(text: str) -> None:
     """Prints one line on standard error, whatever is in the text."""
-    tell("".join(letter if letter.isprintable() else f"{letter!a}"[1:-1] for letter in text))
+    tell(printable(text))
 
 
 def told(fault: str) -> int:

@@ -14,10 +14,10 @@ use Rattle.sqs_model.specs.Polls.{can_give, poll_answered, poll_given}
 use Rattle.sqs_model.specs.Progress.{IsRecent}
 use Rattle.sqs_model.specs.Queue.{Queue}
 use Rattle.sqs_model.specs.Receive.{receive}
-use Rattle.sqs_model.specs.Site.{Core, Effect, Poll, with_actor}
+use Rattle.sqs_model.specs.Site.{Core, Effect, Poll, actor_numbered, with_actor}
 use Rattle.sim_site.specs.Effects.{Did, GoesOn}
 use Rattle.sim_site.specs.declared.handling.Handling.{Handling}
-use Rattle.sim_site.specs.Turns.{turn_by, turn_next, turn_of}
+use Rattle.sim_site.specs.Turns.{DidTurn, turn_by, turn_next, turn_of}
 use Rattle.sim_site.proofs.Polling.{polls_go}
 
 -- a site after an effect by which a handling went on
@@ -44,6 +44,13 @@ next_recent key c act a h =
 pub turn_recent : (key : Key) (answer : Answer) (c : Core) (o : Option Actor) → IsRecent key.at c.queue → IsRecent key.at (turn_of key answer c o).effect.core.queue
 turn_recent key answer c None h = h
 turn_recent key answer c (Some a) h = next_recent key c (next a key.at answer).0 (next a key.at answer).1 h
+
+-- a site after a turn of the actor that acts
+pub taken_recent :
+    (a b : Handling) (answer : Answer) (c d : Core) (told : Option Answer)
+    → GoesOn a b × DidTurn a.effects.now b.effects.now d told (turn_of a.key answer c (actor_numbered a.agent c)) → IsRecent a.key.at c.queue → IsRecent b.key.at d.queue
+taken_recent a b answer c d told p h =
+    goes_recent a b d (turn_of a.key answer c (actor_numbered a.agent c)).effect (p.0, p.1.effect) (turn_recent a.key answer c (actor_numbered a.agent c) h)
 
 -- a site after the answer to one poll
 pub poll_recent : (key : Key) (p : Poll) (c : Core) → can_give c.queue ≡ true → IsRecent key.at c.queue → IsRecent key.at (poll_answered key p c (poll_given key p c.queue)).core.queue

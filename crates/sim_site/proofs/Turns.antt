@@ -43,7 +43,7 @@ module _ (key : Key) (n most : ℕ) (answer : Answer) (c : Core) (a b : Effects)
       found_follows (acts_most most key n) key answer c (actor_numbered n c) ∙ ap (followed_by (acts_most most key n) (turn_of key answer c (actor_numbered n c)).effect) (sym t.answer) in
       rw e t.effect
 
--- of any other turn its actor is told something
+-- after any other turn its actor gets an answer
 pub turn_goes :
     {A : Type 0} (r : Result A Refusal) (a b end : Handling) (most : ℕ) (answer told : Answer) (c d f : Core)
     → GoesOn a b × DidTurn a.effects.now b.effects.now d (Some told) (turn_of a.key answer c (actor_numbered a.agent c))

@@ -9,7 +9,7 @@ use Rattle.sqs_model.specs.declared.acts.Answer.TheVariants.{Wake}
 use Rattle.sim_site.specs.Effects.{Did, Does, GoesOn}
 use Rattle.sim_site.specs.Turns.{DidTurn, turn_of}
 use Rattle.sim_site.proofs.Passing.{stops_up}
-use Rattle.sim_site.proofs.Recent.{goes_recent, turn_recent}
+use Rattle.sim_site.proofs.Recent.{taken_recent}
 use Rattle.sim_site.proofs.Turns.{turn_ends, turn_goes, turn_limited}
 use Rattle.sim_site.proofs.state.Core.handle_wake.Goals as goal
 
@@ -32,10 +32,7 @@ returns c =
 
 pub last_turns-requires : goal.last_turns-requires
 last_turns-requires c =
-    let handling = c.args.handling.now in
-    let actor = actor_numbered handling.agent c.args.self.now in
-    goes_recent handling c.first_turn.new.handling c.first_turn.new.self (turn_of handling.key Wake c.args.self.now actor).effect (c.in_ok-reply.ensures.0, c.in_ok-reply.ensures.1.effect)
-    (turn_recent handling.key Wake c.args.self.now actor c.requires.recent)
+    taken_recent c.args.handling.now c.first_turn.new.handling Wake c.args.self.now c.first_turn.new.self _ c.in_ok-reply.ensures c.requires.recent
 
 pub returns-in_err-reply : goal.returns-in_err-reply
 returns-in_err-reply c =

@@ -7,7 +7,7 @@ use Rattle.sqs_model.specs.declared.acts.Answer.TheVariants.{Other}
 use Rattle.sim_site.specs.Effects.{GoesOn}
 use Rattle.sim_site.specs.Turns.{DidTurn, answer_if, turn_of}
 use Rattle.sim_site.proofs.Passing.{stops_up}
-use Rattle.sim_site.proofs.Recent.{goes_recent, turn_recent}
+use Rattle.sim_site.proofs.Recent.{taken_recent}
 use Rattle.sim_site.proofs.Turns.{turn_ends, turn_goes, turn_last, turn_limited}
 use Rattle.sim_site.proofs.state.Core.last_turns.Goals as goal
 
@@ -29,10 +29,7 @@ returns c =
 
 pub next_turn-requires-2 : goal.next_turn-requires-2
 next_turn-requires-2 c =
-    let handling = c.args.handling.now in
-    let actor = actor_numbered handling.agent c.args.self.now in
-    goes_recent handling c.next_turn.new.handling c.next_turn.new.self (turn_of handling.key (answer_of c.args.reply) c.args.self.now actor).effect (c.in_ok-acted.ensures.0, c.in_ok-acted.ensures.1.effect)
-    (turn_recent handling.key (answer_of c.args.reply) c.args.self.now actor c.requires)
+    taken_recent c.args.handling.now c.next_turn.new.handling (answer_of c.args.reply) c.args.self.now c.next_turn.new.self _ c.in_ok-acted.ensures c.requires
 
 pub returns-in_err-acted : goal.returns-in_err-acted
 returns-in_err-acted c =
