@@ -4,7 +4,8 @@ ghost use Rattle.sim_handoff.specs.declared.records.Slot.TheVariants.{Nothing};
 ghost use Rattle.sim_handoff.specs.Place.{place_record, IsFree, HoldsNothing, HoldsOnly, AnswersLast, AnswersHeld};
 ghost use Rattle.sim_handoff.specs.Steps.{at, offered, collected, holding, returned, stopped, with_hand, new_hand, opening_record, LearnsClaims};
 
-use crate::bell::{Bell, Missed, Rung, Seen};
+use crate::bell::{Answers, Bell, Missed, Offers, Rung, Seen};
+use crate::brought::Brought;
 use crate::records::{PartyRecord, Slot};
 use crate::rule::{CLAIMED, DONE, EMPTY, HandoffRule, OFFERED, RUNNING, STOPPED, Work};
 use crate::steps::{
@@ -14,11 +15,11 @@ use atomic_table::{Refused, Seat, Table};
 use sim_clock::Refusal;
 use std::alloc::{AllocError, Global};
 
-type SlotOf<W> = Slot<<W as Work>::Piece, <W as Work>::Done>;
+pub(crate) type SlotOf<W> = Slot<<W as Work>::Piece, <W as Work>::Done>;
 
-type RecordOf<W> = PartyRecord<<W as Work>::Piece>;
+pub(crate) type RecordOf<W> = PartyRecord<<W as Work>::Piece>;
 
-type SeatOf<W> = Seat<SlotOf<W>, RecordOf<W>>;
+pub(crate) type SeatOf<W> = Seat<SlotOf<W>, RecordOf<W>>;
 
 type TableOf<W> = Table<SlotOf<W>, RecordOf<W>, usize, HandoffRule<W>, Global>;
 
@@ -29,10 +30,18 @@ type TableOf<W> = Table<SlotOf<W>, RecordOf<W>, usize, HandoffRule<W>, Global>;
 pub struct Handoff<W: Work> {
     pub(crate) table: TableOf<W>,
     pub(crate) places: usize,
-    pub(crate) offers: Bell,
-    pub(crate) answers: Bell,
+    pub(crate) offers: Bell<Offers>,
+    pub(crate) answers: Bell<Answers>,
     ghost sized: { (table.shared.table_id.words ≡ places + 1)
         × (table.shared.table_id.slots ≡ places) × (table.shared.key ≡ places) },
+}
+
+// The pieces that an owner has offered since it last called hands.
+#[derive(Drop)]
+pub(crate) enum Uncalled {
+    Nothing,
+    One(Brought<Offers>),
+    Several(Brought<Offers>),
 }
 
 /// The only party that offers, collects, stops, makes hands and closes. Its record is kept for
@@ -40,8 +49,8 @@ pub struct Handoff<W: Work> {
 #[derive(Drop)]
 pub struct Owner<W: Work> {
     pub(crate) seat: SeatOf<W>,
-    // The number of pieces that it has offered since it last called hands.
-    pub(crate) uncalled: u64,
+    // What it has offered since it last called hands.
+    pub(crate) uncalled: Uncalled,
     // Whether it never calls hands.
     pub(crate) alone: bool,
     ghost seated: { (seat.id ≡ 0) × (seat.me.1 ≡ [])
@@ -119,7 +128,7 @@ impl<W: Work> Handoff<W> {
                 },
                 Owner {
                     seat,
-                    uncalled: 0,
+                    uncalled: Uncalled::Nothing,
                     alone: false,
                 },
             )),
@@ -136,12 +145,12 @@ impl<W: Work> Handoff<W> {
 
     /// The bell that is rung when there are pieces to claim, and when the owner has stopped. Hands
     /// wait on it.
-    pub fn offers(&self) -> &Bell {
+    pub fn offers(&self) -> &Bell<Offers> {
         &self.offers
     }
 
     /// The bell that is rung when there are answers to collect. The owner waits on it.
-    pub fn answers(&self) -> &Bell {
+    pub fn answers(&self) -> &Bell<Answers> {
         &self.answers
     }
 }
@@ -173,10 +182,23 @@ impl<W: Work> Owner<W> {
         ensures here { owner_table self.new ≡ owner_table self.old }
         ensures same { owner_record self.new ≡ owner_record self.old }
     {
-        if self.uncalled > 1 && !self.alone {
-            handoff.offers.ring();
+        if let Uncalled::Several(brought) = &self.uncalled {
+            if !self.alone {
+                handoff.offers.ring(brought);
+            }
         }
-        self.uncalled = 0;
+        self.uncalled = Uncalled::Nothing;
+    }
+
+    /// Wakes the waiting hands if a piece was offered since the last call, even if the owner works
+    /// alone. It does not count as a call.
+    pub fn call_early(&self, handoff: &Handoff<W>) {
+        match &self.uncalled {
+            Uncalled::One(brought) | Uncalled::Several(brought) => {
+                handoff.offers.ring(brought);
+            }
+            Uncalled::Nothing => {}
+        }
     }
 
     /// Sets whether the owner works alone from now on. If it does, `call` wakes no hand. The
@@ -190,16 +212,13 @@ impl<W: Work> Owner<W> {
 
     /// Sets the flag of the owner's hand-off for good, and wakes all hands. The owner's record says
     /// so.
-    pub fn stop(&mut self, handoff: &Handoff<W>) -> Rung
+    pub fn stop(&mut self, handoff: &Handoff<W>) -> Rung<Offers>
         requires here { owner_table self.old ≡ table_of handoff.now }
         ensures here { owner_table self.new ≡ owner_table self.old }
         ensures stopped { owner_record self.new ≡ stopped (owner_record self.old) }
     {
-        handoff
-            .table
-            .shared
-            .store::<Stop>(&mut self.seat, handoff.places, STOPPED);
-        handoff.offers.ring()
+        let brought = handoff.bring::<Stop>(&mut self.seat, handoff.places, STOPPED);
+        handoff.offers.ring(&brought)
     }
 
     // Takes in a hand that holds nothing.
@@ -233,8 +252,11 @@ impl<W: Work> Owner<W> {
             Slot::Nothing => {}
             Slot::Piece(_) | Slot::Answer(_) => unreachable!(),
         }
-        shared.store::<Offer>(&mut self.seat, place, OFFERED);
-        self.uncalled = self.uncalled.saturating_add(1);
+        let brought = handoff.bring::<Offer>(&mut self.seat, place, OFFERED);
+        self.uncalled = match self.uncalled {
+            Uncalled::Nothing => Uncalled::One(brought),
+            Uncalled::One(_) | Uncalled::Several(_) => Uncalled::Several(brought),
+        };
     }
 
     /// Collects, from any place of the owner's hand-off, an answer to its last offer there; the
@@ -274,8 +296,8 @@ impl<W: Work> Owner<W> {
         &mut self,
         handoff: &Handoff<W>,
         place: usize,
-        seen: Seen,
-    ) -> Result<W::Done, Missed>
+        seen: Seen<Answers>,
+    ) -> Result<W::Done, Missed<Answers>>
         requires here { owner_table self.old ≡ table_of handoff.now }
         requires place { place < places_of handoff.now }
         ensures here { owner_table self.new ≡ owner_table self.old }
@@ -372,8 +394,8 @@ impl<W: Work> Hand<W> {
         &mut self,
         handoff: &Handoff<W>,
         from: usize,
-        seen: Seen,
-    ) -> Result<(Claimed, W::Piece), Missed>
+        seen: Seen<Offers>,
+    ) -> Result<(Claimed, W::Piece), Missed<Offers>>
         requires here { hand_table self.old ≡ table_of handoff.now }
         requires idle { HoldsNothing (hand_record self.old) }
         ensures here { hand_table self.new ≡ hand_table self.old }
@@ -394,7 +416,12 @@ impl<W: Work> Hand<W> {
 
     /// Gives back an answer to the piece that this hand claimed and holds, and wakes the owner. The
     /// place is done, and the hand's record says that it holds nothing there any more.
-    pub fn give_back(&mut self, handoff: &Handoff<W>, claimed: Claimed, done: W::Done) -> Rung
+    pub fn give_back(
+        &mut self,
+        handoff: &Handoff<W>,
+        claimed: Claimed,
+        done: W::Done,
+    ) -> Rung<Answers>
         requires here { hand_table self.old ≡ table_of handoff.now }
         requires does { AnswersHeld W.does
             (place_record (hand_record self.old) (claimed_place claimed)) done }
@@ -409,7 +436,7 @@ impl<W: Work> Hand<W> {
             Slot::Nothing => {}
             Slot::Piece(_) | Slot::Answer(_) => unreachable!(),
         }
-        shared.store::<GiveBack>(&mut self.seat, place, DONE);
-        handoff.answers.ring()
+        let brought = handoff.bring::<GiveBack>(&mut self.seat, place, DONE);
+        handoff.answers.ring(&brought)
     }
 }

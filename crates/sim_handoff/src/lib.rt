@@ -3,13 +3,14 @@
 #![tactic(auto)]
 
 mod bell;
+mod brought;
 mod ends;
 mod handoff;
 mod records;
 mod rule;
 mod steps;
 
-pub use bell::{Bell, Missed, Rung, Seen};
+pub use bell::{Answers, Bell, Missed, Offers, Rung, Seen};
 pub use ends::{Left, close};
 pub use handoff::{Claimed, Hand, Handoff, Owner};
 pub use rule::Work;

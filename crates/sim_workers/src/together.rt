@@ -217,7 +217,7 @@ pub fn round_together<S: Site, W: PartWork<S>, G: Gate<W>, K: RowSink<S::Row>, R
     let all = Vec::with_capacity(alloc, parts.len())?;
     let homes = offer_due(alloc, team.handoff, &mut team.owner, &ends, parts, homes);
     if moment.is_some() {
-        team.handoff.offers().ring();
+        team.owner.call_early(team.handoff);
     }
     let handed = hand_on::<S, K>(alloc, lent, moment, sink);
     let outcomes = collect_all(
