@@ -71,6 +71,8 @@ WRONG = {
     "pair_turned": ("src/lib.rt", "choose(self.first, self.second)", "choose(self.second, self.first)"),
     "definition_turned": ("specs/Choices.antt", "chosen first second = first", "chosen first second = second"),
 }
+# What the prover says of a function whose borrows it does not cover.
+NOT_COVERED = "no proof: expected ./proofs/choose/Proof.antt, since the borrow checker does not cover it yet (a pair)"
 # One that changes nothing that is promised, one of code that can't be read, and one of a text that is not there.
 NOT_TRIED = {
     "harmless": ("src/lib.rt", "choose(choose(first, second), third)", "choose(first, choose(second, third))"),
@@ -118,7 +120,7 @@ class WrongBodies(ToolCase):
         self.assertEqual(told[f"{folder}/harmless.edit"], "NOT REFUSED")
         self.assertEqual(told[f"{folder}/of_no_text.edit"],
                          "BAD EDIT: an 'old:' text stands in src/lib.rt 0 times, and not once")
-        self.assertIn("BAD EDIT: ", told[f"{folder}/unreadable.edit"])
+        self.assertIn("NO VERDICT: ", told[f"{folder}/unreadable.edit"])
         self.assertIn("tiny: 4 of 7 wrong bodies refused", out)
         self.assertRegex(err, r"\A(tiny: \d of 7 have a verdict, after \d+ checks\n)+\Z")
         self.assertRegex(err, r"tiny: 7 of 7 have a verdict, after \d+ checks\n\Z")
@@ -131,6 +133,18 @@ class WrongBodies(ToolCase):
         self.assertIn("tests/wrong-bodies/tiny/pair_turned.edit: NOT REFUSED", out.splitlines())
         self.assertIn("0 of 1 wrong bodies refused, in 1 checks and ", out.splitlines()[-1])
         self.assertEqual((status, len(out.splitlines()), err), (1, 3, "tiny: 1 of 1 have a verdict, after 1 checks\n"))
+
+    def test_what_is_not_tried_has_no_verdict(self):
+        """Neither what the borrow checker does not cover, nor what calls it, is refused."""
+        self.write_edits({"second_beside_zero": WRONG["second_beside_zero"]})
+        self.answer_for_prover("proved", 0)
+        # the crate without an edit is proved, and what comes after that is not covered
+        self.write("bin/rt", "#!/bin/sh\nif mkdir was 2> /dev/null; then exit 0; fi\n"
+                             f"echo 'fn tiny::choose: {NOT_COVERED}'; echo logic=not-proved\nexit 1\n")
+        status, out, _ = self.try_all()
+        self.assertIn(f"/tiny/second_beside_zero.edit: NO VERDICT: fn tiny::choose: {NOT_COVERED}\n", out)
+        self.assertIn("tiny: 0 of 1 wrong bodies refused", out)
+        self.assertEqual(status, 1)
 
     def test_what_is_proved_and_may_wait_is_proved(self):
         self.write_edits({name: WRONG[name] for name in ("pair_turned", "second_beside_zero")})
@@ -233,6 +247,14 @@ class Methods(ToolCase):
 
 
 class Refusals(unittest.TestCase):
+    def test_what_calls_it_is_passed_over(self):
+        check = run.Check.__new__(run.Check)
+        check.name, check.is_proved, check.lines = "tiny", False, []
+        check.functions = [("tiny::choose", NOT_COVERED), ("tiny::Pair::choose", "no proof: a call of `tiny::choose`, "
+                                                           "which has no proof")]
+        of = lambda owner: check.of_function(run.Function((), owner, "choose"), "")
+        self.assertEqual((of(()), of(("Pair",)), check.alone()), (run.NO_VERDICT, run.PASSED_OVER, run.NO_VERDICT))
+
     def test_refused_by_names_alone(self):
         at = "./proofs/Pair/choose/Answers.antt:3:7: error: `returns`: "
         names = [at + "record `Rattle.tiny.proofs.Pair.choose.Lts.After-say` has no field `take-3`",
