@@ -63,9 +63,8 @@ async function answered(call, texts, files) {
   }
 }
 
-// The line of a refusal. The module writes into its memory, so a write fails if there is no more of it.
-const lineOf = (code, bytes) => code === NO_MEMORY ? 'refused 34 Memory'
-  : new TextDecoder().decode(bytes).trimEnd().replace(/^refused 36 Write$/, 'refused 34 Memory');
+// The line of a refusal.
+const lineOf = (code, bytes) => code === NO_MEMORY ? 'refused 34 Memory' : new TextDecoder().decode(bytes).trimEnd();
 
 async function run(text, files) {
   last = null;

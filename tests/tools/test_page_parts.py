@@ -15,8 +15,8 @@ from rehearse_tools.programs import TOP
 
 PAGE = ("units", "dom", "scenario", "faults", "side", "link", "editor")
 WORKER = ("units", "log", "queue", "run", "overtime", "worker")
-# Refusals of how a run is split and of threads. The page splits no run and starts no thread of the module.
-OF_THE_SPLIT = ("WindowTooLong", "BadMap", "BadWorkers", "NoWorker")
+# Refusals that the module does not give: it splits no run, starts no thread, and writes to memory alone.
+NOT_OF_THE_PAGE = ("WindowTooLong", "BadMap", "BadWorkers", "NoWorker", "Write")
 POLLS = """version = 1
 horizon = {horizon}
 [[queue]]
@@ -147,15 +147,15 @@ class Parts(ToolCase):
         self.assertEqual([why.partition(", so it does not")[0] for why in told], [why for _, why in cases])
 
     def test_a_sentence_for_each_refusal(self) -> None:
-        """Each refusal from 10 on that the module can answer has a sentence; a write that failed was out of memory."""
+        """Each refusal from 10 on that the module can give has a sentence."""
         table = re.findall(r"^\| (\d+) \| ([A-Za-z]+) \|", read_text(os.path.join(TOP, "docs", "FORMATS.md")), re.M)
         code = read_text(os.path.join(TOP, "crates", "sim_clock", "src", "refusal.rt"))
         self.assertEqual(sorted(table), sorted((number, name) for name, number in re.findall(
             r"Refusal::([A-Za-z]+)(?: \{ \.\. \})? => (\d+),", code)))
         lines = [f"refused {number} {name}{' at horizon' if 10 < int(number) < 30 else ''}"
-                 for number, name in table if int(number) >= 10 and name not in OF_THE_SPLIT]
+                 for number, name in table if int(number) >= 10 and name not in NOT_OF_THE_PAGE]
         given = self.asked(WORKER, "return values[0].map(it => lineOf(1, encoded(`${it}\\n`)));", lines)
-        self.assertEqual(dict(zip(lines, given))["refused 36 Write"], "refused 34 Memory")
+        self.assertEqual(given, lines)
         reasons, known = self.asked(PAGE, """
             return [values[0].map(it => new Fault('', it, []).reason), Object.keys(REASONS)];""", given)
         self.assertEqual([line for line, reason in zip(lines, reasons) if len(reason) < 20], [])

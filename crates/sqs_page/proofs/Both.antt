@@ -1,13 +1,17 @@
 -- What two writers got, one after the other, and what of it is in a room.
-use Rattle.std.proofs.Common.{Err, List, None, Ok, Result, Some, [], ap, inl, refl, subst, sym, ℕ, ◌++◌, ◌≡◌, ◌∙◌}
+use Rattle.std.proofs.Common.{List, None, Some, [], ap, arith, map, nat_lt, refl, subst, sym, true, ℕ, ◌%◌, ◌++◌, ◌∷◌, ◌≡◌, ◌≢◌, ◌∙◌, length}
+use Rattle.std.proofs.Math.Nat.{mod-one}
+use Rattle.std.proofs.lemmas.Bool.{eq-eqb}
+use Rattle.std.proofs.lemmas.List.FromFn.{length-map-range_with_len}
 use Rattle.std.specs.Io.KnownBytes.{Appends}
-use Rattle.std.specs.Prelude.{IfErr, false}
-use Rattle.std.specs.Result.{IsErrAnd}
+use Rattle.std.specs.List.{list_all, range_with_len}
+use Rattle.sim_clock.specs.declared.refusal.Refusal.{Refusal}
 use Rattle.sim_clock.specs.declared.refusal.Refusal.TheVariants as refusals
 use Rattle.sqs_formats.specs.Actors.{Files}
-use Rattle.sim_records.specs.Writes.{WriterState}
 use Rattle.sqs_formats.specs.Output.{ending_of, log_of}
-use Rattle.sqs_rehearsal.specs.Rehearsals.{IsWritten}
+use Rattle.sqs_model.specs.Scenario.{Scenario}
+use Rattle.sqs_rehearsal.specs.Options.{split_fault, unsplit}
+use Rattle.sqs_rehearsal.specs.Rehearsals.{IsRefused, IsWritten}
 use Rattle.sqs_rehearsal.specs.Writers.{Writer}
 use Rattle.sqs_rehearsal.specs.declared.rehearsal.Fault.{Fault}
 use Rattle.sqs_rehearsal.specs.declared.rehearsal.Fault.TheVariants as faults
@@ -24,24 +28,27 @@ output_of_both text files log report first second all fresh got empty rest is w 
     subst (λ x. Appends x (Some second) (ending_of w.of.scenario w.of.run)) empty (subst (λ x. Appends report.before.held x (ending_of w.of.scenario w.of.run)) rest w.whole_report.bytes) in
     record { of = w.of; not_over = w.not_over; whole = is ∙ ap (λ (l : List ℕ). l ++ second) log_is ∙ ap (λ (e : List ℕ). log_of w.of.scenario w.of.run ++ e) rest_is }
 
--- a writer that holds what it held
-abbrev unused : Writer
-unused = let s : WriterState = record { held = None; failed = false; flushed = false } in record { before = s; after = s }
+-- the queues of a scenario on one list are those of the first partition
+all_on_one : (queues : List ℕ) → list_all (λ p. nat_lt p 1) (map (λ q. q % 1) queues) ≡ true
+all_on_one [] = refl
+all_on_one (q ∷ queues) = rw (mod-one q) (all_on_one queues)
 
--- memory is refused where nothing was written
-pub memory_refused : (text : List ℕ) (files : Files) → IsRefusedFor text files (faults.Refused refusals.Memory)
-memory_refused text files =
-    record {
-      log = unused;
-      report = unused;
-      is = inl (record { no_log = record { nothing = refl; whole = refl }; no_report = record { nothing = refl; whole = refl } });
-    }
+-- a run on one list is always possible
+one_list_fits : (s : Scenario) (r : Refusal) → split_fault s unsplit ≢ Some r
+one_list_fits s r e = let n : ℕ = length s.queues in let fits : split_fault s unsplit ≡ None =
+    rw (length-map-range_with_len (λ q. q % 1) 0 n, all_on_one (range_with_len 0 n), eq-eqb n n refl) refl in cc
 
--- the fault that a `?` hands on is the one that it met
-pub handed_for : {X : Type 0} (text : List ℕ) (files : Files) (r : Result X Fault) (f : Fault)
-    → IsErrAnd r (λ met. met ≡ f) → IsRefusedFor text files f → IfErr r (IsRefusedFor text files)
-handed_for text files (Ok x) f p b = absurd p
-handed_for text files (Err met) f p b = rw p b
+-- why a text is refused, whatever the writers got, but for a failed write
+pub refused_for : (text : List ℕ) (files : Files) (log report : Writer) (f : Fault) → f ≢ faults.Refused refusals.Write → IsRefused (asked text files) log report f → IsRefusedFor text files f
+refused_for text files log report (faults.Scenario f) other is = is.0
+refused_for text files log report (faults.Refused refusals.Write) other is = absurd (other refl)
+refused_for text files log report (faults.Refused refusals.Memory) other is = tt
+refused_for text files log report (faults.Refused refusals.CountLimit) other is = (record { scenario = is.stopped.of.scenario; stated = is.stopped.of.stated }, is.over)
+refused_for text files log report (faults.Refused refusals.NoWorker) other is = absurd (let several = is.several in omega (arith, several))
+refused_for text files log report (faults.Refused refusals.BadMap) other is = absurd (one_list_fits is.0.0.scenario refusals.BadMap is.0.1)
+refused_for text files log report (faults.Refused (refusals.WindowTooLong w least)) other is = absurd (one_list_fits is.0.0.scenario (refusals.WindowTooLong w least) is.0.1)
+refused_for text files log report (faults.Refused refusals.BadWorkers) other is = absurd (one_list_fits is.0.0.scenario refusals.BadWorkers is.0.1)
+refused_for text files log report (faults.Refused r) other is = absurd is.0
 
 -- what holds of an answer holds of the part of the room that it is in
 pub in_room : (Holds : List ℕ → Type 0) (answer slice put : List ℕ) → put ≡ slice → slice ≡ answer → Holds answer → Holds put

@@ -1,13 +1,15 @@
 -- What a page gets for a scenario's text and its script files.
-use Rattle.std.specs.Prelude.{List, length, ℕ, ◌++◌, ◌<◌, ◌≡◌}
+use Rattle.std.specs.Prelude.{Bool, Err, List, MatchBool, length, ℕ, ◌++◌, ◌<◌, ◌==◌, ◌||◌, ◌≡◌, ◌≤◌}
+use Rattle.sim_clock.specs.declared.refusal.Refusal.TheVariants as refusals
 use Rattle.sqs_formats.specs.Actors.{Files}
 use Rattle.sqs_formats.specs.Output.{ending_of, log_of}
+use Rattle.sqs_formats.specs.Scenario.{scenario_of}
 use Rattle.sqs_model.specs.Limits.{IsOver}
 use Rattle.sqs_rehearsal.specs.FaultLines.{refusal_line}
 use Rattle.sqs_rehearsal.specs.Options.{unsplit}
-use Rattle.sqs_rehearsal.specs.Rehearsals.{IsRefused, Rehearsed, Request, request}
-use Rattle.sqs_rehearsal.specs.Writers.{Writer}
+use Rattle.sqs_rehearsal.specs.Rehearsals.{Rehearsed, Request, Stated, request}
 use Rattle.sqs_rehearsal.specs.declared.rehearsal.Fault.{Fault}
+use Rattle.sqs_rehearsal.specs.declared.rehearsal.Fault.TheVariants as faults
 
 -- what a page asks for: this text, with these script files, on one list
 abbrev pub asked : List ℕ → Files → Request
@@ -20,17 +22,27 @@ pub record IsOutputOf (text : List ℕ) (files : Files) (output : List ℕ) : Ty
   pub not_over : ¬ IsOver of.scenario
   pub whole : output ≡ log_of of.scenario of.run ++ ending_of of.scenario of.run
 
--- why the text is refused, with what two writers got by then
-pub record IsRefusedFor (text : List ℕ) (files : Files) (fault : Fault) : Type 0 where
-  pub log : Writer
-  pub report : Writer
-  pub is : IsRefused (asked text files) log report fault
+module _ (text : List ℕ) (files : Files) where
+  -- why the text is refused: nothing is written but to memory, so no write fails
+  abbrev pub IsRefusedFor : Fault → Type 0
+  IsRefusedFor (faults.Scenario f) = scenario_of files text ≡ Err f
+  IsRefusedFor (faults.Refused refusals.CountLimit) = (s : Stated (asked text files)) × IsOver s.scenario
+  IsRefusedFor (faults.Refused refusals.Memory) = Unit {0}
+  IsRefusedFor (faults.Refused r) = ⊥
 
 -- the line of a fault of which this holds
 pub record IsLineOf (Holds : Fault → Type 0) (line : List ℕ) : Type 0 where
   pub fault : Fault
   pub why : Holds fault
   pub line_is : line ≡ refusal_line fault
+
+-- whether a code says that the room has an answer
+abbrev pub has_answer : ℕ → Bool
+has_answer code = code == 0 || code == 1 || code == 6
+
+-- an answer that a code speaks of fits into the room; without one the room is as before
+abbrev pub IsRoomAfter : ℕ → ℕ → List ℕ → List ℕ → Type 0
+IsRoomAfter code needed before after = MatchBool (has_answer code) (needed ≤ length after) (after ≡ before)
 
 -- an answer of which this holds is of the length that is needed, for which the room is too short
 pub record IsTooShort (room : List ℕ) (needed : ℕ) (Holds : List ℕ → Type 0) : Type 0 where

@@ -7,7 +7,7 @@ ghost use Rattle.std.specs.Prelude.{◌≡◌, ◌≤◌, ◌<◌, ◌⊎◌, []
 ghost use Rattle.sqs_formats.specs.Actors.{Files};
 ghost use Rattle.sqs_page.specs.Comparisons.{IsComparisonOf, IsEitherFault, IsFirstFault, IsSecondFault};
 ghost use Rattle.sqs_page.specs.Files.{AreFiles, ForFiles};
-ghost use Rattle.sqs_page.specs.Pages.{IsLineOf, IsOutputOf, IsRefusedFor, IsTooShort};
+ghost use Rattle.sqs_page.specs.Pages.{IsLineOf, IsOutputOf, IsRefusedFor, IsRoomAfter, IsTooShort};
 ghost use Rattle.sqs_rehearsal.specs.FaultLines.{refusal_line};
 
 mod comparison;
@@ -51,6 +51,7 @@ fn put_output(output: &[u8], room: &mut [u8], needed: &mut u64) -> u32
     ensures fits { result ≡ 0 → take needed.new room.new ≡ output.now }
     ensures short { result ≡ 2 → length room.new < needed.new }
     ensures needed { needed.new ≡ length output.now }
+    ensures room { IsRoomAfter result needed.new room.old room.new }
     ensures length { length room.new ≡ length room.old }
 {
     if put(output, room, needed) {
@@ -68,6 +69,7 @@ fn put_fault(alloc: Global, refused: u32, fault: &Fault, room: &mut [u8], needed
     ensures memory { result ≡ 3 → needed.new ≡ 0 }
     ensures short { result ≡ 4 → length room.new < needed.new }
     ensures needed { result ≡ 4 → needed.new ≡ length (refusal_line fault.now) }
+    ensures room { IsRoomAfter result needed.new room.old room.new }
     ensures length { length room.new ≡ length room.old }
 {
     match put_line(alloc, fault, room, needed) {
@@ -88,6 +90,7 @@ fn rehearse(alloc: Global, text: &[u8], scripts: &Scripts, room: &mut [u8], need
     ensures memory { result ≡ 3 → needed.new ≡ 0 }
     ensures line { result ≡ 4
         → IsTooShort room.new needed.new (IsLineOf (IsRefusedFor text.now scripts.now)) }
+    ensures room { IsRoomAfter result needed.new room.old room.new }
     ensures length { length room.new ≡ length room.old }
 {
     match output(alloc, text, scripts) {
@@ -118,6 +121,7 @@ fn compare(
     ensures memory { result ≡ 3 → needed.new ≡ 0 }
     ensures line { result ≡ 4 → IsTooShort room.new needed.new
         (IsLineOf (IsEitherFault first.now second.now scripts.now)) }
+    ensures room { IsRoomAfter result needed.new room.old room.new }
     ensures length { length room.new ≡ length room.old }
 {
     match comparison(alloc, first, second, scripts) {
@@ -130,7 +134,8 @@ fn compare(
 /// Rehearses a scenario whose scripts are in its text, on this thread alone. `needed` gets the
 /// length of the answer, and the room the answer if there is place for it. After `DONE` that is the
 /// log, what is left at the end and the report, and after `REFUSED` the line of the refusal.
-/// `NO_ROOM` and `NO_LINE` ask for a longer room.
+/// `NO_ROOM` and `NO_LINE` ask for a longer room. After them, and after `NO_MEMORY`, which sets
+/// `needed` to 0, the room is as it was.
 #[unsafe(no_mangle)]
 pub extern "C" fn sqs_page_rehearse(
     alloc: Global,
@@ -146,6 +151,7 @@ pub extern "C" fn sqs_page_rehearse(
     ensures memory { result ≡ 3 → needed.new ≡ 0 }
     ensures line { result ≡ 4
         → IsTooShort room.new needed.new (IsLineOf (IsRefusedFor text.now [])) }
+    ensures room { IsRoomAfter result needed.new room.old room.new }
     ensures length { length room.new ≡ length room.old }
 {
     let no_scripts = Scripts::new(Vec::new(alloc));
@@ -154,7 +160,7 @@ pub extern "C" fn sqs_page_rehearse(
 
 /// Rehearses a scenario as `sqs_page_rehearse` does, with its script files. `files` has the name of
 /// each file and, behind it, the file; `lengths` has how long both are. After `NO_FILES` they do
-/// not fit together.
+/// not fit together, `needed` is 0, and the room is as it was.
 #[unsafe(no_mangle)]
 pub extern "C" fn sqs_page_rehearse_with_files(
     alloc: Global,
@@ -175,6 +181,8 @@ pub extern "C" fn sqs_page_rehearse_with_files(
     ensures line { result ≡ 4 → ForFiles files.now lengths.now (λ scripts.
         IsTooShort room.new needed.new (IsLineOf (IsRefusedFor text.now scripts))) }
     ensures no_files { result ≡ 5 → (scripts : Files) → ¬ AreFiles files.now lengths.now scripts }
+    ensures nothing { result ≡ 5 → needed.new ≡ 0 }
+    ensures room { IsRoomAfter result needed.new room.old room.new }
     ensures length { length room.new ≡ length room.old }
 {
     *needed = 0;
@@ -212,6 +220,8 @@ pub extern "C" fn sqs_page_compare(
         IsTooShort room.new needed.new
         (IsLineOf (IsEitherFault first.now second.now scripts))) }
     ensures no_files { result ≡ 5 → (scripts : Files) → ¬ AreFiles files.now lengths.now scripts }
+    ensures nothing { result ≡ 5 → needed.new ≡ 0 }
+    ensures room { IsRoomAfter result needed.new room.old room.new }
     ensures length { length room.new ≡ length room.old }
 {
     *needed = 0;

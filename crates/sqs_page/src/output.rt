@@ -1,20 +1,40 @@
 //! The output of a rehearsal, in one text.
-ghost use Rattle.std.specs.Prelude.{◌≡◌, IfErr, IfOk};
+ghost use Rattle.std.specs.Prelude.{◌≡◌, ◌++◌, IfErr, IfOk, List, ℕ};
 ghost use Rattle.sim_clock.specs.declared.refusal.Refusal.TheVariants.{Memory};
-ghost use Rattle.sqs_page.specs.Pages.{IsOutputOf, IsRefusedFor};
+ghost use Rattle.sqs_formats.specs.Actors.{Files};
+ghost use Rattle.sqs_page.specs.Pages.{IsOutputOf, IsRefusedFor, asked};
+ghost use Rattle.sqs_rehearsal.specs.Rehearsals.{IsRefused};
+ghost use Rattle.sqs_rehearsal.specs.Writers.{Writer};
 ghost use Rattle.sqs_rehearsal.specs.declared.rehearsal.Fault.TheVariants.{Refused};
 
 use sim_clock::Refusal;
 use sim_records::ToWriter;
 use sim_scenario::Scripts;
 use sqs_rehearsal::{Fault, rehearse_alone};
-use std::alloc::{AllocError, Global};
+use std::alloc::Global;
 
-// Memory was refused.
-fn no_memory(_refused: AllocError) -> Fault
-    ensures { result ≡ Refused Memory }
+// Why a rehearsal is refused whose writers write to memory: such a writer fails only if memory is
+// refused.
+#[tactic(auto, using(crate::proofs::Both::refused_for))]
+fn in_memory(fault: Fault) -> Fault
+    ensures { (text : List ℕ) (files : Files) (log report : Writer)
+        → IsRefused (asked text files) log report fault → IsRefusedFor text files result }
 {
-    Fault::Refused(Refusal::Memory)
+    match fault {
+        Fault::Refused(Refusal::Write) => Fault::Refused(Refusal::Memory),
+        other => other,
+    }
+}
+
+// A text with another one behind it; it fails only if memory is refused.
+fn joined(mut text: Vec<u8>, more: &[u8]) -> Result<Vec<u8>, Fault>
+    ensures joined { IfOk result (λ all. all.items ≡ text.items ++ more.now) }
+    ensures memory_only { IfErr result (λ fault. fault ≡ Refused Memory) }
+{
+    match text.extend_from_slice(more) {
+        Ok(()) => Ok(text),
+        Err(_) => Err(Fault::Refused(Refusal::Memory)),
+    }
 }
 
 /// The log of a scenario, what is left at the end and the report, or why it is refused.
@@ -24,10 +44,8 @@ pub fn output(alloc: Global, text: &[u8], scripts: &Scripts) -> Result<Vec<u8>, 
 {
     let mut log = ToWriter::new(Vec::new(alloc));
     let mut ending = ToWriter::new(Vec::new(alloc));
-    rehearse_alone(alloc, text, scripts, &mut log, &mut ending)?;
-    let mut output = log.into_inner();
-    match output.extend_from_slice(ending.get_ref().as_slice()) {
-        Ok(()) => Ok(output),
-        Err(refused) => Err(no_memory(refused)),
+    match rehearse_alone(alloc, text, scripts, &mut log, &mut ending) {
+        Ok(()) => joined(log.into_inner(), ending.get_ref().as_slice()),
+        Err(fault) => Err(in_memory(fault)),
     }
 }
