@@ -10,6 +10,8 @@ use Rattle.sim_clock.specs.declared.refusal.Refusal.{Refusal}
 use Rattle.sim_clock.specs.declared.refusal.Refusal.TheVariants as refusals
 use Rattle.sqs_message.specs.declared.calls.ScriptCall.{ScriptCall}
 use Rattle.sqs_message.specs.Ids.{receipt_text}
+use Rattle.sqs_message.specs.declared.ids.MessageId.{MessageId}
+use Rattle.sqs_message.specs.declared.ids.Receipt.{Receipt}
 use Rattle.sqs_model.specs.declared.acts.Act.{Act}
 use Rattle.sqs_model.specs.declared.acts.Act.TheVariants as acts
 use Rattle.sqs_model.specs.declared.acts.Answer.{Answer}
@@ -126,3 +128,22 @@ DoesNothing (Err e) new model = ⊥
 abbrev pub made_of : List ScriptCall → Option (Act × Option ℕ)
 made_of [] = None
 made_of (c ∷ cs) = Some (act_of c.call, first_at cs)
+
+-- a decision of the actor with a life, at home there, whatever its other settings
+abbrev pub DecidesAt : ℕ → Result Act Refusal → Life → Life → (Actor → Act × Actor) → Type 0
+DecidesAt home result old new decision = (s : ActorSettings) → s.home ≡ home → Decides result (lived s new) (decision (lived s old))
+
+-- the same of the end of the service of the first message held, by the actor with the others
+abbrev pub EndsFirst : ℕ → Result Act Refusal → Life → Life → (Actor → Got → Act × Actor) → Type 0
+EndsFirst home result old new decision =
+    (s : ActorSettings) (g : Got) (gs : List Got) → s.home ≡ home → old.held ≡ g ∷ gs → Decides result (lived s new) (decision (record (lived s old) { held = gs }) g)
+
+-- where that message has this id and this receipt
+abbrev pub EndsThis : ℕ → MessageId → Receipt → Result Act Refusal → Life → Life → (Actor → Got → Act × Actor) → Type 0
+EndsThis home id receipt result old new decision =
+    (s : ActorSettings) (g : Got) (gs : List Got) → s.home ≡ home → old.held ≡ g ∷ gs → g.id ≡ id → g.receipt ≡ receipt
+    → Decides result (lived s new) (decision (record (lived s old) { held = gs }) g)
+
+-- what holds of the actor before and after, whatever its settings
+abbrev pub Lived : Life → Life → (Actor → Actor → Type 0) → Type 0
+Lived old new P = (s : ActorSettings) → P (lived s old) (lived s new)

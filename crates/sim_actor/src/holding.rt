@@ -2,7 +2,7 @@
 ghost use Rattle.std.specs.Prelude.{◌≡◌, ◌↔◌, ◌++◌, ◌∷◌, [], List, MatchOption, drop, true};
 ghost use Rattle.std.specs.Option.{option_copied};
 ghost use Rattle.sqs_redrive.specs.declared.answers.Got.{Got as GotMessage};
-ghost use Rattle.sim_actor.specs.Holdings.{first_of, only_held};
+ghost use Rattle.sim_actor.specs.Holdings.{failed_first, first_of, only_held, served_first};
 
 use sqs_redrive::Got;
 use std::alloc::Global;
@@ -116,7 +116,7 @@ impl Holding {
     pub fn serve_first(&mut self)
         ensures first { (got : GotMessage) (others : List GotMessage)
             → self.old.held ≡ got ∷ others
-            → self.new ≡ record self.old { done = self.old.done ++ got ∷ []; held = others } }
+            → self.new ≡ served_first self.old got others }
         ensures none { self.old.held ≡ [] → self.new ≡ self.old }
     {
         if self.failed + self.done < self.messages.len() {
@@ -129,12 +129,7 @@ impl Holding {
     pub fn fail_first(&mut self)
         ensures first { (got : GotMessage) (others : List GotMessage)
             → self.old.held ≡ got ∷ others
-            → self.new
-            ≡ record {
-              failed = self.old.failed ++ (self.old.done ++ got ∷ []);
-              done = [];
-              held = others;
-            } }
+            → self.new ≡ failed_first self.old got others }
         ensures none { self.old.held ≡ [] → self.new ≡ self.old }
     {
         if self.failed + self.done < self.messages.len() {

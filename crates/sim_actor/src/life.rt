@@ -1,11 +1,10 @@
 //! What an actor holds and counts, besides its settings.
 ghost use Rattle.std.specs.Prelude.{◌≡◌, ◌≤◌, ◌<◌, ◌+◌, None};
-ghost use Rattle.sqs_model.specs.declared.agents.ActorSettings.{ActorSettings};
 ghost use Rattle.sqs_model.specs.Actor.{has_come, wakes_after};
 ghost use Rattle.sqs_model.specs.Answers.{most_count};
 ghost use Rattle.sqs_model.specs.Draw.{drawn_time};
 ghost use Rattle.sqs_model.specs.Valid.{IsDistribution};
-ghost use Rattle.sim_actor.specs.Lives.{Becomes, lived};
+ghost use Rattle.sim_actor.specs.Lives.{Becomes, Lived};
 
 mod consumer;
 mod failing;
@@ -73,8 +72,8 @@ impl Life {
     ) -> Result<(), Refusal>
         requires moment { now ≤ most_count }
         requires distribution { IsDistribution distribution.now }
-        ensures life { (s : ActorSettings) → Becomes result (lived s self.new)
-            (wakes_after (lived s self.old) now (drawn_time distribution.now self.old.draws)) }
+        ensures life { Lived self.old self.new (λ a b. Becomes result b (wakes_after a now
+            (drawn_time distribution.now a.draws))) }
         ensures framed { self.new.number ≡ self.old.number }
     {
         if self.draws.taken() == MOST_COUNT {

@@ -1,5 +1,5 @@
 -- Counts that only grow and are within a limit at the end of a run are within it all the way.
-use Rattle.std.specs.Prelude.{IsNone, List, None, Option, Some, [], false, if◌then◌else◌, map, max, suc, true, zero, ℕ, ◌++◌, ◌+◌, ◌<◌, ◌==◌, ◌∷◌, ◌≡◌, ◌≤◌}
+use Rattle.std.specs.Prelude.{IsNone, List, None, Option, Some, [], map, max, suc, zero, ℕ, ◌++◌, ◌+◌, ◌<◌, ◌==◌, ◌∷◌, ◌≡◌, ◌≤◌}
 use Rattle.std.proofs.Common.{ap, arith, refl, subst, sym, true≢false, ◌∙◌}
 use Rattle.std.proofs.Math.Nat.{le-max_left, le-max_right, max-le}
 use Rattle.sim_clock.specs.declared.key.Key.{Key}
@@ -7,7 +7,8 @@ use Rattle.sim_engine.specs.Counts.{greatest, run_count, sites_count}
 use Rattle.sim_engine.specs.Engine.{Engine}
 use Rattle.sim_engine.specs.Limits.{IsOver, most_count}
 use Rattle.sim_engine.specs.Setting.{IsRunOf, Setting}
-use Rattle.sim_engine.specs.World.{IsWholeRun, Run, after, delivered, delivered_one, handled_among, handled_here, handled_there, is_due, least_due, next_due, stepped, stepped_at}
+use Rattle.sim_engine.specs.World.{IsWholeRun, Run, after, delivered, delivered_one, handled_among, is_due, least_due, next_due, stepped, stepped_at}
+use Rattle.sim_engine.proofs.Branches.{by_cases}
 
 -- the greater of greater numbers is greater
 pub max_up : (a b c d : ℕ) → a ≤ b → c ≤ d → max a c ≤ max b d
@@ -35,18 +36,12 @@ module _ {Site Row Transfer : Type 0} (engine : Engine Site Row Transfer) where
     among_up : (key : Key) (sites : List Site) → sites_count engine sites ≤ sites_count engine (handled_among engine key sites).sites
     among_up key [] = omega arith
     among_up key (s ∷ ss) =
-        elim (is_due key (least_due engine s)) as (λ b. sites_count engine (s ∷ ss) ≤ sites_count engine (if b then handled_here engine (handled key s) ss else handled_there engine s (handled_among engine key ss)).sites) [
-          | true ↦ max_up _ _ _ _ (grows key s) (omega arith)
-          | false ↦ max_up _ _ _ _ (omega arith) (among_up key ss)
-        ]
+        by_cases (is_due key (least_due engine s)) (λ e. rw e (max_up _ _ _ _ (grows key s) (omega arith))) (λ e. rw e (max_up _ _ _ _ (omega arith) (among_up key ss)))
 
     one_same : (o : Transfer) (sites : List Site) → sites_count engine (map (delivered_one engine o) sites) ≡ sites_count engine sites
     one_same o [] = refl
     one_same o (s ∷ ss) =
-        elim (to o == number s) as (λ b. max (site_count (core (if b then accepted o s else s))) (sites_count engine (map (delivered_one engine o) ss)) ≡ max (site_count (core s)) (sites_count engine ss)) [
-          | true ↦ rw (kept o s, one_same o ss) refl
-          | false ↦ rw (one_same o ss) refl
-        ]
+        by_cases (to o == number s) (λ e. rw (e, kept o s, one_same o ss) refl) (λ e. rw (e, one_same o ss) refl)
 
     delivered_same : (os : List Transfer) (sites : List Site) → sites_count engine (delivered engine os sites) ≡ sites_count engine sites
     delivered_same [] sites = refl

@@ -1,15 +1,15 @@
 -- The run of sound sites ends: what is due at a moment is handled to the last before anything later, and moments before the horizon are finitely many.
 use Rattle.std.specs.Prelude.{All, IsNone, List, None, Option, Some, [], suc, zero, ℕ, ◌+◌, ◌<◌, ◌≡◌, ◌≤◌}
-use Rattle.std.proofs.Common.{ap, arith, inl, inr, refl, subst, ◌∙◌}
+use Rattle.std.proofs.Common.{ap, arith, refl, subst, ◌∙◌}
 use Rattle.std.proofs.lemmas.Bool.{cases_lt, le-leb, lt-leb}
 use Rattle.std.proofs.lemmas.List.Elements.{All-weaker}
 use Rattle.sim_clock.specs.declared.key.Key.{Key}
 use Rattle.sim_engine.specs.World.{world_due, IsWholeRun, Run, Stepped, after, delivered, due_by, handled_among, next_due, run_on, stepped, stepped_at}
-use Rattle.sim_engine.proofs.Counts.{tick, tick_now, tick_past}
+use Rattle.sim_engine.proofs.Counts.{tick_now, tick_past, tick}
 use Rattle.sim_engine.proofs.WorldMoves.{FallsAmong, IsSoundWorld, among_falls, delivered_count, delivered_sound, tick_key, world_count, world_in, world_none}
 use Rattle.sim_engine.specs.Engine.{Engine}
-use Rattle.sim_engine.specs.Laws.{Conditions}
-use Rattle.sim_engine.specs.Laws.{SiteLaws}
+use Rattle.sim_engine.specs.Laws.{Conditions, SiteLaws}
+use Rattle.sim_engine.proofs.Branches.{by_either}
 
 module _ {Site Row Transfer : Type 0} {engine : Engine Site Row Transfer} {conditions : Conditions Site Transfer} (basics : SiteLaws engine conditions) where
   open engine use {transfer_key}
@@ -53,12 +53,9 @@ module _ {Site Row Transfer : Type 0} {engine : Engine Site Row Transfer} {condi
     ends_by : (m : ℕ) (r : Run engine) (o : Option Key) → Reached r → IsFrom m r → horizon < m → world_due engine r.sites ≡ o → IsNone (due_by horizon o)
     ends_by m r None c h l d = refl
     ends_by m r (Some key) c h l d =
-        elim (cases_lt horizon key.at) as (λ _. IsNone (due_by horizon (Some key))) [
-          | inl k ↦ rw (lt-leb key.at horizon k) refl
-          | inr k ↦
-              let one : 1 ≤ world_count basics key.at r.sites = least_counts key r.sites c.sound d in
-              let none : world_count basics key.at r.sites ≡ 0 = h key.at (omega arith) in absurd (omega arith)
-        ]
+        by_either (cases_lt horizon key.at) (λ k. rw (lt-leb key.at horizon k) refl)
+        (λ k.
+        let none : world_count basics key.at r.sites ≡ 0 = h key.at (omega arith) in absurd (omega (arith, least_counts key r.sites c.sound d)))
 
     -- past the horizon
     ended : (m : ℕ) → horizon < m → EndsFrom m
@@ -79,10 +76,7 @@ module _ {Site Row Transfer : Type 0} {engine : Engine Site Row Transfer} {condi
 
     past_moment : (m : ℕ) (r : Run engine) → IsFrom m r → world_count basics m r.sites ≡ 0 → IsFrom (m + 1) r
     past_moment m r h z e l =
-        elim (cases_lt e m) as (λ _. world_count basics e r.sites ≡ 0) [
-          | inl k ↦ h e k
-          | inr k ↦ let s : m ≡ e = omega arith in subst (λ (j : ℕ). world_count basics j r.sites ≡ 0) s z
-        ]
+        by_either (cases_lt e m) (λ k. h e k) (λ k. let s : m ≡ e = omega arith in subst (λ (j : ℕ). world_count basics j r.sites ≡ 0) s z)
 
     due_handled :
         (m n : ℕ) (r : Run engine) (o : Option Key) → EndsFrom (m + 1) → m ≤ horizon → Reached r → IsFrom m r → world_count basics m r.sites ≤ suc n → world_due engine r.sites ≡ o
@@ -91,27 +85,18 @@ module _ {Site Row Transfer : Type 0} {engine : Engine Site Row Transfer} {condi
     due_handled m n r None later l c h b d again =
         let z : world_count basics m r.sites ≡ 0 = world_none basics m r.sites (ap (tick_key m) d) in later r c (past_moment m r h z)
     due_handled m n r (Some key) later l c h b d again =
-        elim (cases_lt m key.at) as (λ _. (x : Run engine) × IsWholeRun engine horizon start x) [
-          | inl k ↦
-              let z : world_count basics m r.sites ≡ 0 = world_none basics m r.sites (ap (tick_key m) d ∙ tick_past m key.at k) in later r c (past_moment m r h z)
-          | inr k ↦
-              elim (cases_lt key.at m) as (λ _. (x : Run engine) × IsWholeRun engine horizon start x) [
-                | inl j ↦
-                    let one : 1 ≤ world_count basics key.at r.sites = least_counts key r.sites c.sound d in
-                    let none : world_count basics key.at r.sites ≡ 0 = h key.at j in absurd (omega arith)
-                | inr j ↦
-                    let x : Run engine = run_on engine r.rows (handled_among engine key r.sites) in
-                    let f : Stepping key m r.sites x.sites = step_falls key m r.sites j c.sound d in
-                    let g : world_count basics m x.sites + tick m key.at ≤ world_count basics m r.sites = f.fewer in
-                    let t : tick m key.at ≡ 1 = tick_now m key.at k in
-                    again x (reached_next key r c d (omega arith))
-                    (λ e i.
-                    let v : world_count basics e r.sites ≡ 0 = h e i in
-                    let w : Stepping key e r.sites x.sites = step_falls key e r.sites (omega arith) c.sound d in
-                    let u : world_count basics e x.sites + tick e key.at ≤ world_count basics e r.sites = w.fewer in omega arith)
-                    (omega arith)
-              ]
-        ]
+        by_either (cases_lt m key.at) (λ k. later r c (past_moment m r h (world_none basics m r.sites (ap (tick_key m) d ∙ tick_past m key.at k))))
+        (λ k.
+        by_either (cases_lt key.at m)
+        (λ j. let none : world_count basics key.at r.sites ≡ 0 = h key.at j in absurd (omega (arith, least_counts key r.sites c.sound d)))
+        (λ j.
+        let x : Run engine = run_on engine r.rows (handled_among engine key r.sites) in
+        let f : Stepping key m r.sites x.sites = step_falls key m r.sites j c.sound d in
+        again x (reached_next key r c d (omega arith))
+        (λ e i.
+        let v : world_count basics e r.sites ≡ 0 = h e i in
+        let w : Stepping key e r.sites x.sites = step_falls key e r.sites (omega arith) c.sound d in omega (arith, w.fewer))
+        (omega (arith, f.fewer, tick_now m key.at k))))
 
     -- all that is due at a moment is handled
     moment_ends : (m n : ℕ) → EndsFrom (m + 1) → m ≤ horizon → (r : Run engine) → Reached r → IsFrom m r → world_count basics m r.sites ≤ n → (x : Run engine) × IsWholeRun engine horizon start x
@@ -122,10 +107,7 @@ module _ {Site Row Transfer : Type 0} {engine : Engine Site Row Transfer} {condi
     ends_from : (left m : ℕ) → horizon < m + left → EndsFrom m
     ends_from zero m l r c h = ended m (omega arith) r c h
     ends_from (suc left) m l r c h =
-        elim (cases_lt horizon m) as (λ _. (x : Run engine) × IsWholeRun engine horizon start x) [
-          | inl k ↦ ended m k r c h
-          | inr k ↦ moment_ends m (world_count basics m r.sites) (ends_from left (m + 1) (omega arith)) k r c h (omega arith)
-        ]
+        by_either (cases_lt horizon m) (λ k. ended m k r c h) (λ k. moment_ends m (world_count basics m r.sites) (ends_from left (m + 1) (omega arith)) k r c h (omega arith))
 
   -- every run of sound sites ends
   pub ends : (horizon : ℕ) (start : List Site) → IsSoundWorld basics start → (r : Run engine) × IsWholeRun engine horizon start r

@@ -1,7 +1,7 @@
 -- What waits may be delivered in the order of keys, and to each partition what goes to it.
 use Rattle.std.specs.Cmp.{IsTotalOrder}
 use Rattle.std.specs.Ordering.{is_eq, is_lt, on}
-use Rattle.std.specs.Prelude.{Bool, List, [], cond, count_by, false, if◌then◌else◌, map, true, ℕ, ◌+◌, ◌==◌, ◌∷◌, ◌≡◌}
+use Rattle.std.specs.Prelude.{Bool, List, [], count_by, false, if◌then◌else◌, map, true, ℕ, ◌+◌, ◌==◌, ◌∷◌, ◌≡◌}
 use Rattle.std.specs.declared.cmp.Ordering.{Ordering}
 use Rattle.std.proofs.Common.{Equal, Greater, Less, ap, arith, refl, sym, true≢false, ◌∙◌}
 use Rattle.std.proofs.lemmas.Cmp.{on_total}
@@ -15,8 +15,8 @@ use Rattle.sim_engine.proofs.MergedLists.{count_cons}
 use Rattle.sim_engine.proofs.Parts.{Differs, goes, map_delivered, part_map}
 use Rattle.sim_engine.specs.Members.{Each}
 use Rattle.sim_engine.specs.Engine.{Engine}
-use Rattle.sim_engine.specs.Laws.{Conditions}
-use Rattle.sim_engine.specs.Laws.{SiteLaws}
+use Rattle.sim_engine.specs.Laws.{Conditions, SiteLaws}
+use Rattle.sim_engine.proofs.Branches.{by_cases}
 
 less_differs : (o : Ordering) → is_lt o ≡ true → is_eq o ≡ false
 less_differs Less h = refl
@@ -63,19 +63,14 @@ module _ {Site Row Transfer : Type 0} {engine : Engine Site Row Transfer} {condi
     not_map : (p : ℕ) (o : Transfer) (w : List Site) → (owner (to o) == p) ≡ false → map (delivered_one engine o) (part_of engine owner p w) ≡ part_of engine owner p w
     not_map p o [] n = refl
     not_map p o (s ∷ ss) n =
-        elim (is_of engine owner p s) as (λ b. is_of engine owner p s ≡ b → map (delivered_one engine o) (cond b (s ∷ part_of engine owner p ss) (part_of engine owner p ss)) ≡ cond b (s ∷ part_of engine owner p ss) (part_of engine owner p ss)) [
-          | true ↦ λ e. ap (λ x. x ∷ map (delivered_one engine o) (part_of engine owner p ss)) (not_goes p o s _ refl n e) ∙ ap (λ z. s ∷ z) (not_map p o ss n)
-          | false ↦ λ e. not_map p o ss n
-        ] refl
+        by_cases (is_of engine owner p s) (λ e. rw (e, not_goes p o s _ refl n e, not_map p o ss n) refl) (λ e. rw e (not_map p o ss n))
 
     -- a partition gets what goes to it
     pub part_gets : (p : ℕ) (os : List Transfer) (w : List Site) → part_of engine owner p (delivered engine os w) ≡ delivered engine (to_part engine owner p os) (part_of engine owner p w)
     part_gets p [] w = refl
     part_gets p (o ∷ os) w =
-        elim (owner (to o) == p) as (λ b. (owner (to o) == p) ≡ b → part_of engine owner p (delivered engine os (map (delivered_one engine o) w)) ≡ delivered engine (cond b (o ∷ to_part engine owner p os) (to_part engine owner p os)) (part_of engine owner p w)) [
-          | true ↦ λ e. part_gets p os (map (delivered_one engine o) w) ∙ ap (delivered engine (to_part engine owner p os)) (part_map basics owner p o w)
-          | false ↦ λ e. part_gets p os (map (delivered_one engine o) w) ∙ ap (delivered engine (to_part engine owner p os)) (part_map basics owner p o w ∙ not_map p o w e)
-        ] refl
+        by_cases (owner (to o) == p) (λ e. rw e (part_gets p os (map (delivered_one engine o) w) ∙ ap (delivered engine (to_part engine owner p os)) (part_map basics owner p o w)))
+        (λ e. rw e (part_gets p os (map (delivered_one engine o) w) ∙ ap (delivered engine (to_part engine owner p os)) (part_map basics owner p o w ∙ not_map p o w e)))
 
     -- and in the order of keys
     pub part_gets_sorted : (p : ℕ) (os : List Transfer) (w : List Site) → part_of engine owner p (delivered engine os w) ≡ delivered engine (sorted engine (to_part engine owner p os)) (part_of engine owner p w)

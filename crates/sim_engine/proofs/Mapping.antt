@@ -1,5 +1,5 @@
 -- Sites whose rows are mapped keep the laws of the sites, and their runs are the mapped runs.
-use Rattle.std.specs.Prelude.{IsNone, List, None, Option, Some, [], false, if◌then◌else◌, map, max, suc, true, zero, ℕ, ◌+◌, ◌++◌, ◌<◌, ◌==◌, ◌∷◌, ◌≡◌}
+use Rattle.std.specs.Prelude.{IsNone, List, None, Option, Some, [], map, max, suc, zero, ℕ, ◌+◌, ◌++◌, ◌<◌, ◌==◌, ◌∷◌, ◌≡◌}
 use Rattle.std.proofs.Common.{ap, refl, subst, sym, ◌∙◌}
 use Rattle.std.proofs.lemmas.List.{map-append}
 use Rattle.std.proofs.lemmas.List.Elements.{All-map}
@@ -7,18 +7,19 @@ use Rattle.sim_clock.specs.declared.key.Key.{Key}
 use Rattle.sim_clock.specs.declared.refusal.Refusal.{Refusal}
 use Rattle.sim_clock.specs.Order.{lesser}
 use Rattle.sim_engine.specs.declared.edge.Edge.{Edge}
-use Rattle.sim_engine.specs.Counts.{greatest, rows_count, run_count, sites_count}
+use Rattle.sim_engine.specs.Counts.{rows_count, run_count, sites_count}
 use Rattle.sim_engine.specs.Engine.{Engine, Handled}
 use Rattle.sim_engine.specs.Laws.{Conditions, IsRowOf, IsSentBy, IsSoundSetting, RunLaws, SiteLaws}
-use Rattle.sim_engine.specs.Limits.{IsOver, Stops, StopsWhere, most_count}
+use Rattle.sim_engine.specs.Limits.{Stops, StopsWhere, most_count}
 use Rattle.sim_engine.specs.MappingLaws.{mapped_laws}
 use Rattle.sim_engine.specs.Mapping.{KeepsRows, MappedSite, Mapping, RunsAreMapped, mapped, mapped_conditions, mapped_handled, mapped_run, mapped_setting, with_mapper}
 use Rattle.sim_engine.specs.Members.{Each}
-use Rattle.sim_engine.specs.Setting.{IsNumbered, IsRunOf, Setting}
+use Rattle.sim_engine.specs.Setting.{IsNumbered, Setting}
 use Rattle.sim_engine.specs.Simulated.{IsSimulated}
-use Rattle.sim_engine.specs.World.{Run, Stepped, after, delivered, delivered_one, due_by, handled_among, handled_here, handled_there, is_due, least_due, next_due, run_on, stepped, stepped_at, world_due}
+use Rattle.sim_engine.specs.World.{Run, Stepped, after, delivered, delivered_one, due_by, handled_among, handled_there, is_due, least_due, next_due, run_on, stepped, stepped_at, world_due}
 use Rattle.sim_engine.proofs.Parts.{each_weaker}
 use Rattle.sim_engine.proofs.Simulated.{simulated}
+use Rattle.sim_engine.proofs.Branches.{by_cases}
 
 -- a site that is fine, whatever its mapper
 abbrev IsFine : {Site Mapper : Type 0} → (Site → Type 0) → MappedSite Site Mapper → Type 0
@@ -50,19 +51,11 @@ module _ {Site Row Transfer Mapper New : Type 0} (engine : Engine Site Row Trans
   among_mapped : (key : Key) (w : List Site) → handled_among its_engine key (map with w) ≡ mapped_step (handled_among engine key w)
   among_mapped key [] = refl
   among_mapped key (s ∷ ss) =
-      elim (is_due key (least_due engine s)) as
-      (λ b. (if b then handled_here its_engine (mapped_handled engine mapping mapper (handled key s)) (map with ss) else handled_there its_engine (with s) (handled_among its_engine key (map with ss)))
-      ≡ mapped_step (if b then handled_here engine (handled key s) ss else handled_there engine s (handled_among engine key ss))) [
-        | true ↦ refl
-        | false ↦ ap (handled_there its_engine (with s)) (among_mapped key ss)
-      ]
+      by_cases (is_due key (least_due engine s)) (λ e. rw e refl) (λ e. rw e (ap (handled_there its_engine (with s)) (among_mapped key ss)))
 
   one_mapped : (o : Transfer) (s : Site) → delivered_one its_engine o (with s) ≡ with (delivered_one engine o s)
   one_mapped o s =
-      elim (to o == number s) as (λ b. (if b then with (engine.accepted o s) else with s) ≡ with (if b then engine.accepted o s else s)) [
-        | true ↦ refl
-        | false ↦ refl
-      ]
+      by_cases (to o == number s) (λ e. rw e refl) (λ e. rw e refl)
 
   ones_mapped : (o : Transfer) (w : List Site) → map (delivered_one its_engine o) (map with w) ≡ map with (map (delivered_one engine o) w)
   ones_mapped o [] = refl

@@ -1,7 +1,7 @@
 -- The one-list run is a run of partitions' handlings that may come: the least due of the world is that of one partition.
-use Rattle.std.specs.Prelude.{Bool, IsNone, List, None, Option, Some, [], cond, false, if◌then◌else◌, nat_le, not, suc, true, zero, ℕ, ◌&&◌, ◌+◌, ◌++◌, ◌<◌, ◌∷◌, ◌≡◌, ◌≤◌}
+use Rattle.std.specs.Prelude.{Bool, IsNone, List, None, Option, Some, [], cond, false, if◌then◌else◌, not, suc, true, zero, ℕ, ◌&&◌, ◌+◌, ◌++◌, ◌∷◌, ◌≡◌, ◌≤◌}
 use Rattle.std.proofs.Common.{Equal, Greater, Less, ap, append-nil, append_assoc, arith, inl, inr, refl, subst, sym, ◌∙◌}
-use Rattle.std.proofs.lemmas.Bool.{eq-eqb, le-ltb, leb-false, leb-true}
+use Rattle.std.proofs.lemmas.Bool.{eq-eqb, le-ltb}
 use Rattle.std.specs.Ordering.{is_eq, is_lt}
 use Rattle.std.specs.declared.cmp.Ordering.{Ordering}
 use Rattle.sim_clock.specs.declared.key.Key.{Key}
@@ -9,21 +9,22 @@ use Rattle.sim_clock.specs.Order.{due_before, key_cmp, key_cmp_total, lesser}
 use Rattle.sim_clock.proofs.Inserted.{exactly, upto_before}
 use Rattle.sim_clock.proofs.Least.{key_tied}
 use Rattle.sim_clock.proofs.Orderings.{key_self, less_not_back}
-use Rattle.sim_engine.specs.declared.edge.Edge.{Edge}
-use Rattle.sim_engine.specs.World.{least_due, world_due, Run, after, due_by, handled_among, handled_here, handled_there, is_due, next_due, run_on, stepped_at}
-use Rattle.sim_engine.proofs.Branches.{either}
+use Rattle.sim_engine.specs.World.{least_due, world_due, Run, Stepped, after, due_by, handled_among, handled_there, is_due, next_due, run_on, stepped_at}
+use Rattle.sim_engine.proofs.Branches.{either, by_cases}
 use Rattle.sim_engine.proofs.WorldMoves.{DueIn, is_due_least, world_in}
 use Rattle.sim_engine.specs.Parts.{Entry, entry_of, handled_in, is_of, part_due, part_of}
 use Rattle.sim_engine.proofs.Landing.{HoldsOff, landed, part_stepped, part_stepped_at, told_at, told_by}
 use Rattle.sim_engine.proofs.Runs.{IsRun, log, play}
 use Rattle.sim_engine.specs.Prefixes.{told_after, told_next, turn_of}
-pub use Rattle.sim_engine.specs.Theorems.{rows_of}
 use Rattle.sim_engine.specs.Members.{Each}
-use Rattle.sim_engine.proofs.Parts.{before_lesser, here, there}
-use Rattle.sim_engine.proofs.Worlds.{GoesOn, May, delivered_fine, goes_on, not_before, stepped_is}
-use Rattle.sim_engine.specs.Laws.{SiteLaws, RunLaws}
+use Rattle.sim_engine.proofs.Parts.{before_lesser}
+use Rattle.sim_engine.proofs.Worlds.{GoesOn, IsRunBy, May, run_log, run_world, delivered_fine, goes_on, not_before, stepped_is}
+use Rattle.sim_engine.specs.Laws.{Conditions, SiteLaws}
 use Rattle.sim_engine.specs.Engine.{Engine}
-use Rattle.sim_engine.specs.Laws.{Conditions}
+use Rattle.sim_engine.specs.Setting.{IsRunOf}
+use Rattle.sim_engine.proofs.Premises.{Premises}
+use Rattle.sim_engine.specs.Theorems.{rows_of}
+pub use Rattle.sim_engine.specs.Theorems.{rows_of}
 
 -- whether a due, if there is one, does not come before a key
 abbrev pub NotLess : Key → Option Key → Type 0
@@ -135,12 +136,7 @@ module _ {Site Row Transfer : Type 0} {engine : Engine Site Row Transfer} {condi
           | true ↦ λ e.
               let p = owner (number s) in
               let o : is_of engine owner p s ≡ true = eq-eqb p p refl in
-              record {
-                part = p;
-                is_turn = sym (ap (λ b. if b then p else turn_of engine owner key ss) e);
-                within = subst (DueIn basics key) (sym (ap (λ b. cond b (s ∷ part_of engine owner p ss) (part_of engine owner p ss)) o)) (inl (is_due_least key (least_due engine s) e));
-                same = here basics owner p key s ss (ap (λ b. b && is_due key (least_due engine s)) o ∙ e) ∙ sym (ap (λ b. if b then handled_here engine (handled key s) ss else handled_there engine s (handled_among engine key ss)) e);
-              }
+              record { part = p; is_turn = rw e refl; within = rw o (inl (is_due_least key (least_due engine s) e)); same = rw (o, e) refl }
           | false ↦ λ e.
               elim d as (λ _. First key (s ∷ ss)) [
                 | inl k ↦ absurd (let t : is_due key (least_due engine s) ≡ true = ap (is_due key) k ∙ key_self key in let x : true ≡ false = sym t ∙ e in cc)
@@ -148,12 +144,9 @@ module _ {Site Row Transfer : Type 0} {engine : Engine Site Row Transfer} {condi
                     let f : First key ss = first_due key ss k in
                     record {
                       part = f.part;
-                      is_turn = f.is_turn ∙ sym (ap (λ b. if b then owner (number s) else turn_of engine owner key ss) e);
+                      is_turn = rw e f.is_turn;
                       within = due_skipped key s ss f.part (is_of engine owner f.part s) f.within;
-                      same =
-                          there basics owner f.part key s ss (and_off (is_of engine owner f.part s) (is_due key (least_due engine s)) e)
-                          ∙ ap (handled_there engine s) f.same
-                          ∙ sym (ap (λ b. if b then handled_here engine (handled key s) ss else handled_there engine s (handled_among engine key ss)) e);
+                      same = rw (and_off (is_of engine owner f.part s) (is_due key (least_due engine s)) e, e) (ap (handled_there engine s) f.same);
                     }
               ]
         ] refl
@@ -186,10 +179,7 @@ module _ {Site Row Transfer : Type 0} {engine : Engine Site Row Transfer} {condi
     part_none e p (s ∷ ss) h =
         let b : (due_before e (least_due engine s) ≡ None) × (due_before e (world_due engine ss) ≡ None) = both_none (due_before e (least_due engine s)) (due_before e (world_due engine ss)) (sym (before_lesser basics e (least_due engine s) (world_due engine ss)) ∙ h) in
         let i : due_before e (part_due engine owner p ss) ≡ None = part_none e p ss b.1 in
-        elim (is_of engine owner p s) as (λ c. due_before e (world_due engine (cond c (s ∷ part_of engine owner p ss) (part_of engine owner p ss))) ≡ None) [
-          | true ↦ before_lesser basics e (least_due engine s) (part_due engine owner p ss) ∙ ap (λ z. lesser z (due_before e (part_due engine owner p ss))) b.0 ∙ i
-          | false ↦ i
-        ]
+        by_cases (is_of engine owner p s) (λ f. rw (f, before_lesser basics e (least_due engine s) (part_due engine owner p ss), b.0) i) (λ f. rw f i)
 
     -- and the other way round
     pub world_none_of : (e : ℕ) (w : List Site) → ((p : ℕ) → due_before e (part_due engine owner p w) ≡ None) → (d : Option Key) → world_due engine w ≡ d → due_before e d ≡ None
@@ -201,106 +191,109 @@ module _ {Site Row Transfer : Type 0} {engine : Engine Site Row Transfer} {condi
   rows_push (y ∷ ys) x = ap (λ z. y.1.rows ++ z) (rows_push ys x) ∙ sym (append_assoc y.1.rows (rows_of engine ys) x.1.rows)
 
   pub due_is : (horizon : ℕ) (d : Option Key) (key : Key) → due_by horizon d ≡ Some key → (d ≡ Some key) × (key.at ≤ horizon)
-  due_is horizon None key h = absurd (let x : None ≡ Some key = h in cc)
-  due_is horizon (Some k) key h =
-      elim (nat_le k.at horizon) as (λ b. nat_le k.at horizon ≡ b → (if b then Some k else None) ≡ Some key → (Some k ≡ Some key) × (key.at ≤ horizon)) [
-        | true ↦ λ e g. let i : Some k ≡ Some key = g in let j : k ≡ key = cc in let l : k.at ≤ horizon = leb-true k.at horizon e in (g, subst (λ (x : Key). x.at ≤ horizon) j l)
-        | false ↦ λ e g. absurd (let x : None ≡ Some key = g in cc)
-      ] refl h
+  due_is horizon None key h = grind (arith, h)
+  due_is horizon (Some k) key h = grind (arith, h)
 
-  module _ (owner home : ℕ → ℕ) (edges : List Edge) (Fine : Site → Type 0) (Fits : Transfer → Type 0) (laws : RunLaws engine conditions edges home Fine Fits) (horizon : ℕ) where
-    abbrev pub MayNow : ℕ → List Site → Type 0
-    MayNow p w = May basics owner home edges Fine Fits laws horizon p w
+module _ {Site Row Transfer : Type 0} {engine : Engine Site Row Transfer} {conditions : Conditions Site Transfer} (given : Premises engine conditions) where
+  open engine use {number, handled}
+  open given use {basics, setting, Fine, sound, owner}
 
-    -- the least due of a world may be handled
-    pub turn_may : (key : Key) (w : List Site) (t : Turn owner key w) → Each Fine w → world_due engine w ≡ Some key → key.at ≤ horizon → MayNow t.part w
-    turn_may key w t h d l =
-        let z : due_before key.at (world_due engine w) ≡ None = ap (due_before key.at) d ∙ ap (λ b. if b then Some key else None) (le-ltb key.at key.at (omega arith)) in
-        record {
-          fine = h;
-          key = key;
-          due = t.due;
-          early = l;
-          bounds = λ _. key.at + 1;
-          safe = λ e i.
-              let n : due_before key.at (part_due engine owner (owner e.from) w) ≡ None = part_none owner key.at (owner e.from) w z in
-              let k : 1 ≤ e.least = laws.takes_time e i in
-              record { due = after_key (part_due engine owner (owner e.from) w) key.at e.least n k; later = omega arith };
-          before = omega arith;
-        }
+  -- the one-list run of the setting after n handlings, and what they told
+  abbrev pub run_after : ℕ → Run engine
+  run_after n = after engine setting.horizon n setting.opening
 
-    -- so many steps of the one-list run
-    pub record IsTurns (w : List Site) (l : List (ℕ × Entry engine)) (r : Run engine) : Type 0 where
-      pub names : List ℕ
-      pub runs : IsRun (part_stepped basics owner) MayNow names w
-      pub sites : play (part_stepped basics owner) names w ≡ r.sites
-      pub rows : rows_of engine (log (part_stepped basics owner) (told_by basics owner) names w) ≡ r.rows
-      pub told : log (part_stepped basics owner) (told_by basics owner) names w ≡ l
-      pub fine : Each Fine r.sites
+  abbrev pub run_told : ℕ → List (ℕ × Entry engine)
+  run_told n = told_after engine owner setting.horizon n setting.opening
 
-    turn_fine : (p : ℕ) (w : List Site) → MayNow p w → Each Fine (part_stepped basics owner p w)
-    turn_fine p w m =
-        let g : GoesOn basics owner home edges Fine Fits laws p m.key (handled_in engine owner p m.key w) = goes_on basics owner home edges Fine Fits laws p m.key w m.fine in
-        subst (Each Fine) (sym (stepped_is basics owner home edges Fine Fits laws p m.key w m.due))
-        (delivered_fine basics owner home edges Fine Fits laws (handled_in engine owner p m.key w).sent (handled_in engine owner p m.key w).sites g.fits g.fine)
+  -- the least due of a world may be handled
+  pub turn_may : (key : Key) (w : List Site) (t : Turn basics owner key w) → Each Fine w → world_due engine w ≡ Some key → key.at ≤ setting.horizon → May given t.part w
+  turn_may key w t h d l =
+      let z : due_before key.at (world_due engine w) ≡ None = ap (due_before key.at) d ∙ ap (λ b. if b then Some key else None) (le-ltb key.at key.at (omega arith)) in
+      record {
+        fine = h;
+        key = key;
+        due = t.due;
+        early = l;
+        bounds = λ _. key.at + 1;
+        safe = λ e i.
+            let n : due_before key.at (part_due engine owner (owner e.from) w) ≡ None = part_none basics owner key.at (owner e.from) w z in
+            let k : 1 ≤ e.least = sound.laws.takes_time e i in
+            record { due = after_key (part_due engine owner (owner e.from) w) key.at e.least n k; later = omega arith };
+        before = omega arith;
+      }
 
-    next_turn : (key : Key) (w : List Site) (n : List (ℕ × Entry engine)) (r : Run engine) → IsTurns w n r → world_due engine r.sites ≡ Some key → key.at ≤ horizon → IsTurns w (n ++ told_next engine owner r.sites (Some key)) (run_on engine r.rows (handled_among engine key r.sites))
-    next_turn key w n r i d l =
-        let step = part_stepped basics owner in
-        let t : Turn owner key r.sites = turn owner key r.sites d in
-        let p = t.part in
-        let m : MayNow p r.sites = turn_may key r.sites t i.fine d l in
-        let m' : MayNow p (play step i.names w) = subst (MayNow p) (sym i.sites) m in
-        let s : part_stepped basics owner p r.sites ≡ landed basics (handled_among engine key r.sites) = ap (part_stepped_at basics owner p r.sites) t.due ∙ ap (landed basics) t.same in
-        let e : told_by basics owner p r.sites ≡ entry_of engine key (handled_among engine key r.sites) = ap (told_at basics owner p r.sites) t.due ∙ ap (entry_of engine key) t.same in
-        record {
-          names = i.names ++ p ∷ [];
-          runs = run_push step (told_by basics owner) MayNow i.names p w i.runs m';
-          sites = play_push step (told_by basics owner) MayNow i.names p w ∙ ap (step p) i.sites ∙ s;
-          rows =
-              ap (rows_of engine) (log_push step (told_by basics owner) MayNow i.names p w)
-              ∙ rows_push (log step (told_by basics owner) i.names w) (p, told_by basics owner p (play step i.names w))
-              ∙ ap (λ z. z ++ (told_by basics owner p (play step i.names w)).rows) i.rows
-              ∙ ap (λ z. r.rows ++ (told_by basics owner p z).rows) i.sites
-              ∙ ap (λ (x : Entry engine). r.rows ++ x.rows) e;
-          told =
-              log_push step (told_by basics owner) MayNow i.names p w
-              ∙ ap (λ z. z ++ (p, told_by basics owner p (play step i.names w)) ∷ []) i.told
-              ∙ ap (λ z. n ++ (p, told_by basics owner p z) ∷ []) i.sites
-              ∙ ap (λ (x : Entry engine). n ++ (p, x) ∷ []) e
-              ∙ ap (λ k. n ++ (k, entry_of engine key (handled_among engine key r.sites)) ∷ []) t.is_turn;
-          fine = subst (Each Fine) s (turn_fine p r.sites m);
-        }
+  -- a run of handlings from the opening that led to a world, made its rows and told this
+  pub record IsTurns (l : List (ℕ × Entry engine)) (r : Run engine) : Type 0 where
+    pub names : List ℕ
+    pub runs : IsRunBy given names setting.opening
+    pub sites : run_world given names setting.opening ≡ r.sites
+    pub rows : rows_of engine (run_log given names setting.opening) ≡ r.rows
+    pub told : run_log given names setting.opening ≡ l
+    pub fine : Each Fine r.sites
 
-    step_turns : (w : List Site) (n : List (ℕ × Entry engine)) (r : Run engine) (d : Option Key) → IsTurns w n r → next_due engine horizon r.sites ≡ d → IsTurns w (n ++ told_next engine owner r.sites d) (stepped_at engine r d)
-    step_turns w n r None i e = subst (λ l. IsTurns w l r) (sym (append-nil n)) i
-    step_turns w n r (Some key) i e =
-        let x : (world_due engine r.sites ≡ Some key) × (key.at ≤ horizon) = due_is horizon (world_due engine r.sites) key e in
-        next_turn key w n r i x.0 x.1
+  turn_fine : (p : ℕ) (w : List Site) → May given p w → Each Fine (part_stepped basics owner p w)
+  turn_fine p w m =
+      let t : Stepped engine = handled_in engine owner p m.key w in
+      let g : GoesOn given p m.key t = goes_on given p m.key w m.fine in
+      subst (Each Fine) (sym (stepped_is given p m.key w m.due)) (delivered_fine given t.sent t.sites g.fits g.fine)
 
-    -- the one-list run is such a run
-    pub turns : (n : ℕ) (w : List Site) → Each Fine w → IsTurns w (told_after engine owner horizon n w) (after engine horizon n w)
-    turns zero w h = record { names = []; runs = tt; sites = refl; rows = refl; told = refl; fine = h }
-    turns (suc n) w h = step_turns w (told_after engine owner horizon n w) (after engine horizon n w) _ (turns n w h) refl
+  next_turn : (key : Key) (n : List (ℕ × Entry engine)) (r : Run engine) → IsTurns n r → world_due engine r.sites ≡ Some key → key.at ≤ setting.horizon → IsTurns (n ++ told_next engine owner r.sites (Some key)) (run_on engine r.rows (handled_among engine key r.sites))
+  next_turn key n r i d l =
+      let step = part_stepped basics owner in
+      let event = told_by basics owner in
+      let w : List Site = setting.opening in
+      let t : Turn basics owner key r.sites = turn basics owner key r.sites d in
+      let p = t.part in
+      let m : May given p r.sites = turn_may key r.sites t i.fine d l in
+      let s : step p r.sites ≡ landed basics (handled_among engine key r.sites) = ap (part_stepped_at basics owner p r.sites) t.due ∙ ap (landed basics) t.same in
+      let e : event p r.sites ≡ entry_of engine key (handled_among engine key r.sites) = ap (told_at basics owner p r.sites) t.due ∙ ap (entry_of engine key) t.same in
+      record {
+        names = i.names ++ p ∷ [];
+        runs = run_push step event (May given) i.names p w i.runs (subst (May given p) (sym i.sites) m);
+        sites = play_push step event (May given) i.names p w ∙ ap (step p) i.sites ∙ s;
+        rows =
+            ap (rows_of engine) (log_push step event (May given) i.names p w)
+            ∙ rows_push basics (run_log given i.names w) (p, event p (run_world given i.names w))
+            ∙ ap (λ z. z ++ (event p (run_world given i.names w)).rows) i.rows
+            ∙ ap (λ z. r.rows ++ (event p z).rows) i.sites
+            ∙ ap (λ (x : Entry engine). r.rows ++ x.rows) e;
+        told =
+            log_push step event (May given) i.names p w
+            ∙ ap (λ z. z ++ (p, event p (run_world given i.names w)) ∷ []) i.told
+            ∙ ap (λ z. n ++ (p, event p z) ∷ []) i.sites
+            ∙ ap (λ (x : Entry engine). n ++ (p, x) ∷ []) e
+            ∙ ap (λ k. n ++ (k, entry_of engine key (handled_among engine key r.sites)) ∷ []) t.is_turn;
+        fine = subst (Each Fine) s (turn_fine p r.sites m);
+      }
 
-    -- nothing may be handled in a world with nothing due by the horizon
-    before_by_none : (d : Option Key) → IsNone (due_by horizon d) → due_before (horizon + 1) d ≡ None
-    before_by_none None h = refl
-    before_by_none (Some key) h =
-        elim (nat_le key.at horizon) as (λ b. nat_le key.at horizon ≡ b → IsNone (if b then Some key else None) → due_before (horizon + 1) (Some key) ≡ None) [
-          | true ↦ λ f g. absurd (cc)
-          | false ↦ λ f g. let l : horizon < key.at = leb-false key.at horizon f in ap (λ b. if b then Some key else None) (le-ltb key.at (horizon + 1) (omega arith))
-        ] refl h
+  step_turns : (n : List (ℕ × Entry engine)) (r : Run engine) (d : Option Key) → IsTurns n r → next_due engine setting.horizon r.sites ≡ d → IsTurns (n ++ told_next engine owner r.sites d) (stepped_at engine r d)
+  step_turns n r None i e = subst (λ l. IsTurns l r) (sym (append-nil n)) i
+  step_turns n r (Some key) i e =
+      let x : (world_due engine r.sites ≡ Some key) × (key.at ≤ setting.horizon) = due_is basics setting.horizon (world_due engine r.sites) key e in
+      next_turn key n r i x.0 x.1
 
-    pub ended_before : (w : List Site) → IsNone (next_due engine horizon w) → due_before (horizon + 1) (world_due engine w) ≡ None
-    ended_before w h = before_by_none (world_due engine w) h
+  -- the one-list run is such a run
+  pub turns : (n : ℕ) → IsTurns (run_told n) (run_after n)
+  turns zero = record { names = []; runs = tt; sites = refl; rows = refl; told = refl; fine = sound.opens }
+  turns (suc n) = step_turns (run_told n) (run_after n) _ (turns n) refl
 
-    pub ended_may : (p : ℕ) (w : List Site) → IsNone (next_due engine horizon w) → MayNow p w → ⊥
-    ended_may p w h m =
-        let n : due_before (horizon + 1) (part_due engine owner p w) ≡ None = part_none owner (horizon + 1) p w (ended_before w h) in
-        let l : horizon + 1 ≤ m.key.at = not_before (horizon + 1) m.key (ap (due_before (horizon + 1)) (sym m.due) ∙ n) in
-        let e : m.key.at ≤ horizon = m.early in absurd (omega arith)
+  pub whole_turns : (r : Run engine) (w : IsRunOf engine setting r) → IsTurns (run_told w.steps) r
+  whole_turns r w = subst (IsTurns (run_told w.steps)) w.reached (turns w.steps)
 
-    pub ended_run : (ps : List ℕ) (w : List Site) → IsNone (next_due engine horizon w) → IsRun (part_stepped basics owner) MayNow ps w → ps ≡ []
-    ended_run [] w h r = refl
-    ended_run (p ∷ ps) w h r = absurd (ended_may p w h r.0)
+  -- nothing may be handled in a world with nothing due by the horizon
+  before_by_none : (d : Option Key) → IsNone (due_by setting.horizon d) → due_before (setting.horizon + 1) d ≡ None
+  before_by_none None h = refl
+  before_by_none (Some key) h = grind (arith, h)
+
+  pub ended_before : (w : List Site) → IsNone (next_due engine setting.horizon w) → due_before (setting.horizon + 1) (world_due engine w) ≡ None
+  ended_before w h = before_by_none (world_due engine w) h
+
+  pub ended_may : (p : ℕ) (w : List Site) → IsNone (next_due engine setting.horizon w) → May given p w → ⊥
+  ended_may p w h m =
+      let n : due_before (setting.horizon + 1) (part_due engine owner p w) ≡ None = part_none basics owner (setting.horizon + 1) p w (ended_before w h) in
+      let l : setting.horizon + 1 ≤ m.key.at = not_before (setting.horizon + 1) m.key (ap (due_before (setting.horizon + 1)) (sym m.due) ∙ n) in
+      let e : m.key.at ≤ setting.horizon = m.early in absurd (omega arith)
+
+  pub ended_run : (ps : List ℕ) (w : List Site) → IsNone (next_due engine setting.horizon w) → IsRunBy given ps w → ps ≡ []
+  ended_run [] w h r = refl
+  ended_run (p ∷ ps) w h r = absurd (ended_may p w h r.0)

@@ -8,13 +8,12 @@ use Rattle.sim_clock.specs.Order.{due_before, key_cmp, lesser, same_key}
 use Rattle.sim_clock.proofs.Least.{key_tied}
 use Rattle.sim_clock.proofs.Orderings.{key_less, key_not_less}
 use Rattle.sim_engine.specs.World.{least_due, world_due, Stepped, delivered, delivered_one, handled_among, handled_here, handled_there, is_due, has_key}
-use Rattle.sim_engine.specs.Engine.{Engine, Handled}
-use Rattle.sim_engine.specs.Laws.{Conditions}
-use Rattle.sim_engine.proofs.Branches.{either}
+use Rattle.sim_engine.specs.Engine.{Engine}
+use Rattle.sim_engine.specs.Laws.{Conditions, SiteLaws}
+use Rattle.sim_engine.proofs.Branches.{either, by_cases}
 use Rattle.sim_engine.proofs.Delivery.{due_before_accepted, sites_swap}
 use Rattle.sim_engine.specs.Parts.{handled_in, has_due, is_of, part_due, part_of}
 use Rattle.sim_engine.specs.Members.{Each}
-use Rattle.sim_engine.specs.Laws.{SiteLaws}
 
 pub each_weaker : {A : Type 0} (P Q : A → Type 0) → ((x : A) → P x → Q x) → (xs : List A) → Each P xs → Each Q xs
 each_weaker P Q f [] h = tt
@@ -57,10 +56,7 @@ module _ {Site Row Transfer : Type 0} {engine : Engine Site Row Transfer} {condi
     -- one partition's site is not another's
     pub other_of : (p q : ℕ) (s : Site) → (p == q) ≡ false → is_of engine owner p s ≡ true → is_of engine owner q s ≡ false
     other_of p q s n h =
-        elim (is_of engine owner q s) as (λ b. is_of engine owner q s ≡ b → b ≡ false) [
-          | true ↦ λ e. absurd (grind (arith, eqb-true _ _ h, eqb-true _ _ e, eqb-false p q n))
-          | false ↦ λ e. refl
-        ] refl
+        by_cases (is_of engine owner q s) (λ e. absurd (grind (arith, eqb-true _ _ h, eqb-true _ _ e, eqb-false p q n))) (λ e. e)
 
     pub and_first : (a b : Bool) → (a && b) ≡ true → a ≡ true
     and_first true b h = refl
@@ -95,59 +91,23 @@ module _ {Site Row Transfer : Type 0} {engine : Engine Site Row Transfer} {condi
     first_here : (p q : ℕ) (k j : Key) (s : Site) (ss : List Site) → (p == q) ≡ false → has_due engine owner p k s ≡ true → Beside p q k j (s ∷ ss)
     first_here p q k j s ss n h =
         let off : is_of engine owner q s ≡ false = other_of p q s n (has_of p k s h) in
-        let a : handled_in engine owner p k (s ∷ ss) ≡ handled_here engine (handled k s) ss = here p k s ss h in
-        let b : handled_in engine owner q j (s ∷ ss) ≡ handled_there engine s (handled_in engine owner q j ss) = there q j s ss (not_of q j s off) in
-        let c : handled_in engine owner q j ((handled k s).site ∷ ss) ≡ handled_there engine (handled k s).site (handled_in engine owner q j ss) =
-        there q j (handled k s).site ss (not_of q j (handled k s).site (handled_of q k s ∙ off)) in
-        let d : handled_in engine owner q j (handled_in engine owner p k (s ∷ ss)).sites ≡ handled_there engine (handled k s).site (handled_in engine owner q j ss) = ap (λ (t : Stepped engine). handled_in engine owner q j t.sites) a ∙ c in
-        let e : handled_in engine owner p k (handled_in engine owner q j (s ∷ ss)).sites ≡ handled_here engine (handled k s) (handled_in engine owner q j ss).sites =
-        ap (λ (t : Stepped engine). handled_in engine owner p k t.sites) b ∙ here p k s (handled_in engine owner q j ss).sites h in
-        record {
-          rows = ap (λ (t : Stepped engine). t.rows) d ∙ sym (ap (λ (t : Stepped engine). t.rows) b);
-          sent = ap (λ (t : Stepped engine). t.sent) d ∙ sym (ap (λ (t : Stepped engine). t.sent) b);
-          sites = ap (λ (t : Stepped engine). t.sites) d ∙ sym (ap (λ (t : Stepped engine). t.sites) e);
-        }
+        let g : has_due engine owner q j s ≡ false = not_of q j s off in
+        let c : has_due engine owner q j (handled k s).site ≡ false = not_of q j (handled k s).site (handled_of q k s ∙ off) in
+        record { rows = rw (h, c, g) refl; sent = rw (h, c, g) refl; sites = rw (h, c, g, h) refl }
 
     second_here : (p q : ℕ) (k j : Key) (s : Site) (ss : List Site) → (q == p) ≡ false → has_due engine owner p k s ≡ false → has_due engine owner q j s ≡ true → Beside p q k j (s ∷ ss)
     second_here p q k j s ss n g h =
-        let off : is_of engine owner p s ≡ false = other_of q p s n (has_of q j s h) in
-        let a : handled_in engine owner p k (s ∷ ss) ≡ handled_there engine s (handled_in engine owner p k ss) = there p k s ss g in
-        let b : handled_in engine owner q j (s ∷ ss) ≡ handled_here engine (handled j s) ss = here q j s ss h in
-        let c : handled_in engine owner q j (handled_in engine owner p k (s ∷ ss)).sites ≡ handled_here engine (handled j s) (handled_in engine owner p k ss).sites =
-        ap (λ (t : Stepped engine). handled_in engine owner q j t.sites) a ∙ here q j s (handled_in engine owner p k ss).sites h in
-        let d : handled_in engine owner p k (handled_in engine owner q j (s ∷ ss)).sites ≡ handled_there engine (handled j s).site (handled_in engine owner p k ss) =
-        ap (λ (t : Stepped engine). handled_in engine owner p k t.sites) b ∙ there p k (handled j s).site ss (not_of p k (handled j s).site (handled_of p j s ∙ off)) in
-        record {
-          rows = ap (λ (t : Stepped engine). t.rows) c ∙ sym (ap (λ (t : Stepped engine). t.rows) b);
-          sent = ap (λ (t : Stepped engine). t.sent) c ∙ sym (ap (λ (t : Stepped engine). t.sent) b);
-          sites = ap (λ (t : Stepped engine). t.sites) c ∙ sym (ap (λ (t : Stepped engine). t.sites) d);
-        }
+        let c : has_due engine owner p k (handled j s).site ≡ false = not_of p k (handled j s).site (handled_of p j s ∙ other_of q p s n (has_of q j s h)) in
+        record { rows = rw (g, h) refl; sent = rw (g, h) refl; sites = rw (g, h, c) refl }
 
     both_there : (p q : ℕ) (k j : Key) (s : Site) (ss : List Site) → has_due engine owner p k s ≡ false → has_due engine owner q j s ≡ false → Beside p q k j ss → Beside p q k j (s ∷ ss)
-    both_there p q k j s ss g h i =
-        let a : handled_in engine owner p k (s ∷ ss) ≡ handled_there engine s (handled_in engine owner p k ss) = there p k s ss g in
-        let b : handled_in engine owner q j (s ∷ ss) ≡ handled_there engine s (handled_in engine owner q j ss) = there q j s ss h in
-        let c : handled_in engine owner q j (handled_in engine owner p k (s ∷ ss)).sites ≡ handled_there engine s (handled_in engine owner q j (handled_in engine owner p k ss).sites) =
-        ap (λ (t : Stepped engine). handled_in engine owner q j t.sites) a ∙ there q j s (handled_in engine owner p k ss).sites h in
-        let d : handled_in engine owner p k (handled_in engine owner q j (s ∷ ss)).sites ≡ handled_there engine s (handled_in engine owner p k (handled_in engine owner q j ss).sites) =
-        ap (λ (t : Stepped engine). handled_in engine owner p k t.sites) b ∙ there p k s (handled_in engine owner q j ss).sites g in
-        record {
-          rows = ap (λ (t : Stepped engine). t.rows) c ∙ i.rows ∙ sym (ap (λ (t : Stepped engine). t.rows) b);
-          sent = ap (λ (t : Stepped engine). t.sent) c ∙ i.sent ∙ sym (ap (λ (t : Stepped engine). t.sent) b);
-          sites = ap (λ (t : Stepped engine). t.sites) c ∙ ap (λ z. s ∷ z) i.sites ∙ sym (ap (λ (t : Stepped engine). t.sites) d);
-        }
+    both_there p q k j s ss g h i = record { rows = rw (g, h) i.rows; sent = rw (g, h) i.sent; sites = rw (g, h, g) (ap (λ z. s ∷ z) i.sites) }
 
     pub beside : (p q : ℕ) (k j : Key) (w : List Site) → (p == q) ≡ false → (q == p) ≡ false → Beside p q k j w
     beside p q k j [] n m = record { rows = refl; sent = refl; sites = refl }
     beside p q k j (s ∷ ss) n m =
-        elim (has_due engine owner p k s) as (λ b. has_due engine owner p k s ≡ b → Beside p q k j (s ∷ ss)) [
-          | true ↦ λ e. first_here p q k j s ss n e
-          | false ↦ λ e.
-              elim (has_due engine owner q j s) as (λ b. has_due engine owner q j s ≡ b → Beside p q k j (s ∷ ss)) [
-                | true ↦ λ f. second_here p q k j s ss m e f
-                | false ↦ λ f. both_there p q k j s ss e f (beside p q k j ss n m)
-              ] refl
-        ] refl
+        by_cases (has_due engine owner p k s) (λ e. first_here p q k j s ss n e)
+        (λ e. by_cases (has_due engine owner q j s) (λ f. second_here p q k j s ss m e f) (λ f. both_there p q k j s ss e f (beside p q k j ss n m)))
 
     -- 2. beside a delivery of what comes later
     -- a handling with one more transfer delivered after it
@@ -160,10 +120,7 @@ module _ {Site Row Transfer : Type 0} {engine : Engine Site Row Transfer} {condi
 
     not_same : (k : Key) (o : Transfer) → k.at < (transfer_key o).at → has_key engine k o ≡ false
     not_same k o l =
-        elim (has_key engine k o) as (λ b. has_key engine k o ≡ b → b ≡ false) [
-          | true ↦ λ e. let t : k ≡ transfer_key o = key_tied k (transfer_key o) e in let u : k.at ≡ (transfer_key o).at = ap (λ (x : Key). x.at) t in absurd (omega arith)
-          | false ↦ λ e. refl
-        ] refl
+        by_cases (has_key engine k o) (λ e. let u : k.at ≡ (transfer_key o).at = ap (λ (x : Key). x.at) (key_tied k (transfer_key o) e) in absurd (omega arith)) (λ e. e)
 
     -- a key that is due is due with a later one beside it, and one that is not is not
     module _ (k i : Key) (n : same_key k i ≡ false) where
@@ -189,23 +146,15 @@ module _ {Site Row Transfer : Type 0} {engine : Engine Site Row Transfer} {condi
 
     -- at a site to which it goes, or not
     here_delivered : (q : ℕ) (k : Key) (o : Transfer) (s : Site) (ss : List Site) → ((to o) == number s) ≡ true → Sorted s → k.at < (transfer_key o).at → has_due engine owner q k s ≡ true
-        → handled_in engine owner q k (map (delivered_one engine o) (s ∷ ss)) ≡ with_delivered o (handled_here engine (handled k s) ss)
+        → handled_in engine owner q k (map (delivered_one engine o) (s ∷ ss)) ≡ with_delivered o (handled_in engine owner q k (s ∷ ss))
     here_delivered q k o s ss e w l h =
-        let d : delivered_one engine o s ≡ accepted o s = ap (λ c. if c then accepted o s else s) e in
         let n : ((to o) == number (handled k s).site) ≡ true = ap (λ m. (to o) == m) (number_handled k s) ∙ e in
         let u : has_due engine owner q k (accepted o s) ≡ true = ap (λ c. c && is_due k (least_due engine (accepted o s))) (accepted_of q o s) ∙ ap (λ c. is_of engine owner q s && c) (is_due_accepted k o s l) ∙ h in
-        ap (λ x. handled_in engine owner q k (x ∷ map (delivered_one engine o) ss)) d
-        ∙ here q k (accepted o s) (map (delivered_one engine o) ss) u
-        ∙ ap (λ (x : Handled Site Row Transfer). handled_here engine x (map (delivered_one engine o) ss)) (handled_apart k o s (not_same k o l) w)
-        ∙ ap (λ c. handled_here engine (record (handled k s) { site = if c then accepted o (handled k s).site else (handled k s).site }) (map (delivered_one engine o) ss)) (sym n)
+        rw (e, u, h, handled_apart k o s (not_same k o l) w, n) refl
 
-    here_off : (q : ℕ) (k : Key) (o : Transfer) (s : Site) (ss : List Site) → ((to o) == number s) ≡ false → has_due engine owner q k s ≡ true → handled_in engine owner q k (map (delivered_one engine o) (s ∷ ss)) ≡ with_delivered o (handled_here engine (handled k s) ss)
-    here_off q k o s ss e h =
-        let d : delivered_one engine o s ≡ s = ap (λ c. if c then accepted o s else s) e in
-        let n : ((to o) == number (handled k s).site) ≡ false = ap (λ m. (to o) == m) (number_handled k s) ∙ e in
-        ap (λ x. handled_in engine owner q k (x ∷ map (delivered_one engine o) ss)) d
-        ∙ here q k s (map (delivered_one engine o) ss) h
-        ∙ ap (λ c. handled_here engine (record (handled k s) { site = if c then accepted o (handled k s).site else (handled k s).site }) (map (delivered_one engine o) ss)) (sym n)
+    here_off : (q : ℕ) (k : Key) (o : Transfer) (s : Site) (ss : List Site) → ((to o) == number s) ≡ false → has_due engine owner q k s ≡ true
+        → handled_in engine owner q k (map (delivered_one engine o) (s ∷ ss)) ≡ with_delivered o (handled_in engine owner q k (s ∷ ss))
+    here_off q k o s ss e h = let n : ((to o) == number (handled k s).site) ≡ false = ap (λ m. (to o) == m) (number_handled k s) ∙ e in rw (e, h, n) refl
 
     -- whether it goes to a site of the partition
     pub goes : (q : ℕ) (o : Transfer) (s : Site) → ((to o) == number s) ≡ true → is_of engine owner q s ≡ true → (owner (to o) == q) ≡ true
@@ -221,17 +170,9 @@ module _ {Site Row Transfer : Type 0} {engine : Engine Site Row Transfer} {condi
     pub map_beside : (q : ℕ) (k : Key) (o : Transfer) (w : List Site) → Each Sorted w → ComesAfter q k.at o → handled_in engine owner q k (map (delivered_one engine o) w) ≡ with_delivered o (handled_in engine owner q k w)
     map_beside q k o [] h l = refl
     map_beside q k o (s ∷ ss) h l =
-        elim (has_due engine owner q k s) as (λ b. has_due engine owner q k s ≡ b → handled_in engine owner q k (map (delivered_one engine o) (s ∷ ss)) ≡ with_delivered o (handled_in engine owner q k (s ∷ ss))) [
-          | true ↦ λ e.
-              elim ((to o) == number s) as (λ b. ((to o) == number s) ≡ b → handled_in engine owner q k (map (delivered_one engine o) (s ∷ ss)) ≡ with_delivered o (handled_in engine owner q k (s ∷ ss))) [
-                | true ↦ λ f. here_delivered q k o s ss f h.0 (l (goes q o s f (has_of q k s e))) e ∙ ap (with_delivered o) (sym (here q k s ss e))
-                | false ↦ λ f. here_off q k o s ss f e ∙ ap (with_delivered o) (sym (here q k s ss e))
-              ] refl
-          | false ↦ λ e.
-              there q k (delivered_one engine o s) (map (delivered_one engine o) ss) (has_delivered q k o s _ _ refl refl l ∙ e)
-              ∙ ap (handled_there engine (delivered_one engine o s)) (map_beside q k o ss h.1 l)
-              ∙ ap (with_delivered o) (sym (there q k s ss e))
-        ] refl
+        by_cases (has_due engine owner q k s)
+        (λ e. by_cases ((to o) == number s) (λ f. here_delivered q k o s ss f h.0 (l (goes q o s f (has_of q k s e))) e) (λ f. here_off q k o s ss f e))
+        (λ e. rw (has_delivered q k o s _ _ refl refl l ∙ e, e) (ap (handled_there engine (delivered_one engine o s)) (map_beside q k o ss h.1 l)))
 
     -- a partition's handling after the delivery of some transfers
     abbrev pub with_landed : List Transfer → Stepped engine → Stepped engine
@@ -246,12 +187,7 @@ module _ {Site Row Transfer : Type 0} {engine : Engine Site Row Transfer} {condi
     -- 3. what a partition has due
     pub part_map : (q : ℕ) (o : Transfer) (w : List Site) → part_of engine owner q (map (delivered_one engine o) w) ≡ map (delivered_one engine o) (part_of engine owner q w)
     part_map q o [] = refl
-    part_map q o (s ∷ ss) =
-        elim (is_of engine owner q s) as
-        (λ b. is_of engine owner q s ≡ b → cond (is_of engine owner q (delivered_one engine o s)) (delivered_one engine o s ∷ part_of engine owner q (map (delivered_one engine o) ss)) (part_of engine owner q (map (delivered_one engine o) ss)) ≡ map (delivered_one engine o) (cond b (s ∷ part_of engine owner q ss) (part_of engine owner q ss))) [
-          | true ↦ λ e. rw (one_of q o s, e) (ap (λ z. delivered_one engine o s ∷ z) (part_map q o ss))
-          | false ↦ λ e. rw (one_of q o s, e) (part_map q o ss)
-        ] refl
+    part_map q o (s ∷ ss) = rw (one_of q o s, part_map q o ss) (elim (is_of engine owner q s) as (λ b. cond b (delivered_one engine o s ∷ map (delivered_one engine o) (part_of engine owner q ss)) (map (delivered_one engine o) (part_of engine owner q ss)) ≡ map (delivered_one engine o) (cond b (s ∷ part_of engine owner q ss) (part_of engine owner q ss))) [ true ↦ refl | false ↦ refl ])
 
     pub part_delivered : (q : ℕ) (os : List Transfer) (w : List Site) → part_of engine owner q (delivered engine os w) ≡ delivered engine os (part_of engine owner q w)
     part_delivered q [] w = refl
@@ -263,69 +199,33 @@ module _ {Site Row Transfer : Type 0} {engine : Engine Site Row Transfer} {condi
       pub rows : (handled_in engine owner q k w).rows ≡ (handled_among engine k (part_of engine owner q w)).rows
       pub sent : (handled_in engine owner q k w).sent ≡ (handled_among engine k (part_of engine owner q w)).sent
 
-    part_in : (q : ℕ) (s : Site) (ss : List Site) → is_of engine owner q s ≡ true → part_of engine owner q (s ∷ ss) ≡ s ∷ part_of engine owner q ss
-    part_in q s ss h = ap (λ b. cond b (s ∷ part_of engine owner q ss) (part_of engine owner q ss)) h
-
-    part_off : (q : ℕ) (s : Site) (ss : List Site) → is_of engine owner q s ≡ false → part_of engine owner q (s ∷ ss) ≡ part_of engine owner q ss
-    part_off q s ss h = ap (λ b. cond b (s ∷ part_of engine owner q ss) (part_of engine owner q ss)) h
-
-    among_here : (k : Key) (s : Site) (ss : List Site) → is_due k (least_due engine s) ≡ true → handled_among engine k (s ∷ ss) ≡ handled_here engine (handled k s) ss
-    among_here k s ss h = ap (λ b. if b then handled_here engine (handled k s) ss else handled_there engine s (handled_among engine k ss)) h
-
-    among_there : (k : Key) (s : Site) (ss : List Site) → is_due k (least_due engine s) ≡ false → handled_among engine k (s ∷ ss) ≡ handled_there engine s (handled_among engine k ss)
-    among_there k s ss h = ap (λ b. if b then handled_here engine (handled k s) ss else handled_there engine s (handled_among engine k ss)) h
-
     pub own : (q : ℕ) (k : Key) (w : List Site) → Own q k w
     own q k [] = record { sites = refl; rows = refl; sent = refl }
     own q k (s ∷ ss) =
-        elim (is_of engine owner q s) as (λ b. is_of engine owner q s ≡ b → Own q k (s ∷ ss)) [
-          | false ↦ λ e.
-              let i : Own q k ss = own q k ss in
-              let a : handled_in engine owner q k (s ∷ ss) ≡ handled_there engine s (handled_in engine owner q k ss) = there q k s ss (not_of q k s e) in
-              let b : handled_among engine k (part_of engine owner q (s ∷ ss)) ≡ handled_among engine k (part_of engine owner q ss) = ap (handled_among engine k) (part_off q s ss e) in
-              record {
-                sites = ap (λ (t : Stepped engine). part_of engine owner q t.sites) a ∙ part_off q s (handled_in engine owner q k ss).sites e ∙ i.sites ∙ sym (ap (λ (t : Stepped engine). t.sites) b);
-                rows = ap (λ (t : Stepped engine). t.rows) a ∙ i.rows ∙ sym (ap (λ (t : Stepped engine). t.rows) b);
-                sent = ap (λ (t : Stepped engine). t.sent) a ∙ i.sent ∙ sym (ap (λ (t : Stepped engine). t.sent) b);
-              }
-          | true ↦ λ e.
-              elim (is_due k (least_due engine s)) as (λ c. is_due k (least_due engine s) ≡ c → Own q k (s ∷ ss)) [
-                | true ↦ λ f.
-                    let a : handled_in engine owner q k (s ∷ ss) ≡ handled_here engine (handled k s) ss = here q k s ss (ap (λ c. c && is_due k (least_due engine s)) e ∙ f) in
-                    let b : handled_among engine k (part_of engine owner q (s ∷ ss)) ≡ handled_here engine (handled k s) (part_of engine owner q ss) = ap (handled_among engine k) (part_in q s ss e) ∙ among_here k s (part_of engine owner q ss) f in
-                    record {
-                      sites = ap (λ (t : Stepped engine). part_of engine owner q t.sites) a ∙ part_in q (handled k s).site ss (handled_of q k s ∙ e) ∙ sym (ap (λ (t : Stepped engine). t.sites) b);
-                      rows = ap (λ (t : Stepped engine). t.rows) a ∙ sym (ap (λ (t : Stepped engine). t.rows) b);
-                      sent = ap (λ (t : Stepped engine). t.sent) a ∙ sym (ap (λ (t : Stepped engine). t.sent) b);
-                    }
-                | false ↦ λ f.
-                    let i : Own q k ss = own q k ss in
-                    let a : handled_in engine owner q k (s ∷ ss) ≡ handled_there engine s (handled_in engine owner q k ss) = there q k s ss (ap (λ c. c && is_due k (least_due engine s)) e ∙ f) in
-                    let b : handled_among engine k (part_of engine owner q (s ∷ ss)) ≡ handled_there engine s (handled_among engine k (part_of engine owner q ss)) = ap (handled_among engine k) (part_in q s ss e) ∙ among_there k s (part_of engine owner q ss) f in
-                    record {
-                      sites = ap (λ (t : Stepped engine). part_of engine owner q t.sites) a ∙ part_in q s (handled_in engine owner q k ss).sites e ∙ ap (λ z. s ∷ z) i.sites ∙ sym (ap (λ (t : Stepped engine). t.sites) b);
-                      rows = ap (λ (t : Stepped engine). t.rows) a ∙ i.rows ∙ sym (ap (λ (t : Stepped engine). t.rows) b);
-                      sent = ap (λ (t : Stepped engine). t.sent) a ∙ i.sent ∙ sym (ap (λ (t : Stepped engine). t.sent) b);
-                    }
-              ] refl
-        ] refl
+        let i : Own q k ss = own q k ss in
+        by_cases (is_of engine owner q s)
+        (λ e.
+        by_cases (is_due k (least_due engine s))
+        (λ f.
+        let h : has_due engine owner q k s ≡ true = ap (λ c. c && is_due k (least_due engine s)) e ∙ f in
+        record { sites = rw (h, handled_of q k s, e, f) refl; rows = rw (h, e, f) refl; sent = rw (h, e, f) refl })
+        (λ f.
+        let h : has_due engine owner q k s ≡ false = ap (λ c. c && is_due k (least_due engine s)) e ∙ f in
+        record { sites = rw (h, e, f) (ap (λ z. s ∷ z) i.sites); rows = rw (h, e, f) i.rows; sent = rw (h, e, f) i.sent }))
+        (λ e. let n : has_due engine owner q k s ≡ false = not_of q k s e in record { sites = rw (n, e) i.sites; rows = rw (n, e) i.rows; sent = rw (n, e) i.sent })
 
     -- another partition stays as it was
     pub others : (q r : ℕ) (k : Key) (w : List Site) → (q == r) ≡ false → part_of engine owner r (handled_in engine owner q k w).sites ≡ part_of engine owner r w
     others q r k [] n = refl
     others q r k (s ∷ ss) n =
-        elim (has_due engine owner q k s) as (λ b. has_due engine owner q k s ≡ b → part_of engine owner r (handled_in engine owner q k (s ∷ ss)).sites ≡ part_of engine owner r (s ∷ ss)) [
-          | true ↦ λ e.
-              let off : is_of engine owner r s ≡ false = other_of q r s n (has_of q k s e) in
-              ap (λ (t : Stepped engine). part_of engine owner r t.sites) (here q k s ss e) ∙ part_off r (handled k s).site ss (handled_of r k s ∙ off) ∙ sym (part_off r s ss off)
-          | false ↦ λ e.
-              ap (λ (t : Stepped engine). part_of engine owner r t.sites) (there q k s ss e) ∙ ap (λ z. cond (is_of engine owner r s) (s ∷ z) z) (others q r k ss n)
-        ] refl
+        by_cases (has_due engine owner q k s) (λ e. let off : is_of engine owner r s ≡ false = other_of q r s n (has_of q k s e) in rw (e, handled_of r k s, off) refl)
+        (λ e. rw e (ap (λ z. cond (is_of engine owner r s) (s ∷ z) z) (others q r k ss n)))
 
   -- dues before a moment
   before_by : (e : ℕ) (a b : Key) (c x y : Bool) → is_lt (key_cmp b a) ≡ c → nat_lt a.at e ≡ x → nat_lt b.at e ≡ y
       → due_before e (if c then Some b else Some a) ≡ lesser (if x then Some a else None) (if y then Some b else None)
-  before_by e a b c true true h i j = let t : due_before e (if c then Some b else Some a) ≡ (if c then Some b else Some a) = elim c as (λ d. due_before e (if d then Some b else Some a) ≡ (if d then Some b else Some a)) [ true ↦ rw j refl | false ↦ rw i refl ] in t ∙ sym (ap (λ d. if d then Some b else Some a) h)
+  before_by e a b true true true h i j = rw (j, h) refl
+  before_by e a b false true true h i j = rw (i, h) refl
   before_by e a b true true false h i j = absurd (not_both e a.at b.at (key_less b a h) i j)
   before_by e a b false true false h i j = rw i refl
   before_by e a b true false true h i j = rw j refl
@@ -345,10 +245,7 @@ module _ {Site Row Transfer : Type 0} {engine : Engine Site Row Transfer} {condi
 
   before_one : (e : ℕ) (o : Transfer) (s : Site) → ComesFrom e o s → due_before e (least_due engine (delivered_one engine o s)) ≡ due_before e (least_due engine s)
   before_one e o s h =
-      elim ((to o) == number s) as (λ b. ((to o) == number s) ≡ b → due_before e (least_due engine (if b then accepted o s else s)) ≡ due_before e (least_due engine s)) [
-        | true ↦ λ f. due_before_accepted basics e o s (h f)
-        | false ↦ λ f. refl
-      ] refl
+      by_cases ((to o) == number s) (λ f. rw f (due_before_accepted basics e o s (h f))) (λ f. rw f refl)
 
   before_map : (e : ℕ) (o : Transfer) (w : List Site) → Each (ComesFrom e o) w → due_before e (world_due engine (map (delivered_one engine o) w)) ≡ due_before e (world_due engine w)
   before_map e o [] h = refl
@@ -366,10 +263,7 @@ module _ {Site Row Transfer : Type 0} {engine : Engine Site Row Transfer} {condi
     comes_to : (q e : ℕ) (o : Transfer) (w : List Site) → ComesBy q e o → Each (ComesFrom e o) (part_of engine owner q w)
     comes_to q e o [] h = tt
     comes_to q e o (s ∷ ss) h =
-        elim (is_of engine owner q s) as (λ b. is_of engine owner q s ≡ b → Each (ComesFrom e o) (cond b (s ∷ part_of engine owner q ss) (part_of engine owner q ss))) [
-          | true ↦ λ f. (λ g. h (goes owner q o s g f), comes_to q e o ss h)
-          | false ↦ λ f. comes_to q e o ss h
-        ] refl
+        by_cases (is_of engine owner q s) (λ f. rw f (λ g. h (goes owner q o s g f), comes_to q e o ss h)) (λ f. rw f (comes_to q e o ss h))
 
     -- what is due of a partition before a moment is the same after the delivery of what comes later
     pub before_delivered : (q e : ℕ) (os : List Transfer) (w : List Site) → Each (ComesBy q e) os → due_before e (part_due engine owner q (delivered engine os w)) ≡ due_before e (part_due engine owner q w)

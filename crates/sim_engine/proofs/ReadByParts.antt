@@ -1,9 +1,9 @@
 -- What a machine may do is read off its partitions.
 use Rattle.std.specs.List.{list_any}
 use Rattle.std.specs.Option.{is_some}
-use Rattle.std.specs.Prelude.{List, None, Option, Some, [], cond, false, if◌then◌else◌, nat_le, true, ℕ, ◌+◌, ◌<◌, ◌==◌, ◌∷◌, ◌≡◌, ◌≤◌, ◌||◌}
-use Rattle.std.proofs.Common.{ap, arith, inl, inr, refl, sym, ◌∙◌}
-use Rattle.std.proofs.lemmas.Bool.{cases_lt, eq-eqb, le-ltb, leb-false, lt-leb}
+use Rattle.std.specs.Prelude.{List, None, Option, Some, [], cond, false, true, ℕ, ◌+◌, ◌<◌, ◌==◌, ◌∷◌, ◌≡◌, ◌||◌}
+use Rattle.std.proofs.Common.{ap, arith, refl, sym, ◌∙◌}
+use Rattle.std.proofs.lemmas.Bool.{cases_lt, eq-eqb}
 use Rattle.sim_clock.specs.declared.key.Key.{Key}
 use Rattle.sim_clock.specs.Order.{due_before, lesser}
 use Rattle.sim_engine.specs.World.{least_due, world_due, due_by}
@@ -12,25 +12,20 @@ use Rattle.sim_engine.specs.Parts.{part_due, part_of}
 use Rattle.sim_engine.specs.Rounds.{MachinesAreReadByParts}
 use Rattle.sim_engine.proofs.EarlyRows.{part_empty}
 use Rattle.sim_engine.proofs.Machines.{none_ready_of}
-use Rattle.sim_engine.proofs.OneList.{both_none, world_none_of}
+use Rattle.sim_engine.proofs.OneList.{both_none, world_none_of, parts}
 use Rattle.sim_engine.proofs.Parts.{before_lesser}
-use Rattle.sim_engine.proofs.Worlds.{not_before}
 use Rattle.sim_engine.specs.Engine.{Engine}
-use Rattle.sim_engine.specs.Laws.{Conditions}
-use Rattle.sim_engine.specs.Laws.{SiteLaws}
+use Rattle.sim_engine.specs.Laws.{Conditions, SiteLaws}
+use Rattle.sim_engine.proofs.Branches.{by_either}
 
 -- nothing by the horizon is nothing before the moment after it
 pub past_by : (horizon : ℕ) (d : Option Key) → due_by horizon d ≡ None → due_before (horizon + 1) d ≡ None
 past_by horizon None h = refl
-past_by horizon (Some k) h =
-    elim (nat_le k.at horizon) as (λ b. nat_le k.at horizon ≡ b → (if b then Some k else None) ≡ None → due_before (horizon + 1) (Some k) ≡ None) [
-      | true ↦ λ e f. absurd (let x : Some k ≡ None = f in cc)
-      | false ↦ λ e f. let l : horizon < k.at = leb-false k.at horizon e in ap (λ b. if b then Some k else None) (le-ltb k.at (horizon + 1) (omega arith))
-    ] refl h
+past_by horizon (Some k) h = grind (arith, h)
 
 pub by_past : (horizon : ℕ) (d : Option Key) → due_before (horizon + 1) d ≡ None → due_by horizon d ≡ None
 by_past horizon None h = refl
-by_past horizon (Some k) h = let l : horizon + 1 ≤ k.at = not_before (horizon + 1) k h in ap (λ b. if b then Some k else None) (lt-leb k.at horizon (omega arith))
+by_past horizon (Some k) h = grind (arith, h)
 
 module _ {Site Row Transfer : Type 0} {engine : Engine Site Row Transfer} {conditions : Conditions Site Transfer} (basics : SiteLaws engine conditions) where
   open engine use {number}
@@ -55,10 +50,7 @@ module _ {Site Row Transfer : Type 0} {engine : Engine Site Row Transfer} {condi
     -- what holds of the partitions that there are holds of all
     of_parts : (parts : ℕ) → ((n : ℕ) → owner n < parts) → (w : List Site) (f : ℕ → Option Key → Option Key) → ((p : ℕ) → f p None ≡ None) → ((p : ℕ) → p < parts → f p (part_due engine owner p w) ≡ None) → (p : ℕ) → f p (part_due engine owner p w) ≡ None
     of_parts parts o w f n h p =
-        elim (cases_lt p parts) as (λ _. f p (part_due engine owner p w) ≡ None) [
-          | inl k ↦ h p k
-          | inr k ↦ ap (λ z. f p (world_due engine z)) (part_empty basics owner parts p o k w) ∙ n p
-        ]
+        by_either (cases_lt p parts) (λ k. h p k) (λ k. ap (λ z. f p (world_due engine z)) (part_empty basics owner parts p o k w) ∙ n p)
 
   pub machines_are_read_by_parts : MachinesAreReadByParts engine
   machines_are_read_by_parts owner parts horizon m o =

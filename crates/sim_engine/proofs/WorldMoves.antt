@@ -8,11 +8,10 @@ use Rattle.sim_clock.specs.Order.{key_cmp, least, lesser}
 use Rattle.sim_clock.proofs.Least.{key_tied}
 use Rattle.sim_engine.specs.World.{least_due, world_due, Stepped, delivered, delivered_one, handled_among, handled_here, handled_there, is_due}
 use Rattle.sim_engine.specs.Members.{count_due, In}
-use Rattle.sim_engine.proofs.Counts.{count_is, tick, tick_less, tick_now, tick_past, total}
-use Rattle.sim_engine.proofs.Branches.{either}
-use Rattle.sim_engine.specs.Laws.{SiteLaws, MovesOn}
+use Rattle.sim_engine.proofs.Counts.{count_is, tick_less, tick_now, tick_past, total, tick}
+use Rattle.sim_engine.proofs.Branches.{either, by_cases, by_either}
+use Rattle.sim_engine.specs.Laws.{SiteLaws, MovesOn, Conditions}
 use Rattle.sim_engine.specs.Engine.{Engine, Handled}
-use Rattle.sim_engine.specs.Laws.{Conditions}
 use Rattle.std.proofs.lemmas.Bool.{cases_lt}
 use Rattle.sim_clock.proofs.Orderings.{key_less, key_not_less, key_self}
 
@@ -53,10 +52,7 @@ lesser_is (Some a) (Some b) =
 pub least_in : (ks : List Key) (k : Key) → least ks ≡ Some k → In ks k
 least_in [] k h = absurd (none_some k h)
 least_in (x ∷ xs) k h =
-    elim (lesser_is (Some x) (least xs)) as (λ _. In (x ∷ xs) k) [
-      | inl i ↦ let j : Some x ≡ Some k = sym i ∙ h in let n : x ≡ k = cc in inl n
-      | inr i ↦ inr (least_in xs k (sym i ∙ h))
-    ]
+    by_either (lesser_is (Some x) (least xs)) (λ i. let j : Some x ≡ Some k = sym i ∙ h in let n : x ≡ k = cc in inl n) (λ i. inr (least_in xs k (sym i ∙ h)))
 
 pub is_due_least : (key : Key) (o : Option Key) → is_due key o ≡ true → o ≡ Some key
 is_due_least key None h = cc
@@ -94,10 +90,7 @@ module _ {Site Row Transfer : Type 0} {engine : Engine Site Row Transfer} {condi
   pub world_in : (key : Key) (sites : List Site) → world_due engine sites ≡ Some key → DueIn key sites
   world_in key [] h = none_some key h
   world_in key (s ∷ ss) h =
-      elim (lesser_is (least_due engine s) (world_due engine ss)) as (λ _. DueIn key (s ∷ ss)) [
-        | inl i ↦ inl (sym i ∙ h)
-        | inr i ↦ inr (world_in key ss (sym i ∙ h))
-      ]
+      by_either (lesser_is (least_due engine s) (world_due engine ss)) (λ i. inl (sym i ∙ h)) (λ i. inr (world_in key ss (sym i ∙ h)))
 
   -- a handling that takes its key away, by a moment
   record Falls (key : Key) (e : ℕ) (s : Site) (h : Handled Site Row Transfer) : Type 0 where
@@ -108,13 +101,11 @@ module _ {Site Row Transfer : Type 0} {engine : Engine Site Row Transfer} {condi
   site_from : (s : Site) (key : Key) → Sound s → In (dues s) key → (e : ℕ) → e ≤ key.at → Falls key e s (handled key s)
   site_from s key h i e l =
       let m : MovesOn engine conditions key s = moving key s h i in
-      elim (cases_lt e key.at) as (λ _. Falls key e s (handled key s)) [
-        | inl k ↦ record { sound = m.sound; fewer = omega (arith, m.before e k, tick_past e key.at k); later = m.sent_later }
-        | inr k ↦
-            let same : key.at ≡ e = omega arith in
-            let f : count_due e (dues (handled key s).site) < count_due e (dues s) = subst (λ (n : ℕ). count_due n (dues (handled key s).site) < count_due n (dues s)) same m.falls in
-            record { sound = m.sound; fewer = omega (arith, f, tick_now e key.at (omega arith)); later = m.sent_later }
-      ]
+      by_either (cases_lt e key.at) (λ k. record { sound = m.sound; fewer = omega (arith, m.before e k, tick_past e key.at k); later = m.sent_later })
+      (λ k.
+      let same : key.at ≡ e = omega arith in
+      let f : count_due e (dues (handled key s).site) < count_due e (dues s) = subst (λ (n : ℕ). count_due n (dues (handled key s).site) < count_due n (dues s)) same m.falls in
+      record { sound = m.sound; fewer = omega (arith, f, tick_now e key.at (omega arith)); later = m.sent_later })
 
   -- a world whose least due is handled
   pub record FallsAmong (key : Key) (e : ℕ) (sites : List Site) (t : Stepped engine) : Type 0 where
@@ -125,21 +116,10 @@ module _ {Site Row Transfer : Type 0} {engine : Engine Site Row Transfer} {condi
   here_falls : (key : Key) (e : ℕ) (s : Site) (ss : List Site) → e ≤ key.at → IsSoundWorld (s ∷ ss) → least_due engine s ≡ Some key → FallsAmong key e (s ∷ ss) (handled_here engine (handled key s) ss)
   here_falls key e s ss l h k =
       let f : Falls key e s (handled key s) = site_from s key (All-head Sound s ss h) (least_in (dues s) key k) e l in
-      let n : count_due e (dues (handled key s).site) + tick e key.at ≤ count_due e (dues s) = f.fewer in
-      record {
-        sound = All-cons Sound (handled key s).site ss f.sound (All-tail Sound s ss h);
-        fewer = omega arith;
-        later = f.later;
-      }
+      record { sound = All-cons Sound (handled key s).site ss f.sound (All-tail Sound s ss h); fewer = omega (arith, f.fewer); later = f.later }
 
   there_falls : (key : Key) (e : ℕ) (s : Site) (ss : List Site) (t : Stepped engine) → IsSoundWorld (s ∷ ss) → FallsAmong key e ss t → FallsAmong key e (s ∷ ss) (handled_there engine s t)
-  there_falls key e s ss t h f =
-      let n : world_count e t.sites + tick e key.at ≤ world_count e ss = f.fewer in
-      record {
-        sound = All-cons Sound s t.sites (All-head Sound s ss h) f.sound;
-        fewer = omega arith;
-        later = f.later;
-      }
+  there_falls key e s ss t h f = record { sound = All-cons Sound s t.sites (All-head Sound s ss h) f.sound; fewer = omega (arith, f.fewer); later = f.later }
 
   not_due : (key : Key) (s : Site) → is_due key (least_due engine s) ≡ false → least_due engine s ≡ Some key → ⊥
   not_due key s h k =
@@ -148,15 +128,8 @@ module _ {Site Row Transfer : Type 0} {engine : Engine Site Row Transfer} {condi
   pub among_falls : (key : Key) (e : ℕ) (sites : List Site) → e ≤ key.at → IsSoundWorld sites → DueIn key sites → FallsAmong key e sites (handled_among engine key sites)
   among_falls key e [] l h d = elim d [ ]
   among_falls key e (s ∷ ss) l h d =
-      elim (is_due key (least_due engine s)) as
-      (λ b. is_due key (least_due engine s) ≡ b → FallsAmong key e (s ∷ ss) (if b then handled_here engine (handled key s) ss else handled_there engine s (handled_among engine key ss))) [
-        | true ↦ λ i. here_falls key e s ss l h (is_due_least key (least_due engine s) i)
-        | false ↦ λ i.
-            elim d as (λ _. FallsAmong key e (s ∷ ss) (handled_there engine s (handled_among engine key ss))) [
-              | inl k ↦ absurd (not_due key s i k)
-              | inr k ↦ there_falls key e s ss (handled_among engine key ss) h (among_falls key e ss l (All-tail Sound s ss h) k)
-            ]
-      ] refl
+      by_cases (is_due key (least_due engine s)) (λ i. rw i (here_falls key e s ss l h (is_due_least key (least_due engine s) i)))
+      (λ i. rw i (by_either d (λ k. absurd (not_due key s i k)) (λ k. there_falls key e s ss (handled_among engine key ss) h (among_falls key e ss l (All-tail Sound s ss h) k))))
 
   -- delivery
   one_count : (e : ℕ) (o : Transfer) (s : Site) → e < (transfer_key o).at → count_due e (dues (delivered_one engine o s)) ≤ count_due e (dues s)

@@ -1,13 +1,12 @@
 //! The handling of what is due at the sites of a partition.
-ghost use Rattle.std.specs.Prelude.{◌≡◌, ◌+◌, ◌<◌, ◌≤◌, All, None, Some, IfErr, OnOk, ℕ};
+ghost use Rattle.std.specs.Prelude.{◌≡◌, ◌+◌, ◌<◌, ◌≤◌, All, None, Ok, Some, IfErr, OnOk, ℕ};
 ghost use Rattle.sim_clock.specs.declared.key.Key.{Key as TheKey};
 ghost use Rattle.sim_clock.specs.Order.{due_before};
 ghost use Rattle.sim_engine.specs.Limits.{most_count};
 ghost use Rattle.sim_clock.specs.Places.{Stands};
-ghost use Rattle.sim_engine.specs.Rounds.{part_on};
 ghost use Rattle.sim_engine.specs.World.{handled_among, world_due};
 ghost use Rattle.sim_partition.specs.Sites.{HasDue, IsFrom, IsKept, IsLater, is_due_there};
-ghost use Rattle.sim_partition.specs.Steps.{Continues, StaysOfPast, StopsFrom, StopsStep, part_made};
+ghost use Rattle.sim_partition.specs.Steps.{Adds, OfNext, RunsOn, StaysOfPast, StaysTimely, StopsFrom, StopsStep, part_made};
 
 use crate::marking::mark_of;
 use sim_clock::{Key, Refusal};
@@ -26,13 +25,10 @@ fn handle_at<S: Site>(
     requires due { world_due S.engine sites.old.values ≡ Some key }
     requires there { Stands (is_due_there S.engine key) sites.old.values place }
     requires moment { key.at ≤ most_count }
-    ensures handled { OnOk result (
-        part_made S.engine sites.new.values effects.new
-        ≡ part_on S.engine (part_made S.engine sites.old.values effects.old)
-        (handled_among S.engine key sites.old.values)) }
+    ensures handled { OnOk result (Adds S.engine (handled_among S.engine key sites.old.values)
+        sites.old.values effects.old sites.new.values effects.new) }
     ensures kept { OnOk result (IsKept S.engine S.conditions sites.new) }
-    ensures timely { All S.conditions.Timely effects.old.sent.items
-        → OnOk result (All S.conditions.Timely effects.new.sent.items) }
+    ensures timely { StaysTimely S.conditions result effects.old effects.new }
     ensures stops { IfErr result
         (StopsStep S.engine (handled_among S.engine key sites.old.values)) }
 {
@@ -50,16 +46,12 @@ pub fn handle_least<S: Site>(
 ) -> Result<(), Refusal>
     requires kept { IsKept S.engine S.conditions sites.old }
     requires due { HasDue S.engine sites.old.values }
-    ensures handled { (key : TheKey) → world_due S.engine sites.old.values ≡ Some key →
-        OnOk result (
-        part_made S.engine sites.new.values effects.new
-        ≡ part_on S.engine (part_made S.engine sites.old.values effects.old)
-        (handled_among S.engine key sites.old.values)) }
+    ensures handled { OfNext S.engine (Ok sites.old.values) (λ t. OnOk result
+        (Adds S.engine t sites.old.values effects.old sites.new.values effects.new)) }
     ensures kept { OnOk result (IsKept S.engine S.conditions sites.new) }
-    ensures timely { All S.conditions.Timely effects.old.sent.items
-        → OnOk result (All S.conditions.Timely effects.new.sent.items) }
-    ensures stops { (key : TheKey) → world_due S.engine sites.old.values ≡ Some key →
-        IfErr result (StopsStep S.engine (handled_among S.engine key sites.old.values)) }
+    ensures timely { StaysTimely S.conditions result effects.old effects.new }
+    ensures stops { OfNext S.engine (Ok sites.old.values)
+        (λ t. IfErr result (StopsStep S.engine t)) }
 {
     let Some(place) = sites.place_of_least() else {
         unreachable!();
@@ -81,13 +73,11 @@ fn run_moment<S: Site>(
     requires moment { moment ≤ most_count }
     ensures goes_on { OnOk result (
         (bound : ℕ) → moment < bound →
-        Continues S.engine bound (part_made S.engine sites.old.values effects.old)
-        (part_made S.engine sites.new.values effects.new)) }
+        RunsOn S.engine bound sites.old.values effects.old sites.new.values effects.new) }
     ensures done { OnOk result (IsLater moment (world_due S.engine sites.new.values)) }
     ensures kept { OnOk result (IsKept S.engine S.conditions sites.new) }
     ensures past { OnOk result (StaysOfPast S.conditions moment sites.old.values sites.new.values) }
-    ensures timely { All S.conditions.Timely effects.old.sent.items
-        → OnOk result (All S.conditions.Timely effects.new.sent.items) }
+    ensures timely { StaysTimely S.conditions result effects.old effects.new }
     ensures stops { IfErr result (λ refusal.
         (bound : ℕ) → moment < bound →
         StopsFrom S.engine bound (part_made S.engine sites.old.values effects.old) refusal) }
@@ -111,13 +101,11 @@ pub fn run_before<S: Site>(
     requires kept { IsKept S.engine S.conditions sites.old }
     requires end { end ≤ most_count + 1 }
     ensures goes_on { OnOk result (
-        Continues S.engine end (part_made S.engine sites.old.values effects.old)
-        (part_made S.engine sites.new.values effects.new)) }
+        RunsOn S.engine end sites.old.values effects.old sites.new.values effects.new) }
     ensures done { OnOk result (due_before end (world_due S.engine sites.new.values) ≡ None) }
     ensures kept { OnOk result (IsKept S.engine S.conditions sites.new) }
     ensures past { OnOk result (StaysOfPast S.conditions end sites.old.values sites.new.values) }
-    ensures timely { All S.conditions.Timely effects.old.sent.items
-        → OnOk result (All S.conditions.Timely effects.new.sent.items) }
+    ensures timely { StaysTimely S.conditions result effects.old effects.new }
     ensures stops { IfErr result
         (StopsFrom S.engine end (part_made S.engine sites.old.values effects.old)) }
 {

@@ -2,9 +2,9 @@
 ghost use Rattle.std.specs.Prelude.{◌≡◌, ◌+◌, ◌≤◌, [], All, Err, Ok, Option, Some, IfErr, IfOk, OnOk, ℕ};
 ghost use Rattle.sim_clock.specs.declared.key.Key.{Key as TheKey};
 ghost use Rattle.sim_engine.specs.Limits.{most_count};
-ghost use Rattle.sim_engine.specs.World.{arrival, delivered, handled_among, world_due};
+ghost use Rattle.sim_engine.specs.World.{arrival, delivered, world_due};
 ghost use Rattle.sim_partition.specs.Sites.{AreOfPast, HasDue, IsInbox, IsPart, accepted_by, due_in, refusal_in};
-ghost use Rattle.sim_partition.specs.Steps.{RanTo, StopsRun, StopsStep};
+ghost use Rattle.sim_partition.specs.Steps.{IsMade, KeepsPast, OfNext, RanTo, StopsRun, StopsStep};
 
 use crate::roster::Roster;
 use sim_clock::{Key, Refusal};
@@ -110,17 +110,11 @@ impl<S: Site> Partition<S> {
     /// 2^62 - 1; either spends the partition. A spent partition returns the error that spent it.
     pub fn step(&mut self) -> Result<Effects<S::Row, S::Transfer>, Refusal>
         requires due { IfOk self.old (HasDue S.engine) }
-        ensures handled { IfOk self.old (λ w.
-            (key : TheKey) → world_due S.engine w ≡ Some key →
-            IfOk result (λ made.
-            (self.new ≡ Ok (handled_among S.engine key w).sites)
-            × (made.rows.items ≡ (handled_among S.engine key w).rows)
-            × (made.sent.items ≡ (handled_among S.engine key w).sent))) }
+        ensures handled { OfNext S.engine self.old
+            (λ t. IfOk result (λ made. IsMade S.engine t self.new made)) }
         ensures timely { IfOk result (λ made. All S.conditions.Timely made.sent.items) }
         ensures spent { IfErr result (λ refusal. self.new ≡ Err refusal) }
-        ensures stops { IfOk self.old (λ w.
-            (key : TheKey) → world_due S.engine w ≡ Some key →
-            IfErr result (StopsStep S.engine (handled_among S.engine key w))) }
+        ensures stops { OfNext S.engine self.old (λ t. IfErr result (StopsStep S.engine t)) }
         ensures stays { IfErr self.old (λ refusal. result ≡ Err refusal) }
     {
         empty_inbox(self.alloc, &mut self.roster, &mut self.inbox)?;
@@ -144,10 +138,7 @@ impl<S: Site> Partition<S> {
         ensures ran { IfOk self.old
             (λ w. IfOk result (λ made. RanTo S.engine end w self.new made)) }
         ensures timely { IfOk result (λ ran. All S.conditions.Timely ran.sent.items) }
-        ensures past { IfOk self.old (λ w.
-            (moment : ℕ) → end ≤ moment →
-            All (S.conditions.Past moment) w →
-            IfOk result (λ _. IfOk self.new (All (S.conditions.Past moment)))) }
+        ensures past { KeepsPast S.conditions end result self.old self.new }
         ensures spent { IfErr result (λ refusal. self.new ≡ Err refusal) }
         ensures stops { IfOk self.old (λ w. IfErr result (StopsRun S.engine end w)) }
         ensures stays { IfErr self.old (λ refusal. result ≡ Err refusal) }

@@ -1,12 +1,11 @@
 //! Sites that accept transfers at once.
 ghost use Rattle.std.specs.Prelude.{◌≡◌, ◌+◌, ◌++◌, ◌≤◌, All, Err, List, None, Ok, Some, IfErr, IfOk, OnOk, ℕ};
 ghost use Rattle.sim_clock.specs.Order.{due_before};
-ghost use Rattle.sim_clock.specs.declared.key.Key.{Key as TheKey};
 ghost use Rattle.sim_engine.specs.Limits.{most_count};
 ghost use Rattle.sim_engine.specs.Rounds.{part_begun};
-ghost use Rattle.sim_engine.specs.World.{arrival, delivered, handled_among, world_due};
+ghost use Rattle.sim_engine.specs.World.{arrival, delivered, world_due};
 ghost use Rattle.sim_partition.specs.Sites.{AreOfPast, accepted_by, HasDue, IsKept, IsPart, due_in, refusal_in};
-ghost use Rattle.sim_partition.specs.Steps.{Continues, RanTo, StaysOfPast, StopsFrom, StopsRun, StopsStep, part_made};
+ghost use Rattle.sim_partition.specs.Steps.{Continues, IsMadeAfter, KeepsPast, OfNext, RanTo, StaysOfPast, StaysTimely, StopsFrom, StopsRun, StopsStep, part_made};
 
 use crate::delivery::deliver_all;
 use crate::handling::{handle_least, run_before};
@@ -121,20 +120,11 @@ impl<S: Site> Roster<S> {
     #[inline(always)]
     pub fn step_into(&mut self, effects: &mut Effects<S::Row, S::Transfer>) -> Result<(), Refusal>
         requires due { IfOk self.old (HasDue S.engine) }
-        ensures handled { IfOk self.old (λ w.
-            (key : TheKey) → world_due S.engine w ≡ Some key →
-            OnOk result (
-            (self.new ≡ Ok (handled_among S.engine key w).sites)
-            × (effects.new.rows.items
-            ≡ effects.old.rows.items ++ (handled_among S.engine key w).rows)
-            × (effects.new.sent.items
-            ≡ effects.old.sent.items ++ (handled_among S.engine key w).sent))) }
-        ensures timely { All S.conditions.Timely effects.old.sent.items
-            → OnOk result (All S.conditions.Timely effects.new.sent.items) }
+        ensures handled { OfNext S.engine self.old
+            (λ t. OnOk result (IsMadeAfter S.engine t self.new effects.old effects.new)) }
+        ensures timely { StaysTimely S.conditions result effects.old effects.new }
         ensures spent { IfErr result (λ refusal. self.new ≡ Err refusal) }
-        ensures stops { IfOk self.old (λ w.
-            (key : TheKey) → world_due S.engine w ≡ Some key →
-            IfErr result (StopsStep S.engine (handled_among S.engine key w))) }
+        ensures stops { OfNext S.engine self.old (λ t. IfErr result (StopsStep S.engine t)) }
         ensures stays { IfErr self.old (λ refusal. result ≡ Err refusal) }
     {
         if let Some(refusal) = self.spent {
@@ -162,10 +152,7 @@ impl<S: Site> Roster<S> {
         ensures ran { IfOk self.old
             (λ w. IfOk result (λ made. RanTo S.engine end w self.new made)) }
         ensures timely { IfOk result (λ ran. All S.conditions.Timely ran.sent.items) }
-        ensures past { IfOk self.old (λ w.
-            (moment : ℕ) → end ≤ moment →
-            All (S.conditions.Past moment) w →
-            IfOk result (λ _. IfOk self.new (All (S.conditions.Past moment)))) }
+        ensures past { KeepsPast S.conditions end result self.old self.new }
         ensures spent { IfErr result (λ refusal. self.new ≡ Err refusal) }
         ensures stops { IfOk self.old (λ w. IfErr result (StopsRun S.engine end w)) }
         ensures stays { IfErr self.old (λ refusal. result ≡ Err refusal) }

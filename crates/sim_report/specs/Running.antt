@@ -1,14 +1,15 @@
 -- The running counts of all queues, and the columns that they become.
-use Rattle.std.specs.Prelude.{ℕ, zero, suc, List, [], ◌∷◌, ◌++◌, map, sum, fold, Option, Some}
+use Rattle.std.specs.Prelude.{ℕ, zero, suc, List, [], ◌∷◌, ◌++◌, map, fold, OnOk, Option, Result, Some, ◌≡◌}
 use Rattle.std.specs.List.{enumerate_from}
 use Rattle.sqs_message.specs.declared.row.Row.{Row}
 use Rattle.sqs_model.specs.declared.finals.FinalMessage.{FinalMessage}
-use Rattle.sqs_formats.specs.Report.{Column, messages_of, rows_of}
+use Rattle.sqs_model.specs.declared.finals.Finals.{Finals}
+use Rattle.sqs_formats.specs.Report.{Column, messages_of, report, rows_of}
 use Rattle.sim_report.specs.declared.column.RowCount.{RowCount}
 use Rattle.sim_report.specs.declared.left.Left.{Left}
 use Rattle.sim_report.specs.declared.queue.QueueCounts.{QueueCounts}
-use Rattle.sim_report.specs.Left.{left_of, left_with}
-use Rattle.sim_report.specs.Tally.{TallyState, count_of, rank_in, tallied_by, tally_of}
+use Rattle.sim_report.specs.Left.{left_of, left_with, lefts}
+use Rattle.sim_report.specs.Tally.{TallyState, count_of, others_by, tallied_by, tally_of}
 
 -- a list with one element changed, if it has that index
 abbrev pub changed : {X : Type 0} → (X → X) → ℕ → List X → List X
@@ -58,9 +59,7 @@ messages_added left messages = fold message_added left messages
 -- the columns that a queue's counts become with what is left of it
 abbrev pub columns_by : TallyState → Left → List (Option ℕ)
 columns_by t l =
-    map (λ n. Some n) t.counts
-    ++ (Some t.depth_max ∷ Some l.visible ∷ Some l.in_flight ∷ Some l.delayed ∷ Some (sum t.ages)
-    ∷ rank_in 100 t.ages ∷ rank_in 50 t.ages ∷ rank_in 95 t.ages ∷ rank_in 99 t.ages ∷ [])
+    map (λ n. Some n) t.counts ++ others_by t.depth_max l t.ages
 
 -- the columns of a queue with its number
 abbrev pub queue_column : List FinalMessage → ℕ × QueueCounts → Column
@@ -69,3 +68,28 @@ queue_column messages q = (q.1.name, columns_by q.1.tally (left_of (messages_of 
 -- the columns of all queues
 abbrev pub columns_of_all : List QueueCounts → List FinalMessage → List Column
 columns_of_all queues messages = map (queue_column messages) (enumerate_from 0 queues)
+
+-- what holds of the report that these counts become with the finals of a run
+abbrev pub OfReport : List QueueCounts → Finals → (List Column → Type 0) → Type 0
+OfReport counts finals P = (names : List (List ℕ)) (rows : List Row) → counts ≡ running names rows → P (report names rows finals)
+
+-- what holds of the reports of two runs
+abbrev pub OfReports : List QueueCounts → Finals → List QueueCounts → Finals → (List Column → List Column → Type 0) → Type 0
+OfReports counts finals other_counts other_finals P =
+    (names : List (List ℕ)) (rows : List Row) (others : List (List ℕ)) (other_rows : List Row)
+    → counts ≡ running names rows → other_counts ≡ running others other_rows → P (report names rows finals) (report others other_rows other_finals)
+
+-- what holds of the report that these counts become with what is left
+abbrev pub OfLeft : List QueueCounts → List Left → (List Column → Type 0) → Type 0
+OfLeft counts left P =
+    (names : List (List ℕ)) (rows : List Row) (finals : Finals)
+    → counts ≡ running names rows → left ≡ lefts counts finals.messages → P (report names rows finals)
+
+-- what is left of some queues is counted on with more messages
+abbrev pub CountsOn : {A E : Type 0} → Result A E → List Left → List FinalMessage → List Left → Type 0
+CountsOn result old messages new =
+    (queues : List QueueCounts) (before : List FinalMessage) → old ≡ lefts queues before → OnOk result (new ≡ lefts queues (before ++ messages))
+
+-- the same from no message on
+abbrev pub CountsAll : {A E : Type 0} → Result A E → List Left → List FinalMessage → List Left → Type 0
+CountsAll result old messages new = (queues : List QueueCounts) → old ≡ lefts queues [] → OnOk result (new ≡ lefts queues messages)

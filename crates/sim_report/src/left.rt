@@ -1,9 +1,7 @@
 //! The messages that are left in each queue.
-ghost use Rattle.std.specs.Prelude.{◌≡◌, ◌++◌, [], List, IfOk, IfSome, OnOk};
-ghost use Rattle.sqs_model.specs.declared.finals.FinalMessage.{FinalMessage as TheMessage};
-ghost use Rattle.sim_report.specs.declared.queue.QueueCounts.{QueueCounts as TheCounts};
+ghost use Rattle.std.specs.Prelude.{◌≡◌, [], List, IfOk, IfSome, OnOk};
 ghost use Rattle.sim_report.specs.Left.{lefts};
-ghost use Rattle.sim_report.specs.Running.{message_added, messages_added};
+ghost use Rattle.sim_report.specs.Running.{CountsOn, message_added, messages_added};
 
 use crate::queue::QueueCounts;
 use sqs_message::Place;
@@ -104,9 +102,7 @@ impl MessagesLeft {
     /// `AllocError` if a queue has 2^64 messages in one state, which is more than memory holds. The
     /// counts may then have some of the messages, and must not be used again.
     pub fn add(&mut self, messages: &[FinalMessage]) -> Result<(), AllocError>
-        ensures { (queues : List TheCounts) (before : List TheMessage)
-            → self.old ≡ lefts queues before
-            → OnOk result (self.new ≡ lefts queues (before ++ messages.now)) }
+        ensures { CountsOn result self.old messages.now self.new }
     {
         count_messages(self.queues.as_mut_slice(), messages)
     }

@@ -1,12 +1,11 @@
 //! The report of a run.
 ghost use Rattle.std.specs.Prelude.{◌≡◌, ◌++◌, ℕ, List, [], false, IfOk, OnOk};
 ghost use Rattle.sim_report.specs.Left.{lefts};
-ghost use Rattle.sim_report.specs.Running.{count_added, running};
+ghost use Rattle.sim_report.specs.Running.{OfLeft, OfReport, OfReports, count_added, running};
 ghost use Rattle.sim_records.specs.Writes.{Wrote};
 ghost use Rattle.sqs_message.specs.declared.row.Row.{Row};
-ghost use Rattle.sqs_model.specs.declared.finals.Finals.{Finals as TheFinals};
 ghost use Rattle.sqs_formats.specs.Comparison.{comparison};
-ghost use Rattle.sqs_formats.specs.Report.{report, report_text};
+ghost use Rattle.sqs_formats.specs.Report.{report_text};
 
 use crate::column::RowCount;
 use crate::columns::{QueueColumns, columns_of};
@@ -109,9 +108,8 @@ impl Report {
     ) -> Result<(), Refusal>
         requires { (W.state out.old).failed ≡ false }
         ensures works { OnOk result ((W.state out.new).failed ≡ false) }
-        ensures written { (names : List (List ℕ)) (rows : List Row) → self.now ≡ running names rows
-            → Wrote (W.state out.old) (W.state out.new)
-            (report_text (report names rows finals.now)) result }
+        ensures written { OfReport self.now finals.now
+            (λ r. Wrote (W.state out.old) (W.state out.new) (report_text r) result) }
     {
         let left = self.left(alloc, finals)?;
         self.write_counted(alloc, out, &left)
@@ -131,10 +129,8 @@ impl Report {
     ) -> Result<(), Refusal>
         requires { (W.state out.old).failed ≡ false }
         ensures works { OnOk result ((W.state out.new).failed ≡ false) }
-        ensures written { (names : List (List ℕ)) (rows : List Row) (finals : TheFinals)
-            → self.now ≡ running names rows → left.now ≡ lefts self.now finals.messages
-            → Wrote (W.state out.old) (W.state out.new)
-            (report_text (report names rows finals)) result }
+        ensures written { OfLeft self.now left.now
+            (λ r. Wrote (W.state out.old) (W.state out.new) (report_text r) result) }
     {
         let columns = self.columns(alloc, left)?;
         let text = report_lines(alloc, columns.as_slice())?;
@@ -148,9 +144,7 @@ impl Report {
         alloc: Global,
         left: &MessagesLeft,
     ) -> Result<Vec<QueueColumns<'a>>, AllocError>
-        ensures { (names : List (List ℕ)) (rows : List Row) (finals : TheFinals)
-            → self.now ≡ running names rows → left.now ≡ lefts self.now finals.messages
-            → IfOk result (λ v. v.items ≡ report names rows finals) }
+        ensures { OfLeft self.now left.now (λ r. IfOk result (λ v. v.items ≡ r)) }
     {
         columns_of(alloc, self.queues.as_slice(), left.of_queues())
     }
@@ -161,8 +155,7 @@ impl Report {
         alloc: Global,
         finals: &Finals,
     ) -> Result<Vec<QueueColumns<'a>>, AllocError>
-        ensures { (names : List (List ℕ)) (rows : List Row) → self.now ≡ running names rows
-            → IfOk result (λ v. v.items ≡ report names rows finals.now) }
+        ensures { OfReport self.now finals.now (λ r. IfOk result (λ v. v.items ≡ r)) }
     {
         let left = self.left(alloc, finals)?;
         self.columns(alloc, &left)
@@ -185,11 +178,9 @@ pub fn compare<W: Out>(
 ) -> Result<(), Refusal>
     requires { (W.state out.old).failed ≡ false }
     ensures works { OnOk result ((W.state out.new).failed ≡ false) }
-    ensures written { (names : List (List ℕ)) (rows : List Row) (others : List (List ℕ)) (other_rows : List Row)
-        → first.entry.0.now ≡ running names rows → second.entry.0.now ≡ running others other_rows
-        → Wrote (W.state out.old) (W.state out.new)
-        (comparison (report names rows first.entry.1.now)
-        (report others other_rows second.entry.1.now)) result }
+    ensures written { OfReports first.entry.0.now first.entry.1.now second.entry.0.now
+        second.entry.1.now (λ a b. Wrote (W.state out.old) (W.state out.new)
+        (comparison a b) result) }
 {
     let before = first.0.columns_at_end(alloc, first.1)?;
     let after = second.0.columns_at_end(alloc, second.1)?;

@@ -1,6 +1,6 @@
 //! The running counts of a queue.
-ghost use Rattle.std.specs.Prelude.{◌≡◌, ◌↔◌, ◌⊎◌, ◌∷◌, [], IfOk, OnErr, OnOk, map, sum, Some, true};
-ghost use Rattle.sim_report.specs.Tally.{counted, depth_by, rank_in, tallied_by};
+ghost use Rattle.std.specs.Prelude.{◌≡◌, ◌↔◌, ◌⊎◌, IfOk, OnErr, OnOk, map, Some, true};
+ghost use Rattle.sim_report.specs.Tally.{counted, depth_by, others_by, tallied_by};
 
 use crate::age_counts::AgeCounts;
 use crate::ages::Ages;
@@ -84,9 +84,7 @@ fn count_columns(alloc: Global, counts: &[u64; COUNTED]) -> Result<Vec<Option<u1
 
 // The other columns.
 fn other_columns(depth_max: u128, left: Left, ages: &AgeCounts) -> [Option<u128>; OTHERS]
-    ensures { result ≡ Some depth_max ∷ Some left.visible ∷ Some left.in_flight ∷ Some left.delayed
-        ∷ Some (sum ages.now) ∷ rank_in 100 ages.now ∷ rank_in 50 ages.now ∷ rank_in 95 ages.now
-        ∷ rank_in 99 ages.now ∷ [] }
+    ensures { result ≡ others_by depth_max left ages.now }
 {
     [
         Some(depth_max),

@@ -20,3 +20,7 @@ pub record IsDraftUpto (newest : ℕ) (text : List ℕ) (draft : Draft) : Type 0
 -- a draft of a text, of which released versions alone may be read
 abbrev pub IsDraftOf : List ℕ → Draft → Type 0
 IsDraftOf = IsDraftUpto released
+
+-- what holds of the text of a draft, and of the newest version that may be read of it
+abbrev pub OfDraft : Draft → (ℕ → List ℕ → Type 0) → Type 0
+OfDraft draft P = (newest : ℕ) (text : List ℕ) → IsDraftUpto newest text draft → P newest text

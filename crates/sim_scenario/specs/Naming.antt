@@ -1,6 +1,9 @@
 -- The names of a scenario's agents.
 use Rattle.std.specs.List.{AllPairs, zip}
-use Rattle.std.specs.Prelude.{All, List, drop, length, true, ℕ, ◌≡◌, ◌≢◌}
+use Rattle.std.specs.Prelude.{All, List, codes, drop, length, map, true, ℕ, ◌≡◌, ◌≢◌}
+use Rattle.toml.specs.View.{view}
+use Rattle.toml.specs.declared.value.Value.{Value}
+use Rattle.sqs_formats.specs.Keys.{text_in}
 use Rattle.sqs_formats.specs.Names.{is_agent_name, is_fifo, is_queue_name}
 use Rattle.sqs_model.specs.Scenario.{Scenario}
 use Rattle.sqs_redrive.specs.declared.settings.QueueSettings.{QueueSettings}
@@ -16,3 +19,7 @@ pub record AreNamed (s : Scenario) : Type 0 where
   pub distinct : AllPairs (λ m n. m ≢ n) s.names
   pub queues : All (λ x. IsNameOf x.0 x.1) (zip s.queues s.names)
   pub others : All (λ n. is_agent_name n ≡ true) (drop (length s.queues) s.names)
+
+-- the texts that are given as names in some items, well-formed or not
+abbrev pub names_in : List Value → List (List ℕ)
+names_in items = map (text_in (codes "name")) (map view items)

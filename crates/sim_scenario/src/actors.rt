@@ -101,7 +101,8 @@ pub(crate) struct Actors<'o> {
 }
 
 impl Actors<'_> {
-    ghost use Rattle.std.specs.Prelude.{◌≡◌, Ok, map};
+    ghost use Rattle.std.specs.Prelude.{◌≡◌, Ok};
+    ghost use Rattle.sim_scenario.specs.AtHome.{each_at};
 
     /// Copies with these names. What they do is read anew for each, as for the actor.
     fn copied(
@@ -111,9 +112,9 @@ impl Actors<'_> {
         names: Vec<Text>,
         section: &Section<'_>,
     ) -> Result<Agents, ReadError>
-        ensures { (r : Role) →
-            the_role kind self.now.scripts.now self.now.outline.now home (table_of section.now) ≡ Ok r
-            → Gives (λ v. v) result (Ok (map (λ n. (n, record { home = home; role = r })) names.items)) }
+        ensures { (r : Role) → the_role kind self.now.scripts.now self.now.outline.now home
+            (table_of section.now) ≡ Ok r → Gives (λ v. v) result (Ok
+            (each_at home r names.items)) }
     {
         let mut agents = Vec::with_capacity(section.alloc, names.len())?;
         for name in names {

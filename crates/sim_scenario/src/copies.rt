@@ -4,6 +4,7 @@ ghost use Rattle.std.specs.List.{sum, sum_by};
 ghost use Rattle.toml.specs.View.{view};
 ghost use Rattle.sqs_formats.specs.Copies.{copies_asked, copies_within, copy_name, copy_names, fitting as the_fitting, names_taken};
 ghost use Rattle.sqs_formats.specs.Keys.{text_in};
+ghost use Rattle.sim_scenario.specs.Naming.{names_in};
 ghost use Rattle.sim_scenario.specs.Counted.{copies_before};
 
 use crate::outline::text_in;
@@ -113,7 +114,7 @@ pub(crate) fn push_names_taken(
     requires same { length copies.now ≡ length actors.now }
     requires few { sum copies.now ≤ 32000 }
     ensures { OnOk result (names.new.items ≡ names.old.items
-        ++ names_taken (map (text_in (codes "name")) (map view actors.now)) copies.now) }
+        ++ names_taken (names_in actors.now) copies.now) }
 {
     for (i, actor) in actors.iter().enumerate() {
         let name = text_in(actor, "name").as_bytes();

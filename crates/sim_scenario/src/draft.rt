@@ -1,9 +1,9 @@
 //! A scenario's text, parsed, before its script files are known.
-ghost use Rattle.std.specs.Prelude.{◌≡◌, IfOk, List, ℕ};
+ghost use Rattle.std.specs.Prelude.{◌≡◌, IfOk};
 ghost use Rattle.std.specs.Result.{result_map_both};
 ghost use Rattle.toml.specs.View.{table_view};
 ghost use Rattle.sqs_formats.specs.Scenario.{scenario_of, scenario_upto, script_names as the_script_names};
-ghost use Rattle.sim_scenario.specs.Drafts.{IsDraftOf, IsDraftUpto, draft_of};
+ghost use Rattle.sim_scenario.specs.Drafts.{IsDraftOf, IsDraftUpto, OfDraft, draft_of};
 ghost use Rattle.sim_scenario.specs.Gives.{Gives};
 ghost use Rattle.sim_scenario.specs.Ranges.{IsInRange};
 
@@ -84,8 +84,8 @@ impl Draft {
     ///
     /// `AllocError` if memory runs out.
     pub fn script_names(&self, alloc: Global) -> Result<Vec<Text>, AllocError>
-        ensures { (newest : ℕ) (text : List ℕ) → IsDraftUpto newest text self.now
-            → IfOk result (λ v. v.items ≡ the_script_names text) }
+        ensures { OfDraft self.now
+            (λ newest text. IfOk result (λ v. v.items ≡ the_script_names text)) }
     {
         match &self.table {
             Ok(table) => names_in(alloc, actor_items(table)),
@@ -104,8 +104,8 @@ impl Draft {
     /// than may be read. `Memory` if a growth is refused.
     pub fn read(self, alloc: Global, scripts: &Scripts) -> Result<Scenario, ReadError>
         ensures range { IfOk result IsInRange }
-        ensures value { (newest : ℕ) (text : List ℕ) → IsDraftUpto newest text self
-            → Gives (λ s. s) result (scenario_upto newest scripts.now text) }
+        ensures value { OfDraft self
+            (λ newest text. Gives (λ s. s) result (scenario_upto newest scripts.now text)) }
     {
         let Draft { table, newest } = self;
         match table {

@@ -1,10 +1,11 @@
 //! What every part of a scenario's text may refer to: all names, and who has them.
-ghost use Rattle.std.specs.Prelude.{◌≡◌, ◌+◌, ◌≤◌, ◌++◌, IfOk, OnOk, codes, map, length};
+ghost use Rattle.std.specs.Prelude.{◌≡◌, ◌+◌, ◌≤◌, ◌++◌, IfOk, OnOk, map, length};
 ghost use Rattle.std.specs.List.{enumerate_from, sum, zip};
 ghost use Rattle.toml.specs.View.{view};
 ghost use Rattle.sqs_formats.specs.Keys.{text_in};
 ghost use Rattle.sqs_formats.specs.Actors.{tasks_at};
 ghost use Rattle.sqs_formats.specs.Copies.{names_taken};
+ghost use Rattle.sim_scenario.specs.Naming.{names_in};
 
 use crate::copies::{copies_before, copies_within, push_names_taken, total_beside};
 use crate::names::is_fifo;
@@ -101,13 +102,10 @@ fn all_names(
 ) -> Result<(Vec<Text>, usize), AllocError>
     requires same { length copies.now ≡ length actors.now }
     requires few { sum copies.now ≤ 32000 }
-    ensures names { IfOk result (λ n. n.0.items
-        ≡ (map (text_in (codes "name")) (map view queues.now)
-        ++ names_taken (map (text_in (codes "name")) (map view actors.now)) copies.now)
-        ++ map (text_in (codes "name")) (map view tasks.now)) }
+    ensures names { IfOk result (λ n. n.0.items ≡ (names_in queues.now ++ names_taken
+        (names_in actors.now) copies.now) ++ names_in tasks.now) }
     ensures place { IfOk result (λ n. n.1
-        ≡ length (map (text_in (codes "name")) (map view queues.now)
-        ++ names_taken (map (text_in (codes "name")) (map view actors.now)) copies.now)) }
+        ≡ length (names_in queues.now ++ names_taken (names_in actors.now) copies.now)) }
 {
     let mut names = texts(alloc, queues, "name")?;
     push_names_taken(alloc, &mut names, actors, copies)?;

@@ -45,6 +45,7 @@ impl Model for Scenario {
 
 impl Scenario {
     ghost use Rattle.std.specs.Prelude.{◌≡◌};
+    ghost use Rattle.sim_scenario.specs.AtHome.{scenario_with};
     ghost use Rattle.sim_scenario.specs.Ranges.{IsInRange};
 
     /// The scenario with these parts; the names are those of the queues, then of the actors, then
@@ -58,25 +59,10 @@ impl Scenario {
         tasks: Vec<TaskSettings>,
         names: Vec<Text>,
     ) -> Scenario
-        requires { IsInRange (record {
-          horizon = horizon;
-          seed = seed;
-          sample = sample;
-          queues = queues.items;
-          actors = actors.items;
-          tasks = tasks.items;
-          names = names.items;
-        }) }
-        ensures { result
-            ≡ record {
-              horizon = horizon;
-              seed = seed;
-              sample = sample;
-              queues = queues.items;
-              actors = actors.items;
-              tasks = tasks.items;
-              names = names.items;
-            } }
+        requires { IsInRange (scenario_with horizon seed sample queues.items actors.items
+            tasks.items names.items) }
+        ensures { result ≡ scenario_with horizon seed sample queues.items actors.items tasks.items
+            names.items }
     {
         Scenario {
             horizon,
@@ -144,15 +130,8 @@ impl Scenario {
 
     /// All parts, moved out.
     pub fn into_parts(self) -> ScenarioParts
-        ensures value { record {
-          horizon = result.horizon;
-          seed = result.seed;
-          sample = result.sample;
-          queues = result.queues.items;
-          actors = result.actors.items;
-          tasks = result.tasks.items;
-          names = result.names.items;
-        } ≡ self }
+        ensures value { scenario_with result.horizon result.seed result.sample result.queues.items
+            result.actors.items result.tasks.items result.names.items ≡ self }
         ensures range { IsInRange self }
     {
         ScenarioParts {

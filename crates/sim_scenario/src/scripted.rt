@@ -72,7 +72,8 @@ fn script_blame(section: &Section<'_>, fault: ScriptFault, key: &str) -> ReadErr
 
 /// The calls of a script for an actor's queue; its faults get a place.
 fn calls_of(section: &Section<'_>, home: &Home, text: &[u8], key: &str) -> Result<Script, ReadError>
-    ensures { Gives (λ s. s) result (calls_in home.now (place_of (table_of section.now) key.now) text.now) }
+    ensures { Gives (λ s. s) result (calls_in home.now (place_of
+        (table_of section.now) key.now) text.now) }
 {
     match read_script(section.alloc, text, home) {
         Ok(calls) => Ok(Script::new(calls)),
@@ -173,8 +174,8 @@ fn script_keys(has_calls: bool) -> &'static [&'static str]
 
 /// Checks that an actor that follows a script has known keys alone.
 fn known_script_keys(section: &Section<'_>) -> Result<(), ReadError>
-    ensures { Gives (λ u. u) result
-        (only (actor_keys ++ script_keys (has (table_of section.now) (codes "calls"))) (table_of section.now)) }
+    ensures { Gives (λ u. u) result (only (actor_keys ++ script_keys (has (table_of section.now)
+        (codes "calls"))) (table_of section.now)) }
 {
     let own = script_keys(section.has("calls"));
     section.only(&[ACTOR_KEYS, own])
@@ -188,7 +189,8 @@ pub(crate) fn scripted(
     home: u32,
     section: &Section<'_>,
 ) -> Result<Role, ReadError>
-    ensures { Gives (λ r. r) result (the_scripted scripts.now outline.now home (table_of section.now)) }
+    ensures { Gives (λ r. r) result (the_scripted scripts.now outline.now home
+        (table_of section.now)) }
 {
     known_script_keys(section)?;
     let home = outline.home(section.alloc, home)?;

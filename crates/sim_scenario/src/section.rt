@@ -166,7 +166,8 @@ impl<'a> Section<'a> {
     /// The items of the list at a key, which is required.
     #[tactic(auto, unfolding(sqs_formats::specs::Keys::required, sqs_formats::specs::Reading::and_then))]
     pub(crate) fn required_list(&self, key: &str) -> Result<&'a [Value], ReadError>
-        ensures { Gives (λ vs. map view vs.now) result (required a_list (table_of self.now) key.now) }
+        ensures { Gives (λ vs. map view vs.now) result (required a_list
+            (table_of self.now) key.now) }
     {
         match member(self.table, key) {
             Some(value) => self.items(value, key),
@@ -177,7 +178,8 @@ impl<'a> Section<'a> {
     /// The items of the list at a key, which may be left out.
     #[tactic(auto, unfolding(sqs_formats::specs::Keys::optional))]
     pub(crate) fn optional_list(&self, key: &str) -> Result<&'a [Value], ReadError>
-        ensures { Gives (λ vs. map view vs.now) result (optional [] a_list (table_of self.now) key.now) }
+        ensures { Gives (λ vs. map view vs.now) result (optional [] a_list
+            (table_of self.now) key.now) }
     {
         match member(self.table, key) {
             Some(value) => self.items(value, key),
@@ -204,7 +206,8 @@ impl<'a> Section<'a> {
         of: &K,
         default: K::Value,
     ) -> Result<K::Value, ReadError>
-        ensures { Gives (λ x. x) result (optional default (K.says of.now) (table_of self.now) key.now) }
+        ensures { Gives (λ x. x) result (optional default (K.says of.now)
+            (table_of self.now) key.now) }
     {
         match member(self.table, key) {
             Some(value) => of.read(self, value, key),

@@ -45,7 +45,8 @@ fn queue_list<'a>(section: &Section<'a>) -> Result<&'a [Value], ReadError>
 #[tactic(auto, unfolding(sqs_formats::specs::Scenario::agent_list, sqs_formats::specs::Reading::and_then))]
 fn agent_list<'a>(before: usize, section: &Section<'a>, key: &str) -> Result<&'a [Value], ReadError>
     requires { before ≤ 10000 }
-    ensures value { Gives (λ vs. map view vs.now) result (agent_list before (table_of section.now) key.now) }
+    ensures value { Gives (λ vs. map view vs.now) result (agent_list before
+        (table_of section.now) key.now) }
     ensures few { IfOk result (λ vs. before + length vs.now ≤ 10000) }
 {
     let values = section.optional_list(key)?;

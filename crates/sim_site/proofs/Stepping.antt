@@ -93,7 +93,7 @@ did_step a b d key c taken t mid after loads rest m e counted told kept =
 pub step_does :
     (r : Result (Unit {0}) Refusal) (a b : Handling) (c : Core) (site : ℕ) (t u after : Task) (loads : List (ℕ × Load)) (rest : Rest) (i : ℕ) → number_of c ≡ site → Stands (is_task a.key.agent) c.tasks i
     → t ≡ get_or c.tasks i t → task_numbered a.key.agent c ≡ Some u → numbered_settings after ≡ numbered_settings t
-    → Moves r a b site after (λ d. stepped_moves a.key d t loads rest)
+    → Moves r a b site after (λ k d. stepped_moves k d t loads rest)
     → Does r a b (record c { tasks = set c.tasks i after }) (step_moved a.key c (length loads) rest (moves a.key c u loads))
 step_does (Ok v) a b c site t u after loads rest i n s e found kept (on, moved) =
     let m = moved c n in

@@ -1,5 +1,5 @@
 -- The transfers on their way to a site: those in a tree, each under its key and the number of its insertion, and where one comes in.
-use Rattle.std.specs.Prelude.{List, [], false, true, ℕ, ◌<◌, ◌≡◌, ◌≤◌, ◌∷◌}
+use Rattle.std.specs.Prelude.{Bool, List, [], false, true, ℕ, ◌<◌, ◌≡◌, ◌≤◌, ◌∷◌}
 use Rattle.std.specs.declared.cmp.Ordering.{Ordering}
 use Rattle.std.specs.List.{AllByRecursion}
 use Rattle.std.specs.List.Sorted.{IsStrictlySortedBy}
@@ -35,3 +35,8 @@ ComesFirst key (t ∷ ts) = is_lt (key_cmp key (transfer_key t)) ≡ true
 abbrev pub ComesBehind : Key → List Outbound → Type 0
 ComesBehind key [] = ⊥
 ComesBehind key (t ∷ ts) = is_lt (key_cmp key (transfer_key t)) ≡ false
+
+-- whether a key comes before all of some transfers; if it does not, it comes behind the first
+pub record ReportsFirst (key : Key) (later : List Outbound) (result : Bool) : Type 0 where
+  pub first : result ≡ true → ComesFirst key later
+  pub behind : result ≡ false → ComesBehind key later

@@ -1,7 +1,9 @@
 -- How the methods of a site carry out the effects of the definitions: rows and transfers are appended to those made
 -- before.
-use Rattle.std.specs.Prelude.{MatchResult, Result, Some, ◌++◌, ◌≡◌, ◌≤◌}
+use Rattle.std.specs.Prelude.{IfErr, IfOk, List, MatchResult, OnOk, Result, Some, ◌++◌, ◌≡◌, ◌≢◌, ◌≤◌}
+use Rattle.sim_clock.specs.declared.key.Key.{Key}
 use Rattle.sim_clock.specs.declared.refusal.Refusal.{Refusal}
+use Rattle.sim_clock.specs.declared.refusal.Refusal.TheVariants as refusals
 use Rattle.sim_engine.specs.declared.effects.Effects.{Effects as EffectsOf}
 use Rattle.sim_engine.specs.Limits.{StopsWhere}
 use Rattle.sqs_message.specs.declared.row.Row.{Row}
@@ -54,14 +56,22 @@ pub record GoesOn (before after : Handling) : Type 0 where
   pub agent : after.agent ≡ before.agent
   pub effects : after.effects.ghost_name ≡ before.effects.ghost_name
 
+-- rows that a handling made were added
+abbrev pub AddsRows : Handling → Handling → List Row → Type 0
+AddsRows before after rows = after.effects.now.rows.items ≡ before.effects.now.rows.items ++ rows
+
 -- how a call ends: the handling went on by an effect at the site, or the effect is not carried out
 abbrev pub Does : {A : Type 0} → Result A Refusal → Handling → Handling → Core → Effect → Type 0
 Does result before after c e =
     MatchResult result (λ _. GoesOn before after × Did before.effects.now after.effects.now c e) (Stops e)
 
--- the same of what depends on who acts
-abbrev pub ActorDoes : {A : Type 0} → Result A Refusal → Handling → Handling → Core → (Actor → Effect) → Type 0
-ActorDoes result before after c e = (a : Actor) → a.number ≡ before.agent → Does result before after c (e a)
+-- the same of an effect that depends on the key that is handled
+abbrev pub Handles : {A : Type 0} → Result A Refusal → Handling → Handling → Core → (Key → Effect) → Type 0
+Handles result before after c e = Does result before after c (e before.key)
+
+-- and on who acts
+abbrev pub ActorDoes : {A : Type 0} → Result A Refusal → Handling → Handling → Core → (Key → Actor → Made) → Type 0
+ActorDoes result before after c m = (a : Actor) → a.number ≡ before.agent → Does result before after c (m before.key a).effect
 
 -- how an act ends: the handling went on by it, and the actor gets its answer, or it is not carried out
 abbrev pub HasMade : Result Reply Refusal → Handling → Handling → Core → Made → Type 0
@@ -69,11 +79,19 @@ HasMade result before after c m =
     MatchResult result (λ reply. GoesOn before after × DidMake before.effects.now after.effects.now c (answer_of reply) m) (Stops m.effect)
 
 -- the same of an act of one of the site's actors
-abbrev pub Makes : Result Reply Refusal → Handling → Handling → Core → Core → (Actor → Made) → Type 0
+abbrev pub Makes : Result Reply Refusal → Handling → Handling → Core → Core → (Key → Actor → Made) → Type 0
 Makes result before after old new m =
-    (a : Actor) → a.number ≡ before.agent → actor_numbered before.agent old ≡ Some a → HasMade result before after new (m a)
+    (a : Actor) → a.number ≡ before.agent → actor_numbered before.agent old ≡ Some a → HasMade result before after new (m before.key a)
 
 -- how the handling of a site's next entry ends
 abbrev pub HasHandled : {A : Type 0} → Result A Refusal → Handling → Handling → Site → Handled → Type 0
 HasHandled result before after s h =
     MatchResult result (λ _. GoesOn before after × DidHandle before.effects.now after.effects.now s h) (Stops (effect_of h))
+
+-- what comes of an error: an answer, or the end of the site, which is out of memory or a count at its limit
+pub record IsReportedOrEnds (refusal : Refusal) (result : Result Refusal Refusal) : Type 0 where
+  pub same : IfOk result (λ told. told ≡ refusal)
+  pub memory : OnOk result (refusal ≢ refusals.Memory)
+  pub limit : OnOk result (refusal ≢ refusals.CountLimit)
+  pub ends : IfErr result (λ ends. ends ≡ refusal)
+  pub stops : IfErr result (StopsWhere (refusal ≡ refusals.CountLimit))

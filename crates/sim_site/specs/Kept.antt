@@ -1,5 +1,5 @@
 -- What every state of a site keeps, so that no moment that it works out is too great.
-use Rattle.std.specs.Prelude.{All, List, ℕ, ◌*◌, ◌+◌, ◌<◌, ◌^◌, ◌≤◌}
+use Rattle.std.specs.Prelude.{All, List, ℕ, ◌*◌, ◌+◌, ◌<◌, ◌^◌, ◌≡◌, ◌≤◌, OnErr, OnOk, Result, ◌-◌, Err, IfSome, None, Option, true}
 use Rattle.sqs_message.specs.declared.calls.Call.{Call}
 use Rattle.sqs_model.specs.declared.acts.Act.{Act}
 use Rattle.sqs_model.specs.declared.acts.Act.TheVariants as acts
@@ -9,6 +9,11 @@ use Rattle.sqs_model.specs.declared.agents.Role.TheVariants.{Consumer, Producer,
 use Rattle.sqs_redrive.specs.declared.settings.QueueSettings.{QueueSettings}
 use Rattle.sqs_redrive.specs.declared.settings.TaskSettings.{TaskSettings}
 use Rattle.sqs_model.specs.Actor.{act_of}
+use Rattle.sqs_redrive.specs.declared.settings.Kind.{Kind}
+use Rattle.sqs_model.specs.Available.{all_hosts}
+use Rattle.sqs_model.specs.Queue.{Queue}
+use Rattle.sim_clock.specs.declared.refusal.Refusal.{Refusal}
+use Rattle.sqs_model.specs.Receive.{answered, give_most, receive}
 use Rattle.sqs_model.specs.Answers.{most_count}
 use Rattle.sqs_model.specs.Progress.{Ascends}
 use Rattle.sqs_model.specs.Task.{Task}
@@ -62,3 +67,29 @@ pub record IsSampled (sample samples : ℕ) : Type 0 where
   pub interval : sample ≤ most_count
   pub taken : samples ≤ most_count
   pub next : sample * (samples + 1) < 2 ^ 64
+
+-- a count that is reported, which is within the limit
+pub record IsCount (n most : ℕ) : Type 0 where
+  pub count : n ≡ most
+  pub limit : n ≤ most_count
+
+-- hosts of a standard queue, of which a short poll samples so many
+pub record MaySample (hosts sampled : ℕ) : Type 0 where
+  pub some : 1 ≤ hosts
+  pub few : hosts ≤ 16
+  pub within : sampled ≤ hosts
+
+-- a list after one more is put there, or the same list after an error
+pub record AddsOrKeeps {A E T : Type 0} (result : Result A E) (more old new : List T) : Type 0 where
+  pub added : OnOk result (new ≡ more)
+  pub same : OnErr result (new ≡ old)
+
+-- the number of hosts that a queue of a kind is seen to have, and the set of all of them
+pub record IsHostCount (kind : Kind) (hosts : ℕ) : Type 0 where
+  pub few : hosts ≤ 16
+  pub all : all_hosts kind ≡ 2 ^ hosts - 1
+
+-- the error of a short poll of a queue, if it has one; if it has none, the poll gives messages
+pub record IsShortRefusal (queue : Queue) (timeout : Option ℕ) (result : Option Refusal) : Type 0 where
+  pub allowed : result ≡ None → (now max set : ℕ) → receive queue now max timeout set true ≡ answered (give_most queue now max timeout set)
+  pub refused : IfSome result (λ refusal. (now max set : ℕ) → receive queue now max timeout set true ≡ (Err refusal, queue))

@@ -1,3 +1,4 @@
+pub mod Rows
 pub mod Effects
 pub mod Kept
 pub mod Reading

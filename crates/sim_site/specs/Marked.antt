@@ -63,3 +63,27 @@ pub record IsFirstAt (places : List (Option Poll)) (place : ℕ) : Type 0 where
 pub record LeavesOne (places : List (Option Poll)) (place : ℕ) : Type 0 where
   pub within : place < length places
   pub one : length (waiting places) ≡ suc (length (waiting (set places place None)))
+
+-- actors that are as before, all marked with their wakes but for the one that is called next
+pub record AreTurnedTo (place : ℕ) (old new : Marked Actor) : Type 0 where
+  pub values : new.values ≡ old.values
+  pub marked : AreMarked wake_mark (brought_up (Some place) new)
+
+-- the polls that wait at marked places
+abbrev pub polls_at : Marked (Option Poll) → List Poll
+polls_at places = waiting places.values
+
+-- places that are marked, with the same polls as before
+pub record KeepPolls (old new : Marked (Option Poll)) : Type 0 where
+  pub marked : AreMarked end_mark new
+  pub polls : polls_at new ≡ polls_at old
+
+-- the same of places of so many polls
+pub record KeepWaiting (count : ℕ) (old new : Marked (Option Poll)) : Type 0 where
+  pub are : AreWaiting new count
+  pub same : polls_at new ≡ polls_at old
+
+-- places that are marked, of which one is empty now
+pub record IsLeft (place : ℕ) (old new : Marked (Option Poll)) : Type 0 where
+  pub left : new.values ≡ set old.values place None
+  pub marked : AreMarked end_mark new

@@ -1,5 +1,5 @@
 -- One turn of an actor at its site: it gets an answer, decides, and acts.
-use Rattle.std.specs.Prelude.{Bool, List, MatchResult, None, Option, Result, Some, false, find, true, ℕ, ◌+◌, ◌≡◌}
+use Rattle.std.specs.Prelude.{Bool, List, MatchResult, None, Option, Result, Some, false, find, true, ℕ, ◌+◌, ◌<◌, ◌≡◌}
 use Rattle.sim_clock.specs.declared.refusal.Refusal.{Refusal}
 use Rattle.sim_clock.specs.declared.key.Key.{Key}
 use Rattle.sqs_model.specs.declared.acts.Act.{Act}
@@ -9,7 +9,12 @@ use Rattle.sqs_model.specs.declared.acts.Answer.TheVariants as told_by
 use Rattle.sim_clock.specs.Firsts.{changed}
 use Rattle.sqs_model.specs.Actor.{Actor, next}
 use Rattle.sqs_model.specs.Acts.{Made, act_made}
-use Rattle.sqs_model.specs.Site.{Core, Effect, is_actor, no_effect, with_actor}
+use Rattle.sqs_model.specs.Site.{Core, Effect, actor_numbered, is_actor, no_effect, with_actor}
+use Rattle.sqs_model.specs.Answers.{most_count}
+use Rattle.sim_actor.specs.Lives.{greatest_count}
+use Rattle.sqs_model.specs.Dues.{core_dues}
+use Rattle.sqs_model.specs.Progress.{IsRecent}
+use Rattle.sim_site.specs.Due.{IsAmong}
 use Rattle.sim_site.specs.Effects.{Did, Effects, GoesOn, Stops}
 use Rattle.sim_site.specs.declared.handling.Handling.{Handling}
 
@@ -63,3 +68,26 @@ pub record DidTurn (before after : Effects) (c : Core) (told : Option Answer) (t
 abbrev pub Takes : {A : Type 0} → (A → Option Answer) → Result A Refusal → Handling → Handling → Core → Turn → Type 0
 Takes answers result before after c t =
     MatchResult result (λ x. GoesOn before after × DidTurn before.effects.now after.effects.now c (answers x) t) (Stops t.effect)
+
+-- the same of a turn by the key that is handled, of one of the site's actors
+abbrev pub ActorTakes : {A : Type 0} → (A → Option Answer) → Result A Refusal → Handling → Handling → Core → Core → (Key → Actor → Turn) → Type 0
+ActorTakes answers result before after old new t =
+    (a : Actor) → a.number ≡ before.agent → actor_numbered before.agent old ≡ Some a → Takes answers result before after new (t before.key a)
+
+-- the same of the next turn of the actor that acts, on an answer
+abbrev pub TakesTurn : {A : Type 0} → (A → Option Answer) → Result A Refusal → Handling → Handling → Core → Core → Answer → Type 0
+TakesTurn answers result before after old new answer = Takes answers result before after new (turn_of before.key answer old (actor_numbered before.agent old))
+
+-- whether the turn of the actor with a number takes a count past the limit
+abbrev pub PassesTurn : ℕ → ℕ → Answer → List Actor → Type 0
+PassesTurn n now answer actors = (a : Actor) → find (is_actor n) actors ≡ Some a → most_count < greatest_count (next a now answer).1
+
+-- whether the actor with a number has waited for as many polls as counts reach
+abbrev pub HasAllPolls : ℕ → List Actor → Type 0
+HasAllPolls n actors = (a : Actor) → find (is_actor n) actors ≡ Some a → a.polls ≡ most_count
+
+-- a handling of what is due at a site, by the agent of its key; no message there is from after its moment
+pub record IsDueNow (handling : Handling) (c : Core) : Type 0 where
+  pub agent : handling.agent ≡ handling.key.agent
+  pub recent : IsRecent handling.key.at c.queue
+  pub due : IsAmong (core_dues c) handling.key

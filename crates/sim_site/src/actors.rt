@@ -1,19 +1,18 @@
 //! The actors of a site; if there are many, with a tree of their wakes.
-ghost use Rattle.std.specs.Prelude.{All, IfErr, IfOk, IfSome, MatchOption, Some, find, flat_map, length, map, position, true, ◌<◌, ◌≡◌, ◌≤◌};
+ghost use Rattle.std.specs.Prelude.{All, IfErr, IfOk, IfSome, MatchOption, Some, flat_map, length, map, position, true, ◌<◌, ◌≡◌, ◌≤◌};
 ghost use Rattle.std.specs.List.Sorted.{IsNonDecreasingBy};
-ghost use Rattle.sim_actor.specs.Lives.{act_following, answer_of, greatest_count};
+ghost use Rattle.sim_actor.specs.Lives.{act_following, answer_of};
 ghost use Rattle.sim_clock.specs.Order.{least};
-ghost use Rattle.sqs_model.specs.Actor.{Actor as TheActor, next};
 ghost use Rattle.sqs_model.specs.Answers.{most_count};
 ghost use Rattle.sqs_model.specs.Counts.{actor_count, greatest};
 ghost use Rattle.sqs_model.specs.Dues.{actor_dues};
 ghost use Rattle.sim_clock.specs.Places.{IsAbsent, Stands};
 ghost use Rattle.sqs_model.specs.Site.{is_actor};
 ghost use Rattle.sim_engine.specs.Limits.{StopsWhere};
-ghost use Rattle.sim_site.specs.Kept.{HasShortWaits, WaitsShortly};
+ghost use Rattle.sim_site.specs.Kept.{HasShortWaits, IsCount, WaitsShortly};
 ghost use Rattle.sim_index.specs.Marked.{AreMarked};
-ghost use Rattle.sim_site.specs.Marked.{brought_up, wake_mark};
-ghost use Rattle.sim_site.specs.Turns.{Polled, Turned};
+ghost use Rattle.sim_site.specs.Marked.{AreTurnedTo, brought_up, wake_mark};
+ghost use Rattle.sim_site.specs.Turns.{HasAllPolls, PassesTurn, Polled, Turned};
 
 use crate::agents::wake_of;
 use sim_actor::{Actor, FollowUp, Reply};
@@ -115,8 +114,7 @@ fn bring_up(actors: &mut MarkedList<Actor>, told: Option<usize>)
 fn turn_to(actors: &mut MarkedList<Actor>, told: Option<usize>, place: usize)
     requires told { IfSome told (λ place. place < length actors.old.values) }
     requires marked { AreMarked wake_mark (brought_up told actors.old) }
-    ensures values { actors.new.values ≡ actors.old.values }
-    ensures marked { AreMarked wake_mark (brought_up (Some place) actors.new) }
+    ensures { AreTurnedTo place actors.old actors.new }
 {
     if told != Some(place) {
         bring_up(actors, told);
@@ -139,9 +137,8 @@ fn answered_at(
         actors.new.values) }
     ensures settings { map (λ a. a.settings) actors.new.values
         ≡ map (λ a. a.settings) actors.old.values }
-    ensures stops { IfErr result (StopsWhere ((a : TheActor)
-        → find (is_actor number) actors.old.values ≡ Some a
-        → most_count < greatest_count (next a now (answer_of reply)).1)) }
+    ensures stops { IfErr result (StopsWhere (PassesTurn number now
+        (answer_of reply) actors.old.values)) }
     ensures marked { AreMarked wake_mark (brought_up (Some place) actors.new) }
     ensures numbers { map (λ a. a.number) actors.new.values
         ≡ map (λ a. a.number) actors.old.values }
@@ -157,8 +154,7 @@ fn counted_at(actors: &mut MarkedList<Actor>, place: usize, number: u32) -> Resu
         (λ polls. Polled number polls actors.old.values actors.new.values) }
     ensures settings { map (λ a. a.settings) actors.new.values
         ≡ map (λ a. a.settings) actors.old.values }
-    ensures stops { IfErr result (StopsWhere ((a : TheActor)
-        → find (is_actor number) actors.old.values ≡ Some a → a.polls ≡ most_count)) }
+    ensures stops { IfErr result (StopsWhere (HasAllPolls number actors.old.values)) }
     ensures marks { actors.new.marks ≡ actors.old.marks }
     ensures wakes { map wake_mark actors.new.values ≡ map wake_mark actors.old.values }
     ensures numbers { map (λ a. a.number) actors.new.values
@@ -172,8 +168,7 @@ fn counted_at(actors: &mut MarkedList<Actor>, place: usize, number: u32) -> Resu
 
 // The greatest count of some actors.
 fn greatest_of(actors: &[Actor]) -> u64
-    ensures count { result ≡ greatest (map actor_count actors.now) }
-    ensures limit { result ≤ most_count }
+    ensures { IsCount result (greatest (map actor_count actors.now)) }
 {
     let mut most = 0;
     for actor in actors {
@@ -221,8 +216,7 @@ impl Actors {
 
     /// The greatest count of any of them.
     pub fn greatest_count(&self) -> u64
-        ensures count { result ≡ greatest (map actor_count self.now) }
-        ensures limit { result ≤ most_count }
+        ensures { IsCount result (greatest (map actor_count self.now)) }
     {
         greatest_of(self.list.values())
     }
@@ -268,9 +262,7 @@ impl Actors {
         ensures settings { map (λ a. a.settings) self.new ≡ map (λ a. a.settings) self.old }
         ensures waits { All (λ a. HasShortWaits a.role) (map (λ a. a.settings) self.old)
             → IfOk result WaitsShortly }
-        ensures stops { IfErr result (StopsWhere ((a : TheActor)
-            → find (is_actor number) self.old ≡ Some a
-            → most_count < greatest_count (next a now Answer.Wake).1)) }
+        ensures stops { IfErr result (StopsWhere (PassesTurn number now Answer.Wake self.old)) }
     {
         turn_to(&mut self.list, self.told, place);
         self.told = Some(place);
@@ -294,9 +286,8 @@ impl Actors {
         ensures turned { IfOk result (λ follow_up.
             Turned number now (answer_of reply) (act_following follow_up) self.old self.new) }
         ensures settings { map (λ a. a.settings) self.new ≡ map (λ a. a.settings) self.old }
-        ensures stops { IfErr result (StopsWhere ((a : TheActor)
-            → find (is_actor number) self.old ≡ Some a
-            → most_count < greatest_count (next a now (answer_of reply)).1)) }
+        ensures stops { IfErr result (StopsWhere (PassesTurn number now
+            (answer_of reply) self.old)) }
     {
         turn_to(&mut self.list, self.told, place);
         self.told = Some(place);
@@ -309,8 +300,7 @@ impl Actors {
         requires place { Stands (is_actor number) self.old place }
         ensures polled { IfOk result (λ polls. Polled number polls self.old self.new) }
         ensures settings { map (λ a. a.settings) self.new ≡ map (λ a. a.settings) self.old }
-        ensures stops { IfErr result (StopsWhere
-            ((a : TheActor) → find (is_actor number) self.old ≡ Some a → a.polls ≡ most_count)) }
+        ensures stops { IfErr result (StopsWhere (HasAllPolls number self.old)) }
     {
         counted_at(&mut self.list, place, number)
     }

@@ -6,6 +6,7 @@ ghost use Rattle.sqs_model.specs.Acts.{runs};
 ghost use Rattle.sqs_model.specs.Answers.{most_count};
 ghost use Rattle.sqs_model.specs.Counts.{task_count};
 ghost use Rattle.sim_site.specs.Reading.{settings_of, status_of, moved_of, cancelled_task, started_task};
+ghost use Rattle.sim_site.specs.Kept.{IsCount};
 
 use sim_actor::Actor;
 use sim_clock::{Class, Key};
@@ -122,8 +123,7 @@ impl Task {
 
     /// The greatest of its counts: of its steps, transfers and words.
     pub(crate) fn greatest_count(&self) -> u64
-        ensures count { result ≡ task_count self.now }
-        ensures limit { result ≤ most_count }
+        ensures { IsCount result (task_count self.now) }
     {
         let words = self.draws.taken();
         self.movement.steps().max(self.sent.max(words))

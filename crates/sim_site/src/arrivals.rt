@@ -1,13 +1,14 @@
 //! The transfers on their way to a site, in the order of their keys.
-ghost use Rattle.std.specs.Prelude.{◌≡◌, ◌≤◌, ◌++◌, ◌∷◌, [], false, true, IfSome, MatchOption, OnErr, OnOk, Some, map};
+ghost use Rattle.std.specs.Prelude.{◌≡◌, ◌≤◌, ◌++◌, ◌∷◌, [], true, IfSome, MatchOption, Some, map, OnOk, OnErr};
 ghost use Rattle.std.specs.List.{insert};
 ghost use Rattle.std.specs.Iterator.{YieldsFirstRef, item_count};
 ghost use Rattle.std.specs.Ordering.{on};
 ghost use Rattle.std.specs.VecDeque.{deque_len};
 ghost use Rattle.sim_clock.specs.Order.{IsInOrder, inserted_by, key_cmp, least};
-ghost use Rattle.sim_site.specs.Arrivals.{ComesBehind, ComesFirst};
+ghost use Rattle.sim_site.specs.Arrivals.{ComesFirst, ReportsFirst};
 ghost use Rattle.sqs_redrive.specs.declared.transfers.Outbound.{Outbound as TheOutbound};
 ghost use Rattle.sqs_redrive.specs.Transfers.{transfer_key};
+ghost use Rattle.sim_site.specs.Kept.{AddsOrKeeps};
 
 use crate::later::Later;
 use sim_clock::Key;
@@ -97,9 +98,8 @@ fn place_of(soon: &VecDeque<Outbound>, key: Key) -> usize
 #[inline(always)]
 fn insert_soon(soon: &mut VecDeque<Outbound>, transfer: Outbound) -> Result<(), AllocError>
     requires { IsInOrder (on transfer_key key_cmp) soon.old.items }
-    ensures added { OnOk result
-        (soon.new.items ≡ inserted_by (on transfer_key key_cmp) transfer soon.old.items) }
-    ensures same { OnErr result (soon.new.items ≡ soon.old.items) }
+    ensures { AddsOrKeeps result (inserted_by (on transfer_key key_cmp) transfer soon.old.items)
+        soon.old.items soon.new.items }
 {
     let place = place_of(soon, transfer.key());
     soon.insert(place, transfer)?;
@@ -143,8 +143,7 @@ fn insert_into_full(
 #[inline(always)]
 fn comes_first(later: &Later, key: Key) -> bool
     requires { IsInOrder (on transfer_key key_cmp) later.now }
-    ensures first { result ≡ true → ComesFirst key later.now }
-    ensures behind { result ≡ false → ComesBehind key later.now }
+    ensures { ReportsFirst key later.now result }
 {
     match later.least() {
         Some(least) => key.is_before(&least),
@@ -189,9 +188,8 @@ impl Arrivals {
     /// Adds a transfer in the order of keys. It fails if memory runs out, and then they are as they
     /// were. An insertion after 2^63 - 1 others, which no run reaches, is the same error.
     pub fn insert(&mut self, transfer: Outbound) -> Result<(), AllocError>
-        ensures added { OnOk result
-            (self.new ≡ inserted_by (on transfer_key key_cmp) transfer self.old) }
-        ensures same { OnErr result (self.new ≡ self.old) }
+        ensures { AddsOrKeeps result (inserted_by (on transfer_key key_cmp) transfer self.old)
+            self.old self.new }
     {
         if !comes_first(&self.later, transfer.key()) {
             self.later.insert(transfer)

@@ -1,6 +1,7 @@
 //! A handling at a site as it goes on.
 ghost use Rattle.std.specs.Prelude.{◌≡◌, ◌≤◌};
 ghost use Rattle.sqs_message.specs.declared.row.RowReceipt.TheVariants as receipts;
+ghost use Rattle.sim_site.specs.Rows.{row_at};
 ghost use Rattle.sqs_model.specs.Answers.{most_count};
 
 use crate::effects::Effects;
@@ -27,17 +28,8 @@ impl Handling<'_> {
         message: Option<MessageId>,
         detail: Detail,
     ) -> Row
-        ensures { result
-            ≡ record {
-              key = self.now.key;
-              queue = queue;
-              agent = self.now.agent;
-              kind = kind;
-              answer = answer;
-              message = message;
-              receipt = receipts.Absent;
-              detail = detail;
-            } }
+        ensures { result ≡ row_at self.now.key queue self.now.agent kind answer message
+            receipts.Absent detail }
     {
         Row {
             key: self.key,

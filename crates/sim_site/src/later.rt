@@ -3,6 +3,7 @@ ghost use Rattle.std.specs.Prelude.{◌≡◌, ◌∷◌, [], IfErr, MatchOption
 ghost use Rattle.std.specs.Ordering.{on};
 ghost use Rattle.sim_clock.specs.Order.{IsBefore, inserted_by, key_cmp, least};
 ghost use Rattle.sqs_redrive.specs.Transfers.{transfer_key};
+ghost use Rattle.sim_site.specs.Kept.{AddsOrKeeps};
 
 use sim_clock::Key;
 use sqs_redrive::Outbound;
@@ -70,9 +71,8 @@ impl Later {
     /// Adds a transfer in the order of keys. It fails if memory runs out, and then they are as they
     /// were. An insertion after 2^63 - 1 others, which no run reaches, is the same error.
     pub fn insert(&mut self, transfer: Outbound) -> Result<(), AllocError>
-        ensures added { OnOk result
-            (self.new ≡ inserted_by (on transfer_key key_cmp) transfer self.old) }
-        ensures same { OnErr result (self.new ≡ self.old) }
+        ensures { AddsOrKeeps result (inserted_by (on transfer_key key_cmp) transfer self.old)
+            self.old self.new }
     {
         let Some(next) = self.next.checked_add(1) else {
             return Err(AllocError);

@@ -1,5 +1,5 @@
 //! The polls that wait at a site, with a tree of their ends.
-ghost use Rattle.std.specs.Prelude.{MatchOption, OnErr, OnOk, None, Some, [], drop, length, map, position, set, true, ◌++◌, ◌<◌, ◌∷◌, ◌==◌, ◌≡◌};
+ghost use Rattle.std.specs.Prelude.{MatchOption, None, Some, [], drop, length, map, position, true, ◌++◌, ◌<◌, ◌∷◌, ◌==◌, ◌≡◌};
 ghost use Rattle.sim_clock.specs.Firsts.{without};
 ghost use Rattle.sim_clock.specs.Order.{least};
 ghost use Rattle.sim_index.specs.Marks.{least_of};
@@ -7,7 +7,8 @@ ghost use Rattle.sqs_model.specs.Dues.{poll_key};
 ghost use Rattle.sim_clock.specs.Places.{IsAbsent, Stands};
 ghost use Rattle.sqs_model.specs.Step.{ends_at};
 ghost use Rattle.sim_index.specs.Marked.{AreMarked};
-ghost use Rattle.sim_site.specs.Marked.{AreWaiting, IsFirstAt, end_mark, place_ends_at, waiting};
+ghost use Rattle.sim_site.specs.Marked.{AreWaiting, IsFirstAt, IsLeft, KeepPolls, KeepWaiting, end_mark, place_ends_at, waiting};
+ghost use Rattle.sim_site.specs.Kept.{AddsOrKeeps};
 
 use crate::agents::Poll;
 use sim_clock::Key;
@@ -41,8 +42,7 @@ fn is_ended_by(place: &Option<Poll>, key: Key) -> bool
 // Makes room for one more poll. If there is none, it drops empty places.
 fn make_room(places: &mut MarkedList<Option<Poll>>) -> Result<(), AllocError>
     requires { AreMarked end_mark places.old }
-    ensures marked { AreMarked end_mark places.new }
-    ensures polls { waiting places.new.values ≡ waiting places.old.values }
+    ensures { KeepPolls places.old places.new }
 {
     if places.is_ready() {
         return Ok(());
@@ -55,8 +55,7 @@ fn make_room(places: &mut MarkedList<Option<Poll>>) -> Result<(), AllocError>
 fn leave(places: &mut MarkedList<Option<Poll>>, place: usize)
     requires place { place < length places.old.values }
     requires marked { AreMarked end_mark places.old }
-    ensures left { places.new.values ≡ set places.old.values place None }
-    ensures marked { AreMarked end_mark places.new }
+    ensures { IsLeft place places.old places.new }
 {
     *places.value_mut(place) = None;
     places.set_mark(place, &NO_MARK);
@@ -65,8 +64,7 @@ fn leave(places: &mut MarkedList<Option<Poll>>, place: usize)
 // If no poll waits, drops all places.
 fn forget_empty(places: &mut MarkedList<Option<Poll>>, count: usize)
     requires { AreWaiting places.old count }
-    ensures waiting { AreWaiting places.new count }
-    ensures same { waiting places.new.values ≡ waiting places.old.values }
+    ensures { KeepWaiting count places.old places.new }
 {
     if count == 0 {
         places.clear();
@@ -197,8 +195,7 @@ impl Polls {
 
     /// Adds a poll after the others. It fails if memory runs out.
     pub fn push(&mut self, poll: Poll) -> Result<(), AllocError>
-        ensures added { OnOk result (self.new ≡ self.old ++ poll ∷ []) }
-        ensures same { OnErr result (self.new ≡ self.old) }
+        ensures { AddsOrKeeps result (self.old ++ poll ∷ []) self.old self.new }
     {
         make_room(&mut self.places)?;
         let place = Some(poll);

@@ -1,6 +1,7 @@
 //! Rows that a site makes itself.
-ghost use Rattle.std.specs.Prelude.{◌≡◌};
+ghost use Rattle.std.specs.Prelude.{Some, ◌≡◌};
 ghost use Rattle.sqs_message.specs.declared.row.RowReceipt.TheVariants as receipts;
+ghost use Rattle.sim_site.specs.Rows.{row_at};
 
 use sim_clock::Key;
 use sqs_message::{Detail, MessageId, Row, RowAnswer, RowKind, RowReceipt};
@@ -14,17 +15,7 @@ pub fn site_row(
     id: MessageId,
     detail: Detail,
 ) -> Row
-    ensures { result
-        ≡ record {
-          key = key;
-          queue = site;
-          agent = site;
-          kind = kind;
-          answer = answer;
-          message = Some id;
-          receipt = receipts.Absent;
-          detail = detail;
-        } }
+    ensures { result ≡ row_at key site site kind answer (Some id) receipts.Absent detail }
 {
     Row {
         key,

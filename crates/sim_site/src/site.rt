@@ -6,7 +6,7 @@ ghost use Rattle.sqs_model.specs.Counts.{site_count};
 ghost use Rattle.sqs_model.specs.Dues.{least_due};
 ghost use Rattle.sqs_model.specs.Progress.{AreTimely, IsRecent};
 ghost use Rattle.sqs_model.specs.Scenario.{fresh_core};
-ghost use Rattle.sim_site.specs.Kept.{IsSetUp};
+ghost use Rattle.sim_site.specs.Kept.{IsCount, IsSetUp};
 ghost use Rattle.sqs_model.specs.Step.{handled};
 ghost use Rattle.sim_site.specs.Effects.{HasHandled};
 
@@ -132,8 +132,7 @@ impl Site {
     /// The greatest count that it has reached: of its queue's arrivals, of its samples, transfers
     /// and words, and of those of its actors and tasks.
     pub fn greatest_count(&self) -> u64
-        ensures count { result ≡ site_count self.now.core }
-        ensures limit { result ≤ most_count }
+        ensures { IsCount result (site_count self.now.core) }
     {
         self.core.greatest_count()
     }

@@ -1,6 +1,6 @@
 //! A site without the transfers on their way to it.
 ghost use Rattle.std.specs.Prelude.{◌≡◌, ◌≤◌, [], map};
-ghost use Rattle.sim_site.specs.Kept.{IsSetUp, numbered_settings};
+ghost use Rattle.sim_site.specs.Kept.{IsCount, IsSetUp, numbered_settings};
 ghost use Rattle.sqs_model.specs.Answers.{most_count};
 ghost use Rattle.sim_clock.specs.Order.{least};
 ghost use Rattle.sqs_model.specs.Counts.{greatest, site_count, task_count};
@@ -61,8 +61,7 @@ impl Model for Core {
 
 // The greatest count of any of some tasks.
 fn greatest_of_tasks(tasks: &[Task]) -> u64
-    ensures count { result ≡ greatest (map task_count tasks.now) }
-    ensures limit { result ≤ most_count }
+    ensures { IsCount result (greatest (map task_count tasks.now)) }
 {
     let mut most = 0;
     for task in tasks {
@@ -127,8 +126,7 @@ impl Core {
     /// The greatest of its counts: of its queue's arrivals, its transfers, words and samples, and
     /// of those of its actors and tasks.
     pub fn greatest_count(&self) -> u64
-        ensures count { result ≡ site_count self.now }
-        ensures limit { result ≤ most_count }
+        ensures { IsCount result (site_count self.now) }
     {
         let agents = self
             .actors

@@ -1,14 +1,15 @@
 -- What is seen of a machine of partitions, and of which setting and picks it is.
-use Rattle.std.specs.Prelude.{Err, List, Ok, Result, [], ℕ, ◌≡◌}
+use Rattle.std.specs.Prelude.{Bool, Err, IfOk, List, Ok, Result, [], true, ℕ, ◌++◌, ◌≡◌}
 use Rattle.sim_clock.specs.declared.refusal.Refusal.{Refusal}
 use Rattle.sim_engine.specs.Bounds.{least_bound}
 use Rattle.sim_engine.specs.Engine.{Engine}
 use Rattle.sim_engine.specs.Laws.{Conditions}
+use Rattle.sim_engine.specs.Machine.{is_finished}
 use Rattle.sim_engine.specs.Setting.{IsRunOf, Setting}
 use Rattle.sim_engine.specs.World.{Run}
 use Rattle.sim_engine.specs.declared.picks.Pick.{Pick}
 use Rattle.sim_exchange.specs.Layout.{Layout}
-use Rattle.sim_windows.specs.Stages.{AreSettled, Standing, Stands, ended_in, machine_at}
+use Rattle.sim_windows.specs.Stages.{AreSettled, Standing, Stands, effective_picks_in, ended_in, machine_at}
 
 -- the state of a machine, or the error that spent it; the rows that were settled, and the least of its bounds
 pub record Seen (Site Row Transfer : Type 0) : Type 0 where
@@ -47,3 +48,25 @@ module _ {Site Row Transfer : Type 0} (engine : Engine Site Row Transfer) (condi
   abbrev pub IsMachineUnless : Result (Standing Site Row Transfer) Refusal → Seen Site Row Transfer → Type 0
   IsMachineUnless (Ok g) x = IsMachine x
   IsMachineUnless (Err e) x = Unit {0}
+
+  -- what holds of the setting of a machine
+  abbrev pub OfMachine : Seen Site Row Transfer → (Setting Site → Type 0) → Type 0
+  OfMachine x P = (layout : Layout) (s : Setting Site) (done : List Pick) → IsMachineOf layout s done x → P s
+
+  -- where that machine has finished
+  abbrev pub OfFinished : Seen Site Row Transfer → (Setting Site → Type 0) → Type 0
+  OfFinished x P =
+      (layout : Layout) (s : Setting Site) (done : List Pick) → (is : IsMachineOf layout s done x)
+      → is_finished engine s.horizon (machine_at engine is.standing s done) ≡ true → P s
+
+  -- whether it has finished
+  abbrev pub IsFinishedIf : Seen Site Row Transfer → Bool → Type 0
+  IsFinishedIf x b =
+      (layout : Layout) (s : Setting Site) (done : List Pick) → (is : IsMachineOf layout s done x)
+      → b ≡ is_finished engine s.horizon (machine_at engine is.standing s done)
+
+  -- a machine goes on by these picks, and reports how many of them took effect
+  abbrev pub PlaysOn : Result ℕ Refusal → Seen Site Row Transfer → List Pick → Seen Site Row Transfer → Type 0
+  PlaysOn result old picks new =
+      (layout : Layout) (s : Setting Site) (done : List Pick) → (was : IsMachineOf layout s done old)
+      → IfOk result (λ count. IsMachineOf layout s (done ++ picks) new × (count ≡ effective_picks_in engine was.standing s done picks))

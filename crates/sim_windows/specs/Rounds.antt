@@ -48,3 +48,8 @@ module _ {Site Row Transfer : Type 0} (engine : Engine Site Row Transfer) (condi
     pub stands : IsStanding engine conditions (with_parts parts lent)
     pub within : AreWithin ends lent.bounds
     pub have : HaveCome ends parts came
+
+  -- what is lent goes on with the partitions that come back, each run to an end that is not past its bound
+  abbrev pub ComesBack : Standing Site Row Transfer → List (Came Site Row Transfer) → (Standing Site Row Transfer → Type 0) → Type 0
+  ComesBack lent came P =
+      (parts : List (Result (List Site) Refusal)) (ends : List ℕ) → AreWithin ends lent.bounds → HaveCome ends parts came → P (with_parts parts lent)

@@ -5,7 +5,7 @@ use Rattle.std.specs.Prelude.{All, Bool, List, None, Ok, Option, Result, Some, [
 use Rattle.sim_clock.specs.declared.key.Key.{Key}
 use Rattle.sim_clock.specs.declared.refusal.Refusal.{Refusal}
 use Rattle.sim_clock.specs.Order.{due_before, lesser}
-use Rattle.sim_engine.specs.Bounds.{AreDistances, bound_by, least_bound, own_bound}
+use Rattle.sim_engine.specs.Bounds.{AreDistances, least_bound, own_bound}
 use Rattle.sim_engine.specs.Engine.{Engine}
 use Rattle.sim_engine.specs.Exchange.{exchanged}
 use Rattle.sim_engine.specs.Kept.{IsAllFrom}
@@ -25,7 +25,7 @@ use Rattle.sim_engine.specs.declared.picks.Pick.TheVariants.{Barrier, Part}
 use Rattle.sim_exchange.specs.Layout.{IsLayout, Layout, owner_of}
 use Rattle.sim_exchange.specs.Table.{Table, distance_in}
 use Rattle.sim_partition.specs.Sites.{due_in}
-use Rattle.sim_windows.specs.Meeting.{delivered_each, due_moments}
+use Rattle.sim_windows.specs.Meeting.{bounds_from, delivered_each, due_moments, living_in}
 use Rattle.sim_windows.specs.declared.kept.Kept.{Kept}
 
 -- a moment, or that of what is due, whichever is first
@@ -134,7 +134,7 @@ module _ {Site Row Transfer : Type 0} (engine : Engine Site Row Transfer) where
 
   -- so much of a machine is shown: its partitions, bounds, rows from a moment on, and waiting transfers
   pub record Shows (g : Standing Site Row Transfer) (m : Machine engine) : Type 0 where
-    pub parts : g.parts ≡ map (λ p. Ok (part_of engine (owner_of g.layout) p m.sites)) (range_with_len 0 g.layout.parts)
+    pub parts : g.parts ≡ living_in engine g.layout m.sites
     pub bounds : g.bounds ≡ map m.bounds (range_with_len 0 g.layout.parts)
     pub rows : g.rows ≡ map (λ p. filter (is_from g.settled) (rows_by engine m.told p)) (range_with_len 0 g.layout.parts)
     pub waiting : g.waiting ≡ m.waiting
@@ -187,8 +187,7 @@ module _ {Site Row Transfer : Type 0} (engine : Engine Site Row Transfer) where
 
   -- the bounds that are set by what is due in some partitions
   abbrev pub bounds_by : Table → ℕ → List (Result (List Site) Refusal) → List ℕ
-  bounds_by table horizon parts =
-      map (λ p. bound_by (distance_in table) horizon (λ q. get_or (due_moments engine parts) q None) p table.parts) (range_with_len 0 table.parts)
+  bounds_by table horizon parts = bounds_from table horizon (due_moments engine parts)
 
   -- these are the rows of a setting's one-list run that are left once those from before a moment are settled, and the
   -- sites of its last world
@@ -316,3 +315,11 @@ module _ {Site Row Transfer : Type 0} (engine : Engine Site Row Transfer) (condi
     pub parts_are : parts ≡ g.parts
     pub ends_are : ends ≡ map (λ bound. min bound cut) g.bounds
     pub range : All (λ end. end ≤ most_count + 1) ends
+
+  -- the rows of what is lent are settled as those of the stage with its partitions
+  abbrev pub SettlesParts : List (Result (List Site) Refusal) → Standing Site Row Transfer → Standing Site Row Transfer → List Row → Type 0
+  SettlesParts parts g h rows = Settles (with_parts parts g) (with_parts parts h) rows
+
+  -- what holds of the partitions of what is lent, if nothing can come to them before a moment
+  abbrev pub OfLowerBound : ℕ → Standing Site Row Transfer → (List (Result (List Site) Refusal) → Type 0) → Type 0
+  OfLowerBound moment g P = (parts : List (Result (List Site) Refusal)) → moment ≡ lower_bound_in engine (with_parts parts g) → P parts

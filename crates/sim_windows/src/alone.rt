@@ -5,7 +5,7 @@ ghost use Rattle.sim_engine.specs.Limits.{most_count};
 ghost use Rattle.sim_engine.specs.Simulated.{IsSimulated};
 ghost use Rattle.sim_engine.specs.World.{arrival, delivered, next_due, world_due};
 ghost use Rattle.sim_partition.specs.Sites.{IsFrom, IsLater};
-ghost use Rattle.sim_windows.specs.Gathered.{HaltsGathering, HandsFirst, HasGathered, gathered};
+ghost use Rattle.sim_windows.specs.Gathered.{GathersFrom, GathersTo, HaltsFrom, HaltsTo, HandsFirst};
 ghost use Rattle.sim_windows.specs.Sinks.{HasStopped, HasTaken};
 ghost use Rattle.sim_windows.specs.Worlds.{sites_after, sites_in};
 
@@ -92,15 +92,11 @@ fn handle<S: Site, K: RowSink<S::Row>>(
     ensures lives { OnOk result (IsOk roster.new) }
     ensures done { OnOk result
         (sites_in roster.new ≡ sites_after S.engine key (sites_in roster.old)) }
-    ensures ran { OnOk result (
-        (horizon : ℕ) → key.at ≤ horizon →
-        HasGathered S.engine K.took horizon (sites_in roster.old)
-        (gathered sink.old effects.old.rows.items) (sites_in roster.new)
-        (gathered sink.new effects.new.rows.items)) }
+    ensures ran { OnOk result (GathersFrom S.engine K.took key.at roster.old sink.old effects.old
+        roster.new sink.new effects.new) }
     ensures stops { IfErr result (λ refusal.
-        (horizon : ℕ) → key.at ≤ horizon →
-        HaltsGathering S.engine K.took K.broke horizon (sites_in roster.old)
-        (gathered sink.old effects.old.rows.items) refusal sink.new) }
+        HaltsFrom S.engine K.took K.broke key.at
+        roster.old sink.old effects.old refusal sink.new) }
 {
     roster.step_into(effects)?;
     deliver_sent(alloc, roster, &mut effects.sent)?;
@@ -124,16 +120,12 @@ fn run_moment<S: Site, K: RowSink<S::Row>>(
     ensures ready { OnOk result (K.ready sink.new) }
     ensures none { OnOk result (effects.new.sent.items ≡ []) }
     ensures lives { OnOk result (IsOk roster.new) }
-    ensures ran { OnOk result (
-        (horizon : ℕ) → moment ≤ horizon →
-        HasGathered S.engine K.took horizon (sites_in roster.old)
-        (gathered sink.old effects.old.rows.items) (sites_in roster.new)
-        (gathered sink.new effects.new.rows.items)) }
+    ensures ran { OnOk result (GathersFrom S.engine K.took moment roster.old sink.old effects.old
+        roster.new sink.new effects.new) }
     ensures done { OnOk result (IsLater moment (world_due S.engine (sites_in roster.new))) }
     ensures stops { IfErr result (λ refusal.
-        (horizon : ℕ) → moment ≤ horizon →
-        HaltsGathering S.engine K.took K.broke horizon (sites_in roster.old)
-        (gathered sink.old effects.old.rows.items) refusal sink.new) }
+        HaltsFrom S.engine K.took K.broke moment
+        roster.old sink.old effects.old refusal sink.new) }
 {
     while let Some(key) = roster.least_due() {
         if key.at > moment {
@@ -159,14 +151,12 @@ fn run_by<S: Site, K: RowSink<S::Row>>(
     requires ready { K.ready sink.old }
     ensures ready { OnOk result (K.ready sink.new) }
     ensures lives { OnOk result (IsOk roster.new) }
-    ensures ran { OnOk result (
-        HasGathered S.engine K.took horizon (sites_in roster.old)
-        (gathered sink.old effects.old.rows.items) (sites_in roster.new)
-        (gathered sink.new effects.new.rows.items)) }
+    ensures ran { OnOk result (GathersTo S.engine K.took horizon roster.old sink.old effects.old
+        roster.new sink.new effects.new) }
     ensures ended { OnOk result (IsNone (next_due S.engine horizon (sites_in roster.new))) }
     ensures stops { IfErr result (λ refusal.
-        HaltsGathering S.engine K.took K.broke horizon (sites_in roster.old)
-        (gathered sink.old effects.old.rows.items) refusal sink.new) }
+        HaltsTo S.engine K.took K.broke horizon
+        roster.old sink.old effects.old refusal sink.new) }
 {
     while let Some(key) = roster.least_due() {
         if key.at > horizon {

@@ -1,6 +1,7 @@
 //! Joins the sites of partitions in one list.
 ghost use Rattle.std.specs.List.{range_with_len};
 ghost use Rattle.std.specs.Prelude.{◌≡◌, ◌∷◌, [], IfOk, List, Ok, map, reverse};
+ghost use Rattle.sim_windows.specs.Meeting.{OfLiving, living_in};
 ghost use Rattle.sim_exchange.specs.Layout.{owner_of};
 ghost use Rattle.sim_engine.specs.Parts.{part_of};
 ghost use Rattle.sim_engine.specs.Setting.{IsNumbered};
@@ -12,8 +13,8 @@ use std::alloc::{AllocError, Global};
 
 // The sites of each partition, the last of them first.
 fn turned_sites<S: Site>(alloc: Global, parts: Vec<Partition<S>>) -> Result<Vec<Vec<S>>, AllocError>
-    ensures { (ws : List (List S)) → parts.items ≡ map (λ w. Ok w) ws →
-        IfOk result (λ lists. map (λ l. l.items) lists.items ≡ map (λ w. reverse w) ws) }
+    ensures { OfLiving parts.items (λ ws. IfOk result
+        (λ lists. map (λ l. l.items) lists.items ≡ map (λ w. reverse w) ws)) }
 {
     let mut lists = Vec::with_capacity(alloc, parts.len())?;
     for part in parts {
@@ -42,10 +43,7 @@ pub fn join_sites<S: Site>(
     layout: &PartMap,
 ) -> Result<Vec<S>, AllocError>
     ensures { (w : List S) → IsNumbered S.engine 0 w →
-        parts.items
-        ≡ map (λ p. Ok (part_of S.engine (owner_of layout.now) p w))
-        (range_with_len 0 layout.now.parts) →
-        IfOk result (λ sites. sites.items ≡ w) }
+        parts.items ≡ living_in S.engine layout.now w → IfOk result (λ sites. sites.items ≡ w) }
 {
     if layout.parts() == 1 {
         return sites_alone(alloc, parts);

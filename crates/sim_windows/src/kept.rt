@@ -5,7 +5,7 @@ ghost use Rattle.sim_clock.specs.declared.refusal.Refusal.{Refusal as TheRefusal
 ghost use Rattle.sim_engine.specs.Exchange.{exchanged};
 ghost use Rattle.sim_engine.specs.Prefixes.{is_before as is_row_before};
 ghost use Rattle.sim_exchange.specs.Layout.{owner_of};
-ghost use Rattle.sim_windows.specs.Meeting.{AreReached};
+ghost use Rattle.sim_windows.specs.Meeting.{AreReached, OfLiving};
 ghost use Rattle.sim_windows.specs.Stages.{bounded_by, bounds_by, delivered_by, opened, settled_by, standing_of};
 
 use crate::meeting::{bounds_of, deliver_each, dues_of};
@@ -79,12 +79,11 @@ impl<S: Site> Kept<S> {
         requires reached { AreReached S.engine S.conditions parts.old.items
             (exchanged S.engine (owner_of self.old.layout) self.old.layout.parts
             self.old.waiting) }
-        ensures delivered { (ws : List (List S)) → parts.old.items ≡ map (λ w. Ok w) ws →
-            OnOk result (
-            standing_of self.new parts.new.items
-            ≡ delivered_by S.engine (standing_of self.old parts.old.items) ws) }
-        ensures memory { (ws : List (List S)) → parts.old.items ≡ map (λ w. Ok w) ws →
-            IfErr result (λ refusal. refusal ≡ Refusal.Memory) }
+        ensures delivered { OfLiving parts.old.items (λ ws. OnOk result
+            (standing_of self.new parts.new.items
+            ≡ delivered_by S.engine (standing_of self.old parts.old.items) ws)) }
+        ensures memory { OfLiving parts.old.items (λ _. IfErr result (λ refusal. refusal
+            ≡ Refusal.Memory)) }
     {
         let waiting = mem::replace(&mut self.waiting, Lists::new(self.alloc));
         let lists = exchange::<S>(self.alloc, waiting.into_lists(), &self.layout)?;

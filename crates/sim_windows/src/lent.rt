@@ -3,8 +3,8 @@ ghost use Rattle.std.specs.Prelude.{◌≡◌, ◌++◌, [], IfOk, List, OnOk, R
 ghost use Rattle.sim_clock.specs.declared.refusal.Refusal.{Refusal as TheRefusal};
 ghost use Rattle.sim_engine.specs.Merge.{merged_all, row_cmp};
 ghost use Rattle.sim_engine.specs.Prefixes.{is_before};
-ghost use Rattle.sim_windows.specs.Rounds.{AreWithin, CanComeBack, HaveCome};
-ghost use Rattle.sim_windows.specs.Stages.{GoesOn, Settles, lower_bound_in, settled_by, standing_of, with_parts};
+ghost use Rattle.sim_windows.specs.Rounds.{CanComeBack, ComesBack};
+ghost use Rattle.sim_windows.specs.Stages.{GoesOn, OfLowerBound, SettlesParts, lower_bound_in, settled_by, standing_of, with_parts};
 
 use crate::kept::Kept;
 use crate::stage::{Stage, stage_of};
@@ -55,10 +55,9 @@ impl<S: Site> Lent<S> {
         ensures settled { IfOk result (λ r. r.0 ≡ settled_by S.engine self moment) }
         ensures rows { IfOk result (λ r.
             r.1.items ≡ map (filter (is_before S.engine moment)) self.rows) }
-        ensures next { (parts : List (Result (List S) TheRefusal)) →
-            moment ≡ lower_bound_in S.engine (with_parts parts self) →
-            IfOk result (λ r. Settles S.engine S.conditions (with_parts parts self) (with_parts parts r.0)
-            (merged_all (row_cmp S.engine) r.1.items)) }
+        ensures next { OfLowerBound S.engine S.conditions moment self (λ parts. IfOk result
+            (λ r. SettlesParts S.engine S.conditions parts self r.0 (merged_all
+            (row_cmp S.engine) r.1.items))) }
     {
         let Lent { mut kept } = self;
         let prefixes = kept.settle_before(moment)?;
@@ -73,9 +72,8 @@ impl<S: Site> Lent<S> {
     /// `AllocError` if memory runs out.
     pub fn come_back(self, came: Vec<Came<S>>) -> Result<Stage<S>, AllocError>
         requires came { CanComeBack S.engine S.conditions self came.items }
-        ensures back { (parts : List (Result (List S) TheRefusal)) (ends : List ℕ) →
-            AreWithin ends self.bounds → HaveCome S.engine S.conditions ends parts came.items →
-            IfOk result (GoesOn S.engine S.conditions (with_parts parts self)) }
+        ensures back { ComesBack S.engine S.conditions self came.items
+            (λ g. IfOk result (GoesOn S.engine S.conditions g)) }
         ensures parts { IfOk result (λ g. g.parts ≡ map (λ one. one.part) came.items) }
     {
         let Lent { mut kept } = self;

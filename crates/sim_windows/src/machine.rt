@@ -3,14 +3,11 @@
 ghost use Rattle.std.specs.Prelude.{◌≡◌, ◌++◌, ◌≤◌, [], All, Err, IfErr, IfOk, List, None, false, true};
 ghost use Rattle.sim_clock.specs.declared.refusal.Refusal.{Refusal as TheRefusal};
 ghost use Rattle.sim_engine.specs.Limits.{IsOver, StopsWhere, most_count};
-ghost use Rattle.sim_engine.specs.Machine.{is_finished};
 ghost use Rattle.sim_engine.specs.Setting.{Setting};
 ghost use Rattle.sim_engine.specs.Simulated.{IsSimulated};
-ghost use Rattle.sim_engine.specs.declared.picks.Pick.{Pick as ThePick};
-ghost use Rattle.sim_exchange.specs.Layout.{Layout as TheLayout};
 ghost use Rattle.sim_partition.specs.Sites.{refusal_in};
-ghost use Rattle.sim_windows.specs.Machines.{HasRun, IsMachineOf};
-ghost use Rattle.sim_windows.specs.Stages.{BeginWith, effective_picks_in, machine_at};
+ghost use Rattle.sim_windows.specs.Machines.{HasRun, IsFinishedIf, IsMachineOf, OfFinished, OfMachine, PlaysOn};
+ghost use Rattle.sim_windows.specs.Stages.{BeginWith};
 
 use crate::stage::{Ended, Stage};
 use crate::world::World;
@@ -77,17 +74,12 @@ impl<S: Site> Machine<S> {
     /// `Memory` if a growth is refused, and `CountLimit` only if the world's run takes a count past
     /// 2^62 - 1; either spends the machine. A spent machine returns the error that spent it.
     pub fn play(&mut self, picks: &[Pick]) -> Result<u64, Refusal>
-        ensures played { (layout : TheLayout) (s : Setting S) (done : List ThePick) →
-            (was : IsMachineOf S.engine S.conditions layout s done self.old) →
-            IfOk result (λ count.
-            IsMachineOf S.engine S.conditions layout s (done ++ picks.now) self.new
-            × (count ≡ effective_picks_in S.engine was.standing s done picks.now)) }
+        ensures played { PlaysOn S.engine S.conditions result self.old picks.now self.new }
         ensures spent { IfErr result (λ refusal. self.new.state ≡ Err refusal) }
         ensures rows { BeginWith self.old.rows self.new.rows }
         ensures end { IfErr result (λ _. self.new.end ≡ self.old.end) }
-        ensures stops { (layout : TheLayout) (s : Setting S) (done : List ThePick) →
-            IsMachineOf S.engine S.conditions layout s done self.old →
-            IfErr result (StopsWhere (IsOver S.engine s)) }
+        ensures stops { OfMachine S.engine S.conditions self.old
+            (λ s. IfErr result (StopsWhere (IsOver S.engine s))) }
         ensures stays { (refusal : TheRefusal) → self.old.state ≡ Err refusal
             → result ≡ Err refusal }
     {
@@ -119,9 +111,7 @@ impl<S: Site> Machine<S> {
 
     /// Whether nothing is left by the horizon, due or on its way. A spent machine is not finished.
     pub fn finished(&self) -> bool
-        ensures finished { (layout : TheLayout) (s : Setting S) (done : List ThePick) →
-            (is : IsMachineOf S.engine S.conditions layout s done self.now) →
-            result ≡ is_finished S.engine s.horizon (machine_at S.engine is.standing s done) }
+        ensures finished { IsFinishedIf S.engine S.conditions self.now result }
         ensures spent { (refusal : TheRefusal) → self.now.state ≡ Err refusal → result ≡ false }
     {
         match &self.state {
@@ -156,10 +146,8 @@ impl<S: Site> Machine<S> {
     ///
     /// `Memory` if a growth is refused. A spent machine returns the error that spent it.
     pub fn into_run(self) -> Result<Ended<S>, Refusal>
-        ensures ended { (layout : TheLayout) (s : Setting S) (done : List ThePick) →
-            (is : IsMachineOf S.engine S.conditions layout s done self) →
-            is_finished S.engine s.horizon (machine_at S.engine is.standing s done) ≡ true →
-            IfOk result (λ ended. HasRun S.engine s ended.rows.items ended.sites.items) }
+        ensures ended { OfFinished S.engine S.conditions self
+            (λ s. IfOk result (λ ended. HasRun S.engine s ended.rows.items ended.sites.items)) }
         ensures memory { refusal_in self.state ≡ None
             → IfErr result (λ refusal. refusal ≡ Refusal.Memory) }
         ensures spent { (refusal : TheRefusal) → self.state ≡ Err refusal → result ≡ Err refusal }

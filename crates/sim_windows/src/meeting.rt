@@ -4,7 +4,7 @@ ghost use Rattle.std.specs.Prelude.{◌≡◌, ◌≤◌, ◌<◌, ◌+◌, ◌^
 ghost use Rattle.sim_exchange.specs.Table.{distance_in};
 ghost use Rattle.sim_engine.specs.Bounds.{bound_by, moment_of};
 ghost use Rattle.sim_partition.specs.Sites.{due_in};
-ghost use Rattle.sim_windows.specs.Meeting.{AreReached, delivered_each, due_moments};
+ghost use Rattle.sim_windows.specs.Meeting.{AreReached, OfLiving, bounds_from, delivered_each, due_moments};
 
 use sim_clock::{Key, Refusal};
 use sim_engine::Site;
@@ -47,11 +47,7 @@ pub fn bounds_of(
     requires parts { distances.now.parts < 2 ^ 32 }
     requires horizon { horizon + 1 < 2 ^ 64 }
     ensures { IfOk result (λ bounds.
-        bounds.items
-        ≡ map (λ p.
-        bound_by (distance_in distances.now) horizon (λ q. get_or dues.now q None) p
-        distances.now.parts)
-        (range_with_len 0 distances.now.parts)) }
+        bounds.items ≡ bounds_from distances.now horizon dues.now) }
 {
     let mut bounds = Vec::with_capacity(alloc, dues.len())?;
     for part in 0..dues.len() {
@@ -68,11 +64,10 @@ pub fn deliver_each<S: Site>(
 ) -> Result<(), Refusal>
     requires past { AreReached S.engine S.conditions parts.old.items
         (map (λ l. l.items) lists.items) }
-    ensures delivered { (ws : List (List S)) → parts.old.items ≡ map Ok ws →
-        OnOk result (parts.new.items
-        ≡ map Ok (delivered_each S.engine (map (λ l. l.items) lists.items) ws)) }
-    ensures memory { (ws : List (List S)) → parts.old.items ≡ map Ok ws
-        → IfErr result (λ refusal. refusal ≡ Refusal.Memory) }
+    ensures delivered { OfLiving parts.old.items (λ ws. OnOk result
+        (parts.new.items ≡ map Ok (delivered_each S.engine (map (λ l. l.items) lists.items) ws))) }
+    ensures memory { OfLiving parts.old.items (λ _. IfErr result (λ refusal. refusal
+        ≡ Refusal.Memory)) }
 {
     let mut place = 0;
     for transfers in lists {

@@ -1,6 +1,7 @@
 //! A world in partitions.
 ghost use Rattle.std.specs.List.{range_with_len};
 ghost use Rattle.std.specs.Prelude.{◌≡◌, ◌<◌, ◌^◌, ◌∷◌, All, IfOk, List, Ok, [], length, map};
+ghost use Rattle.sim_windows.specs.Meeting.{parts_in};
 ghost use Rattle.sim_exchange.specs.Layout.{owner_of};
 ghost use Rattle.sim_engine.specs.Parts.{part_of};
 ghost use Rattle.sim_partition.specs.Sites.{IsPart};
@@ -42,9 +43,7 @@ pub fn split_sites<S: Site>(
     requires { length sites.items < 2 ^ 32 }
     ensures { IsNumbered S.engine 0 sites.items →
         IfOk result (λ lists.
-        map (λ l. l.items) lists.items
-        ≡ map (λ p. part_of S.engine (owner_of layout.now) p sites.items)
-        (range_with_len 0 layout.now.parts)) }
+        map (λ l. l.items) lists.items ≡ parts_in S.engine layout.now sites.items) }
 {
     if layout.parts() == 1 {
         return list_alone(alloc, sites);

@@ -1,6 +1,7 @@
 //! Settles rows of the log, partition by partition: no other row can come before them.
 ghost use Rattle.std.specs.List.{list_all};
 ghost use Rattle.std.specs.Prelude.{◌≡◌, ◌++◌, IfOk, filter, map, not};
+ghost use Rattle.sim_windows.specs.Stages.{is_from};
 ghost use Rattle.sim_engine.specs.Prefixes.{is_before};
 
 use sim_engine::Site;
@@ -37,7 +38,7 @@ fn part_each<S: Site>(
     ensures before { IfOk result
         (λ parted. parted.before.items ≡ filter (is_before S.engine moment) rows.items) }
     ensures others { IfOk result (λ parted.
-        parted.others.items ≡ filter (λ r. not (is_before S.engine moment r)) rows.items) }
+        parted.others.items ≡ filter (is_from S.engine moment) rows.items) }
 {
     let mut before = Vec::new(alloc);
     let mut others = Vec::new(alloc);
@@ -60,7 +61,7 @@ fn part_list<S: Site>(
     ensures before { IfOk result
         (λ parted. parted.before.items ≡ filter (is_before S.engine moment) rows.items) }
     ensures others { IfOk result (λ parted.
-        parted.others.items ≡ filter (λ r. not (is_before S.engine moment r)) rows.items) }
+        parted.others.items ≡ filter (is_from S.engine moment) rows.items) }
 {
     let place = rows.partition_point(|row| S::row_key(row).at < moment);
     let (first, rest) = rows.split_at(place);
@@ -82,7 +83,7 @@ fn part_rows<S: Site>(
 ) -> Result<(Lists<S::Row>, Lists<S::Row>), AllocError>
     ensures before { IfOk result (λ parted. parted.0 ≡ filter (is_before S.engine moment) rows) }
     ensures others { IfOk result
-        (λ parted. parted.1 ≡ filter (λ r. not (is_before S.engine moment r)) rows) }
+        (λ parted. parted.1 ≡ filter (is_from S.engine moment) rows) }
 {
     let mut before = Lists::new(alloc);
     let mut others = Lists::new(alloc);
@@ -111,7 +112,7 @@ pub fn settle<S: Site>(
         settled.prefixes.items ≡ map (filter (is_before S.engine moment)) lists.items) }
     ensures kept { IfOk result (λ settled.
         settled.kept.items
-        ≡ map (filter (λ r. not (is_before S.engine moment r))) lists.items) }
+        ≡ map (filter (is_from S.engine moment)) lists.items) }
 {
     let mut prefixes = Vec::with_capacity(alloc, lists.len())?;
     let mut kept = Vec::with_capacity(alloc, lists.len())?;

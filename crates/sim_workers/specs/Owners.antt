@@ -14,6 +14,10 @@ use Rattle.sim_windows.specs.declared.lent.Came.{Came}
 abbrev pub IsAllFree : {P : Type 0} → PartyRecord P → Type 0
 IsAllFree owner = (place : ℕ) → IsFree owner place
 
+-- what an owner knows of the other places is the same before and after
+abbrev pub KeepsOthers : {P : Type 0} → ℕ → PartyRecord P → PartyRecord P → Type 0
+KeepsOthers place before after = (other : ℕ) → other ≢ place → place_record after other ≡ place_record before other
+
 -- what came of a partition that has not to run, or none of one that is offered
 abbrev pub Home : Type 0 → Type 0 → Type 0 → Type 0
 Home Site Row Transfer = Option (Result (Came Site Row Transfer) Refusal)

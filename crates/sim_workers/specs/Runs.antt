@@ -14,6 +14,7 @@ use Rattle.sim_windows.specs.Sinks.{HasStopped, HasTaken, StopsAt}
 use Rattle.sim_windows.specs.Stages.{AreNext, LeadsTo, Settles, Standing, StandsOn, lower_bound_in, with_parts}
 use Rattle.sim_windows.specs.declared.lent.Came.{Came}
 use Rattle.sim_workers.specs.Paces.{word_of}
+use Rattle.sim_workers.specs.Rounds.{IsRefusedRound}
 
 module _ {Site Row Transfer : Type 0} where
   -- how many rows some partitions made, as far as a word counts
@@ -79,6 +80,14 @@ module _ {Site Row Transfer : Type 0} (engine : Engine Site Row Transfer) (condi
           (Stops refusal × took before [] now)
           ⊎ ((after : Standing Site Row Transfer) × ((rows : List Row) × (AreHanded moment lent after rows × StopsAmong engine took broke Stops rows before refusal now)))
 
+      -- why a round stops: out of memory, by the outcomes of its partitions, or while rows are handed on
+      abbrev pub StopsRound : List ℕ → List (Result (List Site) Refusal) → Option ℕ → Standing Site Row Transfer → K → Refusal → K → Type 0
+      StopsRound ends parts = StopsHanding (IsRefusedRound engine conditions ends parts)
+
+      -- why rows are not handed on: out of memory, or among these rows
+      abbrev pub StopsByMemory : List Row → K → Refusal → K → Type 0
+      StopsByMemory rows = StopsAmong engine took broke (λ e. e ≡ refusals.Memory) rows
+
       -- why the next round or barrier stops: among rows that follow those that were settled before it
       abbrev pub StopsNext : Standing Site Row Transfer → K → Refusal → K → Type 0
       StopsNext g before refusal now =
@@ -88,3 +97,7 @@ module _ {Site Row Transfer : Type 0} (engine : Engine Site Row Transfer) (condi
       -- the run stops so, for every setting of the state
       abbrev pub Stopped : Standing Site Row Transfer → K → Refusal → K → Type 0
       Stopped g before refusal now = (s : Setting Site) → StandsOn engine conditions s g → HasStopped engine took broke s before refusal now
+
+  -- what holds of every setting on which a stage stands
+  abbrev pub OfStage : Standing Site Row Transfer → (Setting Site → Type 0) → Type 0
+  OfStage g P = (s : Setting Site) → StandsOn engine conditions s g → P s

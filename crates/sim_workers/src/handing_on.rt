@@ -2,7 +2,7 @@
 ghost use Rattle.std.specs.Prelude.{◌≡◌, IfErr, IfOk, OnOk, flat_map, length};
 ghost use Rattle.sim_engine.specs.Merge.{merged_all, row_cmp};
 ghost use Rattle.sim_workers.specs.Paces.{word_of};
-ghost use Rattle.sim_workers.specs.Runs.{HandsOn, StopsAmong, StopsHanding};
+ghost use Rattle.sim_workers.specs.Runs.{HandsOn, StopsByMemory, StopsHanding};
 
 use sim_clock::Refusal;
 use sim_engine::Site;
@@ -27,7 +27,7 @@ fn hand_merged<S: Site, K: RowSink<S::Row>>(
     ensures count { IfOk result (λ n.
         n ≡ word_of (length (merged_all (row_cmp S.engine) lists.items))) }
     ensures stops { IfErr result (λ refusal.
-        StopsAmong S.engine K.took K.broke (λ e. e ≡ Refusal.Memory)
+        StopsByMemory S.engine S.conditions K.took K.broke
         (merged_all (row_cmp S.engine) lists.items) sink.old refusal
         sink.new) }
 {
@@ -56,7 +56,7 @@ fn hand_each<S: Site, K: RowSink<S::Row>>(
     ensures took { OnOk result (K.took sink.old (flat_map (λ v. v.items) lists.now) sink.new) }
     ensures count { IfOk result (λ n. n ≡ word_of (length (flat_map (λ v. v.items) lists.now))) }
     ensures stops { IfErr result (λ refusal.
-        StopsAmong S.engine K.took K.broke (λ e. e ≡ Refusal.Memory)
+        StopsByMemory S.engine S.conditions K.took K.broke
         (flat_map (λ v. v.items) lists.now) sink.old refusal sink.new) }
 {
     let mut handed: u64 = 0;
@@ -80,7 +80,7 @@ fn hand_lists<S: Site, K: RowSink<S::Row>>(
     ensures count { IfOk result (λ n.
         n ≡ word_of (length (merged_all (row_cmp S.engine) lists.items))) }
     ensures stops { IfErr result (λ refusal.
-        StopsAmong S.engine K.took K.broke (λ e. e ≡ Refusal.Memory)
+        StopsByMemory S.engine S.conditions K.took K.broke
         (merged_all (row_cmp S.engine) lists.items) sink.old refusal
         sink.new) }
 {

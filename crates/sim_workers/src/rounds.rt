@@ -4,10 +4,9 @@ ghost use Rattle.std.specs.Option.{ForSome, is_some};
 ghost use Rattle.sim_clock.specs.declared.key.Key.{Key};
 ghost use Rattle.sim_workers.specs.Teams.{HasPlaces};
 ghost use Rattle.sim_workers.specs.Paces.{is_full};
-ghost use Rattle.sim_workers.specs.Runs.{GoesFurther, Stopped, StopsNext, TellsNext, Told, rows_made};
+ghost use Rattle.sim_workers.specs.Runs.{GoesFurther, OfStage, Stopped, StopsNext, TellsNext, Told, rows_made};
 ghost use Rattle.sim_engine.specs.Limits.{most_count};
-ghost use Rattle.sim_engine.specs.Setting.{Setting};
-ghost use Rattle.sim_windows.specs.Stages.{LeadsTo, StandsOn, lower_bound_in, is_finished_in, left_in, next_in};
+ghost use Rattle.sim_windows.specs.Stages.{LeadsTo, lower_bound_in, is_finished_in, left_in, next_in};
 ghost use Rattle.sim_windows.specs.Sinks.{HasTaken};
 
 use crate::gate::Gate;
@@ -60,8 +59,8 @@ fn run_round<S: Site, W: PartWork<S>, G: Gate<W>, K: RowSink<S::Row>, R: Wait>(
     ensures told { IfOk result
         (λ g. TellsNext S.engine S.conditions K.took stage sink.old g sink.new) }
     ensures span { OnOk result (pace.new.span ≡ pace.old.span) }
-    ensures less { (next : Key) → next_in S.engine stage ≡ Some next → (next.at ≤ most_count → next.at < cut)
-        → IfOk result (λ g. left_in S.engine g < left_in S.engine stage) }
+    ensures less { (next : Key) → next_in S.engine stage ≡ Some next → (next.at ≤ most_count
+        → next.at < cut) → IfOk result (λ g. left_in S.engine g < left_in S.engine stage) }
     ensures stops { IfErr result (λ refusal.
         StopsNext S.engine S.conditions K.took K.broke stage sink.old refusal sink.new) }
 {
@@ -156,8 +155,8 @@ pub fn run_stage<S: Site, W: PartWork<S>, G: Gate<W>, K: RowSink<S::Row>, R: Wai
     requires fresh { stage.settled ≡ 0 }
     requires ready { K.ready sink.old }
     ensures ready { OnOk result (K.ready sink.new) }
-    ensures whole { (s : Setting S) → StandsOn S.engine S.conditions s stage
-        → IfOk result (λ sites. HasTaken S.engine K.took s sink.old sink.new sites.items) }
+    ensures whole { OfStage S.engine S.conditions stage (λ s. IfOk result
+        (λ sites. HasTaken S.engine K.took s sink.old sink.new sites.items)) }
     ensures stops { IfErr result (λ refusal.
         Stopped S.engine S.conditions K.took K.broke stage sink.old refusal sink.new) }
 {

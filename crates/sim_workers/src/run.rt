@@ -1,12 +1,10 @@
 //! A whole run: its threads, started once, and its rounds.
 ghost use Rattle.std.specs.Prelude.{◌≡◌, ◌≤◌, ◌<◌, ◌-◌, All, Err, IfErr, IfOk, OnOk, length, min, vec_capacity, vec_len};
 ghost use Rattle.sim_handoff.specs.Seats.{owner_record, owner_table, places_of, table_of};
-ghost use Rattle.sim_windows.specs.Stages.{StandsOn};
 ghost use Rattle.sim_windows.specs.Sinks.{HasStopped, HasTaken};
-ghost use Rattle.sim_workers.specs.Runs.{RanOn, Stopped, StopsAnyhow};
+ghost use Rattle.sim_workers.specs.Runs.{OfStage, RanOn, StopsAnyhow};
 ghost use Rattle.sim_workers.specs.Owners.{IsAllFree};
 ghost use Rattle.sim_engine.specs.Limits.{most_count};
-ghost use Rattle.sim_engine.specs.Setting.{Setting};
 ghost use Rattle.sim_engine.specs.Simulated.{IsSimulated};
 
 use crate::gate::Gate;
@@ -54,8 +52,8 @@ fn run_in_scope<
     requires none { outcome.old ≡ Err Refusal.NoWorker }
     ensures same_sink { result.0.ghost_name ≡ sink.entry.ghost_name }
     ensures same_outcome { result.1.ghost_name ≡ outcome.entry.ghost_name }
-    ensures ran { (s : Setting S) → StandsOn S.engine S.conditions s stage
-        → RanOn S.engine K.ready K.took K.broke s sink.entry.now result.1.now result.0.now }
+    ensures ran { OfStage S.engine S.conditions stage (λ s. RanOn S.engine K.ready K.took K.broke s
+        sink.entry.now result.1.now result.0.now) }
 {
     thread::scope(
         thread::scope_env(),
@@ -70,8 +68,9 @@ fn run_in_scope<
             requires none { outcome.now ≡ Err Refusal.NoWorker }
             ensures same_sink { result.0.ghost_name ≡ sink.entry.ghost_name }
             ensures same_outcome { result.1.ghost_name ≡ outcome.entry.ghost_name }
-            ensures ran { (s : Setting S) → StandsOn S.engine S.conditions s stage
-                → RanOn S.engine K.ready K.took K.broke s sink.entry.now result.1.now result.0.now }
+            ensures ran { OfStage S.engine S.conditions stage
+                (λ s. RanOn S.engine K.ready K.took K.broke s sink.entry.now result.1.now
+                result.0.now) }
         {
             let hand = owner.hand(handoff);
             let ready = start_all(scope, rt, handoff, &mut owner, gate, &mut handles, threads);
@@ -116,8 +115,8 @@ fn run_threads<
     requires fresh { stage.settled ≡ 0 }
     requires ready { K.ready sink.old }
     requires room { (vec_len handles ≡ 0) × (threads ≤ vec_capacity handles) }
-    ensures ran { (s : Setting S) → StandsOn S.engine S.conditions s stage
-        → RanOn S.engine K.ready K.took K.broke s sink.old result sink.new }
+    ensures ran { OfStage S.engine S.conditions stage (λ s. RanOn S.engine K.ready K.took K.broke s
+        sink.old result sink.new) }
 {
     let mut outcome = Err(Refusal::NoWorker);
     run_in_scope(

@@ -1,14 +1,13 @@
 //! Several workers: the partitions of a round are offered, and any free thread runs them.
-ghost use Rattle.std.specs.Prelude.{◌≡◌, ◌≢◌, ◌<◌, ◌≤◌, ◌+◌, ℕ, All, [], length, vec_capacity};
+ghost use Rattle.std.specs.Prelude.{◌≡◌, ◌<◌, ◌≤◌, ◌+◌, ℕ, All, [], length, vec_capacity};
 ghost use Rattle.std.specs.Prelude.{IfErr, IfOk, None, OnOk};
 ghost use Rattle.sim_engine.specs.Limits.{most_count};
-ghost use Rattle.sim_handoff.specs.Place.{place_record, IsFree};
+ghost use Rattle.sim_handoff.specs.Place.{IsFree};
 ghost use Rattle.sim_handoff.specs.Seats.{table_of, places_of, owner_table, owner_record, IsIdleHand};
-ghost use Rattle.sim_workers.specs.Owners.{IsAllFree, IsResting, AreResting, IsSentOut, AreSentOut};
+ghost use Rattle.sim_workers.specs.Owners.{AreResting, AreSentOut, IsAllFree, IsResting, IsSentOut, KeepsOthers};
 ghost use Rattle.sim_workers.specs.Owners.{IsCollected, AreCollected};
 ghost use Rattle.sim_windows.specs.Rounds.{HaveCome};
-ghost use Rattle.sim_workers.specs.Runs.{HandsOn, StopsHanding};
-ghost use Rattle.sim_workers.specs.Rounds.{IsRefusedRound};
+ghost use Rattle.sim_workers.specs.Runs.{HandsOn, StopsRound};
 
 use crate::gate::Gate;
 use crate::handing_on::hand_on;
@@ -70,9 +69,7 @@ fn offer_one<S: Site, W: PartWork<S>>(
     ensures here { owner_table owner.new ≡ table_of handoff.now }
     ensures sent { IsSentOut S.engine S.conditions W.packed (owner_record owner.new) place bound
         part result }
-    ensures others { (other : ℕ) → other ≢ place
-        → place_record (owner_record owner.new) other
-        ≡ place_record (owner_record owner.old) other }
+    ensures others { KeepsOthers place (owner_record owner.old) (owner_record owner.new) }
 {
     match part.least_due() {
         Some(key) if key.at < bound => {
@@ -131,9 +128,7 @@ fn come<S: Site, W: PartWork<S>, G: Gate<W>, R: Wait>(
     ensures here { owner_table owner.new ≡ table_of handoff.now }
     ensures idle { IsIdleHand (table_of handoff.now) hand.new }
     ensures free { IsFree (owner_record owner.new) place }
-    ensures others { (other : ℕ) → other ≢ place
-        → place_record (owner_record owner.new) other
-        ≡ place_record (owner_record owner.old) other }
+    ensures others { KeepsOthers place (owner_record owner.old) (owner_record owner.new) }
     ensures collected { IsCollected S.engine S.conditions W.packed (owner_record owner.old) place
         home result }
 {
@@ -207,9 +202,8 @@ pub fn round_together<S: Site, W: PartWork<S>, G: Gate<W>, K: RowSink<S::Row>, R
     ensures came { IfOk result
         (λ ran. HaveCome S.engine S.conditions loan.ends.items loan.parts.items ran.came.items) }
     ensures stops { IfErr result (λ refusal.
-        StopsHanding S.engine S.conditions K.took K.broke
-        (IsRefusedRound S.engine S.conditions loan.ends.items loan.parts.items)
-        moment loan.lent sink.old refusal sink.new) }
+        StopsRound S.engine S.conditions K.took K.broke
+        loan.ends.items loan.parts.items moment loan.lent sink.old refusal sink.new) }
 {
     let Loan { lent, parts, ends } = loan;
     let homes = Vec::with_capacity(alloc, parts.len())?;

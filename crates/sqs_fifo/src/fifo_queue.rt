@@ -1,8 +1,8 @@
 //! A FIFO queue on its own: its messages in order, their groups and deduplication, and the calls of
 //! Amazon SQS on it.
-ghost use Rattle.std.specs.Prelude.{◌≡◌, ◌⊎◌, ◌*◌, ◌<◌, ◌≤◌, [], All, Any, Err, IfOk, IsOkUnless, OnErr, OnOk, count_by, false, length, not};
+ghost use Rattle.std.specs.Prelude.{◌≡◌, ◌⊎◌, ◌*◌, ◌<◌, ◌≤◌, All, Err, IfOk, IsOkUnless, OnErr, OnOk, count_by, false, length, not};
 ghost use Rattle.std.specs.Result.{result_map_both};
-ghost use Rattle.sqs_queue.specs.Words.{IsFifoSettings, IsFramed, IsRecent, Meets, all_available, arrived, change, delete_fifo, expired, is_delayed, is_empty, is_in_flight, is_visible, least, most_count, never_refused, queue_dues, receive, released, returned, sends, take_movable, to_give};
+ghost use Rattle.sqs_queue.specs.Words.{IsFifoSettings, IsFramed, IsRecent, MeetsArrival, MeetsReceive, MeetsSend, PassesSend, all_available, arrived, change, delete_fifo, expired, is_delayed, is_empty, is_in_flight, is_visible, least, most_count, queue_dues, receive, released, returned, take_movable, to_give, without_messages};
 
 use sim_clock::{Key, Refusal};
 use sqs_message::{Receipt, Text};
@@ -34,11 +34,7 @@ impl FifoQueue {
     /// An empty queue with this number.
     pub fn new(alloc: Global, site: u32, settings: QueueSettings) -> FifoQueue
         requires { IsFifoSettings settings }
-        ensures { result
-            ≡ record {
-              queue = record { site = site; settings = settings; records = []; entries = []; arrivals = 0 };
-              looked = 0;
-            } }
+        ensures { result ≡ without_messages site settings 0 }
     {
         FifoQueue::opened_at(alloc, site, settings, 0)
     }
@@ -48,11 +44,7 @@ impl FifoQueue {
     pub fn opened_at(alloc: Global, site: u32, settings: QueueSettings, arrivals: u64) -> FifoQueue
         requires settings { IsFifoSettings settings }
         requires arrivals { arrivals ≤ most_count }
-        ensures { result
-            ≡ record {
-              queue = record { site = site; settings = settings; records = []; entries = []; arrivals = arrivals };
-              looked = 0;
-            } }
+        ensures { result ≡ without_messages site settings arrivals }
     {
         FifoQueue {
             queue: Queue::opened_at(alloc, site, settings, arrivals),
@@ -187,11 +179,9 @@ impl FifoQueue {
     ) -> Result<Sent, Refusal>
         requires moment { now ≤ most_count }
         requires recent { IsRecent now self.old.queue }
-        ensures answer { Meets (self.old.queue.arrivals ≡ most_count) result self.new.queue
-            (sends self.old.queue.settings.kind self.old.queue now body delay group id) }
+        ensures answer { MeetsSend self.old.queue result self.new.queue now body delay group id }
         ensures at_limit { result ≡ Err Refusal.CountLimit
-            → most_count
-            < (sends self.old.queue.settings.kind self.old.queue now body delay group id).1.arrivals }
+            → PassesSend self.old.queue now body delay group id }
         ensures counted { OnOk result
             ((self.old.queue.arrivals < most_count) ⊎ (self.new.queue ≡ self.old.queue)) }
         ensures unchanged { OnErr result (self.new ≡ self.old) }
@@ -213,8 +203,7 @@ impl FifoQueue {
     pub fn arrive(&mut self, now: u64, load: Load) -> Result<(Sent, bool), Refusal>
         requires moment { now ≤ most_count }
         requires recent { IsRecent now self.old.queue }
-        ensures answer { Meets (self.old.queue.arrivals ≡ most_count) result self.new.queue
-            (never_refused (arrived self.old.queue now load)) }
+        ensures answer { MeetsArrival self.old.queue result self.new.queue now load }
         ensures at_limit { result ≡ Err Refusal.CountLimit
             → most_count < (arrived self.old.queue now load).1.arrivals }
         ensures counted { OnOk result
@@ -242,9 +231,8 @@ impl FifoQueue {
     /// limit. `Memory`.
     pub fn receive(&mut self, now: u64, max: u64, timeout: Option<u64>) -> Result<Vec<Got>, Refusal>
         requires { now ≤ most_count }
-        ensures answer { Meets (Any (λ m. m.receives ≡ most_count) (to_give self.old.queue max 1))
-            (result_map_both (λ batch. batch.items) (λ refusal. refusal) result) self.new.queue
-            (receive self.old.queue now max timeout 1 false) }
+        ensures answer { MeetsReceive self.old.queue (result_map_both (λ batch. batch.items)
+            (λ refusal. refusal) result) self.new.queue now max timeout 1 false }
         ensures looked { OnOk result (self.new.looked ≤ 2 * max) }
         ensures read { IfOk result (λ batch. length batch.items ≤ self.new.looked) }
         ensures counted { OnOk result

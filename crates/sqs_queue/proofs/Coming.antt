@@ -1,7 +1,7 @@
 -- What a queue does as a message comes back or is given.
 use Rattle.std.proofs.Common.{◌≡◌, ℕ, ◌==◌, Bool, true, false, List, [], ◌∷◌, None, Some, cond, if◌then◌else◌, ap, refl, sym, ◌∙◌}
 use Rattle.std.specs.Prelude.{find}
-use Rattle.sim_clock.specs.Firsts.{changed, without}
+use Rattle.sim_clock.specs.Firsts.{changed}
 use Rattle.sim_clock.proofs.Lists.{absent_without}
 use Rattle.sqs_message.specs.declared.message.Message.{Message}
 use Rattle.sqs_model.specs.Queue.{Queue, has_number, numbered, taken_out, with_change, with_records}

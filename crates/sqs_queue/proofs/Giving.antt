@@ -1,7 +1,7 @@
 -- The giving of a batch, one message after another, and that it is what the definitions give.
-use Rattle.std.proofs.Common.{◌≡◌, ℕ, ◌+◌, ◌<◌, ◌≤◌, Bool, true, false, List, [], ◌∷◌, ◌++◌, Option, Some, None, cond, if◌then◌else◌, length, take, drop, set, map, get_or, arith, refl, sym, ap, ◌∙◌, append_assoc, append-nil}
+use Rattle.std.proofs.Common.{◌≡◌, ℕ, ◌+◌, ◌<◌, Bool, true, false, List, [], ◌∷◌, ◌++◌, Option, Some, None, cond, if◌then◌else◌, length, take, drop, set, map, get_or, arith, refl, sym, ap, ◌∙◌, append_assoc}
 use Rattle.std.specs.Prelude.{All, IfSome, Ok, find, ◌==◌, ◌≢◌}
-use Rattle.std.proofs.lemmas.List.{drop-set-lt, take_more_set, length-set, drop_all, take_all}
+use Rattle.std.proofs.lemmas.List.{drop-set-lt, take_more_set, length-set}
 use Rattle.std.proofs.lemmas.List.Elements.{All-tail, All-map}
 use Rattle.sim_clock.specs.Firsts.{changed}
 use Rattle.sqs_message.specs.declared.message.Message.{Message}

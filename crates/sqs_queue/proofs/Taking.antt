@@ -1,10 +1,9 @@
 -- The taking of a queue's messages by their numbers, one after another.
-use Rattle.std.proofs.Common.{◌≡◌, ℕ, ◌+◌, List, [], ◌∷◌, ◌++◌, Option, Some, None, true, false, length, drop, get_or, arith, refl, subst, sym, ap, ◌∙◌, append_assoc, append-nil, ◌<◌, ◌≤◌}
+use Rattle.std.proofs.Common.{◌≡◌, ℕ, ◌+◌, List, [], ◌∷◌, ◌++◌, Option, Some, None, true, length, drop, get_or, arith, refl, subst, sym, ap, ◌∙◌, append_assoc, ◌<◌, ◌≤◌}
 use Rattle.std.specs.List.{cons_option}
 use Rattle.std.specs.Prelude.{All, suc, zero, ◌≢◌}
-use Rattle.std.proofs.lemmas.List.{drop_all, drop_more, length-append}
+use Rattle.std.proofs.lemmas.List.{drop_more, length-append}
 use Rattle.std.proofs.lemmas.List.Elements.{All-head, All-tail}
-use Rattle.std.proofs.lemmas.Option.{same_Some}
 use Rattle.sqs_message.specs.declared.message.Message.{Message}
 use Rattle.sqs_redrive.specs.declared.transfers.Load.{Load}
 use Rattle.sqs_redrive.specs.declared.transfers.Load.TheVariants as loads

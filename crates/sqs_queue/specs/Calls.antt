@@ -1,8 +1,40 @@
 -- Words for the calls of a queue of either kind.
-use Rattle.std.specs.Prelude.{Ok, Result}
+use Rattle.std.specs.Prelude.{Any, Bool, List, Ok, Option, Result, ℕ, ◌<◌, ◌≡◌}
 use Rattle.sim_clock.specs.declared.refusal.Refusal.{Refusal}
+use Rattle.sqs_message.specs.declared.message.Message.{Message}
+use Rattle.sqs_model.specs.Acts.{sends}
+use Rattle.sqs_model.specs.Answers.{Meets, most_count}
+use Rattle.sqs_model.specs.Arrive.{arrived}
 use Rattle.sqs_model.specs.Queue.{Queue}
+use Rattle.sqs_model.specs.Receive.{receive, to_give}
+use Rattle.sqs_redrive.specs.declared.answers.Got.{Got}
+use Rattle.sqs_redrive.specs.declared.answers.Sent.{Sent}
+use Rattle.sqs_redrive.specs.declared.transfers.Load.{Load}
 
 -- an answer that is no error, before the queue
 abbrev pub never_refused : {A : Type 0} → A × Queue → Result A Refusal × Queue
 never_refused (a, q) = (Ok a, q)
+
+-- whether one of some messages has been received as often as counts reach
+abbrev pub HasAllReceives : List Message → Type 0
+HasAllReceives messages = Any (λ m. m.receives ≡ most_count) messages
+
+-- a call after which a queue has one message more is the definition's; it is refused at the limit of numbers
+abbrev pub MeetsOneMore : {A : Type 0} → Queue → Result A Refusal → Queue → Result A Refusal × Queue → Type 0
+MeetsOneMore old result new model = Meets (old.arrivals ≡ most_count) result new model
+
+-- so is a send, and the arrival of a load
+abbrev pub MeetsSend : Queue → Result Sent Refusal → Queue → ℕ → List ℕ → Option ℕ → Option (List ℕ) → Option (List ℕ) → Type 0
+MeetsSend old result new now body delay group id = MeetsOneMore old result new (sends old.settings.kind old now body delay group id)
+
+abbrev pub MeetsArrival : Queue → Result (Sent × Bool) Refusal → Queue → ℕ → Load → Type 0
+MeetsArrival old result new now load = MeetsOneMore old result new (never_refused (arrived old now load))
+
+-- a send takes a number past the limit
+abbrev pub PassesSend : Queue → ℕ → List ℕ → Option ℕ → Option (List ℕ) → Option (List ℕ) → Type 0
+PassesSend q now body delay group id = most_count < (sends q.settings.kind q now body delay group id).1.arrivals
+
+-- a receive is the definition's; it is refused at the limit of receives
+abbrev pub MeetsReceive : Queue → Result (List Got) Refusal → Queue → ℕ → ℕ → Option ℕ → ℕ → Bool → Type 0
+MeetsReceive old result new now max timeout hosts short =
+    Meets (HasAllReceives (to_give old max hosts)) result new (receive old now max timeout hosts short)

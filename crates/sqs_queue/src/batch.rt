@@ -1,8 +1,9 @@
 //! What a receive returns for the messages that it gives.
-ghost use Rattle.std.specs.Prelude.{◌≡◌, ◌⊎◌, ◌+◌, ◌<◌, All, Any, Err, IfErr, IfOk, OnOk, map};
+ghost use Rattle.std.specs.Prelude.{◌≡◌, ◌⊎◌, ◌+◌, ◌<◌, All, Err, IfErr, IfOk, OnOk, map};
 ghost use Rattle.sqs_model.specs.Answers.{most_count};
 ghost use Rattle.sqs_queue.specs.Giving.{told_of};
 ghost use Rattle.sqs_queue.specs.Picked.{messages_of};
+ghost use Rattle.sqs_queue.specs.Calls.{HasAllReceives};
 
 use sim_clock::Refusal;
 use sqs_message::{Message, MessageId, Receipt, Text};
@@ -59,7 +60,7 @@ pub fn batch_of(
     ensures below { OnOk result
         (All (λ m. m.receives < most_count) (messages_of messages.now.records numbers.now)) }
     ensures at_limit { result ≡ Err Refusal.CountLimit
-        → Any (λ m. m.receives ≡ most_count) (messages_of messages.now.records numbers.now) }
+        → HasAllReceives (messages_of messages.now.records numbers.now) }
     ensures refused { IfErr result
         (λ refusal. (refusal ≡ Refusal.CountLimit) ⊎ (refusal ≡ Refusal.Memory)) }
 {

@@ -41,9 +41,8 @@ fn is_spent(settings: &QueueSettings, message: &Message) -> bool
 
 // The load by which a message of this queue goes to the dead-letter queue.
 fn redrive(site: u32, message: Message) -> Load
-    ensures { result
-        ≡ Load.Redrive (record { site = site; number = message.number }) message.group message.origin
-        message.body message.enqueued }
+    ensures { result ≡ Load.Redrive (record { site = site; number = message.number }) message.group
+        message.origin message.body message.enqueued }
 {
     Load::Redrive {
         id: MessageId {

@@ -1,7 +1,9 @@
 -- The actors and tasks of a scenario, each at its home.
 use Rattle.std.specs.Prelude.{All, List, [], filter, map, ℕ, ◌+◌, ◌==◌, ◌∷◌, ◌≡◌}
 use Rattle.sqs_model.specs.declared.agents.ActorSettings.{ActorSettings}
+use Rattle.sqs_redrive.specs.declared.settings.QueueSettings.{QueueSettings}
 use Rattle.sqs_redrive.specs.declared.settings.TaskSettings.{TaskSettings}
+use Rattle.sqs_model.specs.Scenario.{Scenario, numbered_actors, numbered_tasks}
 use Rattle.sim_actor.specs.Lives.{IsRole}
 use Rattle.sim_site.specs.Kept.{HasShortWaits}
 use Rattle.sqs_model.specs.Progress.{Ascends}
@@ -38,3 +40,8 @@ pub record IsFit (h : Home) : Type 0 where
   pub waits : All (λ a. HasShortWaits a.role) (map (λ x. x.1) (actors_in h))
   pub latencies : All (λ t. IsLatency t.1.latency) (tasks_in h)
   pub numbered : Ascends (λ t. t.0) 0 (tasks_in h)
+
+-- what holds of a scenario of these queues, with this seed and time between samples, whose agents are in their homes
+abbrev pub OfHomes : ℕ → ℕ → List QueueSettings → List Home → (Scenario → Type 0) → Type 0
+OfHomes seed sample queues homes P =
+    (s : Scenario) → s.seed ≡ seed → s.sample ≡ sample → s.queues ≡ queues → IsSettled homes (numbered_actors s) (numbered_tasks s) → P s

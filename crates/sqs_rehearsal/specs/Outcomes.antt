@@ -1,5 +1,5 @@
 -- What a whole run leaves.
-use Rattle.std.specs.Prelude.{List, ◌≡◌}
+use Rattle.std.specs.Prelude.{List, ℕ, ◌≡◌}
 use Rattle.sim_clock.specs.declared.refusal.Refusal.{Refusal}
 use Rattle.sim_report.specs.Running.{running}
 use Rattle.sim_report.specs.declared.queue.QueueCounts.{QueueCounts}
@@ -36,3 +36,12 @@ pub record IsOutcomeOf (s : Scenario) (o : Outcome) : Type 0 where
 -- why a scenario is not run to its end: out of memory, or a count that its one-list run takes past the limit
 abbrev pub Stops : Scenario → Refusal → Type 0
 Stops s = StopsWhere (IsOver s)
+
+-- what holds of a scenario and its run, by its names, the counts of its rows and the sites that are left
+abbrev pub OfEnd : List (List ℕ) → List QueueCounts → List Site → (Scenario → Run → Type 0) → Type 0
+OfEnd names counts sites P =
+    (s : Scenario) (r : Run) → names ≡ s.names → counts ≡ running (queue_names s) r.rows → sites ≡ r.sites → P s r
+
+-- what holds of two scenarios and their runs, which leave these outcomes
+abbrev pub OfBoth : Outcome → Outcome → (Scenario → Run → Scenario → Run → Type 0) → Type 0
+OfBoth first second P = (s t : Scenario) (r u : Run) → IsLeftBy s r first → IsLeftBy t u second → P s r t u

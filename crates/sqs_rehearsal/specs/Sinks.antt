@@ -42,3 +42,8 @@ module _ {W P : Type 0} (state : W → WriterState) where
   pub record StoppedAt (before : Recorder W P) (rows : List Row) (refusal : Refusal) (after : Recorder W P) : Type 0 where
     pub same : IsSame before after
     pub written : WroteSeveral (state before.out.now) (state after.out.now) (lines_of before rows) (Err refusal)
+
+-- a recorder whose writer has not failed
+module _ {W P : Type 0} (state : W → WriterState) where
+  abbrev pub Works : Recorder W P → Type 0
+  Works recorder = (state recorder.out.now).failed ≡ false

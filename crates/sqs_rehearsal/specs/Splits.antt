@@ -1,8 +1,8 @@
 -- How a scenario is split as asked, or why it can't be.
-use Rattle.std.specs.Prelude.{Err, None, Ok, Option, Result, Some, length, unwrap_or, ◌≡◌, ◌⊎◌}
+use Rattle.std.specs.Prelude.{Err, None, Ok, Option, Result, Some, length, true, unwrap_or, ◌≡◌, ◌≤◌, ◌⊎◌}
 use Rattle.sim_clock.specs.declared.refusal.Refusal.{Refusal}
 use Rattle.sqs_model.specs.Scenario.{Scenario, least_latency}
-use Rattle.sqs_rehearsal.specs.Options.{Options, layout_of, split_fault}
+use Rattle.sqs_rehearsal.specs.Options.{Options, is_within, layout_of, split_fault}
 use Rattle.sqs_rehearsal.specs.declared.options.Split.{Split}
 use Rattle.sim_clock.specs.declared.refusal.Refusal.TheVariants as refusals
 
@@ -19,3 +19,11 @@ IsUnsplit s o e = (e ≡ refusals.Memory) ⊎ (split_fault s o ≡ Some e)
 abbrev pub split_of : Scenario → Options → Split
 split_of s o =
     record { layout = layout_of (length s.queues) o; window = unwrap_or o.window (least_latency s); workers = o.workers }
+
+-- what holds if the window of a split is allowed
+abbrev pub IfFits : Split → Scenario → Type 0 → Type 0
+IfFits split s P = split.window ≤ least_latency s → P
+
+-- and its number of workers
+abbrev pub IfAllowed : Split → Scenario → Type 0 → Type 0
+IfAllowed split s P = IfFits split s (is_within 1 64 split.workers ≡ true → P)

@@ -1,17 +1,14 @@
 //! The end of a run, as it is written: the state of its sites and its report. The messages that are
 //! left are made into lines some at a time, so that no list of them all is held beside the sites.
-ghost use Rattle.std.specs.Prelude.{◌≡◌, ◌≤◌, ◌∷◌, ◌++◌, [], List, false, true, flat_map, IfOk, length, map, OnOk};
+ghost use Rattle.std.specs.Prelude.{◌≡◌, ◌≤◌, ◌∷◌, ◌++◌, [], false, true, flat_map, IfOk, length, map, OnOk};
 ghost use Rattle.sim_records.specs.Writes.{WroteSeveral};
-ghost use Rattle.sim_report.specs.Left.{lefts};
-ghost use Rattle.sim_report.specs.Running.{running};
-ghost use Rattle.sim_report.specs.declared.queue.QueueCounts.{QueueCounts};
-ghost use Rattle.sqs_formats.specs.Finals.{finals_text, message_fields, message_header, task_fields, task_header, transfer_fields, transfer_header};
-ghost use Rattle.sqs_formats.specs.Output.{ending_of, queue_names};
+ghost use Rattle.sqs_formats.specs.Finals.{finals_text, message_fields, message_header};
+ghost use Rattle.sqs_formats.specs.Output.{ending_of};
 ghost use Rattle.sqs_formats.specs.Rows.{lines};
 ghost use Rattle.sqs_model.specs.Finals.{final_message, finals_of, messages_at};
-ghost use Rattle.sqs_model.specs.Run.{Run};
-ghost use Rattle.sqs_model.specs.Scenario.{Scenario as TheScenario};
-ghost use Rattle.sqs_model.specs.declared.finals.FinalMessage.{FinalMessage as TheMessage};
+ghost use Rattle.sqs_rehearsal.specs.Outcomes.{OfEnd};
+ghost use Rattle.sqs_rehearsal.specs.Left.{others_text};
+ghost use Rattle.sim_report.specs.Running.{CountsAll, CountsOn};
 
 use crate::finals::{final_message, tasks_of, transfers_of};
 use crate::outcome::flush;
@@ -60,10 +57,8 @@ fn write_queue<W: Out>(
     ensures written { WroteSeveral (W.state out.old) (W.state out.new)
         (lines (map (message_fields names.now) (map (final_message queue.now) queue.now.records)))
         result }
-    ensures counted { (queues : List QueueCounts) (before : List TheMessage)
-        → left.old ≡ lefts queues before
-        → OnOk result (left.new
-        ≡ lefts queues (before ++ map (final_message queue.now) queue.now.records)) }
+    ensures counted { CountsOn result left.old
+        (map (final_message queue.now) queue.now.records) left.new }
 {
     let mut messages = queue.view();
     loop {
@@ -87,8 +82,7 @@ fn write_queues<W: Out>(
     requires { (W.state out.old).failed ≡ false }
     ensures written { WroteSeveral (W.state out.old) (W.state out.new)
         (lines (map (message_fields names.now) (flat_map messages_at sites.now))) result }
-    ensures counted { (queues : List QueueCounts) → left.old ≡ lefts queues []
-        → OnOk result (left.new ≡ lefts queues (flat_map messages_at sites.now)) }
+    ensures counted { CountsAll result left.old (flat_map messages_at sites.now) left.new }
 {
     for site in sites {
         write_queue(alloc, out, site.queue(), names, left)?;
@@ -108,8 +102,7 @@ fn write_message_part<W: Out>(
     ensures written { WroteSeveral (W.state out.old) (W.state out.new)
         (lines (message_header ∷ map (message_fields names.now) (finals_of sites.now).messages))
         result }
-    ensures counted { (queues : List QueueCounts) → left.old ≡ lefts queues []
-        → OnOk result (left.new ≡ lefts queues (finals_of sites.now).messages) }
+    ensures counted { CountsAll result left.old (finals_of sites.now).messages left.new }
 {
     write_message_header(alloc, out)?;
     write_queues(alloc, out, sites, names, left)
@@ -125,8 +118,7 @@ fn write_other_parts<W: Out>(
 ) -> Result<(), Refusal>
     requires { (W.state out.old).failed ≡ false }
     ensures { WroteSeveral (W.state out.old) (W.state out.new)
-        (lines ((transfer_header ∷ map (transfer_fields names.now) (finals_of sites.now).transfers)
-        ++ (task_header ∷ map (task_fields names.now) (finals_of sites.now).tasks))) result }
+        (others_text names.now (finals_of sites.now)) result }
 {
     let transfers = transfers_of(alloc, sites)?;
     let tasks = tasks_of(alloc, sites)?;
@@ -144,8 +136,7 @@ fn write_state<W: Out>(
     requires { (W.state out.old).failed ≡ false }
     ensures written { WroteSeveral (W.state out.old) (W.state out.new)
         (finals_text names.now (finals_of sites.now)) result }
-    ensures counted { (queues : List QueueCounts) → left.old ≡ lefts queues []
-        → OnOk result (left.new ≡ lefts queues (finals_of sites.now).messages) }
+    ensures counted { CountsAll result left.old (finals_of sites.now).messages left.new }
 {
     write_message_part(alloc, out, sites, names, left)?;
     write_other_parts(alloc, out, sites, names)
@@ -161,10 +152,8 @@ fn write_left<W: Out>(
 ) -> Result<(), Refusal>
     requires { (W.state out.old).failed ≡ false }
     ensures works { OnOk result ((W.state out.new).failed ≡ false) }
-    ensures written { (s : TheScenario) (r : Run) → names.now ≡ s.names
-        → report.now ≡ running (queue_names s) r.rows → sites.now ≡ r.sites
-        → WroteSeveral (W.state out.old) (W.state out.new) (ending_of s r)
-        result }
+    ensures written { OfEnd names.now report.now sites.now
+        (λ s r. WroteSeveral (W.state out.old) (W.state out.new) (ending_of s r) result) }
 {
     let mut left = report.none_left(alloc)?;
     write_state(alloc, out, sites, names, &mut left)?;
@@ -185,10 +174,8 @@ pub fn write_ending<W: Out>(
     report: &Report,
 ) -> Result<(), Refusal>
     requires { (W.state out.old).failed ≡ false }
-    ensures written { (s : TheScenario) (r : Run) → names.now ≡ s.names
-        → report.now ≡ running (queue_names s) r.rows → sites.now ≡ r.sites
-        → WroteSeveral (W.state out.old) (W.state out.new) (ending_of s r)
-        result }
+    ensures written { OfEnd names.now report.now sites.now
+        (λ s r. WroteSeveral (W.state out.old) (W.state out.new) (ending_of s r) result) }
     ensures flushed { OnOk result ((W.state out.new).flushed ≡ true) }
 {
     write_left(alloc, out, sites, names, report)?;

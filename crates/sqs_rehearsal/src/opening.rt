@@ -1,14 +1,14 @@
 //! The sites with which a scenario opens.
 ghost use Rattle.std.specs.List.{enumerate_from};
-ghost use Rattle.std.specs.Prelude.{◌≡◌, ◌+◌, ◌<◌, ◌≤◌, ◌^◌, [], All, IfOk, List, OnOk, length, map, ℕ};
+ghost use Rattle.std.specs.Prelude.{◌≡◌, ◌+◌, ◌<◌, ◌≤◌, ◌^◌, [], All, IfOk, OnOk, length, map};
 ghost use Rattle.sim_engine.specs.Simulated.{IsSimulated};
 ghost use Rattle.sqs_model.specs.Answers.{most_count};
 ghost use Rattle.sqs_model.specs.Conditions.{sqs_conditions};
 ghost use Rattle.sqs_model.specs.Run.{setting_of};
 ghost use Rattle.sqs_model.specs.Sqs.{sqs};
-ghost use Rattle.sqs_model.specs.Scenario.{HasItsQueues, Scenario as TheScenario, numbered_actors, numbered_tasks, opening};
+ghost use Rattle.sqs_model.specs.Scenario.{HasItsQueues, opening};
 ghost use Rattle.sqs_model.specs.Valid.{IsQueueSettings};
-ghost use Rattle.sqs_rehearsal.specs.Homes.{AtHome, IsFit, IsSettled, IsVacant, actors_in, tasks_in};
+ghost use Rattle.sqs_rehearsal.specs.Homes.{AtHome, IsFit, IsSettled, IsVacant, OfHomes, actors_in, tasks_in};
 
 use sim_scenario::{Scenario, edges};
 use sim_site::Site;
@@ -121,10 +121,8 @@ fn open_sites(
     requires count { length homes.items ≡ length queues.now }
     requires numbers { length queues.now < 2 ^ 32 }
     requires sample { sample ≤ most_count }
-    ensures opened { IfOk result (λ sites.
-        (s : TheScenario) → s.seed ≡ seed → s.sample ≡ sample → s.queues ≡ queues.now
-        → IsSettled homes.items (numbered_actors s) (numbered_tasks s)
-        → sites.items ≡ opening s) }
+    ensures opened { IfOk result (λ sites. OfHomes seed sample queues.now homes.items
+        (λ s. sites.items ≡ opening s)) }
 {
     let mut sites = Vec::with_capacity(alloc, queues.len())?;
     let mut number = 0;

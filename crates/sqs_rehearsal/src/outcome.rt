@@ -1,12 +1,10 @@
 //! The outcome of the whole run of a scenario.
-ghost use Rattle.std.specs.Prelude.{◌≡◌, [], false, true, map, IfErr, IfOk, OnOk};
+ghost use Rattle.std.specs.Prelude.{◌≡◌, [], false, true, IfErr, IfOk, OnOk};
 ghost use Rattle.sim_records.specs.Writes.{WroteSeveral};
 ghost use Rattle.sim_report.specs.Running.{running};
 ghost use Rattle.sqs_formats.specs.Comparison.{comparison};
 ghost use Rattle.sqs_formats.specs.Output.{queue_names, report_of};
-ghost use Rattle.sqs_model.specs.Run.{Run};
-ghost use Rattle.sqs_model.specs.Scenario.{Scenario as TheScenario};
-ghost use Rattle.sqs_rehearsal.specs.Outcomes.{HasCounted, IsLeftBy, IsOutcomeOf, Stops};
+ghost use Rattle.sqs_rehearsal.specs.Outcomes.{HasCounted, IsOutcomeOf, OfBoth, Stops};
 
 use crate::counter::Counter;
 use crate::finals::finals_of;
@@ -106,10 +104,8 @@ pub fn compare<W: Out>(
     second: &Outcome,
 ) -> Result<(), Refusal>
     requires { (W.state out.old).failed ≡ false }
-    ensures written { (s t : TheScenario) (r u : Run) → IsLeftBy s r first.now
-        → IsLeftBy t u second.now
-        → WroteSeveral (W.state out.old) (W.state out.new)
-        (comparison (report_of s r) (report_of t u)) result }
+    ensures written { OfBoth first.now second.now (λ s r t u. WroteSeveral (W.state out.old)
+        (W.state out.new) (comparison (report_of s r) (report_of t u)) result) }
     ensures flushed { OnOk result ((W.state out.new).flushed ≡ true) }
 {
     sim_report::compare(

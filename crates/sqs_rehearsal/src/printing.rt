@@ -13,7 +13,7 @@ ghost use Rattle.sqs_model.specs.Run.{setting_of};
 ghost use Rattle.sqs_model.specs.Sqs.{sqs};
 ghost use Rattle.sqs_rehearsal.specs.Printed.{printed_sqs};
 ghost use Rattle.sqs_rehearsal.specs.Rehearsals.{Request};
-ghost use Rattle.sqs_rehearsal.specs.Sinks.{Recorded, StoppedAt};
+ghost use Rattle.sqs_rehearsal.specs.Sinks.{Recorded, StoppedAt, Works};
 ghost use Rattle.sqs_rehearsal.specs.Steps.{IsBegun, Logs, since};
 
 use crate::limited::counted;
@@ -105,7 +105,7 @@ fn run_printed<G: Gate<Running> + Sync, L: Out, P: Watch, W: Threads + Wait + Sy
         HasTaken sqs (Recorded L.state) (setting_of scenario) sink.old sink.new sites.items) }
     ensures counted { OnOk result (¬ IsOver scenario) }
     ensures stops { IfErr result (λ refusal.
-        StopsAnyhow sqs (λ recorder. (L.state recorder.out.now).failed ≡ false)
+        StopsAnyhow sqs (Works L.state)
         (Recorded L.state) (StoppedAt L.state) (setting_of scenario) sink.old refusal sink.new) }
 {
     let alloc = sink.alloc;

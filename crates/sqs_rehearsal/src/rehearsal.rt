@@ -1,6 +1,6 @@
 //! A rehearsal, from bytes to bytes.
-ghost use Rattle.std.specs.Prelude.{◌≡◌, false, List, ℕ};
-ghost use Rattle.sim_scenario.specs.Drafts.{IsDraftUpto};
+ghost use Rattle.std.specs.Prelude.{◌≡◌, false};
+ghost use Rattle.sim_scenario.specs.Drafts.{OfDraft};
 ghost use Rattle.sqs_rehearsal.specs.Rehearsals.{Rehearses, request, request_upto};
 ghost use Rattle.sqs_rehearsal.specs.Writers.{seen};
 
@@ -79,9 +79,9 @@ pub fn rehearse_watched<
 ) -> Result<(), Fault>
     requires log { (L.state log.old).failed ≡ false }
     requires report { (R.state report.old).failed ≡ false }
-    ensures { (newest : ℕ) (text : List ℕ) → IsDraftUpto newest text draft
-        → Rehearses (request_upto newest text scripts.now options.now) result
-        (seen L.state log.old log.new) (seen R.state report.old report.new) }
+    ensures { OfDraft draft (λ newest text.
+        Rehearses (request_upto newest text scripts.now options.now) result
+        (seen L.state log.old log.new) (seen R.state report.old report.new)) }
 {
     let scenario = draft.read(alloc, scripts)?;
     if options.workers <= 1 {

@@ -1,5 +1,5 @@
 //! Runs of scenarios.
-ghost use Rattle.std.specs.Prelude.{◌≡◌, ◌<◌, ◌≤◌, ◌⊎◌, [], Err, IfErr, IfOk, IsOk, OnOk, false, true};
+ghost use Rattle.std.specs.Prelude.{◌≡◌, ◌<◌, ◌≤◌, ◌⊎◌, [], Err, IfErr, IfOk, IsOk, OnOk, false};
 ghost use Rattle.sim_windows.specs.Machines.{IsMachineOf};
 ghost use Rattle.sim_windows.specs.Sinks.{HasStopped, HasTaken};
 ghost use Rattle.sim_workers.specs.Runs.{StopsAnyhow};
@@ -10,6 +10,7 @@ ghost use Rattle.sqs_model.specs.Run.{IsRunOf, Run, setting_of};
 ghost use Rattle.sqs_model.specs.Scenario.{HasItsQueues, least_latency as the_least_latency};
 ghost use Rattle.sqs_model.specs.Sqs.{sqs};
 ghost use Rattle.sqs_rehearsal.specs.Options.{is_within};
+ghost use Rattle.sqs_rehearsal.specs.Splits.{IfAllowed, IfFits};
 
 use crate::limited::{Limited, counted};
 use crate::opening::open_world;
@@ -141,17 +142,14 @@ pub fn run_workers<
     ensures counted { OnOk result (¬ IsOver scenario) }
     ensures window { the_least_latency scenario < split.window
         → result ≡ Err (Refusal.WindowTooLong split.window (the_least_latency scenario)) }
-    ensures workers { split.window ≤ the_least_latency scenario → is_within 1 64 split.workers ≡ false
-        → result ≡ Err Refusal.BadWorkers }
-    ensures stops { split.window ≤ the_least_latency scenario → is_within 1 64 split.workers ≡ true
-        → IfErr result (λ refusal.
-        StopsAnyhow sqs K.ready K.took K.broke (setting_of scenario) sink.old refusal
-        sink.new) }
-    ensures alone { split.window ≤ the_least_latency scenario → split.workers ≡ 1
-        → IfErr result (λ refusal.
-        HasStopped sqs K.took K.broke (setting_of scenario) sink.old refusal sink.new) }
-    ensures untaken { (the_least_latency scenario < split.window) ⊎ (is_within 1 64 split.workers ≡ false)
-        → sink.new ≡ sink.old }
+    ensures workers { IfFits split scenario
+        (is_within 1 64 split.workers ≡ false → result ≡ Err Refusal.BadWorkers) }
+    ensures stops { IfAllowed split scenario (IfErr result (λ refusal.
+        StopsAnyhow sqs K.ready K.took K.broke (setting_of scenario) sink.old refusal sink.new)) }
+    ensures alone { IfFits split scenario (split.workers ≡ 1 → IfErr result (λ refusal.
+        HasStopped sqs K.took K.broke (setting_of scenario) sink.old refusal sink.new)) }
+    ensures untaken { (the_least_latency scenario < split.window) ⊎ (is_within 1 64 split.workers
+        ≡ false) → sink.new ≡ sink.old }
 {
     let Split {
         layout,

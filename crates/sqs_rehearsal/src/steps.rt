@@ -89,7 +89,8 @@ pub fn recording<'a, L: Out, P: Watch>(
     horizon: u64,
 ) -> Recorder<'a, L, P>
     ensures names { result.names.now ≡ names.now }
-    ensures log { (result.out.ghost_name ≡ log.entry.ghost_name) × (result.out.now ≡ log.entry.now) }
+    ensures log { (result.out.ghost_name ≡ log.entry.ghost_name) × (result.out.now
+        ≡ log.entry.now) }
     ensures counts { (result.report.ghost_name ≡ counts.entry.ghost_name)
         × (result.report.now ≡ counts.entry.now) }
 {
@@ -112,8 +113,9 @@ impl Ended {
     pub fn end<L: Out, R: Out>(self, log: &mut L, report: &mut R) -> Result<(), Fault>
         requires log { (L.state log.old).failed ≡ false }
         requires report { (R.state report.old).failed ≡ false }
-        ensures { (q : Request) (start : WriterState) → IsLogged q (since start (L.state log.old)) self
-            → Rehearses q result (since start (L.state log.new)) (seen R.state report.old report.new) }
+        ensures { (q : Request) (start : WriterState) → IsLogged q (since start
+            (L.state log.old)) self → Rehearses q result (since start (L.state log.new))
+            (seen R.state report.old report.new) }
     {
         flush(log)?;
         let sites = self.sites.as_slice();

@@ -1,7 +1,7 @@
 //! A standard queue on its own: messages that are on hosts, and the calls of Amazon SQS on them.
-ghost use Rattle.std.specs.Prelude.{◌≡◌, ◌*◌, ◌<◌, ◌≤◌, [], All, Any, IfOk, IsOkUnless, OnErr, OnOk, count_by, length, not};
+ghost use Rattle.std.specs.Prelude.{◌≡◌, ◌*◌, ◌<◌, ◌≤◌, All, IfOk, IsOkUnless, OnErr, OnOk, count_by, length, not};
 ghost use Rattle.std.specs.Result.{result_map_both};
-ghost use Rattle.sqs_queue.specs.Words.{IsFramed, IsStandardSettings, Meets, WasEnqueuedBy, all_available, arrived, change, delete_standard, expired, is_delayed, is_empty, is_in_flight, is_visible, least, most_count, never_refused, queue_dues, receive, released, returned, send_standard, take_movable, to_give};
+ghost use Rattle.sqs_queue.specs.Words.{IsFramed, IsStandardSettings, MeetsArrival, MeetsOneMore, MeetsReceive, WasEnqueuedBy, all_available, change, delete_standard, expired, is_delayed, is_empty, is_in_flight, is_visible, least, most_count, queue_dues, receive, released, returned, send_standard, take_movable, to_give, without_messages};
 
 use sim_clock::{Key, Refusal};
 use sqs_message::{Receipt, Text};
@@ -34,11 +34,7 @@ impl StandardQueue {
     /// An empty queue with this number.
     pub fn new(alloc: Global, site: u32, settings: QueueSettings) -> StandardQueue
         requires { IsStandardSettings settings }
-        ensures { result
-            ≡ record {
-              queue = record { site = site; settings = settings; records = []; entries = []; arrivals = 0 };
-              looked = 0;
-            } }
+        ensures { result ≡ without_messages site settings 0 }
     {
         StandardQueue::opened_at(alloc, site, settings, 0)
     }
@@ -53,11 +49,7 @@ impl StandardQueue {
     ) -> StandardQueue
         requires settings { IsStandardSettings settings }
         requires arrivals { arrivals ≤ most_count }
-        ensures { result
-            ≡ record {
-              queue = record { site = site; settings = settings; records = []; entries = []; arrivals = arrivals };
-              looked = 0;
-            } }
+        ensures { result ≡ without_messages site settings arrivals }
     {
         StandardQueue {
             queue: Queue::opened_at(alloc, site, settings, arrivals),
@@ -94,7 +86,7 @@ impl StandardQueue {
     /// `BadDelay` over 900 seconds. `CountLimit` if the queue's numbers are used up. `Memory`.
     pub fn send(&mut self, now: u64, body: Text, delay: Option<u64>) -> Result<Sent, Refusal>
         requires { now ≤ most_count }
-        ensures answer { Meets (self.old.queue.arrivals ≡ most_count) result self.new.queue
+        ensures answer { MeetsOneMore self.old.queue result self.new.queue
             (send_standard self.old.queue now body delay) }
         ensures counted { OnOk result (self.old.queue.arrivals < most_count) }
         ensures unchanged { OnErr result (self.new ≡ self.old) }
@@ -197,8 +189,7 @@ impl StandardQueue {
     pub fn arrive(&mut self, now: u64, load: Load) -> Result<(Sent, bool), Refusal>
         requires moment { now ≤ most_count }
         requires enqueued { WasEnqueuedBy now load }
-        ensures answer { Meets (self.old.queue.arrivals ≡ most_count) result self.new.queue
-            (never_refused (arrived self.old.queue now load)) }
+        ensures answer { MeetsArrival self.old.queue result self.new.queue now load }
         ensures counted { OnOk result (self.old.queue.arrivals < most_count) }
         ensures unchanged { OnErr result (self.new ≡ self.old) }
         ensures looked { self.new.looked ≡ self.old.looked }
@@ -229,10 +220,8 @@ impl StandardQueue {
         short: bool,
     ) -> Result<Vec<Got>, Refusal>
         requires { now ≤ most_count }
-        ensures answer { Meets
-            (Any (λ m. m.receives ≡ most_count) (to_give self.old.queue max hosts))
-            (result_map_both (λ batch. batch.items) (λ refusal. refusal) result) self.new.queue
-            (receive self.old.queue now max timeout hosts short) }
+        ensures answer { MeetsReceive self.old.queue (result_map_both (λ batch. batch.items)
+            (λ refusal. refusal) result) self.new.queue now max timeout hosts short }
         ensures looked { OnOk result (self.new.looked ≤ 2 * max) }
         ensures read { IfOk result (λ batch. length batch.items ≤ self.new.looked) }
         ensures counted { OnOk result

@@ -1,13 +1,12 @@
 //! What a consumer does.
-ghost use Rattle.std.specs.Prelude.{◌≡◌, ◌≤◌, ◌∷◌, ◌+◌, [], List, Some, false, max, true};
-ghost use Rattle.sqs_model.specs.declared.agents.ActorSettings.{ActorSettings};
+ghost use Rattle.std.specs.Prelude.{◌≡◌, ◌≤◌, ◌+◌, [], Ok, Some, false, max, true, ℕ};
 ghost use Rattle.sqs_message.specs.Ids.{receipt_text};
-ghost use Rattle.sqs_redrive.specs.declared.answers.Got.{Got as GotMessage};
+ghost use Rattle.sqs_model.specs.declared.agents.ActorSettings.{ActorSettings};
 ghost use Rattle.sqs_model.specs.Actor.{next_beat, woken, idle as the_idle, serving as the_serving, serves as the_serves, settles as the_settles, fails_service as the_fails_service, ends_well as the_ends_well, ends_drawn as the_ends_drawn, backs_off as the_backs_off, backoff_at as the_backoff_at, goes_on as the_goes_on, has_failed as the_has_failed, rests as the_rests, consumer_wake as the_consumer_wake, consumer_got as the_consumer_got, consumer_told as the_consumer_told};
 ghost use Rattle.sqs_model.specs.Answers.{most_count};
 ghost use Rattle.sqs_model.specs.Draw.{drawn_chance};
 ghost use Rattle.sqs_model.specs.Valid.{IsConsumer, IsLatency, MayBeForward};
-ghost use Rattle.sim_actor.specs.Lives.{Becomes, Decides, DoesNothing, FollowsUp, lived};
+ghost use Rattle.sim_actor.specs.Lives.{Becomes, Decides, DecidesAt, DoesNothing, EndsFirst, EndsThis, FollowsUp, Lived, lived};
 
 use super::failing::fails;
 use super::{LastAct, Life, has_come};
@@ -38,8 +37,8 @@ impl Life {
     fn idle(&mut self, consumer: &ConsumerSettings, now: u64)
         requires moment { now ≤ most_count }
         requires consumer { IsConsumer consumer.now }
-        ensures decision { (s : ActorSettings) →
-            the_idle (lived s self.old) consumer.now now ≡ (Act.Nothing, lived s self.new) }
+        ensures decision { Lived self.old self.new (λ a b. the_idle a consumer.now now ≡
+            (Act.Nothing, b)) }
         ensures framed { self.new.number ≡ self.old.number }
     {
         self.wake = Some(now + consumer.idle);
@@ -92,8 +91,8 @@ impl Life {
     ) -> Result<Act, Refusal>
         requires moment { now ≤ most_count }
         requires latency { IsLatency forwarding.latency }
-        ensures decision { (s : ActorSettings) → s.home ≡ home → Decides result (lived s self.new)
-            (the_serves (lived s self.old) now got (Some forwarding)) }
+        ensures decision { DecidesAt home result self.old self.new (λ a. the_serves a now got
+            (Some forwarding)) }
         ensures framed { self.new.number ≡ self.old.number }
     {
         let varies = forwarding.latency.least < forwarding.latency.greatest;
@@ -133,8 +132,8 @@ impl Life {
     ) -> Result<Act, Refusal>
         requires moment { now ≤ most_count }
         requires latency { MayBeForward forwarding }
-        ensures decision { (s : ActorSettings) → s.home ≡ home → Decides result (lived s self.new)
-            (the_serves (lived s self.old) now got forwarding) }
+        ensures decision { DecidesAt home result self.old self.new
+            (λ a. the_serves a now got forwarding) }
         ensures framed { self.new.number ≡ self.old.number }
     {
         match forwarding {
@@ -158,8 +157,8 @@ impl Life {
     ) -> Result<Act, Refusal>
         requires moment { now ≤ most_count }
         requires consumer { IsConsumer consumer.now }
-        ensures decision { (s : ActorSettings) → s.home ≡ home → Decides result (lived s self.new)
-            (the_settles (lived s self.old) consumer.now now got self.old.done) }
+        ensures decision { DecidesAt home result self.old self.new
+            (λ a. the_settles a consumer.now now got a.done) }
         ensures framed { self.new.number ≡ self.old.number }
     {
         self.last_act = LastAct::Served(got.receipt);
@@ -168,9 +167,8 @@ impl Life {
 
     // The first of the messages of a failed service gets another visibility timeout, in seconds.
     fn back_off(&mut self, consumer: &ConsumerSettings, got: &Got) -> u64
-        ensures decision { (s : ActorSettings) →
-            the_backs_off (lived s self.old) consumer.now got.now self.old.failed
-            ≡ (Act.Change (receipt_text got.now.receipt) result, lived s self.new) }
+        ensures decision { Lived self.old self.new (λ a b. the_backs_off a consumer.now got.now
+            a.failed ≡ (Act.Change (receipt_text got.now.receipt) result, b)) }
         ensures framed { self.new.number ≡ self.old.number }
     {
         self.last_act = LastAct::Ended;
@@ -179,10 +177,8 @@ impl Life {
 
     // Ends a service that failed.
     fn fail_service(&mut self, consumer: &ConsumerSettings, id: MessageId, receipt: Receipt) -> Act
-        ensures decision { (s : ActorSettings) (g : GotMessage) (gs : List GotMessage) → self.old.held ≡ g ∷ gs
-            → g.id ≡ id → g.receipt ≡ receipt →
-            the_fails_service (record (lived s self.old) { held = gs }) consumer.now g
-            ≡ (result, lived s self.new) }
+        ensures decision { (home : ℕ) → EndsThis home id receipt (Ok result) self.old self.new
+            (λ a g. the_fails_service a consumer.now g) }
         ensures framed { self.new.number ≡ self.old.number }
     {
         self.last_act = LastAct::Failed;
@@ -211,10 +207,8 @@ impl Life {
     ) -> Result<Act, Refusal>
         requires moment { now ≤ most_count }
         requires consumer { IsConsumer consumer.now }
-        ensures decision { (s : ActorSettings) (g : GotMessage) (gs : List GotMessage) → s.home ≡ home
-            → self.old.held ≡ g ∷ gs → g.id ≡ id → g.receipt ≡ receipt
-            → Decides result (lived s self.new)
-            (the_ends_well true (record (lived s self.old) { held = gs }) consumer.now now g gs) }
+        ensures decision { EndsThis home id receipt result self.old self.new
+            (λ a g. the_ends_well true a consumer.now now g a.held) }
         ensures framed { self.new.number ≡ self.old.number }
     {
         self.holding.serve_first();
@@ -243,10 +237,8 @@ impl Life {
     ) -> Result<Act, Refusal>
         requires moment { now ≤ most_count }
         requires consumer { IsConsumer consumer.now }
-        ensures decision { (s : ActorSettings) (g : GotMessage) (gs : List GotMessage) → s.home ≡ home
-            → self.old.held ≡ g ∷ gs
-            → Decides result (lived s self.new)
-            (the_ends_well false (record (lived s self.old) { held = gs }) consumer.now now g gs) }
+        ensures decision { EndsFirst home result self.old self.new
+            (λ a g. the_ends_well false a consumer.now now g a.held) }
         ensures framed { self.new.number ≡ self.old.number }
     {
         match self.holding.take_held() {
@@ -266,10 +258,8 @@ impl Life {
     ) -> Result<Act, Refusal>
         requires moment { now ≤ most_count }
         requires consumer { IsConsumer consumer.now }
-        ensures decision { (s : ActorSettings) (g : GotMessage) (gs : List GotMessage) → s.home ≡ home
-            → self.old.held ≡ g ∷ gs → g.id ≡ id → g.receipt ≡ receipt
-            → Decides result (lived s self.new)
-            (the_ends_well false (record (lived s self.old) { held = gs }) consumer.now now g gs) }
+        ensures decision { EndsThis home id receipt result self.old self.new
+            (λ a g. the_ends_well false a consumer.now now g a.held) }
         ensures framed { self.new.number ≡ self.old.number }
     {
         if consumer.forward.is_none() {
@@ -294,11 +284,9 @@ impl Life {
     ) -> Result<Act, Refusal>
         requires moment { now ≤ most_count }
         requires consumer { IsConsumer consumer.now }
-        ensures decision { (s : ActorSettings) (g : GotMessage) (gs : List GotMessage) → s.home ≡ home
-            → self.old.held ≡ g ∷ gs
-            → Decides result (lived s self.new)
-            (the_ends_drawn (record (lived s self.old) { held = gs }) consumer.now now g
-            (drawn_chance consumer.now.fail_permille self.old.draws)) }
+        ensures decision { EndsFirst home result self.old self.new
+            (λ a g. the_ends_drawn a consumer.now now g (drawn_chance consumer.now.fail_permille
+            a.draws)) }
         ensures framed { self.new.number ≡ self.old.number }
     {
         if self.draws.taken() == MOST_COUNT {
@@ -321,8 +309,8 @@ impl Life {
 
     // Asks for messages, until it stops.
     fn ask(&mut self, consumer: &ConsumerSettings, now: u64) -> Act
-        ensures decision { (s : ActorSettings) → the_rests (lived s self.old) consumer.now now [] []
-            ≡ (result, lived s self.new) }
+        ensures decision { Lived self.old self.new (λ a b. the_rests a consumer.now now [] [] ≡
+            (result, b)) }
         ensures framed { self.new.number ≡ self.old.number }
     {
         if has_come(consumer.stop, now) {
@@ -368,8 +356,8 @@ impl Life {
     ) -> Result<Act, Refusal>
         requires moment { now ≤ most_count }
         requires consumer { IsConsumer consumer.now }
-        ensures decision { (s : ActorSettings) → s.home ≡ home → Decides result (lived s self.new)
-            (the_consumer_wake (woken (lived s self.old)) consumer.now now self.old.held) }
+        ensures decision { DecidesAt home result self.old self.new (λ a. the_consumer_wake
+            (woken a) consumer.now now a.held) }
         ensures framed { self.new.number ≡ self.old.number }
     {
         if self.wakes == MOST_COUNT {
@@ -403,8 +391,8 @@ impl Life {
     ) -> Result<(), Refusal>
         requires moment { now ≤ most_count }
         requires consumer { IsConsumer consumer.now }
-        ensures decision { (s : ActorSettings) → DoesNothing result (lived s self.new)
-            (the_consumer_got (lived s self.old) consumer.now now batch) }
+        ensures decision { Lived self.old self.new (λ a b. DoesNothing result b
+            (the_consumer_got a consumer.now now batch)) }
         ensures framed { self.new.number ≡ self.old.number }
     {
         let messages = batch.into_vec();

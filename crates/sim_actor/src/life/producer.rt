@@ -1,12 +1,11 @@
 //! The messages that a producer sends.
 ghost use Rattle.std.specs.Prelude.{◌≡◌, ◌≤◌, ◌+◌, ◌%◌, ◌∷◌, ℕ, IfOk, OnErr};
 ghost use Rattle.std.specs.Fmt.{decimal};
-ghost use Rattle.sqs_model.specs.declared.agents.ActorSettings.{ActorSettings};
 ghost use Rattle.sqs_model.specs.Actor.{group_of, id_given, producer_sent as the_producer_sent, producer_wake as the_producer_wake};
 ghost use Rattle.sqs_model.specs.Answers.{most_count};
 ghost use Rattle.sqs_model.specs.Draw.{Draws};
 ghost use Rattle.sqs_model.specs.Valid.{IsProducer, MayBeGroups};
-ghost use Rattle.sim_actor.specs.Lives.{DoesNothing, Meets, lived};
+ghost use Rattle.sim_actor.specs.Lives.{DoesNothing, Meets, Lived};
 
 use super::{Life, has_come};
 use crate::bodies::filled;
@@ -93,8 +92,8 @@ impl Life {
         now: u64,
     ) -> Result<Act, Refusal>
         requires producer { IsProducer producer.now }
-        ensures decision { (s : ActorSettings) → Meets result (lived s self.old) (lived s self.new)
-            (the_producer_wake (lived s self.old) producer.now now) }
+        ensures decision { Lived self.old self.new (λ a b. Meets result a b
+            (the_producer_wake a producer.now now)) }
         ensures framed { self.new.number ≡ self.old.number }
     {
         if self.wakes == MOST_COUNT {
@@ -127,8 +126,8 @@ impl Life {
     ) -> Result<(), Refusal>
         requires moment { now ≤ most_count }
         requires producer { IsProducer producer.now }
-        ensures decision { (s : ActorSettings) → DoesNothing result (lived s self.new)
-            (the_producer_sent (lived s self.old) producer.now now) }
+        ensures decision { Lived self.old self.new (λ a b. DoesNothing result b
+            (the_producer_sent a producer.now now)) }
         ensures framed { self.new.number ≡ self.old.number }
     {
         if self.wakes >= producer.count {

@@ -1,8 +1,7 @@
 //! The calls that a script makes.
 ghost use Rattle.std.specs.Prelude.{◌≡◌, ◌<◌, ◌≤◌, IfOk, OnSome, drop, length};
-ghost use Rattle.sqs_model.specs.declared.agents.ActorSettings.{ActorSettings};
 ghost use Rattle.sqs_model.specs.Actor.{first_at, script_wake as the_script_wake};
-ghost use Rattle.sim_actor.specs.Lives.{Meets, lived, made_of};
+ghost use Rattle.sim_actor.specs.Lives.{Meets, Lived, made_of};
 
 use super::Life;
 use sim_clock::Refusal;
@@ -72,8 +71,8 @@ impl Life {
     // A script's wake has come: it makes its next call, and wakes for the one after it.
     pub(crate) fn script_wake(&mut self, script: &[ScriptCall]) -> Result<Act, Refusal>
         requires { length script.now ≤ 100000 }
-        ensures decision { (s : ActorSettings) → Meets result (lived s self.old) (lived s self.new)
-            (the_script_wake (lived s self.old) (drop self.old.wakes script.now)) }
+        ensures decision { Lived self.old self.new (λ a b. Meets result a b (the_script_wake a
+            (drop a.wakes script.now))) }
         ensures framed { self.new.number ≡ self.old.number }
     {
         let Some((act, wake)) = call_made(self.alloc, script, self.wakes)? else {

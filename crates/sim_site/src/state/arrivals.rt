@@ -8,7 +8,7 @@ ghost use Rattle.sqs_model.specs.Progress.{IsRecent, WasEnqueuedBy};
 ghost use Rattle.sqs_model.specs.Queue.{IsFramed};
 ghost use Rattle.sqs_model.specs.Site.{Core, number_of};
 ghost use Rattle.sqs_model.specs.Step.{arrival_done, arrival_row as the_arrival_row, load_age as the_load_age, load_origin};
-ghost use Rattle.sim_site.specs.Effects.{Does};
+ghost use Rattle.sim_site.specs.Effects.{Handles};
 ghost use Rattle.sim_engine.specs.Limits.{StopsWhere};
 ghost use Rattle.sim_site.specs.Origins.{origin_or};
 
@@ -81,8 +81,8 @@ impl Core {
     pub fn arrive(&mut self, handling: &mut Handling<'_>, load: Load) -> Result<(), Refusal>
         requires enqueued { WasEnqueuedBy handling.old.key.at load }
         requires recent { IsRecent handling.old.key.at self.old.queue }
-        ensures { Does result handling.old handling.new self.new (arrival_done handling.old.key load
-            self.old (arrived self.old.queue handling.old.key.at load)) }
+        ensures { Handles result handling.old handling.new self.new
+            (λ k. arrival_done k load self.old (arrived self.old.queue k.at load)) }
     {
         let key = handling.key;
         let site = self.queue.site();

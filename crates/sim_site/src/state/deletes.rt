@@ -9,6 +9,7 @@ ghost use Rattle.sqs_model.specs.Acts.{change_made, change_answered, delete_made
 ghost use Rattle.sqs_model.specs.Calls.{change};
 ghost use Rattle.sqs_model.specs.Site.{Core, number_of};
 ghost use Rattle.sim_site.specs.Effects.{ActorDoes};
+ghost use Rattle.sim_site.specs.Rows.{row_at};
 
 use super::Core;
 use crate::handling::Handling;
@@ -26,17 +27,8 @@ fn refused_row(
     handle: ReceiptHandle,
     refusal: Refusal,
 ) -> Row
-    ensures { result
-        ≡ record {
-          key = handling.now.key;
-          queue = site;
-          agent = handling.now.agent;
-          kind = kind;
-          answer = answers.Refused refusal;
-          message = None;
-          receipt = receipts.Given handle;
-          detail = details.Absent;
-        } }
+    ensures { result ≡ row_at handling.now.key site handling.now.agent kind
+        (answers.Refused refusal) None (receipts.Given handle) details.Absent }
 {
     let answer = RowAnswer::Refused(refusal);
     let row = handling.row(site, kind, answer, None, Detail::Absent);
@@ -77,7 +69,7 @@ impl Core {
         handle: ReceiptHandle,
     ) -> Result<(), Refusal>
         ensures { ActorDoes result handling.old handling.new self.new
-            (λ a. (delete_made handling.old.key a self.old handle (read_receipt handle)).effect) }
+            (λ k a. delete_made k a self.old handle (read_receipt handle)) }
     {
         let site = self.queue.site();
         let Some(receipt) = handle.receipt() else {
@@ -101,8 +93,8 @@ impl Core {
         receipt: Receipt,
     ) -> Result<(), Refusal>
         ensures { ActorDoes result handling.old handling.new self.new
-            (λ a. (change_answered handling.old.key a self.old handle timeout receipt
-            (change self.old.queue handling.old.key.at receipt timeout)).effect) }
+            (λ k a. change_answered k a self.old handle timeout receipt
+            (change self.old.queue k.at receipt timeout)) }
     {
         let site = self.queue.site();
         match self.queue.change(handling.key.at, &receipt, timeout) {
@@ -138,8 +130,8 @@ impl Core {
         handle: ReceiptHandle,
         timeout: u64,
     ) -> Result<(), Refusal>
-        ensures { ActorDoes result handling.old handling.new self.new (λ a.
-            (change_made handling.old.key a self.old handle timeout (read_receipt handle)).effect) }
+        ensures { ActorDoes result handling.old handling.new self.new
+            (λ k a. change_made k a self.old handle timeout (read_receipt handle)) }
     {
         match handle.receipt() {
             None => {
@@ -166,9 +158,8 @@ impl Core {
         timeout: Option<u64>,
     ) -> Result<(), Refusal>
         ensures { ActorDoes result handling.old handling.new self.new
-            (λ a. (change_made handling.old.key a self.old handle
-            (unwrap_or timeout (self.old.queue.settings.visibility / 1000))
-            (read_receipt handle)).effect) }
+            (λ k a. change_made k a self.old handle (unwrap_or timeout
+            (self.old.queue.settings.visibility / 1000)) (read_receipt handle)) }
     {
         let own = self.queue.settings().visibility / 1000;
         self.change(handling, handle, timeout.unwrap_or(own))

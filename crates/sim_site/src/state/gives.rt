@@ -2,7 +2,7 @@
 ghost use Rattle.std.specs.Prelude.{OnOk, map, ◌++◌, ◌≡◌};
 ghost use Rattle.sqs_model.specs.Acts.{all_came_back, given, got_row as the_got_row};
 ghost use Rattle.sqs_model.specs.Site.{Core, number_of};
-ghost use Rattle.sim_site.specs.Effects.{Does, GoesOn};
+ghost use Rattle.sim_site.specs.Effects.{AddsRows, GoesOn, Handles};
 
 use super::Core;
 use crate::handling::Handling;
@@ -27,9 +27,8 @@ impl Core {
     // A row for each message that was received.
     fn say_gots(&self, handling: &mut Handling<'_>, gots: &[Got]) -> Result<(), AllocError>
         ensures on { GoesOn handling.old handling.new }
-        ensures rows { OnOk result (handling.new.effects.now.rows.items
-            ≡ handling.old.effects.now.rows.items
-            ++ map (the_got_row handling.old.key self.now handling.old.agent) gots.now) }
+        ensures rows { OnOk result (AddsRows handling.old handling.new
+            (map (the_got_row handling.old.key self.now handling.old.agent) gots.now)) }
         ensures sent { OnOk result (handling.new.effects.now.sent ≡ handling.old.effects.now.sent) }
     {
         let site = self.queue.site();
@@ -42,8 +41,8 @@ impl Core {
 
     // All messages that were given come back, in order.
     fn all_come_back(&mut self, handling: &mut Handling<'_>, gots: &[Got]) -> Result<(), Refusal>
-        ensures { Does result handling.old handling.new self.new
-            (all_came_back handling.old.key gots.now self.old) }
+        ensures { Handles result handling.old handling.new self.new
+            (λ k. all_came_back k gots.now self.old) }
     {
         for i in 0..gots.len() {
             let left = copied(self.alloc, &gots[i].left)?;
@@ -60,8 +59,8 @@ impl Core {
         timeout: Option<u64>,
         gots: &[Got],
     ) -> Result<(), Refusal>
-        ensures { Does result handling.old handling.new self.new
-            (given handling.old.key self.old handling.old.agent timeout (self.old.queue, gots.now)) }
+        ensures { Handles result handling.old handling.new self.new
+            (λ k. given k self.old handling.old.agent timeout (self.old.queue, gots.now)) }
     {
         self.say_gots(handling, gots)?;
         let at_once = match timeout {

@@ -1,10 +1,9 @@
 //! The handling of an entry due, by its class, and after it the answers to waiting polls.
-ghost use Rattle.std.specs.Prelude.{IfSome, ◌≡◌};
-ghost use Rattle.sqs_model.specs.Dues.{core_dues};
+ghost use Rattle.std.specs.Prelude.{IfSome};
 ghost use Rattle.sqs_model.specs.Progress.{IsRecent, WasEnqueuedBy};
 ghost use Rattle.sqs_model.specs.Step.{handle_arrival, handle_class, with_polls};
-ghost use Rattle.sim_site.specs.Due.{IsAmong};
-ghost use Rattle.sim_site.specs.Effects.{Does};
+ghost use Rattle.sim_site.specs.Effects.{Handles};
+ghost use Rattle.sim_site.specs.Turns.{IsDueNow};
 
 use super::Core;
 use crate::handling::Handling;
@@ -15,11 +14,9 @@ impl Core {
     // Handles an entry due that is no arrival. If a task's step is due, the task runs.
     #[tactic(auto, unfolding(sqs_model::specs::Step::handle_class))]
     fn handle_class(&mut self, handling: &mut Handling<'_>) -> Result<(), Refusal>
-        requires agent { handling.old.agent ≡ handling.old.key.agent }
-        requires recent { IsRecent handling.old.key.at self.old.queue }
-        requires due { IsAmong (core_dues self.old) handling.old.key }
-        ensures { Does result handling.old handling.new self.new
-            (handle_class handling.old.key.class handling.old.key self.old) }
+        requires { IsDueNow handling.old self.old }
+        ensures { Handles result handling.old handling.new self.new
+            (λ k. handle_class k.class k self.old) }
     {
         match handling.key.class {
             Class::Expiry => self.handle_expiry(handling),
@@ -38,11 +35,9 @@ impl Core {
     ///
     /// `Memory`. `CountLimit` if a count would pass its limit.
     pub fn handle(&mut self, handling: &mut Handling<'_>) -> Result<(), Refusal>
-        requires agent { handling.old.agent ≡ handling.old.key.agent }
-        requires recent { IsRecent handling.old.key.at self.old.queue }
-        requires due { IsAmong (core_dues self.old) handling.old.key }
-        ensures { Does result handling.old handling.new self.new (with_polls handling.old.key
-            (handle_class handling.old.key.class handling.old.key self.old)) }
+        requires { IsDueNow handling.old self.old }
+        ensures { Handles result handling.old handling.new self.new (λ k. with_polls k
+            (handle_class k.class k self.old)) }
     {
         self.handle_class(handling)?;
         self.answer_polls(handling)
@@ -56,8 +51,8 @@ impl Core {
     ) -> Result<(), Refusal>
         requires recent { IsRecent handling.old.key.at self.old.queue }
         requires enqueued { IfSome transfer (λ t. WasEnqueuedBy handling.old.key.at t.load) }
-        ensures { Does result handling.old handling.new self.new
-            (handle_arrival handling.old.key transfer self.old) }
+        ensures { Handles result handling.old handling.new self.new
+            (λ k. handle_arrival k transfer self.old) }
     {
         match transfer {
             None => Ok(()),
@@ -77,8 +72,8 @@ impl Core {
     ) -> Result<(), Refusal>
         requires recent { IsRecent handling.old.key.at self.old.queue }
         requires enqueued { IfSome transfer (λ t. WasEnqueuedBy handling.old.key.at t.load) }
-        ensures { Does result handling.old handling.new self.new
-            (with_polls handling.old.key (handle_arrival handling.old.key transfer self.old)) }
+        ensures { Handles result handling.old handling.new self.new (λ k. with_polls k
+            (handle_arrival k transfer self.old)) }
     {
         self.handle_transfer(handling, transfer)?;
         self.answer_polls(handling)

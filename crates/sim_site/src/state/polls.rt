@@ -1,13 +1,13 @@
 //! Polls that wait: their ends, and their answers.
-ghost use Rattle.std.specs.Prelude.{false, ◌-◌, ◌^◌, ◌≡◌, ◌≤◌};
-ghost use Rattle.sqs_model.specs.Available.{all_hosts};
+ghost use Rattle.std.specs.Prelude.{false, ◌-◌, ◌≡◌};
 ghost use Rattle.sqs_model.specs.Polls.{answer_polls, poll_answered, poll_given};
 ghost use Rattle.sqs_model.specs.Site.{no_effect};
 ghost use Rattle.sim_clock.specs.declared.key.Key.{Key};
 ghost use Rattle.sqs_model.specs.Valid.{IsQueueSettings, MayBeTimeout};
 ghost use Rattle.sqs_model.specs.Progress.{IsRecent};
 ghost use Rattle.sqs_model.specs.Step.{handle_poll_end};
-ghost use Rattle.sim_site.specs.Effects.{Does};
+ghost use Rattle.sim_site.specs.Effects.{Handles};
+ghost use Rattle.sim_site.specs.Kept.{IsHostCount};
 
 use super::Core;
 use super::receives::{all_hosts_of, receive_row, received_by};
@@ -22,8 +22,7 @@ use sqs_redrive::{Batch, Kind};
 // The number of hosts on which the messages of a queue are; 1 for a FIFO queue.
 fn host_count(queue: &Queue) -> u64
     requires { IsQueueSettings queue.now.settings }
-    ensures few { result ≤ 16 }
-    ensures all { all_hosts queue.now.settings.kind ≡ 2 ^ result - 1 }
+    ensures { IsHostCount queue.now.settings.kind result }
 {
     match queue.settings().kind {
         Kind::Standard { hosts, .. } => hosts,
@@ -37,9 +36,8 @@ impl Core {
     fn answer_poll(&mut self, handling: &mut Handling<'_>, poll: Poll) -> Result<(), Refusal>
         requires allowed { MayBeTimeout poll.timeout }
         requires recent { IsRecent handling.old.key.at self.old.queue }
-        ensures { Does result handling.old handling.new self.new
-            (poll_answered handling.old.key poll self.old
-            (poll_given handling.old.key poll self.old.queue)) }
+        ensures { Handles result handling.old handling.new self.new
+            (λ k. poll_answered k poll self.old (poll_given k poll self.old.queue)) }
     {
         let agent = handling.agent;
         handling.agent = poll.actor;
@@ -62,8 +60,8 @@ impl Core {
     #[inline(never)]
     fn answer_each(&mut self, handling: &mut Handling<'_>) -> Result<(), Refusal>
         requires { IsRecent handling.old.key.at self.old.queue }
-        ensures { Does result handling.old handling.new self.new
-            (answer_polls handling.old.key self.old.polls self.old) }
+        ensures { Handles result handling.old handling.new self.new
+            (λ k. answer_polls k self.old.polls self.old) }
     {
         for _ in 0..self.polls.len() {
             let gives = self.queue.can_give();
@@ -90,8 +88,8 @@ impl Core {
     /// Answers waiting polls, oldest first, while there is something to give.
     pub fn answer_polls(&mut self, handling: &mut Handling<'_>) -> Result<(), Refusal>
         requires { IsRecent handling.old.key.at self.old.queue }
-        ensures { Does result handling.old handling.new self.new
-            (answer_polls handling.old.key self.old.polls self.old) }
+        ensures { Handles result handling.old handling.new self.new
+            (λ k. answer_polls k self.old.polls self.old) }
     {
         if self.may_answer() {
             self.answer_each(handling)
@@ -104,8 +102,8 @@ impl Core {
     pub fn handle_poll_end(&mut self, handling: &mut Handling<'_>) -> Result<(), Refusal>
         requires recent { IsRecent handling.old.key.at self.old.queue }
         requires agent { handling.old.agent ≡ handling.old.key.agent }
-        ensures { Does result handling.old handling.new self.new
-            (handle_poll_end handling.old.key self.old) }
+        ensures { Handles result handling.old handling.new self.new
+            (λ k. handle_poll_end k self.old) }
     {
         let site = self.queue.site();
         let row = receive_row(handling, site, RowAnswer::Empty);

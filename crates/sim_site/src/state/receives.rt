@@ -1,18 +1,17 @@
 //! Receives by actors.
-ghost use Rattle.std.specs.Prelude.{Any, Err, IfErr, IfOk, IfSome, IsOk, None, OnErr, true, ℕ, ◌-◌, ◌<◌, ◌^◌, ◌≡◌, ◌≤◌};
+ghost use Rattle.std.specs.Prelude.{Any, Err, IfErr, IfOk, IsOk, None, OnErr, true, ◌-◌, ◌<◌, ◌^◌, ◌≡◌, ◌≤◌};
 ghost use Rattle.sqs_model.specs.Acts.{receive_row as the_receive_row, hosts_from as the_hosts_from, long_poll, receive_as, receive_none, receive_some, short_poll};
 ghost use Rattle.sqs_model.specs.Answers.{most_count};
-ghost use Rattle.sqs_model.specs.Available.{all_hosts};
 ghost use Rattle.sqs_model.specs.Draw.{drawn_uniform};
 ghost use Rattle.sqs_model.specs.Queue.{IsFramed};
-ghost use Rattle.sqs_model.specs.Receive.{answered, give_most, receive};
+ghost use Rattle.sqs_model.specs.Receive.{receive};
 ghost use Rattle.std.specs.Result.{result_map_both};
 ghost use Rattle.sqs_model.specs.Site.{Core, number_of};
 ghost use Rattle.sqs_model.specs.Valid.{IsStandard, MayBeTimeout};
 ghost use Rattle.sqs_model.specs.Receive.{to_give};
 ghost use Rattle.sim_site.specs.Effects.{Makes};
 ghost use Rattle.sim_engine.specs.Limits.{StopsWhere};
-ghost use Rattle.sim_site.specs.Kept.{most_wait};
+ghost use Rattle.sim_site.specs.Kept.{IsHostCount, IsShortRefusal, MaySample, most_wait};
 
 use super::Core;
 use super::sends::told_refusal;
@@ -28,9 +27,7 @@ use sqs_redrive::{Batch, Got, Kind};
 // The hosts that a short poll samples, as bits: `sampled` of them from a first one on, continuing
 // at the first host after the last.
 fn hosts_from(hosts: u64, sampled: u64, start: u64) -> u16
-    requires some { 1 ≤ hosts }
-    requires few { hosts ≤ 16 }
-    requires sampled { sampled ≤ hosts }
+    requires hosts { MaySample hosts sampled }
     requires start { start < hosts }
     ensures { result ≡ the_hosts_from hosts sampled start }
 {
@@ -51,11 +48,7 @@ pub fn all_hosts_of(hosts: u64) -> u16
 
 // The error of a short poll, if it has one.
 fn short_refusal(queue: &Queue, timeout: Option<u64>) -> Option<Refusal>
-    ensures allowed { result ≡ None → (now max set : ℕ)
-        → receive queue.now now max timeout set true
-        ≡ answered (give_most queue.now now max timeout set) }
-    ensures refused { IfSome result (λ refusal.
-        (now max set : ℕ) → receive queue.now now max timeout set true ≡ (Err refusal, queue.now)) }
+    ensures { IsShortRefusal queue.now timeout result }
 {
     if let Some(seconds) = timeout {
         if seconds > LONGEST_TIMEOUT {
@@ -85,8 +78,8 @@ pub fn received_by(
     ensures unchanged { IfOk result (λ answer. OnErr answer (queue.new ≡ queue.old)) }
     ensures allowed { IfOk result (λ answer. IfOk answer (λ _. MayBeTimeout timeout)) }
     ensures framed { IsFramed queue.old queue.new }
-    ensures stops { IfErr result (StopsWhere (Any (λ m. m.receives ≡ most_count) (to_give queue.old max hosts)
-        × IsOk (receive queue.old now max timeout hosts short).0)) }
+    ensures stops { IfErr result (StopsWhere (Any (λ m. m.receives ≡ most_count)
+        (to_give queue.old max hosts) × IsOk (receive queue.old now max timeout hosts short).0)) }
 {
     match queue.receive(now, max, timeout, hosts, short) {
         Ok(received) => Ok(Ok(received.messages)),
@@ -114,7 +107,7 @@ impl Core {
         requires allowed { MayBeTimeout timeout }
         requires wait { wait ≤ most_wait }
         ensures { Makes result handling.old handling.new self.old self.new
-            (λ a. receive_none handling.old.key a self.old max wait timeout) }
+            (λ k a. receive_none k a self.old max wait timeout) }
     {
         let site = self.queue.site();
         if wait == 0 {
@@ -154,7 +147,7 @@ impl Core {
         requires allowed { MayBeTimeout timeout }
         requires wait { wait ≤ most_wait }
         ensures { Makes result handling.old handling.new self.old self.new
-            (λ a. receive_some handling.old.key a self.old max wait timeout self.old.queue gots.items) }
+            (λ k a. receive_some k a self.old max wait timeout self.old.queue gots.items) }
     {
         if gots.is_empty() {
             return self.receive_none(handling, max, wait, timeout);
@@ -172,13 +165,11 @@ impl Core {
         hosts: u64,
         sampled: u64,
     ) -> Result<Reply, Refusal>
-        requires some { 1 ≤ hosts }
-        requires few { hosts ≤ 16 }
-        requires sampled { sampled ≤ hosts }
+        requires hosts { MaySample hosts sampled }
         requires standard { IsStandard self.old.queue.settings.kind }
         ensures { Makes result handling.old handling.new self.old self.new
-            (λ a. short_poll handling.old.key a self.old max timeout hosts sampled
-            (drawn_uniform 0 (hosts - 1) self.old.draws)) }
+            (λ k a. short_poll k a self.old max timeout hosts sampled (drawn_uniform 0
+            (hosts - 1) self.old.draws)) }
     {
         let site = self.queue.site();
         if let Some(refusal) = short_refusal(&self.queue, timeout) {
@@ -208,10 +199,9 @@ impl Core {
         hosts: u64,
     ) -> Result<Reply, Refusal>
         requires wait { wait ≤ most_wait }
-        requires few { hosts ≤ 16 }
-        requires all { all_hosts self.old.queue.settings.kind ≡ 2 ^ hosts - 1 }
+        requires hosts { IsHostCount self.old.queue.settings.kind hosts }
         ensures { Makes result handling.old handling.new self.old self.new
-            (λ a. long_poll handling.old.key a self.old max wait timeout) }
+            (λ k a. long_poll k a self.old max wait timeout) }
     {
         let site = self.queue.site();
         let set = all_hosts_of(hosts);
@@ -235,7 +225,7 @@ impl Core {
     ) -> Result<Reply, Refusal>
         requires { wait ≤ most_wait }
         ensures { Makes result handling.old handling.new self.old self.new
-            (λ a. receive_as self.old.queue.settings.kind handling.old.key a self.old max wait timeout) }
+            (λ k a. receive_as self.old.queue.settings.kind k a self.old max wait timeout) }
     {
         match self.queue.settings().kind {
             Kind::Standard { hosts, sampled } => {

@@ -4,7 +4,7 @@ ghost use Rattle.sqs_model.specs.Acts.{came_back as the_came_back, redriven};
 ghost use Rattle.sqs_model.specs.Draw.{drawn_latency};
 ghost use Rattle.sqs_model.specs.Step.{handle_expiry, handle_release};
 ghost use Rattle.sqs_model.specs.Valid.{IsLatency};
-ghost use Rattle.sim_site.specs.Effects.{Does};
+ghost use Rattle.sim_site.specs.Effects.{Handles};
 
 use super::Core;
 use crate::handling::Handling;
@@ -24,8 +24,9 @@ impl Core {
         policy: Policy,
     ) -> Result<(), Refusal>
         requires { IsLatency policy.latency }
-        ensures { Does result handling.old handling.new self.new (redriven handling.old.key self.old
-            number load policy.dead_letter (drawn_latency policy.latency self.old.draws)) }
+        ensures { Handles result handling.old handling.new self.new
+            (λ k. redriven k self.old number load policy.dead_letter
+            (drawn_latency policy.latency self.old.draws)) }
     {
         let (least, greatest) = (policy.latency.least, policy.latency.greatest);
         let varies = least < greatest;
@@ -58,8 +59,8 @@ impl Core {
         number: u64,
         left: Option<Load>,
     ) -> Result<(), Refusal>
-        ensures { Does result handling.old handling.new self.new
-            (the_came_back handling.old.key self.old number left) }
+        ensures { Handles result handling.old handling.new self.new
+            (λ k. the_came_back k self.old number left) }
     {
         match left {
             None => {
@@ -79,8 +80,8 @@ impl Core {
 
     /// A message reaches the end of its delay or visibility timeout.
     pub fn handle_release(&mut self, handling: &mut Handling<'_>) -> Result<(), Refusal>
-        ensures { Does result handling.old handling.new self.new
-            (handle_release handling.old.key self.old) }
+        ensures { Handles result handling.old handling.new self.new
+            (λ k. handle_release k self.old) }
     {
         let number = handling.key.number;
         let left = self.queue.release(number);
@@ -89,8 +90,8 @@ impl Core {
 
     /// A message reaches the end of its retention period. The only error is `Memory`.
     pub fn handle_expiry(&mut self, handling: &mut Handling<'_>) -> Result<(), Refusal>
-        ensures { Does result handling.old handling.new self.new
-            (handle_expiry handling.old.key self.old) }
+        ensures { Handles result handling.old handling.new self.new
+            (λ k. handle_expiry k self.old) }
     {
         let key = handling.key;
         let age = self.queue.expire(key.at, key.number);

@@ -1,7 +1,7 @@
 //! Samples of a queue's counts.
 ghost use Rattle.std.specs.Prelude.{◌*◌, ◌+◌, ◌≡◌, ◌≢◌};
 ghost use Rattle.sqs_model.specs.Step.{handle_sample};
-ghost use Rattle.sim_site.specs.Effects.{Does};
+ghost use Rattle.sim_site.specs.Effects.{Handles};
 
 use super::Core;
 use crate::handling::Handling;
@@ -13,8 +13,8 @@ impl Core {
     pub fn handle_sample(&mut self, handling: &mut Handling<'_>) -> Result<(), Refusal>
         requires sampled { self.old.sample ≢ 0 }
         requires due { handling.old.key.at ≡ self.old.sample * (self.old.samples + 1) }
-        ensures { Does result handling.old handling.new self.new
-            (handle_sample handling.old.key self.old) }
+        ensures { Handles result handling.old handling.new self.new
+            (λ k. handle_sample k self.old) }
     {
         let counts = self.queue.counts();
         let site = self.queue.site();

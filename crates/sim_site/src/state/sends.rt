@@ -1,5 +1,5 @@
 //! Sends by actors.
-ghost use Rattle.std.specs.Prelude.{IfErr, IfOk, List, OnOk, Option, ℕ, ◌<◌, ◌≡◌, ◌≢◌, ◌≤◌};
+ghost use Rattle.std.specs.Prelude.{IfErr, IfOk, List, Option, ℕ, ◌<◌, ◌≡◌, ◌≤◌};
 ghost use Rattle.md5.specs.Md5.{md5};
 ghost use Rattle.sim_clock.specs.declared.refusal.Refusal.TheVariants as refusals;
 ghost use Rattle.sqs_model.specs.Acts.{send_made, send_row as the_send_row, sends};
@@ -7,7 +7,7 @@ ghost use Rattle.sqs_model.specs.Answers.{most_count};
 ghost use Rattle.sqs_model.specs.Progress.{IsRecent};
 ghost use Rattle.sqs_model.specs.Queue.{IsFramed};
 ghost use Rattle.sqs_model.specs.Site.{Core, number_of};
-ghost use Rattle.sim_site.specs.Effects.{ActorDoes};
+ghost use Rattle.sim_site.specs.Effects.{ActorDoes, IsReportedOrEnds};
 ghost use Rattle.sim_engine.specs.Limits.{StopsWhere};
 
 use super::Core;
@@ -20,11 +20,7 @@ use sqs_redrive::Sent;
 /// Returns the error if the caller gets it as an answer. `Memory` and `CountLimit` end the site
 /// instead: they are returned as the error.
 pub fn told_refusal(refusal: Refusal) -> Result<Refusal, Refusal>
-    ensures same { IfOk result (λ told. told ≡ refusal) }
-    ensures memory { OnOk result (refusal ≢ refusals.Memory) }
-    ensures limit { OnOk result (refusal ≢ refusals.CountLimit) }
-    ensures ends { IfErr result (λ ends. ends ≡ refusal) }
-    ensures stops { IfErr result (StopsWhere (refusal ≡ Refusal.CountLimit)) }
+    ensures { IsReportedOrEnds refusal result }
 {
     match refusal {
         Refusal::Memory => Err(Refusal::Memory),
@@ -87,8 +83,8 @@ impl Core {
     ) -> Result<(), Refusal>
         requires recent { IsRecent handling.old.key.at self.old.queue }
         ensures { ActorDoes result handling.old handling.new self.new
-            (λ a. (send_made handling.old.key a self.old body
-            (sends self.old.queue.settings.kind self.old.queue handling.old.key.at body delay group id)).effect) }
+            (λ k a. send_made k a self.old body (sends self.old.queue.settings.kind self.old.queue
+            k.at body delay group id)) }
     {
         let site = self.queue.site();
         let digest = body_md5(body.as_bytes());

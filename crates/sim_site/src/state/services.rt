@@ -21,7 +21,7 @@ impl Core {
         forward: Option<Outbound>,
     ) -> Result<(), Refusal>
         ensures { ActorDoes result handling.old handling.new self.new
-            (λ a. (serve_made handling.old.key a self.old id receipt failed forward).effect) }
+            (λ k a. serve_made k a self.old id receipt failed forward) }
     {
         let site = self.queue.site();
         if failed {

@@ -1,21 +1,19 @@
 //! The steps of move tasks.
-ghost use Rattle.std.specs.Prelude.{All, IfErr, IfOk, IfSome, OnOk, [], find, length, map, true, ◌++◌, ◌+◌, ◌<◌, ◌∷◌, ◌≡◌, ◌≤◌};
+ghost use Rattle.std.specs.Prelude.{All, IfErr, IfOk, IfSome, OnOk, [], find, length, map, true, ◌+◌, ◌<◌, ◌∷◌, ◌≡◌, ◌≤◌};
 ghost use Rattle.sim_clock.specs.declared.key.Class.TheVariants.{Step as StepClass};
 ghost use Rattle.sqs_model.specs.Acts.{runs};
 ghost use Rattle.sqs_model.specs.Answers.{most_count};
-ghost use Rattle.sqs_model.specs.Draw.{drawn_latency};
 ghost use Rattle.sqs_model.specs.Dues.{core_dues};
-ghost use Rattle.sqs_model.specs.Counts.{task_count};
 ghost use Rattle.sim_clock.specs.Places.{Stands};
 ghost use Rattle.sqs_model.specs.Site.{Core as TheCore, is_task, number_of, task_numbered};
-ghost use Rattle.sqs_model.specs.Step.{handle_step, end_row as the_end_row, load_id as the_load_id, move_row as the_move_row, moves, one_sent, step_moved};
+ghost use Rattle.sqs_model.specs.Step.{handle_step, load_id as the_load_id, move_row as the_move_row, moves};
 ghost use Rattle.sqs_model.specs.Task.{Task as TheTask};
 ghost use Rattle.sqs_model.specs.Valid.{IsLatency};
 ghost use Rattle.sim_site.specs.Due.{IsAmong};
-ghost use Rattle.sim_site.specs.Effects.{Does, GoesOn};
+ghost use Rattle.sim_site.specs.Effects.{Handles};
 ghost use Rattle.sim_engine.specs.Limits.{StopsWhere};
 ghost use Rattle.sim_site.specs.Kept.{numbered_settings};
-ghost use Rattle.sim_site.specs.Steps.{IsKept, Moves, SendsOn, stepped_moves};
+ghost use Rattle.sim_site.specs.Steps.{IsKept, Moves, PassesSending, SendsOn, StepsTask, ReportsEnd, stepped_moves};
 
 use super::Core;
 use crate::agents::Task;
@@ -65,9 +63,7 @@ impl Task {
         ensures sent { IfOk result (λ o. SendsOn key site self.old to load o self.new) }
         ensures counted { OnOk result (self.new.sent ≡ self.old.sent + 1) }
         ensures kept { IsKept self.old self.new }
-        ensures stops { IfErr result (StopsWhere (most_count
-            < task_count (one_sent self.old
-            (drawn_latency self.old.move.settings.latency self.old.draws).1))) }
+        ensures stops { IfErr result (StopsWhere (PassesSending self.old)) }
     {
         let Latency { least, greatest } = self.movement.settings().latency;
         let draws_a_word = least < greatest;
@@ -97,7 +93,7 @@ impl Task {
     ) -> Result<(), Refusal>
         requires { IsLatency self.old.move.settings.latency }
         ensures moved { Moves result handling.old handling.new site self.new
-            (λ c. moves handling.old.key c self.old ((to, load) ∷ [])) }
+            (λ k c. moves k c self.old ((to, load) ∷ [])) }
         ensures counted { OnOk result (self.new.sent ≡ self.old.sent + 1) }
         ensures kept { IsKept self.old self.new }
     {
@@ -117,7 +113,7 @@ impl Task {
     ) -> Result<(), Refusal>
         requires { IsLatency self.old.move.settings.latency }
         ensures moved { Moves result handling.old handling.new site self.new
-            (λ c. moves handling.old.key c self.old loads.items) }
+            (λ k c. moves k c self.old loads.items) }
         ensures counted { OnOk result (self.new.sent ≡ self.old.sent + length loads.items) }
         ensures kept { IsKept self.old self.new }
     {
@@ -129,11 +125,7 @@ impl Task {
 
     // Makes the row of the task's end, if this step was its last.
     fn tell_end(&self, handling: &mut Handling<'_>, site: u32, rest: Rest) -> Result<(), AllocError>
-        ensures on { GoesOn handling.old handling.new }
-        ensures rows { OnOk result ((c : TheCore) → number_of c ≡ site
-            → handling.new.effects.now.rows.items
-            ≡ handling.old.effects.now.rows.items ++ the_end_row handling.old.key c self.now rest) }
-        ensures sent { handling.new.effects.now.sent ≡ handling.old.effects.now.sent }
+        ensures { ReportsEnd result handling.old handling.new site self.now rest }
     {
         let answer = match rest {
             Rest::Empty => RowAnswer::Completed,
@@ -164,7 +156,7 @@ impl Task {
         requires running { runs self.old ≡ true }
         requires latency { IsLatency self.old.move.settings.latency }
         ensures stepped { Moves result handling.old handling.new site self.new
-            (λ c. stepped_moves handling.old.key c self.old loads.items rest) }
+            (λ k c. stepped_moves k c self.old loads.items rest) }
         ensures settings { numbered_settings self.new ≡ numbered_settings self.old }
     {
         if self.movement.steps() >= MOST_COUNT {
@@ -191,11 +183,8 @@ fn step_at(
     requires running { IfSome (find (is_task handling.old.key.agent) tasks.old.items)
         (λ t. runs t ≡ true) }
     requires latencies { All (λ t. IsLatency t.1.latency) (map numbered_settings tasks.old.items) }
-    ensures stepped { (c : TheCore) (t : TheTask) → number_of c ≡ site → c.tasks ≡ tasks.old.items
-        → task_numbered handling.old.key.agent c ≡ Some t
-        → Does result handling.old handling.new (record c { tasks = tasks.new.items })
-        (step_moved handling.old.key c (length loads.items) rest
-        (moves handling.old.key c t loads.items)) }
+    ensures stepped { StepsTask result handling.old handling.new site tasks.old.items
+        tasks.new.items loads.items rest }
     ensures settings { map numbered_settings tasks.new.items
         ≡ map numbered_settings tasks.old.items }
 {
@@ -207,8 +196,8 @@ impl Core {
     pub fn handle_step(&mut self, handling: &mut Handling<'_>) -> Result<(), Refusal>
         requires class { handling.old.key.class ≡ StepClass }
         requires due { IsAmong (core_dues self.old) handling.old.key }
-        ensures { Does result handling.old handling.new self.new (handle_step handling.old.key
-            self.old (task_numbered handling.old.key.agent self.old)) }
+        ensures { Handles result handling.old handling.new self.new (λ k. handle_step k self.old
+            (task_numbered k.agent self.old)) }
     {
         let site = self.queue.site();
         let Some(place) = place_of_task(&self.tasks, handling.key.agent) else {

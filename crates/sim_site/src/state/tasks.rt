@@ -67,7 +67,7 @@ impl Core {
     /// `Memory`.
     pub fn start(&mut self, handling: &mut Handling<'_>, task: u32) -> Result<(), Refusal>
         ensures { ActorDoes result handling.old handling.new self.new
-            (λ a. (start_made handling.old.key a self.old task (task_numbered task self.old)).effect) }
+            (λ k a. start_made k a self.old task (task_numbered task self.old)) }
     {
         let site = self.queue.site();
         let Some(place) = place_of_task(&self.tasks, task) else {
@@ -89,7 +89,7 @@ impl Core {
     /// `Memory`.
     pub fn cancel(&mut self, handling: &mut Handling<'_>, task: u32) -> Result<(), Refusal>
         ensures { ActorDoes result handling.old handling.new self.new
-            (λ a. (cancel_made handling.old.key a self.old task (task_numbered task self.old)).effect) }
+            (λ k a. cancel_made k a self.old task (task_numbered task self.old)) }
     {
         let site = self.queue.site();
         let Some(place) = place_of_task(&self.tasks, task) else {

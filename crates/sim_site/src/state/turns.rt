@@ -2,15 +2,13 @@
 ghost use Rattle.std.specs.Prelude.{Some, option_map, ◌≡◌};
 ghost use Rattle.std.specs.Result.{result_map_both};
 ghost use Rattle.sim_actor.specs.Lives.{act_following, answer_of};
-ghost use Rattle.sqs_model.specs.Actor.{Actor};
 ghost use Rattle.sqs_model.specs.Acts.{act_made};
 ghost use Rattle.sqs_model.specs.Progress.{IsRecent};
 ghost use Rattle.sqs_model.specs.Polls.{acts_most, told as the_told};
-ghost use Rattle.sqs_model.specs.Site.{actor_numbered};
 ghost use Rattle.sqs_model.specs.Step.{handle_wake};
-ghost use Rattle.sim_site.specs.Effects.{Does};
+ghost use Rattle.sim_site.specs.Effects.{Handles};
 ghost use Rattle.sim_site.specs.Kept.{WaitsShortly};
-ghost use Rattle.sim_site.specs.Turns.{Takes, answer_if, turn_by, turn_of};
+ghost use Rattle.sim_site.specs.Turns.{ActorTakes, TakesTurn, answer_if, turn_by};
 
 use super::Core;
 use crate::handling::Handling;
@@ -33,10 +31,8 @@ impl Core {
     fn act(&mut self, handling: &mut Handling<'_>, act: Act) -> Result<Option<Reply>, Refusal>
         requires recent { IsRecent handling.old.key.at self.old.queue }
         requires wait { WaitsShortly act }
-        ensures { (a : Actor) → a.number ≡ handling.old.agent
-            → actor_numbered handling.old.agent self.old ≡ Some a
-            → Takes (option_map answer_of) result handling.old handling.new self.new
-            (turn_by act (act_made handling.old.key a self.old act)) }
+        ensures { ActorTakes (option_map answer_of) result handling.old handling.new self.old
+            self.new (λ k a. turn_by act (act_made k a self.old act)) }
     {
         let done = match act {
             Act::Send {
@@ -72,11 +68,9 @@ impl Core {
         follow_up: FollowUp,
     ) -> Result<bool, Refusal>
         requires { IsRecent handling.old.key.at self.old.queue }
-        ensures { (a : Actor) → a.number ≡ handling.old.agent
-            → actor_numbered handling.old.agent self.old ≡ Some a
-            → Takes answer_if result handling.old handling.new self.new
-            (turn_by (act_following follow_up)
-            (act_made handling.old.key a self.old (act_following follow_up))) }
+        ensures { ActorTakes answer_if result handling.old handling.new self.old self.new
+            (λ k a. turn_by (act_following follow_up) (act_made k a self.old
+            (act_following follow_up))) }
     {
         match follow_up {
             FollowUp::Nothing => return Ok(false),
@@ -92,8 +86,8 @@ impl Core {
     // anything.
     fn first_turn(&mut self, handling: &mut Handling<'_>) -> Result<Option<Reply>, Refusal>
         requires { IsRecent handling.old.key.at self.old.queue }
-        ensures { Takes (option_map answer_of) result handling.old handling.new self.new
-            (turn_of handling.old.key Answer.Wake self.old (actor_numbered handling.old.agent self.old)) }
+        ensures { TakesTurn (option_map answer_of) result handling.old handling.new self.old
+            self.new Answer.Wake }
     {
         let (now, agent) = (handling.key.at, handling.agent);
         let Some(place) = self.actors.place_of(agent) else {
@@ -106,9 +100,8 @@ impl Core {
     // An actor gets a reply, decides and acts. Returns whether it did anything.
     fn next_turn(&mut self, handling: &mut Handling<'_>, reply: Reply) -> Result<bool, Refusal>
         requires { IsRecent handling.old.key.at self.old.queue }
-        ensures { Takes answer_if result handling.old handling.new self.new
-            (turn_of handling.old.key (answer_of reply) self.old
-            (actor_numbered handling.old.agent self.old)) }
+        ensures { TakesTurn answer_if result handling.old handling.new self.old self.new
+            (answer_of reply) }
     {
         let (now, agent) = (handling.key.at, handling.agent);
         let Some(place) = self.actors.place_of(agent) else {
@@ -121,8 +114,8 @@ impl Core {
     // An actor gets a reply and acts, and then the reply to that.
     fn last_turns(&mut self, handling: &mut Handling<'_>, reply: Reply) -> Result<(), Refusal>
         requires { IsRecent handling.old.key.at self.old.queue }
-        ensures { Does result handling.old handling.new self.new
-            (acts_most 2 handling.old.key handling.old.agent (answer_of reply) self.old) }
+        ensures { Handles result handling.old handling.new self.new
+            (λ k. acts_most 2 k handling.old.agent (answer_of reply) self.old) }
     {
         let acted = self.next_turn(handling, reply)?;
         if !acted {
@@ -136,8 +129,8 @@ impl Core {
     /// nothing.
     pub fn told(&mut self, handling: &mut Handling<'_>, reply: Reply) -> Result<(), Refusal>
         requires { IsRecent handling.old.key.at self.old.queue }
-        ensures { Does result handling.old handling.new self.new
-            (the_told handling.old.key handling.old.agent (answer_of reply) self.old) }
+        ensures { Handles result handling.old handling.new self.new
+            (λ k. the_told k handling.old.agent (answer_of reply) self.old) }
     {
         let acted = self.next_turn(handling, reply)?;
         if !acted {
@@ -150,8 +143,7 @@ impl Core {
     pub fn handle_wake(&mut self, handling: &mut Handling<'_>) -> Result<(), Refusal>
         requires recent { IsRecent handling.old.key.at self.old.queue }
         requires agent { handling.old.agent ≡ handling.old.key.agent }
-        ensures { Does result handling.old handling.new self.new
-            (handle_wake handling.old.key self.old) }
+        ensures { Handles result handling.old handling.new self.new (λ k. handle_wake k self.old) }
     {
         let Some(reply) = self.first_turn(handling)? else {
             return Ok(());

@@ -1,13 +1,12 @@
 //! The arrival of transfers.
-ghost use Rattle.std.specs.Prelude.{◌≡◌, ◌⊎◌, ◌<◌, ◌≤◌, Err, IfOk, OnErr, OnOk};
+ghost use Rattle.std.specs.Prelude.{◌≡◌, ◌⊎◌, ◌<◌, ◌≤◌, Err, OnErr, OnOk};
 ghost use Rattle.sqs_message.specs.declared.message.Message.{Message};
-ghost use Rattle.sqs_messages.specs.Stored.{IsCounted};
-ghost use Rattle.sqs_model.specs.Answers.{Meets, most_count};
+ghost use Rattle.sqs_model.specs.Answers.{most_count};
 ghost use Rattle.sqs_model.specs.Arrive.{arrived, brought, settle};
 ghost use Rattle.sqs_model.specs.Progress.{IsRecent, WasEnqueuedBy};
 ghost use Rattle.sqs_model.specs.Queue.{IsFramed};
 ghost use Rattle.sqs_model.specs.Valid.{IsStandard};
-ghost use Rattle.sqs_queue.specs.Calls.{never_refused};
+ghost use Rattle.sqs_queue.specs.Calls.{MeetsArrival, MeetsOneMore, never_refused};
 
 use super::Queue;
 use sim_clock::Refusal;
@@ -31,8 +30,7 @@ impl Queue {
         requires moment { now ≤ most_count }
         requires enqueued { IsStandard self.old.settings.kind → WasEnqueuedBy now load }
         requires recent { IsRecent now self.old }
-        ensures answer { Meets (self.old.arrivals ≡ most_count) result self.new
-            (never_refused (arrived self.old now load)) }
+        ensures answer { MeetsArrival self.old result self.new now load }
         ensures counted { OnOk result ((self.old.arrivals < most_count) ⊎ (self.new ≡ self.old)) }
         ensures at_limit { result ≡ Err Refusal.CountLimit
             → most_count < (arrived self.old now load).1.arrivals }
@@ -60,7 +58,7 @@ impl Queue {
     ) -> Result<(Sent, bool), Refusal>
         requires moment { now ≤ most_count }
         requires enqueued { enqueued ≤ now }
-        ensures answer { Meets (self.old.arrivals ≡ most_count) result self.new (never_refused
+        ensures answer { MeetsOneMore self.old result self.new (never_refused
             (settle self.old now (brought self.old now origin body group enqueued source))) }
         ensures counted { OnOk result (self.old.arrivals < most_count) }
         ensures unchanged { OnErr result (self.new ≡ self.old) }

@@ -1,11 +1,11 @@
 //! The calls that depend on the kind of the queue, and the change of visibility, which is the same
 //! for both kinds.
 ghost use Rattle.std.specs.Prelude.{◌≡◌, ◌⊎◌, ◌<◌, ◌≤◌, Err, OnErr, OnOk};
-ghost use Rattle.sqs_model.specs.Acts.{sends};
-ghost use Rattle.sqs_model.specs.Answers.{Meets, most_count};
+ghost use Rattle.sqs_model.specs.Answers.{most_count};
 ghost use Rattle.sqs_model.specs.Calls.{change, delete, delete_gone};
 ghost use Rattle.sqs_model.specs.Progress.{IsRecent};
 ghost use Rattle.sqs_model.specs.Queue.{IsFramed};
+ghost use Rattle.sqs_queue.specs.Calls.{MeetsSend, PassesSend};
 
 use super::Queue;
 use crate::places::{is_out, out_until};
@@ -34,12 +34,10 @@ impl Queue {
     ) -> Result<Sent, Refusal>
         requires moment { now ≤ most_count }
         requires recent { IsRecent now self.old }
-        ensures answer { Meets (self.old.arrivals ≡ most_count) result self.new
-            (sends self.old.settings.kind self.old now body delay group id) }
+        ensures answer { MeetsSend self.old result self.new now body delay group id }
         ensures counted { OnOk result ((self.old.arrivals < most_count) ⊎ (self.new ≡ self.old)) }
         ensures at_limit { result ≡ Err Refusal.CountLimit
-            → most_count
-            < (sends self.old.settings.kind self.old now body delay group id).1.arrivals }
+            → PassesSend self.old now body delay group id }
         ensures unchanged { OnErr result (self.new ≡ self.old) }
         ensures framed { IsFramed self.old self.new }
         ensures recent { IsRecent now self.new }

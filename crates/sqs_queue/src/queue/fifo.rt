@@ -1,14 +1,13 @@
 //! The calls of a FIFO queue that depend on its kind: its sends, with their groups and
 //! deduplication, its deletes, and the arrival of transfers.
 ghost use Rattle.std.specs.Prelude.{◌≡◌, ◌⊎◌, ◌<◌, ◌≤◌, Err, IfErr, IfOk, OnErr, OnOk};
-ghost use Rattle.sqs_model.specs.Acts.{sends};
-ghost use Rattle.sqs_model.specs.Answers.{Meets, most_count};
+ghost use Rattle.sqs_model.specs.Answers.{most_count};
 ghost use Rattle.sqs_model.specs.Arrive.{arrived};
-ghost use Rattle.sqs_model.specs.Calls.{body_digest, deduplication_id, delete_fifo, is_bad_delay, send_in};
+ghost use Rattle.sqs_model.specs.Calls.{body_digest, deduplication_id, delete_fifo, send_in};
 ghost use Rattle.sqs_model.specs.Progress.{IsRecent};
 ghost use Rattle.sqs_model.specs.Queue.{IsFramed};
 ghost use Rattle.sqs_model.specs.Valid.{IsFifo};
-ghost use Rattle.sqs_queue.specs.Calls.{never_refused};
+ghost use Rattle.sqs_queue.specs.Calls.{MeetsArrival, MeetsOneMore, MeetsSend, PassesSend};
 ghost use Rattle.sqs_queue.specs.Fifo.{compares_bodies, scope_in};
 
 use super::Queue;
@@ -87,11 +86,9 @@ impl Queue {
         requires kind { IsFifo self.old.settings.kind }
         requires moment { now ≤ most_count }
         requires recent { IsRecent now self.old }
-        ensures answer { Meets (self.old.arrivals ≡ most_count) result self.new
-            (sends self.old.settings.kind self.old now body delay group id) }
+        ensures answer { MeetsSend self.old result self.new now body delay group id }
         ensures at_limit { result ≡ Err Refusal.CountLimit
-            → most_count
-            < (sends self.old.settings.kind self.old now body delay group id).1.arrivals }
+            → PassesSend self.old now body delay group id }
         ensures counted { OnOk result ((self.old.arrivals < most_count) ⊎ (self.new ≡ self.old)) }
         ensures unchanged { OnErr result (self.new ≡ self.old) }
         ensures recent { IsRecent now self.new }
@@ -113,13 +110,13 @@ impl Queue {
     fn send_in(&mut self, now: u64, body: Text, group: Text, id: Text) -> Result<Sent, Refusal>
         requires moment { now ≤ most_count }
         requires recent { IsRecent now self.old }
-        ensures answer { Meets (self.old.arrivals ≡ most_count) result self.new
-            (send_in self.old now body group (scope_in self.old.settings.kind group) id) }
+        ensures answer { MeetsOneMore self.old result self.new (send_in self.old now body group
+            (scope_in self.old.settings.kind group) id) }
         ensures counted { OnOk result ((self.old.arrivals < most_count) ⊎ (self.new ≡ self.old)) }
         ensures unchanged { OnErr result (self.new ≡ self.old) }
-        ensures at_limit { result ≡ Err Refusal.CountLimit
-            → most_count
-            < (send_in self.old now body group (scope_in self.old.settings.kind group) id).1.arrivals }
+        ensures at_limit { result ≡ Err Refusal.CountLimit → most_count <
+            (send_in self.old now body group (scope_in self.old.settings.kind group) id).1.arrivals
+            }
         ensures refused { IfErr result
             (λ refusal. (refusal ≡ Refusal.CountLimit) ⊎ (refusal ≡ Refusal.Memory)) }
         ensures recent { IsRecent now self.new }
@@ -175,8 +172,7 @@ impl Queue {
         requires kind { IsFifo self.old.settings.kind }
         requires moment { now ≤ most_count }
         requires recent { IsRecent now self.old }
-        ensures answer { Meets (self.old.arrivals ≡ most_count) result self.new
-            (never_refused (arrived self.old now load)) }
+        ensures answer { MeetsArrival self.old result self.new now load }
         ensures at_limit { result ≡ Err Refusal.CountLimit
             → most_count < (arrived self.old now load).1.arrivals }
         ensures counted { OnOk result ((self.old.arrivals < most_count) ⊎ (self.new ≡ self.old)) }

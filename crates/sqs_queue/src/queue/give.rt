@@ -1,12 +1,13 @@
 //! The receiving of messages.
-ghost use Rattle.std.specs.Prelude.{◌≡◌, ◌*◌, false, true, ◌<◌, ◌≤◌, ◌⊎◌, All, Any, Err, IfErr, IfOk, IfSome, OnErr, OnOk, length, map, take};
+ghost use Rattle.std.specs.Prelude.{◌≡◌, ◌*◌, false, true, ◌<◌, ◌≤◌, ◌⊎◌, All, Err, IfErr, IfOk, IfSome, OnErr, OnOk, length, map, take};
 ghost use Rattle.std.specs.Result.{result_map_both};
-ghost use Rattle.sqs_model.specs.Answers.{Meets, most_count};
+ghost use Rattle.sqs_model.specs.Answers.{most_count};
 ghost use Rattle.sqs_model.specs.Available.{available};
 ghost use Rattle.sqs_model.specs.Longest.{longest_flight};
 ghost use Rattle.sqs_model.specs.Queue.{IsFramed, numbered};
-ghost use Rattle.sqs_model.specs.Receive.{answered, give, is_bad_timeout, receive, timeout_of, to_give};
+ghost use Rattle.sqs_model.specs.Receive.{give, is_bad_timeout, receive, timeout_of, to_give};
 ghost use Rattle.sqs_queue.specs.Giving.{CanBeGiven, gives, gives_all, told_of};
+ghost use Rattle.sqs_queue.specs.Calls.{HasAllReceives, MeetsReceive};
 
 use super::Queue;
 use crate::batch::{Received, batch_of};
@@ -37,9 +38,9 @@ impl Queue {
         short: bool,
     ) -> Result<Received, Refusal>
         requires { now ≤ most_count }
-        ensures answer { Meets (Any (λ m. m.receives ≡ most_count) (to_give self.old max hosts))
-            (result_map_both (λ received. received.messages.items) (λ refusal. refusal) result)
-            self.new (receive self.old now max timeout hosts short) }
+        ensures answer { MeetsReceive self.old (result_map_both
+            (λ received. received.messages.items) (λ refusal. refusal) result) self.new now max
+            timeout hosts short }
         ensures looked { IfOk result (λ received. received.looked ≤ 2 * max) }
         ensures read { IfOk result (λ received. length received.messages.items ≤ received.looked) }
         ensures counted { OnOk result
@@ -91,7 +92,7 @@ impl Queue {
         ensures below { OnOk result
             (All (λ m. m.receives < most_count) (take most (available self.now hosts))) }
         ensures at_limit { result ≡ Err Refusal.CountLimit
-            → Any (λ m. m.receives ≡ most_count) (take most (available self.now hosts)) }
+            → HasAllReceives (take most (available self.now hosts)) }
         ensures refused { IfErr result
             (λ refusal. (refusal ≡ Refusal.CountLimit) ⊎ (refusal ≡ Refusal.Memory)) }
     {

@@ -1,13 +1,12 @@
 //! The calls of a standard queue that depend on its kind: its sends and deletes, and the arrival of
 //! transfers.
 ghost use Rattle.std.specs.Prelude.{◌≡◌, ◌<◌, ◌≤◌, OnErr, OnOk};
-ghost use Rattle.sqs_model.specs.Answers.{Meets, most_count};
-ghost use Rattle.sqs_model.specs.Arrive.{arrived};
+ghost use Rattle.sqs_model.specs.Answers.{most_count};
 ghost use Rattle.sqs_model.specs.Calls.{delete_standard, send_standard};
 ghost use Rattle.sqs_model.specs.Progress.{WasEnqueuedBy};
 ghost use Rattle.sqs_model.specs.Queue.{IsFramed};
 ghost use Rattle.sqs_model.specs.Valid.{IsStandard};
-ghost use Rattle.sqs_queue.specs.Calls.{never_refused};
+ghost use Rattle.sqs_queue.specs.Calls.{MeetsArrival, MeetsOneMore};
 
 use super::Queue;
 use sim_clock::Refusal;
@@ -25,7 +24,7 @@ impl Queue {
         delay: Option<u64>,
     ) -> Result<Sent, Refusal>
         requires { now ≤ most_count }
-        ensures answer { Meets (self.old.arrivals ≡ most_count) result self.new
+        ensures answer { MeetsOneMore self.old result self.new
             (send_standard self.old now body delay) }
         ensures counted { OnOk result (self.old.arrivals < most_count) }
         ensures unchanged { OnErr result (self.new ≡ self.old) }
@@ -82,8 +81,7 @@ impl Queue {
         requires kind { IsStandard self.old.settings.kind }
         requires moment { now ≤ most_count }
         requires enqueued { WasEnqueuedBy now load }
-        ensures answer { Meets (self.old.arrivals ≡ most_count) result self.new
-            (never_refused (arrived self.old now load)) }
+        ensures answer { MeetsArrival self.old result self.new now load }
         ensures counted { OnOk result (self.old.arrivals < most_count) }
         ensures unchanged { OnErr result (self.new ≡ self.old) }
         ensures kept { self.new.entries ≡ self.old.entries }

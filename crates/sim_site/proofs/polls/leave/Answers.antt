@@ -5,8 +5,10 @@ use Rattle.sim_index.proofs.Kept.{marked_with}
 use Rattle.sim_site.specs.Marked.{end_mark}
 use Rattle.sim_site.proofs.polls.leave.Goals as goal
 
-pub returns-clause-left : goal.returns-clause-left
-returns-clause-left c = ap (λ (s : Marked _). s.values) c.set_mark.ensures
-
-pub returns-clause-marked : goal.returns-clause-marked
-returns-clause-marked c = marked_with end_mark c.args.places.now c.set_mark.new.self c.args.place None no_mark c.requires.marked refl c.set_mark.ensures
+pub returns : goal.returns
+returns c =
+    record {
+      left =
+          ap (λ (s : Marked _). s.values) c.set_mark.ensures;
+      marked = marked_with end_mark c.args.places.now c.set_mark.new.self c.args.place None no_mark c.requires.marked refl c.set_mark.ensures;
+    }

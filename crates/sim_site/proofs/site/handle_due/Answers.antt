@@ -4,8 +4,13 @@ use Rattle.sim_site.proofs.Due.{arrives_timely, least_is_due}
 use Rattle.sim_site.proofs.Taking.{Takes, arrival_done, first_arrives}
 use Rattle.sim_site.proofs.site.handle_due.Goals as goal
 
-pub handle-requires-clause-due : goal.handle-requires-clause-due
-handle-requires-clause-due c = least_is_due (record { core = c.args.core.now; arriving = c.args.arriving.now }) c.args.handling.now.key c.requires.due (search rules)
+pub handle-requires : goal.handle-requires
+handle-requires c =
+    record {
+      agent = c.requires.agent;
+      recent = c.requires.recent;
+      due = least_is_due (record { core = c.args.core.now; arriving = c.args.arriving.now }) c.args.handling.now.key c.requires.due (search rules);
+    }
 
 pub handle_arrival-requires-clause-enqueued : goal.handle_arrival-requires-clause-enqueued
 handle_arrival-requires-clause-enqueued c =

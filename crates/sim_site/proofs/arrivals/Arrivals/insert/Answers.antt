@@ -32,14 +32,22 @@ invariant_of-self-else-len-lt-SOON c =
     still_in_order c.insert_into_full.result c.args.transfer (c.self.inside.soon.items ++ c.self.inside.later) (c.insert_into_full.new.soon.items ++ c.insert_into_full.new.later) c.self.invariant
     c.insert_into_full.ensures.added c.insert_into_full.ensures.same
 
-pub returns-then-not-comes_first-clause-added : goal.returns-then-not-comes_first-clause-added
-returns-then-not-comes_first-clause-added c =
-    let behind : ComesBehind (transfer_key c.args.transfer) c.self.inside.later = subst (λ k. ComesBehind k c.self.inside.later) c.key.ensures (search rules) in
-    subst (λ ts. OnOk c.insert.result (c.self.inside.soon.items ++ c.insert.new.self ≡ inserted_by (on transfer_key key_cmp) c.args.transfer ts)) c.self.view_is
-    (more_behind c.insert.result c.args.transfer c.self.inside.soon.items c.self.inside.later c.insert.new.self c.self.invariant behind c.insert.ensures.added)
+pub returns-then-not-comes_first : goal.returns-then-not-comes_first
+returns-then-not-comes_first c =
+    record {
+      added =
+          let behind : ComesBehind (transfer_key c.args.transfer) c.self.inside.later = subst (λ k. ComesBehind k c.self.inside.later) c.key.ensures (search rules) in
+          subst (λ ts. OnOk c.insert.result (c.self.inside.soon.items ++ c.insert.new.self ≡ inserted_by (on transfer_key key_cmp) c.args.transfer ts)) c.self.view_is
+          (more_behind c.insert.result c.args.transfer c.self.inside.soon.items c.self.inside.later c.insert.new.self c.self.invariant behind c.insert.ensures.added);
+      same = search rules;
+    }
 
-pub returns-then-len-lt-SOON-clause-added : goal.returns-then-len-lt-SOON-clause-added
-returns-then-len-lt-SOON-clause-added c =
-    let first : ComesFirst (transfer_key c.args.transfer) c.self.inside.later = subst (λ k. ComesFirst k c.self.inside.later) c.key.ensures (search rules) in
-    subst (λ ts. OnOk c.insert_soon.result (c.insert_soon.new.soon.items ++ c.self.inside.later ≡ inserted_by (on transfer_key key_cmp) c.args.transfer ts)) c.self.view_is
-    (more_among c.insert_soon.result c.args.transfer c.self.inside.soon.items c.self.inside.later c.insert_soon.new.soon.items first c.insert_soon.ensures.added)
+pub returns-then-len-lt-SOON : goal.returns-then-len-lt-SOON
+returns-then-len-lt-SOON c =
+    record {
+      added =
+          let first : ComesFirst (transfer_key c.args.transfer) c.self.inside.later = subst (λ k. ComesFirst k c.self.inside.later) c.key.ensures (search rules) in
+          subst (λ ts. OnOk c.insert_soon.result (c.insert_soon.new.soon.items ++ c.self.inside.later ≡ inserted_by (on transfer_key key_cmp) c.args.transfer ts)) c.self.view_is
+          (more_among c.insert_soon.result c.args.transfer c.self.inside.soon.items c.self.inside.later c.insert_soon.new.soon.items first c.insert_soon.ensures.added);
+      same = search rules;
+    }

@@ -10,7 +10,11 @@ invariant_of-self-2 c =
     one_inserted c.self.inside.first c.self.inside.next c.args.transfer c.self.inside.map.entries c.insert.new.self.entries c.key.result _ c.self.invariant c.key.ensures c.in_ok-insert.ensures.entries
     (search rules) c.in_ok-insert.ensures.ordered
 
-pub returns-clause-added : goal.returns-clause-added
-returns-clause-added c =
-    values_inserted c.self.inside.first c.self.inside.next c.args.transfer c.self.inside.map.entries c.insert.new.self.entries c.key.result c.self.invariant c.key.ensures c.in_ok-insert.ensures.entries
-    ∙ ap (inserted_by (on transfer_key key_cmp) c.args.transfer) c.self.view_is
+pub returns : goal.returns
+returns c =
+    record {
+      added =
+          values_inserted c.self.inside.first c.self.inside.next c.args.transfer c.self.inside.map.entries c.insert.new.self.entries c.key.result c.self.invariant c.key.ensures c.in_ok-insert.ensures.entries
+          ∙ ap (inserted_by (on transfer_key key_cmp) c.args.transfer) c.self.view_is;
+      same = search rules;
+    }

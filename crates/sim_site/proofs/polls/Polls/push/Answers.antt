@@ -1,4 +1,4 @@
-use Rattle.std.proofs.Common.{[], Some, ap, arith, length, ◌++◌, ◌∙◌, ◌∷◌}
+use Rattle.std.proofs.Common.{[], Some, ap, arith, length, ◌++◌, ◌∙◌, ◌∷◌, rules}
 use Rattle.std.proofs.lemmas.List.{length_push}
 use Rattle.sim_index.proofs.Kept.{marked_more}
 use Rattle.sim_site.specs.Marked.{end_mark}
@@ -17,7 +17,11 @@ invariant_of-self-2 c =
     added_waiting xs c.push.new.self c.args.poll c.self.inside.count c.self.invariant.counted (added_waits xs c.make_room.new.places.values c.push.new.self.values c.args.poll c.make_room.ensures.polls added.values)
     (marked_more end_mark c.make_room.new.places c.push.new.self (Some c.args.poll) c.mark_of.result c.make_room.ensures.marked added.values added.marks c.mark_of.ensures)
 
-pub returns-clause-added : goal.returns-clause-added
-returns-clause-added c =
-    added_waits c.self.inside.places.values c.make_room.new.places.values c.push.new.self.values c.args.poll c.make_room.ensures.polls c.in_ok-push.ensures.values
-    ∙ ap (λ ps. ps ++ c.args.poll ∷ []) c.self.view_is
+pub returns : goal.returns
+returns c =
+    record {
+      added =
+          added_waits c.self.inside.places.values c.make_room.new.places.values c.push.new.self.values c.args.poll c.make_room.ensures.polls c.in_ok-push.ensures.values
+          ∙ ap (λ ps. ps ++ c.args.poll ∷ []) c.self.view_is;
+      same = search rules;
+    }

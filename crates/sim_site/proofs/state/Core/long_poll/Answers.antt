@@ -18,7 +18,7 @@ use Rattle.sim_site.proofs.state.Core.long_poll.Goals as goal
 pub returns-in-Ok : goal.returns-in-Ok
 returns-in-Ok c a e =
     let key = c.args.handling.now.key in
-    let all = ap (λ (x : Core). all_hosts x.queue.settings.kind) c.self.view_is ∙ c.requires.all ∙ sym c.all_hosts_of-set.ensures in
+    let all = ap (λ (x : Core). all_hosts x.queue.settings.kind) c.self.view_is ∙ c.requires.hosts.all ∙ sym c.all_hosts_of-set.ensures in
     let received = c.in_ok-gots.ensures.received ∙ ap (λ r. (result_map_both (λ b. b.items) (λ x. x) r, c.received_by.new.queue)) c.in-Ok.is in
     let is = long_is key a (the_view c.self.inside) c.args.max c.args.timeout c.args.wait c.all_hosts_of-set.result c.received_by.new.queue c.in-Ok.gots.items all received c.in_ok-gots.ensures.framed.site in
     subst
@@ -29,7 +29,7 @@ returns-in-Ok c a e =
 pub returns-in_ok-say-in-Err : goal.returns-in_ok-say-in-Err
 returns-in_ok-say-in-Err c a e =
     let key = c.args.handling.now.key in
-    let all = ap (λ (x : Core). all_hosts x.queue.settings.kind) c.self.view_is ∙ c.requires.all ∙ sym c.all_hosts_of-set.ensures in
+    let all = ap (λ (x : Core). all_hosts x.queue.settings.kind) c.self.view_is ∙ c.requires.hosts.all ∙ sym c.all_hosts_of-set.ensures in
     let received = c.in_ok-gots.ensures.received ∙ ap (λ r. (result_map_both (λ b. b.items) (λ x. x) r, c.received_by.new.queue)) c.in-Err.is in
     let same = subst (λ r. OnErr r (c.received_by.new.queue ≡ c.self.inside.queue)) c.in-Err.is c.in_ok-gots.ensures.unchanged in
     λ f. (
@@ -45,7 +45,7 @@ pub returns-in_err-gots : goal.returns-in_err-gots
 returns-in_err-gots c a e f =
     let key = c.args.handling.now.key in
     let core : Core = the_view c.self.inside in
-    let all = ap (λ (x : Core). all_hosts x.queue.settings.kind) c.self.view_is ∙ c.requires.all ∙ sym c.all_hosts_of-set.ensures in
+    let all = ap (λ (x : Core). all_hosts x.queue.settings.kind) c.self.view_is ∙ c.requires.hosts.all ∙ sym c.all_hosts_of-set.ensures in
     stops_up _ _ (PassesCount (long_poll key a c.args.self.now c.args.max c.args.wait c.args.timeout).effect) c.from_residual.result c.in_err-gots.field-0.0 c.from_residual.ensures.1
     (λ h. subst (λ (x : Core). PassesCount (long_poll key a x c.args.max c.args.wait c.args.timeout).effect) c.self.view_is
     (subst (λ s. PassesCount (receive_made key a core core c.args.max c.args.wait c.args.timeout (receive core.queue key.at c.args.max c.args.timeout s false)).effect) (sym all)
