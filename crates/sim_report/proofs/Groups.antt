@@ -21,10 +21,11 @@ use Rattle.sim_report.proofs.Ascending.{length-ascending, sum_by-ascending}
 use Rattle.sim_report.proofs.Tallies.{tallied-is}
 
 -- of each group, what its members make
-grouped : {X Y A : Type 0} → (X → ℕ) → (Y → List X → A) → ℕ → List Y → List X → List A
+unfoldable pub grouped : {X Y A : Type 0} → (X → ℕ) → (Y → List X → A) → ℕ → List Y → List X → List A
 grouped key make m ys xs = map (λ q. make q.1 (filter (λ x. key x == q.0) xs)) (enumerate_from m ys)
 
-filter-push : {X : Type 0} (p : X → Bool) (xs : List X) (x : X) → filter p (xs ++ x ∷ []) ≡ cond (p x) (filter p xs ++ x ∷ []) (filter p xs)
+-- what is chosen, with one more element
+pub filter-push : {X : Type 0} (p : X → Bool) (xs : List X) (x : X) → filter p (xs ++ x ∷ []) ≡ cond (p x) (filter p xs ++ x ∷ []) (filter p xs)
 filter-push {X} p xs x =
     filter-append p xs (x ∷ []) ∙ elim (p x) as (λ b. filter p xs ++ cond b (x ∷ []) [] ≡ cond b (filter p xs ++ x ∷ []) (filter p xs)) [ true ↦ refl | false ↦ append-nil (filter p xs) ]
 
@@ -35,7 +36,7 @@ filter-own : {X : Type 0} (key : X → ℕ) (n : ℕ) (xs : List X) (x : X) → 
 filter-own {X} key n xs x e = filter-push (λ y. key y == n) xs x ∙ ap (λ b. cond b (filter (λ y. key y == n) xs ++ x ∷ []) (filter (λ y. key y == n) xs)) e
 
 -- a member of an earlier group changes nothing
-grouped-later : {X Y A : Type 0} (key : X → ℕ) (make : Y → List X → A) (m : ℕ) (ys : List Y) (xs : List X) (x : X)
+pub grouped-later : {X Y A : Type 0} (key : X → ℕ) (make : Y → List X → A) (m : ℕ) (ys : List Y) (xs : List X) (x : X)
     → key x < m → grouped key make m ys (xs ++ x ∷ []) ≡ grouped key make m ys xs
 unfolding grouped
 grouped-later key make m [] xs x h = refl
@@ -45,7 +46,7 @@ grouped-later key make m (y ∷ ys) xs x h =
     cc
 
 -- a member changes what its own group makes
-grouped-at : {X Y A : Type 0} (key : X → ℕ) (make : Y → List X → A) (step : A → A) (i m : ℕ) (ys : List Y) (xs : List X) (x : X)
+pub grouped-at : {X Y A : Type 0} (key : X → ℕ) (make : Y → List X → A) (step : A → A) (i m : ℕ) (ys : List Y) (xs : List X) (x : X)
     → ((y : Y) (zs : List X) → make y (zs ++ x ∷ []) ≡ step (make y zs)) → key x ≡ m + i → grouped key make m ys (xs ++ x ∷ []) ≡ changed step i (grouped key make m ys xs)
 unfolding grouped
 grouped-at key make step i m [] xs x one h = refl
@@ -108,7 +109,7 @@ lefts-append queues before (m ∷ messages) =
     ∙ ap (lefts queues) (append_assoc before (m ∷ []) messages)
 
 -- a rank of ages in ascending order
-rank-ascending : (p : ℕ) (ns : List ℕ) → rank_in p (ascending ns) ≡ rank p ns
+pub rank-ascending : (p : ℕ) (ns : List ℕ) → rank_in p (ascending ns) ≡ rank p ns
 rank-ascending p ns = ap (λ n. slice_get (ascending ns) ((p * n + 99) / 100 - 1)) (length-ascending ns)
 
 -- the columns of a queue are those of the definitions
