@@ -1,6 +1,7 @@
 -- The running figures keep to the definitions of the figures.
-use Rattle.std.proofs.Common.{◌≡◌, ℕ, ◌+◌, ◌-◌, Bool, true, false, cond, nat_lt, nat_le, Some, None, List, [], ◌∷◌, ◌++◌, length, map, refl, sym, ap, ◌∙◌, arith}
+use Rattle.std.proofs.Common.{◌≡◌, ℕ, ◌+◌, ◌-◌, Bool, true, false, cond, nat_lt, nat_le, Option, Some, None, List, [], ◌∷◌, ◌++◌, length, map, refl, sym, ap, ◌∙◌, arith}
 use Rattle.std.specs.List.{enumerate_from}
+use Rattle.std.specs.Prelude.{option_map}
 use Rattle.std.proofs.lemmas.List.{append-nil, append_assoc, length-map}
 use Rattle.std.proofs.lemmas.List.FromFn.{length-enumerate_from}
 use Rattle.std.proofs.lemmas.List.Sums.{fold_push}
@@ -11,7 +12,7 @@ use Rattle.sim_report.specs.declared.level.Level.{Level}
 use Rattle.sim_report.specs.declared.stretch.Stretch.{Stretch}
 use Rattle.sim_report.specs.Facts.{fact_of}
 use Rattle.sim_report.specs.Figures.{count_names, count_of_row, counts_of, depths_from, is_within, rows_before, rows_by, rows_within}
-use Rattle.sim_report.specs.Figured.{actor_state, actor_with, depth_at, figured, figures_with, fresh_actor, highest, level_of, level_with, one_in, queue_counting, queue_levelled, queue_state, queue_with, raised}
+use Rattle.sim_report.specs.Figured.{actor_state, actor_with, depth_at, figured, figures_after, figures_with, fresh_actor, highest, level_of, level_with, one_in, queue_counting, queue_levelled, queue_state, queue_with, raised}
 use Rattle.sim_report.specs.Running.{changed}
 use Rattle.sim_report.specs.Tally.{counted}
 use Rattle.sim_report.proofs.Groups.{filter-push, grouped, grouped-at, grouped-later}
@@ -112,3 +113,18 @@ figured-push queues actors s rows row =
         (λ name rs. queue-push n s name rs row (is_within s row) refl) (omega arith) in
     let others = actors-push n actors s rows row (nat_le n row.agent) refl in
     rw (many, own, others) refl
+
+-- the figures with more rows
+pub figured-append : (queues actors : List (List ℕ)) (s : Stretch) (before rows : List Row)
+    → figures_after rows (figured queues actors s before) ≡ figured queues actors s (before ++ rows)
+figured-append queues actors s before [] = ap (figured queues actors s) (sym (append-nil before))
+figured-append queues actors s before (row ∷ rows) =
+    ap (figures_after rows) (figured-push queues actors s before row)
+    ∙ figured-append queues actors s (before ++ row ∷ []) rows
+    ∙ ap (figured queues actors s) (append_assoc before (row ∷ []) rows)
+
+-- the same where figures may be wanted
+pub asked-append : (queues actors : List (List ℕ)) (stretch : Option Stretch) (before rows : List Row)
+    → option_map (figures_after rows) (option_map (λ s. figured queues actors s before) stretch) ≡ option_map (λ s. figured queues actors s (before ++ rows)) stretch
+asked-append queues actors None before rows = refl
+asked-append queues actors (Some s) before rows = ap Some (figured-append queues actors s before rows)

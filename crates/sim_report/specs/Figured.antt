@@ -166,6 +166,10 @@ figures_with f t =
       of_actors = actors_with (length t.of_queues) t.stretch f t.of_actors;
     }
 
+-- with more rows
+abbrev pub figures_after : List Row → FiguresState → FiguresState
+figures_after rows t = fold (λ t row. figures_with (fact_of row) t) t rows
+
 -- after these rows, of the queues and the actors with these names; the queues are the first agents
 unfoldable pub figured : List (List ℕ) → List (List ℕ) → Stretch → List Row → FiguresState
 figured queues actors s rows =

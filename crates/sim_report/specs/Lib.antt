@@ -6,3 +6,4 @@ pub mod Compared
 pub mod Figures
 pub mod Facts
 pub mod Figured
+pub mod Reports

@@ -43,9 +43,9 @@ rows_added queues rows = fold row_added queues rows
 abbrev pub queue_counts : List Row → ℕ × List ℕ → QueueCounts
 queue_counts rows queue = record { name = queue.1; tally = tally_of (rows_of queue.0 rows) }
 
--- the report after these rows: of each queue, by its name, the counts over its rows among them
-unfoldable pub running : List (List ℕ) → List Row → List QueueCounts
-running queues rows = map (queue_counts rows) (enumerate_from 0 queues)
+-- the counts after these rows: of each queue, by its name, those over its rows among them
+unfoldable pub queues_running : List (List ℕ) → List Row → List QueueCounts
+queues_running queues rows = map (queue_counts rows) (enumerate_from 0 queues)
 
 -- what is left of all queues with one more message, which counts at its own queue alone
 abbrev pub message_added : List Left → FinalMessage → List Left

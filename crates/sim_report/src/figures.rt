@@ -3,7 +3,7 @@ ghost use Rattle.std.specs.Prelude.{◌≡◌, ℕ, ◌∷◌, ◌++◌, [], fla
 ghost use Rattle.sqs_message.specs.declared.row.Row.{Row as TheRow};
 ghost use Rattle.sim_report.specs.Facts.{fact_of};
 ghost use Rattle.sim_report.specs.declared.stretch.Stretch.{Stretch as TheStretch};
-ghost use Rattle.sim_report.specs.Figured.{actor_records, actors_with, figured, figures_with, fresh_actor, fresh_queue, queue_records, queue_with};
+ghost use Rattle.sim_report.specs.Figured.{actor_records, actors_with, figured, figures_after, figures_with, fresh_actor, fresh_queue, queue_records, queue_with};
 ghost use Rattle.sim_report.specs.Figures.{figures_text};
 ghost use Rattle.sqs_formats.specs.Rows.{lines};
 ghost use Rattle.sim_report.specs.Running.{changed};
@@ -13,7 +13,7 @@ use crate::fact::Fact;
 use crate::queue_figures::QueueFigures;
 use crate::stretch::Stretch;
 use sim_records::Lines;
-use sqs_message::Text;
+use sqs_message::{Row, Text};
 use std::alloc::{AllocError, Global};
 use std::marker::Model;
 
@@ -158,6 +158,20 @@ impl Figures {
         let queues = self.of_queues.len();
         take_at_queue(self.of_queues.as_mut_slice(), self.stretch, fact)?;
         take_at_actor(self.of_actors.as_mut_slice(), queues, self.stretch, fact)
+    }
+
+    /// Takes in what rows say, one after another.
+    ///
+    /// # Errors
+    ///
+    /// Those of `take`.
+    pub fn take_rows(&mut self, rows: &[Row]) -> Result<(), AllocError>
+        ensures { OnOk result (self.new ≡ figures_after rows.now self.old) }
+    {
+        for row in rows {
+            self.take(Fact::of(row))?;
+        }
+        Ok(())
     }
 
     /// The figures as text: a header, and a line for each figure of each queue and actor.

@@ -1,16 +1,18 @@
 //! The report of a run.
-ghost use Rattle.std.specs.Prelude.{◌≡◌, ◌++◌, ℕ, List, [], false, IfOk, OnOk};
+ghost use Rattle.std.specs.Prelude.{◌≡◌, ◌++◌, ℕ, List, [], false, option_map, IfOk, OnOk};
 ghost use Rattle.sim_report.specs.Left.{lefts};
-ghost use Rattle.sim_report.specs.Running.{count_added, running};
+ghost use Rattle.sim_report.specs.Figured.{figures_after};
+ghost use Rattle.sim_report.specs.Reports.{Asked, fact_added, figures_asked, figures_if, running};
 ghost use Rattle.sim_records.specs.Writes.{Wrote};
 ghost use Rattle.sqs_message.specs.declared.row.Row.{Row};
 ghost use Rattle.sqs_model.specs.declared.finals.Finals.{Finals as TheFinals};
 ghost use Rattle.sqs_formats.specs.Comparison.{comparison};
 ghost use Rattle.sqs_formats.specs.Report.{report, report_text};
 
-use crate::column::RowCount;
 use crate::columns::{QueueColumns, columns_of};
 use crate::comparison::comparison_lines;
+use crate::fact::Fact;
+use crate::figures::Figures;
 use crate::left::MessagesLeft;
 use crate::queue::{QueueCounts, add_count, add_rows, fresh_queues};
 use crate::writing::report_lines;
@@ -21,33 +23,50 @@ use sqs_model::Finals;
 use std::alloc::{AllocError, Global};
 use std::marker::Model;
 
-/// The counts of each queue over the rows so far, from which the report is written. The rows
-/// themselves are not kept.
+/// The counts of each queue over the rows so far, from which the report is written, and the figures
+/// over these rows, if they are wanted. The rows themselves are not kept.
 #[derive(Drop)]
 pub struct Report {
     queues: Vec<QueueCounts>,
+    figures: Option<Figures>,
 }
 
 impl Model for Report {
-    ghost use Rattle.std.specs.Prelude.{List};
-    ghost use Rattle.sim_report.specs.declared.queue.QueueCounts.{QueueCounts};
+    ghost use Rattle.sim_report.specs.Reports.{Counts};
 
-    ghost Value = { List QueueCounts };
+    ghost Value = { Counts };
 
-    ghost view = { λ r. r.queues.items };
+    ghost view = { λ r. record { queues = r.queues.items; figures = r.figures } };
+}
+
+// Adds rows to figures, if there are figures.
+fn add_to_figures(figures: &mut Option<Figures>, rows: &[Row]) -> Result<(), AllocError>
+    ensures { OnOk result (figures.new ≡ option_map (figures_after rows.now) figures.old) }
+{
+    if let Some(figures) = figures {
+        figures.take_rows(rows)?;
+    }
+    Ok(())
 }
 
 impl Report {
-    /// The report of no rows, of the queues with these names, by number.
+    /// The report of no rows, of the queues with these names, by number, with figures of no rows if
+    /// figures are wanted.
     ///
     /// # Errors
     ///
     /// `AllocError` if a growth is refused.
-    pub fn new(alloc: Global, names: Vec<Text>) -> Result<Report, AllocError>
-        ensures { IfOk result (λ r. r ≡ running names.items []) }
+    pub fn new(
+        alloc: Global,
+        names: Vec<Text>,
+        figures: Option<Figures>,
+    ) -> Result<Report, AllocError>
+        ensures { (asked : Asked) → names.items ≡ asked.queues → figures ≡ figures_asked asked []
+            → IfOk result (λ r. r ≡ running asked []) }
     {
         Ok(Report {
             queues: fresh_queues(alloc, names)?,
+            figures,
         })
     }
 
@@ -58,21 +77,26 @@ impl Report {
     /// `AllocError` if a growth is refused. The report may then have some of the rows, and must not
     /// be used again.
     pub fn add(&mut self, rows: &[Row]) -> Result<(), AllocError>
-        ensures { (names : List (List ℕ)) (before : List Row) → self.old ≡ running names before
-            → OnOk result (self.new ≡ running names (before ++ rows.now)) }
+        ensures { (asked : Asked) (before : List Row) → self.old ≡ running asked before
+            → OnOk result (self.new ≡ running asked (before ++ rows.now)) }
     {
-        add_rows(self.queues.as_mut_slice(), rows)
+        add_rows(self.queues.as_mut_slice(), rows)?;
+        add_to_figures(&mut self.figures, rows)
     }
 
-    /// Adds what another row counts. A row of a queue whose number is past the last is not counted.
+    /// Adds what another row says. A row of a queue whose number is past the last is not counted.
     ///
     /// # Errors
     ///
     /// Those of `add`.
-    pub fn add_count(&mut self, count: RowCount) -> Result<(), AllocError>
-        ensures { OnOk result (self.new ≡ count_added self.old count) }
+    pub fn add_fact(&mut self, fact: Fact) -> Result<(), AllocError>
+        ensures { OnOk result (self.new ≡ fact_added self.old fact) }
     {
-        add_count(self.queues.as_mut_slice(), count)
+        add_count(self.queues.as_mut_slice(), fact.count)?;
+        if let Some(figures) = &mut self.figures {
+            figures.take(fact)?;
+        }
+        Ok(())
     }
 
     /// No messages that are left of its queues, to which those are added that are.
@@ -81,14 +105,14 @@ impl Report {
     ///
     /// `AllocError` if a growth is refused.
     pub fn none_left(&self, alloc: Global) -> Result<MessagesLeft, AllocError>
-        ensures { IfOk result (λ left. left ≡ lefts self.now []) }
+        ensures { IfOk result (λ left. left ≡ lefts self.now.queues []) }
     {
         MessagesLeft::none(alloc, self.queues.as_slice())
     }
 
     // How many messages of each queue are left at the end of a run.
     fn left(&self, alloc: Global, finals: &Finals) -> Result<MessagesLeft, AllocError>
-        ensures { IfOk result (λ left. left ≡ lefts self.now finals.now.messages) }
+        ensures { IfOk result (λ left. left ≡ lefts self.now.queues finals.now.messages) }
     {
         let mut left = self.none_left(alloc)?;
         left.add(finals.messages.as_slice())?;
@@ -109,9 +133,9 @@ impl Report {
     ) -> Result<(), Refusal>
         requires { (W.state out.old).failed ≡ false }
         ensures works { OnOk result ((W.state out.new).failed ≡ false) }
-        ensures written { (names : List (List ℕ)) (rows : List Row) → self.now ≡ running names rows
+        ensures written { (asked : Asked) (rows : List Row) → self.now ≡ running asked rows
             → Wrote (W.state out.old) (W.state out.new)
-            (report_text (report names rows finals.now)) result }
+            (report_text (report asked.queues rows finals.now)) result }
     {
         let left = self.left(alloc, finals)?;
         self.write_counted(alloc, out, &left)
@@ -131,13 +155,33 @@ impl Report {
     ) -> Result<(), Refusal>
         requires { (W.state out.old).failed ≡ false }
         ensures works { OnOk result ((W.state out.new).failed ≡ false) }
-        ensures written { (names : List (List ℕ)) (rows : List Row) (finals : TheFinals)
-            → self.now ≡ running names rows → left.now ≡ lefts self.now finals.messages
+        ensures written { (asked : Asked) (rows : List Row) (finals : TheFinals)
+            → self.now ≡ running asked rows → left.now ≡ lefts self.now.queues finals.messages
             → Wrote (W.state out.old) (W.state out.new)
-            (report_text (report names rows finals)) result }
+            (report_text (report asked.queues rows finals)) result }
     {
         let columns = self.columns(alloc, left)?;
         let text = report_lines(alloc, columns.as_slice())?;
+        write_all(out, text.as_slice())?;
+        Ok(())
+    }
+
+    /// Writes the figures, if they are wanted.
+    ///
+    /// # Errors
+    ///
+    /// `Memory` if a growth is refused: nothing is written. `Write` if the writer fails: a prefix
+    /// of the lines is written.
+    pub fn write_figures<W: Out>(&self, alloc: Global, out: &mut W) -> Result<(), Refusal>
+        requires { (W.state out.old).failed ≡ false }
+        ensures works { OnOk result ((W.state out.new).failed ≡ false) }
+        ensures written { (asked : Asked) (rows : List Row) → self.now ≡ running asked rows
+            → Wrote (W.state out.old) (W.state out.new) (figures_if asked rows) result }
+    {
+        let Some(figures) = &self.figures else {
+            return Ok(());
+        };
+        let text = figures.text(alloc)?;
         write_all(out, text.as_slice())?;
         Ok(())
     }
@@ -148,9 +192,9 @@ impl Report {
         alloc: Global,
         left: &MessagesLeft,
     ) -> Result<Vec<QueueColumns<'a>>, AllocError>
-        ensures { (names : List (List ℕ)) (rows : List Row) (finals : TheFinals)
-            → self.now ≡ running names rows → left.now ≡ lefts self.now finals.messages
-            → IfOk result (λ v. v.items ≡ report names rows finals) }
+        ensures { (asked : Asked) (rows : List Row) (finals : TheFinals)
+            → self.now ≡ running asked rows → left.now ≡ lefts self.now.queues finals.messages
+            → IfOk result (λ v. v.items ≡ report asked.queues rows finals) }
     {
         columns_of(alloc, self.queues.as_slice(), left.of_queues())
     }
@@ -161,8 +205,8 @@ impl Report {
         alloc: Global,
         finals: &Finals,
     ) -> Result<Vec<QueueColumns<'a>>, AllocError>
-        ensures { (names : List (List ℕ)) (rows : List Row) → self.now ≡ running names rows
-            → IfOk result (λ v. v.items ≡ report names rows finals.now) }
+        ensures { (asked : Asked) (rows : List Row) → self.now ≡ running asked rows
+            → IfOk result (λ v. v.items ≡ report asked.queues rows finals.now) }
     {
         let left = self.left(alloc, finals)?;
         self.columns(alloc, &left)
@@ -185,11 +229,11 @@ pub fn compare<W: Out>(
 ) -> Result<(), Refusal>
     requires { (W.state out.old).failed ≡ false }
     ensures works { OnOk result ((W.state out.new).failed ≡ false) }
-    ensures written { (names : List (List ℕ)) (rows : List Row) (others : List (List ℕ)) (other_rows : List Row)
-        → first.entry.0.now ≡ running names rows → second.entry.0.now ≡ running others other_rows
+    ensures written { (asked other : Asked) (rows other_rows : List Row)
+        → first.entry.0.now ≡ running asked rows → second.entry.0.now ≡ running other other_rows
         → Wrote (W.state out.old) (W.state out.new)
-        (comparison (report names rows first.entry.1.now)
-        (report others other_rows second.entry.1.now)) result }
+        (comparison (report asked.queues rows first.entry.1.now)
+        (report other.queues other_rows second.entry.1.now)) result }
 {
     let before = first.0.columns_at_end(alloc, first.1)?;
     let after = second.0.columns_at_end(alloc, second.1)?;
