@@ -6,3 +6,4 @@ pub mod Comparing
 mod Figuring
 mod Named
 mod FiguresEnd
+pub mod Reporting

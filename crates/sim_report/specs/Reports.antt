@@ -1,9 +1,10 @@
 -- A report during a run: the running counts of queues, and figures if they are asked for.
-use Rattle.std.specs.Prelude.{ℕ, List, [], Option, None, option_map, unwrap_or}
+use Rattle.std.specs.Prelude.{ℕ, List, [], Option, None, fold, option_map, unwrap_or}
 use Rattle.sqs_message.specs.declared.row.Row.{Row}
 use Rattle.sim_report.specs.declared.fact.Fact.{Fact}
 use Rattle.sim_report.specs.declared.queue.QueueCounts.{QueueCounts}
 use Rattle.sim_report.specs.declared.stretch.Stretch.{Stretch}
+use Rattle.sim_report.specs.Facts.{fact_of}
 use Rattle.sim_report.specs.Figured.{FiguresState, figured, figures_with}
 use Rattle.sim_report.specs.Figures.{figures_text}
 use Rattle.sim_report.specs.Running.{count_added, queues_running}
@@ -34,6 +35,10 @@ running asked rows = record { queues = queues_running asked.queues rows; figures
 -- with what one more row says
 abbrev pub fact_added : Counts → Fact → Counts
 fact_added c f = record { queues = count_added c.queues f.count; figures = option_map (figures_with f) c.figures }
+
+-- with what more rows say
+abbrev pub facts_added : Counts → List Row → Counts
+facts_added c rows = fold (λ c row. fact_added c (fact_of row)) c rows
 
 -- the figures over these rows as text, if they are asked for
 abbrev pub figures_if : Asked → List Row → List ℕ

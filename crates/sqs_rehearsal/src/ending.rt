@@ -1,16 +1,18 @@
 //! The end of a run, as it is written: the state of its sites and its report. The messages that are
 //! left are made into lines some at a time, so that no list of them all is held beside the sites.
-ghost use Rattle.std.specs.Prelude.{◌≡◌, ◌≤◌, ◌∷◌, ◌++◌, [], List, false, true, flat_map, IfOk, length, map, OnOk};
+ghost use Rattle.std.specs.Prelude.{◌≡◌, ◌≤◌, ◌∷◌, ◌++◌, [], List, false, true, flat_map, IfOk, length, map, OnOk, Option};
 ghost use Rattle.sim_records.specs.Writes.{WroteSeveral};
 ghost use Rattle.sim_report.specs.Left.{lefts};
-ghost use Rattle.sim_report.specs.Running.{running};
+ghost use Rattle.sim_report.specs.Reports.{running};
 ghost use Rattle.sim_report.specs.declared.queue.QueueCounts.{QueueCounts};
 ghost use Rattle.sqs_formats.specs.Finals.{finals_text, message_fields, message_header, task_fields, task_header, transfer_fields, transfer_header};
-ghost use Rattle.sqs_formats.specs.Output.{ending_of, queue_names};
+ghost use Rattle.sqs_formats.specs.Output.{ending_of};
 ghost use Rattle.sqs_formats.specs.Rows.{lines};
 ghost use Rattle.sqs_model.specs.Finals.{final_message, finals_of, messages_at};
 ghost use Rattle.sqs_model.specs.Run.{Run};
 ghost use Rattle.sqs_model.specs.Scenario.{Scenario as TheScenario};
+ghost use Rattle.sim_report.specs.declared.stretch.Stretch.{Stretch as TheStretch};
+ghost use Rattle.sqs_rehearsal.specs.Endings.{asked_of, ending_with};
 ghost use Rattle.sqs_model.specs.declared.finals.FinalMessage.{FinalMessage as TheMessage};
 
 use crate::finals::{final_message, tasks_of, transfers_of};
@@ -161,22 +163,42 @@ fn write_left<W: Out>(
 ) -> Result<(), Refusal>
     requires { (W.state out.old).failed ≡ false }
     ensures works { OnOk result ((W.state out.new).failed ≡ false) }
-    ensures written { (s : TheScenario) (r : Run) → names.now ≡ s.names
-        → report.now ≡ running (queue_names s) r.rows → sites.now ≡ r.sites
-        → WroteSeveral (W.state out.old) (W.state out.new) (ending_of s r)
-        result }
+    ensures written { (s : TheScenario) (r : Run) (figures : Option TheStretch)
+        → names.now ≡ s.names → report.now ≡ running (asked_of s figures) r.rows
+        → sites.now ≡ r.sites
+        → WroteSeveral (W.state out.old) (W.state out.new) (ending_of s r) result }
 {
     let mut left = report.none_left(alloc)?;
     write_state(alloc, out, sites, names, &mut left)?;
     report.write_counted(alloc, out, &left)
 }
 
-/// Writes the state of a run's sites at its end and then its report, and flushes the writer.
+// Writes the state of a run's sites, then its report, and then its figures, if they are wanted.
+fn write_parts<W: Out>(
+    alloc: Global,
+    out: &mut W,
+    sites: &[Site],
+    names: &Names,
+    report: &Report,
+) -> Result<(), Refusal>
+    requires { (W.state out.old).failed ≡ false }
+    ensures works { OnOk result ((W.state out.new).failed ≡ false) }
+    ensures written { (s : TheScenario) (r : Run) (figures : Option TheStretch)
+        → names.now ≡ s.names → report.now ≡ running (asked_of s figures) r.rows
+        → sites.now ≡ r.sites
+        → WroteSeveral (W.state out.old) (W.state out.new) (ending_with s figures r) result }
+{
+    write_left(alloc, out, sites, names, report)?;
+    report.write_figures(alloc, out)
+}
+
+/// Writes the state of a run's sites at its end, then its report, and then its figures, if they are
+/// wanted, and flushes the writer.
 /// `names` has the names of all agents.
 ///
 /// # Errors
 ///
-/// `Memory` if a growth is refused, `Write` if the writer fails: a prefix of the two is written.
+/// `Memory` if a growth is refused, `Write` if the writer fails: a prefix of these is written.
 pub fn write_ending<W: Out>(
     alloc: Global,
     out: &mut W,
@@ -185,12 +207,12 @@ pub fn write_ending<W: Out>(
     report: &Report,
 ) -> Result<(), Refusal>
     requires { (W.state out.old).failed ≡ false }
-    ensures written { (s : TheScenario) (r : Run) → names.now ≡ s.names
-        → report.now ≡ running (queue_names s) r.rows → sites.now ≡ r.sites
-        → WroteSeveral (W.state out.old) (W.state out.new) (ending_of s r)
-        result }
+    ensures written { (s : TheScenario) (r : Run) (figures : Option TheStretch)
+        → names.now ≡ s.names → report.now ≡ running (asked_of s figures) r.rows
+        → sites.now ≡ r.sites
+        → WroteSeveral (W.state out.old) (W.state out.new) (ending_with s figures r) result }
     ensures flushed { OnOk result ((W.state out.new).flushed ≡ true) }
 {
-    write_left(alloc, out, sites, names, report)?;
+    write_parts(alloc, out, sites, names, report)?;
     flush(out)
 }
