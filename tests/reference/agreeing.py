@@ -5,6 +5,7 @@ from collections.abc import Sequence
 from typing import NamedTuple
 
 from faults import Fault
+from figures import figures_text
 from log import finals_text, log_text, report_text
 from reader import read
 from sites import World
@@ -20,15 +21,19 @@ class Outcome(NamedTuple):
     error: bytes
 
 
-def referred(source: bytes, greatest_version: int = 2, most_handlings: float = math.inf) -> Outcome:
-    """What the reference answers to a run of a text without script files. TooLong, if it has more handlings."""
+def referred(source: bytes, greatest_version: int = 2, most_handlings: float = math.inf,
+             stretch: tuple[int, int] | None = None) -> Outcome:
+    """What the reference answers to a run of a text without script files, with figures over a stretch if there is one.
+    TooLong, if it has more handlings."""
     try:
         scenario = read(source, {}, greatest_version)
     except Fault as fault:
         return Outcome(1, b"", f"{fault.line()}\n".encode())
     world = World(scenario)
     rows = world.run(most_handlings)
-    return Outcome(0, (log_text(rows) + finals_text(world.sites) + report_text(world.sites, rows)).encode(), b"")
+    figures = figures_text(scenario, rows, *stretch) if stretch else ""
+    text = log_text(rows) + finals_text(world.sites) + report_text(world.sites, rows) + figures
+    return Outcome(0, text.encode(), b"")
 
 
 def answered(program: str, source: bytes, *words: str) -> Outcome:

@@ -15,16 +15,17 @@ use Rattle.sqs_formats.specs.Report.{Column, ages, ascending, columns_of, is_del
 use Rattle.sim_report.specs.declared.left.Left.{Left}
 use Rattle.sim_report.specs.declared.queue.QueueCounts.{QueueCounts}
 use Rattle.sim_report.specs.Left.{left_of, left_with, lefts}
-use Rattle.sim_report.specs.Running.{changed, columns_by, columns_of_all, fresh, messages_added, queue_column, queue_counts, row_added, rows_added, running, with_row}
+use Rattle.sim_report.specs.Running.{changed, columns_by, columns_of_all, fresh, messages_added, queue_column, queue_counts, row_added, rows_added, queues_running, with_row}
 use Rattle.sim_report.specs.Tally.{rank_in, tally_of}
 use Rattle.sim_report.proofs.Ascending.{length-ascending, sum_by-ascending}
 use Rattle.sim_report.proofs.Tallies.{tallied-is}
 
 -- of each group, what its members make
-grouped : {X Y A : Type 0} → (X → ℕ) → (Y → List X → A) → ℕ → List Y → List X → List A
+unfoldable pub grouped : {X Y A : Type 0} → (X → ℕ) → (Y → List X → A) → ℕ → List Y → List X → List A
 grouped key make m ys xs = map (λ q. make q.1 (filter (λ x. key x == q.0) xs)) (enumerate_from m ys)
 
-filter-push : {X : Type 0} (p : X → Bool) (xs : List X) (x : X) → filter p (xs ++ x ∷ []) ≡ cond (p x) (filter p xs ++ x ∷ []) (filter p xs)
+-- what is chosen, with one more element
+pub filter-push : {X : Type 0} (p : X → Bool) (xs : List X) (x : X) → filter p (xs ++ x ∷ []) ≡ cond (p x) (filter p xs ++ x ∷ []) (filter p xs)
 filter-push {X} p xs x =
     filter-append p xs (x ∷ []) ∙ elim (p x) as (λ b. filter p xs ++ cond b (x ∷ []) [] ≡ cond b (filter p xs ++ x ∷ []) (filter p xs)) [ true ↦ refl | false ↦ append-nil (filter p xs) ]
 
@@ -35,7 +36,7 @@ filter-own : {X : Type 0} (key : X → ℕ) (n : ℕ) (xs : List X) (x : X) → 
 filter-own {X} key n xs x e = filter-push (λ y. key y == n) xs x ∙ ap (λ b. cond b (filter (λ y. key y == n) xs ++ x ∷ []) (filter (λ y. key y == n) xs)) e
 
 -- a member of an earlier group changes nothing
-grouped-later : {X Y A : Type 0} (key : X → ℕ) (make : Y → List X → A) (m : ℕ) (ys : List Y) (xs : List X) (x : X)
+pub grouped-later : {X Y A : Type 0} (key : X → ℕ) (make : Y → List X → A) (m : ℕ) (ys : List Y) (xs : List X) (x : X)
     → key x < m → grouped key make m ys (xs ++ x ∷ []) ≡ grouped key make m ys xs
 unfolding grouped
 grouped-later key make m [] xs x h = refl
@@ -45,7 +46,7 @@ grouped-later key make m (y ∷ ys) xs x h =
     cc
 
 -- a member changes what its own group makes
-grouped-at : {X Y A : Type 0} (key : X → ℕ) (make : Y → List X → A) (step : A → A) (i m : ℕ) (ys : List Y) (xs : List X) (x : X)
+pub grouped-at : {X Y A : Type 0} (key : X → ℕ) (make : Y → List X → A) (step : A → A) (i m : ℕ) (ys : List Y) (xs : List X) (x : X)
     → ((y : Y) (zs : List X) → make y (zs ++ x ∷ []) ≡ step (make y zs)) → key x ≡ m + i → grouped key make m ys (xs ++ x ∷ []) ≡ changed step i (grouped key make m ys xs)
 unfolding grouped
 grouped-at key make step i m [] xs x one h = refl
@@ -59,19 +60,19 @@ grouped-at key make step (suc i) m (y ∷ ys) xs x one h =
     cc
 
 -- one more row
-pub running-push : (queues : List (List ℕ)) (rows : List Row) (row : Row) → row_added (running queues rows) row ≡ running queues (rows ++ row ∷ [])
-unfolding grouped running
+pub running-push : (queues : List (List ℕ)) (rows : List Row) (row : Row) → row_added (queues_running queues rows) row ≡ queues_running queues (rows ++ row ∷ [])
+unfolding grouped queues_running
 running-push queues rows row =
     sym (grouped-at (λ (r : Row). r.queue) (λ (name : List ℕ) (rs : List Row). record { name = name; tally = tally_of rs }) (with_row row) row.queue 0 queues rows row
     (λ name rs. ap (λ t. record { name = name; tally = t }) (sym (tallied-is rs row))) (omega arith))
 
 -- more rows
-pub running-append : (queues : List (List ℕ)) (before rows : List Row) → rows_added (running queues before) rows ≡ running queues (before ++ rows)
-running-append queues before [] = ap (running queues) (sym (append-nil before))
+pub running-append : (queues : List (List ℕ)) (before rows : List Row) → rows_added (queues_running queues before) rows ≡ queues_running queues (before ++ rows)
+running-append queues before [] = ap (queues_running queues) (sym (append-nil before))
 running-append queues before (row ∷ rows) =
     ap (λ (qs : List QueueCounts). rows_added qs rows) (running-push queues before row)
     ∙ running-append queues (before ++ row ∷ []) rows
-    ∙ ap (running queues) (append_assoc before (row ∷ []) rows)
+    ∙ ap (queues_running queues) (append_assoc before (row ∷ []) rows)
 
 length-more : (p : FinalMessage → Bool) (ms : List FinalMessage) (m : FinalMessage) (b : Bool) → b ≡ p m → length (filter p (ms ++ m ∷ [])) ≡ cond b (length (filter p ms) + 1) (length (filter p ms))
 length-more p ms m true e = ap length (filter-push p ms m ∙ ap (λ b. cond b (filter p ms ++ m ∷ []) (filter p ms)) (sym e)) ∙ grind (arith, common_steps)
@@ -108,7 +109,7 @@ lefts-append queues before (m ∷ messages) =
     ∙ ap (lefts queues) (append_assoc before (m ∷ []) messages)
 
 -- a rank of ages in ascending order
-rank-ascending : (p : ℕ) (ns : List ℕ) → rank_in p (ascending ns) ≡ rank p ns
+pub rank-ascending : (p : ℕ) (ns : List ℕ) → rank_in p (ascending ns) ≡ rank p ns
 rank-ascending p ns = ap (λ n. slice_get (ascending ns) ((p * n + 99) / 100 - 1)) (length-ascending ns)
 
 -- the columns of a queue are those of the definitions
@@ -127,8 +128,8 @@ columns-from n (queue ∷ queues) rows f =
     cc
 
 -- the columns of all queues are the report
-pub columns-report : (queues : List (List ℕ)) (rows : List Row) (f : Finals) → columns_of_all (running queues rows) f.messages ≡ report queues rows f
-unfolding running
+pub columns-report : (queues : List (List ℕ)) (rows : List Row) (f : Finals) → columns_of_all (queues_running queues rows) f.messages ≡ report queues rows f
+unfolding queues_running
 columns-report queues rows f = columns-from 0 queues rows f
 
 -- a change at a place
@@ -161,8 +162,8 @@ running-none_from n [] = refl
 running-none_from n (name ∷ names) = ap (λ (qs : List QueueCounts). fresh name ∷ qs) (running-none_from (n + 1) names)
 
 -- the queues with no rows
-pub running-none : (names : List (List ℕ)) → map fresh names ≡ running names []
-unfolding running
+pub running-none : (names : List (List ℕ)) → map fresh names ≡ queues_running names []
+unfolding queues_running
 running-none names = running-none_from 0 names
 
 -- there is one for each queue

@@ -3,3 +3,7 @@ pub mod Counted
 pub mod Tallies
 pub mod Groups
 pub mod Comparing
+mod Figuring
+mod Named
+mod FiguresEnd
+pub mod Reporting

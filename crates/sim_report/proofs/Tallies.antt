@@ -14,9 +14,19 @@ length-more : (p : Row → Bool) (rows : List Row) (row : Row) (b : Bool) → b 
 length-more p rows row true e = grind (arith, common_steps)
 length-more p rows row false e = grind (arith, common_steps)
 
+-- how many rows are in a column, where `of` gives a row's
+abbrev pub number_in : (Row → Option ℕ) → List Row → ℕ → ℕ
+number_in of rows n = length (filter (λ row. is_column n (of row)) rows)
+
 -- one more row in a column
-count-push : (n : ℕ) (rows : List Row) (row : Row) → count n (rows ++ row ∷ []) ≡ cond (counts_in n row) (count n rows + 1) (count n rows)
-count-push n rows row = ap length (filter-append (counts_in n) rows (row ∷ [])) ∙ length-more (counts_in n) rows row (counts_in n row) refl
+number-push : (of : Row → Option ℕ) (n : ℕ) (rows : List Row) (row : Row)
+    → number_in of (rows ++ row ∷ []) n ≡ cond (is_column n (of row)) (number_in of rows n + 1) (number_in of rows n)
+number-push of n rows row =
+    ap length (filter-append (λ row. is_column n (of row)) rows (row ∷ [])) ∙ length-more (λ row. is_column n (of row)) rows row (is_column n (of row)) refl
+
+-- the same of a column of the report
+pub count-push : (n : ℕ) (rows : List Row) (row : Row) → count n (rows ++ row ∷ []) ≡ cond (counts_in n row) (count n rows + 1) (count n rows)
+count-push n rows row = number-push (λ row. column row.kind row.answer) n rows row
 
 -- no number of a numbering is below its first
 numbers-after : (g : ℕ → ℕ) (c m : ℕ) (cs : List (List ℕ)) → c < m → map (λ n. cond (c == n) (g n + 1) (g n)) (numbers m cs) ≡ map g (numbers m cs)
@@ -44,18 +54,23 @@ counts-with : (g : ℕ → ℕ) (c : Option ℕ) (cs : List (List ℕ)) → map 
 counts-with g None cs = refl
 counts-with g (Some c) cs = numbers-at g c 0 c cs (omega arith)
 
-map-count : (rows : List Row) (row : Row) (ns : List ℕ) → map (λ n. count n (rows ++ row ∷ [])) ns ≡ map (λ n. cond (counts_in n row) (count n rows + 1) (count n rows)) ns
-map-count rows row [] = refl
-map-count rows row (n ∷ ns) =
-    let here = count-push n rows row in
-    let rest = map-count rows row ns in
+numbers-push : (of : Row → Option ℕ) (rows : List Row) (row : Row) (ns : List ℕ)
+    → map (number_in of (rows ++ row ∷ [])) ns ≡ map (λ n. cond (is_column n (of row)) (number_in of rows n + 1) (number_in of rows n)) ns
+numbers-push of rows row [] = refl
+numbers-push of rows row (n ∷ ns) =
+    let here = number-push of n rows row in
+    let rest = numbers-push of rows row ns in
     cc
+
+-- the numbers of rows in all columns with one more row
+pub columns-push : (of : Row → Option ℕ) (names : List (List ℕ)) (rows : List Row) (row : Row)
+    → map (number_in of (rows ++ row ∷ [])) (numbers 0 names) ≡ counted (of row) (map (number_in of rows) (numbers 0 names))
+columns-push of names rows row = numbers-push of rows row (numbers 0 names) ∙ counts-with (number_in of rows) (of row) names
 
 -- the counts with one more row
 pub counts-push : (rows : List Row) (row : Row)
     → map (λ n. count n (rows ++ row ∷ [])) (numbers 0 counted_columns) ≡ counted (column row.kind row.answer) (map (λ n. count n rows) (numbers 0 counted_columns))
-counts-push rows row =
-    map-count rows row (numbers 0 counted_columns) ∙ counts-with (λ n. count n rows) (column row.kind row.answer) counted_columns
+counts-push = columns-push (λ row. column row.kind row.answer) counted_columns
 
 -- a list's prefixes with one more element
 prefixes-push : {X : Type 0} (xs : List X) (x : X) → prefixes (xs ++ x ∷ []) ≡ prefixes xs ++ (xs ++ x ∷ []) ∷ []
@@ -80,7 +95,7 @@ age-list None before row rest e = rw (← e) (ap ascending (sym (append-nil befo
 age-list (Some a) before row rest e = rw (← e) (sym (ascending-push before a))
 
 -- the ages with one more row
-ages-push : (rows : List Row) (row : Row) → ascending (ages (rows ++ row ∷ [])) ≡ with_age (age_in (column row.kind row.answer) row) (ascending (ages rows))
+pub ages-push : (rows : List Row) (row : Row) → ascending (ages (rows ++ row ∷ [])) ≡ with_age (age_in (column row.kind row.answer) row) (ascending (ages rows))
 ages-push rows row =
     ap ascending (filter_map-append (λ row. age_when (counts_in 4 row) row.detail) rows (row ∷ [])) ∙ sym (age-list (age_when (counts_in 4 row) row.detail) (ages rows) row (age_when (counts_in 4 row) row.detail) refl)
 

@@ -3,8 +3,7 @@ use Rattle.std.specs.Prelude.{ℕ, zero, suc, List, [], ◌∷◌, ◌++◌, map
 use Rattle.std.specs.List.{enumerate_from}
 use Rattle.sqs_message.specs.declared.row.Row.{Row}
 use Rattle.sqs_model.specs.declared.finals.FinalMessage.{FinalMessage}
-use Rattle.sqs_model.specs.declared.finals.Finals.{Finals}
-use Rattle.sqs_formats.specs.Report.{Column, messages_of, report, rows_of}
+use Rattle.sqs_formats.specs.Report.{Column, messages_of, rows_of}
 use Rattle.sim_report.specs.declared.column.RowCount.{RowCount}
 use Rattle.sim_report.specs.declared.left.Left.{Left}
 use Rattle.sim_report.specs.declared.queue.QueueCounts.{QueueCounts}
@@ -44,9 +43,9 @@ rows_added queues rows = fold row_added queues rows
 abbrev pub queue_counts : List Row → ℕ × List ℕ → QueueCounts
 queue_counts rows queue = record { name = queue.1; tally = tally_of (rows_of queue.0 rows) }
 
--- the report after these rows: of each queue, by its name, the counts over its rows among them
-unfoldable pub running : List (List ℕ) → List Row → List QueueCounts
-running queues rows = map (queue_counts rows) (enumerate_from 0 queues)
+-- the counts after these rows: of each queue, by its name, those over its rows among them
+unfoldable pub queues_running : List (List ℕ) → List Row → List QueueCounts
+queues_running queues rows = map (queue_counts rows) (enumerate_from 0 queues)
 
 -- what is left of all queues with one more message, which counts at its own queue alone
 abbrev pub message_added : List Left → FinalMessage → List Left
@@ -68,22 +67,6 @@ queue_column messages q = (q.1.name, columns_by q.1.tally (left_of (messages_of 
 -- the columns of all queues
 abbrev pub columns_of_all : List QueueCounts → List FinalMessage → List Column
 columns_of_all queues messages = map (queue_column messages) (enumerate_from 0 queues)
-
--- what holds of the report that these counts become with the finals of a run
-abbrev pub OfReport : List QueueCounts → Finals → (List Column → Type 0) → Type 0
-OfReport counts finals P = (names : List (List ℕ)) (rows : List Row) → counts ≡ running names rows → P (report names rows finals)
-
--- what holds of the reports of two runs
-abbrev pub OfReports : List QueueCounts → Finals → List QueueCounts → Finals → (List Column → List Column → Type 0) → Type 0
-OfReports counts finals other_counts other_finals P =
-    (names : List (List ℕ)) (rows : List Row) (others : List (List ℕ)) (other_rows : List Row)
-    → counts ≡ running names rows → other_counts ≡ running others other_rows → P (report names rows finals) (report others other_rows other_finals)
-
--- what holds of the report that these counts become with what is left
-abbrev pub OfLeft : List QueueCounts → List Left → (List Column → Type 0) → Type 0
-OfLeft counts left P =
-    (names : List (List ℕ)) (rows : List Row) (finals : Finals)
-    → counts ≡ running names rows → left ≡ lefts counts finals.messages → P (report names rows finals)
 
 -- what is left of some queues is counted on with more messages
 abbrev pub CountsOn : {A E : Type 0} → Result A E → List Left → List FinalMessage → List Left → Type 0

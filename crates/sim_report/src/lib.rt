@@ -1,19 +1,30 @@
 //! The report of a run: running counts of each queue, from which its columns are made at the end.
 #![tactic(auto)]
 
+mod actor_figures;
 mod age_counts;
 mod ages;
 mod column;
 mod columns;
 mod comparison;
+mod fact;
+mod figure;
+mod figures;
+mod held;
 mod left;
+mod level;
 mod number;
 mod queue;
+mod queue_figures;
 mod report;
+mod stretch;
 mod tally;
 mod writing;
 
 pub use column::RowCount;
+pub use fact::{Fact, Hold};
+pub use figures::Figures;
+pub use stretch::Stretch;
 pub use left::MessagesLeft;
 pub use report::{Report, compare};
 pub use sim_records::write_finals;

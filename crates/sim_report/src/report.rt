@@ -1,15 +1,17 @@
 //! The report of a run.
-ghost use Rattle.std.specs.Prelude.{◌≡◌, ◌++◌, ℕ, List, [], false, IfOk, OnOk};
+ghost use Rattle.std.specs.Prelude.{◌≡◌, ◌++◌, ℕ, List, [], false, option_map, IfOk, OnOk};
 ghost use Rattle.sim_report.specs.Left.{lefts};
-ghost use Rattle.sim_report.specs.Running.{OfLeft, OfReport, OfReports, count_added, running};
+ghost use Rattle.sim_report.specs.Figured.{figures_after};
+ghost use Rattle.sim_report.specs.Reports.{Asked, OfFigures, OfLeft, OfReport, OfReports, fact_added, figures_asked, running};
 ghost use Rattle.sim_records.specs.Writes.{Wrote};
 ghost use Rattle.sqs_message.specs.declared.row.Row.{Row};
 ghost use Rattle.sqs_formats.specs.Comparison.{comparison};
 ghost use Rattle.sqs_formats.specs.Report.{report_text};
 
-use crate::column::RowCount;
 use crate::columns::{QueueColumns, columns_of};
 use crate::comparison::comparison_lines;
+use crate::fact::Fact;
+use crate::figures::Figures;
 use crate::left::MessagesLeft;
 use crate::queue::{QueueCounts, add_count, add_rows, fresh_queues};
 use crate::writing::report_lines;
@@ -20,33 +22,50 @@ use sqs_model::Finals;
 use std::alloc::{AllocError, Global};
 use std::marker::Model;
 
-/// The counts of each queue over the rows so far, from which the report is written. The rows
-/// themselves are not kept.
+/// The counts of each queue over the rows so far, from which the report is written, and the figures
+/// over these rows, if they are wanted. The rows themselves are not kept.
 #[derive(Drop)]
 pub struct Report {
     queues: Vec<QueueCounts>,
+    figures: Option<Figures>,
 }
 
 impl Model for Report {
-    ghost use Rattle.std.specs.Prelude.{List};
-    ghost use Rattle.sim_report.specs.declared.queue.QueueCounts.{QueueCounts};
+    ghost use Rattle.sim_report.specs.Reports.{Counts};
 
-    ghost Value = { List QueueCounts };
+    ghost Value = { Counts };
 
-    ghost view = { λ r. r.queues.items };
+    ghost view = { λ r. record { queues = r.queues.items; figures = r.figures } };
+}
+
+// Adds rows to figures, if there are figures.
+fn add_to_figures(figures: &mut Option<Figures>, rows: &[Row]) -> Result<(), AllocError>
+    ensures { OnOk result (figures.new ≡ option_map (figures_after rows.now) figures.old) }
+{
+    if let Some(figures) = figures {
+        figures.take_rows(rows)?;
+    }
+    Ok(())
 }
 
 impl Report {
-    /// The report of no rows, of the queues with these names, by number.
+    /// The report of no rows, of the queues with these names, by number, with figures of no rows if
+    /// figures are wanted.
     ///
     /// # Errors
     ///
     /// `AllocError` if a growth is refused.
-    pub fn new(alloc: Global, names: Vec<Text>) -> Result<Report, AllocError>
-        ensures { IfOk result (λ r. r ≡ running names.items []) }
+    pub fn new(
+        alloc: Global,
+        names: Vec<Text>,
+        figures: Option<Figures>,
+    ) -> Result<Report, AllocError>
+        ensures { (asked : Asked) → names.items ≡ asked.queues → figures ≡ figures_asked asked []
+            → IfOk result (λ r. r ≡ running asked []) }
     {
         Ok(Report {
             queues: fresh_queues(alloc, names)?,
+            figures,
         })
     }
 
@@ -57,21 +76,26 @@ impl Report {
     /// `AllocError` if a growth is refused. The report may then have some of the rows, and must not
     /// be used again.
     pub fn add(&mut self, rows: &[Row]) -> Result<(), AllocError>
-        ensures { (names : List (List ℕ)) (before : List Row) → self.old ≡ running names before
-            → OnOk result (self.new ≡ running names (before ++ rows.now)) }
+        ensures { (asked : Asked) (before : List Row) → self.old ≡ running asked before
+            → OnOk result (self.new ≡ running asked (before ++ rows.now)) }
     {
-        add_rows(self.queues.as_mut_slice(), rows)
+        add_rows(self.queues.as_mut_slice(), rows)?;
+        add_to_figures(&mut self.figures, rows)
     }
 
-    /// Adds what another row counts. A row of a queue whose number is past the last is not counted.
+    /// Adds what another row says. A row of a queue whose number is past the last is not counted.
     ///
     /// # Errors
     ///
     /// Those of `add`.
-    pub fn add_count(&mut self, count: RowCount) -> Result<(), AllocError>
-        ensures { OnOk result (self.new ≡ count_added self.old count) }
+    pub fn add_fact(&mut self, fact: Fact) -> Result<(), AllocError>
+        ensures { OnOk result (self.new ≡ fact_added self.old fact) }
     {
-        add_count(self.queues.as_mut_slice(), count)
+        add_count(self.queues.as_mut_slice(), fact.count)?;
+        if let Some(figures) = &mut self.figures {
+            figures.take(fact)?;
+        }
+        Ok(())
     }
 
     /// No messages that are left of its queues, to which those are added that are.
@@ -80,14 +104,14 @@ impl Report {
     ///
     /// `AllocError` if a growth is refused.
     pub fn none_left(&self, alloc: Global) -> Result<MessagesLeft, AllocError>
-        ensures { IfOk result (λ left. left ≡ lefts self.now []) }
+        ensures { IfOk result (λ left. left ≡ lefts self.now.queues []) }
     {
         MessagesLeft::none(alloc, self.queues.as_slice())
     }
 
     // How many messages of each queue are left at the end of a run.
     fn left(&self, alloc: Global, finals: &Finals) -> Result<MessagesLeft, AllocError>
-        ensures { IfOk result (λ left. left ≡ lefts self.now finals.now.messages) }
+        ensures { IfOk result (λ left. left ≡ lefts self.now.queues finals.now.messages) }
     {
         let mut left = self.none_left(alloc)?;
         left.add(finals.messages.as_slice())?;
@@ -134,6 +158,26 @@ impl Report {
     {
         let columns = self.columns(alloc, left)?;
         let text = report_lines(alloc, columns.as_slice())?;
+        write_all(out, text.as_slice())?;
+        Ok(())
+    }
+
+    /// Writes the figures, if they are wanted.
+    ///
+    /// # Errors
+    ///
+    /// `Memory` if a growth is refused: nothing is written. `Write` if the writer fails: a prefix
+    /// of the lines is written.
+    pub fn write_figures<W: Out>(&self, alloc: Global, out: &mut W) -> Result<(), Refusal>
+        requires { (W.state out.old).failed ≡ false }
+        ensures works { OnOk result ((W.state out.new).failed ≡ false) }
+        ensures written { OfFigures self.now
+            (λ text. Wrote (W.state out.old) (W.state out.new) text result) }
+    {
+        let Some(figures) = &self.figures else {
+            return Ok(());
+        };
+        let text = figures.text(alloc)?;
         write_all(out, text.as_slice())?;
         Ok(())
     }

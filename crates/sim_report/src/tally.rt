@@ -36,12 +36,12 @@ impl Model for Tally {
 
 // Counts one more row in a column, if it is one of these. A count that is at its greatest value
 // would have to grow, and this is refused like any growth: the counts stay as they are.
-fn count_in(counts: &mut [u64; COUNTED], column: Option<u16>) -> Result<(), AllocError>
+pub(crate) fn count_in(counts: &mut [u64], column: Option<u16>) -> Result<(), AllocError>
     ensures counted { OnOk result (counts.new ≡ counted column counts.old) }
     ensures unchanged { OnErr result (counts.new ≡ counts.old) }
 {
     if let Some(column) = column
-        && usize::from(column) < COUNTED
+        && usize::from(column) < counts.len()
     {
         let place = usize::from(column);
         let Some(more) = counts[place].checked_add(1) else {

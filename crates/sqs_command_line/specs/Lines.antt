@@ -44,6 +44,9 @@ pub record IsRun (rows : List Row) (l : RunLine) : Type 0 where
   pub workers : l.workers ≡ number_of (one_of (codes "workers") rows)
   pub log : told l.log ≡ first_of (codes "log") rows
   pub scripts : told l.scripts ≡ first_of (codes "scripts") rows
+  pub figures : IsFlag (one_of (codes "figures") rows) l.figures
+  pub from : l.from ≡ number_of (one_of (codes "from") rows)
+  pub to : l.to ≡ number_of (one_of (codes "to") rows)
   pub preview : IsFlag (one_of (codes "preview") rows) l.preview
   pub quiet : IsFlag (one_of (codes "quiet") rows) l.quiet
   pub scenario : told l.scenario ≡ first_of (codes "scenario") rows
@@ -63,7 +66,9 @@ pub record IsCompare (rows : List Row) (l : CompareLine) : Type 0 where
 
 -- the numbers of a rehearsal can be read
 abbrev pub HasNumbers : List Row → Type 0
-HasNumbers rows = IsNumber 64 (one_of (codes "window") rows) × IsNumber 32 (one_of (codes "parts") rows) × IsNumber 32 (one_of (codes "workers") rows)
+HasNumbers rows =
+    IsNumber 64 (one_of (codes "window") rows) × IsNumber 32 (one_of (codes "parts") rows) × IsNumber 32 (one_of (codes "workers") rows)
+    × IsNumber 64 (one_of (codes "from") rows) × IsNumber 64 (one_of (codes "to") rows)
 
 -- a line by the subcommand's name and its arguments
 abbrev pub IsLine : Text → List Row → Line → Type 0

@@ -16,6 +16,10 @@ number_rule name = record (option_rule name) { parser = Some (parsers.Signed (po
 abbrev pub time_rule : Text → Rule
 time_rule name = record (option_rule name) { parser = Some (parsers.Unsigned 1 18446744073709551615) }
 
+-- an option with a moment, in milliseconds
+abbrev pub moment_rule : Text → Rule
+moment_rule name = record (option_rule name) { parser = Some (parsers.Unsigned 0 18446744073709551615) }
+
 -- an option without a value, as --quiet
 abbrev pub flag_rule : Text → Rule
 flag_rule name = record (new_rule name) { long = Some name; action = Some SetTrue }
@@ -33,13 +37,17 @@ run_options =
 abbrev pub run_files : App
 run_files = with_rule (with_rule run_options (option_rule (codes "log"))) (option_rule (codes "scripts"))
 
+-- .. [--figures] [--from MS] [--to MS]
+abbrev pub run_figures : App
+run_figures = with_rule (with_rule (with_rule run_files (flag_rule (codes "figures"))) (moment_rule (codes "from"))) (moment_rule (codes "to"))
+
 -- .. [--preview]
 abbrev pub with_preview : App → App
 with_preview app = with_rule app (flag_rule (codes "preview"))
 
 -- .. [--preview] [--quiet] [SCENARIO]
 abbrev pub run_app : App
-run_app = with_rule (with_rule (with_preview run_files) (flag_rule (codes "quiet"))) (place_rule false (codes "scenario"))
+run_app = with_rule (with_rule (with_preview run_figures) (flag_rule (codes "quiet"))) (place_rule false (codes "scenario"))
 
 -- check [--scripts DIR] [--preview] [SCENARIO]
 abbrev pub check_app : App

@@ -15,6 +15,12 @@ pub struct RunLine<'a> {
     pub log: Option<&'a str>,
     /// The folder of the scripts.
     pub scripts: Option<&'a str>,
+    /// Whether figures are written behind the report.
+    pub figures: bool,
+    /// The first moment of which figures are wanted, in milliseconds.
+    pub from: Option<u64>,
+    /// The last one, in milliseconds.
+    pub to: Option<u64>,
     /// Whether version 3 of scenarios is read, too.
     pub preview: bool,
     /// Whether no progress is shown.

@@ -2,7 +2,7 @@
 ghost use Rattle.std.specs.Prelude.{◌≡◌, IfOk, false};
 ghost use Rattle.clap.specs.Words.{app_of, new_app, rule_of};
 ghost use Rattle.clap.specs.declared.builder.command.Command.TheViews.{out-Command as fields_of};
-ghost use Rattle.sqs_command_line.specs.Programs.{check_app, compare_app, flag_rule, number_rule, option_rule, place_rule, program, run_app, run_files, run_options, time_rule};
+ghost use Rattle.sqs_command_line.specs.Programs.{check_app, compare_app, flag_rule, moment_rule, number_rule, option_rule, place_rule, program, run_app, run_figures, run_files, run_options, time_rule};
 
 use clap::{Arg, ArgAction, Command};
 use std::alloc::{AllocError, Global};
@@ -19,7 +19,8 @@ const SCENARIO_HELP: &str = "The scenario's file [default: standard input]";
 /// The text below the help of `run`.
 const RUN_HELP: &str =
     "Reads a scenario (TOML) and the scripts that it names (CSV). Writes the log, the final queues and
-the report (CSV), in this order, to standard output. A fault is one line on standard error.
+the report (CSV), in this order, to standard output, and with --figures, --from or --to figures behind
+them. A fault is one line on standard error.
 
 Status:
   0  done
@@ -98,6 +99,18 @@ fn time<'a>(alloc: Global, name: &'a str, help: &'a str) -> Arg<'a>
         .help(help)
 }
 
+// An option with a moment.
+fn moment<'a>(alloc: Global, name: &'a str, help: &'a str) -> Arg<'a>
+    ensures rule { rule_of result ≡ moment_rule name.entry.now }
+    ensures local { result.global ≡ false }
+{
+    Arg::new(alloc, name)
+        .long(name)
+        .action(ArgAction::Set)
+        .value_parser(clap::value_parser!(u64))
+        .help(help)
+}
+
 // An option without a value.
 fn flag<'a>(alloc: Global, name: &'a str, help: &'a str) -> Arg<'a>
     ensures rule { rule_of result ≡ flag_rule name.entry.now }
@@ -169,12 +182,32 @@ fn run_files<'a>(alloc: Global) -> Result<Command<'a>, AllocError>
     Ok(command)
 }
 
+// The command `run`, also with the options of its figures.
+fn run_figures<'a>(alloc: Global) -> Result<Command<'a>, AllocError>
+    ensures app { IfOk result (λ c. app_of c ≡ run_figures) }
+    ensures local { IfOk result (λ c. (fields_of c).has_globals ≡ false) }
+{
+    let command = run_files(alloc)?;
+    let command = command.arg(flag(alloc, "figures", "Write figures behind the report"))?;
+    let command = command.arg(moment(
+        alloc,
+        "from",
+        "The first millisecond of the figures [default: 0]",
+    ))?;
+    let command = command.arg(moment(
+        alloc,
+        "to",
+        "The last millisecond of the figures [default: the horizon]",
+    ))?;
+    Ok(command)
+}
+
 // The command `run`.
 fn run_command<'a>(alloc: Global) -> Result<Command<'a>, AllocError>
     ensures app { IfOk result (λ c. app_of c ≡ run_app) }
     ensures local { IfOk result (λ c. (fields_of c).has_globals ≡ false) }
 {
-    let command = run_files(alloc)?;
+    let command = run_figures(alloc)?;
     let command = command.arg(flag(alloc, "preview", PREVIEW_HELP))?;
     let command = command.arg(flag(alloc, "quiet", "Show no progress, even on a terminal"))?;
     let command = command.arg(place(alloc, "scenario", false, SCENARIO_HELP))?;

@@ -41,6 +41,8 @@ fn run_line<'a>(matches: &ArgMatches<'a>) -> Result<RunLine<'a>, Unread>
     let window = time(matches, "window")?;
     let parts = number(matches, "parts")?;
     let workers = number(matches, "workers")?;
+    let from = time(matches, "from")?;
+    let to = time(matches, "to")?;
     Ok(RunLine {
         window,
         parts,
@@ -48,6 +50,9 @@ fn run_line<'a>(matches: &ArgMatches<'a>) -> Result<RunLine<'a>, Unread>
         workers,
         log: matches.get_str("log"),
         scripts: matches.get_str("scripts"),
+        figures: matches.get_flag("figures"),
+        from,
+        to,
         preview: matches.get_flag("preview"),
         quiet: matches.get_flag("quiet"),
         scenario: matches.get_str("scenario"),

@@ -48,6 +48,7 @@ fn apart(alloc: Global) -> Result<Options, AllocError> {
         parts: None,
         map: Some([0, 1, 2].to_vec(alloc)?),
         workers: 3,
+        figures: None,
     })
 }
 

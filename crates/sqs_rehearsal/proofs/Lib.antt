@@ -11,3 +11,4 @@ pub mod Counting
 pub mod Prefixes
 pub mod PrintedRows
 pub mod PrintedRuns
+pub mod Counters

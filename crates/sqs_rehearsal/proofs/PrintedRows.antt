@@ -7,10 +7,9 @@ use Rattle.sim_clock.specs.declared.refusal.Refusal.{Refusal}
 use Rattle.sim_clock.specs.declared.refusal.Refusal.TheVariants as refusals
 use Rattle.sim_records.proofs.Writes.{several-one}
 use Rattle.sim_records.specs.Writes.{WriterState, Wrote, WroteSeveral}
-use Rattle.sim_report.proofs.Groups.{running-append}
-use Rattle.sim_report.specs.Running.{count_added, rows_added}
-use Rattle.sim_report.specs.Tally.{count_of}
-use Rattle.sim_report.specs.declared.queue.QueueCounts.{QueueCounts}
+use Rattle.sim_report.proofs.Reporting.{facts-append}
+use Rattle.sim_report.specs.Facts.{fact_of}
+use Rattle.sim_report.specs.Reports.{Counts, fact_added, facts_added}
 use Rattle.sqs_formats.specs.Rows.{line, lines, row_fields}
 use Rattle.sqs_message.specs.declared.row.Row.{Row}
 use Rattle.sqs_model.specs.Answers.{most_count}
@@ -28,14 +27,14 @@ text_printed : (names : List (List ℕ)) (rows : List Row) → text_in (map (pri
 text_printed names [] = refl
 text_printed names (r ∷ rows) = ap (λ t. line (row_fields names r) ++ t) (text_printed names rows)
 
--- a report with what printed rows count
-counts_printed : (names : List (List ℕ)) (report : List QueueCounts) (rows : List Row) → printed_added report (map (printed names) rows) ≡ rows_added report rows
-counts_printed names report [] = refl
-counts_printed names report (r ∷ rows) = counts_printed names (count_added report (count_of r)) rows
+-- a report with what printed rows say
+facts_printed : (names : List (List ℕ)) (report : Counts) (rows : List Row) → printed_added report (map (printed names) rows) ≡ facts_added report rows
+facts_printed names report [] = refl
+facts_printed names report (r ∷ rows) = facts_printed names (fact_added report (fact_of r)) rows
 
-added_printed : (names : List (List ℕ)) (report : List QueueCounts) (rows : List Row) → Added report rows (printed_added report (map (printed names) rows))
-added_printed names report rows queues sofar is =
-    counts_printed names report rows ∙ ap (λ qs. rows_added qs rows) is ∙ running-append queues sofar rows
+added_printed : (names : List (List ℕ)) (report : Counts) (rows : List Row) → Added report rows (printed_added report (map (printed names) rows))
+added_printed names report rows asked sofar is =
+    facts_printed names report rows ∙ ap (λ (c : Counts). facts_added c rows) is ∙ facts-append asked sofar rows
 
 -- whether printed rows have a count past the limit
 pub within_printed : (names : List (List ℕ)) (rows : List Row)
@@ -65,7 +64,7 @@ module _ {W P : Type 0} (state : W → WriterState) (before after : Recorder W P
         same = same;
         written = subst (λ (t : List ℕ). Appends (state before.out.now).held (state after.out.now).held t) text_is wrote.0;
         works = λ works. wrote.1;
-        added = subst (λ (qs : List QueueCounts). Added before.report.now rows qs) (sym all) (added_printed before.names.now before.report.now rows);
+        added = subst (λ (c : Counts). Added before.report.now rows c) (sym all) (added_printed before.names.now before.report.now rows);
       }
 
   -- they could not be written

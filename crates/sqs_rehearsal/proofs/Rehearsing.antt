@@ -12,7 +12,7 @@ use Rattle.sim_records.specs.Writes.{AppendsPrefix, WriterState, Wrote, WroteSev
 use Rattle.sim_scenario.specs.Ranges.{IsInRange}
 use Rattle.sim_windows.specs.Sinks.{HasStopped, HasTaken}
 use Rattle.sim_workers.specs.Runs.{StopsAnyhow}
-use Rattle.sqs_formats.specs.Output.{ending_of, log_of, queue_names}
+use Rattle.sqs_formats.specs.Output.{log_of}
 use Rattle.sqs_formats.specs.Rows.{line, lines, log_header, row_fields}
 use Rattle.sqs_message.specs.declared.row.Row.{Row}
 use Rattle.sqs_model.specs.Limits.{IsOver}
@@ -23,6 +23,7 @@ use Rattle.sqs_rehearsal.proofs.Barred.{split_bars}
 use Rattle.sqs_rehearsal.proofs.Prefixes.{all_are_prefix}
 use Rattle.sqs_rehearsal.proofs.Runs.{rehearsed, some_run}
 use Rattle.sqs_rehearsal.proofs.Stopped.{refused_after_log, refused_barred, stopped_unwritten, stopped_where}
+use Rattle.sqs_rehearsal.specs.Endings.{asked_of, ending_with}
 use Rattle.sqs_rehearsal.specs.Options.{Options, split_fault}
 use Rattle.sqs_rehearsal.specs.Splits.{IsUnsplit}
 use Rattle.sqs_rehearsal.specs.Rehearsals.{IsRefused, IsWritten, Rehearsed, Request}
@@ -112,7 +113,7 @@ module _ {L P : Type 0} (state : L → WriterState) where
                 whole = p.taken.works is_begun.header.whole;
               };
           names = ap arc_value same ∙ is_begun.names;
-          counts = counted ∙ p.taken.added (queue_names s) [] (fresh ∙ is_begun.counts);
+          counts = counted ∙ p.taken.added (asked_of s q.options.figures) [] (fresh ∙ is_begun.counts);
           sites = p.sites_are;
         }
 
@@ -163,10 +164,10 @@ module _ (q : Request) (start old new : WriterState) (ended : Ended) (logged : I
 
   -- the rest was written, or not
   pub ends_whole : (u : Unit {0}) → WroteSeveral old new [] (Ok u) → new.flushed ≡ true → (report : Writer) (v : Unit {0})
-      → WroteSeveral report.before report.after (ending_of logged.of.scenario logged.of.run) (Ok v) → report.after.flushed ≡ true → IsWritten q (since start new) report
+      → WroteSeveral report.before report.after (ending_with logged.of.scenario q.options.figures logged.of.run) (Ok v) → report.after.flushed ≡ true → IsWritten q (since start new) report
   ends_whole u p f report v w g =
       record { of = logged.of; not_over = logged.not_over; whole_log = flushed u p; whole_report = record { bytes = w.0; whole = w.1 }; flushed = (f, g) }
 
   pub ends_short : (u : Unit {0}) → WroteSeveral old new [] (Ok u) → (report : Writer) (e : Refusal)
-      → WroteSeveral report.before report.after (ending_of logged.of.scenario logged.of.run) (Err e) → IsRefused q (since start new) report (faults.Refused e)
+      → WroteSeveral report.before report.after (ending_with logged.of.scenario q.options.figures logged.of.run) (Err e) → IsRefused q (since start new) report (faults.Refused e)
   ends_short u p report e w = refused_after_log q logged.of (since start new) report e (flushed u p) w

@@ -5,8 +5,9 @@ use Rattle.std.specs.Result.{IsErrAnd}
 use Rattle.sim_clock.specs.declared.refusal.Refusal.{Refusal}
 use Rattle.sim_engine.specs.Limits.{StopsWhere}
 use Rattle.sim_records.specs.Writes.{WroteSeveral}
-use Rattle.sqs_formats.specs.Output.{ending_of, log_of}
+use Rattle.sqs_formats.specs.Output.{log_of}
 use Rattle.sqs_model.specs.Limits.{IsOver}
+use Rattle.sqs_rehearsal.specs.Endings.{ending_with}
 use Rattle.sqs_rehearsal.specs.Rehearsals.{Bars, IsRefused, IsUnwritten, Rehearsed, Request}
 use Rattle.sqs_rehearsal.specs.Steps.{StopsEarly}
 use Rattle.sqs_rehearsal.specs.Writers.{Got, GotPrefix, Writer}
@@ -37,7 +38,7 @@ module _ (q : Request) (of : Rehearsed q) (log : Writer) where
   stopped_unwritten e p report none = absurd p
 
   -- after the log
-  pub refused_after_log : (report : Writer) (e : Refusal) → Got log (log_of of.scenario of.run) → WroteSeveral report.before report.after (ending_of of.scenario of.run) (Err e)
+  pub refused_after_log : (report : Writer) (e : Refusal) → Got log (log_of of.scenario of.run) → WroteSeveral report.before report.after (ending_with of.scenario q.options.figures of.run) (Err e)
       → IsRefused q log report (faults.Refused e)
   refused_after_log report refusals.Memory g p = inr (inr (record { of = of; whole_log = g; report_prefix = record { bytes = p.0; fails = p.1 } }))
   refused_after_log report refusals.Write g p = inr (record { of = of; whole_log = g; report_prefix = record { bytes = p.0; fails = p.1 } })

@@ -1,9 +1,15 @@
 -- Parts that are written one after another.
-use Rattle.std.proofs.Common.{◌≡◌, ℕ, Err, List, Ok, Result, [], ◌++◌, append-nil, subst}
+use Rattle.std.proofs.Common.{◌≡◌, ℕ, Err, List, None, Ok, Option, Result, Some, [], ◌++◌, append-nil, refl, subst}
 use Rattle.std.specs.Result.{IsErrAnd}
 use Rattle.sim_clock.specs.declared.refusal.Refusal.{Refusal}
 use Rattle.sim_records.proofs.Writes.{several_after, several_handed_on, several_stopped}
 use Rattle.sim_records.specs.Writes.{WriterState, WroteSeveral}
+use Rattle.sim_report.specs.Reports.{figures_if}
+use Rattle.sim_report.specs.declared.stretch.Stretch.{Stretch}
+use Rattle.sqs_formats.specs.Output.{ending_of}
+use Rattle.sqs_model.specs.Run.{Run}
+use Rattle.sqs_model.specs.Scenario.{Scenario}
+use Rattle.sqs_rehearsal.specs.Endings.{asked_of, ending_with}
 
 -- the first of two parts is not written whole, so the second is not written
 pub first_stopped : (a b : WriterState) (xs ys : List ℕ) (e : Refusal) (r : Result (Unit {0}) Refusal)
@@ -19,3 +25,8 @@ first_and_second a b c xs ys u r p q = several_after a b c xs ys r p.0 q
 pub flushed : (a b c : WriterState) (xs : List ℕ) (u : Unit {0}) (r : Result (Unit {0}) Refusal)
     → WroteSeveral a b xs (Ok u) → WroteSeveral b c [] r → WroteSeveral a c xs r
 flushed a b c xs u r p q = subst (λ (t : List ℕ). WroteSeveral a c t r) (append-nil xs) (several_after a b c xs [] r p.0 q)
+
+-- the ending without figures, and then those that are wanted
+pub ending-parts : (s : Scenario) (figures : Option Stretch) (r : Run) → ending_of s r ++ figures_if (asked_of s figures) r.rows ≡ ending_with s figures r
+ending-parts s None r = append-nil (ending_of s r)
+ending-parts s (Some stretch) r = refl

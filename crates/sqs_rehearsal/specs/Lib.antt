@@ -13,3 +13,4 @@ pub mod Sinks
 pub mod SinkLaws
 pub mod Printed
 pub mod PrintedLaws
+pub mod Endings

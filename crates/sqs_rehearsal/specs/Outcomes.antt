@@ -1,29 +1,29 @@
 -- What a whole run leaves.
-use Rattle.std.specs.Prelude.{List, ℕ, ◌≡◌}
+use Rattle.std.specs.Prelude.{List, None, Option, ℕ, ◌≡◌}
 use Rattle.sim_clock.specs.declared.refusal.Refusal.{Refusal}
-use Rattle.sim_report.specs.Running.{running}
-use Rattle.sim_report.specs.declared.queue.QueueCounts.{QueueCounts}
+use Rattle.sim_report.specs.Reports.{Counts, running}
+use Rattle.sim_report.specs.declared.stretch.Stretch.{Stretch}
 use Rattle.sim_engine.specs.Limits.{StopsWhere}
-use Rattle.sqs_formats.specs.Output.{queue_names}
 use Rattle.sqs_model.specs.Finals.{finals_of}
 use Rattle.sqs_model.specs.Limits.{IsOver}
 use Rattle.sqs_model.specs.Run.{IsRunOf, Run}
 use Rattle.sqs_model.specs.Scenario.{Scenario}
 use Rattle.sqs_model.specs.Site.{Site}
+use Rattle.sqs_rehearsal.specs.Endings.{asked_of}
 use Rattle.sqs_rehearsal.specs.declared.outcome.Outcome.{Outcome}
 
 -- a scenario's one-list run has reached its end and taken no count past the limit; its rows are counted, and these are
 -- the sites of its last world
-pub record HasCounted (s : Scenario) (counts : List QueueCounts) (sites : List Site) : Type 0 where
+pub record HasCounted (s : Scenario) (counts : Counts) (sites : List Site) : Type 0 where
   pub run : Run
   pub is_run : IsRunOf s run
   pub not_over : ¬ IsOver s
-  pub counted : counts ≡ running (queue_names s) run.rows
+  pub counted : counts ≡ running (asked_of s None) run.rows
   pub sites_are : sites ≡ run.sites
 
 -- what the run of a scenario leaves: the counts of all its rows, and what is in its last world
 pub record IsLeftBy (s : Scenario) (r : Run) (o : Outcome) : Type 0 where
-  pub counted : o.report ≡ running (queue_names s) r.rows
+  pub counted : o.report ≡ running (asked_of s None) r.rows
   pub finals : o.finals ≡ finals_of r.sites
 
 -- what a scenario's one-list run leaves, which takes no count past the limit
@@ -37,10 +37,12 @@ pub record IsOutcomeOf (s : Scenario) (o : Outcome) : Type 0 where
 abbrev pub Stops : Scenario → Refusal → Type 0
 Stops s = StopsWhere (IsOver s)
 
--- what holds of a scenario and its run, by its names, the counts of its rows and the sites that are left
-abbrev pub OfEnd : List (List ℕ) → List QueueCounts → List Site → (Scenario → Run → Type 0) → Type 0
+-- what holds of a scenario and its run, by its names, the counts of its rows with the figures that were asked for, and
+-- the sites that are left
+abbrev pub OfEnd : List (List ℕ) → Counts → List Site → (Scenario → Run → Option Stretch → Type 0) → Type 0
 OfEnd names counts sites P =
-    (s : Scenario) (r : Run) → names ≡ s.names → counts ≡ running (queue_names s) r.rows → sites ≡ r.sites → P s r
+    (s : Scenario) (r : Run) (figures : Option Stretch)
+    → names ≡ s.names → counts ≡ running (asked_of s figures) r.rows → sites ≡ r.sites → P s r figures
 
 -- what holds of two scenarios and their runs, which leave these outcomes
 abbrev pub OfBoth : Outcome → Outcome → (Scenario → Run → Scenario → Run → Type 0) → Type 0

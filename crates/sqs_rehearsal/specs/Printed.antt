@@ -6,10 +6,9 @@ use Rattle.sim_clock.specs.declared.refusal.Refusal.{Refusal}
 use Rattle.sim_records.specs.Writes.{WriterState}
 use Rattle.sim_engine.specs.Engine.{Engine}
 use Rattle.sim_engine.specs.Mapping.{KeepsRows, MappedSite, Mapping, mapped}
-use Rattle.sim_report.specs.Running.{count_added}
-use Rattle.sim_report.specs.Tally.{count_of}
-use Rattle.sim_report.specs.declared.column.RowCount.{RowCount}
-use Rattle.sim_report.specs.declared.queue.QueueCounts.{QueueCounts}
+use Rattle.sim_report.specs.Facts.{fact_of}
+use Rattle.sim_report.specs.Reports.{Counts, fact_added}
+use Rattle.sim_report.specs.declared.fact.Fact.{Fact}
 use Rattle.sqs_formats.specs.Rows.{line, row_fields}
 use Rattle.sqs_message.specs.declared.row.Row.{Row}
 use Rattle.sqs_model.specs.Answers.{most_count}
@@ -25,17 +24,17 @@ use Rattle.sqs_rehearsal.specs.declared.recorder.Recorder.{Recorder}
 -- what the log and the report need of a row
 pub record Printed : Type 0 where
   pub key : Key
-  pub count : RowCount
+  pub fact : Fact
   pub received : ℕ
   pub line : List ℕ
 
 -- a row with its line, by the names of agents
 abbrev pub printed : List (List ℕ) → Row → Printed
-printed names r = record { key = r.key; count = count_of r; received = receipt_count r.receipt; line = line (row_fields names r) }
+printed names r = record { key = r.key; fact = fact_of r; received = receipt_count r.receipt; line = line (row_fields names r) }
 
 -- rows are mapped so
 abbrev pub row_mapping : Mapping (List (List ℕ)) Row Printed
-row_mapping = record { made = printed; key = λ p. p.key; site = λ p. p.count.queue; count = λ p. p.received }
+row_mapping = record { made = printed; key = λ p. p.key; site = λ p. p.fact.count.queue; count = λ p. p.received }
 
 -- the engine of sites whose rows are printed
 abbrev pub printed_sqs : Engine (MappedSite Site (List (List ℕ))) Printed Outbound
@@ -45,9 +44,9 @@ printed_sqs = mapped sqs row_mapping
 pub printed_keeps : KeepsRows sqs row_mapping
 printed_keeps = record { key = λ names r. refl; site = λ names r. refl; count = λ names r. refl }
 
--- a report with what printed rows count
-abbrev pub printed_added : List QueueCounts → List Printed → List QueueCounts
-printed_added report made = fold (λ queues p. count_added queues p.count) report made
+-- a report with what printed rows say
+abbrev pub printed_added : Counts → List Printed → Counts
+printed_added report made = fold (λ counts p. fact_added counts p.fact) report made
 
 module _ {W P : Type 0} (state : W → WriterState) where
   -- a recorder took rows, none of which has a count past the limit

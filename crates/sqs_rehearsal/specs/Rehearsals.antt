@@ -1,13 +1,14 @@
 -- What a rehearsal writes, or why it is refused.
 use Rattle.std.specs.Prelude.{Bool, Err, List, MatchResult, None, Ok, Result, Some, false, true, ℕ, ◌<◌, ◌≡◌, ◌⊎◌}
 use Rattle.sim_clock.specs.declared.refusal.Refusal.{Refusal}
-use Rattle.sqs_formats.specs.Output.{ending_of, log_of}
+use Rattle.sqs_formats.specs.Output.{log_of}
 use Rattle.sqs_formats.specs.Rows.{line, log_header}
 use Rattle.sqs_formats.specs.Scenario.{released, scenario_upto}
 use Rattle.sqs_model.specs.Accounts.{EachHasOnePlace, NoOtherHasPlace}
 use Rattle.sqs_model.specs.Limits.{IsOver}
 use Rattle.sqs_model.specs.Run.{IsRunOf, Run}
 use Rattle.sqs_model.specs.Scenario.{Scenario}
+use Rattle.sqs_rehearsal.specs.Endings.{ending_with}
 use Rattle.sqs_rehearsal.specs.Options.{Options, split_fault}
 use Rattle.sqs_rehearsal.specs.Writers.{Got, GotPrefix, GotNothing, Writer}
 use Rattle.sqs_rehearsal.specs.declared.rehearsal.Fault.{Fault}
@@ -48,7 +49,7 @@ pub record IsWritten (q : Request) (log report : Writer) : Type 0 where
   pub of : Rehearsed q
   pub not_over : ¬ IsOver of.scenario
   pub whole_log : Got log (log_of of.scenario of.run)
-  pub whole_report : Got report (ending_of of.scenario of.run)
+  pub whole_report : Got report (ending_with of.scenario q.options.figures of.run)
   pub flushed : (log.after.flushed ≡ true) × (report.after.flushed ≡ true)
 
 -- a rehearsal that stopped in the log: its writer got a prefix of it, and whether it failed; the other got nothing
@@ -73,7 +74,7 @@ pub record StoppedAtStart (q : Request) (log report : Writer) : Type 0 where
 pub record StoppedAfterLog (q : Request) (log report : Writer) (failed : Bool) : Type 0 where
   pub of : Rehearsed q
   pub whole_log : Got log (log_of of.scenario of.run)
-  pub report_prefix : GotPrefix report (ending_of of.scenario of.run) failed
+  pub report_prefix : GotPrefix report (ending_with of.scenario q.options.figures of.run) failed
 
 -- one that stopped on its way: the log is written first, and the rest after all of it
 abbrev pub IsPartWritten : Request → Writer → Writer → Bool → Type 0

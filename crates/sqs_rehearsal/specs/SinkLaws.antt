@@ -9,20 +9,19 @@ use Rattle.sqs_message.specs.declared.row.Row.{Row}
 use Rattle.sqs_formats.specs.Rows.{line}
 use Rattle.sim_records.specs.Writes.{WriterState, WroteSeveral}
 use Rattle.sim_records.proofs.Writes.{several_after}
-use Rattle.sim_report.specs.declared.queue.QueueCounts.{QueueCounts}
-use Rattle.sim_report.specs.Running.{running}
+use Rattle.sim_report.specs.Reports.{Counts, running}
 use Rattle.sqs_rehearsal.specs.declared.counter.Counter.{Counter}
 use Rattle.sqs_rehearsal.specs.declared.recorder.Recorder.{Recorder}
 use Rattle.sqs_rehearsal.specs.Sinks.{Added, Counted, IsSame, Recorded, StoppedAt, lines_of}
 
 -- a report with no more rows
-added_none : (report : List QueueCounts) → Added report [] report
-added_none report = λ names sofar is. is ∙ ap (running names) (sym (append-nil sofar))
+added_none : (report : Counts) → Added report [] report
+added_none report = λ asked sofar is. is ∙ ap (running asked) (sym (append-nil sofar))
 
 -- a report with some rows, and then others
-added_both : (a b c : List QueueCounts) (xs ys : List Row) → Added a xs b → Added b ys c → Added a (xs ++ ys) c
+added_both : (a b c : Counts) (xs ys : List Row) → Added a xs b → Added b ys c → Added a (xs ++ ys) c
 added_both a b c xs ys first second =
-    λ names sofar is. second names (sofar ++ xs) (first names sofar is) ∙ ap (running names) (append_assoc sofar xs ys)
+    λ asked sofar is. second asked (sofar ++ xs) (first asked sofar is) ∙ ap (running asked) (append_assoc sofar xs ys)
 
 -- a counter as it was took nothing
 pub counted_none : (counter : Counter) → Counted counter [] counter

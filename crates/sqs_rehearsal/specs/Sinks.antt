@@ -5,15 +5,14 @@ use Rattle.sim_clock.specs.declared.refusal.Refusal.{Refusal}
 use Rattle.sqs_message.specs.declared.row.Row.{Row}
 use Rattle.sqs_formats.specs.Rows.{lines, row_fields}
 use Rattle.sim_records.specs.Writes.{WriterState, WroteSeveral}
-use Rattle.sim_report.specs.declared.queue.QueueCounts.{QueueCounts}
-use Rattle.sim_report.specs.Running.{running}
+use Rattle.sim_report.specs.Reports.{Asked, Counts, running}
 use Rattle.sqs_rehearsal.specs.declared.counter.Counter.{Counter}
 use Rattle.sqs_rehearsal.specs.declared.recorder.Recorder.{Recorder}
 
 -- the report of whatever rows became the report of those rows and then these
-abbrev pub Added : List QueueCounts → List Row → List QueueCounts → Type 0
+abbrev pub Added : Counts → List Row → Counts → Type 0
 Added before rows after =
-    (names : List (List ℕ)) (sofar : List Row) → before ≡ running names sofar → after ≡ running names (sofar ++ rows)
+    (asked : Asked) (sofar : List Row) → before ≡ running asked sofar → after ≡ running asked (sofar ++ rows)
 
 -- these rows were added to the same report
 pub record Counted (before : Counter) (rows : List Row) (after : Counter) : Type 0 where

@@ -3,13 +3,14 @@ use Rattle.std.specs.Arc.{arc_value}
 use Rattle.std.specs.Prelude.{MatchResult, None, Ok, Result, [], ◌≡◌}
 use Rattle.sim_clock.specs.declared.refusal.Refusal.{Refusal}
 use Rattle.sim_records.specs.Writes.{WriterState}
-use Rattle.sim_report.specs.Running.{running}
+use Rattle.sim_report.specs.Reports.{running}
 use Rattle.sim_scenario.specs.Ranges.{IsInRange}
-use Rattle.sqs_formats.specs.Output.{log_of, queue_names}
+use Rattle.sqs_formats.specs.Output.{log_of}
 use Rattle.sqs_formats.specs.Rows.{line, log_header}
 use Rattle.sqs_formats.specs.Scenario.{scenario_upto}
 use Rattle.sqs_model.specs.Limits.{IsOver}
 use Rattle.sqs_model.specs.Scenario.{Scenario}
+use Rattle.sqs_rehearsal.specs.Endings.{asked_of}
 use Rattle.sqs_rehearsal.specs.Options.{Options, split_fault}
 use Rattle.sqs_rehearsal.specs.Rehearsals.{IsRefused, Rehearsed, Request}
 use Rattle.sqs_rehearsal.specs.Splits.{split_of}
@@ -39,7 +40,7 @@ pub record IsBegun (q : Request) (s : Scenario) (log : Writer) (begun : Begun) :
   pub header : Got log (line log_header)
   pub split : begun.split ≡ split_of s q.options
   pub names : arc_value begun.names ≡ s.names
-  pub counts : begun.counts ≡ running (queue_names s) []
+  pub counts : begun.counts ≡ running (asked_of s q.options.figures) []
 
 -- one whose run has come to its end: the log is whole, all rows are counted, and these are the sites of the last world
 pub record IsLogged (q : Request) (log : Writer) (ended : Ended) : Type 0 where
@@ -47,7 +48,7 @@ pub record IsLogged (q : Request) (log : Writer) (ended : Ended) : Type 0 where
   pub not_over : ¬ IsOver of.scenario
   pub whole_log : Got log (log_of of.scenario of.run)
   pub names : arc_value ended.names ≡ of.scenario.names
-  pub counts : ended.counts ≡ running (queue_names of.scenario) of.run.rows
+  pub counts : ended.counts ≡ running (asked_of of.scenario q.options.figures) of.run.rows
   pub sites : ended.sites.items ≡ of.run.sites
 
 -- what comes of the beginning

@@ -100,6 +100,7 @@ pub fn rehearse_alone<L: Out, R: Out>(
         parts: None,
         map: None,
         workers: 1,
+        figures: None,
     };
     let scenario = draft.read(alloc, scripts)?;
     rehearse_here(alloc, scenario, &options, log, report, &mut Unwatched)

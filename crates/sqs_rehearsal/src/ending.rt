@@ -6,6 +6,7 @@ ghost use Rattle.sqs_formats.specs.Finals.{finals_text, message_fields, message_
 ghost use Rattle.sqs_formats.specs.Output.{ending_of};
 ghost use Rattle.sqs_formats.specs.Rows.{lines};
 ghost use Rattle.sqs_model.specs.Finals.{final_message, finals_of, messages_at};
+ghost use Rattle.sqs_rehearsal.specs.Endings.{ending_with};
 ghost use Rattle.sqs_rehearsal.specs.Outcomes.{OfEnd};
 ghost use Rattle.sqs_rehearsal.specs.Left.{others_text};
 ghost use Rattle.sim_report.specs.Running.{CountsAll, CountsOn};
@@ -153,19 +154,37 @@ fn write_left<W: Out>(
     requires { (W.state out.old).failed ≡ false }
     ensures works { OnOk result ((W.state out.new).failed ≡ false) }
     ensures written { OfEnd names.now report.now sites.now
-        (λ s r. WroteSeveral (W.state out.old) (W.state out.new) (ending_of s r) result) }
+        (λ s r figures. WroteSeveral (W.state out.old) (W.state out.new) (ending_of s r) result) }
 {
     let mut left = report.none_left(alloc)?;
     write_state(alloc, out, sites, names, &mut left)?;
     report.write_counted(alloc, out, &left)
 }
 
-/// Writes the state of a run's sites at its end and then its report, and flushes the writer.
+// Writes the state of a run's sites, then its report, and then its figures, if they are wanted.
+fn write_parts<W: Out>(
+    alloc: Global,
+    out: &mut W,
+    sites: &[Site],
+    names: &Names,
+    report: &Report,
+) -> Result<(), Refusal>
+    requires { (W.state out.old).failed ≡ false }
+    ensures works { OnOk result ((W.state out.new).failed ≡ false) }
+    ensures written { OfEnd names.now report.now sites.now (λ s r figures.
+        WroteSeveral (W.state out.old) (W.state out.new) (ending_with s figures r) result) }
+{
+    write_left(alloc, out, sites, names, report)?;
+    report.write_figures(alloc, out)
+}
+
+/// Writes the state of a run's sites at its end, then its report, and then its figures, if they are
+/// wanted, and flushes the writer.
 /// `names` has the names of all agents.
 ///
 /// # Errors
 ///
-/// `Memory` if a growth is refused, `Write` if the writer fails: a prefix of the two is written.
+/// `Memory` if a growth is refused, `Write` if the writer fails: a prefix of these is written.
 pub fn write_ending<W: Out>(
     alloc: Global,
     out: &mut W,
@@ -174,10 +193,10 @@ pub fn write_ending<W: Out>(
     report: &Report,
 ) -> Result<(), Refusal>
     requires { (W.state out.old).failed ≡ false }
-    ensures written { OfEnd names.now report.now sites.now
-        (λ s r. WroteSeveral (W.state out.old) (W.state out.new) (ending_of s r) result) }
+    ensures written { OfEnd names.now report.now sites.now (λ s r figures.
+        WroteSeveral (W.state out.old) (W.state out.new) (ending_with s figures r) result) }
     ensures flushed { OnOk result ((W.state out.new).flushed ≡ true) }
 {
-    write_left(alloc, out, sites, names, report)?;
+    write_parts(alloc, out, sites, names, report)?;
     flush(out)
 }

@@ -7,11 +7,13 @@ ghost use Rattle.sqs_rehearsal.specs.Splits.{IsUnsplit, split_of, unless};
 
 use sim_clock::Refusal;
 use sim_exchange::PartMap;
+use sim_report::Stretch;
 use sim_scenario::{Scenario, least_latency};
 use std::alloc::{AllocError, Global};
 use std::marker::Model;
 
-/// How a rehearsal is split. What it writes does not depend on this.
+/// How a rehearsal is split, and whether it writes figures. What else it writes does not depend on
+/// this.
 #[derive(Drop)]
 pub struct Options {
     /// The window of the partitions, in milliseconds, at least 1. Without one it is the least
@@ -23,6 +25,8 @@ pub struct Options {
     pub map: Option<Vec<u32>>,
     /// The number of workers, 1 to 64.
     pub workers: u32,
+    /// The stretch of time over which figures are written behind the report, if they are wanted.
+    pub figures: Option<Stretch>,
 }
 
 impl Model for Options {
@@ -31,7 +35,7 @@ impl Model for Options {
 
     ghost Value = { Options };
 
-    ghost view = { λ s. record { window = s.window; parts = s.parts; map = option_map (λ v. v.items) s.map; workers = s.workers } };
+    ghost view = { λ s. record { window = s.window; parts = s.parts; map = option_map (λ v. v.items) s.map; workers = s.workers; figures = s.figures } };
 }
 
 /// How the run of a scenario is split.

@@ -1,9 +1,11 @@
 //! The outcome of the whole run of a scenario.
-ghost use Rattle.std.specs.Prelude.{◌≡◌, [], false, true, IfErr, IfOk, OnOk};
+ghost use Rattle.std.specs.Prelude.{◌≡◌, [], false, true, IfErr, IfOk, None, OnOk};
 ghost use Rattle.sim_records.specs.Writes.{WroteSeveral};
-ghost use Rattle.sim_report.specs.Running.{running};
+ghost use Rattle.sim_report.specs.Figured.{figured};
+ghost use Rattle.sim_report.specs.Reports.{running};
 ghost use Rattle.sqs_formats.specs.Comparison.{comparison};
 ghost use Rattle.sqs_formats.specs.Output.{queue_names, report_of};
+ghost use Rattle.sqs_rehearsal.specs.Endings.{actor_names, asked_of, in_run};
 ghost use Rattle.sqs_rehearsal.specs.Outcomes.{HasCounted, IsOutcomeOf, OfBoth, Stops};
 
 use crate::counter::Counter;
@@ -11,7 +13,7 @@ use crate::finals::finals_of;
 use crate::running::run_alone;
 use sim_clock::Refusal;
 use sim_records::Out;
-use sim_report::Report;
+use sim_report::{Figures, Report, Stretch};
 use sim_scenario::Scenario;
 use sim_site::Site;
 use sqs_message::Text;
@@ -37,13 +39,42 @@ pub fn copies(alloc: Global, texts: &[Text]) -> Result<Vec<Text>, AllocError>
     Ok(copies)
 }
 
-/// The report of no rows of a scenario. It fails if memory runs out.
-pub fn fresh_report(alloc: Global, scenario: &Scenario) -> Result<Report, AllocError>
-    ensures { IfOk result (λ report. report ≡ running (queue_names scenario.now) []) }
+// The figures of no rows of a scenario over the part of a stretch that lies in its run. It fails if
+// memory runs out.
+fn fresh_figures(
+    alloc: Global,
+    scenario: &Scenario,
+    stretch: Stretch,
+) -> Result<Figures, AllocError>
+    ensures { IfOk result (λ figures. figures ≡ figured (queue_names scenario.now)
+        (actor_names scenario.now) (in_run scenario.now stretch) []) }
 {
     let queues = scenario.queues().len();
+    let stretch = Stretch {
+        from: stretch.from,
+        until: stretch.until.min(scenario.horizon().saturating_add(1)),
+    };
     let names = copies(alloc, &scenario.names()[..queues])?;
-    Report::new(alloc, names)
+    let actors = copies(alloc, &scenario.names()[queues..])?;
+    Figures::new(alloc, stretch, names, actors)
+}
+
+/// The report of no rows of a scenario, with figures over the part of a stretch that lies in its
+/// run, if they are wanted. It fails if memory runs out.
+pub fn fresh_report(
+    alloc: Global,
+    scenario: &Scenario,
+    figures: Option<Stretch>,
+) -> Result<Report, AllocError>
+    ensures { IfOk result (λ report. report ≡ running (asked_of scenario.now figures) []) }
+{
+    let queues = scenario.queues().len();
+    let figures = match figures {
+        Some(stretch) => Some(fresh_figures(alloc, scenario, stretch)?),
+        None => None,
+    };
+    let names = copies(alloc, &scenario.names()[..queues])?;
+    Report::new(alloc, names, figures)
 }
 
 /// Makes a writer pass on what it has taken.
@@ -58,7 +89,7 @@ pub fn flush<W: Out>(out: &mut W) -> Result<(), Refusal>
 
 // Runs a scenario to its horizon on this thread, and counts its rows.
 fn run_counted(alloc: Global, scenario: Scenario, report: &mut Report) -> Result<Vec<Site>, Refusal>
-    requires fresh { report.old ≡ running (queue_names scenario) [] }
+    requires fresh { report.old ≡ running (asked_of scenario None) [] }
     ensures whole { IfOk result (λ sites. HasCounted scenario report.new sites.items) }
     ensures stops { IfErr result (Stops scenario) }
 {
@@ -77,7 +108,7 @@ impl Outcome {
         ensures whole { IfOk result (IsOutcomeOf scenario) }
         ensures stops { IfErr result (Stops scenario) }
     {
-        let mut report = fresh_report(alloc, &scenario)?;
+        let mut report = fresh_report(alloc, &scenario, None)?;
         let sites = run_counted(alloc, scenario, &mut report)?;
         let finals = finals_of(alloc, sites.as_slice())?;
         Ok(Outcome { report, finals })

@@ -6,7 +6,7 @@ use crate::limited::count_of;
 use sim_clock::Key;
 use sim_engine::{Mapped, RowMapper};
 use sim_records::{LineText, Names, Printer};
-use sim_report::RowCount;
+use sim_report::Fact;
 use sim_site::Site;
 use sqs_message::Row;
 use std::alloc::{AllocError, Global};
@@ -17,7 +17,7 @@ use std::sync::Arc;
 #[derive(Drop)]
 pub struct PrintedRow {
     key: Key,
-    count: RowCount,
+    fact: Fact,
     received: u64,
     line: LineText,
 }
@@ -27,7 +27,7 @@ impl Model for PrintedRow {
 
     ghost Value = { Printed };
 
-    ghost view = { λ p. record { key = p.key; count = p.count; received = p.received; line = p.line.items } };
+    ghost view = { λ p. record { key = p.key; fact = p.fact; received = p.received; line = p.line.items } };
 }
 
 impl PrintedRow {
@@ -38,11 +38,11 @@ impl PrintedRow {
         self.key.at
     }
 
-    /// What the row counts.
-    pub fn count(&self) -> RowCount
-        ensures { result ≡ self.now.count }
+    /// What the row says to the report.
+    pub fn fact(&self) -> Fact
+        ensures { result ≡ self.now.fact }
     {
-        self.count
+        self.fact
     }
 
     /// How often the message of the row was received, by the row's receipt.
@@ -96,7 +96,7 @@ impl RowMapper<Site> for RowPrinter {
         let line = self.printer.print(row)?;
         Ok(PrintedRow {
             key: row.key,
-            count: RowCount::of(row),
+            fact: Fact::of(row),
             received: count_of(row),
             line,
         })
@@ -107,7 +107,7 @@ impl RowMapper<Site> for RowPrinter {
     }
 
     fn site(new: &PrintedRow) -> u32 {
-        new.count.queue
+        new.fact.count.queue
     }
 
     ghost keeps = { printed_keeps };

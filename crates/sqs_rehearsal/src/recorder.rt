@@ -90,18 +90,18 @@ fn write_printed<W: Out>(alloc: Global, out: &mut W, rows: &[PrintedRow]) -> Res
     Ok(())
 }
 
-// Adds what printed rows count to a report.
+// Adds what printed rows say to a report.
 fn count_printed(report: &mut Report, rows: &[PrintedRow]) -> Result<(), AllocError>
     ensures { OnOk result (report.new ≡ printed_added report.old rows.now) }
 {
     for row in rows {
-        report.add_count(row.count())?;
+        report.add_fact(row.fact())?;
     }
     Ok(())
 }
 
 impl<W: Out, P: Watch> Recorder<'_, W, P> {
-    // Writes the lines of printed rows, and adds what they count.
+    // Writes the lines of printed rows, and adds what they say.
     fn take_printed(&mut self, rows: &[PrintedRow]) -> Result<(), Refusal>
         requires ready { (W.state self.old.out.now).failed ≡ false }
         ensures ready { OnOk result ((W.state self.new.out.now).failed ≡ false) }

@@ -68,7 +68,7 @@ pub fn begin<L: Out>(
     let split = options.split(alloc, scenario)?;
     let names = Names::new(copies(alloc, scenario.names())?);
     let names = Arc::new(alloc, names)?;
-    let counts = fresh_report(alloc, scenario)?;
+    let counts = fresh_report(alloc, scenario, options.figures)?;
     write_header(alloc, log)?;
     Ok(Begun {
         alloc,

@@ -1,8 +1,9 @@
 -- How a rehearsal is split, by its line.
-use Rattle.std.specs.Prelude.{Bool, List, None, Option, Some, [], cond, length, nat_lt, option_and_then, option_map, unwrap_or, ℕ, ◌&&◌, ◌==◌, ◌∷◌, ◌^◌}
+use Rattle.std.specs.Prelude.{Bool, List, None, Option, Some, [], cond, length, nat_lt, option_and_then, option_map, unwrap_or, is_some, min, ℕ, ◌+◌, ◌-◌, ◌&&◌, ◌||◌, ◌==◌, ◌∷◌, ◌^◌}
 use Rattle.std.specs.Char.{digit_value}
 use Rattle.std.specs.List.{list_all, slice_split}
 use Rattle.std.specs.Str.Parse.{digits_value, without_leading_plus}
+use Rattle.sim_report.specs.declared.stretch.Stretch.{Stretch}
 use Rattle.sqs_command_line.specs.declared.asked.RunLine.{RunLine}
 use Rattle.sqs_rehearsal.specs.Options.{Options}
 
@@ -25,6 +26,12 @@ numbers_of (text ∷ rest) = option_and_then (λ n. option_map (λ ns. n ∷ ns)
 abbrev pub map_of : List ℕ → List ℕ
 map_of list = unwrap_or (numbers_of (slice_split (λ b. b == 44) list)) []
 
+-- the stretch of which a command line asks for figures, by a word or by its first or last millisecond
+abbrev pub stretch_of : RunLine → Option Stretch
+stretch_of line =
+    cond (line.figures || is_some line.from || is_some line.to)
+    (Some (record { from = unwrap_or line.from 0; until = min (unwrap_or line.to (2 ^ 64 - 1) + 1) (2 ^ 64 - 1) })) None
+
 -- the split of a command line: its numbers as they were read; one worker if it has no number of workers
 abbrev pub split_of : RunLine → Options
 split_of line = record {
@@ -32,4 +39,5 @@ split_of line = record {
   parts = line.parts;
   map = option_map (λ list. map_of list.now) line.map;
   workers = unwrap_or line.workers 1;
+  figures = stretch_of line;
 }

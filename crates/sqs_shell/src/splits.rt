@@ -1,9 +1,10 @@
 //! The split of a rehearsal, from its command line.
 ghost use Rattle.std.specs.Prelude.{◌==◌, ◌≡◌, [], IfOk, map, unwrap_or};
 ghost use Rattle.std.specs.List.{slice_split};
-ghost use Rattle.sqs_shell.specs.Splits.{map_of, number_of, numbers_of, split_of};
+ghost use Rattle.sqs_shell.specs.Splits.{map_of, number_of, numbers_of, split_of, stretch_of};
 
 use sqs_command_line::RunLine;
+use sim_report::Stretch;
 use sqs_rehearsal::Options;
 use std::alloc::{AllocError, Global};
 
@@ -44,7 +45,21 @@ fn partitions(alloc: Global, list: &str) -> Result<Vec<u32>, AllocError>
     numbers(alloc, pieces.as_slice())
 }
 
-/// The split that a line asks for.
+// The stretch of which a line asks for figures: from `from`, else from the beginning, to `to`, else
+// to the end. Either asks for figures, too.
+fn stretch(asked: RunLine<'_>) -> Option<Stretch>
+    ensures { result ≡ stretch_of asked.entry }
+{
+    if !asked.figures && asked.from.is_none() && asked.to.is_none() {
+        return None;
+    }
+    Some(Stretch {
+        from: asked.from.unwrap_or(0),
+        until: asked.to.unwrap_or(u64::MAX).saturating_add(1),
+    })
+}
+
+/// The split, and the figures, that a line asks for.
 pub fn split(alloc: Global, asked: RunLine<'_>) -> Result<Options, AllocError>
     ensures { IfOk result (λ s. s ≡ split_of asked.entry) }
 {
@@ -57,5 +72,6 @@ pub fn split(alloc: Global, asked: RunLine<'_>) -> Result<Options, AllocError>
         parts: asked.parts,
         map,
         workers: asked.workers.unwrap_or(1),
+        figures: stretch(asked),
     })
 }

@@ -57,6 +57,7 @@ pub fn split(parts: u32, workers: u32) -> Options {
         parts: Some(parts),
         map: None,
         workers,
+        figures: None,
     }
 }
 

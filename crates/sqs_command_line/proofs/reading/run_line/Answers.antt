@@ -14,7 +14,10 @@ returns c =
       workers = c.in_ok-workers.ensures;
       log = c.get_str-2.ensures ∙ first_value-rows found (codes "log");
       scripts = c.get_str-3.ensures ∙ first_value-rows found (codes "scripts");
-      preview = flag_given found (codes "preview") c.get_flag.result c.get_flag.ensures.none c.get_flag.ensures.value c.get_flag.ensures.other;
-      quiet = flag_given found (codes "quiet") c.get_flag-2.result c.get_flag-2.ensures.none c.get_flag-2.ensures.value c.get_flag-2.ensures.other;
+      figures = flag_given found (codes "figures") c.get_flag.result c.get_flag.ensures.none c.get_flag.ensures.value c.get_flag.ensures.other;
+      from = c.in_ok-from.ensures;
+      to = c.in_ok-to.ensures;
+      preview = flag_given found (codes "preview") c.get_flag-2.result c.get_flag-2.ensures.none c.get_flag-2.ensures.value c.get_flag-2.ensures.other;
+      quiet = flag_given found (codes "quiet") c.get_flag-3.result c.get_flag-3.ensures.none c.get_flag-3.ensures.value c.get_flag-3.ensures.other;
       scenario = c.get_str-4.ensures ∙ first_value-rows found (codes "scenario");
     }

@@ -18,10 +18,10 @@ returns-in_err-write_ending g c q start logged =
     let report = seen g.R.Out.state c.args.report.now c.write_ending.new.out in
     handed_over _ _ c.from_residual-in_err-write_ending.result (Refused e) c.from_residual-in_err-write_ending.ensures.1
     (ends_short q start (g.L.Out.state c.args.log.now) (g.L.Out.state c.flush.new.out) c.args.self logged c.in_ok-flush.field-0 c.in_ok-flush.ensures.written report e
-    (c.in_err-write_ending.ensures.written logged.of.scenario logged.of.run (c.deref.ensures ∙ logged.names) logged.counts (c.as_slice-sites.ensures.value ∙ logged.sites)))
+    (c.in_err-write_ending.ensures.written logged.of.scenario logged.of.run q.options.figures (c.deref.ensures ∙ logged.names) logged.counts (c.as_slice-sites.ensures.value ∙ logged.sites)))
 
 pub returns : goal.returns
 returns g c q start logged =
     let report = seen g.R.Out.state c.args.report.now c.write_ending.new.out in
     ends_whole q start (g.L.Out.state c.args.log.now) (g.L.Out.state c.flush.new.out) c.args.self logged c.in_ok-flush.field-0 c.in_ok-flush.ensures.written c.in_ok-flush.ensures.flushed report c.in_ok-write_ending.field-0
-    (c.in_ok-write_ending.ensures.written logged.of.scenario logged.of.run (c.deref.ensures ∙ logged.names) logged.counts (c.as_slice-sites.ensures.value ∙ logged.sites)) c.in_ok-write_ending.ensures.flushed
+    (c.in_ok-write_ending.ensures.written logged.of.scenario logged.of.run q.options.figures (c.deref.ensures ∙ logged.names) logged.counts (c.as_slice-sites.ensures.value ∙ logged.sites)) c.in_ok-write_ending.ensures.flushed

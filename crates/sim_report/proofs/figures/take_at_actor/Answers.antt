@@ -1,0 +1,20 @@
+use Rattle.std.proofs.Common.{◌≡◌, ◌-◌, true, nat_le, sym, refl, arith}
+use Rattle.std.proofs.lemmas.Bool.Decides.{nat_tests}
+use Rattle.sim_report.specs.Figured.{actor_with}
+use Rattle.sim_report.proofs.Groups.{changed-past, changed-set}
+use Rattle.sim_report.proofs.figures.take_at_actor.Goals as goal
+
+pub returns-in_ok-take : goal.returns-in_ok-take
+returns-in_ok-take c =
+    let actors = c.args.actors.now in
+    let step = actor_with c.args.queues c.args.stretch c.args.fact in
+    let there : nat_le c.args.queues c.args.fact.agent ≡ true = grind (arith, nat_tests, c.if-agent-queues.false) in
+    let change = changed-set step (c.args.fact.agent - c.args.queues) actors c.index-actors-place.result c.if-place-actors.true in
+    let taken = c.in_ok-take.ensures in
+    rw (there, change, taken, c.index-actors-place.is) refl
+
+pub returns-else-place-actors : goal.returns-else-place-actors
+returns-else-place-actors c =
+    let step = actor_with c.args.queues c.args.stretch c.args.fact in
+    let there : nat_le c.args.queues c.args.fact.agent ≡ true = grind (arith, nat_tests, c.if-agent-queues.false) in
+    rw there (sym (changed-past step (c.args.fact.agent - c.args.queues) c.args.actors.now c.if-place-actors.false))

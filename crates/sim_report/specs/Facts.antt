@@ -1,0 +1,22 @@
+-- What the figures need of a row.
+use Rattle.std.specs.Prelude.{ℕ, nat_lt, Option}
+use Rattle.sqs_message.specs.declared.row.Row.{Row}
+use Rattle.sim_report.specs.declared.fact.Fact.{Fact}
+use Rattle.sim_report.specs.Figures.{by_way, counted_as, hold_of, is_own}
+use Rattle.sim_report.specs.Tally.{count_of}
+
+-- what a row says
+abbrev pub fact_of : Row → Fact
+fact_of row =
+    record {
+      at = row.key.at;
+      agent = row.agent;
+      count = count_of row;
+      place = counted_as row.kind row.answer;
+      own = is_own row.message row.detail;
+      hold = hold_of row.kind row.answer;
+    }
+
+-- what a row that says this counts as, where so many queues are the first agents
+abbrev pub place_in : ℕ → Fact → Option ℕ
+place_in queues f = by_way f.own (nat_lt f.agent queues) f.place

@@ -1,0 +1,188 @@
+-- The running figures of queues and actors.
+use Rattle.std.specs.Prelude.{ℕ, ◌+◌, ◌-◌, nat_le, nat_lt, Bool, false, codes, cond, List, [], ◌∷◌, ◌++◌, fold, length, map, sum, Option, Some, None}
+use Rattle.std.specs.List.{enumerate_from}
+use Rattle.sqs_message.specs.declared.row.Row.{Row}
+use Rattle.sqs_formats.specs.Report.{ages, ascending, count, is_column, numbers, rows_of}
+use Rattle.sim_report.specs.declared.fact.Fact.{Fact}
+use Rattle.sim_report.specs.declared.stretch.Stretch.{Stretch}
+use Rattle.sim_report.specs.declared.held.Held.{Held}
+use Rattle.sim_report.specs.declared.level.Level.{Level}
+use Rattle.sim_report.specs.Facts.{fact_of, place_in}
+use Rattle.sim_report.specs.Figures.{Figure, count_names, counts_of, depths_from, figure_fields, held_after, held_with, higher, named_counts, overlap, rows_before, rows_by, rows_within}
+use Rattle.sim_report.specs.Running.{changed}
+use Rattle.sim_report.specs.Tally.{counted, rank_in, with_age}
+
+-- how many messages came into a queue by these rows, and how many went out
+abbrev pub level_of : List Row → Level
+level_of rows =
+    record { came = count 0 rows + count 8 rows; went = count 4 rows + count 5 rows + count 6 rows + count 7 rows }
+
+-- one if a row is in this column
+abbrev pub one_in : ℕ → Option ℕ → ℕ
+one_in n c = cond (is_column n c) 1 0
+
+-- the level after a row with this column
+abbrev pub level_with : Option ℕ → Level → Level
+level_with c l =
+    record {
+      came = l.came + (one_in 0 c + one_in 8 c);
+      went = l.went + (one_in 4 c + one_in 5 c + one_in 6 c + one_in 7 c);
+    }
+
+-- the messages that are there
+abbrev pub depth_at : Level → ℕ
+depth_at l = l.came - l.went
+
+-- the higher of two, if there is a first
+abbrev pub raised : Option (ℕ × ℕ) → ℕ × ℕ → ℕ × ℕ
+raised None second = second
+raised (Some first) second = higher first second
+
+-- the highest of some numbers with their moments
+abbrev pub highest : List (ℕ × ℕ) → Option (ℕ × ℕ)
+highest ns = fold (λ first second. Some (raised first second)) None ns
+
+-- the running figures of a queue
+pub record QueueState : Type 0 where
+  pub name : List ℕ
+  pub counts : List ℕ
+  pub ages : List ℕ
+  pub level : Level
+  pub before : Level
+  pub deepest : Option (ℕ × ℕ)
+
+-- the counts of no rows
+abbrev pub no_counts : List ℕ
+no_counts = map (λ n. 0) (numbers 0 count_names)
+
+-- the running figures of a queue without rows
+abbrev pub fresh_queue : List ℕ → QueueState
+fresh_queue name =
+    record { name = name; counts = no_counts; ages = []; level = level_of []; before = level_of []; deepest = None }
+
+-- after these rows of it
+abbrev pub queue_state : ℕ → Stretch → List ℕ → List Row → QueueState
+queue_state queues s name rows =
+    record {
+      name = name;
+      counts = counts_of queues (rows_within s rows);
+      ages = ascending (ages (rows_within s rows));
+      level = level_of rows;
+      before = level_of (rows_before s rows);
+      deepest = highest (depths_from s [] rows);
+    }
+
+-- whether a moment lies in a stretch
+abbrev pub holds_moment : Stretch → ℕ → Bool
+holds_moment s at = cond (nat_le s.from at) (nat_lt at s.until) false
+
+-- with one more fact of the stretch; the level has it already
+abbrev pub queue_counting : ℕ → Fact → QueueState → QueueState
+queue_counting queues f q =
+    record q {
+      counts = counted (place_in queues f) q.counts;
+      ages = with_age f.count.age q.ages;
+      deepest = Some (raised q.deepest (f.at, depth_at q.level));
+    }
+
+-- the levels with one more fact
+abbrev pub queue_levelled : Stretch → Fact → QueueState → QueueState
+queue_levelled s f q =
+    record q {
+      level = level_with f.count.column q.level;
+      before = cond (nat_lt f.at s.from) (level_with f.count.column q.before) q.before;
+    }
+
+-- with one more fact
+abbrev pub queue_with : ℕ → Stretch → Fact → QueueState → QueueState
+queue_with queues s f q = cond (holds_moment s f.at) (queue_counting queues f (queue_levelled s f q)) (queue_levelled s f q)
+
+-- the higher of a first number and of another, if there is one
+abbrev pub peak : ℕ × ℕ → Option (ℕ × ℕ) → ℕ × ℕ
+peak start None = start
+peak start (Some second) = higher start second
+
+-- the figures of a queue that are no counts
+abbrev pub queue_others : Stretch → QueueState → List Figure
+queue_others s q =
+    (codes "depth_greatest", Some (peak (s.from, depth_at q.before) q.deepest).1)
+    ∷ (codes "depth_greatest_at_ms", Some (peak (s.from, depth_at q.before) q.deepest).0) ∷ (codes "age_sum_ms", Some (sum q.ages))
+    ∷ (codes "age_p50_ms", rank_in 50 q.ages) ∷ (codes "age_p95_ms", rank_in 95 q.ages) ∷ (codes "age_p99_ms", rank_in 99 q.ages)
+    ∷ (codes "age_greatest_ms", rank_in 100 q.ages) ∷ []
+
+-- the figures of a queue
+abbrev pub queue_numbers : Stretch → QueueState → List Figure
+queue_numbers s q = named_counts q.counts ++ queue_others s q
+
+-- the running figures of an actor: `busy` up to the moment `at` of its last row
+pub record ActorState : Type 0 where
+  pub name : List ℕ
+  pub counts : List ℕ
+  pub held : Held
+  pub at : ℕ
+  pub busy : ℕ
+
+-- with one more fact
+abbrev pub actor_with : ℕ → Stretch → Fact → ActorState → ActorState
+actor_with queues s f a =
+    record a {
+      counts = cond (holds_moment s f.at) (counted (place_in queues f) a.counts) a.counts;
+      held = held_with f.hold a.held;
+      at = f.at;
+      busy = a.busy + cond (nat_lt 0 a.held.number) (overlap s a.at f.at) 0;
+    }
+
+-- of no rows
+abbrev pub fresh_actor : List ℕ → ActorState
+fresh_actor name = record { name = name; counts = no_counts; held = held_after []; at = 0; busy = 0 }
+
+-- after these rows of it
+abbrev pub actor_state : ℕ → Stretch → List ℕ → List Row → ActorState
+actor_state queues s name rows = fold (λ a row. actor_with queues s (fact_of row) a) (fresh_actor name) rows
+
+-- how long it served in a stretch, up to its end
+abbrev pub busy_until_end : Stretch → ActorState → ℕ
+busy_until_end s a = a.busy + cond (nat_lt 0 a.held.number) (overlap s a.at s.until) 0
+
+-- the figures of an actor
+abbrev pub actor_numbers : Stretch → ActorState → List Figure
+actor_numbers s a = named_counts a.counts ++ ((codes "busy_ms", Some (busy_until_end s a)) ∷ [])
+
+-- the running figures of all queues and of all actors
+pub record FiguresState : Type 0 where
+  pub stretch : Stretch
+  pub of_queues : List QueueState
+  pub of_actors : List ActorState
+
+-- the running figures of actors with one more fact, at its own actor alone; the queues are the first agents
+abbrev pub actors_with : ℕ → Stretch → Fact → List ActorState → List ActorState
+actors_with queues s f actors = cond (nat_le queues f.agent) (changed (actor_with queues s f) (f.agent - queues) actors) actors
+
+-- with one more fact, at its own queue and its own actor alone
+abbrev pub figures_with : Fact → FiguresState → FiguresState
+figures_with f t =
+    record t {
+      of_queues = changed (queue_with (length t.of_queues) t.stretch f) f.count.queue t.of_queues;
+      of_actors = actors_with (length t.of_queues) t.stretch f t.of_actors;
+    }
+
+-- with more rows
+abbrev pub figures_after : List Row → FiguresState → FiguresState
+figures_after rows t = fold (λ t row. figures_with (fact_of row) t) t rows
+
+-- after these rows, of the queues and the actors with these names; the queues are the first agents
+unfoldable pub figured : List (List ℕ) → List (List ℕ) → Stretch → List Row → FiguresState
+figured queues actors s rows =
+    record {
+      stretch = s;
+      of_queues = map (λ q. queue_state (length queues) s q.1 (rows_of q.0 rows)) (enumerate_from 0 queues);
+      of_actors = map (λ a. actor_state (length queues) s a.1 (rows_by a.0 rows)) (enumerate_from (length queues) actors);
+    }
+
+-- the records of a queue's figures
+abbrev pub queue_records : Stretch → QueueState → List (List (List ℕ))
+queue_records s q = map (figure_fields q.name) (queue_numbers s q)
+
+-- the records of an actor's figures
+abbrev pub actor_records : Stretch → ActorState → List (List (List ℕ))
+actor_records s a = map (figure_fields a.name) (actor_numbers s a)

@@ -1,0 +1,175 @@
+-- Figures: what a stretch of a run says of a queue or an actor, over the rows of its log.
+use Rattle.std.specs.Prelude.{ℕ, ◌+◌, ◌-◌, ◌==◌, nat_le, nat_lt, Bool, true, false, codes, cond, max, min, List, [], ◌∷◌, ◌++◌, filter, flat_map, fold, length, map, sum, zip, Option, Some, None}
+use Rattle.std.specs.Fmt.{decimal}
+use Rattle.std.specs.List.{enumerate_from}
+use Rattle.sqs_message.specs.declared.ids.MessageId.{MessageId}
+use Rattle.sqs_message.specs.declared.row.Row.{Row}
+use Rattle.sqs_message.specs.declared.row.RowKind.{RowKind}
+use Rattle.sqs_message.specs.declared.row.RowKind.TheVariants as kinds
+use Rattle.sqs_message.specs.declared.row.RowAnswer.{RowAnswer}
+use Rattle.sqs_message.specs.declared.row.RowAnswer.TheVariants as answers
+use Rattle.sqs_message.specs.declared.row.Detail.{Detail}
+use Rattle.sqs_message.specs.declared.row.Detail.TheVariants as details
+use Rattle.sqs_formats.specs.Report.{ages, depth, is_column, numbers, rank, rows_of}
+use Rattle.sqs_formats.specs.Rows.{lines, text_if}
+use Rattle.sim_report.specs.declared.stretch.Stretch.{Stretch}
+use Rattle.sim_report.specs.declared.held.Held.{Held}
+use Rattle.sim_report.specs.declared.fact.Hold.{Hold}
+use Rattle.sim_report.specs.declared.fact.Hold.TheVariants.{Asks, Keeps, Settles, Takes}
+
+-- whether a row lies in a stretch
+abbrev pub is_within : Stretch → Row → Bool
+is_within s row = cond (nat_le s.from row.key.at) (nat_lt row.key.at s.until) false
+
+-- its rows, and those before it
+abbrev pub rows_within : Stretch → List Row → List Row
+rows_within s rows = filter (is_within s) rows
+
+abbrev pub rows_before : Stretch → List Row → List Row
+rows_before s rows = filter (λ row. nat_lt row.key.at s.from) rows
+
+-- the rows of an actor
+abbrev pub rows_by : ℕ → List Row → List Row
+rows_by n rows = filter (λ row. row.agent == n) rows
+
+-- how much of the time from one moment to another lies in a stretch
+abbrev pub overlap : Stretch → ℕ → ℕ → ℕ
+overlap s first last = min last s.until - max first s.from
+
+-- the names of what is counted; a row counts once at most
+unfoldable pub count_names : List (List ℕ)
+count_names =
+    codes "sent" ∷ codes "sent_again" ∷ codes "came_by_forward" ∷ codes "came_by_redrive" ∷ codes "came_by_move"
+    ∷ codes "forwarded_again" ∷ codes "receives" ∷ codes "waits" ∷ codes "empty_receives" ∷ codes "deleted"
+    ∷ codes "deletes_by_older_receipt" ∷ codes "deletes_of_gone" ∷ codes "changes" ∷ codes "failed_services" ∷ codes "forwarded"
+    ∷ codes "dead_lettered" ∷ codes "moved_away" ∷ codes "lost_by_expiry" ∷ codes "refused_sends" ∷ codes "refused_receives"
+    ∷ codes "refused_deletes" ∷ codes "refused_changes" ∷ []
+
+-- whether a message that arrived is of an origin of its own, as what a consumer forwards
+abbrev pub is_own : Option MessageId → Detail → Bool
+is_own (Some id) (details.From o) = cond (id.site == o.site) (id.number == o.number) false
+is_own message detail = false
+
+-- what a row of this kind with this answer counts as, by its place among the names; an arrival stands for all three
+abbrev pub counted_as : RowKind → RowAnswer → Option ℕ
+counted_as kinds.Send answers.New = Some 0
+counted_as kinds.Send answers.Repeat = Some 1
+counted_as kinds.Arrive answers.New = Some 2
+counted_as kinds.Arrive answers.Repeat = Some 5
+counted_as kinds.Receive answers.Ok = Some 6
+counted_as kinds.Receive answers.Wait = Some 7
+counted_as kinds.Receive answers.Empty = Some 8
+counted_as kinds.Delete answers.Deleted = Some 9
+counted_as kinds.Delete answers.Kept = Some 10
+counted_as kinds.Delete answers.Gone = Some 11
+counted_as kinds.Change answers.Ok = Some 12
+counted_as kinds.Fail answers.Ok = Some 13
+counted_as kinds.Forward answers.Out = Some 14
+counted_as kinds.Redrive answers.Out = Some 15
+counted_as kinds.Move answers.Out = Some 16
+counted_as kinds.Expire answers.Expired = Some 17
+counted_as kinds.Send (answers.Refused r) = Some 18
+counted_as kinds.Receive (answers.Refused r) = Some 19
+counted_as kinds.Delete (answers.Refused r) = Some 20
+counted_as kinds.Change (answers.Refused r) = Some 21
+counted_as kind answer = None
+
+-- how an arrival came: by a forward, which has an origin of its own; by a redrive, which a queue sent; or by a move
+abbrev pub by_way : Bool → Bool → Option ℕ → Option ℕ
+by_way own by_queue place = cond (is_column 2 place) (Some (cond own 2 (cond by_queue 3 4))) place
+
+-- what a row counts as, where so many queues are the first agents
+abbrev pub count_of_row : ℕ → Row → Option ℕ
+count_of_row queues row = by_way (is_own row.message row.detail) (nat_lt row.agent queues) (counted_as row.kind row.answer)
+
+-- how many rows count as each
+abbrev pub counts_of : ℕ → List Row → List ℕ
+counts_of queues rows = map (λ n. length (filter (λ row. is_column n (count_of_row queues row)) rows)) (numbers 0 count_names)
+
+-- of two numbers with their moments the greater, and the earlier one if they are equal
+abbrev pub higher : ℕ × ℕ → ℕ × ℕ → ℕ × ℕ
+higher first second = cond (nat_lt first.1 second.1) second first
+
+-- the depths of a queue after those of these rows that lie in a stretch, each with its moment; `before` come before
+abbrev pub depths_from : Stretch → List Row → List Row → List (ℕ × ℕ)
+depths_from s before [] = []
+depths_from s before (row ∷ rows) =
+    cond (is_within s row) ((row.key.at, depth (before ++ row ∷ [])) ∷ []) [] ++ depths_from s (before ++ row ∷ []) rows
+
+-- the greatest depth of a queue, at the beginning of a stretch or after one of its rows, with the first such moment
+abbrev pub deepest : Stretch → List Row → ℕ × ℕ
+deepest s rows = fold higher (s.from, depth (rows_before s rows)) (depths_from s [] rows)
+
+-- what a row of an actor changes of the messages that it holds
+abbrev pub hold_of : RowKind → RowAnswer → Hold
+hold_of kinds.Receive answers.Ok = Takes
+hold_of kinds.Receive answer = Asks
+hold_of kinds.Delete answer = Settles
+hold_of kinds.Fail answer = Settles
+hold_of kind answer = Keeps
+
+-- what it holds after one more row
+abbrev pub held_with : Hold → Held → Held
+held_with Takes h = record { number = cond h.receiving (h.number + 1) 1; receiving = true }
+held_with Asks h = record { number = 0; receiving = false }
+held_with Settles h = record { number = h.number - 1; receiving = false }
+held_with Keeps h = h
+
+-- what it holds after these rows of it
+abbrev pub held_after : List Row → Held
+held_after rows = fold (λ h (row : Row). held_with (hold_of row.kind row.answer) h) (record { number = 0; receiving = false }) rows
+
+-- whether it serves after these rows of it: whether it holds messages
+abbrev pub is_serving : List Row → Bool
+is_serving rows = nat_lt 0 (held_after rows).number
+
+-- how long something held, in a stretch: of the rows before, from a moment to the next row's, and so on to the end
+abbrev pub time_from : (List Row → Bool) → Stretch → List Row → ℕ → List Row → ℕ
+time_from holds s before at [] = cond (holds before) (overlap s at s.until) 0
+time_from holds s before at (row ∷ rows) =
+    cond (holds before) (overlap s at row.key.at) 0 + time_from holds s (before ++ row ∷ []) row.key.at rows
+
+-- how long something held of the rows so far, in a stretch, in milliseconds
+abbrev pub time_while : (List Row → Bool) → Stretch → List Row → ℕ
+time_while holds s rows = time_from holds s [] 0 rows
+
+-- a figure: its name and its number, if there is one
+abbrev pub Figure : Type 0
+Figure = List ℕ × Option ℕ
+
+-- the counts by their names
+abbrev pub named_counts : List ℕ → List Figure
+named_counts ns = map (λ p. (p.0, Some p.1)) (zip count_names ns)
+
+-- the figures of a queue over its rows, where so many queues are the first agents
+abbrev pub queue_figures : ℕ → Stretch → List Row → List Figure
+queue_figures queues s rows =
+    named_counts (counts_of queues (rows_within s rows))
+    ++ ((codes "depth_greatest", Some (deepest s rows).1) ∷ (codes "depth_greatest_at_ms", Some (deepest s rows).0)
+    ∷ (codes "age_sum_ms", Some (sum (ages (rows_within s rows)))) ∷ (codes "age_p50_ms", rank 50 (ages (rows_within s rows)))
+    ∷ (codes "age_p95_ms", rank 95 (ages (rows_within s rows))) ∷ (codes "age_p99_ms", rank 99 (ages (rows_within s rows)))
+    ∷ (codes "age_greatest_ms", rank 100 (ages (rows_within s rows))) ∷ [])
+
+-- the figures of an actor over its rows
+abbrev pub actor_figures : ℕ → Stretch → List Row → List Figure
+actor_figures queues s rows =
+    named_counts (counts_of queues (rows_within s rows)) ++ ((codes "busy_ms", Some (time_while is_serving s rows)) ∷ [])
+
+-- the fields of a figure of a queue or actor with this name
+abbrev pub figure_fields : List ℕ → Figure → List (List ℕ)
+figure_fields of f = codes "figure" ∷ of ∷ f.0 ∷ text_if decimal f.1 ∷ []
+
+-- the header of figures
+abbrev pub figures_header : List (List ℕ)
+figures_header = codes "figure" ∷ codes "of" ∷ codes "name" ∷ codes "value" ∷ []
+
+-- the records of the figures of queues and actors with these names; the queues are the first agents
+abbrev pub figures_records : List (List ℕ) → List (List ℕ) → Stretch → List Row → List (List (List ℕ))
+figures_records queues actors s rows =
+    figures_header
+    ∷ (flat_map (λ q. map (figure_fields q.1) (queue_figures (length queues) s (rows_of q.0 rows))) (enumerate_from 0 queues)
+    ++ flat_map (λ a. map (figure_fields a.1) (actor_figures (length queues) s (rows_by a.0 rows))) (enumerate_from (length queues) actors))
+
+-- the figures of a run
+abbrev pub figures_text : List (List ℕ) → List (List ℕ) → Stretch → List Row → List ℕ
+figures_text queues actors s rows = lines (figures_records queues actors s rows)

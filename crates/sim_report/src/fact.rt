@@ -1,0 +1,129 @@
+//! What the figures need of a row.
+ghost use Rattle.std.specs.Prelude.{◌≡◌};
+ghost use Rattle.sim_report.specs.Facts.{fact_of, place_in};
+ghost use Rattle.sim_report.specs.Figures.{counted_as, hold_of, is_own};
+
+use crate::column::RowCount;
+use sqs_message::{Detail, MessageId, Row, RowAnswer, RowKind};
+
+// The place of arrivals among the counts, before it is known how they came.
+const ARRIVAL: u16 = 2;
+
+const BY_FORWARD: u16 = 2;
+const BY_REDRIVE: u16 = 3;
+const BY_MOVE: u16 = 4;
+
+/// What a row changes of the messages that its actor holds.
+#[derive(Clone, Copy, Debug, PartialEq, Eq)]
+pub enum Hold {
+    /// A receive gave it a message.
+    Takes,
+    /// It asked for messages, and holds none.
+    Asks,
+    /// It deleted a message, or failed to serve it.
+    Settles,
+    /// Nothing.
+    Keeps,
+}
+
+/// What a row says to the figures.
+#[derive(Clone, Copy, Debug, PartialEq, Eq)]
+pub struct Fact {
+    /// The moment of the row, in milliseconds.
+    pub at: u64,
+    /// The number of the agent that acted.
+    pub agent: u32,
+    /// What the row counts in the report: its queue, its column there, and the age of a message
+    /// that it deleted, in milliseconds.
+    pub count: RowCount,
+    /// Its place among the counts of the figures; an arrival stands for all three.
+    pub place: Option<u16>,
+    /// Whether the message of the row is of an origin of its own.
+    pub own: bool,
+    /// What it changes of the messages that the agent holds.
+    pub hold: Hold,
+}
+
+// Whether a message that arrived is of an origin of its own.
+fn is_own(message: Option<MessageId>, detail: Detail) -> bool
+    ensures { result ≡ is_own message detail }
+{
+    match (message, detail) {
+        (Some(id), Detail::From(origin)) => id.site == origin.site && id.number == origin.number,
+        _ => false,
+    }
+}
+
+// The place among the counts of a row of this kind with this answer; an arrival stands for all
+// three.
+fn counted_as(kind: RowKind, answer: RowAnswer) -> Option<u16>
+    ensures { result ≡ counted_as kind answer }
+{
+    let place = match (kind, answer) {
+        (RowKind::Send, RowAnswer::New) => 0,
+        (RowKind::Send, RowAnswer::Repeat) => 1,
+        (RowKind::Arrive, RowAnswer::New) => ARRIVAL,
+        (RowKind::Arrive, RowAnswer::Repeat) => 5,
+        (RowKind::Receive, RowAnswer::Ok) => 6,
+        (RowKind::Receive, RowAnswer::Wait) => 7,
+        (RowKind::Receive, RowAnswer::Empty) => 8,
+        (RowKind::Delete, RowAnswer::Deleted) => 9,
+        (RowKind::Delete, RowAnswer::Kept) => 10,
+        (RowKind::Delete, RowAnswer::Gone) => 11,
+        (RowKind::Change, RowAnswer::Ok) => 12,
+        (RowKind::Fail, RowAnswer::Ok) => 13,
+        (RowKind::Forward, RowAnswer::Out) => 14,
+        (RowKind::Redrive, RowAnswer::Out) => 15,
+        (RowKind::Move, RowAnswer::Out) => 16,
+        (RowKind::Expire, RowAnswer::Expired) => 17,
+        (RowKind::Send, RowAnswer::Refused(_)) => 18,
+        (RowKind::Receive, RowAnswer::Refused(_)) => 19,
+        (RowKind::Delete, RowAnswer::Refused(_)) => 20,
+        (RowKind::Change, RowAnswer::Refused(_)) => 21,
+        _ => return None,
+    };
+    Some(place)
+}
+
+// What a row of this kind with this answer changes of the messages that its actor holds.
+fn hold_of(kind: RowKind, answer: RowAnswer) -> Hold
+    ensures { result ≡ hold_of kind answer }
+{
+    match (kind, answer) {
+        (RowKind::Receive, RowAnswer::Ok) => Hold::Takes,
+        (RowKind::Receive, _) => Hold::Asks,
+        (RowKind::Delete | RowKind::Fail, _) => Hold::Settles,
+        _ => Hold::Keeps,
+    }
+}
+
+impl Fact {
+    /// What a row says.
+    pub fn of(row: &Row) -> Fact
+        ensures { result ≡ fact_of row.now }
+    {
+        Fact {
+            at: row.key.at,
+            agent: row.agent,
+            count: RowCount::of(row),
+            place: counted_as(row.kind, row.answer),
+            own: is_own(row.message, row.detail),
+            hold: hold_of(row.kind, row.answer),
+        }
+    }
+
+    // Its place among the counts, where the first `queues` agents are the queues.
+    pub(crate) fn place_in(self, queues: usize) -> Option<u16>
+        ensures { result ≡ place_in queues self }
+    {
+        if self.place != Some(ARRIVAL) {
+            self.place
+        } else if self.own {
+            Some(BY_FORWARD)
+        } else if (self.agent as usize) < queues {
+            Some(BY_REDRIVE)
+        } else {
+            Some(BY_MOVE)
+        }
+    }
+}

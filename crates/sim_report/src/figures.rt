@@ -1,0 +1,202 @@
+//! Figures of queues and actors over a stretch of a run.
+ghost use Rattle.std.specs.Prelude.{◌≡◌, ℕ, ◌∷◌, ◌++◌, [], flat_map, length, map, List, IfOk, OnOk};
+ghost use Rattle.sqs_message.specs.declared.row.Row.{Row as TheRow};
+ghost use Rattle.sim_report.specs.Facts.{fact_of};
+ghost use Rattle.sim_report.specs.declared.stretch.Stretch.{Stretch as TheStretch};
+ghost use Rattle.sim_report.specs.Figured.{actor_records, actors_with, figured, figures_after, figures_with, fresh_actor, fresh_queue, queue_records, queue_with};
+ghost use Rattle.sim_report.specs.Figures.{figures_text};
+ghost use Rattle.sqs_formats.specs.Rows.{lines};
+ghost use Rattle.sim_report.specs.Running.{changed};
+
+use crate::actor_figures::ActorFigures;
+use crate::fact::Fact;
+use crate::queue_figures::QueueFigures;
+use crate::stretch::Stretch;
+use sim_records::Lines;
+use sqs_message::{Row, Text};
+use std::alloc::{AllocError, Global};
+use std::marker::Model;
+
+/// The figures of queues and actors over the rows of a run so far. The rows are not kept.
+#[derive(Drop)]
+pub struct Figures {
+    stretch: Stretch,
+    of_queues: Vec<QueueFigures>,
+    of_actors: Vec<ActorFigures>,
+}
+
+impl Model for Figures {
+    ghost use Rattle.sim_report.specs.Figured.{FiguresState};
+
+    ghost Value = { FiguresState };
+
+    ghost view = { λ f. record { stretch = f.stretch; of_queues = f.of_queues.items; of_actors = f.of_actors.items } };
+}
+
+// Takes in what a row says, at its queue, if that is one of these.
+fn take_at_queue(
+    queues: &mut [QueueFigures],
+    stretch: Stretch,
+    fact: Fact,
+) -> Result<(), AllocError>
+    ensures { OnOk result (queues.new
+        ≡ changed (queue_with (length queues.old) stretch fact) fact.count.queue queues.old) }
+{
+    let place = fact.count.queue as usize;
+    let many = queues.len();
+    if place < many {
+        queues[place].take(many, stretch, fact)?;
+    }
+    Ok(())
+}
+
+// Takes in what a row says, at its actor, if that is one of these; so many queues come before them.
+fn take_at_actor(
+    actors: &mut [ActorFigures],
+    queues: usize,
+    stretch: Stretch,
+    fact: Fact,
+) -> Result<(), AllocError>
+    ensures { OnOk result (actors.new ≡ actors_with queues stretch fact actors.old) }
+{
+    let agent = fact.agent as usize;
+    if agent < queues {
+        return Ok(());
+    }
+    let place = agent - queues;
+    if place < actors.len() {
+        actors[place].take(queues, stretch, fact)?;
+    }
+    Ok(())
+}
+
+// The figures of no rows, of queues with these names.
+fn fresh_queues(alloc: Global, names: Vec<Text>) -> Result<Vec<QueueFigures>, AllocError>
+    ensures { IfOk result (λ v. v.items ≡ map fresh_queue names.items) }
+{
+    let mut queues = Vec::with_capacity(alloc, names.len())?;
+    for name in names {
+        queues.push(QueueFigures::new(alloc, name))?;
+    }
+    Ok(queues)
+}
+
+// The figures of no rows, of actors with these names.
+fn fresh_actors(alloc: Global, names: Vec<Text>) -> Result<Vec<ActorFigures>, AllocError>
+    ensures { IfOk result (λ v. v.items ≡ map fresh_actor names.items) }
+{
+    let mut actors = Vec::with_capacity(alloc, names.len())?;
+    for name in names {
+        actors.push(ActorFigures::new(name))?;
+    }
+    Ok(actors)
+}
+
+// Adds the lines of the figures of queues.
+fn add_queues(
+    alloc: Global,
+    text: &mut Lines,
+    stretch: Stretch,
+    queues: &[QueueFigures],
+) -> Result<(), AllocError>
+    ensures { OnOk result (text.new
+        ≡ text.old ++ lines (flat_map (queue_records stretch) queues.now)) }
+{
+    for queue in queues {
+        queue.write(alloc, stretch, text)?;
+    }
+    Ok(())
+}
+
+// Adds the lines of the figures of actors.
+fn add_actors(
+    alloc: Global,
+    text: &mut Lines,
+    stretch: Stretch,
+    actors: &[ActorFigures],
+) -> Result<(), AllocError>
+    ensures { OnOk result (text.new
+        ≡ text.old ++ lines (flat_map (actor_records stretch) actors.now)) }
+{
+    for actor in actors {
+        actor.write(alloc, stretch, text)?;
+    }
+    Ok(())
+}
+
+impl Figures {
+    /// The figures of no rows over a stretch of a run, of the queues and the actors with these
+    /// names; the queues are the first agents, and the actors the next.
+    ///
+    /// # Errors
+    ///
+    /// `AllocError` if a growth is refused.
+    pub fn new(
+        alloc: Global,
+        stretch: Stretch,
+        queues: Vec<Text>,
+        actors: Vec<Text>,
+    ) -> Result<Figures, AllocError>
+        ensures { IfOk result (λ f. f ≡ figured queues.items actors.items stretch []) }
+    {
+        Ok(Figures {
+            stretch,
+            of_queues: fresh_queues(alloc, queues)?,
+            of_actors: fresh_actors(alloc, actors)?,
+        })
+    }
+
+    /// Takes in what a row says, at its queue and its actor.
+    ///
+    /// # Errors
+    ///
+    /// `AllocError` if a count is at its greatest value, or an age could not be kept. The figures
+    /// may then have a part of the row, and must not be used again.
+    pub fn take(&mut self, fact: Fact) -> Result<(), AllocError>
+        ensures { OnOk result (self.new ≡ figures_with fact self.old) }
+    {
+        let queues = self.of_queues.len();
+        take_at_queue(self.of_queues.as_mut_slice(), self.stretch, fact)?;
+        take_at_actor(self.of_actors.as_mut_slice(), queues, self.stretch, fact)
+    }
+
+    /// Takes in what rows say, one after another.
+    ///
+    /// # Errors
+    ///
+    /// Those of `take`.
+    pub fn take_rows(&mut self, rows: &[Row]) -> Result<(), AllocError>
+        ensures { OnOk result (self.new ≡ figures_after rows.now self.old) }
+    {
+        for row in rows {
+            self.take(Fact::of(row))?;
+        }
+        Ok(())
+    }
+
+    /// The figures as text: a header, and a line for each figure of each queue and actor.
+    ///
+    /// # Errors
+    ///
+    /// `AllocError` if a growth is refused.
+    pub fn text(&self, alloc: Global) -> Result<Vec<u8>, AllocError>
+        ensures { (queues actors : List (List ℕ)) (s : TheStretch) (rows : List TheRow)
+            → self.now ≡ figured queues actors s rows
+            → IfOk result (λ v. v.items ≡ figures_text queues actors s rows) }
+    {
+        let mut text = Lines::new(alloc);
+        text.add(&[b"figure", b"of", b"name", b"value"])?;
+        add_queues(alloc, &mut text, self.stretch, self.of_queues.as_slice())?;
+        add_actors(alloc, &mut text, self.stretch, self.of_actors.as_slice())?;
+        text.into_bytes()
+    }
+}
+
+/// What a row says is all that the figures need of it: with the fact of one more row, the figures
+/// of any rows are those of these rows and that one.
+pub fn figures_follow()
+    ensures { (queues actors : List (List ℕ)) (s : TheStretch) (rows : List TheRow) (row : TheRow)
+        → figures_with (fact_of row) (figured queues actors s rows)
+        ≡ figured queues actors s (rows ++ row ∷ []) }
+{
+}

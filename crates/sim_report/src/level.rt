@@ -1,0 +1,53 @@
+//! How many messages came into a queue, and how many went out.
+ghost use Rattle.std.specs.Prelude.{◌≡◌, ◌+◌, IfOk};
+ghost use Rattle.sim_report.specs.Figured.{depth_at, level_with};
+
+use std::alloc::AllocError;
+
+/// How many messages came into a queue, and how many went out.
+#[derive(Clone, Copy, Debug, PartialEq, Eq)]
+pub(crate) struct Level {
+    came: u64,
+    went: u64,
+}
+
+/// The level before all rows.
+pub(crate) const EMPTY: Level = Level { came: 0, went: 0 };
+
+// One more. A count that is at its greatest value would have to grow, which is refused.
+fn one_more(count: u64) -> Result<u64, AllocError>
+    ensures { IfOk result (λ more. more ≡ count + 1) }
+{
+    count.checked_add(1).ok_or(AllocError)
+}
+
+impl Level {
+    /// The level after a row that has this column in the report.
+    ///
+    /// # Errors
+    ///
+    /// `AllocError` if a count is at its greatest value.
+    pub(crate) fn after(self, column: Option<u16>) -> Result<Level, AllocError>
+        ensures { IfOk result (λ level. level ≡ level_with column self) }
+    {
+        let Level { came, went } = self;
+        match column {
+            Some(0 | 8) => Ok(Level {
+                came: one_more(came)?,
+                went,
+            }),
+            Some(4..=7) => Ok(Level {
+                came,
+                went: one_more(went)?,
+            }),
+            _ => Ok(self),
+        }
+    }
+
+    /// The number of messages that are there.
+    pub(crate) fn depth(self) -> u64
+        ensures { result ≡ depth_at self }
+    {
+        self.came.saturating_sub(self.went)
+    }
+}

@@ -1,0 +1,118 @@
+"""The figures of a run: what is counted of each queue and each other agent over a stretch of it."""
+from __future__ import annotations
+
+from collections.abc import Iterable, Iterator, Sequence
+from typing import TYPE_CHECKING, NamedTuple, Optional
+
+from log import COMES, LEAVES, line_of
+
+if TYPE_CHECKING:
+    from settings import Scenario
+    from sites import Row
+
+# What a row with this call and answer counts as; of an arrival that it came, in whatever way.
+COUNTED = {"send new": "sent", "send repeat": "sent_again", "arrive repeat": "forwarded_again", "receive ok": "receives",
+           "receive wait": "waits", "receive empty": "empty_receives", "delete deleted": "deleted",
+           "delete kept": "deletes_by_older_receipt", "delete gone": "deletes_of_gone", "change ok": "changes",
+           "fail ok": "failed_services", "forward out": "forwarded", "redrive out": "dead_lettered",
+           "move out": "moved_away", "expire expired": "lost_by_expiry"}
+# Of a call that is refused.
+REFUSED = {"send": "refused_sends", "receive": "refused_receives", "delete": "refused_deletes",
+           "change": "refused_changes"}
+NAMES = ["sent", "sent_again", "came_by_forward", "came_by_redrive", "came_by_move", "forwarded_again", "receives",
+         "waits", "empty_receives", "deleted", "deletes_by_older_receipt", "deletes_of_gone", "changes",
+         "failed_services", "forwarded", "dead_lettered", "moved_away", "lost_by_expiry", *REFUSED.values()]
+HEADER = ["figure", "of", "name", "value"]
+
+
+class Fields(NamedTuple):
+    """A row of the log."""
+
+    at: str
+    queue: str
+    agent: str
+    call: str
+    answer: str
+    message: str
+    receipt: str
+    detail: str
+
+    def said(self) -> str:
+        return f"{self.call} {self.answer}"
+
+
+class Stretch(NamedTuple):
+    """Its first millisecond, and the one behind its last."""
+
+    first: int
+    end: int
+
+    def has(self, row: Fields) -> bool:
+        return self.first <= int(row.at) < self.end
+
+    def part(self, start: int, end: int) -> int:
+        """How many milliseconds from one moment to another lie in it."""
+        return max(0, min(end, self.end) - max(start, self.first))
+
+
+def kind_of(row: Fields, queues: Sequence[str]) -> str | None:
+    """The name of the count in which a row is, if it is in one."""
+    if row.said() == "arrive new":
+        if row.detail[1:] == row.message[1:]:
+            return "came_by_forward"
+        return "came_by_redrive" if row.agent in queues else "came_by_move"
+    return COUNTED.get(row.said()) or (REFUSED.get(row.call) if row.answer[0].isupper() else None)
+
+
+def counts(rows: Iterable[Fields], queues: Sequence[str]) -> Iterator[tuple[str, int]]:
+    kinds = [kind_of(row, queues) for row in rows]
+    yield from ((name, kinds.count(name)) for name in NAMES)
+
+
+def deepest(rows: Sequence[Fields], stretch: Stretch) -> tuple[int, int]:
+    """The greatest number of messages in a queue, at the beginning of a stretch or after one of its rows, and when."""
+    change = [(row.said() in COMES) - (row.said() in LEAVES) for row in rows]
+    depths = [(sum(change[:number]), int(row.at)) for number, row in enumerate(rows, 1) if stretch.has(row)]
+    start = sum(by for by, row in zip(change, rows) if int(row.at) < stretch.first), stretch.first
+    return max([start, *depths], key=lambda depth: depth[0])
+
+
+def busy(rows: Sequence[Fields], stretch: Stretch) -> int:
+    """How many milliseconds of a stretch an actor held messages that it had not settled."""
+    held, receiving, total = 0, False, 0
+    ends = [int(row.at) for row in rows[1:]] + [stretch.end]
+    for row, end in zip(rows, ends):
+        if row.said() == "receive ok":
+            held, receiving = held + 1 if receiving else 1, True
+        elif row.call == "receive":
+            held, receiving = 0, False
+        elif row.call in ("delete", "fail"):
+            held, receiving = max(0, held - 1), False
+        total += stretch.part(int(row.at), end) if held else 0
+    return total
+
+
+def ages(rows: Iterable[Fields]) -> Iterator[tuple[str, Optional[int]]]:
+    found = sorted(int(row.detail) for row in rows if row.said() == "delete deleted")
+    yield "age_sum_ms", sum(found)
+    for name, percent in ("age_p50_ms", 50), ("age_p95_ms", 95), ("age_p99_ms", 99), ("age_greatest_ms", 100):
+        yield name, found[-(-percent * len(found) // 100) - 1] if found else None
+
+
+def figures_text(scenario: "Scenario", made: Iterable["Row"], first: int, end: int) -> str:
+    """The figures of all agents, over the part of a stretch that lies in the run."""
+    stretch = Stretch(first, min(end, scenario.horizon + 1))
+    queues = [queue.name for queue in scenario.queues]
+    rows = [Fields(*row.fields) for row in made]
+    lines: list[Sequence[object]] = [HEADER]
+    for name in scenario.names():
+        own = [row for row in rows if (row.queue if name in queues else row.agent) == name]
+        inside = [row for row in own if stretch.has(row)]
+        figures: list[tuple[str, Optional[int]]] = [*counts(inside, queues)]
+        if name in queues:
+            depth, at = deepest(own, stretch)
+            figures += [("depth_greatest", depth), ("depth_greatest_at_ms", at), *ages(inside)]
+        else:
+            figures.append(("busy_ms", busy(own, stretch)))
+        lines += [["figure", name, figure, "" if value is None else value] for figure, value in figures]
+    return "".join(map(line_of, lines))
