@@ -21,8 +21,10 @@ goes in and what comes out, and the statuses.
 // The options of each command: those with a value that is a text, with one that is a number, and those without.
 const SCRIPTS = { texts: ['scripts'], numbers: [], flags: ['preview'], least: 0, most: 1 };
 const COMMANDS = { check: SCRIPTS, compare: { ...SCRIPTS, least: 2, most: 2 },
-  run: { ...SCRIPTS, texts: ['scripts', 'log', 'map'], numbers: ['window', 'parts', 'workers'],
-    flags: ['preview', 'quiet'] } };
+  run: { ...SCRIPTS, texts: ['scripts', 'log', 'map'], numbers: ['window', 'parts', 'workers', 'from', 'to'],
+    flags: ['figures', 'preview', 'quiet'] } };
+// What only the program itself does.
+const OWN = ['figures', 'from', 'to'];
 const DONE = 0, SECOND_REFUSED = 6;
 const IN_RUN = 30, OF_WRITING = 36;
 // Where the log ends: the header of the final queues.
@@ -135,6 +137,8 @@ function optionsOf(command, words) {
   if (options.preview) {
     throw new Stop(2, 'sqs_rehearse: the page\'s module reads versions 1 and 2, and takes no --preview');
   }
+  const own = OWN.find(name => options[name] !== undefined);
+  if (own) throw new Stop(2, `sqs_rehearse: the page's module writes no figures, and takes no --${own}`);
   return options;
 }
 

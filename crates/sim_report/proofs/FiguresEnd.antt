@@ -74,11 +74,11 @@ actor-busy : (n : ℕ) (s : Stretch) (a : ActorState) (before rows : List Row) �
 actor-busy n s a before [] e = ap (λ (h : Held). a.busy + cond (nat_lt 0 h.number) (overlap s a.at s.until) 0) e
 actor-busy n s a before (row ∷ rows) e =
     let held : held_with (hold_of row.kind row.answer) a.held ≡ held_after (before ++ row ∷ []) =
-        ap (held_with (hold_of row.kind row.answer)) e
-        ∙ sym (fold_push (λ h (r : Row). held_with (hold_of r.kind r.answer) h) (record { number = 0; receiving = false }) before row) in
+    ap (held_with (hold_of row.kind row.answer)) e
+    ∙ sym (fold_push (λ h (r : Row). held_with (hold_of r.kind r.answer) h) (record { number = 0; receiving = false }) before row) in
     let rest = actor-busy n s (actor_with n s (fact_of row) a) (before ++ row ∷ []) rows held in
     let here : cond (nat_lt 0 a.held.number) (overlap s a.at row.key.at) 0 ≡ cond (is_serving before) (overlap s a.at row.key.at) 0 =
-        ap (λ (h : Held). cond (nat_lt 0 h.number) (overlap s a.at row.key.at) 0) e in
+    ap (λ (h : Held). cond (nat_lt 0 h.number) (overlap s a.at row.key.at) 0) e in
     rest ∙ grind (arith, here)
 
 -- the figures of an actor
@@ -110,8 +110,8 @@ actors-from : (m n : ℕ) (s : Stretch) (actors : List (List ℕ)) (rows : List 
 actors-from m n s [] rows = refl
 actors-from m n s (name ∷ names) rows =
     let here : actor_records s (actor_state n s name (rows_by m rows)) ≡ map (figure_fields name) (actor_figures n s (rows_by m rows)) =
-        ap (λ (x : List ℕ). map (figure_fields x) (actor_numbers s (actor_state n s name (rows_by m rows)))) (actor-name n s (fresh_actor name) (rows_by m rows))
-        ∙ ap (map (figure_fields name)) (actor-is n s name (rows_by m rows)) in
+    ap (λ (x : List ℕ). map (figure_fields x) (actor_numbers s (actor_state n s name (rows_by m rows)))) (actor-name n s (fresh_actor name) (rows_by m rows))
+    ∙ ap (map (figure_fields name)) (actor-is n s name (rows_by m rows)) in
     let rest = actors-from (m + 1) n s names rows in
     ap (λ (rs : List (List (List ℕ))). rs ++ flat_map (actor_records s) (map (λ a. actor_state n s a.1 (rows_by a.0 rows)) (enumerate_from (m + 1) names))) here
     ∙ ap (λ (rs : List (List (List ℕ))). map (figure_fields name) (actor_figures n s (rows_by m rows)) ++ rs) rest

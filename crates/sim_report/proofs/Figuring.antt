@@ -26,12 +26,12 @@ one-more false n = omega arith
 level-push : (rows : List Row) (row : Row) → level_of (rows ++ row ∷ []) ≡ level_with (column row.kind row.answer) (level_of rows)
 level-push rows row =
     let each : (n : ℕ) → count n (rows ++ row ∷ []) ≡ count n rows + one_in n (column row.kind row.answer) =
-        λ n. count-push n rows row ∙ one-more (counts_in n row) (count n rows) in
+    λ n. count-push n rows row ∙ one-more (counts_in n row) (count n rows) in
     let came : count 0 (rows ++ row ∷ []) + count 8 (rows ++ row ∷ []) ≡ count 0 rows + count 8 rows + (one_in 0 (column row.kind row.answer) + one_in 8 (column row.kind row.answer)) = grind (arith, each 0, each 8) in
     let went : count 4 (rows ++ row ∷ []) + count 5 (rows ++ row ∷ []) + count 6 (rows ++ row ∷ []) + count 7 (rows ++ row ∷ [])
-        ≡ count 4 rows + count 5 rows + count 6 rows + count 7 rows
-        + (one_in 4 (column row.kind row.answer) + one_in 5 (column row.kind row.answer) + one_in 6 (column row.kind row.answer) + one_in 7 (column row.kind row.answer)) =
-        grind (arith, each 4, each 5, each 6, each 7) in
+    ≡ count 4 rows + count 5 rows + count 6 rows + count 7 rows
+    + (one_in 4 (column row.kind row.answer) + one_in 5 (column row.kind row.answer) + one_in 6 (column row.kind row.answer) + one_in 7 (column row.kind row.answer)) =
+    grind (arith, each 4, each 5, each 6, each 7) in
     cc
 
 -- what is counted with one more row
@@ -65,24 +65,24 @@ queue-push : (queues : ℕ) (s : Stretch) (name : List ℕ) (rows : List Row) (r
     → queue_state queues s name (rows ++ row ∷ []) ≡ cond b (queue_counting queues (fact_of row) (queue_levelled s (fact_of row) (queue_state queues s name rows))) (queue_levelled s (fact_of row) (queue_state queues s name rows))
 queue-push queues s name rows row true e =
     let within : rows_within s (rows ++ row ∷ []) ≡ rows_within s rows ++ row ∷ [] =
-        filter-push (is_within s) rows row ∙ ap (λ b. cond b (rows_within s rows ++ row ∷ []) (rows_within s rows)) e in
+    filter-push (is_within s) rows row ∙ ap (λ b. cond b (rows_within s rows ++ row ∷ []) (rows_within s rows)) e in
     let counts = ap (counts_of queues) within ∙ counts-push queues (rows_within s rows) row in
     let old = ap (λ (rs : List Row). ascending (ages rs)) within ∙ ages-push (rows_within s rows) row in
     let level = level-push rows row in
     let before = before-push s rows row (nat_lt row.key.at s.from) refl in
     let deepest : highest (depths_from s [] (rows ++ row ∷ []))
-            ≡ Some (raised (highest (depths_from s [] rows)) (row.key.at, depth_at (level_with (column row.kind row.answer) (level_of rows)))) =
-        ap highest (depths-push s [] rows row ∙ ap (λ b. depths_from s [] rows ++ cond b ((row.key.at, depth (rows ++ row ∷ [])) ∷ []) []) e)
-        ∙ fold_push (λ first second. Some (raised first second)) None (depths_from s [] rows) (row.key.at, depth (rows ++ row ∷ []))
-        ∙ ap (λ (l : Level). Some (raised (highest (depths_from s [] rows)) (row.key.at, depth_at l))) level in
+    ≡ Some (raised (highest (depths_from s [] rows)) (row.key.at, depth_at (level_with (column row.kind row.answer) (level_of rows)))) =
+    ap highest (depths-push s [] rows row ∙ ap (λ b. depths_from s [] rows ++ cond b ((row.key.at, depth (rows ++ row ∷ [])) ∷ []) []) e)
+    ∙ fold_push (λ first second. Some (raised first second)) None (depths_from s [] rows) (row.key.at, depth (rows ++ row ∷ []))
+    ∙ ap (λ (l : Level). Some (raised (highest (depths_from s [] rows)) (row.key.at, depth_at l))) level in
     rw (counts, old, level, before, deepest) refl
 queue-push queues s name rows row false e =
     let within : rows_within s (rows ++ row ∷ []) ≡ rows_within s rows =
-        filter-push (is_within s) rows row ∙ ap (λ b. cond b (rows_within s rows ++ row ∷ []) (rows_within s rows)) e in
+    filter-push (is_within s) rows row ∙ ap (λ b. cond b (rows_within s rows ++ row ∷ []) (rows_within s rows)) e in
     let level = level-push rows row in
     let before = before-push s rows row (nat_lt row.key.at s.from) refl in
     let deepest : highest (depths_from s [] (rows ++ row ∷ [])) ≡ highest (depths_from s [] rows) =
-        ap highest (depths-push s [] rows row ∙ ap (λ b. depths_from s [] rows ++ cond b ((row.key.at, depth (rows ++ row ∷ [])) ∷ []) []) e ∙ append-nil (depths_from s [] rows)) in
+    ap highest (depths-push s [] rows row ∙ ap (λ b. depths_from s [] rows ++ cond b ((row.key.at, depth (rows ++ row ∷ [])) ∷ []) []) e ∙ append-nil (depths_from s [] rows)) in
     rw (within, level, before, deepest) refl
 
 -- an actor with one more row
@@ -108,9 +108,9 @@ unfolding figured grouped
 figured-push queues actors s rows row =
     let n = length queues in
     let many : length (figured queues actors s rows).of_queues ≡ n =
-        length-map (enumerate_from 0 queues) (λ q. queue_state n s q.1 (rows_of q.0 rows)) ∙ length-enumerate_from 0 queues in
+    length-map (enumerate_from 0 queues) (λ q. queue_state n s q.1 (rows_of q.0 rows)) ∙ length-enumerate_from 0 queues in
     let own = grouped-at (λ (r : Row). r.queue) (λ (name : List ℕ) (rs : List Row). queue_state n s name rs) (queue_with n s (fact_of row)) row.queue 0 queues rows row
-        (λ name rs. queue-push n s name rs row (is_within s row) refl) (omega arith) in
+    (λ name rs. queue-push n s name rs row (is_within s row) refl) (omega arith) in
     let others = actors-push n actors s rows row (nat_le n row.agent) refl in
     rw (many, own, others) refl
 

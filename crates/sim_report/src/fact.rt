@@ -10,7 +10,9 @@ use sqs_message::{Detail, MessageId, Row, RowAnswer, RowKind};
 const ARRIVAL: u16 = 2;
 
 const BY_FORWARD: u16 = 2;
+
 const BY_REDRIVE: u16 = 3;
+
 const BY_MOVE: u16 = 4;
 
 /// What a row changes of the messages that its actor holds.

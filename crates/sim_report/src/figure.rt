@@ -70,10 +70,7 @@ fn count_names() -> [&'static [u8]; COUNTS]
 /// # Errors
 ///
 /// `AllocError` if a growth is refused.
-pub(crate) fn named_counts(
-    alloc: Global,
-    counts: &[u64; COUNTS],
-) -> Result<Vec<Figure>, AllocError>
+pub(crate) fn named_counts(alloc: Global, counts: &[u64; COUNTS]) -> Result<Vec<Figure>, AllocError>
     ensures { IfOk result (λ v. v.items ≡ named_counts counts.now) }
 {
     let names = count_names();
@@ -101,11 +98,7 @@ fn add_figure(
 /// # Errors
 ///
 /// `AllocError` if a growth is refused.
-pub(crate) fn add_figures(
-    text: &mut Lines,
-    of: &[u8],
-    figures: &[Figure],
-) -> Result<(), AllocError>
+pub(crate) fn add_figures(text: &mut Lines, of: &[u8], figures: &[Figure]) -> Result<(), AllocError>
     ensures { OnOk result (text.new
         ≡ text.old ++ lines (map (figure_fields of.now) figures.now)) }
 {

@@ -198,5 +198,4 @@ pub fn figures_follow()
     ensures { (queues actors : List (List ℕ)) (s : TheStretch) (rows : List TheRow) (row : TheRow)
         → figures_with (fact_of row) (figured queues actors s rows)
         ≡ figured queues actors s (rows ++ row ∷ []) }
-{
-}
+{}

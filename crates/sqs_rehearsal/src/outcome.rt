@@ -54,9 +54,9 @@ fn fresh_figures(
         from: stretch.from,
         until: stretch.until.min(scenario.horizon().saturating_add(1)),
     };
-    let names = copies(alloc, &scenario.names()[..queues])?;
-    let actors = copies(alloc, &scenario.names()[queues..])?;
-    Figures::new(alloc, stretch, names, actors)
+    let of_queues = copies(alloc, &scenario.names()[..queues])?;
+    let of_actors = copies(alloc, &scenario.names()[queues..])?;
+    Figures::new(alloc, stretch, of_queues, of_actors)
 }
 
 /// The report of no rows of a scenario, with figures over the part of a stretch that lies in its

@@ -98,7 +98,7 @@ pub fn copies(alloc: Global, names: &[Text]) -> Result<Vec<Text>, AllocError> {
 fn fresh_report(alloc: Global, scenario: &Scenario) -> Result<Report, AllocError> {
     let queues = scenario.queues().len();
     let names = copies(alloc, &scenario.names()[..queues])?;
-    Report::new(alloc, names)
+    Report::new(alloc, names, None)
 }
 
 /// A log of a scenario that has only its header.

@@ -47,7 +47,7 @@ fn names(rt: &impl Abort, alloc: Global) -> Names {
 
 /// The report of no rows of the queues `q` and `d`.
 fn report(rt: &impl Abort, alloc: Global) -> Report {
-    Report::new(alloc, texts(rt, alloc, &[b"q", b"d"])).expect(rt, "memory")
+    Report::new(alloc, texts(rt, alloc, &[b"q", b"d"]), None).expect(rt, "memory")
 }
 
 /// The first batch of rows.

@@ -1,7 +1,7 @@
 //! What no clause says: the bytes themselves, compared with values worked out apart from this
 //! program.
 ghost use Rattle.std.specs.Prelude.{◌≡◌, ◌++◌};
-ghost use Rattle.sim_report.specs.Running.{running};
+ghost use Rattle.sim_report.specs.Reports.{asked_plain, running};
 
 use crate::tests::row::row;
 use crate::tests::same::same;
@@ -144,9 +144,9 @@ fn in_two_parts(
     first: &[Row],
     second: &[Row],
 ) -> Report
-    ensures { result ≡ running names.items (first.now ++ second.now) }
+    ensures { result ≡ running (asked_plain names.items) (first.now ++ second.now) }
 {
-    let mut report = Report::new(alloc, names).expect(rt, "memory");
+    let mut report = Report::new(alloc, names, None).expect(rt, "memory");
     report.add(first).expect(rt, "memory");
     report.add(second).expect(rt, "memory");
     report
@@ -187,7 +187,7 @@ fn the_columns_of_two_queues(rt: HostRuntime) {
 fn a_report_against_another(rt: HostRuntime) {
     let (alloc, finals) = (rt.alloc(), finals(&rt, rt.alloc()));
     let filled = filled(&rt, alloc);
-    let other = Report::new(alloc, names(&rt, alloc, b"e", b"q")).expect(&rt, "memory");
+    let other = Report::new(alloc, names(&rt, alloc, b"e", b"q"), None).expect(&rt, "memory");
     let mut out = ToWriter::new(Vec::new(alloc));
     let answer = compare(alloc, &mut out, (&filled, &finals), (&other, &finals));
     let text =

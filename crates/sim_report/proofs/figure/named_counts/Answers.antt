@@ -17,8 +17,8 @@ loop-place-preserved c =
     let name = sym (get_or-map (λ n. n.now) names place (record { ref_ptr = (0, 0); now = [] }) [] (omega (arith, c.loop-place-test.true))) ∙ ap (λ (ns : List (List ℕ)). get_or ns place []) told in
     let pair : List ℕ → ℕ → Figure = λ n v. (n, Some v) in
     let is : figure ≡ get_or all place figure =
-        c.of.ensures ∙ ap (λ n. pair n c.from.result) name ∙ ap (pair (get_or count_names place [])) c.from.ensures
-        ∙ sym (named-at counts place figure c.told-counts c.loop-place-test.true) in
+    c.of.ensures ∙ ap (λ n. pair n c.from.result) name ∙ ap (pair (get_or count_names place [])) c.from.ensures
+    ∙ sym (named-at counts place figure c.told-counts c.loop-place-test.true) in
     let long = length-named counts c.told-counts in
     let more : take (place + 1) all ≡ take place all ++ get_or all place figure ∷ [] = take_more all place figure (omega (arith, c.loop-place-test.true)) in
     c.in_ok-push.ensures.items

@@ -20,10 +20,10 @@ returns c = λ queues actors s rows is.
     let first = c.in_ok-add.ensures ∙ ap (λ (t : List ℕ). t ++ line figures_header) c.new-text.ensures in
     let second = c.in_ok-add_queues.ensures ∙ ap (λ (t : List ℕ). t ++ queue_lines c.self.inside.stretch c.as_slice.result.now) first in
     let whole : c.add_actors.new.text ≡ figures_text queues actors s rows =
-        c.in_ok-add_actors.ensures ∙ ap (λ (t : List ℕ). t ++ actor_lines c.self.inside.stretch c.as_slice-2.result.now) second
-        ∙ append_assoc (line figures_header) (queue_lines c.self.inside.stretch c.as_slice.result.now) (actor_lines c.self.inside.stretch c.as_slice-2.result.now)
-        ∙ ap (λ (t : Stretch). line figures_header ++ (queue_lines t c.as_slice.result.now ++ actor_lines t c.as_slice-2.result.now)) stretch
-        ∙ ap (λ (qs : List QueueState). line figures_header ++ (queue_lines s qs ++ actor_lines s c.as_slice-2.result.now)) of_queues
-        ∙ ap (λ (rest : List ActorState). line figures_header ++ (queue_lines s state.of_queues ++ actor_lines s rest)) of_actors
-        ∙ text-is queues actors s rows in
+    c.in_ok-add_actors.ensures ∙ ap (λ (t : List ℕ). t ++ actor_lines c.self.inside.stretch c.as_slice-2.result.now) second
+    ∙ append_assoc (line figures_header) (queue_lines c.self.inside.stretch c.as_slice.result.now) (actor_lines c.self.inside.stretch c.as_slice-2.result.now)
+    ∙ ap (λ (t : Stretch). line figures_header ++ (queue_lines t c.as_slice.result.now ++ actor_lines t c.as_slice-2.result.now)) stretch
+    ∙ ap (λ (qs : List QueueState). line figures_header ++ (queue_lines s qs ++ actor_lines s c.as_slice-2.result.now)) of_queues
+    ∙ ap (λ (rest : List ActorState). line figures_header ++ (queue_lines s state.of_queues ++ actor_lines s rest)) of_actors
+    ∙ text-is queues actors s rows in
     rw whole at c.into_bytes.ensures

@@ -1,0 +1,270 @@
+//! What no clause says: the figures as bytes, compared with values worked out by hand. There are the
+//! queues `q` and `d`, whose numbers are 0 and 1, and the consumer `c`, 2. A producer, 3, and a task,
+//! 4, have no figures here.
+use crate::tests::same::same;
+use sim_clock::{Class, Key};
+use sim_records::ToWriter;
+use sim_report::{Fact, Figures, Report, Stretch};
+use sqs_message::{Detail, MessageId, Origin, Row, RowAnswer, RowKind, RowReceipt, Text};
+use std::alloc::Global;
+use std::process::Abort;
+
+const NONE: Detail = Detail::Absent;
+
+/// The moment, queue, agent, kind, answer, message's number and detail of each row. Over the stretch
+/// from 10 to before 100, the consumer serves from 20 to 50 and from 60 to 70, and it still holds a
+/// message from 90 on.
+const ROWS: [(u64, u32, u32, RowKind, RowAnswer, Option<u64>, Detail); 18] = [
+    (5, 0, 3, RowKind::Send, RowAnswer::New, Some(0), NONE),
+    (10, 0, 3, RowKind::Send, RowAnswer::New, Some(1), NONE),
+    (20, 0, 2, RowKind::Receive, RowAnswer::Ok, Some(0), NONE),
+    (20, 0, 2, RowKind::Receive, RowAnswer::Ok, Some(1), NONE),
+    (30, 0, 2, RowKind::Fail, RowAnswer::Ok, Some(0), NONE),
+    (
+        40,
+        0,
+        2,
+        RowKind::Forward,
+        RowAnswer::Out,
+        Some(1),
+        Detail::Queue(1),
+    ),
+    (
+        50,
+        0,
+        2,
+        RowKind::Delete,
+        RowAnswer::Deleted,
+        Some(1),
+        Detail::Age(40),
+    ),
+    (51, 0, 2, RowKind::Receive, RowAnswer::Wait, None, NONE),
+    (
+        55,
+        1,
+        2,
+        RowKind::Arrive,
+        RowAnswer::New,
+        Some(0),
+        from(1, 0),
+    ),
+    (60, 0, 2, RowKind::Receive, RowAnswer::Ok, Some(0), NONE),
+    (
+        70,
+        0,
+        2,
+        RowKind::Delete,
+        RowAnswer::Deleted,
+        Some(0),
+        Detail::Age(65),
+    ),
+    (71, 0, 2, RowKind::Receive, RowAnswer::Empty, None, NONE),
+    (
+        75,
+        1,
+        0,
+        RowKind::Arrive,
+        RowAnswer::New,
+        Some(1),
+        from(0, 4),
+    ),
+    (
+        80,
+        0,
+        4,
+        RowKind::Arrive,
+        RowAnswer::New,
+        Some(2),
+        from(0, 5),
+    ),
+    (
+        85,
+        0,
+        4,
+        RowKind::Arrive,
+        RowAnswer::New,
+        Some(3),
+        from(0, 6),
+    ),
+    (90, 0, 2, RowKind::Receive, RowAnswer::Ok, Some(2), NONE),
+    (100, 0, 3, RowKind::Send, RowAnswer::New, Some(4), NONE),
+    (
+        120,
+        0,
+        2,
+        RowKind::Delete,
+        RowAnswer::Deleted,
+        Some(2),
+        Detail::Age(40),
+    ),
+];
+
+const fn from(site: u32, number: u64) -> Detail {
+    Detail::From(Origin { site, number })
+}
+
+/// The figures over the stretch.
+const FIGURES: &[u8] = b"figure,of,name,value
+figure,q,sent,1
+figure,q,sent_again,0
+figure,q,came_by_forward,0
+figure,q,came_by_redrive,0
+figure,q,came_by_move,2
+figure,q,forwarded_again,0
+figure,q,receives,4
+figure,q,waits,1
+figure,q,empty_receives,1
+figure,q,deleted,2
+figure,q,deletes_by_older_receipt,0
+figure,q,deletes_of_gone,0
+figure,q,changes,0
+figure,q,failed_services,1
+figure,q,forwarded,1
+figure,q,dead_lettered,0
+figure,q,moved_away,0
+figure,q,lost_by_expiry,0
+figure,q,refused_sends,0
+figure,q,refused_receives,0
+figure,q,refused_deletes,0
+figure,q,refused_changes,0
+figure,q,depth_greatest,2
+figure,q,depth_greatest_at_ms,10
+figure,q,age_sum_ms,105
+figure,q,age_p50_ms,40
+figure,q,age_p95_ms,65
+figure,q,age_p99_ms,65
+figure,q,age_greatest_ms,65
+figure,d,sent,0
+figure,d,sent_again,0
+figure,d,came_by_forward,1
+figure,d,came_by_redrive,1
+figure,d,came_by_move,0
+figure,d,forwarded_again,0
+figure,d,receives,0
+figure,d,waits,0
+figure,d,empty_receives,0
+figure,d,deleted,0
+figure,d,deletes_by_older_receipt,0
+figure,d,deletes_of_gone,0
+figure,d,changes,0
+figure,d,failed_services,0
+figure,d,forwarded,0
+figure,d,dead_lettered,0
+figure,d,moved_away,0
+figure,d,lost_by_expiry,0
+figure,d,refused_sends,0
+figure,d,refused_receives,0
+figure,d,refused_deletes,0
+figure,d,refused_changes,0
+figure,d,depth_greatest,2
+figure,d,depth_greatest_at_ms,75
+figure,d,age_sum_ms,0
+figure,d,age_p50_ms,
+figure,d,age_p95_ms,
+figure,d,age_p99_ms,
+figure,d,age_greatest_ms,
+figure,c,sent,0
+figure,c,sent_again,0
+figure,c,came_by_forward,1
+figure,c,came_by_redrive,0
+figure,c,came_by_move,0
+figure,c,forwarded_again,0
+figure,c,receives,4
+figure,c,waits,1
+figure,c,empty_receives,1
+figure,c,deleted,2
+figure,c,deletes_by_older_receipt,0
+figure,c,deletes_of_gone,0
+figure,c,changes,0
+figure,c,failed_services,1
+figure,c,forwarded,1
+figure,c,dead_lettered,0
+figure,c,moved_away,0
+figure,c,lost_by_expiry,0
+figure,c,refused_sends,0
+figure,c,refused_receives,0
+figure,c,refused_deletes,0
+figure,c,refused_changes,0
+figure,c,busy_ms,50
+";
+
+fn text(rt: &impl Abort, alloc: Global, name: &[u8]) -> Text {
+    Text::new(name.to_vec(alloc).expect(rt, "memory"))
+}
+
+fn rows(rt: &impl Abort, alloc: Global) -> Vec<Row> {
+    let mut rows = Vec::new(alloc);
+    for &(at, queue, agent, kind, answer, number, detail) in &ROWS {
+        let key = Key {
+            at,
+            agent,
+            class: Class::Wake,
+            number: 0,
+        };
+        let message = match number {
+            Some(number) => Some(MessageId {
+                site: queue,
+                number,
+            }),
+            None => None,
+        };
+        let row = Row {
+            key,
+            queue,
+            agent,
+            kind,
+            answer,
+            message,
+            receipt: RowReceipt::Absent,
+            detail,
+        };
+        rows.push(row).expect(rt, "memory");
+    }
+    rows
+}
+
+/// The figures of no rows, over the stretch from 10 to before 100.
+fn fresh(rt: &impl Abort, alloc: Global) -> Figures {
+    let queues = vec![in alloc; text(rt, alloc, b"q"), text(rt, alloc, b"d")].expect(rt, "memory");
+    let actors = vec![in alloc; text(rt, alloc, b"c")].expect(rt, "memory");
+    let stretch = Stretch {
+        from: 10,
+        until: 100,
+    };
+    Figures::new(alloc, stretch, queues, actors).expect(rt, "memory")
+}
+
+#[test]
+fn the_figures_of_two_queues_and_a_consumer(rt: HostRuntime) {
+    let alloc = rt.alloc();
+    let rows = rows(&rt, alloc);
+    let (first, second) = rows.as_slice().split_at(rows.len() / 2);
+    let mut figures = fresh(&rt, alloc);
+    figures.take_rows(first).expect(&rt, "memory");
+    for row in second {
+        figures.take(Fact::of(row)).expect(&rt, "memory");
+    }
+    let text = figures.text(alloc).expect(&rt, "memory");
+    same(&rt, text.as_slice(), FIGURES);
+}
+
+#[test]
+fn a_report_with_figures(rt: HostRuntime) {
+    let alloc = rt.alloc();
+    let names = vec![in alloc; text(&rt, alloc, b"q"), text(&rt, alloc, b"d")];
+    let figures = Some(fresh(&rt, alloc));
+    let mut report = Report::new(alloc, names.expect(&rt, "memory"), figures).expect(&rt, "memory");
+    let rows = rows(&rt, alloc);
+    let (first, second) = rows.as_slice().split_at(rows.len() / 2);
+    report.add(first).expect(&rt, "memory");
+    for row in second {
+        report.add_fact(Fact::of(row)).expect(&rt, "memory");
+    }
+    let mut out = ToWriter::new(Vec::new(alloc));
+    let answer = report.write_figures(alloc, &mut out);
+    same(
+        &rt,
+        (answer, out.into_inner().as_slice()),
+        (Ok(()), FIGURES),
+    );
+}
