@@ -69,12 +69,33 @@ def counts(rows: Iterable[Fields], queues: Sequence[str]) -> Iterator[tuple[str,
     yield from ((name, kinds.count(name)) for name in NAMES)
 
 
-def deepest(rows: Sequence[Fields], stretch: Stretch) -> tuple[int, int]:
-    """The greatest number of messages in a queue, at the beginning of a stretch or after one of its rows, and when."""
-    change = [(row.said() in COMES) - (row.said() in LEAVES) for row in rows]
-    depths = [(sum(change[:number]), int(row.at)) for number, row in enumerate(rows, 1) if stretch.has(row)]
-    start = sum(by for by, row in zip(change, rows) if int(row.at) < stretch.first), stretch.first
-    return max([start, *depths], key=lambda depth: depth[0])
+def depths(rows: Iterable[Fields]) -> Iterator[int]:
+    """How many messages are in a queue after each row."""
+    depth = 0
+    for row in rows:
+        depth += (row.said() in COMES) - (row.said() in LEAVES)
+        yield depth
+
+
+def flights(rows: Iterable[Fields]) -> Iterator[int]:
+    """How many of them are in flight."""
+    flying: set[str] = set()
+    for row in rows:
+        if row.said() == "receive ok":
+            flying.add(row.message)
+        elif row.said() == "release visible" or row.said() in LEAVES:
+            flying.discard(row.message)
+        yield len(flying)
+
+
+def peak(name: str, numbers: Iterable[int], rows: Sequence[Fields], stretch: Stretch) -> Iterator[tuple[str, int]]:
+    """The greatest of numbers, at the beginning of a stretch or after one of its rows, and when."""
+    after = [(number, row) for number, row in zip(numbers, rows)]
+    start = [number for number, row in after if int(row.at) < stretch.first][-1:] or [0]
+    greatest = max([(start[0], stretch.first), *((number, int(row.at)) for number, row in after if stretch.has(row))],
+                   key=lambda found: found[0])
+    yield f"{name}_greatest", greatest[0]
+    yield f"{name}_greatest_at_ms", greatest[1]
 
 
 def busy(rows: Sequence[Fields], stretch: Stretch) -> int:
@@ -110,8 +131,8 @@ def figures_text(scenario: "Scenario", made: Iterable["Row"], first: int, end: i
         inside = [row for row in own if stretch.has(row)]
         figures: list[tuple[str, Optional[int]]] = [*counts(inside, queues)]
         if name in queues:
-            depth, at = deepest(own, stretch)
-            figures += [("depth_greatest", depth), ("depth_greatest_at_ms", at), *ages(inside)]
+            figures += [*peak("depth", depths(own), own, stretch), *peak("in_flight", flights(own), own, stretch),
+                        *ages(inside)]
         else:
             figures.append(("busy_ms", busy(own, stretch)))
         lines += [["figure", name, figure, "" if value is None else value] for figure, value in figures]

@@ -12,8 +12,8 @@ use Rattle.sqs_formats.specs.Rows.{line, lines}
 use Rattle.sim_report.specs.declared.held.Held.{Held}
 use Rattle.sim_report.specs.declared.stretch.Stretch.{Stretch}
 use Rattle.sim_report.specs.Facts.{fact_of}
-use Rattle.sim_report.specs.Figures.{actor_figures, count_of_row, counts_of, depths_from, figure_fields, figures_header, figures_text, held_after, held_with, higher, hold_of, is_serving, is_within, overlap, queue_figures, rows_before, rows_by, rows_within, time_from, time_while}
-use Rattle.sim_report.specs.Figured.{ActorState, QueueState, actor_numbers, actor_records, actor_state, actor_with, busy_until_end, figured, fresh_actor, fresh_queue, peak, queue_numbers, queue_records, queue_state, raised}
+use Rattle.sim_report.specs.Figures.{actor_figures, count_of_row, counts_of, figure_fields, figures_header, figures_text, held_after, held_with, higher, hold_of, in_flight, is_serving, is_within, levels_from, overlap, peak_of, queue_figures, rows_before, rows_by, rows_within, time_from, time_while}
+use Rattle.sim_report.specs.Figured.{ActorState, QueueState, actor_numbers, actor_records, actor_state, actor_with, busy_until_end, figured, fresh_actor, fresh_queue, higher_of, peak_in, peak_state, queue_numbers, queue_others, queue_records, queue_state, raised}
 use Rattle.sim_report.specs.Tally.{counted}
 use Rattle.sim_report.proofs.Ascending.{sum_by-ascending}
 use Rattle.sim_report.proofs.Groups.{filter-push, rank-ascending}
@@ -34,19 +34,25 @@ higher-again : (a b c : ℕ × ℕ) → higher a (higher b c) ≡ higher (higher
 higher-again a b c = higher-of a b c (nat_lt a.1 b.1) (nat_lt b.1 c.1) (nat_lt a.1 c.1) refl refl refl
 
 peak-from : (start : ℕ × ℕ) (first : Option (ℕ × ℕ)) (ns : List (ℕ × ℕ))
-    → peak start (fold (λ f s. Some (raised f s)) first ns) ≡ fold higher (peak start first) ns
+    → higher_of start (fold (λ f s. Some (raised f s)) first ns) ≡ fold higher (higher_of start first) ns
 peak-from start first [] = refl
 peak-from start None (n ∷ ns) = peak-from start (Some n) ns
 peak-from start (Some m) (n ∷ ns) =
     peak-from start (Some (higher m n)) ns ∙ ap (λ (h : ℕ × ℕ). fold higher h ns) (higher-again start m n)
 
+-- the peak of a number of rows
+peak-is : (level : List Row → ℕ) (s : Stretch) (rows : List Row) → peak_in s (peak_state level s rows) ≡ peak_of level s rows
+peak-is level s rows = peak-from (s.from, level (rows_before s rows)) None (levels_from level s [] rows)
+
 -- the figures of a queue
 pub queue-is : (n : ℕ) (s : Stretch) (name : List ℕ) (rows : List Row) → queue_numbers s (queue_state n s name rows) ≡ queue_figures n s rows
+unfolding queue_others
 queue-is n s name rows =
     let within = ages (rows_within s rows) in
-    let top = peak-from (s.from, depth (rows_before s rows)) None (depths_from s [] rows) in
+    let depths = peak-is depth s rows in
+    let flights = peak-is in_flight s rows in
     let total = sum_by-ascending (λ x. x) within in
-    rw (top, total, rank-ascending 50 within, rank-ascending 95 within, rank-ascending 99 within, rank-ascending 100 within) refl
+    rw (depths, flights, total, rank-ascending 50 within, rank-ascending 95 within, rank-ascending 99 within, rank-ascending 100 within) refl
 
 -- the counts of an actor after one more row
 counts-step : (n : ℕ) (s : Stretch) (before : List Row) (row : Row) (b : Bool) → is_within s row ≡ b

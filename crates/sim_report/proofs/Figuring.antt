@@ -11,8 +11,8 @@ use Rattle.sqs_formats.specs.Report.{ages, ascending, column, count, counts_in, 
 use Rattle.sim_report.specs.declared.level.Level.{Level}
 use Rattle.sim_report.specs.declared.stretch.Stretch.{Stretch}
 use Rattle.sim_report.specs.Facts.{fact_of}
-use Rattle.sim_report.specs.Figures.{count_names, count_of_row, counts_of, depths_from, is_within, rows_before, rows_by, rows_within}
-use Rattle.sim_report.specs.Figured.{actor_state, actor_with, depth_at, figured, figures_after, figures_with, fresh_actor, highest, level_of, level_with, one_in, queue_counting, queue_levelled, queue_state, queue_with, raised}
+use Rattle.sim_report.specs.Figures.{count_names, count_of_row, counts_of, flight_of, flying, flying_with, in_flight, is_within, levels_from, number_of, rows_before, rows_by, rows_within}
+use Rattle.sim_report.specs.Figured.{actor_state, actor_with, begins_by, depth_at, figured, figures_after, figures_with, fresh_actor, has_begun, highest, level_of, level_with, one_in, peak_state, peak_with, queue_counting, queue_levelled, queue_state, queue_with, raised}
 use Rattle.sim_report.specs.Running.{changed}
 use Rattle.sim_report.specs.Tally.{counted}
 use Rattle.sim_report.proofs.Groups.{filter-push, grouped, grouped-at, grouped-later}
@@ -38,52 +38,107 @@ level-push rows row =
 pub counts-push : (queues : ℕ) (rows : List Row) (row : Row) → counts_of queues (rows ++ row ∷ []) ≡ counted (count_of_row queues row) (counts_of queues rows)
 counts-push queues = columns-push (count_of_row queues) count_names
 
--- the depths in a stretch with one more row
-depths-push : (s : Stretch) (before rows : List Row) (row : Row)
-    → depths_from s before (rows ++ row ∷ [])
-    ≡ depths_from s before rows ++ cond (is_within s row) ((row.key.at, depth (before ++ (rows ++ row ∷ []))) ∷ []) []
-depths-push s before [] row = append-nil (cond (is_within s row) ((row.key.at, depth (before ++ row ∷ [])) ∷ []) [])
-depths-push s before (r ∷ rows) row =
-    let here = cond (is_within s r) ((r.key.at, depth (before ++ r ∷ [])) ∷ []) [] in
-    let rest = depths-push s (before ++ r ∷ []) rows row in
+-- what a number is after the rows of a stretch, with one more row
+levels-push : (level : List Row → ℕ) (s : Stretch) (before rows : List Row) (row : Row)
+    → levels_from level s before (rows ++ row ∷ [])
+    ≡ levels_from level s before rows ++ cond (is_within s row) ((row.key.at, level (before ++ (rows ++ row ∷ []))) ∷ []) []
+levels-push level s before [] row = append-nil (cond (is_within s row) ((row.key.at, level (before ++ row ∷ [])) ∷ []) [])
+levels-push level s before (r ∷ rows) row =
+    let here = cond (is_within s r) ((r.key.at, level (before ++ r ∷ [])) ∷ []) [] in
+    let rest = levels-push level s (before ++ r ∷ []) rows row in
     let same = append_assoc before (r ∷ []) (rows ++ row ∷ []) in
-    let last = λ (p : List Row). cond (is_within s row) ((row.key.at, depth p) ∷ []) [] in
-    ap (λ (ds : List (ℕ × ℕ)). here ++ ds) (rest ∙ ap (λ p. depths_from s (before ++ r ∷ []) rows ++ last p) same)
-    ∙ sym (append_assoc here (depths_from s (before ++ r ∷ []) rows) (last (before ++ r ∷ (rows ++ row ∷ []))))
+    let last = λ (p : List Row). cond (is_within s row) ((row.key.at, level p) ∷ []) [] in
+    ap (λ (ls : List (ℕ × ℕ)). here ++ ls) (rest ∙ ap (λ p. levels_from level s (before ++ r ∷ []) rows ++ last p) same)
+    ∙ sym (append_assoc here (levels_from level s (before ++ r ∷ []) rows) (last (before ++ r ∷ (rows ++ row ∷ []))))
 
--- what came before a stretch with one more row
-before-push : (s : Stretch) (rows : List Row) (row : Row) (b : Bool) → nat_lt row.key.at s.from ≡ b
-    → level_of (rows_before s (rows ++ row ∷ [])) ≡ cond b (level_with (column row.kind row.answer) (level_of (rows_before s rows))) (level_of (rows_before s rows))
-before-push s rows row true e =
-    ap level_of (filter-push (λ (r : Row). nat_lt r.key.at s.from) rows row ∙ ap (λ b. cond b (rows_before s rows ++ row ∷ []) (rows_before s rows)) e)
-    ∙ level-push (rows_before s rows) row
-before-push s rows row false e =
-    ap level_of (filter-push (λ (r : Row). nat_lt r.key.at s.from) rows row ∙ ap (λ b. cond b (rows_before s rows ++ row ∷ []) (rows_before s rows)) e)
+-- whether a stretch has begun, with one more row
+begun-push : (s : Stretch) (rows : List Row) (row : Row) → has_begun s (rows ++ row ∷ []) ≡ begins_by s row.key.at (has_begun s rows)
+begun-push s [] row = refl
+begun-push s (r ∷ rows) row = go (nat_lt r.key.at s.from) (begun-push s rows row)
+  where
+    go : (b : Bool) → has_begun s (rows ++ row ∷ []) ≡ begins_by s row.key.at (has_begun s rows) → cond b (has_begun s (rows ++ row ∷ [])) true ≡ begins_by s row.key.at (cond b (has_begun s rows) true)
+    go true rest = rest
+    go false rest = refl
+
+-- while it has not begun, all rows are before it
+before-all : (s : Stretch) (rows : List Row) → has_begun s rows ≡ false → rows_before s rows ≡ rows
+before-all s [] e = refl
+before-all s (r ∷ rows) e = go (nat_lt r.key.at s.from) e (before-all s rows)
+  where
+    go : (b : Bool) → cond b (has_begun s rows) true ≡ false → (has_begun s rows ≡ false → rows_before s rows ≡ rows) → cond b (r ∷ rows_before s rows) [] ≡ r ∷ rows
+    go true f rest = ap (λ (rs : List Row). r ∷ rs) (rest f)
+    go false f rest = cc
+
+-- once it has begun, no more rows are before it
+before-push : (s : Stretch) (rows : List Row) (row : Row) → has_begun s (rows ++ row ∷ []) ≡ true → rows_before s (rows ++ row ∷ []) ≡ rows_before s rows
+before-push s [] row e = go (nat_lt row.key.at s.from) e
+  where
+    go : (b : Bool) → cond b false true ≡ true → cond b (row ∷ []) [] ≡ []
+    go true f = cc
+    go false f = refl
+before-push s (r ∷ rows) row e = go (nat_lt r.key.at s.from) e (before-push s rows row)
+  where
+    go : (b : Bool) → cond b (has_begun s (rows ++ row ∷ [])) true ≡ true
+        → (has_begun s (rows ++ row ∷ []) ≡ true → rows_before s (rows ++ row ∷ []) ≡ rows_before s rows)
+        → cond b (r ∷ rows_before s (rows ++ row ∷ [])) [] ≡ cond b (r ∷ rows_before s rows) []
+    go true f rest = ap (λ (rs : List Row). r ∷ rs) (rest f)
+    go false f rest = refl
+
+-- what a number is at the beginning of a stretch, with one more row
+start-push : (level : List Row → ℕ) (s : Stretch) (rows : List Row) (row : Row) (b : Bool) → has_begun s (rows ++ row ∷ []) ≡ b
+    → level (rows_before s (rows ++ row ∷ [])) ≡ cond b (level (rows_before s rows)) (level (rows ++ row ∷ []))
+start-push level s rows row true e = ap level (before-push s rows row e)
+start-push level s rows row false e = ap level (before-all s (rows ++ row ∷ []) e)
+
+-- the peak of a number of rows with one more row
+top-push : (level : List Row → ℕ) (s : Stretch) (rows : List Row) (row : Row) (b : Bool) → is_within s row ≡ b
+    → highest (levels_from level s [] (rows ++ row ∷ []))
+    ≡ cond b (Some (raised (highest (levels_from level s [] rows)) (row.key.at, level (rows ++ row ∷ [])))) (highest (levels_from level s [] rows))
+top-push level s rows row true e =
+    ap highest (levels-push level s [] rows row ∙ ap (λ b. levels_from level s [] rows ++ cond b ((row.key.at, level (rows ++ row ∷ [])) ∷ []) []) e)
+    ∙ fold_push (λ first second. Some (raised first second)) None (levels_from level s [] rows) (row.key.at, level (rows ++ row ∷ []))
+top-push level s rows row false e =
+    ap highest (levels-push level s [] rows row ∙ ap (λ b. levels_from level s [] rows ++ cond b ((row.key.at, level (rows ++ row ∷ [])) ∷ []) []) e
+    ∙ append-nil (levels_from level s [] rows))
+
+peak-push : (level : List Row → ℕ) (s : Stretch) (rows : List Row) (row : Row)
+    → peak_state level s (rows ++ row ∷ []) ≡ peak_with s row.key.at (level (rows ++ row ∷ [])) (peak_state level s rows)
+peak-push level s rows row =
+    let begun = begun-push s rows row in
+    let start = start-push level s rows row (begins_by s row.key.at (has_begun s rows)) begun in
+    let top = top-push level s rows row (is_within s row) refl in
+    rw (begun, start, top) refl
+
+-- the messages in flight with one more row
+flying-push : (rows : List Row) (row : Row) → flying (rows ++ row ∷ []) ≡ flying_with (flight_of row.kind row.answer) (number_of row.message) (flying rows)
+flying-push rows row = fold_push (λ ns (r : Row). flying_with (flight_of r.kind r.answer) (number_of r.message) ns) [] rows row
+
+-- what is counted in a stretch with one more row
+within-push : {A : Type 0} (f : List Row → A) (s : Stretch) (rows : List Row) (row : Row) (b : Bool) → is_within s row ≡ b
+    → f (rows_within s (rows ++ row ∷ [])) ≡ cond b (f (rows_within s rows ++ row ∷ [])) (f (rows_within s rows))
+within-push f s rows row true e = ap f (filter-push (is_within s) rows row ∙ ap (λ b. cond b (rows_within s rows ++ row ∷ []) (rows_within s rows)) e)
+within-push f s rows row false e = ap f (filter-push (is_within s) rows row ∙ ap (λ b. cond b (rows_within s rows ++ row ∷ []) (rows_within s rows)) e)
 
 -- a queue with one more row
 queue-push : (queues : ℕ) (s : Stretch) (name : List ℕ) (rows : List Row) (row : Row) (b : Bool) → is_within s row ≡ b
-    → queue_state queues s name (rows ++ row ∷ []) ≡ cond b (queue_counting queues (fact_of row) (queue_levelled s (fact_of row) (queue_state queues s name rows))) (queue_levelled s (fact_of row) (queue_state queues s name rows))
+    → queue_state queues s name (rows ++ row ∷ [])
+    ≡ cond b (queue_counting queues (fact_of row) (queue_levelled s (fact_of row) (queue_state queues s name rows))) (queue_levelled s (fact_of row) (queue_state queues s name rows))
 queue-push queues s name rows row true e =
-    let within : rows_within s (rows ++ row ∷ []) ≡ rows_within s rows ++ row ∷ [] =
-    filter-push (is_within s) rows row ∙ ap (λ b. cond b (rows_within s rows ++ row ∷ []) (rows_within s rows)) e in
-    let counts = ap (counts_of queues) within ∙ counts-push queues (rows_within s rows) row in
-    let old = ap (λ (rs : List Row). ascending (ages rs)) within ∙ ages-push (rows_within s rows) row in
+    let counts = within-push (counts_of queues) s rows row true e ∙ counts-push queues (rows_within s rows) row in
+    let old = within-push (λ (rs : List Row). ascending (ages rs)) s rows row true e ∙ ages-push (rows_within s rows) row in
     let level = level-push rows row in
-    let before = before-push s rows row (nat_lt row.key.at s.from) refl in
-    let deepest : highest (depths_from s [] (rows ++ row ∷ []))
-    ≡ Some (raised (highest (depths_from s [] rows)) (row.key.at, depth_at (level_with (column row.kind row.answer) (level_of rows)))) =
-    ap highest (depths-push s [] rows row ∙ ap (λ b. depths_from s [] rows ++ cond b ((row.key.at, depth (rows ++ row ∷ [])) ∷ []) []) e)
-    ∙ fold_push (λ first second. Some (raised first second)) None (depths_from s [] rows) (row.key.at, depth (rows ++ row ∷ []))
-    ∙ ap (λ (l : Level). Some (raised (highest (depths_from s [] rows)) (row.key.at, depth_at l))) level in
-    rw (counts, old, level, before, deepest) refl
+    let depths = peak-push depth s rows row ∙ ap (λ (l : Level). peak_with s row.key.at (depth_at l) (peak_state depth s rows)) level in
+    let flight = flying-push rows row in
+    let flights = peak-push in_flight s rows row ∙ ap (λ (ns : List ℕ). peak_with s row.key.at (length ns) (peak_state in_flight s rows)) flight in
+    rw (counts, old, level, depths, flight, flights) refl
 queue-push queues s name rows row false e =
-    let within : rows_within s (rows ++ row ∷ []) ≡ rows_within s rows =
-    filter-push (is_within s) rows row ∙ ap (λ b. cond b (rows_within s rows ++ row ∷ []) (rows_within s rows)) e in
+    let counts = within-push (counts_of queues) s rows row false e in
+    let old = within-push (λ (rs : List Row). ascending (ages rs)) s rows row false e in
     let level = level-push rows row in
-    let before = before-push s rows row (nat_lt row.key.at s.from) refl in
-    let deepest : highest (depths_from s [] (rows ++ row ∷ [])) ≡ highest (depths_from s [] rows) =
-    ap highest (depths-push s [] rows row ∙ ap (λ b. depths_from s [] rows ++ cond b ((row.key.at, depth (rows ++ row ∷ [])) ∷ []) []) e ∙ append-nil (depths_from s [] rows)) in
-    rw (within, level, before, deepest) refl
+    let depths = peak-push depth s rows row ∙ ap (λ (l : Level). peak_with s row.key.at (depth_at l) (peak_state depth s rows)) level in
+    let flight = flying-push rows row in
+    let flights = peak-push in_flight s rows row ∙ ap (λ (ns : List ℕ). peak_with s row.key.at (length ns) (peak_state in_flight s rows)) flight in
+    rw (counts, old, level, depths, flight, flights) refl
 
 -- an actor with one more row
 actor-push : (queues : ℕ) (s : Stretch) (name : List ℕ) (rows : List Row) (row : Row)

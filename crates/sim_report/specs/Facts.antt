@@ -2,7 +2,7 @@
 use Rattle.std.specs.Prelude.{ℕ, nat_lt, Option}
 use Rattle.sqs_message.specs.declared.row.Row.{Row}
 use Rattle.sim_report.specs.declared.fact.Fact.{Fact}
-use Rattle.sim_report.specs.Figures.{by_way, counted_as, hold_of, is_own}
+use Rattle.sim_report.specs.Figures.{by_way, counted_as, flight_of, hold_of, is_own, number_of}
 use Rattle.sim_report.specs.Tally.{count_of}
 
 -- what a row says
@@ -15,6 +15,8 @@ fact_of row =
       place = counted_as row.kind row.answer;
       own = is_own row.message row.detail;
       hold = hold_of row.kind row.answer;
+      flight = flight_of row.kind row.answer;
+      number = number_of row.message;
     }
 
 -- what a row that says this counts as, where so many queues are the first agents

@@ -1,14 +1,15 @@
 -- The running figures of queues and actors.
-use Rattle.std.specs.Prelude.{ℕ, ◌+◌, ◌-◌, nat_le, nat_lt, Bool, false, codes, cond, List, [], ◌∷◌, ◌++◌, fold, length, map, sum, Option, Some, None}
+use Rattle.std.specs.Prelude.{ℕ, ◌+◌, ◌-◌, nat_le, nat_lt, Bool, true, false, codes, cond, List, [], ◌∷◌, ◌++◌, fold, length, map, sum, Option, Some, None}
 use Rattle.std.specs.List.{enumerate_from}
 use Rattle.sqs_message.specs.declared.row.Row.{Row}
-use Rattle.sqs_formats.specs.Report.{ages, ascending, count, is_column, numbers, rows_of}
+use Rattle.sqs_formats.specs.Report.{ages, ascending, count, depth, is_column, numbers, rows_of}
 use Rattle.sim_report.specs.declared.fact.Fact.{Fact}
 use Rattle.sim_report.specs.declared.stretch.Stretch.{Stretch}
 use Rattle.sim_report.specs.declared.held.Held.{Held}
 use Rattle.sim_report.specs.declared.level.Level.{Level}
+use Rattle.sim_report.specs.declared.peak.Peak.{Peak}
 use Rattle.sim_report.specs.Facts.{fact_of, place_in}
-use Rattle.sim_report.specs.Figures.{Figure, count_names, counts_of, depths_from, figure_fields, held_after, held_with, higher, named_counts, overlap, rows_before, rows_by, rows_within}
+use Rattle.sim_report.specs.Figures.{Figure, count_names, counts_of, figure_fields, flying, flying_with, held_after, held_with, higher, in_flight, levels_from, named_counts, overlap, rows_before, rows_by, rows_within}
 use Rattle.sim_report.specs.Running.{changed}
 use Rattle.sim_report.specs.Tally.{counted, rank_in, with_age}
 
@@ -42,23 +43,65 @@ raised (Some first) second = higher first second
 abbrev pub highest : List (ℕ × ℕ) → Option (ℕ × ℕ)
 highest ns = fold (λ first second. Some (raised first second)) None ns
 
+-- whether some of these rows are not before a stretch
+abbrev pub has_begun : Stretch → List Row → Bool
+has_begun s [] = false
+has_begun s (row ∷ rows) = cond (nat_lt row.key.at s.from) (has_begun s rows) true
+
+-- what the peak of a number of rows needs of these rows: whether the stretch has begun, what the number is at its
+-- beginning, and its peak in it
+abbrev pub peak_state : (List Row → ℕ) → Stretch → List Row → Peak
+peak_state level s rows =
+    record { begun = has_begun s rows; start = level (rows_before s rows); top = highest (levels_from level s [] rows) }
+
+-- whether a moment lies in a stretch
+abbrev pub holds_moment : Stretch → ℕ → Bool
+holds_moment s at = cond (nat_le s.from at) (nat_lt at s.until) false
+
+-- whether a stretch has begun with a row of this moment
+abbrev pub begins_by : Stretch → ℕ → Bool → Bool
+begins_by s at begun = cond begun true (cond (nat_lt at s.from) false true)
+
+-- with one more row of this moment, after which the number is this
+abbrev pub peak_with : Stretch → ℕ → ℕ → Peak → Peak
+peak_with s at n p =
+    record {
+      begun = begins_by s at p.begun;
+      start = cond (begins_by s at p.begun) p.start n;
+      top = cond (holds_moment s at) (Some (raised p.top (at, n))) p.top;
+    }
+
+-- the higher of a first number and of another, if there is one
+abbrev pub higher_of : ℕ × ℕ → Option (ℕ × ℕ) → ℕ × ℕ
+higher_of start None = start
+higher_of start (Some second) = higher start second
+
+-- the peak, with its moment
+abbrev pub peak_in : Stretch → Peak → ℕ × ℕ
+peak_in s p = higher_of (s.from, p.start) p.top
+
 -- the running figures of a queue
 pub record QueueState : Type 0 where
   pub name : List ℕ
   pub counts : List ℕ
   pub ages : List ℕ
   pub level : Level
-  pub before : Level
-  pub deepest : Option (ℕ × ℕ)
+  pub depth : Peak
+  pub flying : List ℕ
+  pub in_flight : Peak
 
 -- the counts of no rows
 abbrev pub no_counts : List ℕ
 no_counts = map (λ n. 0) (numbers 0 count_names)
 
+-- the peak of no rows
+abbrev pub no_peak : Peak
+no_peak = record { begun = false; start = 0; top = None }
+
 -- the running figures of a queue without rows
 abbrev pub fresh_queue : List ℕ → QueueState
 fresh_queue name =
-    record { name = name; counts = no_counts; ages = []; level = level_of []; before = level_of []; deepest = None }
+    record { name = name; counts = no_counts; ages = []; level = level_of []; depth = no_peak; flying = []; in_flight = no_peak }
 
 -- after these rows of it
 abbrev pub queue_state : ℕ → Stretch → List ℕ → List Row → QueueState
@@ -68,45 +111,34 @@ queue_state queues s name rows =
       counts = counts_of queues (rows_within s rows);
       ages = ascending (ages (rows_within s rows));
       level = level_of rows;
-      before = level_of (rows_before s rows);
-      deepest = highest (depths_from s [] rows);
+      depth = peak_state depth s rows;
+      flying = flying rows;
+      in_flight = peak_state in_flight s rows;
     }
 
--- whether a moment lies in a stretch
-abbrev pub holds_moment : Stretch → ℕ → Bool
-holds_moment s at = cond (nat_le s.from at) (nat_lt at s.until) false
-
--- with one more fact of the stretch; the level has it already
+-- with one more fact of the stretch
 abbrev pub queue_counting : ℕ → Fact → QueueState → QueueState
-queue_counting queues f q =
-    record q {
-      counts = counted (place_in queues f) q.counts;
-      ages = with_age f.count.age q.ages;
-      deepest = Some (raised q.deepest (f.at, depth_at q.level));
-    }
+queue_counting queues f q = record q { counts = counted (place_in queues f) q.counts; ages = with_age f.count.age q.ages }
 
--- the levels with one more fact
+-- the levels and their peaks with one more fact
 abbrev pub queue_levelled : Stretch → Fact → QueueState → QueueState
 queue_levelled s f q =
     record q {
       level = level_with f.count.column q.level;
-      before = cond (nat_lt f.at s.from) (level_with f.count.column q.before) q.before;
+      depth = peak_with s f.at (depth_at (level_with f.count.column q.level)) q.depth;
+      flying = flying_with f.flight f.number q.flying;
+      in_flight = peak_with s f.at (length (flying_with f.flight f.number q.flying)) q.in_flight;
     }
 
 -- with one more fact
 abbrev pub queue_with : ℕ → Stretch → Fact → QueueState → QueueState
 queue_with queues s f q = cond (holds_moment s f.at) (queue_counting queues f (queue_levelled s f q)) (queue_levelled s f q)
 
--- the higher of a first number and of another, if there is one
-abbrev pub peak : ℕ × ℕ → Option (ℕ × ℕ) → ℕ × ℕ
-peak start None = start
-peak start (Some second) = higher start second
-
 -- the figures of a queue that are no counts
-abbrev pub queue_others : Stretch → QueueState → List Figure
+unfoldable pub queue_others : Stretch → QueueState → List Figure
 queue_others s q =
-    (codes "depth_greatest", Some (peak (s.from, depth_at q.before) q.deepest).1)
-    ∷ (codes "depth_greatest_at_ms", Some (peak (s.from, depth_at q.before) q.deepest).0) ∷ (codes "age_sum_ms", Some (sum q.ages))
+    (codes "depth_greatest", Some (peak_in s q.depth).1) ∷ (codes "depth_greatest_at_ms", Some (peak_in s q.depth).0)
+    ∷ (codes "in_flight_greatest", Some (peak_in s q.in_flight).1) ∷ (codes "in_flight_greatest_at_ms", Some (peak_in s q.in_flight).0) ∷ (codes "age_sum_ms", Some (sum q.ages))
     ∷ (codes "age_p50_ms", rank_in 50 q.ages) ∷ (codes "age_p95_ms", rank_in 95 q.ages) ∷ (codes "age_p99_ms", rank_in 99 q.ages)
     ∷ (codes "age_greatest_ms", rank_in 100 q.ages) ∷ []
 

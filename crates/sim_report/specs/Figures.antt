@@ -1,7 +1,11 @@
 -- Figures: what a stretch of a run says of a queue or an actor, over the rows of its log.
 use Rattle.std.specs.Prelude.{ℕ, ◌+◌, ◌-◌, ◌==◌, nat_le, nat_lt, Bool, true, false, codes, cond, max, min, List, [], ◌∷◌, ◌++◌, filter, flat_map, fold, length, map, sum, zip, Option, Some, None}
+use Rattle.std.specs.BTreeMap.{is_at}
+use Rattle.std.specs.BTreeSet.{insert_key}
+use Rattle.std.specs.Set.{remove_key}
 use Rattle.std.specs.Fmt.{decimal}
 use Rattle.std.specs.List.{enumerate_from}
+use Rattle.std.specs.Ordering.{nat_cmp}
 use Rattle.sqs_message.specs.declared.ids.MessageId.{MessageId}
 use Rattle.sqs_message.specs.declared.row.Row.{Row}
 use Rattle.sqs_message.specs.declared.row.RowKind.{RowKind}
@@ -14,6 +18,8 @@ use Rattle.sqs_formats.specs.Report.{ages, depth, is_column, numbers, rank, rows
 use Rattle.sqs_formats.specs.Rows.{lines, text_if}
 use Rattle.sim_report.specs.declared.stretch.Stretch.{Stretch}
 use Rattle.sim_report.specs.declared.held.Held.{Held}
+use Rattle.sim_report.specs.declared.fact.Flight.{Flight}
+use Rattle.sim_report.specs.declared.fact.Flight.TheVariants.{Begins, Ends, Stays}
 use Rattle.sim_report.specs.declared.fact.Hold.{Hold}
 use Rattle.sim_report.specs.declared.fact.Hold.TheVariants.{Asks, Keeps, Settles, Takes}
 
@@ -21,12 +27,13 @@ use Rattle.sim_report.specs.declared.fact.Hold.TheVariants.{Asks, Keeps, Settles
 abbrev pub is_within : Stretch → Row → Bool
 is_within s row = cond (nat_le s.from row.key.at) (nat_lt row.key.at s.until) false
 
--- its rows, and those before it
+-- its rows, and the first rows, which are before it
 abbrev pub rows_within : Stretch → List Row → List Row
 rows_within s rows = filter (is_within s) rows
 
 abbrev pub rows_before : Stretch → List Row → List Row
-rows_before s rows = filter (λ row. nat_lt row.key.at s.from) rows
+rows_before s [] = []
+rows_before s (row ∷ rows) = cond (nat_lt row.key.at s.from) (row ∷ rows_before s rows) []
 
 -- the rows of an actor
 abbrev pub rows_by : ℕ → List Row → List Row
@@ -90,15 +97,45 @@ counts_of queues rows = map (λ n. length (filter (λ row. is_column n (count_of
 abbrev pub higher : ℕ × ℕ → ℕ × ℕ → ℕ × ℕ
 higher first second = cond (nat_lt first.1 second.1) second first
 
--- the depths of a queue after those of these rows that lie in a stretch, each with its moment; `before` come before
-abbrev pub depths_from : Stretch → List Row → List Row → List (ℕ × ℕ)
-depths_from s before [] = []
-depths_from s before (row ∷ rows) =
-    cond (is_within s row) ((row.key.at, depth (before ++ row ∷ [])) ∷ []) [] ++ depths_from s (before ++ row ∷ []) rows
+-- what a number of rows so far is after those of these rows that lie in a stretch, with their moments; `before` come
+-- before
+abbrev pub levels_from : (List Row → ℕ) → Stretch → List Row → List Row → List (ℕ × ℕ)
+levels_from level s before [] = []
+levels_from level s before (row ∷ rows) =
+    cond (is_within s row) ((row.key.at, level (before ++ row ∷ [])) ∷ []) [] ++ levels_from level s (before ++ row ∷ []) rows
 
--- the greatest depth of a queue, at the beginning of a stretch or after one of its rows, with the first such moment
-abbrev pub deepest : Stretch → List Row → ℕ × ℕ
-deepest s rows = fold higher (s.from, depth (rows_before s rows)) (depths_from s [] rows)
+-- the greatest of such a number, at the beginning of a stretch or after one of its rows, with the first such moment
+abbrev pub peak_of : (List Row → ℕ) → Stretch → List Row → ℕ × ℕ
+peak_of level s rows = fold higher (s.from, level (rows_before s rows)) (levels_from level s [] rows)
+
+-- what a row does to the flight of its message
+abbrev pub flight_of : RowKind → RowAnswer → Flight
+flight_of kinds.Receive answers.Ok = Begins
+flight_of kinds.Release answers.Visible = Ends
+flight_of kinds.Delete answers.Deleted = Ends
+flight_of kinds.Redrive answers.Out = Ends
+flight_of kinds.Move answers.Out = Ends
+flight_of kinds.Expire answers.Expired = Ends
+flight_of kind answer = Stays
+
+-- the number of a row's message in its queue
+abbrev pub number_of : Option MessageId → ℕ
+number_of (Some id) = id.number
+number_of None = 0
+
+-- the messages in flight, by their numbers in ascending order, with one more row
+abbrev pub flying_with : Flight → ℕ → List ℕ → List ℕ
+flying_with Begins n ns = insert_key nat_cmp ns n
+flying_with Ends n ns = remove_key (is_at (nat_cmp n)) ns
+flying_with Stays n ns = ns
+
+-- the messages in flight after these rows of a queue
+abbrev pub flying : List Row → List ℕ
+flying rows = fold (λ ns (row : Row). flying_with (flight_of row.kind row.answer) (number_of row.message) ns) [] rows
+
+-- how many there are
+abbrev pub in_flight : List Row → ℕ
+in_flight rows = length (flying rows)
 
 -- what a row of an actor changes of the messages that it holds
 abbrev pub hold_of : RowKind → RowAnswer → Hold
@@ -145,8 +182,9 @@ named_counts ns = map (λ p. (p.0, Some p.1)) (zip count_names ns)
 abbrev pub queue_figures : ℕ → Stretch → List Row → List Figure
 queue_figures queues s rows =
     named_counts (counts_of queues (rows_within s rows))
-    ++ ((codes "depth_greatest", Some (deepest s rows).1) ∷ (codes "depth_greatest_at_ms", Some (deepest s rows).0)
-    ∷ (codes "age_sum_ms", Some (sum (ages (rows_within s rows)))) ∷ (codes "age_p50_ms", rank 50 (ages (rows_within s rows)))
+    ++ ((codes "depth_greatest", Some (peak_of depth s rows).1) ∷ (codes "depth_greatest_at_ms", Some (peak_of depth s rows).0)
+    ∷ (codes "in_flight_greatest", Some (peak_of in_flight s rows).1)
+    ∷ (codes "in_flight_greatest_at_ms", Some (peak_of in_flight s rows).0) ∷ (codes "age_sum_ms", Some (sum (ages (rows_within s rows)))) ∷ (codes "age_p50_ms", rank 50 (ages (rows_within s rows)))
     ∷ (codes "age_p95_ms", rank 95 (ages (rows_within s rows))) ∷ (codes "age_p99_ms", rank 99 (ages (rows_within s rows)))
     ∷ (codes "age_greatest_ms", rank 100 (ages (rows_within s rows))) ∷ [])
 

@@ -1,7 +1,7 @@
 //! What the figures need of a row.
 ghost use Rattle.std.specs.Prelude.{◌≡◌};
 ghost use Rattle.sim_report.specs.Facts.{fact_of, place_in};
-ghost use Rattle.sim_report.specs.Figures.{counted_as, hold_of, is_own};
+ghost use Rattle.sim_report.specs.Figures.{counted_as, flight_of, hold_of, is_own, number_of};
 
 use crate::column::RowCount;
 use sqs_message::{Detail, MessageId, Row, RowAnswer, RowKind};
@@ -28,6 +28,17 @@ pub enum Hold {
     Keeps,
 }
 
+/// What a row does to the flight of its message.
+#[derive(Clone, Copy, Debug, PartialEq, Eq)]
+pub enum Flight {
+    /// The message was received.
+    Begins,
+    /// It came back, or left the queue.
+    Ends,
+    /// Nothing.
+    Stays,
+}
+
 /// What a row says to the figures.
 #[derive(Clone, Copy, Debug, PartialEq, Eq)]
 pub struct Fact {
@@ -44,6 +55,10 @@ pub struct Fact {
     pub own: bool,
     /// What it changes of the messages that the agent holds.
     pub hold: Hold,
+    /// What it does to the flight of its message.
+    pub flight: Flight,
+    /// The number of its message in the queue; 0 if it has none.
+    pub number: u64,
 }
 
 // Whether a message that arrived is of an origin of its own.
@@ -99,6 +114,30 @@ fn hold_of(kind: RowKind, answer: RowAnswer) -> Hold
     }
 }
 
+// What a row of this kind with this answer does to the flight of its message.
+fn flight_of(kind: RowKind, answer: RowAnswer) -> Flight
+    ensures { result ≡ flight_of kind answer }
+{
+    match (kind, answer) {
+        (RowKind::Receive, RowAnswer::Ok) => Flight::Begins,
+        (RowKind::Release, RowAnswer::Visible)
+        | (RowKind::Delete, RowAnswer::Deleted)
+        | (RowKind::Redrive | RowKind::Move, RowAnswer::Out)
+        | (RowKind::Expire, RowAnswer::Expired) => Flight::Ends,
+        _ => Flight::Stays,
+    }
+}
+
+// The number of a row's message in its queue; 0 if it has none.
+fn number_of(message: Option<MessageId>) -> u64
+    ensures { result ≡ number_of message }
+{
+    match message {
+        Some(id) => id.number,
+        None => 0,
+    }
+}
+
 impl Fact {
     /// What a row says.
     pub fn of(row: &Row) -> Fact
@@ -111,6 +150,8 @@ impl Fact {
             place: counted_as(row.kind, row.answer),
             own: is_own(row.message, row.detail),
             hold: hold_of(row.kind, row.answer),
+            flight: flight_of(row.kind, row.answer),
+            number: number_of(row.message),
         }
     }
 

@@ -1,13 +1,15 @@
 //! The running figures of a queue.
 ghost use Rattle.std.specs.Prelude.{◌≡◌, ◌++◌, map, IfOk, OnOk};
-ghost use Rattle.sim_report.specs.Figured.{depth_at, fresh_queue, peak, queue_counting, queue_numbers, queue_others, queue_with, raised};
+ghost use Rattle.sim_report.specs.Figured.{fresh_queue, queue_counting, queue_numbers, queue_others, queue_with};
 ghost use Rattle.sim_report.specs.Figures.{figure_fields};
 ghost use Rattle.sqs_formats.specs.Rows.{lines};
 
 use crate::ages::Ages;
 use crate::fact::Fact;
 use crate::figure::{COUNTS, Figure, add_figures, named_counts};
+use crate::flying::Flying;
 use crate::level::{EMPTY, Level};
+use crate::peak::{NO_PEAK, Peak};
 use crate::stretch::Stretch;
 use crate::tally::count_in;
 use sim_records::Lines;
@@ -16,7 +18,7 @@ use std::alloc::{AllocError, Global};
 use std::marker::Model;
 
 // The number of its figures that are no counts.
-const OTHERS: usize = 7;
+const OTHERS: usize = 9;
 
 /// The running figures of a queue: what they need of the rows so far, without the rows.
 #[derive(Drop)]
@@ -25,8 +27,9 @@ pub(crate) struct QueueFigures {
     counts: [u64; COUNTS],
     ages: Ages,
     level: Level,
-    before: Level,
-    deepest: Option<(u64, u64)>,
+    depth: Peak,
+    flying: Flying,
+    in_flight: Peak,
 }
 
 impl Model for QueueFigures {
@@ -34,17 +37,7 @@ impl Model for QueueFigures {
 
     ghost Value = { QueueState };
 
-    ghost view = { λ q. record { name = q.name; counts = q.counts; ages = q.ages; level = q.level; before = q.before; deepest = q.deepest } };
-}
-
-// Of two depths with their moments the greater, and the first one if they are equal.
-fn raised(first: Option<(u64, u64)>, second: (u64, u64)) -> (u64, u64)
-    ensures { result ≡ raised first second }
-{
-    match first {
-        Some(first) if first.1 >= second.1 => first,
-        _ => second,
-    }
+    ghost view = { λ q. record { name = q.name; counts = q.counts; ages = q.ages; level = q.level; depth = q.depth; flying = q.flying; in_flight = q.in_flight } };
 }
 
 impl QueueFigures {
@@ -58,8 +51,9 @@ impl QueueFigures {
             counts: [0; COUNTS],
             ages: Ages::new(alloc),
             level: EMPTY,
-            before: EMPTY,
-            deepest: None,
+            depth: NO_PEAK,
+            flying: Flying::new(alloc),
+            in_flight: NO_PEAK,
         }
     }
 
@@ -71,7 +65,6 @@ impl QueueFigures {
         if let Some(age) = fact.count.age {
             self.ages.add(age)?;
         }
-        self.deepest = Some(raised(self.deepest, (fact.at, self.level.depth())));
         Ok(())
     }
 
@@ -88,38 +81,29 @@ impl QueueFigures {
     ) -> Result<(), AllocError>
         ensures { OnOk result (self.new ≡ queue_with queues stretch fact self.old) }
     {
-        let column = fact.count.column;
-        self.level = self.level.after(column)?;
-        if fact.at < stretch.from {
-            self.before = self.before.after(column)?;
-        }
+        self.level = self.level.after(fact.count.column)?;
+        self.depth = self.depth.with(stretch, fact.at, self.level.depth());
+        self.flying.take(fact.flight, fact.number)?;
+        self.in_flight = self.in_flight.with(stretch, fact.at, self.flying.count());
         if stretch.holds(fact.at) {
             self.count(queues, fact)?;
         }
         Ok(())
     }
 
-    // The greatest depth, at the beginning of the stretch or after one of its rows, with the first
-    // such moment.
-    fn peak(&self, stretch: Stretch) -> (u64, u64)
-        ensures { result ≡ peak (stretch.from, depth_at self.now.before) self.now.deepest }
-    {
-        let start = (stretch.from, self.before.depth());
-        match self.deepest {
-            Some(deepest) => raised(Some(start), deepest),
-            None => start,
-        }
-    }
-
     // Its figures that are no counts.
+    #[tactic(auto, unfolding(crate::specs::Figured::queue_others))]
     fn others(&self, alloc: Global, stretch: Stretch) -> Result<[Figure; OTHERS], AllocError>
         ensures { IfOk result (λ figures. figures ≡ queue_others stretch self.now) }
     {
-        let (at, depth) = self.peak(stretch);
+        let (deepest_at, deepest) = self.depth.greatest(stretch);
+        let (most_at, most) = self.in_flight.greatest(stretch);
         let ages = self.ages.counted(alloc)?;
         Ok([
-            Figure::of(b"depth_greatest", Some(u128::from(depth))),
-            Figure::of(b"depth_greatest_at_ms", Some(u128::from(at))),
+            Figure::of(b"depth_greatest", Some(u128::from(deepest))),
+            Figure::of(b"depth_greatest_at_ms", Some(u128::from(deepest_at))),
+            Figure::of(b"in_flight_greatest", Some(u128::from(most))),
+            Figure::of(b"in_flight_greatest_at_ms", Some(u128::from(most_at))),
             Figure::of(b"age_sum_ms", Some(ages.total())),
             Figure::of(b"age_p50_ms", ages.nearest_rank(50)),
             Figure::of(b"age_p95_ms", ages.nearest_rank(95)),

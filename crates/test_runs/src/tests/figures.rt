@@ -129,6 +129,8 @@ figure,q,refused_deletes,0
 figure,q,refused_changes,0
 figure,q,depth_greatest,2
 figure,q,depth_greatest_at_ms,10
+figure,q,in_flight_greatest,2
+figure,q,in_flight_greatest_at_ms,20
 figure,q,age_sum_ms,105
 figure,q,age_p50_ms,40
 figure,q,age_p95_ms,65
@@ -158,6 +160,8 @@ figure,d,refused_deletes,0
 figure,d,refused_changes,0
 figure,d,depth_greatest,2
 figure,d,depth_greatest_at_ms,75
+figure,d,in_flight_greatest,0
+figure,d,in_flight_greatest_at_ms,10
 figure,d,age_sum_ms,0
 figure,d,age_p50_ms,
 figure,d,age_p95_ms,
