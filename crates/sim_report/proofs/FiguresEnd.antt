@@ -12,7 +12,7 @@ use Rattle.sqs_formats.specs.Rows.{line, lines}
 use Rattle.sim_report.specs.declared.held.Held.{Held}
 use Rattle.sim_report.specs.declared.stretch.Stretch.{Stretch}
 use Rattle.sim_report.specs.Facts.{fact_of}
-use Rattle.sim_report.specs.Figures.{actor_figures, count_of_row, counts_of, figure_fields, figures_header, figures_text, held_after, held_with, higher, hold_of, in_flight, is_serving, is_within, levels_from, overlap, peak_of, queue_figures, rows_before, rows_by, rows_within, time_from, time_while}
+use Rattle.sim_report.specs.Figures.{actor_figures, count_of_row, counts_of, figure_fields, figures_header, figures_of_actor, figures_of_queue, figures_text, held_after, held_with, higher, hold_of, in_flight, is_serving, is_within, levels_from, overlap, peak_of, queue_figures, rows_before, rows_by, rows_within, time_from, time_while}
 use Rattle.sim_report.specs.Figured.{ActorState, QueueState, actor_numbers, actor_records, actor_state, actor_with, busy_until_end, figured, fresh_actor, fresh_queue, higher_of, peak_in, peak_state, queue_numbers, queue_others, queue_records, queue_state, raised}
 use Rattle.sim_report.specs.Tally.{counted}
 use Rattle.sim_report.proofs.Ascending.{sum_by-ascending}
@@ -102,7 +102,7 @@ actor-name n s a (row ∷ rows) = actor-name n s (actor_with n s (fact_of row) a
 
 queues-from : (m n : ℕ) (s : Stretch) (queues : List (List ℕ)) (rows : List Row)
     → flat_map (queue_records s) (map (λ q. queue_state n s q.1 (rows_of q.0 rows)) (enumerate_from m queues))
-    ≡ flat_map (λ q. map (figure_fields q.1) (queue_figures n s (rows_of q.0 rows))) (enumerate_from m queues)
+    ≡ flat_map (figures_of_queue n s rows) (enumerate_from m queues)
 queues-from m n s [] rows = refl
 queues-from m n s (name ∷ names) rows =
     let here = ap (map (figure_fields name)) (queue-is n s name (rows_of m rows)) in
@@ -112,7 +112,7 @@ queues-from m n s (name ∷ names) rows =
 
 actors-from : (m n : ℕ) (s : Stretch) (actors : List (List ℕ)) (rows : List Row)
     → flat_map (actor_records s) (map (λ a. actor_state n s a.1 (rows_by a.0 rows)) (enumerate_from m actors))
-    ≡ flat_map (λ a. map (figure_fields a.1) (actor_figures n s (rows_by a.0 rows))) (enumerate_from m actors)
+    ≡ flat_map (figures_of_actor n s rows) (enumerate_from m actors)
 actors-from m n s [] rows = refl
 actors-from m n s (name ∷ names) rows =
     let here : actor_records s (actor_state n s name (rows_by m rows)) ≡ map (figure_fields name) (actor_figures n s (rows_by m rows)) =
@@ -130,8 +130,8 @@ unfolding figured
 text-is queues actors s rows =
     let of_queues = queues-from 0 (length queues) s queues rows in
     let of_actors = actors-from (length queues) (length queues) s actors rows in
-    let first = flat_map (λ q. map (figure_fields q.1) (queue_figures (length queues) s (rows_of q.0 rows))) (enumerate_from 0 queues) in
-    let second = flat_map (λ a. map (figure_fields a.1) (actor_figures (length queues) s (rows_by a.0 rows))) (enumerate_from (length queues) actors) in
+    let first = flat_map (figures_of_queue (length queues) s rows) (enumerate_from 0 queues) in
+    let second = flat_map (figures_of_actor (length queues) s rows) (enumerate_from (length queues) actors) in
     ap (λ (text : List ℕ). line figures_header ++ text)
     (ap (λ (rs : List (List (List ℕ))). lines rs ++ lines (flat_map (actor_records s) (figured queues actors s rows).of_actors)) of_queues
     ∙ ap (λ (rs : List (List (List ℕ))). lines first ++ lines rs) of_actors

@@ -9,7 +9,7 @@ use Rattle.sim_report.specs.declared.held.Held.{Held}
 use Rattle.sim_report.specs.declared.level.Level.{Level}
 use Rattle.sim_report.specs.declared.peak.Peak.{Peak}
 use Rattle.sim_report.specs.Facts.{fact_of, place_in}
-use Rattle.sim_report.specs.Figures.{Figure, count_names, counts_of, figure_fields, flying, flying_with, held_after, held_with, higher, in_flight, levels_from, named_counts, overlap, rows_before, rows_by, rows_within}
+use Rattle.sim_report.specs.Figures.{Figure, count_names, counts_of, figure_fields, flying, flying_with, held_after, held_with, higher, in_flight, levels_from, named_counts, named_peak, overlap, rows_before, rows_by, rows_within}
 use Rattle.sim_report.specs.Running.{changed}
 use Rattle.sim_report.specs.Tally.{counted, rank_in, with_age}
 
@@ -137,10 +137,9 @@ queue_with queues s f q = cond (holds_moment s f.at) (queue_counting queues f (q
 -- the figures of a queue that are no counts
 unfoldable pub queue_others : Stretch → QueueState → List Figure
 queue_others s q =
-    (codes "depth_greatest", Some (peak_in s q.depth).1) ∷ (codes "depth_greatest_at_ms", Some (peak_in s q.depth).0)
-    ∷ (codes "in_flight_greatest", Some (peak_in s q.in_flight).1) ∷ (codes "in_flight_greatest_at_ms", Some (peak_in s q.in_flight).0) ∷ (codes "age_sum_ms", Some (sum q.ages))
-    ∷ (codes "age_p50_ms", rank_in 50 q.ages) ∷ (codes "age_p95_ms", rank_in 95 q.ages) ∷ (codes "age_p99_ms", rank_in 99 q.ages)
-    ∷ (codes "age_greatest_ms", rank_in 100 q.ages) ∷ []
+    named_peak (codes "depth") (peak_in s q.depth) ++ (named_peak (codes "in_flight") (peak_in s q.in_flight)
+    ++ ((codes "age_sum_ms", Some (sum q.ages)) ∷ (codes "age_p50_ms", rank_in 50 q.ages) ∷ (codes "age_p95_ms", rank_in 95 q.ages)
+    ∷ (codes "age_p99_ms", rank_in 99 q.ages) ∷ (codes "age_greatest_ms", rank_in 100 q.ages) ∷ []))
 
 -- the figures of a queue
 abbrev pub queue_numbers : Stretch → QueueState → List Figure

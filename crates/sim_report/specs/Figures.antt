@@ -89,9 +89,13 @@ by_way own by_queue place = cond (is_column 2 place) (Some (cond own 2 (cond by_
 abbrev pub count_of_row : ℕ → Row → Option ℕ
 count_of_row queues row = by_way (is_own row.message row.detail) (nat_lt row.agent queues) (counted_as row.kind row.answer)
 
+-- how many rows count as the name in this place
+abbrev pub counted_in : ℕ → List Row → ℕ → ℕ
+counted_in queues rows n = length (filter (λ row. is_column n (count_of_row queues row)) rows)
+
 -- how many rows count as each
 abbrev pub counts_of : ℕ → List Row → List ℕ
-counts_of queues rows = map (λ n. length (filter (λ row. is_column n (count_of_row queues row)) rows)) (numbers 0 count_names)
+counts_of queues rows = map (counted_in queues rows) (numbers 0 count_names)
 
 -- of two numbers with their moments the greater, and the earlier one if they are equal
 abbrev pub higher : ℕ × ℕ → ℕ × ℕ → ℕ × ℕ
@@ -102,7 +106,8 @@ higher first second = cond (nat_lt first.1 second.1) second first
 abbrev pub levels_from : (List Row → ℕ) → Stretch → List Row → List Row → List (ℕ × ℕ)
 levels_from level s before [] = []
 levels_from level s before (row ∷ rows) =
-    cond (is_within s row) ((row.key.at, level (before ++ row ∷ [])) ∷ []) [] ++ levels_from level s (before ++ row ∷ []) rows
+    let so_far = before ++ row ∷ [] in
+    cond (is_within s row) ((row.key.at, level so_far) ∷ []) [] ++ levels_from level s so_far rows
 
 -- the greatest of such a number, at the beginning of a stretch or after one of its rows, with the first such moment
 abbrev pub peak_of : (List Row → ℕ) → Stretch → List Row → ℕ × ℕ
@@ -145,16 +150,20 @@ hold_of kinds.Delete answer = Settles
 hold_of kinds.Fail answer = Settles
 hold_of kind answer = Keeps
 
--- what it holds after one more row
+-- what it holds after a row that changes this
 abbrev pub held_with : Hold → Held → Held
 held_with Takes h = record { number = cond h.receiving (h.number + 1) 1; receiving = true }
 held_with Asks h = record { number = 0; receiving = false }
 held_with Settles h = record { number = h.number - 1; receiving = false }
 held_with Keeps h = h
 
+-- what it holds after one more row
+abbrev pub held_by : Held → Row → Held
+held_by h row = held_with (hold_of row.kind row.answer) h
+
 -- what it holds after these rows of it
 abbrev pub held_after : List Row → Held
-held_after rows = fold (λ h (row : Row). held_with (hold_of row.kind row.answer) h) (record { number = 0; receiving = false }) rows
+held_after rows = fold held_by (record { number = 0; receiving = false }) rows
 
 -- whether it serves after these rows of it: whether it holds messages
 abbrev pub is_serving : List Row → Bool
@@ -178,20 +187,26 @@ Figure = List ℕ × Option ℕ
 abbrev pub named_counts : List ℕ → List Figure
 named_counts ns = map (λ p. (p.0, Some p.1)) (zip count_names ns)
 
+-- a peak by its names
+abbrev pub named_peak : List ℕ → ℕ × ℕ → List Figure
+named_peak name peak = (name ++ codes "_greatest", Some peak.1) ∷ (name ++ codes "_greatest_at_ms", Some peak.0) ∷ []
+
+-- ages by their names
+abbrev pub named_ages : List ℕ → List Figure
+named_ages ages =
+    (codes "age_sum_ms", Some (sum ages)) ∷ (codes "age_p50_ms", rank 50 ages) ∷ (codes "age_p95_ms", rank 95 ages)
+    ∷ (codes "age_p99_ms", rank 99 ages) ∷ (codes "age_greatest_ms", rank 100 ages) ∷ []
+
 -- the figures of a queue over its rows, where so many queues are the first agents
 abbrev pub queue_figures : ℕ → Stretch → List Row → List Figure
 queue_figures queues s rows =
-    named_counts (counts_of queues (rows_within s rows))
-    ++ ((codes "depth_greatest", Some (peak_of depth s rows).1) ∷ (codes "depth_greatest_at_ms", Some (peak_of depth s rows).0)
-    ∷ (codes "in_flight_greatest", Some (peak_of in_flight s rows).1)
-    ∷ (codes "in_flight_greatest_at_ms", Some (peak_of in_flight s rows).0) ∷ (codes "age_sum_ms", Some (sum (ages (rows_within s rows)))) ∷ (codes "age_p50_ms", rank 50 (ages (rows_within s rows)))
-    ∷ (codes "age_p95_ms", rank 95 (ages (rows_within s rows))) ∷ (codes "age_p99_ms", rank 99 (ages (rows_within s rows)))
-    ∷ (codes "age_greatest_ms", rank 100 (ages (rows_within s rows))) ∷ [])
+    named_counts (counts_of queues (rows_within s rows)) ++ (named_peak (codes "depth") (peak_of depth s rows)
+    ++ (named_peak (codes "in_flight") (peak_of in_flight s rows) ++ named_ages (ages (rows_within s rows))))
 
 -- the figures of an actor over its rows
 abbrev pub actor_figures : ℕ → Stretch → List Row → List Figure
 actor_figures queues s rows =
-    named_counts (counts_of queues (rows_within s rows)) ++ ((codes "busy_ms", Some (time_while is_serving s rows)) ∷ [])
+    named_counts (counts_of queues (rows_within s rows)) ++ (codes "busy_ms", Some (time_while is_serving s rows)) ∷ []
 
 -- the fields of a figure of a queue or actor with this name
 abbrev pub figure_fields : List ℕ → Figure → List (List ℕ)
@@ -201,12 +216,19 @@ figure_fields of f = codes "figure" ∷ of ∷ f.0 ∷ text_if decimal f.1 ∷ [
 abbrev pub figures_header : List (List ℕ)
 figures_header = codes "figure" ∷ codes "of" ∷ codes "name" ∷ codes "value" ∷ []
 
+-- the records of a queue's figures, and of an actor's, by its number and name
+abbrev pub figures_of_queue : ℕ → Stretch → List Row → ℕ × List ℕ → List (List (List ℕ))
+figures_of_queue queues s rows q = map (figure_fields q.1) (queue_figures queues s (rows_of q.0 rows))
+
+abbrev pub figures_of_actor : ℕ → Stretch → List Row → ℕ × List ℕ → List (List (List ℕ))
+figures_of_actor queues s rows a = map (figure_fields a.1) (actor_figures queues s (rows_by a.0 rows))
+
 -- the records of the figures of queues and actors with these names; the queues are the first agents
 abbrev pub figures_records : List (List ℕ) → List (List ℕ) → Stretch → List Row → List (List (List ℕ))
 figures_records queues actors s rows =
     figures_header
-    ∷ (flat_map (λ q. map (figure_fields q.1) (queue_figures (length queues) s (rows_of q.0 rows))) (enumerate_from 0 queues)
-    ++ flat_map (λ a. map (figure_fields a.1) (actor_figures (length queues) s (rows_by a.0 rows))) (enumerate_from (length queues) actors))
+    ∷ (flat_map (figures_of_queue (length queues) s rows) (enumerate_from 0 queues)
+    ++ flat_map (figures_of_actor (length queues) s rows) (enumerate_from (length queues) actors))
 
 -- the figures of a run
 abbrev pub figures_text : List (List ℕ) → List (List ℕ) → Stretch → List Row → List ℕ

@@ -191,11 +191,3 @@ impl Figures {
         text.into_bytes()
     }
 }
-
-/// What a row says is all that the figures need of it: with the fact of one more row, the figures
-/// of any rows are those of these rows and that one.
-pub fn figures_follow()
-    ensures { (queues actors : List (List ℕ)) (s : TheStretch) (rows : List TheRow) (row : TheRow)
-        → figures_with (fact_of row) (figured queues actors s rows)
-        ≡ figured queues actors s (rows ++ row ∷ []) }
-{}
