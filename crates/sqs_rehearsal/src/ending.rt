@@ -9,6 +9,7 @@ ghost use Rattle.sqs_model.specs.Finals.{final_message, finals_of, messages_at};
 ghost use Rattle.sqs_rehearsal.specs.Endings.{ending_with};
 ghost use Rattle.sqs_rehearsal.specs.Outcomes.{OfEnd};
 ghost use Rattle.sqs_rehearsal.specs.Left.{others_text};
+ghost use Rattle.sim_report.specs.Reports.{OfFigures};
 ghost use Rattle.sim_report.specs.Running.{CountsAll, CountsOn};
 
 use crate::finals::{final_message, tasks_of, transfers_of};
@@ -161,21 +162,15 @@ fn write_left<W: Out>(
     report.write_counted(alloc, out, &left)
 }
 
-// Writes the state of a run's sites, then its report, and then its figures, if they are wanted.
-fn write_parts<W: Out>(
-    alloc: Global,
-    out: &mut W,
-    sites: &[Site],
-    names: &Names,
-    report: &Report,
-) -> Result<(), Refusal>
+// Writes the figures, if they are wanted, and flushes the writer.
+fn finish<W: Out>(alloc: Global, out: &mut W, report: &Report) -> Result<(), Refusal>
     requires { (W.state out.old).failed ≡ false }
-    ensures works { OnOk result ((W.state out.new).failed ≡ false) }
-    ensures written { OfEnd names.now report.now sites.now (λ s r figures.
-        WroteSeveral (W.state out.old) (W.state out.new) (ending_with s figures r) result) }
+    ensures written { OfFigures report.now
+        (λ text. WroteSeveral (W.state out.old) (W.state out.new) text result) }
+    ensures flushed { OnOk result ((W.state out.new).flushed ≡ true) }
 {
-    write_left(alloc, out, sites, names, report)?;
-    report.write_figures(alloc, out)
+    report.write_figures(alloc, out)?;
+    flush(out)
 }
 
 /// Writes the state of a run's sites at its end, then its report, and then its figures, if they are
@@ -197,6 +192,6 @@ pub fn write_ending<W: Out>(
         WroteSeveral (W.state out.old) (W.state out.new) (ending_with s figures r) result) }
     ensures flushed { OnOk result ((W.state out.new).flushed ≡ true) }
 {
-    write_parts(alloc, out, sites, names, report)?;
-    flush(out)
+    write_left(alloc, out, sites, names, report)?;
+    finish(alloc, out, report)
 }
