@@ -1,5 +1,5 @@
 //! How a thread waits, without a processor, until another thread has done something.
-use crate::brought::Brought;
+use crate::brought::{Brings, Brought};
 use std::hint::spin_loop;
 use std::marker::PhantomData;
 use std::sync::Wait;
@@ -57,10 +57,10 @@ pub struct Missed<A> {
     of: PhantomData<A>,
 }
 
-/// A bell was rung. Only `Bell::ring` makes it.
+/// The bell was rung for what a step brought. Only `Bell::ring` makes it.
 #[derive(Drop)]
-pub struct Rung<A> {
-    of: PhantomData<A>,
+pub struct Rung<M> {
+    step: PhantomData<M>,
 }
 
 impl<A> Bell<A> {
@@ -88,12 +88,12 @@ impl<A> Bell<A> {
 
     // Announces what was brought: rings, and wakes all threads that wait. It takes no lock, and
     // makes no system call if none sleeps.
-    pub(crate) fn ring(&self, _brought: &Brought<A>) -> Rung<A> {
+    pub(crate) fn ring<M: Brings<A>>(&self, _brought: &Brought<M>) -> Rung<M> {
         self.rings.fetch_add(1, Ordering::SeqCst);
         if self.sleepers.load(Ordering::SeqCst) != 0 {
             self.rings.wake_all();
         }
-        Rung { of: PhantomData }
+        Rung { step: PhantomData }
     }
 
     /// Waits until the bell is rung. It returns at once if the bell was rung since the look began

@@ -10,38 +10,29 @@ use crate::steps::{GiveBack, Offer, Stop};
 use atomic_table::Play;
 use std::marker::PhantomData;
 
-/// A step that brings what a bell announces.
-pub trait Brings {
-    /// What that bell announces.
-    type What;
-}
+/// A step that brings what the bell of `A` announces.
+pub trait Brings<A> {}
 
-impl Brings for Offer {
-    type What = Offers;
-}
+impl Brings<Offers> for Offer {}
 
-impl Brings for Stop {
-    type What = Offers;
-}
+impl Brings<Offers> for Stop {}
 
-impl Brings for GiveBack {
-    type What = Answers;
-}
+impl Brings<Answers> for GiveBack {}
 
-/// What a bell announces is there. Only `Handoff::bring` makes it, once it is.
+/// What a step brings is there. Only `Handoff::bring` makes it, once it is.
 #[derive(Drop)]
-pub struct Brought<A> {
-    of: PhantomData<A>,
+pub struct Brought<M> {
+    step: PhantomData<M>,
 }
 
 impl<W: Work> Handoff<W> {
-    // Stores a word by a step that brings what a bell announces.
-    pub(crate) fn bring<M: Brings + Play<SlotOf<W>, RecordOf<W>>>(
+    // Stores a word by a step that brings something.
+    pub(crate) fn bring<M: Play<SlotOf<W>, RecordOf<W>>>(
         &self,
         seat: &mut SeatOf<W>,
         word: usize,
         new: u64,
-    ) -> Brought<M::What>
+    ) -> Brought<M>
         requires here { seat.old.table_id ≡ table_of self.now }
         requires word { word < (table_of self.now).words }
         requires allowed { MayStore self.now W.does M.then word new seat.old.id seat.old.me }
@@ -50,6 +41,6 @@ impl<W: Work> Handoff<W> {
         ensures stored { HasStored self.now M.then word new seat.old.me seat.new.me }
     {
         self.table.shared.store::<M>(seat, word, new);
-        Brought { of: PhantomData }
+        Brought { step: PhantomData }
     }
 }

@@ -40,8 +40,8 @@ pub struct Handoff<W: Work> {
 #[derive(Drop)]
 pub(crate) enum Uncalled {
     Nothing,
-    One(Brought<Offers>),
-    Several(Brought<Offers>),
+    One(Brought<Offer>),
+    Several(Brought<Offer>),
 }
 
 /// The only party that offers, collects, stops, makes hands and closes. Its record is kept for
@@ -212,7 +212,7 @@ impl<W: Work> Owner<W> {
 
     /// Sets the flag of the owner's hand-off for good, and wakes all hands. The owner's record says
     /// so.
-    pub fn stop(&mut self, handoff: &Handoff<W>) -> Rung<Offers>
+    pub fn stop(&mut self, handoff: &Handoff<W>) -> Rung<Stop>
         requires here { owner_table self.old ≡ table_of handoff.now }
         ensures here { owner_table self.new ≡ owner_table self.old }
         ensures stopped { owner_record self.new ≡ stopped (owner_record self.old) }
@@ -421,7 +421,7 @@ impl<W: Work> Hand<W> {
         handoff: &Handoff<W>,
         claimed: Claimed,
         done: W::Done,
-    ) -> Rung<Answers>
+    ) -> Rung<GiveBack>
         requires here { hand_table self.old ≡ table_of handoff.now }
         requires does { AnswersHeld W.does
             (place_record (hand_record self.old) (claimed_place claimed)) done }

@@ -3,7 +3,7 @@ ghost use Rattle.std.specs.Prelude.{◌≡◌, IfOk};
 ghost use Rattle.std.specs.Result.{result_map_both};
 ghost use Rattle.toml.specs.View.{table_view};
 ghost use Rattle.sqs_formats.specs.Scenario.{scenario_of, scenario_upto, script_names as the_script_names};
-ghost use Rattle.sim_scenario.specs.Drafts.{IsDraftOf, IsDraftUpto, OfDraft, draft_of};
+ghost use Rattle.sim_scenario.specs.Drafts.{IsDraftOf, IsDraftUpto, OfDraft, draft_of, newest_of};
 ghost use Rattle.sim_scenario.specs.Gives.{Gives};
 ghost use Rattle.sim_scenario.specs.Ranges.{IsInRange};
 
@@ -19,10 +19,31 @@ use std::alloc::{AllocError, Global};
 use toml::Table;
 
 /// The newest version of scenarios that is released.
-pub const RELEASED: u64 = 2;
+const RELEASED: u64 = 2;
 
 /// The newest version of scenarios that may be previewed.
-pub const PREVIEW: u64 = 3;
+const PREVIEW: u64 = 3;
+
+/// The newest version of scenarios that may be read.
+#[derive(Clone, Copy)]
+pub enum Newest {
+    /// The newest one that is released.
+    Released,
+    /// The one that is a preview.
+    Preview,
+}
+
+impl Newest {
+    // The number of that version.
+    fn version(self) -> u64
+        ensures { result ≡ newest_of self }
+    {
+        match self {
+            Newest::Released => RELEASED,
+            Newest::Preview => PREVIEW,
+        }
+    }
+}
 
 /// A scenario's text, parsed once: first for the names of its script files, and then, with these
 /// files, for the scenario. A text that is too long or not TOML has a draft, too; `read` returns
@@ -62,7 +83,7 @@ impl Draft {
     pub fn parse(alloc: Global, text: &[u8]) -> Result<Draft, AllocError>
         ensures { IfOk result (IsDraftOf text.now) }
     {
-        Draft::parse_upto(alloc, RELEASED, text)
+        Draft::parse_upto(alloc, Newest::Released, text)
     }
 
     /// The draft of a text, of which versions up to the newest one may be read.
@@ -70,10 +91,11 @@ impl Draft {
     /// # Errors
     ///
     /// `AllocError` if memory runs out.
-    pub fn parse_upto(alloc: Global, newest: u64, text: &[u8]) -> Result<Draft, AllocError>
-        ensures { IfOk result (IsDraftUpto newest text.now) }
+    pub fn parse_upto(alloc: Global, newest: Newest, text: &[u8]) -> Result<Draft, AllocError>
+        ensures { IfOk result (IsDraftUpto (newest_of newest) text.now) }
     {
         let table = table_of(alloc, text)?;
+        let newest = newest.version();
         Ok(Draft { table, newest })
     }
 

@@ -28,7 +28,7 @@ mod tasks;
 mod top;
 mod ways;
 
-pub use draft::{Draft, PREVIEW, RELEASED, read};
+pub use draft::{Draft, Newest, read};
 pub use fault::ReadError;
 pub use scenario::{Scenario, ScenarioParts};
 pub use scripted::Scripts;

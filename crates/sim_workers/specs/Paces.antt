@@ -1,5 +1,5 @@
 -- Where rounds are cut, and when rows are settled.
-use Rattle.std.specs.Prelude.{Bool, if◌then◌else◌, max, min, nat_le, nat_lt, ℕ, ◌&&◌, ◌*◌, ◌+◌, ◌-◌, ◌/◌, ◌^◌, ◌||◌}
+use Rattle.std.specs.Prelude.{Bool, None, Option, Some, if◌then◌else◌, max, min, nat_le, nat_lt, ℕ, ◌&&◌, ◌*◌, ◌+◌, ◌-◌, ◌/◌, ◌^◌, ◌||◌}
 use Rattle.sim_workers.specs.declared.pace.Pace.{Pace}
 
 -- a count as far as a word goes
@@ -33,3 +33,8 @@ is_full p parts = nat_le (64 * min 16 parts) p.fresh && nat_le p.kept p.fresh
 -- with this many of the waiting rows settled
 abbrev pub settled_after : Pace → ℕ → Pace
 settled_after p rows = record p { fresh = 0; kept = word_of (p.kept + p.fresh) - rows }
+
+-- the same, if rows were to be settled
+abbrev pub settled_if : Pace → Option ℕ → Pace
+settled_if p None = p
+settled_if p (Some rows) = settled_after p rows

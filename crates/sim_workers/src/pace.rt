@@ -1,6 +1,6 @@
 //! When rounds are cut, so that few rows wait, and when the waiting rows are settled.
 ghost use Rattle.std.specs.Prelude.{◌≡◌, ◌≤◌, ◌<◌, ◌+◌, ◌-◌, ◌^◌};
-ghost use Rattle.sim_workers.specs.Paces.{added, is_full, next_stretch, settled_after, span_after, word_of};
+ghost use Rattle.sim_workers.specs.Paces.{added, is_full, next_stretch, settled_after, settled_if, span_after, word_of};
 
 // A stretch of fewer rows is too short.
 const ROWS_TO_LENGTHEN: u64 = 16_384;
@@ -76,8 +76,20 @@ impl Pace {
         at.saturating_add(self.span)
     }
 
-    /// Counts the rows of a round.
-    pub fn count(&mut self, rows: u64)
+    /// Counts the rows of a round. If some were to be settled meanwhile, it first counts those that
+    /// were: none of the round's own rows is among them.
+    pub fn count_round(&mut self, settled: Option<u64>, rows: u64)
+        ensures paced { self.new ≡ added (settled_if self.old settled) rows }
+        ensures span { self.new.span ≡ self.old.span }
+    {
+        if let Some(settled) = settled {
+            self.settle(settled);
+        }
+        self.count(rows);
+    }
+
+    // Counts rows that were made.
+    fn count(&mut self, rows: u64)
         ensures { self.new ≡ added self.old rows }
     {
         self.made = self.made.saturating_add(rows);
@@ -93,8 +105,8 @@ impl Pace {
         self.fresh >= FULL * SEVERAL.min(parts as u64) && self.fresh >= self.kept
     }
 
-    /// Counts the rows that were settled.
-    pub fn settle(&mut self, rows: u64)
+    // Counts the rows that were settled.
+    fn settle(&mut self, rows: u64)
         ensures { self.new ≡ settled_after self.old rows }
     {
         self.kept = self.kept.saturating_add(self.fresh).saturating_sub(rows);

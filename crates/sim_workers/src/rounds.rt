@@ -68,10 +68,7 @@ fn run_round<S: Site, W: PartWork<S>, G: Gate<W>, K: RowSink<S::Row>, R: Wait>(
     let moment = settling_moment(&stage, pace);
     let loan = stage.lend(cut)?;
     let Ran { lent, came, handed } = round_together(team, alloc, loan, moment, sink)?;
-    if moment.is_some() {
-        pace.settle(handed);
-    }
-    pace.count(rows_made(&came));
+    pace.count_round(moment.and(Some(handed)), rows_made(&came));
     Ok(lent.come_back(came)?)
 }
 

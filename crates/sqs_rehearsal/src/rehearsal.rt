@@ -1,6 +1,6 @@
 //! A rehearsal, from bytes to bytes.
 ghost use Rattle.std.specs.Prelude.{◌≡◌, false};
-ghost use Rattle.sim_scenario.specs.Drafts.{OfDraft};
+ghost use Rattle.sim_scenario.specs.Drafts.{OfDraft, newest_of};
 ghost use Rattle.sqs_rehearsal.specs.Rehearsals.{Rehearses, request, request_upto};
 ghost use Rattle.sqs_rehearsal.specs.Writers.{seen};
 
@@ -12,7 +12,7 @@ use crate::steps::begin;
 use crate::watch::{Unwatched, Watch};
 use sim_clock::Refusal;
 use sim_records::Out;
-use sim_scenario::{Draft, RELEASED, ReadError, Scripts};
+use sim_scenario::{Draft, Newest, ReadError, Scripts};
 use sim_workers::Gate;
 use sqs_formats::ScenarioFault;
 use std::alloc::Global;
@@ -124,7 +124,15 @@ pub fn rehearse<G: Gate<Running> + Sync, L: Out, R: Out, W: Threads + Wait + Syn
         (seen L.state log.old log.new) (seen R.state report.old report.new) }
 {
     rehearse_upto(
-        rt, alloc, RELEASED, text, scripts, options, gate, log, report,
+        rt,
+        alloc,
+        Newest::Released,
+        text,
+        scripts,
+        options,
+        gate,
+        log,
+        report,
     )
 }
 
@@ -136,7 +144,7 @@ pub fn rehearse<G: Gate<Running> + Sync, L: Out, R: Out, W: Threads + Wait + Syn
 pub fn rehearse_upto<G: Gate<Running> + Sync, L: Out, R: Out, W: Threads + Wait + Sync>(
     rt: &W,
     alloc: Global,
-    newest: u64,
+    newest: Newest,
     text: &[u8],
     scripts: &Scripts,
     options: &Options,
@@ -146,7 +154,7 @@ pub fn rehearse_upto<G: Gate<Running> + Sync, L: Out, R: Out, W: Threads + Wait 
 ) -> Result<(), Fault>
     requires log { (L.state log.old).failed ≡ false }
     requires report { (R.state report.old).failed ≡ false }
-    ensures { Rehearses (request_upto newest text.now scripts.now options.now) result
+    ensures { Rehearses (request_upto (newest_of newest) text.now scripts.now options.now) result
         (seen L.state log.old log.new) (seen R.state report.old report.new) }
 {
     let Ok(draft) = Draft::parse_upto(alloc, newest, text) else {

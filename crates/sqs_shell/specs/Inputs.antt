@@ -4,16 +4,17 @@ use Rattle.std.specs.Borrow.{Bor}
 use Rattle.std.specs.declared.io.ErrorKind.{ErrorKind}
 use Rattle.std.specs.declared.io.ErrorKind.TheVariants as kinds
 use Rattle.sim_clock.specs.declared.refusal.Refusal.TheVariants as refusals
-use Rattle.sqs_formats.specs.Scenario.{released}
+use Rattle.sim_scenario.specs.declared.draft.Newest.{Newest}
+use Rattle.sim_scenario.specs.declared.draft.Newest.TheVariants.{Preview, Released}
 use Rattle.sqs_rehearsal.specs.declared.rehearsal.Fault.TheVariants as faults
 use Rattle.sqs_shell.specs.declared.faults.Stop.{Stop}
 use Rattle.sqs_shell.specs.declared.faults.Stop.TheVariants as stops
 use Rattle.sqs_shell.specs.declared.files.InputError.{InputError}
 use Rattle.sqs_shell.specs.declared.files.InputError.TheVariants as errors
 
--- the newest version of scenarios that is read: 3 if the preview is asked for
-abbrev pub newest_of : Bool → ℕ
-newest_of preview = if preview then 3 else released
+-- the newest version of scenarios that is read: the preview if it is asked for
+abbrev pub newest_of : Bool → Newest
+newest_of preview = if preview then Preview else Released
 
 -- the path of a script: its name in the folder, which is . if none is given
 abbrev pub script_path : Option (List ℕ) → List ℕ → List ℕ

@@ -6,7 +6,7 @@ ghost use Rattle.sqs_shell.specs.Inputs.{input_stop, newest_of, script_path};
 use crate::faults::{Stop, write_refusal};
 use sim_clock::Refusal;
 use sim_records::ToWriter;
-use sim_scenario::{Draft, PREVIEW, RELEASED, Scripts};
+use sim_scenario::{Draft, Newest, Scripts};
 use sqs_message::Text;
 use std::alloc::{AllocError, Global};
 use std::fs::File;
@@ -146,10 +146,14 @@ fn scripts<'a>(
 }
 
 /// The newest version of scenarios that is read, by whether the preview is asked for.
-fn newest(preview: bool) -> u64
+fn newest(preview: bool) -> Newest
     ensures { result ≡ newest_of preview }
 {
-    if preview { PREVIEW } else { RELEASED }
+    if preview {
+        Newest::Preview
+    } else {
+        Newest::Released
+    }
 }
 
 /// Reads a scenario from a file or else from standard input, and its scripts from a folder.
