@@ -67,6 +67,7 @@ impl Actor {
                 polls: 0,
                 sent: 0,
                 draws: Draws::new(seed, number),
+                room: Vec::new(alloc),
             },
         }
     }

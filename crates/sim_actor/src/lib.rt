@@ -4,7 +4,6 @@
 #![tactic(auto)]
 
 mod actor;
-mod bodies;
 mod holding;
 mod life;
 mod replies;

@@ -49,6 +49,8 @@ pub struct Life {
     pub(crate) polls: u64,
     pub(crate) sent: u64,
     pub(crate) draws: Draws,
+    // Where the bytes of a body are written.
+    pub(crate) room: Vec<u8>,
 }
 
 impl Model for Life {

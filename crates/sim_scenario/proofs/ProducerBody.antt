@@ -3,7 +3,7 @@ use Rattle.std.proofs.Common.{◌≡◌, ℕ, ◌-◌, ◌<◌, ◌&&◌, ◌==�
 use Rattle.std.specs.Fmt.{decimal}
 use Rattle.std.proofs.lemmas.Fmt.{decimal_nonempty}
 use Rattle.std.proofs.lemmas.Bool.Decides.{nat_tests}
-use Rattle.sqs_model.specs.Actor.{filled}
+use Rattle.sqs_message.specs.Bodies.{filled}
 use Rattle.sqs_formats.specs.Actors.{is_producer_body}
 
 -- a body with a byte has one when it is filled

@@ -3,7 +3,7 @@ ghost use Rattle.std.specs.Prelude.{◌≡◌, IfOk, length, map, nat_le};
 ghost use Rattle.sqs_formats.specs.Actors.{all_producer_keys, gap_keys, is_producer_body, newer_producer_keys, producing, sending as the_sending, sending_keys, stopping};
 ghost use Rattle.sqs_formats.specs.Groups.{groups as the_groups};
 ghost use Rattle.sqs_formats.specs.Keys.{only};
-ghost use Rattle.sqs_model.specs.Actor.{filled};
+ghost use Rattle.sqs_message.specs.Bodies.{filled};
 ghost use Rattle.sim_scenario.specs.Gives.{Gives};
 ghost use Rattle.sim_scenario.specs.Sections.{table_of};
 
@@ -13,8 +13,8 @@ use crate::groups::WeightedGroups;
 use crate::key_type::{Boolean, Integer, KeyType};
 use crate::section::{ACTOR_KEYS, Section};
 use sim_clock::Refusal;
-use sqs_message::Text;
-use sqs_model::{Groups, ProducerSettings, Role, has_mark};
+use sqs_message::{Template, has_mark};
+use sqs_model::{Groups, ProducerSettings, Role};
 use std::alloc::{AllocError, Global};
 use toml::Value;
 
@@ -136,19 +136,20 @@ struct Body {
 }
 
 impl KeyType for Body {
-    type Value = Text;
+    type Value = Template;
 
     ghost use Rattle.sqs_formats.specs.Actors.{producer_body};
 
     ghost says = { λ k. producer_body k.count };
 
     #[tactic(auto, unfolding(sqs_formats::specs::Actors::producer_body, sqs_formats::specs::Reading::and_then))]
-    fn read(&self, section: &Section<'_>, value: &Value, key: &str) -> Result<Text, ReadError> {
+    fn read(&self, section: &Section<'_>, value: &Value, key: &str) -> Result<Template, ReadError> {
         let text = section.text(value, key)?;
         if !is_producer_body(section.alloc, self.count, text.as_bytes())? {
             return Err(section.blame(Refusal::OutOfRange, key));
         }
-        section.owned(text)
+        let text = section.owned(text)?;
+        Ok(Template::new(section.alloc, text)?)
     }
 }
 

@@ -19,7 +19,7 @@ fn copied_load(alloc: Global, load: &Load) -> Result<Load, AllocError>
         } => Load::Redrive {
             id: *id,
             origin: *origin,
-            body: body.copy(alloc)?,
+            body: body.copy()?,
             group: Text::copy_of(alloc, group.as_ref())?,
             enqueued: *enqueued,
         },
@@ -31,12 +31,12 @@ fn copied_load(alloc: Global, load: &Load) -> Result<Load, AllocError>
         } => Load::Move {
             id: *id,
             origin: *origin,
-            body: body.copy(alloc)?,
+            body: body.copy()?,
             group: Text::copy_of(alloc, group.as_ref())?,
         },
         Load::Forward { id, body, group } => Load::Forward {
             id: *id,
-            body: body.copy(alloc)?,
+            body: body.copy()?,
             group: Text::copy_of(alloc, group.as_ref())?,
         },
     })

@@ -5,7 +5,7 @@ ghost use Rattle.std.specs.Result.{result_map_both};
 ghost use Rattle.sqs_queue.specs.Words.{IsFifoSettings, IsFramed, IsRecent, MeetsArrival, MeetsReceive, MeetsSend, PassesSend, all_available, arrived, change, delete_fifo, expired, is_delayed, is_empty, is_in_flight, is_visible, least, most_count, queue_dues, receive, released, returned, take_movable, to_give, without_messages};
 
 use sim_clock::{Key, Refusal};
-use sqs_message::{Receipt, Text};
+use sqs_message::{Body, Receipt, Text};
 use sqs_queue::{Counts, Messages, Queue};
 use sqs_redrive::{Deleted, Got, Load, QueueSettings, Rest, Sent};
 use std::alloc::Global;
@@ -172,7 +172,7 @@ impl FifoQueue {
     pub fn send(
         &mut self,
         now: u64,
-        body: Text,
+        body: Body,
         group: Option<Text>,
         id: Option<Text>,
         delay: Option<u64>,

@@ -29,7 +29,7 @@ use Rattle.sqs_formats.specs.Copies.{copy_names}
 use Rattle.sqs_formats.specs.Outline.{Outline, actor_place, first_task, is_fresh, name_of, queue_named, kin_named, kind_at, queue_text}
 use Rattle.sqs_formats.specs.Queues.{latency_keys, latency}
 use Rattle.sqs_formats.specs.Script.{script}
-use Rattle.sqs_model.specs.Actor.{filled}
+use Rattle.sqs_message.specs.Bodies.{filled}
 
 -- the files that scripts may be in, each with its name
 abbrev pub Files : Type 0

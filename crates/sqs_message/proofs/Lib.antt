@@ -1,3 +1,4 @@
 pub mod Numbers
 pub mod Dashes
+pub mod Filled
 pub mod Receipts

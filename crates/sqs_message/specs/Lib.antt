@@ -1,2 +1,4 @@
-pub mod Ids
+pub mod Bodies
 pub mod Handles
+pub mod Ids
+pub mod Sources

@@ -1,4 +1,5 @@
 //! Messages in a queue.
+use crate::body::Body;
 use crate::ids::Origin;
 use crate::text::Text;
 
@@ -21,7 +22,7 @@ pub struct Message {
     /// Where it was first accepted.
     pub origin: Origin,
     /// The body that was sent.
-    pub body: Text,
+    pub body: Body,
     /// Its message group, on a FIFO queue.
     pub group: Option<Text>,
     /// Its enqueue time, from which its retention counts.

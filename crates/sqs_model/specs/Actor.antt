@@ -1,7 +1,7 @@
 -- Scripts, producers and consumers: what an actor does next, and when it wakes.
 use Rattle.std.specs.Fmt.{decimal}
 use Rattle.std.specs.Prelude.{Bool, List, None, Option, Some, [], drop, false, get_or, if◌then◌else◌, length, max, min, nat_le, nat_lt, take, true, ℕ, ◌%◌, ◌&&◌, ◌++◌, ◌+◌, ◌-◌, ◌||◌, ◌∷◌}
-use Rattle.std.specs.Str.{bytes_eq}
+use Rattle.sqs_message.specs.Bodies.{contains, filled}
 use Rattle.sqs_message.specs.declared.calls.Call.{Call}
 use Rattle.sqs_message.specs.declared.calls.ScriptCall.{ScriptCall}
 use Rattle.sqs_message.specs.declared.ids.Receipt.{Receipt}
@@ -19,7 +19,6 @@ use Rattle.sqs_model.specs.declared.agents.Role.TheVariants.{Consumer, Producer,
 use Rattle.sqs_redrive.specs.declared.answers.Got.{Got}
 use Rattle.sqs_redrive.specs.declared.transfers.Outbound.{Outbound}
 use Rattle.sqs_message.specs.Ids.{receipt_text}
-use Rattle.sqs_model.specs.Marks.{has_mark}
 use Rattle.sqs_model.specs.Draw.{Draws, drawn_chance, drawn_group, drawn_latency, drawn_time}
 use Rattle.sqs_model.specs.declared.acts.Act.TheVariants as acts
 use Rattle.sqs_message.specs.declared.calls.Call.TheVariants as calls
@@ -74,17 +73,6 @@ woken a = record a { wake = None; wakes = a.wakes + 1 }
 abbrev pub script_wake : Actor → List ScriptCall → Act × Actor
 script_wake a [] = (acts.Nothing, record a { wake = None })
 script_wake a (c ∷ cs) = (act_of c.call, record (woken a) { wake = first_at cs })
-
--- a body with each {n} replaced by a number's text
-abbrev pub filled : List ℕ → List ℕ → List ℕ
-filled n [] = []
-filled n (a ∷ []) = a ∷ []
-filled n (a ∷ b ∷ []) = a ∷ b ∷ []
-filled n (a ∷ (b ∷ (c ∷ rest))) =
-    elim (has_mark (a ∷ (b ∷ (c ∷ rest)))) as (λ _. List ℕ) [
-      | true ↦ n ++ filled n rest
-      | false ↦ a ∷ filled n (b ∷ (c ∷ rest))
-    ]
 
 -- a group that was drawn
 abbrev pub some_group : List ℕ × Draws → Option (List ℕ) × Draws
@@ -160,11 +148,6 @@ forwards a now g to (latency, draws) =
 abbrev pub serves : Actor → ℕ → Got → Option Forwarding → Act × Actor
 serves a now g None = (acts.Serve g.id g.receipt false None, a)
 serves a now g (Some f) = forwards a now g f.to (drawn_latency f.latency a.draws)
-
--- whether a body contains a text
-abbrev pub contains : List ℕ → List ℕ → Bool
-contains part [] = bytes_eq [] part
-contains part (a ∷ rest) = bytes_eq part (take (length part) (a ∷ rest)) || contains part rest
 
 -- whether a message is one that a consumer fails to serve
 abbrev pub is_poison : Option (List ℕ) → List ℕ → Bool

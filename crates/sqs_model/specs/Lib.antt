@@ -7,7 +7,6 @@ pub mod Receive
 pub mod Calls
 pub mod Arrive
 pub mod Task
-pub mod Marks
 pub mod Longest
 pub mod Actor
 pub mod Site

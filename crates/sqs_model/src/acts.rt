@@ -1,6 +1,7 @@
 //! The answers that an actor gets, and its acts.
-use sqs_message::{Call, MessageId, Receipt, ReceiptHandle, Text};
+use sqs_message::{Body, Call, MessageId, Receipt, ReceiptHandle, Text};
 use sqs_redrive::{Batch, Outbound};
+use std::alloc::{AllocError, Global};
 
 /// An answer that an actor gets.
 #[derive(Drop)]
@@ -19,7 +20,7 @@ pub enum Answer {
 #[derive(Drop)]
 pub enum Act {
     Send {
-        body: Text,
+        body: Body,
         delay: Option<u64>,
         group: Option<Text>,
         id: Option<Text>,
@@ -58,21 +59,26 @@ pub enum Act {
     Nothing,
 }
 
-impl From<Call> for Act {
-    ghost use Rattle.std.specs.Prelude.{◌≡◌};
+impl Act {
+    ghost use Rattle.std.specs.Prelude.{◌≡◌, IfOk};
     ghost use Rattle.sqs_model.specs.Actor.{act_of};
 
-    ghost from_gives = { λ call act. act ≡ act_of call };
-
-    fn from(call: Call) -> Act {
-        match call {
+    /// The act that makes a call.
+    ///
+    /// # Errors
+    ///
+    /// `AllocError` if memory runs out.
+    pub fn of(alloc: Global, call: Call) -> Result<Act, AllocError>
+        ensures { IfOk result (λ act. act ≡ act_of call) }
+    {
+        Ok(match call {
             Call::Send {
                 body,
                 delay,
                 group,
                 id,
             } => Act::Send {
-                body,
+                body: Body::new(alloc, body)?,
                 delay,
                 group,
                 id,
@@ -87,6 +93,6 @@ impl From<Call> for Act {
             },
             Call::Start { task } => Act::Start { task },
             Call::Cancel { task } => Act::Cancel { task },
-        }
+        })
     }
 }

@@ -1,5 +1,5 @@
 //! Settings of actors.
-use sqs_message::{Listed, Script, Text};
+use sqs_message::{Listed, Script, Template, Text};
 use sqs_redrive::Latency;
 
 /// A point of a distribution of times: so many times in a thousand are below this one.
@@ -53,7 +53,7 @@ pub struct ProducerSettings {
     /// The time from one send to the next.
     pub gap: Distribution,
     /// The body. Each `{n}` in it is replaced by the message's number, from 0.
-    pub body: Text,
+    pub body: Template,
     /// The groups to which it sends; only if its queue is FIFO.
     pub groups: Option<Groups>,
     /// Whether it gives a deduplication id; only if its queue is FIFO.

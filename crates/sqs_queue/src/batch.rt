@@ -29,7 +29,7 @@ fn told_of(alloc: Global, site: u32, message: &Message) -> Result<Got, AllocErro
     ensures { IfOk result (λ got. got ≡ told_of site message.now) }
 {
     let group = Text::copy_of(alloc, message.group.as_ref())?;
-    let body = message.body.copy(alloc)?;
+    let body = message.body.copy()?;
     Ok(Got {
         id: MessageId {
             site,

@@ -16,7 +16,7 @@ ghost use Rattle.sqs_model.specs.Valid.{IsQueueSettings};
 use crate::places::visible_again;
 use sim_clock::{Key, Refusal};
 use sqs_dedup::Dedup;
-use sqs_message::{Message, MessageId, Origin, Place, Receipt, Text};
+use sqs_message::{Body, Message, MessageId, Origin, Place, Receipt, Text};
 use sqs_messages::{Counts, MessageTable, Messages};
 use sqs_redrive::{Kind, Load, QueueSettings, Returned, on_return};
 use std::alloc::Global;
@@ -198,7 +198,7 @@ impl Queue {
     }
 
     // The message that would come next, with a delay in milliseconds.
-    fn next_message(&self, now: u64, body: Text, group: Option<Text>, delay: u64) -> Message
+    fn next_message(&self, now: u64, body: Body, group: Option<Text>, delay: u64) -> Message
         requires { now + delay < 2 ^ 64 }
         ensures { result ≡ new_message self.now now body group delay }
     {

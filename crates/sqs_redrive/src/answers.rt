@@ -1,6 +1,6 @@
 //! The answers of a queue.
 use crate::transfers::Load;
-use sqs_message::{Listed, MessageId, Origin, Receipt, Text};
+use sqs_message::{Body, Listed, MessageId, Origin, Receipt, Text};
 
 /// The result of a send.
 #[derive(Clone, Copy, Debug, PartialEq, Eq)]
@@ -49,7 +49,7 @@ pub struct Got {
     pub receipt: Receipt,
     pub origin: Origin,
     pub group: Option<Text>,
-    pub body: Text,
+    pub body: Body,
     /// The load of a message that left for the dead-letter queue at once, which is possible with a
     /// timeout of 0.
     pub left: Option<Load>,

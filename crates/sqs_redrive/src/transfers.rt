@@ -3,7 +3,7 @@ ghost use Rattle.std.specs.Prelude.{◌≡◌};
 ghost use Rattle.sqs_redrive.specs.Transfers.{transfer_key};
 
 use sim_clock::{Class, Key};
-use sqs_message::{MessageId, Origin, Text};
+use sqs_message::{Body, MessageId, Origin, Text};
 
 /// The load of a transfer. The group stands at one place in all three: a copy of a load then has no
 /// padding to move.
@@ -14,7 +14,7 @@ pub enum Load {
         id: MessageId,
         group: Option<Text>,
         origin: Origin,
-        body: Text,
+        body: Body,
         enqueued: u64,
     },
     /// A message that a move task took out.
@@ -22,13 +22,13 @@ pub enum Load {
         id: MessageId,
         group: Option<Text>,
         origin: Origin,
-        body: Text,
+        body: Body,
     },
     /// A copy of a message that a consumer served: a send that is made on arrival.
     Forward {
         id: MessageId,
         group: Option<Text>,
-        body: Text,
+        body: Body,
     },
 }
 

@@ -8,7 +8,7 @@ ghost use Rattle.sqs_rehearsal.specs.Left.{keyed, keyed_at, tasks_at};
 
 use sim_clock::Key;
 use sim_site::{Site, Task, Transfers};
-use sqs_message::{Message, MessageId, Text, body_md5};
+use sqs_message::{Message, MessageId, Text};
 use sqs_model::{
     FinalMessage, FinalMessages, FinalTask, FinalTasks, FinalTransfer, FinalTransfers, Finals,
     TransferKind,
@@ -38,7 +38,7 @@ pub(crate) fn final_message(
         enqueued: message.enqueued,
         receives: message.receives,
         group,
-        md5: body_md5(message.body.as_bytes()),
+        md5: message.body.md5(),
     })
 }
 
@@ -95,7 +95,7 @@ fn final_transfer(transfer: &Outbound) -> FinalTransfer
         number: transfer.number,
         message,
         origin,
-        md5: body_md5(body.as_bytes()),
+        md5: body.md5(),
     }
 }
 

@@ -4,7 +4,7 @@ ghost use Rattle.std.specs.Result.{result_map_both};
 ghost use Rattle.sqs_queue.specs.Words.{IsFramed, IsStandardSettings, MeetsArrival, MeetsOneMore, MeetsReceive, WasEnqueuedBy, all_available, change, delete_standard, expired, is_delayed, is_empty, is_in_flight, is_visible, least, most_count, queue_dues, receive, released, returned, send_standard, take_movable, to_give, without_messages};
 
 use sim_clock::{Key, Refusal};
-use sqs_message::{Receipt, Text};
+use sqs_message::{Body, Receipt};
 use sqs_queue::{Counts, Messages, Queue};
 use sqs_redrive::{Deleted, Got, Load, QueueSettings, Rest, Sent};
 use std::alloc::Global;
@@ -84,7 +84,7 @@ impl StandardQueue {
     /// # Errors
     ///
     /// `BadDelay` over 900 seconds. `CountLimit` if the queue's numbers are used up. `Memory`.
-    pub fn send(&mut self, now: u64, body: Text, delay: Option<u64>) -> Result<Sent, Refusal>
+    pub fn send(&mut self, now: u64, body: Body, delay: Option<u64>) -> Result<Sent, Refusal>
         requires { now ≤ most_count }
         ensures answer { MeetsOneMore self.old.queue result self.new.queue
             (send_standard self.old.queue now body delay) }

@@ -1,32 +1,18 @@
 //! Whether a service fails.
 ghost use Rattle.std.specs.Prelude.{◌≡◌, option_map};
-ghost use Rattle.sqs_model.specs.Actor.{contains as the_contains, fails as the_fails, is_down as the_is_down, is_poison as the_is_poison};
+ghost use Rattle.sqs_model.specs.Actor.{fails as the_fails, is_down as the_is_down, is_poison as the_is_poison};
 
-use sqs_message::Text;
+use sqs_message::{Body, Text};
 use sqs_model::{ConsumerSettings, Stretch};
 use sqs_redrive::Got;
 
-// Whether a body contains a text.
-fn contains(part: &[u8], body: &[u8]) -> bool
-    ensures { result ≡ the_contains part.now body.now }
-{
-    let mut rest = body;
-    while let Some((_, others)) = rest.split_first() {
-        if rest.starts_with(part) {
-            return true;
-        }
-        rest = others;
-    }
-    part.is_empty()
-}
-
 // Whether a message is one that a consumer fails to serve, by a text that its body contains.
-fn is_poison(part: Option<&Text>, body: &Text) -> bool
+fn is_poison(part: Option<&Text>, body: &Body) -> bool
     ensures { result ≡ the_is_poison (option_map (λ t. t.now) part.entry) body.now }
 {
     match part {
         None => false,
-        Some(part) => contains(part.as_bytes(), body.as_bytes()),
+        Some(part) => body.contains(part.as_bytes()),
     }
 }
 

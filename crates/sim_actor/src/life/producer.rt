@@ -8,7 +8,6 @@ ghost use Rattle.sqs_model.specs.Valid.{IsProducer, MayBeGroups};
 ghost use Rattle.sim_actor.specs.Lives.{DoesNothing, Meets, Lived};
 
 use super::{Life, has_come};
-use crate::bodies::filled;
 use itoa::Buffer;
 use sim_clock::Refusal;
 use sim_draw::Draws;
@@ -106,12 +105,12 @@ impl Life {
         if MOST_COUNT - self.draws.taken() < group_words(&producer.groups) {
             return Err(Refusal::CountLimit);
         }
-        let body = filled(self.alloc, self.wakes, producer.body.as_bytes())?;
+        let body = producer.body.body(self.wakes, &mut self.room)?;
         let id = id(self.alloc, producer, self.number, self.wakes)?;
         let group = group(self.alloc, &producer.groups, self.wakes, &mut self.draws)?;
         self.count_wake();
         Ok(Act::Send {
-            body: Text::new(body),
+            body,
             delay: producer.delay,
             group,
             id,

@@ -63,7 +63,7 @@ fn call_made(
     if n >= calls.len() {
         return Ok(None);
     }
-    let act = Act::from(copied(alloc, &calls[n].call)?);
+    let act = Act::of(alloc, copied(alloc, &calls[n].call)?)?;
     Ok(Some((act, time_at(calls, n + 1))))
 }
 

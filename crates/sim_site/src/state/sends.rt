@@ -13,7 +13,7 @@ ghost use Rattle.sim_engine.specs.Limits.{StopsWhere};
 use super::Core;
 use crate::handling::Handling;
 use sim_clock::Refusal;
-use sqs_message::{Detail, Row, RowAnswer, RowKind, Text, body_md5};
+use sqs_message::{Body, Detail, Row, RowAnswer, RowKind, Text};
 use sqs_queue::Queue;
 use sqs_redrive::Sent;
 
@@ -33,7 +33,7 @@ pub fn told_refusal(refusal: Refusal) -> Result<Refusal, Refusal>
 fn sent_by(
     queue: &mut Queue,
     now: u64,
-    body: Text,
+    body: Body,
     delay: Option<u64>,
     group: Option<Text>,
     id: Option<Text>,
@@ -76,7 +76,7 @@ impl Core {
     pub fn send(
         &mut self,
         handling: &mut Handling<'_>,
-        body: Text,
+        body: Body,
         delay: Option<u64>,
         group: Option<Text>,
         id: Option<Text>,
@@ -87,7 +87,7 @@ impl Core {
             k.at body delay group id)) }
     {
         let site = self.queue.site();
-        let digest = body_md5(body.as_bytes());
+        let digest = body.md5();
         let answer = sent_by(&mut self.queue, handling.key.at, body, delay, group, id)?;
         let row = send_row(handling, site, digest, answer);
         handling.effects.say(row)?;

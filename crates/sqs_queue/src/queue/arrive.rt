@@ -10,7 +10,7 @@ ghost use Rattle.sqs_queue.specs.Calls.{MeetsArrival, MeetsOneMore, never_refuse
 
 use super::Queue;
 use sim_clock::Refusal;
-use sqs_message::{Message, MessageId, Origin, Text};
+use sqs_message::{Body, Message, MessageId, Origin, Text};
 use sqs_model::MOST_COUNT;
 use sqs_redrive::{Kind, Load, Sent};
 use std::alloc::AllocError;
@@ -51,7 +51,7 @@ impl Queue {
         &mut self,
         now: u64,
         origin: Origin,
-        body: Text,
+        body: Body,
         group: Option<Text>,
         enqueued: u64,
         source: Option<u32>,

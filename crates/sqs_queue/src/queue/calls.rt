@@ -10,7 +10,7 @@ ghost use Rattle.sqs_queue.specs.Calls.{MeetsSend, PassesSend};
 use super::Queue;
 use crate::places::{is_out, out_until};
 use sim_clock::Refusal;
-use sqs_message::{Receipt, Text};
+use sqs_message::{Body, Receipt, Text};
 use sqs_model::{LONGEST_FLIGHT, LONGEST_TIMEOUT};
 use sqs_redrive::{Deleted, Kind, Load, Sent};
 
@@ -27,7 +27,7 @@ impl Queue {
     pub fn send(
         &mut self,
         now: u64,
-        body: Text,
+        body: Body,
         delay: Option<u64>,
         group: Option<Text>,
         id: Option<Text>,

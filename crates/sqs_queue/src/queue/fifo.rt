@@ -14,16 +14,17 @@ use super::Queue;
 use crate::places::is_out;
 use sim_clock::Refusal;
 use sqs_dedup::ScopedId;
-use sqs_message::{MessageId, Receipt, Text, body_sha256};
+use sqs_message::{Body, MessageId, Receipt, Text, body_sha256};
 use sqs_model::MOST_COUNT;
 use sqs_redrive::{Deleted, Kind, Load, Scope, Sent};
 use std::alloc::{AllocError, Global};
 
 // The deduplication id of a body: its SHA-256 in hexadecimal.
-fn digest_of(alloc: Global, body: &Text) -> Result<Text, AllocError>
+fn digest_of(alloc: Global, body: &Body) -> Result<Text, AllocError>
     ensures { IfOk result (λ digest. digest ≡ body_digest body.now) }
 {
-    let digest = hex::encode(alloc, body_sha256(body.as_bytes()))?;
+    let text = body.text(alloc)?;
+    let digest = hex::encode(alloc, body_sha256(text.as_bytes()))?;
     Ok(Text::new(digest.into_bytes()))
 }
 
@@ -31,7 +32,7 @@ fn digest_of(alloc: Global, body: &Text) -> Result<Text, AllocError>
 fn deduplication_id(
     alloc: Global,
     content: bool,
-    body: &Text,
+    body: &Body,
     id: Option<Text>,
 ) -> Result<Option<Text>, AllocError>
     ensures { IfOk result (λ found. found ≡ deduplication_id content body.now id) }
@@ -78,7 +79,7 @@ impl Queue {
     pub fn send_fifo(
         &mut self,
         now: u64,
-        body: Text,
+        body: Body,
         group: Option<Text>,
         id: Option<Text>,
         delay: Option<u64>,
@@ -107,7 +108,7 @@ impl Queue {
     }
 
     // A send with a group and a deduplication id.
-    fn send_in(&mut self, now: u64, body: Text, group: Text, id: Text) -> Result<Sent, Refusal>
+    fn send_in(&mut self, now: u64, body: Body, group: Text, id: Text) -> Result<Sent, Refusal>
         requires moment { now ≤ most_count }
         requires recent { IsRecent now self.old }
         ensures answer { MeetsOneMore self.old result self.new (send_in self.old now body group

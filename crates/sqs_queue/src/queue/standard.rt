@@ -10,7 +10,7 @@ ghost use Rattle.sqs_queue.specs.Calls.{MeetsArrival, MeetsOneMore};
 
 use super::Queue;
 use sim_clock::Refusal;
-use sqs_message::{MessageId, Receipt, Text};
+use sqs_message::{Body, MessageId, Receipt};
 use sqs_model::{LONGEST_DELAY, MOST_COUNT};
 use sqs_redrive::{Deleted, Load, Sent};
 
@@ -20,7 +20,7 @@ impl Queue {
     pub fn send_standard(
         &mut self,
         now: u64,
-        body: Text,
+        body: Body,
         delay: Option<u64>,
     ) -> Result<Sent, Refusal>
         requires { now ≤ most_count }

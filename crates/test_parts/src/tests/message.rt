@@ -2,14 +2,24 @@ ghost use Rattle.std.specs.Prelude.{◌≡◌};
 
 use crate::tests::same::same;
 use sqs_message::{
-    Call, HandleForm, Message, MessageId, Origin, Place, Receipt, ReceiptHandle, Script,
-    ScriptCall, Text, body_md5, body_sha256,
+    Body, Call, HandleForm, Message, MessageId, Origin, Place, Receipt, ReceiptHandle, Script,
+    ScriptCall, Template, Text, body_md5, body_sha256,
 };
 use std::alloc::{AllocError, Global};
 use std::process::Abort;
 
 fn text(rt: &impl Abort, alloc: Global, bytes: &[u8]) -> Text {
     Text::new(bytes.to_vec(alloc).expect(rt, "memory"))
+}
+
+fn body(rt: &impl Abort, alloc: Global, bytes: &[u8]) -> Body {
+    Body::new(alloc, text(rt, alloc, bytes)).expect(rt, "memory")
+}
+
+// Whether a body has these bytes.
+fn try_bytes(rt: &impl Abort, alloc: Global, body: &Body, bytes: &'static [u8]) {
+    let text = body.text(alloc).expect(rt, "memory");
+    same(rt, text.as_bytes(), bytes);
 }
 
 fn receipt(site: u32, number: u64, count: u64) -> Receipt
@@ -99,12 +109,30 @@ fn handles_are_receipts_where_they_fit(rt: HostRuntime) {
     same(&rt, ReceiptHandle::from(never_received).receipt(), None);
 }
 
+// The MD5 of `abc` (RFC 1321, A.5).
+const MD5: &str = "900150983cd24fb0d6963f7d28e17f72";
+
 #[test]
 fn digests_of_abc(rt: HostRuntime) {
-    let md5 = "900150983cd24fb0d6963f7d28e17f72";
     let sha256 = "ba7816bf8f01cfea414140de5dae2223b00361a396177a9cb410ff61f20015ad";
-    try_written(&rt, hex::encode(rt.alloc(), &body_md5(b"abc")), md5);
+    try_written(&rt, hex::encode(rt.alloc(), &body_md5(b"abc")), MD5);
     try_written(&rt, hex::encode(rt.alloc(), &body_sha256(b"abc")), sha256);
+}
+
+#[test]
+fn bodies_are_made_of_a_template_and_a_number(rt: HostRuntime) {
+    let template = text(&rt, rt.alloc(), b"a{n}b{n}{n");
+    let template = Template::new(rt.alloc(), template).expect(&rt, "memory");
+    let mut room = Vec::new(rt.alloc());
+    let body = template.body(12, &mut room).expect(&rt, "memory");
+    let copy = body.copy().expect(&rt, "memory");
+    try_bytes(&rt, rt.alloc(), &copy, b"a12b12{n");
+    let found = (
+        body.contains(b"2b1"),
+        body.contains(b"{n}"),
+        body.contains(b""),
+    );
+    same(&rt, found, (true, false, true));
 }
 
 #[test]
@@ -143,7 +171,7 @@ fn messages_are_plain_data(rt: HostRuntime) {
     let message = Message {
         number: 0,
         origin: Origin { site: 0, number: 0 },
-        body: text(&rt, rt.alloc(), b"abc"),
+        body: body(&rt, rt.alloc(), b"abc"),
         group: None,
         enqueued: 5,
         place: Place::Visible,
@@ -152,5 +180,6 @@ fn messages_are_plain_data(rt: HostRuntime) {
         received: 0,
         source: None,
     };
-    same(&rt, message.body.as_bytes(), b"abc".as_slice());
+    try_bytes(&rt, rt.alloc(), &message.body, b"abc");
+    try_written(&rt, hex::encode(rt.alloc(), &message.body.md5()), MD5);
 }

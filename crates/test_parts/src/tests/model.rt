@@ -19,8 +19,16 @@ fn a_call_becomes_the_act_that_makes_it(rt: HostRuntime) {
         wait: 20,
         timeout: Some(0),
     };
-    same(&rt, numbers(Act::from(start)), (6, 0, None));
-    same(&rt, numbers(Act::from(receive)), (2, 20, Some(0)));
+    same(
+        &rt,
+        numbers(Act::of(rt.alloc(), start).expect(&rt, "memory")),
+        (6, 0, None),
+    );
+    same(
+        &rt,
+        numbers(Act::of(rt.alloc(), receive).expect(&rt, "memory")),
+        (2, 20, Some(0)),
+    );
 }
 
 #[test]

@@ -5,13 +5,18 @@ use Refusal::{NoTask, TaskRunning};
 use Rest::{Empty, More, NoSource};
 use TaskStatus::{Cancelled, Completed, Failed, Idle, Running};
 use sim_clock::{Class, Key, Refusal};
-use sqs_message::{Message, MessageId, Origin, Place, Text};
+use sqs_message::{Body, Message, MessageId, Origin, Place, Text};
 use sqs_redrive::{
     Batch, Latency, Load, MoveTask, Outbound, Policy, Rest, Returned, TaskSettings, TaskStatus,
     on_return,
 };
 use std::alloc::Global;
 use std::process::Abort;
+
+// A body of no bytes.
+fn nothing(rt: &impl Abort, alloc: Global) -> Body {
+    Body::new(alloc, Text::new(Vec::new(alloc))).expect(rt, "memory")
+}
 
 #[test]
 fn a_transfer_has_the_key_of_its_arrival(rt: HostRuntime) {
@@ -23,7 +28,7 @@ fn a_transfer_has_the_key_of_its_arrival(rt: HostRuntime) {
         to: 1,
         load: Load::Forward {
             id: MessageId { site: 0, number: 9 },
-            body: Text::new(Vec::new(rt.alloc())),
+            body: nothing(&rt, rt.alloc()),
             group: None,
         },
     };
@@ -48,11 +53,11 @@ const QUICK: Latency = Latency {
     greatest: 1,
 };
 
-fn received(alloc: Global, receives: u64) -> Message {
+fn received(rt: &impl Abort, alloc: Global, receives: u64) -> Message {
     Message {
         number: 0,
         origin: Origin { site: 0, number: 0 },
-        body: Text::new(Vec::new(alloc)),
+        body: nothing(rt, alloc),
         group: None,
         enqueued: 0,
         place: Place::InFlight,
@@ -76,7 +81,7 @@ fn a_message_leaves_at_the_greatest_count(rt: HostRuntime) {
         (2, Returned::Leaves),
         (3, Returned::Leaves),
     ] {
-        let message = received(rt.alloc(), receives);
+        let message = received(&rt, rt.alloc(), receives);
         same(&rt, on_return(&policy, &message), wanted);
     }
 }

@@ -1,6 +1,6 @@
 //! The calls of a queue, without their contracts, on which the tests do not rely.
 use sim_clock::{Key, Refusal};
-use sqs_message::{Receipt, Text};
+use sqs_message::{Body, Receipt, Text};
 use sqs_queue::{Counts, Messages};
 use sqs_redrive::{Deleted, Got, Load, Rest, Sent};
 use sqs_standard::StandardQueue;
@@ -8,7 +8,7 @@ use sqs_standard::StandardQueue;
 // What is given with a send.
 #[derive(Drop)]
 pub struct Given {
-    pub body: Text,
+    pub body: Body,
     pub group: Option<Text>,
     pub id: Option<Text>,
     pub delay: Option<u64>,

@@ -4,7 +4,7 @@ use crate::tests::calls::{Asked, Calls, Given};
 use crate::tests::fifo::plain;
 use crate::tests::in_order::InOrder;
 use sqs_fifo::FifoQueue;
-use sqs_message::Text;
+use sqs_message::{Body, Text};
 use sqs_redrive::{Deleted, Got};
 use std::alloc::{AllocError, Global};
 use std::process::Abort;
@@ -36,7 +36,7 @@ fn send_all(alloc: Global, queue: &mut InOrder) -> Result<(), Fail> {
     for moment in 0..MESSAGES {
         let number = u64::from(moment);
         let given = Given {
-            body: text(alloc, number)?,
+            body: Body::new(alloc, text(alloc, number)?)?,
             group: Some(group(alloc, number)?),
             id: Some(text(alloc, number)?),
             delay: None,

@@ -3,7 +3,7 @@
 use crate::tests::calls::{Asked, Calls, Given};
 use crate::tests::show::Shown;
 use crate::tests::{forms, show, words};
-use sqs_message::{MessageId, Origin};
+use sqs_message::{Body, MessageId, Origin};
 use sqs_redrive::Load;
 use std::alloc::{AllocError, Global};
 use std::process::Abort;
@@ -60,9 +60,9 @@ fn answer<Q: Calls>(alloc: Global, out: &mut String, queue: &mut Q, call: &str) 
         "change" => change(out, queue, call),
         "release" => release(out, queue, call),
         "expire" => expire(out, queue, call),
-        "redrive" => arrive(out, queue, call, redrive(alloc, call)),
-        "move" => arrive(out, queue, call, move_in(alloc, call)),
-        "forward" => arrive(out, queue, call, forward(alloc, call)),
+        "redrive" => arrive(out, queue, call, redrive(alloc, call)?),
+        "move" => arrive(out, queue, call, move_in(alloc, call)?),
+        "forward" => arrive(out, queue, call, forward(alloc, call)?),
         "step" => step(out, queue, call),
         name => tell(out, queue, name),
     }
@@ -95,17 +95,21 @@ fn due<Q: Calls>(out: &mut String, queue: &Q) -> Shown {
     }
 }
 
-fn given(alloc: Global, call: &str) -> Given {
-    Given {
-        body: words::text(alloc, call, "body"),
+fn body(alloc: Global, call: &str) -> Result<Body, AllocError> {
+    Body::new(alloc, words::text(alloc, call, "body"))
+}
+
+fn given(alloc: Global, call: &str) -> Result<Given, AllocError> {
+    Ok(Given {
+        body: body(alloc, call)?,
         group: words::text_if(alloc, call, "group"),
         id: words::text_if(alloc, call, "id"),
         delay: words::number_if(call, "delay"),
-    }
+    })
 }
 
 fn send<Q: Calls>(alloc: Global, out: &mut String, queue: &mut Q, call: &str) -> Shown {
-    match queue.send(words::small(call, "at"), given(alloc, call)) {
+    match queue.send(words::small(call, "at"), given(alloc, call)?) {
         Ok(sent) => show::sent(out, sent),
         Err(refusal) => show::refused(out, refusal),
     }
@@ -177,31 +181,31 @@ const MOVED: MessageId = MessageId { site: 3, number: 8 };
 
 const ORIGIN: Origin = Origin { site: 1, number: 2 };
 
-fn redrive(alloc: Global, call: &str) -> Load {
-    Load::Redrive {
+fn redrive(alloc: Global, call: &str) -> Result<Load, AllocError> {
+    Ok(Load::Redrive {
         id: MOVED,
         origin: ORIGIN,
-        body: words::text(alloc, call, "body"),
+        body: body(alloc, call)?,
         group: words::text_if(alloc, call, "group"),
         enqueued: words::number(call, "enqueued"),
-    }
+    })
 }
 
-fn move_in(alloc: Global, call: &str) -> Load {
-    Load::Move {
+fn move_in(alloc: Global, call: &str) -> Result<Load, AllocError> {
+    Ok(Load::Move {
         id: MOVED,
         origin: ORIGIN,
-        body: words::text(alloc, call, "body"),
+        body: body(alloc, call)?,
         group: words::text_if(alloc, call, "group"),
-    }
+    })
 }
 
-fn forward(alloc: Global, call: &str) -> Load {
-    Load::Forward {
+fn forward(alloc: Global, call: &str) -> Result<Load, AllocError> {
+    Ok(Load::Forward {
         id: MOVED,
-        body: words::text(alloc, call, "body"),
+        body: body(alloc, call)?,
         group: words::text_if(alloc, call, "group"),
-    }
+    })
 }
 
 fn arrive<Q: Calls>(out: &mut String, queue: &mut Q, call: &str, load: Load) -> Shown {

@@ -1,6 +1,6 @@
 //! The texts of answers.
 use sim_clock::{Class, Key, Refusal};
-use sqs_message::{Message, MessageId, Origin, Receipt, Text};
+use sqs_message::{Body, Message, MessageId, Origin, Receipt};
 use sqs_queue::{Counts, is_out, may_be_received};
 use sqs_redrive::{Deleted, Got, Load, Rest, Sent};
 use std::alloc::AllocError;
@@ -34,10 +34,11 @@ fn receipt(out: &mut String, receipt: Receipt) -> Shown {
     named(out, "-", receipt.count)
 }
 
-// A space and the bytes of a text, which tables have in ASCII.
-fn text(out: &mut String, text: &Text) -> Shown {
+// A space and the bytes of a body, which tables have in ASCII.
+fn text(out: &mut String, body: &Body) -> Shown {
     out.push(' ')?;
-    for byte in text.as_bytes() {
+    let body = body.text(*out.allocator())?;
+    for byte in body.as_bytes() {
         out.push(char::from(*byte))?;
     }
     Ok(())
@@ -99,7 +100,7 @@ fn one_got(out: &mut String, got: &Got) -> Shown {
     }
 }
 
-fn moved(out: &mut String, name: &str, made: MessageId, from: Origin, body: &Text) -> Shown {
+fn moved(out: &mut String, name: &str, made: MessageId, from: Origin, body: &Body) -> Shown {
     out.push_str(name)?;
     id(out, made)?;
     origin(out, from)?;

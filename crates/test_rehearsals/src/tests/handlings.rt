@@ -10,7 +10,7 @@ use sim_partition::Partition;
 use sim_records::{Names, ToWriter, write_rows};
 use sim_scenario::Scenario;
 use sim_site::Site;
-use sqs_message::{MessageId, Origin, Row, Text};
+use sqs_message::{Body, MessageId, Origin, Row, Text};
 use sqs_model::MOST_COUNT;
 use sqs_redrive::{Load, Outbound};
 use sqs_rehearsal::open_world;
@@ -226,7 +226,7 @@ fn dead_letter(alloc: Global) -> Result<Vec<Outbound>, AllocError>
     let load = Load::Redrive {
         id: MessageId { site: 0, number: 3 },
         origin: Origin { site: 0, number: 2 },
-        body: Text::new(body),
+        body: Body::new(alloc, Text::new(body))?,
         group: None,
         enqueued: 10,
     };

@@ -4,7 +4,7 @@ use sim_clock::{Class, Key, Refusal};
 use sim_engine::Site as _;
 use sim_partition::Partition;
 use sim_site::{Site, Task};
-use sqs_message::{MessageId, Text};
+use sqs_message::{Body, MessageId, Text};
 use sqs_redrive::{Latency, Load, Outbound, TaskSettings, TaskStatus};
 use sqs_rehearsal::open_world;
 use std::alloc::Global;
@@ -20,7 +20,7 @@ fn two_sites(alloc: Global) -> Option<Vec<Site>> {
 fn accept(alloc: Global, site: &mut Site, at: u64) -> Result<(), Refusal> {
     let load = Load::Forward {
         id: MessageId { site: 2, number: 0 },
-        body: Text::new(Vec::new(alloc)),
+        body: Body::new(alloc, Text::new(Vec::new(alloc)))?,
         group: None,
     };
     let to = site.queue().site();

@@ -6,7 +6,8 @@ ghost use Rattle.sim_actor.specs.Lives.{IsRole};
 use crate::tests::same::same;
 use sim_actor::{Actor, FollowUp, Reply};
 use sqs_message::{
-    Call, HandleForm, Listed, MessageId, Origin, Receipt, ReceiptHandle, Script, ScriptCall, Text,
+    Body, Call, HandleForm, Listed, MessageId, Origin, Receipt, ReceiptHandle, Script, ScriptCall,
+    Template, Text,
 };
 use sqs_model::{
     Act, ActorSettings, ConsumerSettings, Distribution, Forwarding, Groups, ProducerSettings, Role,
@@ -41,17 +42,23 @@ fn letters_if(text: &Option<Text>) -> &str {
 
 type Shown = Result<(), AllocError>;
 
+// A body.
+fn show_body(out: &mut String, body: &Body) -> Shown {
+    let text = body.text(*out.allocator())?;
+    out.push_str(letters(&text))
+}
+
 // A transfer in a line.
 fn show_transfer(out: &mut String, sent: &Outbound) -> Shown {
-    let body = match &sent.load {
-        Load::Forward { body, .. } => letters(body),
-        _ => "no forward",
-    };
     write!(
         out,
-        " at {} from {} {} number {} to {} {body}",
+        " at {} from {} {} number {} to {} ",
         sent.at, sent.sender, sent.from, sent.number, sent.to
-    )
+    )?;
+    match &sent.load {
+        Load::Forward { body, .. } => show_body(out, body),
+        _ => out.push_str("no forward"),
+    }
 }
 
 // A receipt.
@@ -97,8 +104,15 @@ fn show(out: &mut String, act: &Act) -> Shown {
             group,
             id,
         } => {
-            let (body, group, id) = (letters(body), letters_if(group), letters_if(id));
-            write!(out, "send {body} {:?} {group} {id}", *delay)
+            out.push_str("send ")?;
+            show_body(out, body)?;
+            write!(
+                out,
+                " {:?} {} {}",
+                *delay,
+                letters_if(group),
+                letters_if(id)
+            )
         }
         Act::Receive { max, wait, timeout } => {
             write!(out, "receive {max} {wait} {:?}", *timeout)
@@ -140,7 +154,7 @@ fn got(rt: &impl Abort, alloc: Global, number: u64, body: &str) -> Got {
         },
         origin: Origin { site: 2, number },
         group: None,
-        body: text(rt, alloc, body),
+        body: Body::new(alloc, text(rt, alloc, body)).expect(rt, "memory"),
         left: None,
     }
 }
@@ -241,8 +255,13 @@ fn every_call(rt: &impl Abort, alloc: Global) -> Script
     Script::new(calls.expect(rt, "memory"))
 }
 
+// A template of some letters.
+fn template(rt: &impl Abort, alloc: Global, letters: &str) -> Template {
+    Template::new(alloc, text(rt, alloc, letters)).expect(rt, "memory")
+}
+
 // A producer of three messages.
-fn producer(body: Text, gap_min: u32, groups: Option<Groups>, ids: bool) -> ActorSettings
+fn producer(body: Template, gap_min: u32, groups: Option<Groups>, ids: bool) -> ActorSettings
     requires groups { MayBeGroups groups }
     requires most { gap_min ≤ 100 }
     requires some { 1 ≤ gap_min }
@@ -328,7 +347,7 @@ fn produce(rt: &impl Abort, alloc: Global, number: u32, settings: ActorSettings,
 #[test]
 fn producer_sends_in_turn_and_stops(rt: HostRuntime) {
     let settings = producer(
-        text(&rt, rt.alloc(), "{n}"),
+        template(&rt, rt.alloc(), "{n}"),
         100,
         Some(Groups::InTurn(2)),
         true,
@@ -347,7 +366,7 @@ fn producer_sends_in_turn_and_stops(rt: HostRuntime) {
 #[test]
 fn producer_draws_its_gaps(rt: HostRuntime) {
     // The first two words of agent 0 under seed 0 give 68 and 57.
-    let settings = producer(text(&rt, rt.alloc(), "b"), 1, None, false);
+    let settings = producer(template(&rt, rt.alloc(), "b"), 1, None, false);
     let life: &[Step] = &[
         (5, Told::Wake, "send b Some(9) - -", None),
         (5, Told::Other, "nothing", Some(73)),
@@ -378,7 +397,10 @@ fn two_groups(rt: &impl Abort, alloc: Global, weight: u64) -> Groups
 #[test]
 fn producer_draws_a_group_and_then_the_gap(rt: HostRuntime) {
     // The first four words of agent 0 under seed 0 give 67, 56, 89 and 15 of 100.
-    let (body, groups) = (text(&rt, rt.alloc(), "c"), two_groups(&rt, rt.alloc(), 67));
+    let (body, groups) = (
+        template(&rt, rt.alloc(), "c"),
+        two_groups(&rt, rt.alloc(), 67),
+    );
     let settings = producer(body, 1, Some(groups), false);
     let life: &[Step] = &[
         (5, Told::Wake, "send c Some(9) b -", None),
@@ -387,7 +409,10 @@ fn producer_draws_a_group_and_then_the_gap(rt: HostRuntime) {
         (62, Told::Other, "nothing", Some(78)),
     ];
     produce(&rt, rt.alloc(), 0, settings, life);
-    let (body, groups) = (text(&rt, rt.alloc(), "c"), two_groups(&rt, rt.alloc(), 68));
+    let (body, groups) = (
+        template(&rt, rt.alloc(), "c"),
+        two_groups(&rt, rt.alloc(), 68),
+    );
     let settings = producer(body, 1, Some(groups), false);
     produce(
         &rt,
@@ -503,7 +528,7 @@ fn consumer_prolongs_backs_off_as_a_whole_and_stops(rt: HostRuntime) {
 
 // What a producer of messages with this body sends first, with the number 0.
 fn try_body(rt: &impl Abort, alloc: Global, body: &str, wanted: &'static str) {
-    let settings = producer(text(rt, alloc, body), 100, None, false);
+    let settings = producer(template(rt, alloc, body), 100, None, false);
     produce(rt, alloc, 7, settings, &[(5, Told::Wake, wanted, None)]);
 }
 

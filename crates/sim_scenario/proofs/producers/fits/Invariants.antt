@@ -1,5 +1,5 @@
 use Rattle.std.proofs.Common.{◌≡◌, ◌+◌, length}
-use Rattle.sqs_model.specs.Actor.{filled}
+use Rattle.sqs_message.specs.Bodies.{filled}
 use Rattle.sim_scenario.proofs.producers.fits.Given as goal
 
 -- what is left to fill has what room is left

@@ -1,6 +1,6 @@
 use Rattle.std.proofs.Common.{◌≡◌, ◌++◌, ◌-◌, ◌≤◌, List, drop, length, take, ℕ}
-use Rattle.sqs_model.specs.Actor.{filled}
-use Rattle.sim_actor.proofs.bodies.plain_count.Given as goal
+use Rattle.sqs_message.specs.Bodies.{filled}
+use Rattle.sqs_message.proofs.filling.plain_count.Given as goal
 
 abbrev pub invariant-loop-count : goal.invariant-loop-count
 invariant-loop-count l =

@@ -1,6 +1,6 @@
 use Rattle.std.proofs.Common.{arith}
-use Rattle.sim_actor.proofs.Filled.{one_more}
-use Rattle.sim_actor.proofs.bodies.plain_count.Goals as goal
+use Rattle.sqs_message.proofs.Filled.{one_more}
+use Rattle.sqs_message.proofs.filling.plain_count.Goals as goal
 
 pub loop-count-preserved : goal.loop-count-preserved
 loop-count-preserved c =
