@@ -48,9 +48,9 @@ unfoldable pub count_names : List (List ℕ)
 count_names =
     codes "sent" ∷ codes "sent_again" ∷ codes "came_by_forward" ∷ codes "came_by_redrive" ∷ codes "came_by_move"
     ∷ codes "forwarded_again" ∷ codes "receives" ∷ codes "waits" ∷ codes "empty_receives" ∷ codes "deleted"
-    ∷ codes "deletes_by_older_receipt" ∷ codes "deletes_of_gone" ∷ codes "changes" ∷ codes "failed_services" ∷ codes "forwarded"
-    ∷ codes "dead_lettered" ∷ codes "moved_away" ∷ codes "lost_by_expiry" ∷ codes "refused_sends" ∷ codes "refused_receives"
-    ∷ codes "refused_deletes" ∷ codes "refused_changes" ∷ []
+    ∷ codes "deletes_by_older_receipt" ∷ codes "deletes_of_gone" ∷ codes "changes" ∷ codes "failed_services"
+    ∷ codes "forwarded" ∷ codes "dead_lettered" ∷ codes "moved_away" ∷ codes "lost_by_expiry" ∷ codes "refused_sends"
+    ∷ codes "refused_receives" ∷ codes "refused_deletes" ∷ codes "refused_changes" ∷ []
 
 -- whether a message that arrived is of an origin of its own, as what a consumer forwards
 abbrev pub is_own : Option MessageId → Detail → Bool
@@ -87,7 +87,8 @@ by_way own by_queue place = cond (is_column 2 place) (Some (cond own 2 (cond by_
 
 -- what a row counts as, where so many queues are the first agents
 abbrev pub count_of_row : ℕ → Row → Option ℕ
-count_of_row queues row = by_way (is_own row.message row.detail) (nat_lt row.agent queues) (counted_as row.kind row.answer)
+count_of_row queues row =
+    by_way (is_own row.message row.detail) (nat_lt row.agent queues) (counted_as row.kind row.answer)
 
 -- how many rows count as the name in this place
 abbrev pub counted_in : ℕ → List Row → ℕ → ℕ

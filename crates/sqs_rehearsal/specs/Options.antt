@@ -7,8 +7,8 @@ use Rattle.sim_exchange.specs.Layout.{Layout, is_layout}
 use Rattle.sqs_model.specs.Scenario.{Scenario, least_latency}
 use Rattle.sim_clock.specs.declared.refusal.Refusal.TheVariants as refusals
 
--- the options: the window in milliseconds, the number of partitions, the partition of each queue, the number of workers,
--- and the stretch of which figures are wanted
+-- the options: the window in milliseconds, the number of partitions, the partition of each queue, the number of
+-- workers, and the stretch of which figures are wanted
 pub record Options : Type 0 where
   pub window : Option ℕ
   pub parts : Option ℕ
