@@ -46,7 +46,7 @@ const ROWS: [(u64, u32, u32, RowKind, RowAnswer, Option<u64>, Detail); 18] = [
         RowKind::Arrive,
         RowAnswer::New,
         Some(0),
-        from(1, 0),
+        Detail::From(Origin { site: 1, number: 0 }),
     ),
     (60, 0, 2, RowKind::Receive, RowAnswer::Ok, Some(0), NONE),
     (
@@ -66,7 +66,7 @@ const ROWS: [(u64, u32, u32, RowKind, RowAnswer, Option<u64>, Detail); 18] = [
         RowKind::Arrive,
         RowAnswer::New,
         Some(1),
-        from(0, 4),
+        Detail::From(Origin { site: 0, number: 4 }),
     ),
     (
         80,
@@ -75,7 +75,7 @@ const ROWS: [(u64, u32, u32, RowKind, RowAnswer, Option<u64>, Detail); 18] = [
         RowKind::Arrive,
         RowAnswer::New,
         Some(2),
-        from(0, 5),
+        Detail::From(Origin { site: 0, number: 5 }),
     ),
     (
         85,
@@ -84,7 +84,7 @@ const ROWS: [(u64, u32, u32, RowKind, RowAnswer, Option<u64>, Detail); 18] = [
         RowKind::Arrive,
         RowAnswer::New,
         Some(3),
-        from(0, 6),
+        Detail::From(Origin { site: 0, number: 6 }),
     ),
     (90, 0, 2, RowKind::Receive, RowAnswer::Ok, Some(2), NONE),
     (100, 0, 3, RowKind::Send, RowAnswer::New, Some(4), NONE),
@@ -98,10 +98,6 @@ const ROWS: [(u64, u32, u32, RowKind, RowAnswer, Option<u64>, Detail); 18] = [
         Detail::Age(40),
     ),
 ];
-
-const fn from(site: u32, number: u64) -> Detail {
-    Detail::From(Origin { site, number })
-}
 
 /// The figures over the stretch.
 const FIGURES: &[u8] = b"figure,of,name,value
