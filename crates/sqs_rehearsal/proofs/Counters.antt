@@ -9,7 +9,7 @@ use Rattle.sqs_model.specs.Run.{setting_of}
 use Rattle.sqs_model.specs.Scenario.{Scenario}
 use Rattle.sqs_model.specs.Site.{Site}
 use Rattle.sqs_model.specs.Sqs.{sqs}
-use Rattle.sqs_rehearsal.specs.Endings.{asked_of}
+use Rattle.sqs_rehearsal.specs.Asked.{asked_of}
 use Rattle.sqs_rehearsal.specs.Outcomes.{HasCounted}
 use Rattle.sqs_rehearsal.specs.Sinks.{Counted}
 use Rattle.sqs_rehearsal.specs.declared.counter.Counter.{Counter}

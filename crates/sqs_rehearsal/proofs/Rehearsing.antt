@@ -23,7 +23,8 @@ use Rattle.sqs_rehearsal.proofs.Barred.{split_bars}
 use Rattle.sqs_rehearsal.proofs.Prefixes.{all_are_prefix}
 use Rattle.sqs_rehearsal.proofs.Runs.{rehearsed, some_run}
 use Rattle.sqs_rehearsal.proofs.Stopped.{refused_after_log, refused_barred, stopped_unwritten, stopped_where}
-use Rattle.sqs_rehearsal.specs.Endings.{asked_of, ending_with}
+use Rattle.sqs_rehearsal.specs.Asked.{asked_of}
+use Rattle.sqs_rehearsal.specs.Endings.{ending_with}
 use Rattle.sqs_rehearsal.specs.Options.{Options, split_fault}
 use Rattle.sqs_rehearsal.specs.Splits.{IsUnsplit}
 use Rattle.sqs_rehearsal.specs.Rehearsals.{IsRefused, IsWritten, Rehearsed, Request}

@@ -9,7 +9,8 @@ use Rattle.sim_report.specs.declared.stretch.Stretch.{Stretch}
 use Rattle.sqs_formats.specs.Output.{ending_of}
 use Rattle.sqs_model.specs.Run.{Run}
 use Rattle.sqs_model.specs.Scenario.{Scenario}
-use Rattle.sqs_rehearsal.specs.Endings.{asked_of, ending_with}
+use Rattle.sqs_rehearsal.specs.Asked.{asked_of}
+use Rattle.sqs_rehearsal.specs.Endings.{ending_with}
 
 -- the first of two parts is not written whole, so the second is not written
 pub first_stopped : (a b : WriterState) (xs ys : List ℕ) (e : Refusal) (r : Result (Unit {0}) Refusal)

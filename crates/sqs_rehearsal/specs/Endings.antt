@@ -1,7 +1,6 @@
 -- What a rehearsal writes beside its log, with figures if they are wanted.
-use Rattle.std.specs.Prelude.{ℕ, ◌+◌, ◌++◌, List, None, Option, Some, drop, length, min, option_map}
+use Rattle.std.specs.Prelude.{ℕ, ◌+◌, ◌++◌, List, None, Option, Some, drop, length, min}
 use Rattle.sim_report.specs.Figures.{figures_text}
-use Rattle.sim_report.specs.Reports.{Asked}
 use Rattle.sim_report.specs.declared.stretch.Stretch.{Stretch}
 use Rattle.sqs_formats.specs.Output.{ending_of, queue_names}
 use Rattle.sqs_model.specs.Run.{Run}
@@ -14,10 +13,6 @@ actor_names s = drop (length s.queues) s.names
 -- the part of a stretch that lies in a scenario's run
 abbrev pub in_run : Scenario → Stretch → Stretch
 in_run s stretch = record { from = stretch.from; until = min stretch.until (s.horizon + 1) }
-
--- what the report of a scenario is to have
-abbrev pub asked_of : Scenario → Option Stretch → Asked
-asked_of s stretch = record { queues = queue_names s; actors = actor_names s; stretch = option_map (in_run s) stretch }
 
 -- what the report writer gets: finals, then the report, then figures over a stretch of the run, if they are wanted
 abbrev pub ending_with : Scenario → Option Stretch → Run → List ℕ

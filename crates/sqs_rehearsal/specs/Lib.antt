@@ -14,3 +14,4 @@ pub mod SinkLaws
 pub mod Printed
 pub mod PrintedLaws
 pub mod Endings
+pub mod Asked

@@ -9,7 +9,7 @@ use Rattle.sqs_model.specs.Limits.{IsOver}
 use Rattle.sqs_model.specs.Run.{IsRunOf, Run}
 use Rattle.sqs_model.specs.Scenario.{Scenario}
 use Rattle.sqs_model.specs.Site.{Site}
-use Rattle.sqs_rehearsal.specs.Endings.{asked_of}
+use Rattle.sqs_rehearsal.specs.Asked.{asked_of}
 use Rattle.sqs_rehearsal.specs.declared.outcome.Outcome.{Outcome}
 
 -- a scenario's one-list run has reached its end and taken no count past the limit; its rows are counted, and these are

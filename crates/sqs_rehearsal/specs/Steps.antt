@@ -10,7 +10,7 @@ use Rattle.sqs_formats.specs.Rows.{line, log_header}
 use Rattle.sqs_formats.specs.Scenario.{scenario_upto}
 use Rattle.sqs_model.specs.Limits.{IsOver}
 use Rattle.sqs_model.specs.Scenario.{Scenario}
-use Rattle.sqs_rehearsal.specs.Endings.{asked_of}
+use Rattle.sqs_rehearsal.specs.Asked.{asked_of}
 use Rattle.sqs_rehearsal.specs.Options.{Options, split_fault}
 use Rattle.sqs_rehearsal.specs.Rehearsals.{IsRefused, Rehearsed, Request}
 use Rattle.sqs_rehearsal.specs.Splits.{split_of}

@@ -5,7 +5,8 @@ ghost use Rattle.sim_report.specs.Figured.{figured};
 ghost use Rattle.sim_report.specs.Reports.{running};
 ghost use Rattle.sqs_formats.specs.Comparison.{comparison};
 ghost use Rattle.sqs_formats.specs.Output.{queue_names, report_of};
-ghost use Rattle.sqs_rehearsal.specs.Endings.{actor_names, asked_of, in_run};
+ghost use Rattle.sqs_rehearsal.specs.Asked.{asked_of};
+ghost use Rattle.sqs_rehearsal.specs.Endings.{actor_names, in_run};
 ghost use Rattle.sqs_rehearsal.specs.Outcomes.{HasCounted, IsOutcomeOf, OfBoth, Stops};
 
 use crate::counter::Counter;

@@ -3,7 +3,7 @@ use Rattle.sim_records.specs.Writes.{WroteSeveral}
 use Rattle.sim_report.specs.Reports.{figures_if}
 use Rattle.sqs_formats.specs.Output.{ending_of}
 use Rattle.sqs_rehearsal.proofs.Writing.{ending-parts, first_and_second, first_stopped}
-use Rattle.sqs_rehearsal.specs.Endings.{asked_of}
+use Rattle.sqs_rehearsal.specs.Asked.{asked_of}
 use Rattle.sqs_rehearsal.proofs.ending.write_ending.Goals as goal
 
 pub returns-clause-written : goal.returns-clause-written

@@ -8,7 +8,7 @@ use Rattle.sqs_formats.specs.Report.{report_text}
 use Rattle.sqs_formats.specs.Rows.{Names}
 use Rattle.sqs_model.specs.Finals.{finals_of}
 use Rattle.sqs_model.specs.Site.{Site}
-use Rattle.sqs_rehearsal.specs.Endings.{asked_of}
+use Rattle.sqs_rehearsal.specs.Asked.{asked_of}
 use Rattle.sqs_rehearsal.proofs.Writing.{first_and_second, first_stopped}
 use Rattle.sqs_rehearsal.proofs.ending.write_left.Goals as goal
 

@@ -5,7 +5,7 @@ use Rattle.sqs_formats.specs.Comparison.{comparison}
 use Rattle.sqs_formats.specs.Output.{queue_names, report_of}
 use Rattle.sqs_formats.specs.Report.{report}
 use Rattle.sqs_model.specs.declared.finals.Finals.{Finals}
-use Rattle.sqs_rehearsal.specs.Endings.{asked_of}
+use Rattle.sqs_rehearsal.specs.Asked.{asked_of}
 use Rattle.sqs_rehearsal.proofs.Writing.{flushed}
 use Rattle.sqs_rehearsal.proofs.outcome.compare.Goals as goal
 
