@@ -14,14 +14,15 @@ from collections import Counter
 from collections.abc import Callable, Iterable, Iterator, Mapping, Sequence
 from contextlib import AbstractContextManager, nullcontext
 from functools import partial
+from itertools import takewhile
 from typing import Any, NamedTuple, TextIO
 
 from .console import Fault
 from .doors import DOOR_SHARES, Doors
 from .further import COLUMNS as FURTHER
 from .further import WINDOW, Further
-from .logs import (FINAL_HEADER, PLACES, REPORT_HEADER, Block, Head, Log, Take as TakeRow, What, blocks_in,
-                   counted_columns)
+from .logs import FIGURE_HEADER, FINAL_HEADER, PLACES, REPORT_HEADER, Block, Head, Log, What, blocks_in, counted_columns
+from .logs import Take as TakeRow
 from .replay import Replay, both, handlers_of, replay
 from .starting import started
 from .statistics import Interval, at_rank, rank_of
@@ -257,10 +258,16 @@ def columns_in(header: Sequence[str]) -> list[str]:
     return ALL_COLUMNS if header[-1] == ALL_COLUMNS[-1] else COLUMNS
 
 
+def is_no_figure(record: Sequence[str]) -> bool:
+    return record[:1] != FIGURE_HEADER[:1]
+
+
 def report_of(stream: TextIO) -> list[list[str]] | None:
     """The records of the report that a run prints, each from its queue's name on; None if there is no report."""
     rest = csv.reader(stream)
-    return [record[1:] for record in rest] if REPORT_HEADER in rest else None
+    if REPORT_HEADER not in rest:
+        return None
+    return [record[1:] for record in takewhile(is_no_figure, rest)]
 
 
 class Ended(NamedTuple):
