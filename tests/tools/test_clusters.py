@@ -159,7 +159,9 @@ class Clusters(DaskCase):
         cluster = self.cluster_with(1)
         for more in (("--vary", "seed=1..3", "--from", "10m", "--require", "q.age_p95<1h"),
                      ("--vary", "queue.q.visibility_s=30,50000"),
-                     ("--vary", "seed=1..5", "--spread", "seed", "--columns", "sends,age_p95")):
+                     ("--vary", "seed=1..5", "--spread", "seed", "--columns", "sends,age_p95"),
+                     ("--vary", "seed=1..2", "--columns", "busy"),
+                     ("--vary", "seed=1..2", "--from", "10m", "--columns", "busy,in_flight_greatest")):
             here = self.run_tool("sweep", *self.words(*more))
             self.assertEqual(self.run_tool("sweep", *self.words(*more), "--cluster", cluster.address), here)
         for folder in cluster.workers:

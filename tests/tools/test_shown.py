@@ -53,9 +53,10 @@ class Shown(ToolCase):
         self.other = self.write("b.toml", OTHER)
         run, known = variants.run, self.known
 
-        def remembered(command: list[str], text: str, counting: Any, engine: Any) -> Any:
+        def remembered(command: list[str], text: str, counting: Any, engine: Any, figures: Any) -> Any:
             """A run of the program, of which each is made once for all tests."""
             self.assertIsNone(counting)
+            self.assertIsNone(figures)
             if text not in known:
                 known[text] = run(command, text, counting, engine)
             return known[text]

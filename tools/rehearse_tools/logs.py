@@ -65,6 +65,9 @@ REPORT_HEADER = (
     "ReceiptHandleIsInvalid,BadTimeout,MissingGroup,MissingDeduplication,BadDelay,TaskRunning,NoTask,depth_max,visible,"
     "in_flight,delayed,age_sum,age_max,age_p50,age_p95,age_p99").split(",")
 
+# Figures follow the report where the program was asked for them.
+FIGURE_HEADER = "figure,of,name,value".split(",")
+
 REFUSALS = REPORT_HEADER[REPORT_HEADER.index("OverLimit"):REPORT_HEADER.index("depth_max")]
 # The columns of a report that count rows, by the calls and answers of these; a refusal is a column of its own name.
 COLUMN_OF: dict[What, str] = {
@@ -79,7 +82,8 @@ PLACES = {"visible": "visible", "inflight": "in_flight", "delayed": "delayed"}
 AGES = ("age_max", "age_p50", "age_p95", "age_p99")
 
 # The parts of what `run` prints after the log. The first field of each record is the name of its part.
-HEADERS = {header[0]: header for header in (FINAL_HEADER, TRANSFER_HEADER, TASK_HEADER, REPORT_HEADER)}
+HEADERS = {header[0]: header
+           for header in (FINAL_HEADER, TRANSFER_HEADER, TASK_HEADER, REPORT_HEADER, FIGURE_HEADER)}
 
 LOG_FIELDS = len(LOG_HEADER)
 
@@ -256,11 +260,12 @@ class Rows:
 class Log:
     """A log in a file, or on standard input if its path is -, read row by row in its order.
 
-    A run without `--log` prints the final queues and the report after the log. Once the rows have been read, `parts`
-    has the records of those parts that were wanted and are there, by the names of the parts, or None where nothing
-    follows; `report` has the numbers of each queue by its columns. A file may have these parts alone where
-    `may_lack_rows` says so; `has_rows` tells it. `rest` is the path of the file with these parts, if they do not follow
-    the log. `line` is the number of the line that was read last, and `at` the time of the row that was.
+    A run without `--log` prints the final queues and the report after the log, and behind them the figures that it was
+    asked for. Once the rows have been read, `parts` has the records of those parts that were wanted and are there, by
+    the names of the parts, or None where nothing follows; `report` has the numbers of each queue by its columns. A file
+    may have these parts alone where `may_lack_rows` says so; `has_rows` tells it. `rest` is the path of the file with
+    these parts, if they do not follow the log. `line` is the number of the line that was read last, and `at` the time
+    of the row that was.
 
     Rows are lost where a run was ended, or a file cut. So a log of standard input must have its report, and each report
     must agree with the rows. A log in a file may stand alone; `is_open` says that its end was not seen.

@@ -39,6 +39,7 @@ from typing import IO, Any, NamedTuple
 from .console import (Fault, Parser, check_library, check_output, check_title, command_of, library, read_bytes,
                       read_text, shown, tell, write_text)
 from .drawing import ALARM, COLOURS, unit_of
+from .figures import Figures, figure_words
 from .further import COST
 from .histories import (PLACES, Course, Histories, History, ages_are_spread, ages_in, counts_in, course_of, edges,
                         levels, oldest)
@@ -47,8 +48,8 @@ from .overview import COLUMNS as OVERVIEW
 from .overview import cells_of
 from .programs import TOP, program_of, reading_words
 from .requirements import Failure, Requirement
-from .runs import COLUMNS, Ages, Counting, extra_of, reported
-from .scenarios import names_of, parsed, scripts_in, ways_of, written
+from .runs import COLUMNS, Ages, Counting, Extra, extra_of, reported
+from .scenarios import consumers_of, names_of, parsed, scripts_in, ways_of, written
 from .starting import ran
 from .summaries import LINES, Queue, Reading, Run, cell_of, is_told, lost_in, lost_told, note_of, read_runs
 from .units import duration, window_of
@@ -363,10 +364,21 @@ def settings_html(scenario: Mapping[str, Any]) -> str:
     return rows_of_table(rows)
 
 
-def counted_at(path: str, counting: Counting) -> CountedRun:
-    """What is counted of each queue, by the log in a file."""
+def extra_of_all(requirements: Iterable[Requirement]) -> Extra:
+    """What some requirements want beside the report."""
+    return extra_of(requirement.column for requirement in requirements)
+
+
+def program_words(options: Namespace) -> list[str]:
+    """The program's options: how the scenario is read, and figures if something is required of them."""
+    is_on_figures = extra_of_all(map(Requirement, options.require)).with_figures
+    return [*reading_words(options), *(figure_words(options.first or 0) if is_on_figures else ())]
+
+
+def counted_at(path: str, counting: Counting, figures: Figures | None) -> CountedRun:
+    """What is counted of each queue, by the log in a file, and the figures that are wanted."""
     with open(path, encoding="utf-8", newline="") as file:
-        records, ages = reported(file, counting) or ([], {})
+        records, ages = reported(file, counting, figures) or ([], {})
     return {name: numbers for name, *numbers in records}, ages
 
 
@@ -375,10 +387,11 @@ def page(options: Namespace, words: Sequence[str], text: str, path: str) -> tupl
     scenario = parsed(text, options.scenario)
     run, = read_runs([path], Reading(options.first))
     requirements = [Requirement(requirement) for requirement in options.require]
-    extra = extra_of(requirement.column for requirement in requirements)
-    counting = Counting(options.first or 0, min(scenario["horizon"], options.last or scenario["horizon"]), extra,
-                        ways_of(scenario))
-    found = judged(requirements, run.queues, functools.cache(lambda: counted_at(path, counting)), bool(options.first))
+    first, end = options.first or 0, min(scenario["horizon"], options.last or scenario["horizon"])
+    counting = Counting(first, end, extra_of_all(requirements), ways_of(scenario))
+    figures = Figures(first, end, consumers_of(scenario)) if counting.extra.with_figures else None
+    counted = functools.cache(lambda: counted_at(path, counting, figures))
+    found = judged(requirements, run.queues, counted, bool(options.first))
     body = lost_html(run) + requirements_html(found)
     if run.row_count:
         histories = Histories(Log(path))
@@ -465,7 +478,7 @@ def main(words: Sequence[str]) -> int:
     check_output(options.output, [options.scenario, program, *scripts_of(text, options)])
     # a file without a name is gone with the tool, whatever ends it
     with tempfile.TemporaryFile() as log:
-        refusal = run_program(program, cut_text, reading_words(options), log)
+        refusal = run_program(program, cut_text, program_words(options), log)
         if refusal:
             tell(f"{shown(refusal)}; {command_of('explain')} tells more")
             return 1

@@ -12,6 +12,7 @@ from typing import NamedTuple
 
 from .console import Fault, shown
 from .doors import DOOR_SHARES
+from .figures import BUSY, MOMENTS
 from .further import BACKLOG_GONE, CENSORED, MOVED_SHARES, NEW_SHARES
 from .logs import PLACES
 from .runs import ALL_COLUMNS, COLUMNS, EXTRA_COLUMNS, PERCENTILES, Ages
@@ -69,10 +70,9 @@ class Requirement:
         self.text, self.queue, self.column = text.strip(), match[1], match[2]
         if self.column not in ALL_COLUMNS:
             raise Fault(f"{shown(text)}: there is no column {self.column}; there are {', '.join(ALL_COLUMNS)}")
-        found = quantity(match[4])
+        found = quantity(match[4].removesuffix("%") if self.column == BUSY else match[4])
         if found is None or found[1] and not self.is_time:
-            wanted = "a number with a unit, as 60s" if self.is_time else "a number without a unit"
-            raise Fault(f"{shown(text)}: {shown(match[4])} is not {wanted}")
+            raise Fault(f"{shown(text)}: {shown(match[4])} is not {self.wanted}")
         self.bound, self.holds = found[0], self.COMPARISONS[match[3]]
 
     @property
@@ -82,7 +82,14 @@ class Requirement:
 
     @property
     def is_time(self) -> bool:
-        return self.is_age or self.column in CENSORED or self.column == BACKLOG_GONE
+        return self.is_age or self.column in (*CENSORED, BACKLOG_GONE, *MOMENTS)
+
+    @property
+    def wanted(self) -> str:
+        """What its column is compared with, in words."""
+        if self.column == BUSY:
+            return "a share, as 90%"
+        return "a number with a unit, as 60s" if self.is_time else "a number without a unit"
 
     @property
     def is_extra(self) -> bool:
@@ -127,12 +134,15 @@ class Requirement:
         """Why there is no number."""
         if self.column == BACKLOG_GONE:
             return "a backlog is there at the end"
+        if self.column == BUSY:
+            return "it has no consumer"
         kind = "new " if self.column in NEW_SHARES else "moved " if self.column in MOVED_SHARES else ""
         return f"no {kind}message was deleted" + (self.column in DOOR_SHARES) * (
             ", or of one it is open when it was first sent (summary --door tells)")
 
     def told_number(self, number: float) -> str:
-        return f"it is {number} ms, {duration(int(number))}" if self.is_time else f"it is {number}"
+        unit = f" ms, {duration(int(number))}" if self.is_time else " %" if self.column == BUSY else ""
+        return f"it is {number}{unit}"
 
     def is_open(self, numbers: Sequence[str]) -> bool:
         """Whether the report leaves open if it holds, so that the ages of the messages have to be known."""

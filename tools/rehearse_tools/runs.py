@@ -14,21 +14,24 @@ from collections import Counter
 from collections.abc import Callable, Iterable, Iterator, Mapping, Sequence
 from contextlib import AbstractContextManager, nullcontext
 from functools import partial
+from itertools import takewhile
 from typing import Any, NamedTuple, TextIO
 
 from .console import Fault
 from .doors import DOOR_SHARES, Doors
+from .figures import COLUMNS as OF_FIGURES
+from .figures import Figures, figure_words
 from .further import COLUMNS as FURTHER
 from .further import WINDOW, Further
-from .logs import (FINAL_HEADER, PLACES, REPORT_HEADER, Block, Head, Log, Take as TakeRow, What, blocks_in,
-                   counted_columns)
+from .logs import FIGURE_HEADER, FINAL_HEADER, PLACES, REPORT_HEADER, Block, Head, Log, What, blocks_in, counted_columns
+from .logs import Take as TakeRow
 from .replay import Replay, both, handlers_of, replay
 from .starting import started
 from .statistics import Interval, at_rank, rank_of
 
 COLUMNS = REPORT_HEADER[2:]
-# With those that a report does not have, and for which the log is read.
-EXTRA_COLUMNS = [*DOOR_SHARES, *FURTHER]
+# With those that a report does not have: some for which the log is read, and figures.
+EXTRA_COLUMNS = [*DOOR_SHARES, *FURTHER, *OF_FIGURES]
 ALL_COLUMNS = [*COLUMNS, *EXTRA_COLUMNS]
 PERCENTILES = {"age_p50": 0.5, "age_p95": 0.95, "age_p99": 0.99, "age_max": 1.0}
 Watch = Callable[["subprocess.Popen[bytes]"], AbstractContextManager[object]]
@@ -117,6 +120,7 @@ class Output(Log):
         super().__init__("-")
         self.stream = stream
         self.records: Iterator[list[str]] = iter(())
+        self.figures: list[list[str]] = []
         self.is_cut = False
 
     def blocks(self) -> Iterator[Block]:
@@ -133,8 +137,9 @@ class Output(Log):
     def has_whole_report(self) -> bool:
         """Reads the report, and says whether it is whole and of these rows."""
         try:
-            for record in self.records:
+            for record in takewhile(is_no_figure, self.records):
                 self.take_record(record)
+            self.figures = list(self.records)
             self.check_report()
         except Fault:
             return False
@@ -150,22 +155,29 @@ class Output(Log):
 
 
 class Extra(NamedTuple):
-    """What is counted beside the report: the ages since the first send, further columns, the length of a window in
-    milliseconds, and the price of a million requests."""
+    """What is wanted beside the report: the ages since the first send, further columns, the length of a window in
+    milliseconds, the price of a million requests, and figures."""
     with_doors: bool = False
     with_further: bool = False
     window: int = WINDOW
     price: float | None = None
+    with_figures: bool = False
 
     @property
     def is_any(self) -> bool:
+        return self.is_by_log or self.with_figures
+
+    @property
+    def is_by_log(self) -> bool:
+        """Whether the log must be read."""
         return self.with_doors or self.with_further
 
 
 def extra_of(columns: Iterable[str], window: int = WINDOW, price: float | None = None) -> Extra:
     """What is to be counted for some columns."""
     wanted = set(columns)
-    return Extra(not wanted.isdisjoint(DOOR_SHARES), not wanted.isdisjoint(FURTHER), window, price)
+    return Extra(not wanted.isdisjoint(DOOR_SHARES), not wanted.isdisjoint(FURTHER), window, price,
+                 not wanted.isdisjoint(OF_FIGURES))
 
 
 class Counting(NamedTuple):
@@ -209,7 +221,7 @@ class Counts:
             self.further.of(name).is_left(message, self.end - enqueued)
 
     def reported(self, names: Iterable[str]) -> tuple[list[list[str]], dict[str, Ages]]:
-        """The records of a report on queues with these names, each with the extra columns if some are counted, and the
+        """The records of a report on queues with these names, each with those extra columns that are counted, and the
         ages by queue; messages that are left are as old as they are at the end of the run."""
         records, ages = [], {}
         left = self.doors.left() if self.doors else None
@@ -226,8 +238,6 @@ class Counts:
             if self.further:
                 numbers = self.further.numbers_of(name, queue.kinds, self.end)
                 record, of_queue = [*record, *numbers.texts], of_queue._replace(bounds=numbers.bounds)
-            elif self.doors:
-                record += [""] * len(FURTHER)
             records.append(record)
             ages[name] = of_queue
         return records, ages
@@ -237,9 +247,10 @@ def text_of(columns: Mapping[str, int | None]) -> list[str]:
     return ["" if number is None else str(number) for number in columns.values()]
 
 
-def reported(stream: TextIO, counting: Counting) -> tuple[list[list[str]], dict[str, Ages]] | None:
-    """The records of a report that are counted from what a run prints, in its order, and the ages by queue; None if
-    that is no log with its report."""
+def reported(stream: TextIO, counting: Counting,
+             figures: Figures | None = None) -> tuple[list[list[str]], dict[str, Ages]] | None:
+    """The records of a report that are counted from what a run prints, in its order, with the figures that are wanted,
+    and the ages by queue; None if that is no log with its report."""
     counts, output = Counts(counting), Output(stream)
     if not output.is_whole(counts.rows):
         return None
@@ -248,8 +259,22 @@ def reported(stream: TextIO, counting: Counting) -> tuple[list[list[str]], dict[
             output.take_record(record)
             counts.left(record[1], record[2], record[4], int(record[6]))
         elif record == REPORT_HEADER:
-            return counts.reported(output.report) if output.has_whole_report() else None
+            if not output.has_whole_report():
+                return None
+            records, ages = counts.reported(output.report)
+            completed = with_extra(records, figures, output.figures) if counting.extra.is_any else records
+            return None if completed is None else (completed, ages)
     return None
+
+
+def with_extra(records: Sequence[list[str]], figures: Figures | None,
+               behind: Iterable[Sequence[str]]) -> list[list[str]] | None:
+    """The records of a report with all extra columns: those that are not counted are empty, and figures are among what
+    is behind the report. None if a figure that is wanted is not there."""
+    names = [record[0] for record in records]
+    found = figures.columns_of(behind, names) if figures else [[""] * len(OF_FIGURES) for _ in names]
+    width = 1 + len(ALL_COLUMNS) - len(OF_FIGURES)
+    return found and [[*record, *[""] * (width - len(record)), *texts] for record, texts in zip(records, found)]
 
 
 def columns_in(header: Sequence[str]) -> list[str]:
@@ -257,10 +282,18 @@ def columns_in(header: Sequence[str]) -> list[str]:
     return ALL_COLUMNS if header[-1] == ALL_COLUMNS[-1] else COLUMNS
 
 
-def report_of(stream: TextIO) -> list[list[str]] | None:
-    """The records of the report that a run prints, each from its queue's name on; None if there is no report."""
+def is_no_figure(record: Sequence[str]) -> bool:
+    return record[:1] != FIGURE_HEADER[:1]
+
+
+def report_of(stream: TextIO, figures: Figures | None = None) -> list[list[str]] | None:
+    """The records of the report that a run prints, each from its queue's name on, with the figures that are wanted;
+    None if there is no report."""
     rest = csv.reader(stream)
-    return [record[1:] for record in rest] if REPORT_HEADER in rest else None
+    if REPORT_HEADER not in rest:
+        return None
+    records = [record[1:] for record in takewhile(is_no_figure, rest)]
+    return with_extra(records, figures, rest) if figures else records
 
 
 class Ended(NamedTuple):
@@ -290,13 +323,16 @@ def first_line(told: bytes) -> str:
     return next(filter(None, told.decode("utf-8", "replace").split("\n")), "no report")
 
 
-def run(command: list[str], text: str, counting: Counting | None, engine: Engine = piped) -> Ran:
-    """Runs a scenario's text by the command of the program. Where nothing is to be counted the report is the program's,
-    which then writes no log, and no ages are known."""
+def run(command: list[str], text: str, counting: Counting | None, engine: Engine = piped,
+        figures: Figures | None = None) -> Ran:
+    """Runs a scenario's text by the command of the program, with the figures that are wanted. Where nothing is to be
+    counted the report is the program's, which then writes no log, and no ages are known."""
+    if figures:
+        command = [*command, *figure_words(figures.first)]
     if counting is None:
-        status, told, report = engine([*command, "--log", os.devnull], text, report_of)
+        status, told, report = engine([*command, "--log", os.devnull], text, partial(report_of, figures=figures))
         return Ran(status, None if status else report, told, {})
-    status, told, counts = engine(command, text, partial(reported, counting=counting))
+    status, told, counts = engine(command, text, partial(reported, counting=counting, figures=figures))
     if not counts:
         return Ran(status, None, told, {})
     records, ages = counts

@@ -59,6 +59,16 @@ def ways_of(scenario: Mapping[str, Any]) -> frozenset[tuple[str, str]]:
                      if isinstance(start, str) and isinstance(to, str))
 
 
+def consumers_of(scenario: Mapping[str, Any]) -> dict[str, list[str]]:
+    """The names of the consumers of each queue."""
+    found: dict[str, list[str]] = {}
+    for actor in items_of(scenario, "actor"):
+        name, queue = actor.get("name"), actor.get("queue")
+        if actor.get("kind") == "consumer" and isinstance(name, str) and isinstance(queue, str):
+            found.setdefault(queue, []).append(name)
+    return found
+
+
 def text_of_string(text: str) -> str:
     """A string in TOML's double quotes; JSON's escapes are also TOML's, which wants one more."""
     return json.dumps(text, ensure_ascii=False).replace("\x7f", "\\u007F")

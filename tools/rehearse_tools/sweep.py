@@ -23,8 +23,8 @@
           scenario does not have is added.
 --zip     a setting that goes with the --vary before it, its first value with the first and so on, as in
           --vary seed=1..3 --zip actor.shop.script=a.csv,b.csv,c.csv
---require what must hold in each variant: a column of the report of a queue, one of < <= > >= = !=, and a number, for
-          ages with a unit (ms, s, m, h, d; without one milliseconds). A queue's name may have asterisks. Each one that
+--require what must hold in each variant: a column of a queue, one of < <= > >= = !=, and a number, for times with a
+          unit (ms, s, m, h, d; without one milliseconds). A queue's name may have asterisks. Each one that
           fails has a line on standard error, and the status is 1. The last line says which variants meet all, with
           --spread those that do in each run. A requirement on an age also fails if no message was deleted, because
           there is no age. Messages that are left are at least as old as they are now. If they could turn a requirement
@@ -58,6 +58,8 @@
           window_age_p95: the greatest 95th percentile of age among windows of --window (5min), by time of deletion
           backlog_gone: when a backlog ended last, as `summary --help` has it: 0 if there was none, empty at its end
           requests, cost: API requests as `summary` counts them, and what they cost at --price a million
+          depth_greatest_at_ms, in_flight_greatest, in_flight_greatest_at_ms, busy: as docs/STATISTICS.md has them; for
+            these alone no log is read
 --table   prints a table for people in place of CSV, without columns, and rows of queues, that have no number
 --preview reads version 3 of scenarios too, as `run --preview` does
 --program the program; without it SQS_REHEARSE of the environment, else sqs_rehearse beside this folder

@@ -17,10 +17,11 @@ from contextlib import contextmanager
 from typing import Any, NamedTuple
 
 from .console import Fault, Progress, is_terminal, read_bytes, read_text, stop, take_signals, tell, write_bytes
+from .figures import Figures
 from .keys import PREVIEW
 from .programs import preview_words
 from .runs import ALL_COLUMNS, COLUMNS, Ages, Counting, Ended, Engine, Extra, Ran, Take, piped, run
-from .scenarios import Setting, parsed, scripts_in, value_of, varied, ways_of, written
+from .scenarios import Setting, consumers_of, parsed, scripts_in, value_of, varied, ways_of, written
 from .scripts import NAME as SCRIPT_NAME
 
 VARIANTS_MOST = 1_000_000
@@ -153,8 +154,8 @@ class Sweep:
     """A scenario, the settings to vary, and how a variant is run.
 
     `needs_ages` says of a report if the ages of the messages are wanted as well, for which the log is read. If `extra`
-    wants any columns beside those of the report, it is read for each run, and the rows have all such columns. With
-    `is_preview` scenarios of version 3 may be run.
+    wants any columns beside those of the report, the rows have all such columns, and where they are counted by the log
+    it is read for each run. With `is_preview` scenarios of version 3 may be run.
     """
 
     def __init__(self, path: str, settings: Settings, scripts: str, window: Window = Window(),
@@ -277,8 +278,10 @@ class Sweep:
     def run(self, words: Sequence[str], is_counted: bool) -> Ran:
         """Runs the variant of some words, of which the log may be counted."""
         scenario = self.varied(words)
-        counting = Counting(self.window.first or 0, horizon_of(scenario), self.extra, ways_of(scenario))
-        return run(self.command(), written(scenario), counting if is_counted else None, self.engine)
+        first, end = self.window.first or 0, horizon_of(scenario)
+        counting = Counting(first, end, self.extra, ways_of(scenario)) if is_counted else None
+        figures = Figures(first, end, consumers_of(scenario)) if self.extra.with_figures else None
+        return run(self.command(), written(scenario), counting, self.engine, figures)
 
     def taken(self, scenarios: Sequence[dict[str, Any]], take: Take, jobs: int) -> list[Any]:
         """What `take` makes of the output of each of some scenarios, all of which the program accepts."""
@@ -293,7 +296,7 @@ class Sweep:
         words = self.settings.words(number)
         if self.interrupted:
             return Outcome([], {}, True)
-        ran = self.run(words, self.extra.is_any or self.window.first is not None)
+        ran = self.run(words, self.extra.is_by_log or self.window.first is not None)
         if ran.records is not None and not ran.ages and self.needs_ages(ran.records):
             ran = self.run(words, True)
         words = [word.strip('"') for word in words]

@@ -1,0 +1,253 @@
+"""Tests what the tools make of the figures that the program writes behind a report: by runs counted by hand, and by the
+logs of random scenarios, of which the reference has the figures."""
+from __future__ import annotations
+
+import csv
+import io
+import os
+import subprocess
+import sys
+import unittest
+
+from test_runs import random_scenario
+from test_summary import LOG, PARTS
+from tool import PROGRAM, ROOT, ToolCase, needs_program
+from rehearse_tools import runs
+from rehearse_tools.figures import COLUMNS, Figures
+from rehearse_tools.scenarios import consumers_of, names_of, parsed
+from rehearse_tools.tables import table_text
+
+sys.path.insert(0, os.path.join(ROOT, "tests", "reference"))
+from figures import Fields, Stretch, busy, depths, flights, peak  # noqa: E402 (of the folder above)
+
+SCENARIOS = 20
+# In LOG the three messages of a are there from 200 ms on, and all in flight from 300 ms on. Its consumer left is busy
+# from 100 to 2500 ms and from 3200 to 5300 ms, right from 300 to 3100 ms, and third from 2200 to 2600 ms.
+FIGURES = """figure,of,name,value
+figure,a,sent,3
+figure,a,depth_greatest,3
+figure,a,depth_greatest_at_ms,200
+figure,a,in_flight_greatest,3
+figure,a,in_flight_greatest_at_ms,300
+figure,d,sent,0
+figure,d,depth_greatest,1
+figure,d,depth_greatest_at_ms,5220
+figure,d,in_flight_greatest,0
+figure,d,in_flight_greatest_at_ms,0
+figure,left,busy_ms,4500
+figure,right,busy_ms,2800
+figure,third,busy_ms,400
+"""
+CONSUMERS = {"a": ["left", "right", "third"]}
+# Three messages wait from 2 ms on. The consumer slow is busy from 1000 to 3500 ms; quick is from 1100 to 1600 ms, and
+# from the next millisecond on, to 2101 ms. So two are in flight at 1100 ms, and q has two from 1600 ms on.
+SCENARIO = '''version = 1
+horizon = 9999
+[[queue]]
+name = "q"
+[[queue]]
+name = "idle"
+[[actor]]
+name = "shop"
+kind = "script"
+queue = "q"
+calls = """
+at,call,body,group,id,delay,receipt,max,wait,timeout,task
+0,send,a,,,,,,,,
+1,send,b,,,,,,,,
+2,send,c,,,,,,,,
+"""
+[[actor]]
+name = "slow"
+kind = "consumer"
+queue = "q"
+start_ms = 1000
+service_min_ms = 2500
+service_max_ms = 2500
+idle_ms = 86400000
+[[actor]]
+name = "quick"
+kind = "consumer"
+queue = "q"
+start_ms = 1100
+service_min_ms = 500
+service_max_ms = 500
+idle_ms = 86400000
+'''
+NAMES = "depth_greatest_at_ms,in_flight_greatest,in_flight_greatest_at_ms,busy"
+
+
+class Readers(ToolCase):
+    """All that reads what a run prints takes it as if no figures were there."""
+
+    def test_tools_that_read_a_log(self) -> None:
+        for words in (("summary",), ("summary", "--json"), ("summary", "--door"), ("metrics",), ("life", "m-0-2"),
+                      ("picture",)):
+            for log, more in ((LOG + PARTS, ()), (LOG, ("--rest", self.path("rest.out")))):
+                ran = []
+                for figures in ("", FIGURES):
+                    self.write("run.txt", log + (figures if not more else ""))
+                    self.write("rest.out", PARTS + figures)
+                    ran.append(self.run_tool(words[0], "run.txt", *more, *words[1:]))
+                self.assertEqual(ran[0][0], 0, ran[0])
+                self.assertEqual(*ran, (words, more))
+
+    def test_runs_of_a_sweep(self) -> None:
+        """The report is that of the program, or it is counted from the log."""
+        plain, more = ([io.StringIO(LOG + PARTS + figures) for _ in range(2)] for figures in ("", FIGURES))
+        self.assertEqual(runs.report_of(more[0]), runs.report_of(plain[0]))
+        self.assertEqual(*(runs.reported(stream, runs.Counting(0, 60_200)) for stream in (plain[1], more[1])))
+
+    def test_damage(self) -> None:
+        """A line that is cut, or has other fields, is damage here as elsewhere."""
+        for damaged, told in ((FIGURES[:-1], " ends within a line"),
+                              (FIGURES + "figure,a,sent\n", " line 47 is no record of the part figure after a log")):
+            path = self.write("run.txt", LOG + PARTS + damaged)
+            self.assert_fault(self.run_tool("summary", path), f"summary: {path}{told}")
+
+    @needs_program
+    def test_what_the_program_writes(self) -> None:
+        scenario = self.write("s.toml", SCENARIO)
+        ran = []
+        for words in ([], ["--figures"], ["--from", "9000"]):
+            done = subprocess.run([str(PROGRAM), "run", *words, scenario], capture_output=True, text=True, check=True)
+            self.assertEqual("\nfigure,of,name,value\n" in done.stdout, bool(words))
+            self.write("run.txt", done.stdout)
+            ran.append(self.run_tool("summary", "run.txt"))
+        self.assertEqual(ran, [ran[0]] * 3)
+
+
+class ByHand(unittest.TestCase):
+    def test_columns(self) -> None:
+        """Of 62.5 s left is busy for 4.5 s, which is 7.2 %. Nothing consumes d."""
+        figures, counting = Figures(0, 62_499, CONSUMERS), runs.Counting(0, 62_499, runs.Extra(with_figures=True))
+        by_report = runs.report_of(io.StringIO(LOG + PARTS + FIGURES), figures)
+        by_log, _ = runs.reported(io.StringIO(LOG + PARTS + FIGURES), counting, figures) or ([], {})
+        self.assertEqual(by_report, by_log)
+        self.assertEqual([[record[0], *record[-len(COLUMNS):]] for record in by_log],
+                         [["a", "200", "3", "300", "7.2"], ["d", "5220", "0", "0", ""]])
+
+    def test_shares_of_time(self) -> None:
+        """They are rounded down, so that 100 is all the time."""
+        for length, share in ((4500, "100"), (4501, "99.97"), (7000, "64.28"), (45_000_000, "0.01"), (10**9, "0")):
+            figures = Figures(10, 9 + length, CONSUMERS)
+            found = figures.columns_of(csv.reader(io.StringIO(FIGURES)), ["a"])
+            self.assertEqual(found, [["200", "3", "300", share]])
+
+    def test_figures_that_are_not_there(self) -> None:
+        """A run whose figures are cut has no report: each of these lines is needed but the first and the counts."""
+        lines, figures = FIGURES.splitlines(keepends=True), Figures(0, 62_499, CONSUMERS)
+        for place in range(len(lines) + 1):
+            text = LOG + PARTS + "".join(lines[:place])
+            self.assertEqual(runs.report_of(io.StringIO(text), figures) is None, place < len(lines))
+
+    def test_a_table_of_a_figure_whose_name_another_begins(self) -> None:
+        """It is a column of its own in single runs; over several the greatest of in_flight has its name."""
+        self.assertEqual(table_text(["failed", "queue", "in_flight", "in_flight_greatest"], [["", "q", "0", "2"]]),
+                         "queue  in_flight  in_flight_greatest\nq              0                   2\n")
+        self.assertEqual(table_text(["failed", "queue", "runs", "in_flight_mean", "in_flight_greatest",
+                                     "in_flight_greatest_mean"], [["", "q", "2", "0.5", "1", "2"]]),
+                         "             in_flight       in_flight_greatest\n"
+                         "queue  runs  mean  greatest  mean\nq         2   0.5         1     2\n")
+
+
+@needs_program
+class Sweeps(ToolCase):
+    def setUp(self) -> None:
+        super().setUp()
+        self.scenario = self.write("s.toml", SCENARIO)
+
+    def rows(self, *words: str) -> list[list[str]]:
+        status, out, _ = self.run_tool("sweep", self.scenario, *words)
+        self.assertEqual(status, 0)
+        return list(csv.reader(io.StringIO(out)))[1:]
+
+    def test_columns(self) -> None:
+        """Whole; from 2 s on, when two are there, in flight, and slow is busy for 1.5 of 8 s; to 3 s, of which slow is
+        busy for two; and with a copy of quick, which begins with it."""
+        for words, wanted in (((), "2,2,1100,25"), (("--from", "2s"), "2000,2,2000,18.75"),
+                              (("--to", "2999"), "2,2,1100,66.66"), (("--zip", "count.quick=2"), "2,3,1100,25")):
+            rows = self.rows("--vary", "seed=1", *words, "--columns", NAMES)
+            found = {row[-5]: ",".join(row[-4:]) for row in rows}
+            first = 2000 if words[:1] == ("--from",) else 0
+            self.assertEqual(found, {"q": wanted, "idle": f"{first},0,{first},"}, words)
+
+    def test_no_log_is_read_for_them(self) -> None:
+        """It is read for other columns, and where something is cut off at the beginning."""
+        path, asked = self.write("program", f'#!/bin/sh\necho "$*" >> {self.path("asked")}\nexec {PROGRAM} "$@"\n'), []
+        os.chmod(path, 0o700)
+        for words in (NAMES, f"sends,{NAMES}", f"{NAMES},requests", f"{NAMES},door_age_p95", "sends"):
+            for more in ((), ("--from", "2s")):
+                self.rows("--columns", words, *more, "--program", path)
+                with open(self.path("asked"), encoding="utf-8") as file:
+                    asked.append(file.read().splitlines()[-1].partition(" --scripts ")[2].partition(" ")[2])
+        self.assertEqual(asked, ["--figures --from 0 --log /dev/null", "--figures --from 2000"] * 2
+                         + ["--figures --from 0", "--figures --from 2000"] * 2 + ["--log /dev/null", ""])
+
+    def test_requirements(self) -> None:
+        """A share of time is in percent, and a moment is a time."""
+        words = [word for text in ("q.busy<25%", "q.busy>=25", "q.busy < 25.01 %", "q.in_flight_greatest<2", "*.busy<1",
+                                   "q.depth_greatest_at_ms<2ms", "q.in_flight_greatest_at_ms>1s")
+                 for word in ("--require", text)]
+        status, _, err = self.run_tool("sweep", self.scenario, *words)
+        self.assertEqual((status, err.splitlines()[1:]), (1, [f"sweep: {line}" for line in (
+            "q.busy<25% fails with the scenario as it is: it is 25 %",
+            "q.in_flight_greatest<2 fails with the scenario as it is: it is 2",
+            "*.busy<1 of q fails with the scenario as it is: it is 25 %",
+            "q.depth_greatest_at_ms<2ms fails with the scenario as it is: it is 2 ms, 2 ms",
+            "*.busy<1 of idle fails with the scenario as it is: it has no consumer",
+            "requirements that hold: 3 of 8")]))
+        for text, line in (("q.busy<25s", "25s is not a share, as 90%"), ("q.busy<%", "% is not a share, as 90%"),
+                           ("q.in_flight_greatest<9%", "9% is not a number without a unit"),
+                           ("q.depth_greatest_at_ms<9%", "9% is not a number with a unit, as 60s")):
+            self.assert_fault(self.run_tool("sweep", self.scenario, "--require", text), f"sweep: {text}: {line}")
+
+    def test_requirements_of_a_report(self) -> None:
+        words = self.scenario, "--require", "q.busy<25%", "--require", "q.in_flight_greatest=2", "--output", "r.html"
+        self.assertEqual(self.run_tool("report", *words), (1, "", "report: q.busy<25% fails: it is 25 %\n"))
+        self.assertEqual(self.run_tool("report", *words, "--from", "2s"), (0, "", ""))
+
+    def test_over_runs(self) -> None:
+        """A requirement may be one on a share of runs, and numbers are put together as others."""
+        status, out, err = self.run_tool("sweep", self.scenario, "--vary", "seed=1..3", "--spread", "seed", "--columns",
+                                         "busy", "--require", "q.busy<30% in 10%")
+        self.assertEqual((status, out.splitlines()[1]), (0, ",q,3,25,0,25,25,25,0,,"), err)
+        self.assertIn("sweep: q.busy<30% in 10% is shown: 3 of 3 runs", err)
+
+    def test_shares_have_none(self) -> None:
+        words = "--vary", "seed=1", "--share", "1/1", "--results", "d"
+        self.assertEqual(self.run_tool("sweep", self.scenario, *words)[0], 0)
+        for asked in (("--columns", "busy"), ("--require", "q.in_flight_greatest<9")):
+            status, out, err = self.run_tool("sweep", "--collect", "d", *asked)
+            self.assertEqual((status, out), (2, ""))
+            self.assertIn("shares and jobs have the columns of the report alone, and none of door_age_p50, ", err)
+
+    def test_random_scenarios(self) -> None:
+        """The columns are those that the reference makes of the log."""
+        command, are_rich = [str(PROGRAM), "run", "--scripts", "."], 0
+        for seed in range(SCENARIOS):
+            text, first = random_scenario(seed), 0 if seed % 2 else 7_001
+            scenario = parsed(text, "random")
+            end, consumers = scenario["horizon"], consumers_of(scenario)
+            ran = runs.run(command, text, None, figures=Figures(first, end, consumers))
+            done = subprocess.run([*command, "--quiet"], input=text, capture_output=True, text=True, check=True)
+            lines = done.stdout.partition("\nfinal,queue,")[0].splitlines()[1:]
+            rows, stretch = [Fields(*row) for row in csv.reader(lines)], Stretch(first, end + 1)
+            for name, *numbers in ran.records or []:
+                own = [row for row in rows if row.queue == name]
+                found = dict([*peak("depth", depths(own), own, stretch),
+                              *peak("in_flight", flights(own), own, stretch)])
+                times = [busy([row for row in rows if row.agent == agent], stretch)
+                         for agent in consumers.get(name, ())]
+                wanted = [str(found[column]) for column in COLUMNS[:-1]]
+                share = str(10_000 * max(times) // (end + 1 - first)) if times else ""
+                with self.subTest(seed=seed, queue=name):
+                    self.assertEqual(numbers[-len(COLUMNS):-1], wanted)
+                    self.assertEqual(numbers[-1] and f"{100 * float(numbers[-1]):.0f}", share)
+                are_rich += len(times) > 1 and max(times) > 0
+            self.assertEqual(len(ran.records or []), len(names_of(scenario, "queue")), ran.told)
+        self.assertGreater(are_rich, SCENARIOS // 4)
+
+
+if __name__ == "__main__":
+    unittest.main()
