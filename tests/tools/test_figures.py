@@ -40,7 +40,8 @@ figure,third,busy_ms,400
 """
 CONSUMERS = {"a": ["left", "right", "third"]}
 # Three messages wait from 2 ms on. The consumer slow is busy from 1000 to 3500 ms; quick is from 1100 to 1600 ms, and
-# from the next millisecond on, to 2101 ms. So two are in flight at 1100 ms, and q has two from 1600 ms on.
+# from the next millisecond on, to 2101 ms. So two are in flight at 1100 ms, and q has two from 1600 ms on. The queue
+# idle has no consumer, but an actor of another kind.
 SCENARIO = '''version = 1
 horizon = 9999
 [[queue]]
@@ -56,6 +57,14 @@ at,call,body,group,id,delay,receipt,max,wait,timeout,task
 0,send,a,,,,,,,,
 1,send,b,,,,,,,,
 2,send,c,,,,,,,,
+"""
+[[actor]]
+name = "desk"
+kind = "script"
+queue = "idle"
+calls = """
+at,call,body,group,id,delay,receipt,max,wait,timeout,task
+5000,receive,,,,,,1,,,
 """
 [[actor]]
 name = "slow"

@@ -13,6 +13,8 @@ BUSY, OF_ACTOR = "busy", "busy_ms"
 # The columns that are figures of a queue. BUSY is made of a figure of its consumers.
 OF_QUEUE = ("depth_greatest_at_ms", "in_flight_greatest", "in_flight_greatest_at_ms")
 COLUMNS = (*OF_QUEUE, BUSY)
+# The figures that are looked at.
+NAMES = {*OF_QUEUE, OF_ACTOR}
 # The columns that are moments of a run.
 MOMENTS = tuple(column for column in OF_QUEUE if column.endswith("_at_ms"))
 # All the time, in hundredths of a percent.
@@ -33,8 +35,8 @@ class Figures(NamedTuple):
 
     def columns_of(self, records: Iterable[Sequence[str]], names: Iterable[str]) -> list[list[str]] | None:
         """The texts of the columns of each of some queues, by the records behind a report; None if a figure lacks."""
-        found = {(of, name): value for _, of, name, value in (
-            record for record in records if len(record) == len(FIGURE_HEADER))}
+        found = {(record[1], record[2]): record[3] for record in records
+                 if len(record) == len(FIGURE_HEADER) and record[2] in NAMES}
         try:
             return [[*(found[queue, name] for name in OF_QUEUE), self.busy_of(queue, found)] for queue in names]
         except KeyError:
