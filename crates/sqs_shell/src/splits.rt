@@ -3,8 +3,8 @@ ghost use Rattle.std.specs.Prelude.{◌==◌, ◌≡◌, [], IfOk, map, unwrap_o
 ghost use Rattle.std.specs.List.{slice_split};
 ghost use Rattle.sqs_shell.specs.Splits.{map_of, number_of, numbers_of, split_of, stretch_of};
 
-use sqs_command_line::RunLine;
 use sim_report::Stretch;
+use sqs_command_line::RunLine;
 use sqs_rehearsal::Options;
 use std::alloc::{AllocError, Global};
 

@@ -116,8 +116,7 @@ impl Queue {
         ensures counted { OnOk result ((self.old.arrivals < most_count) ⊎ (self.new ≡ self.old)) }
         ensures unchanged { OnErr result (self.new ≡ self.old) }
         ensures at_limit { result ≡ Err Refusal.CountLimit → most_count <
-            (send_in self.old now body group (scope_in self.old.settings.kind group) id).1.arrivals
-            }
+            (send_in self.old now body group (scope_in self.old.settings.kind group) id).1.arrivals }
         ensures refused { IfErr result
             (λ refusal. (refusal ≡ Refusal.CountLimit) ⊎ (refusal ≡ Refusal.Memory)) }
         ensures recent { IsRecent now self.new }
