@@ -161,7 +161,7 @@ class Clusters(DaskCase):
                      ("--vary", "queue.q.visibility_s=30,50000"),
                      ("--vary", "seed=1..5", "--spread", "seed", "--columns", "sends,age_p95"),
                      ("--vary", "seed=1..2", "--columns", "busy"),
-                     ("--vary", "seed=1..2", "--from", "10m", "--columns", "busy,in_flight_greatest")):
+                     ("--vary", "seed=1..2", "--from", "10m", "--columns", "busy,in_flight_max")):
             here = self.run_tool("sweep", *self.words(*more))
             self.assertEqual(self.run_tool("sweep", *self.words(*more), "--cluster", cluster.address), here)
         for folder in cluster.workers:

@@ -13,9 +13,8 @@ from test_runs import random_scenario
 from test_summary import LOG, PARTS
 from tool import PROGRAM, ROOT, ToolCase, needs_program
 from rehearse_tools import runs
-from rehearse_tools.figures import COLUMNS, Figures
+from rehearse_tools.figures import COLUMNS, OF_QUEUE, Figures
 from rehearse_tools.scenarios import consumers_of, names_of, parsed
-from rehearse_tools.tables import table_text
 
 sys.path.insert(0, os.path.join(ROOT, "tests", "reference"))
 from figures import Fields, Stretch, busy, depths, flights, peak  # noqa: E402 (of the folder above)
@@ -83,7 +82,7 @@ service_min_ms = 500
 service_max_ms = 500
 idle_ms = 86400000
 '''
-NAMES = "depth_greatest_at_ms,in_flight_greatest,in_flight_greatest_at_ms,busy"
+NAMES = "depth_max_at_ms,in_flight_max,in_flight_max_at_ms,busy"
 
 
 class Readers(ToolCase):
@@ -150,15 +149,6 @@ class ByHand(unittest.TestCase):
             text = LOG + PARTS + "".join(lines[:place])
             self.assertEqual(runs.report_of(io.StringIO(text), figures) is None, place < len(lines))
 
-    def test_a_table_of_a_figure_whose_name_another_begins(self) -> None:
-        """It is a column of its own in single runs; over several the greatest of in_flight has its name."""
-        self.assertEqual(table_text(["failed", "queue", "in_flight", "in_flight_greatest"], [["", "q", "0", "2"]]),
-                         "queue  in_flight  in_flight_greatest\nq              0                   2\n")
-        self.assertEqual(table_text(["failed", "queue", "runs", "in_flight_mean", "in_flight_greatest",
-                                     "in_flight_greatest_mean"], [["", "q", "2", "0.5", "1", "2"]]),
-                         "             in_flight       in_flight_greatest\n"
-                         "queue  runs  mean  greatest  mean\nq         2   0.5         1     2\n")
-
 
 @needs_program
 class Sweeps(ToolCase):
@@ -195,24 +185,24 @@ class Sweeps(ToolCase):
 
     def test_requirements(self) -> None:
         """A share of time is in percent, and a moment is a time."""
-        words = [word for text in ("q.busy<25%", "q.busy>=25", "q.busy < 25.01 %", "q.in_flight_greatest<2", "*.busy<1",
-                                   "q.depth_greatest_at_ms<2ms", "q.in_flight_greatest_at_ms>1s")
+        words = [word for text in ("q.busy<25%", "q.busy>=25", "q.busy < 25.01 %", "q.in_flight_max<2", "*.busy<1",
+                                   "q.depth_max_at_ms<2ms", "q.in_flight_max_at_ms>1s")
                  for word in ("--require", text)]
         status, _, err = self.run_tool("sweep", self.scenario, *words)
         self.assertEqual((status, err.splitlines()[1:]), (1, [f"sweep: {line}" for line in (
             "q.busy<25% fails with the scenario as it is: it is 25 %",
-            "q.in_flight_greatest<2 fails with the scenario as it is: it is 2",
+            "q.in_flight_max<2 fails with the scenario as it is: it is 2",
             "*.busy<1 of q fails with the scenario as it is: it is 25 %",
-            "q.depth_greatest_at_ms<2ms fails with the scenario as it is: it is 2 ms, 2 ms",
+            "q.depth_max_at_ms<2ms fails with the scenario as it is: it is 2 ms, 2 ms",
             "*.busy<1 of idle fails with the scenario as it is: it has no consumer",
             "requirements that hold: 3 of 8")]))
         for text, line in (("q.busy<25s", "25s is not a share, as 90%"), ("q.busy<%", "% is not a share, as 90%"),
-                           ("q.in_flight_greatest<9%", "9% is not a number without a unit"),
-                           ("q.depth_greatest_at_ms<9%", "9% is not a number with a unit, as 60s")):
+                           ("q.in_flight_max<9%", "9% is not a number without a unit"),
+                           ("q.depth_max_at_ms<9%", "9% is not a number with a unit, as 60s")):
             self.assert_fault(self.run_tool("sweep", self.scenario, "--require", text), f"sweep: {text}: {line}")
 
     def test_requirements_of_a_report(self) -> None:
-        words = self.scenario, "--require", "q.busy<25%", "--require", "q.in_flight_greatest=2", "--output", "r.html"
+        words = self.scenario, "--require", "q.busy<25%", "--require", "q.in_flight_max=2", "--output", "r.html"
         self.assertEqual(self.run_tool("report", *words), (1, "", "report: q.busy<25% fails: it is 25 %\n"))
         self.assertEqual(self.run_tool("report", *words, "--from", "2s"), (0, "", ""))
 
@@ -226,7 +216,7 @@ class Sweeps(ToolCase):
     def test_shares_have_none(self) -> None:
         words = "--vary", "seed=1", "--share", "1/1", "--results", "d"
         self.assertEqual(self.run_tool("sweep", self.scenario, *words)[0], 0)
-        for asked in (("--columns", "busy"), ("--require", "q.in_flight_greatest<9")):
+        for asked in (("--columns", "busy"), ("--require", "q.in_flight_max<9")):
             status, out, err = self.run_tool("sweep", "--collect", "d", *asked)
             self.assertEqual((status, out), (2, ""))
             self.assertIn("shares and jobs have the columns of the report alone, and none of door_age_p50, ", err)
@@ -248,7 +238,7 @@ class Sweeps(ToolCase):
                               *peak("in_flight", flights(own), own, stretch)])
                 times = [busy([row for row in rows if row.agent == agent], stretch)
                          for agent in consumers.get(name, ())]
-                wanted = [str(found[column]) for column in COLUMNS[:-1]]
+                wanted = [str(found[figure]) for figure in OF_QUEUE.values()]
                 share = str(10_000 * max(times) // (end + 1 - first)) if times else ""
                 with self.subTest(seed=seed, queue=name):
                     self.assertEqual(numbers[-len(COLUMNS):-1], wanted)

@@ -10,11 +10,13 @@ from typing import NamedTuple
 from .logs import FIGURE_HEADER
 
 BUSY, OF_ACTOR = "busy", "busy_ms"
-# The columns that are figures of a queue. BUSY is made of a figure of its consumers.
-OF_QUEUE = ("depth_greatest_at_ms", "in_flight_greatest", "in_flight_greatest_at_ms")
+# The columns that are figures of a queue, each with its figure. They are named as those of the report, and end as a
+# spread's do not. BUSY is made of a figure of the queue's consumers.
+OF_QUEUE = {"depth_max_at_ms": "depth_greatest_at_ms", "in_flight_max": "in_flight_greatest",
+            "in_flight_max_at_ms": "in_flight_greatest_at_ms"}
 COLUMNS = (*OF_QUEUE, BUSY)
 # The figures that are looked at.
-NAMES = {*OF_QUEUE, OF_ACTOR}
+NAMES = {*OF_QUEUE.values(), OF_ACTOR}
 # The columns that are moments of a run.
 MOMENTS = tuple(column for column in OF_QUEUE if column.endswith("_at_ms"))
 # All the time, in hundredths of a percent.
@@ -38,7 +40,7 @@ class Figures(NamedTuple):
         found = {(record[1], record[2]): record[3] for record in records
                  if len(record) == len(FIGURE_HEADER) and record[2] in NAMES}
         try:
-            return [[*(found[queue, name] for name in OF_QUEUE), self.busy_of(queue, found)] for queue in names]
+            return [[*(found[queue, name] for name in OF_QUEUE.values()), self.busy_of(queue, found)] for queue in names]
         except KeyError:
             return None
 

@@ -138,8 +138,8 @@ def difference_texts(found: Difference | None, probabilities: Iterator[float]) -
 
 
 def heads_of(name: str) -> tuple[str, str]:
-    """The two lines above a column of a table of runs that were put together: for one of their numbers the column of
-    the report, and what is shown of it."""
+    """The two lines above a column of a table: for runs that were put together the column of the report, and what is
+    shown of it."""
     for column in ALL_COLUMNS:
         of = name.removeprefix(f"{column}_")
         if of != name and of in (*folded_as(column), *AGAINST):
@@ -150,14 +150,14 @@ def heads_of(name: str) -> tuple[str, str]:
 def table_text(header: Sequence[str], rows: Sequence[Row]) -> str:
     """The rows in columns, numbers to the right; columns, and rows of a queue, without any number are left out."""
     failed = header.index("failed")
-    is_folded = header[failed + 2:failed + 3] == ["runs"]
-    first = failed + (3 if is_folded else 2)
-    heads = [heads_of(name) if is_folded else ("", name) for name in header]
+    first = failed + (3 if header[failed + 2:failed + 3] == ["runs"] else 2)
     rows = [row for row in rows if any(row[first:]) or row[failed]]
-    columns = [column for column in zip(heads, *rows) if any(column[1:]) and column[0][1] not in NOT_IN_TABLES]
+    columns = [column for column in zip(header, *rows) if any(column[1:]) and heads_of(column[0])[1]
+               not in NOT_IN_TABLES]
     above, before = "", ""
     lines: list[list[str]] = [[] for _ in range(len(rows) + 1)]
-    for (head, name), *cells in columns:
+    for name, *cells in columns:
+        head, name = heads_of(name)
         if head and head != before:
             above = above.ljust(sum(len(cell) + 2 for cell in lines[0])) + head
         before = head
