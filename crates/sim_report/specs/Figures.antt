@@ -43,7 +43,7 @@ rows_by n rows = filter (λ row. row.agent == n) rows
 abbrev pub overlap : Stretch → ℕ → ℕ → ℕ
 overlap s first last = min last s.until - max first s.from
 
--- the names of what is counted; a row counts once at most
+-- the names of what is counted, by place, where the lines begin with 0, 5, 10, 14 and 19; a row counts once at most
 unfoldable pub count_names : List (List ℕ)
 count_names =
     codes "sent" ∷ codes "sent_again" ∷ codes "came_by_forward" ∷ codes "came_by_redrive" ∷ codes "came_by_move"

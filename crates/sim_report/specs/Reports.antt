@@ -28,6 +28,10 @@ pub record Counts : Type 0 where
   pub queues : List QueueCounts
   pub figures : Option FiguresState
 
+-- a report of no rows of queues with these names, and with these figures
+abbrev pub begun_with : List (List ℕ) → Option FiguresState → Counts
+begun_with names figures = record { queues = queues_running names []; figures = figures }
+
 -- the running figures after these rows, if figures are asked for
 abbrev pub figures_asked : Asked → List Row → Option FiguresState
 figures_asked asked rows = option_map (λ s. figured asked.queues asked.actors s rows) asked.stretch

@@ -2,7 +2,7 @@
 ghost use Rattle.std.specs.Prelude.{◌≡◌, ◌++◌, ℕ, List, [], false, option_map, IfOk, OnOk};
 ghost use Rattle.sim_report.specs.Left.{lefts};
 ghost use Rattle.sim_report.specs.Figured.{figures_after};
-ghost use Rattle.sim_report.specs.Reports.{Asked, OfFigures, OfLeft, OfReport, OfReports, fact_added, figures_asked, running};
+ghost use Rattle.sim_report.specs.Reports.{Asked, OfFigures, OfLeft, OfReport, OfReports, begun_with, fact_added, running};
 ghost use Rattle.sim_records.specs.Writes.{Wrote};
 ghost use Rattle.sqs_message.specs.declared.row.Row.{Row};
 ghost use Rattle.sqs_formats.specs.Comparison.{comparison};
@@ -49,7 +49,7 @@ fn add_to_figures(figures: &mut Option<Figures>, rows: &[Row]) -> Result<(), All
 }
 
 impl Report {
-    /// The report of no rows, of the queues with these names, by number, with figures of no rows if
+    /// The report of no rows, of the queues with these names, by number, with these figures, if
     /// figures are wanted.
     ///
     /// # Errors
@@ -60,8 +60,7 @@ impl Report {
         names: Vec<Text>,
         figures: Option<Figures>,
     ) -> Result<Report, AllocError>
-        ensures { (asked : Asked) → names.items ≡ asked.queues → figures ≡ figures_asked asked []
-            → IfOk result (λ r. r ≡ running asked []) }
+        ensures { IfOk result (λ r. r ≡ begun_with names.items figures) }
     {
         Ok(Report {
             queues: fresh_queues(alloc, names)?,

@@ -80,11 +80,7 @@ fn number<'a>(alloc: Global, name: &'a str, help: &'a str) -> Arg<'a>
     ensures rule { rule_of result ≡ number_rule name.entry.now }
     ensures local { result.global ≡ false }
 {
-    Arg::new(alloc, name)
-        .long(name)
-        .action(ArgAction::Set)
-        .value_parser(clap::value_parser!(u32))
-        .help(help)
+    option(alloc, name, help).value_parser(clap::value_parser!(u32))
 }
 
 // An option with a time of at least 1 ms.
@@ -92,11 +88,7 @@ fn time<'a>(alloc: Global, name: &'a str, help: &'a str) -> Arg<'a>
     ensures rule { rule_of result ≡ time_rule name.entry.now }
     ensures local { result.global ≡ false }
 {
-    Arg::new(alloc, name)
-        .long(name)
-        .action(ArgAction::Set)
-        .value_parser(clap::value_parser!(u64).range(1..))
-        .help(help)
+    option(alloc, name, help).value_parser(clap::value_parser!(u64).range(1..))
 }
 
 // An option with a moment.
@@ -104,11 +96,7 @@ fn moment<'a>(alloc: Global, name: &'a str, help: &'a str) -> Arg<'a>
     ensures rule { rule_of result ≡ moment_rule name.entry.now }
     ensures local { result.global ≡ false }
 {
-    Arg::new(alloc, name)
-        .long(name)
-        .action(ArgAction::Set)
-        .value_parser(clap::value_parser!(u64))
-        .help(help)
+    option(alloc, name, help).value_parser(clap::value_parser!(u64))
 }
 
 // An option without a value.
