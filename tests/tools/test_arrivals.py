@@ -140,6 +140,13 @@ class Arrivals(ToolCase):
         self.assertTrue(all(320 <= count <= 480 for count in days), days)
         self.assertEqual(sum(days), len(times))
 
+    def test_a_last_hour_that_is_cut(self):
+        """Of 90 minutes the second hour has one half: of its 4,000 messages 2,000 are expected, within four deviations,
+        and none at the end or after it."""
+        _, times = self.made("hours", "--numbers", ",".join(["0", "4000"] + 22 * ["0"]), "--duration", "90min")
+        self.assertTrue(all(60 * MINUTE <= at < 90 * MINUTE for at in times))
+        self.assertTrue(1_820 <= len(times) <= 2_180, len(times))
+
     def test_groups_and_ids_of_a_fifo_queue(self):
         records, _ = self.made("bursts", "--size", "3", "--every", "1h", "--over", "1s", "--duration", "1s", "--queue",
                                "q.fifo", "--groups", "2")

@@ -84,6 +84,14 @@ class Decisions(ToolCase):
         status, _, err = self.sweep(*words, "--require", "q.sends<=290 in 90%", "--until", "decided", "--most", "12")
         self.assertIn("after 12 runs 1 of 2 variants are undecided", self.told(err))
 
+    def test_one_that_is_refuted_decides(self) -> None:
+        """What is open of the others then changes nothing, so a variant ends where the refuted one alone ends it."""
+        words = "--vary", "queue.q.visibility_s=2", *SEEDS, "--until", "decided", "--require", "q.sends<=100 in 90%"
+        for more in ((), ("--require", "q.sends<=300 in 99.9%")):
+            status, out, err = self.sweep(*words, *more)
+            self.assertEqual([row[3] for row in csv.reader(out.splitlines()) if row[2] == "q"], ["10"], more)
+            self.assertEqual((status, "q.sends<=300 in 99.9% is undecided" in err), (1, bool(more)), err)
+
     def test_differences(self) -> None:
         """A second of visibility more sends 100 more in each run; the other queue never sends."""
         words = "--vary", "queue.q.visibility_s=2,3,4", *SEEDS

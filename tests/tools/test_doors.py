@@ -108,6 +108,17 @@ class ByHand(ToolCase):
                 self.assertEqual(doors.ages_of("b"), {2_000: 1, 2_999: 1})
                 self.assertEqual(doors.columns("b")["door_age_max"], None if number else 2_999)
 
+    def test_a_forward_that_comes_as_a_repeat(self) -> None:
+        """The second of three is a repeat in b, so the third is that of 9 ms, which is deleted 2,991 ms later."""
+        text = two_forwards(100, 300, 200, 500)
+        text = text.replace("300,a,w,forward", "220,a,w,receive,ok,m-0-2,r-0-2-1,o-0-2\n"
+                            "230,a,w,forward,out,m-0-2,,b\n230,a,w,delete,deleted,m-0-2,r-0-2-1,225\n"
+                            "250,b,w,arrive,repeat,m-1-0,,o-1-0\n300,a,w,forward")
+        text = text.replace("1,a,shop,send,new,m-0-1,,x\n", "5,a,shop,send,new,m-0-2,,x\n9,a,shop,send,new,m-0-1,,x\n")
+        text = text.replace("2,a,w,receive", "10,a,w,receive")
+        doors = doors_of(text)
+        self.assertEqual((doors.open_of("b"), doors.ages_of("b")), ((0, []), {2_000: 1, 2_991: 1}))
+
     def test_doubts_are_kept_over_a_chain(self) -> None:
         """A consumer of b that forwards one message after another to c settles nothing that was open in b."""
         rest = """2000,b,v,forward,out,m-1-0,,c

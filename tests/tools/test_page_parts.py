@@ -161,6 +161,44 @@ class Parts(ToolCase):
         self.assertEqual([line for line, reason in zip(lines, reasons) if len(reason) < 20], [])
         self.assertEqual(sorted(known), sorted({line.split()[2] for line in given}))
 
+    def test_quoted_fields(self) -> None:
+        """Behind a field and its comma begins the next one; a quote within quotes is doubled."""
+        fields = {'"a""b",x': 7, '"",x': 3, '"""",x': 5, "ab,x": 3, ",x": 1, '"a,b",x': 6}
+        told = self.asked(WORKER, "return values[0].map(it => afterField(encoded(it), 0));", list(fields))
+        self.assertEqual(told, list(fields.values()))
+
+    def test_places_over_time(self) -> None:
+        """A message comes at 10 ms and leaves at 95 of 100: in columns of 20 ms it is there half of the first, and three
+        quarters of the last."""
+        told = self.asked(WORKER, """
+            const queue = { times: { whole: [10, 95] }, changes: { whole: [ENTERED, 4 * VISIBLE + NOWHERE] } };
+            return placesOverTime(queue, 0, 100, 5).map(it => [...it.means, it.least[4], it.greatest[4]]);""")
+        self.assertEqual(told, [[0.5, 1, 1, 1, 0.75, 0, 1], 7 * [0], 7 * [0]])
+
+    def test_counts_over_time(self) -> None:
+        """What happens at the very end counts in the last bin, and what is outside in none."""
+        told = self.asked(WORKER, "return [...countsOverTime(values[0], 100, 200, 4)];",
+                          [0, 99, 100, 124, 125, 199, 200, 201])
+        self.assertEqual(told, [2, 1, 0, 2])
+
+    def test_a_room_that_is_too_short(self) -> None:
+        """A run whose answer has no room is run again with a room of just its length, and its answer is shown."""
+        told = self.asked(WORKER, """
+            const memory = new WebAssembly.Memory({ initial: 4 }), rooms = [];
+            let end = 8;
+            const room = size => { rooms.push(Number(size)); const at = end; end += 64; return BigInt(at); };
+            const rehearse = (...words) => {
+              const [at, size, needed] = words.slice(-3).map(Number);
+              new DataView(memory.buffer).setBigUint64(needed, 5n, true);
+              if (size !== 5) return NO_ROOM;
+              new Uint8Array(memory.buffer, at, 5).set(encoded('whole'));
+              return DONE;
+            };
+            WebAssembly.instantiate = async () => ({ exports: { memory, room, rehearse } });
+            const { code, bytes } = await answered('rehearse', ['a'], []);
+            return [code, new TextDecoder().decode(bytes), rooms.includes(Number(ROOM)), rooms.includes(5)];""")
+        self.assertEqual(told, [0, "whole", True, True])
+
     def test_out_of_memory(self) -> None:
         """What browsers say when memory is out is shown as that; other errors are not."""
         said = ("WebAssembly.instantiate(): Out of memory: Cannot allocate Wasm memory for new instance",

@@ -369,6 +369,16 @@ class Dist(WrapperCase):
         self.assertEqual(self.run_it("run", HOME="")[0], 2)
         self.assertEqual(list(pathlib.Path(self.path("other")).rglob("*")), [])
 
+    @unittest.skipUnless(os.geteuid() == 0, "only root can give a folder to another user")
+    def test_a_folder_that_another_user_owns(self):
+        """Nobody else may write it, but its owner may make that so at any time."""
+        self.make_dist()
+        folder = self.path(f"tmp/sqs_rehearse-{os.geteuid()}")
+        os.mkdir(folder, 0o700)
+        os.chown(folder, 65_534, 65_534)
+        self.assertEqual(self.run_it("run", HOME="")[0], 2)
+        self.assertEqual(os.listdir(folder), [])
+
     def test_a_program_that_does_not_run(self):
         self.make_dist("#!/bin/sh\necho libc is missing >&2\nexit 1\n")
         self.assert_refused(["run"], "the program of dist/ does not run here; it needs Linux on x86-64 with glibc 2.34 "

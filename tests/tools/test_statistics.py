@@ -329,6 +329,12 @@ class WarmUp(unittest.TestCase):
         """20 numbers at 100 and 180 that alternate round 0: the batches after the first four have the least error."""
         self.assertEqual(figures.settled_from([100] * 20 + [1, -1] * 90), 20)
 
+    def test_a_cut_at_just_the_half(self) -> None:
+        """Only from there on nothing changes. That half is long enough, and one that is shorter is not."""
+        first = [0] * 5 + [90] * 5
+        self.assertEqual(figures.settled_from(first + [50] * 10), 10)
+        self.assertIsNone(figures.settled_from(first + first + [50] * 10))
+
     def test_nothing_is_left_out_where_nothing_changes(self) -> None:
         self.assertEqual(figures.settled_from([7] * 50), 0)
 

@@ -11,6 +11,7 @@ import unittest
 
 from tool import LIMIT, PROGRAM, ROOT, TOOLS, ToolCase, needs_program, read_whole, wait_for
 from rehearse_tools.console import toml_of
+from rehearse_tools.variants import values_of
 
 COLUMNS = ("sends,repeats,receives,empties,deletes,expiries,redrives,moves,arrivals,OverLimit,MessageNotInflight,"
            "ReceiptHandleIsInvalid,BadTimeout,MissingGroup,MissingDeduplication,BadDelay,TaskRunning,NoTask,depth_max,"
@@ -172,6 +173,12 @@ class Sweep(ToolCase):
         self.assertEqual((status, [" --preview " in job for job in jobs.splitlines()], err), (0, [True, True], ""))
         first = subprocess.run(["sh", "-c", f"{shlex.quote(sys.executable)} {jobs.splitlines()[0]}"])
         self.assertEqual(first.returncode, 0)
+
+    def test_ranges(self):
+        """A range has both its ends; one with a step ends with the last step that is not past its end."""
+        for text, values in (("0..100..10", "0 10 20 30 40 50 60 70 80 90 100"), ("0..99..50", "0 50"), ("1..3", "1 2 3"),
+                             ("7..7", "7"), ("5,1..2,9", "5 1 2 9")):
+            self.assertEqual(values_of(text), values.split(), text)
 
     def test_values_that_are_lists(self):
         words = self.scenario, "--vary", "queue.q.x=[5, 30],[[0, 1], [9, 2]],[],\"[a]\",[b]", "--vary", "seed=1"
