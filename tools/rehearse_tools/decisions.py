@@ -7,6 +7,7 @@ from __future__ import annotations
 from collections.abc import Iterable, Iterator, Mapping, Sequence
 
 from .console import Fault, tell
+from .junit import Case
 from .requirements import Requirement
 from .runs import Ages, columns_in
 from .statistics import Interval, Verdict, share_bounds, share_interval, verdict
@@ -34,7 +35,8 @@ class Requirements:
     """Looks at the rows as they pass, and reports each requirement that fails.
 
     Variants are those without the settings that are spread over. `variants` says for each whether all requirements hold
-    that must hold in each run. `tallies` says in how many runs each requirement of each queue has held.
+    that must hold in each run. `tallies` says in how many runs each requirement of each queue has held. `failures` has
+    the lines of those that fail in a run, and `losses` those of the runs of which nothing is known.
     """
 
     def __init__(self, texts: Iterable[str]) -> None:
@@ -46,6 +48,8 @@ class Requirements:
         self.queues: list[str] = []
         self.variants: dict[str, bool] = {}
         self.tallies: dict[str, dict[tuple[Requirement, str], Tally]] = {}
+        self.failures: dict[tuple[str, str], list[str]] = {}
+        self.losses: dict[str, list[str]] = {}
 
     def check_names(self, names: Iterable[str]) -> None:
         """Makes sure that each is of a queue that is there."""
@@ -75,7 +79,7 @@ class Requirements:
         variant, key = key_of(words, ()) or "the scenario as it is", key_of(words, self.spread)
         failed, queue, *numbers = row[-width - 2:]
         if failed:
-            tell(f"nothing is known of {variant}: {failed}")
+            self.note(self.losses.setdefault(key, []), f"nothing is known of {variant}: {failed}")
             self.variants[key] = False
         for requirement in self.all:
             for name in filter(requirement.is_of, self.queues if failed else [queue]):
@@ -85,9 +89,17 @@ class Requirements:
                 if requirement.share is None and not failed:
                     self.checked, self.failed = self.checked + 1, self.failed + (failure is not None)
                     if failure:
-                        tell(f"{requirement.told_of(queue)} {failure.word} with {variant}: {failure.reason}")
+                        told = requirement.told_of(queue)
+                        self.note(self.failures.setdefault((key, told), []),
+                                  f"{told} {failure.word} with {variant}: {failure.reason}")
                         self.variants[key] = False
         self.variants.setdefault(key, True)
+
+    @staticmethod
+    def note(lines: list[str], line: str) -> None:
+        """Reports a line, and keeps it among others."""
+        tell(line)
+        lines.append(line)
 
     def verdicts(self, key: str) -> Iterator[tuple[str, Tally, Verdict | None]]:
         """For each tally of a variant the requirement with its name, the tally, and the verdict if it is on a share of
@@ -110,6 +122,15 @@ class Requirements:
     def are_met(self, key: str) -> bool:
         """Whether a variant meets all: each run what is required of each, and what is required of a share is shown."""
         return self.variants.get(key, False) and self.words(key) <= {"shown"}
+
+    def cases(self) -> Iterator[Case]:
+        """What came of each requirement of each queue in each variant."""
+        for key in self.variants:
+            for text, tally, found in self.verdicts(key):
+                failures = self.failures.get((key, text), [])
+                if found is not None and found.word != "shown":
+                    failures = [line_of(text, key, tally, found)]
+                yield Case(key or "the scenario as it is", text, failures, self.losses.get(key, []))
 
     def tell_variants(self) -> None:
         """Reports for each variant, if runs are put together, in how many of them each requirement holds."""

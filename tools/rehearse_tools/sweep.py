@@ -3,6 +3,7 @@
     tools/sweep SCENARIO --vary queue.orders.visibility_s=2,5,10 --vary seed=1..20 [--spread seed]
         [--require 'orders.age_p95<60s in 95%' ..] [--columns NAMES] [--table] [--output FILE]
         [--against queue.orders.visibility_s=5 | --against OTHER] [--until 5% | --until decided] [--most N]
+        [--junit FILE.xml]
         [--from TIME] [--to TIME] [--settling FILE.svg] [--window TIME] [--price N] [--preview] [--program P]
         [--scripts DIR] [--jobs N] [--cluster tcp://HOST:8786]
     tools/sweep SCENARIO --least count.worker=1..64 --vary seed=1..200 --spread seed
@@ -11,7 +12,7 @@
     tools/sweep SCENARIO --vary .. --print-jobs DIR [--shares N] [--rest]
     tools/sweep SCENARIO --vary .. --share K/N --results DIR [--mark MARK]
     tools/sweep --collect DIR [--mark MARK] [--spread seed] [--require ..] [--columns NAMES] [--table]
-        [--output FILE]
+        [--output FILE] [--junit FILE.xml]
 
 --vary    a setting and its values. A setting is queue.NAME.KEY, actor.NAME.KEY, task.NAME.KEY, or a key of the top such
           as seed. A NAME with asterisks ties all tables whose names match it: actor.worker-*.batch sets the batch of
@@ -32,6 +33,9 @@
           that is left is printed. Without --vary, but with --require or --columns, the scenario runs as it is. With `in
           95%` after it, which goes with --spread, that share of all runs must meet it: it is shown, refuted or
           undecided with 95 % confidence, and holds if it is shown.
+--junit   writes into a file what came of each requirement in each variant, as the XML of JUnit that CI systems show: it
+          holds, it fails or is undecided (a failure, with its lines), or nothing is known of a run (an error). A sweep
+          that was interrupted or of which something is left has a test more, which is an error.
 --spread  puts the runs together that differ only in this setting, and gives for each number of the report its mean,
           sample standard deviation, least, median and greatest, the half-width of the mean's 95 % interval, of ages
           both ends of it (mean_low and mean_high), and the interval of the median; numbers that a run's report leaves
@@ -106,6 +110,7 @@ from .decisions import Requirements
 from .drawing import FORMATS, bytes_of
 from .further import COST, WINDOW
 from .jobs import Jobs, collect, head_of, print_jobs, run_share, scripts_of
+from .junit import text_of
 from .programs import named_program, program_of
 from .runs import ALL_COLUMNS, COLUMNS, EXTRA_COLUMNS, Extra, columns_in, extra_of
 from .results import paths_of, share_of
@@ -148,6 +153,7 @@ def options_of(words: Sequence[str]) -> argparse.Namespace:
     parser.add_argument("--vary", action="append", default=[], type=given("vary"), metavar="SETTING=VALUES")
     parser.add_argument("--zip", action="append", dest="vary", type=given("zip"), metavar="SETTING=VALUES")
     parser.add_argument("--require", action="append", default=[], metavar="QUEUE.COLUMN<NUMBER")
+    parser.add_argument("--junit", metavar="FILE.xml")
     parser.add_argument("--spread", metavar="SETTING")
     parser.add_argument("--against", metavar="SETTING=VALUE|OTHER")
     parser.add_argument("--until", metavar="PART")
@@ -221,8 +227,11 @@ def check_runs(options: argparse.Namespace) -> None:
             raise Fault(f"--{name} goes with --spread (--help tells the usage)")
     if options.until and options.until != "decided" and not (PERCENT.fullmatch(options.until) and options.columns):
         raise Fault("--until is decided, or a part as 5% of the means of --columns")
-    if options.least and not options.require:
-        raise Fault("--least goes with --require (--help tells the usage)")
+    for name in ("least", "junit"):
+        if getattr(options, name) and not options.require:
+            raise Fault(f"--{name} goes with --require (--help tells the usage)")
+    if options.junit and options.least:
+        raise Fault("--junit says what holds in all variants, and --least tries only some")
     if options.settling and options.least:
         raise Fault("--settling goes with all runs of a variant, and not with --least")
     if options.until and options.least:
@@ -314,13 +323,17 @@ def finish(header: list[str], rows: Iterator[list[str]], settings: Settings, opt
     return write_rows(table, ([row[place] for place in places] for row in rows), options)
 
 
-def status_of(requirements: Requirements, is_interrupted: bool, has_failed: bool) -> int:
-    """The status of the tool, once all is written."""
+def status_of(requirements: Requirements, options: argparse.Namespace, is_interrupted: bool, has_failed: bool,
+              ends: Sequence[str] = ()) -> int:
+    """The status of the tool, once all is written. `ends` has what has not come to its end."""
     if requirements.all:
         requirements.tell()
+    if options.junit:
+        ends = [*(["the sweep was interrupted"] if is_interrupted else []), *ends]
+        write_text(options.junit, text_of(options.scenario or options.collect, requirements.cases(), ends))
     if is_interrupted:
         return 130
-    return 1 if has_failed or requirements.failed else 0
+    return 1 if has_failed or requirements.failed or ends else 0
 
 
 def main_of_collect(options: argparse.Namespace, requirements: Requirements) -> int:
@@ -331,10 +344,12 @@ def main_of_collect(options: argparse.Namespace, requirements: Requirements) -> 
     requirements.check_names(dict.fromkeys(row[len(head.settings) + 1] for row in collection.rows
                                            if not row[len(head.settings)]))
     check_spread(settings, options, requirements)
-    check_output(options.output, paths_of(options.collect))
+    for output in (options.output, options.junit):
+        check_output(output, paths_of(options.collect))
     rows = requirements.looked_at(collection.columns, collection.rows, {})
     has_failed = finish(collection.columns, rows, settings, options)
-    return status_of(requirements, False, has_failed or bool(collection.left or collection.faults))
+    ends = ["variants are left, or files of results are refused"] if collection.left or collection.faults else []
+    return status_of(requirements, options, False, has_failed, ends)
 
 
 def extra_wanted(requirements: Requirements, options: argparse.Namespace) -> Extra:
@@ -381,13 +396,13 @@ def main_of_runs(sweep: Sweep, requirements: Requirements, options: argparse.Nam
     sweep.extra = extra_wanted(requirements, options)
     check_spread(sweep.settings, options, requirements)
     others = [sweep.of(options.against)] if has_other_scenario(options) else []
-    for output in (options.output, options.settling):
+    for output in (options.output, options.settling, options.junit):
         check_output(output, [*options.inputs, *(path for other in others for path in other.inputs())])
     if options.settling:
         check_library("matplotlib", "python3-matplotlib")
     if not options.spread and not options.least:
         has_failed = finish(sweep.header(), rows_of_all(sweep, requirements, options), sweep.settings, options)
-        return status_of(requirements, sweep.interrupted, has_failed)
+        return status_of(requirements, options, sweep.interrupted, has_failed)
     if options.least:
         name = options.least.partition("=")[0]
         check_ascending(name, sweep.settings.values[name])
@@ -407,7 +422,8 @@ def main_of_runs(sweep: Sweep, requirements: Requirements, options: argparse.Nam
         return 130 if sweep.interrupted else 0 if is_reached else 1
     if (sweep.window.first is None or options.settling) and not sweep.interrupted:
         look_at_settling(groups, options.settling)
-    return status_of(requirements, sweep.interrupted, has_failed or not is_reached)
+    ends = [] if is_reached else ["--until is not reached"]
+    return status_of(requirements, options, sweep.interrupted, has_failed, ends)
 
 
 def look_at_settling(groups: Groups, output: str | None) -> None:
