@@ -9,6 +9,8 @@ const SETTLED = 100;
 
 const EXAMPLES = DATA.examples;
 let sides = [], active = null, timer = null, settling = null, linked = 0;
+// The number whose slider moves, the tiles of before it began to, and those that are shown.
+let sliding = null, before = null, tiles = null;
 // Whether the address keeps a link that could not be opened, until the reader changes or opens something.
 let isKept = false;
 
@@ -21,7 +23,10 @@ const log = new LogView();
 function edited(text, how) {
   active.text = text;
   releaseLink();
-  if (how !== 'slid') showNumbers(false);
+  if (how !== 'slid') {
+    showNumbers(false);
+    [sliding, before] = [null, null];
+  }
   tellDifference();
   if (!byId('live').checked) {
     setText(byId('waits'), '');
@@ -42,7 +47,7 @@ function runAlone(...chosen) {
   }
   for (const side of chosen) if (side.isRunning) side.stop('');
   showFault();
-  byId('results').classList.add('stale');
+  setStale(true);
   setText(byId('status'), byId('results').hidden ? 'Not run yet.' : 'Not run yet: below is what came out before.');
   setText(byId('waits'), why);
 }
@@ -55,6 +60,7 @@ function showNumbers(isFresh) {
 
 // A slider has been moved. Of a pair of bounds the other one goes along, so that the first is not above the second.
 function changeNumber(place, node, value) {
+  if (sliding !== place) [sliding, before] = [place, tiles];
   editor.replace(node.from, node.to, String(value));
   const pair = /_min_ms$/.test(place) ? place.replace(/_min_ms$/, '_max_ms') : place.replace(/_max_ms$/, '_min_ms');
   if (pair !== place) {
@@ -113,12 +119,18 @@ function changed(side) {
   byId('stop').disabled = !sides.some(it => it.isRunning);
   if (side.isRunning) {
     setText(byId('waits'), '');
+    setStale(true);
     tickWhileRunning();
     return;
   }
   if (side === active) showFault();
   if (sides.some(it => it.isRunning)) return;
   showAll();
+}
+
+// Greys what is shown, if it is not what comes out of the text.
+function setStale(isStale) {
+  for (const id of ['results', 'answer', 'tiles']) byId(id).classList.toggle('stale', isStale);
 }
 
 function tickWhileRunning() {
@@ -155,7 +167,7 @@ function showFault() {
 async function showAll() {
   const done = sides.filter(side => side.isDone), refused = sides.filter(side => !side.isDone);
   const isCurrent = refused.length === 0;
-  byId('results').classList.toggle('stale', !isCurrent);
+  setStale(!isCurrent);
   setText(byId('status'), statusOf(refused));
   if (!isCurrent) return;
   const loss = lossOf(done);
@@ -163,6 +175,7 @@ async function showAll() {
   setText(byId('loss'), loss && loss[0].toUpperCase() + loss.slice(1));
   byId('results').hidden = false;
   clearTimeout(settling);
+  tiles = showAnswer(done, before);
   showTables(done);
   byId('differences').hidden = done.length < 2;
   await pictures.show(done);
@@ -241,6 +254,7 @@ function put(texts, files) {
   sides = texts.map((text, i) => Object.assign(new Side('AB'[i], changed), { text, files }));
   edit(sides.at(-1));
   pictures.zoom = null;
+  [sliding, before] = [null, null];
   tellFiles();
 }
 
@@ -342,13 +356,30 @@ function keep(name) {
   else runAlone(kept);
 }
 
-async function start() {
+// The examples by the questions that they answer: as a list, and as cards with a button for each.
+function showExamples() {
   const groups = new Map();
-  for (const [i, { folder, title }] of EXAMPLES.entries()) {
-    if (!groups.has(folder)) groups.set(folder, element('optgroup', { label: folder || 'to begin with' }));
-    groups.get(folder).append(element('option', { value: i, textContent: title }));
+  for (const [number, example] of EXAMPLES.entries()) {
+    if (!groups.has(example.question)) groups.set(example.question, []);
+    groups.get(example.question).push({ number, ...example });
   }
-  byId('example').append(...groups.values());
+  const choose = number => {
+    byId('example').value = String(number);
+    byId('open').click();
+  };
+  for (const [question, examples] of groups) {
+    byId('example').append(element('optgroup', { label: question }, ...examples.map(({ number, answer }) =>
+      element('option', { value: number, textContent: answer }))));
+    byId('cards').append(element('div', { className: 'question' }, element('strong', { textContent: question }),
+      ...examples.map(({ number, name, answer }) => element('button', { type: 'button', textContent: titleOf(name),
+        title: answer, 'aria-label': `${question} ${answer}`, onclick: () => choose(number) }))));
+  }
+}
+
+const titleOf = name => name.replace(/[.]toml$/, '').replaceAll('_', ' ');
+
+async function start() {
+  showExamples();
   const first = EXAMPLES.findIndex(({ name }) => name === DATA.first);
   byId('example').value = String(first);
   if (!await openLink()) open([EXAMPLES[first].text]);

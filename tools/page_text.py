@@ -18,9 +18,10 @@ from rehearse_tools.scenarios import parsed
 PARTS = os.path.join(TOP, "page")
 # The scripts of the worker and of the page, in the order in which they need one another.
 WORKER = ("units", "log", "queue", "run", "overtime", "worker")
-PAGE = ("units", "dom", "scenario", "faults", "side", "link", "editor", "numbers", "pictures", "tables", "log_view",
-        "app")
+PAGE = ("units", "dom", "scenario", "faults", "side", "link", "editor", "numbers", "pictures", "tables",
+        "answer", "log_view", "app")
 FIRST = "dead_letters.toml"
+TO_BEGIN = "What is a scenario?"
 MODULE = re.compile(rb'<script type="text/plain" id="module">([A-Za-z0-9+/=]*)</script>')
 MARK = re.compile("@([A-Z]+)@")
 # What the page may do: its own script and style, compiled code, and a worker of its own text. Nothing is loaded.
@@ -42,16 +43,26 @@ def module_in(path: str, page: bytes) -> bytes:
 
 
 def examples() -> list[dict[str, str]]:
-    """The scenarios in examples/ whose version the module reads, each with its folder, its title and its text."""
+    """The scenarios in examples/ whose version the module reads, each with its folder, the question that this folder's
+    README asks, what it answers by its own first line, and its text. Those of no folder belong to the first question.
+    """
     found = []
     for place, folders, names in os.walk(os.path.join(TOP, "examples")):
         folders.sort()
         folder = os.path.relpath(place, os.path.join(TOP, "examples"))
+        readme = os.path.join(place, "README.md")
+        question = first_line(read_text(readme)) if os.path.exists(readme) else TO_BEGIN
         for name in sorted(name for name in names if name.endswith(".toml")):
-            title, text = name.removesuffix(".toml").replace("_", " "), read_text(os.path.join(place, name))
+            text = read_text(os.path.join(place, name))
             if parsed(text, name).get("version") != PREVIEW:
-                found.append({"folder": "" if folder == "." else folder, "name": name, "title": title, "text": text})
+                found.append({"folder": "" if folder == "." else folder, "name": name, "question": question,
+                              "answer": first_line(text).removeprefix(f"{question} "), "text": text})
     return found
+
+
+def first_line(text: str) -> str:
+    """What the heading or the comment says with which a text begins."""
+    return text.partition("\n")[0].removeprefix("#").strip()
 
 
 def abouts() -> dict[str, dict[str, str]]:

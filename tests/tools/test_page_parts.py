@@ -15,6 +15,7 @@ from rehearse_tools.programs import TOP
 
 PAGE = ("units", "dom", "scenario", "faults", "side", "link", "editor")
 WORKER = ("units", "log", "queue", "run", "overtime", "worker")
+ANSWER = ("units", "dom", "tables", "answer")
 # Refusals that the module does not give: it splits no run, starts no thread, and writes to memory alone.
 NOT_OF_THE_PAGE = ("WindowTooLong", "BadMap", "BadWorkers", "NoWorker", "Write")
 POLLS = """version = 1
@@ -198,6 +199,38 @@ class Parts(ToolCase):
             const { code, bytes } = await answered('rehearse', ['a'], []);
             return [code, new TextDecoder().decode(bytes), rooms.includes(Number(ROOM)), rooms.includes(5)];""")
         self.assertEqual(told, [0, "whole", True, True])
+
+    def values(self, queue: str, **numbers: Any) -> dict[str, Any]:
+        """The numbers of a queue that the answer is made of."""
+        return {"queue": queue, "came_in": 0, "sent": 0, "came_by_forward": 0, "deleted": 0, "dead_lettered": 0,
+                "handled_more_than_once": 0, "moved_away": 0, "lost_by_expiry": 0, "left": 0, "age_p95_ms": None,
+                "depth_greatest": 0, "depth_greatest_at_ms": None, "dead_lettered_to": [], **numbers}
+
+    def test_the_answer(self) -> None:
+        """A queue with its dead-letter queue is told by itself, and a chain as a whole with its slowest queue."""
+        orders = self.values("orders", came_in=42, sent=40, deleted=39, dead_lettered=2, handled_more_than_once=5, left=1,
+                             age_p95_ms=10_227, depth_greatest=7, depth_greatest_at_ms=61_000, dead_lettered_to=["failed"])
+        failed = self.values("failed", came_in=2, left=2, depth_greatest=9, depth_greatest_at_ms=3, age_p95_ms=99_999)
+        mail = self.values("mail", came_in=39, came_by_forward=39, deleted=39, age_p95_ms=11_000, lost_by_expiry=1,
+                           depth_greatest=7, depth_greatest_at_ms=5)
+        runs = ([orders, failed], [orders, failed, mail], [self.values("q")])
+        told = self.asked(ANSWER, """
+            return values[0].map(values => ({ values, last: 598123 })).map(run => [sentenceOf(run), tilesOf(run)
+              .map(({ label, number, written, note }) => [label, number === null ? null : written(number), note])]);""",
+                          runs)
+        self.assertEqual([sentence for sentence, _ in told], [
+            "In 9 min 58 s 42 messages came into orders: 39 were deleted, 2 were dead-lettered to failed and 1 is left at "
+            "the end. 95 of 100 took at most 10.2 s.",
+            "In 9 min 58 s 40 messages were sent to 2 queues: 2 were dead-lettered to failed, 1 was lost by expiry and 1 is "
+            "left at the end. 95 of 100 took at most 11.0 s in mail, the slowest.",
+            "In 9 min 58 s no message came in."])
+        self.assertEqual([tiles for _, tiles in told], [
+            [["dead letters", "2", "in failed"], ["age at 95 %", "10.2 s", ""], ["handled twice or more", "5", ""],
+             ["greatest backlog", "7", "at 1 min 1 s"], ["left at the end", "1", "in orders"]],
+            [["dead letters", "2", "in failed"], ["age at 95 %", "11.0 s", "in mail"], ["handled twice or more", "5", ""],
+             ["greatest backlog", "7", "in orders at 1 min 1 s"], ["left at the end", "1", "in orders"]],
+            [["dead letters", "0", ""], ["age at 95 %", None, ""], ["handled twice or more", "0", ""],
+             ["greatest backlog", "0", ""], ["left at the end", "0", ""]]])
 
     def test_out_of_memory(self) -> None:
         """What browsers say when memory is out is shown as that; other errors are not."""

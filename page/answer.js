@@ -1,0 +1,77 @@
+// The answer on top of the results: a sentence on what came out, and a tile for each number that people look at first.
+// All are of the numbers that the tables show. The page has this file.
+
+const sumOf = (queues, key) => queues.reduce((all, queue) => all + queue[key], 0);
+
+// The queue whose number is greatest, the first of several; undefined if none has one.
+const greatestBy = (queues, key) => queues.filter(queue => queue[key] !== null)
+  .reduce((most, queue) => most && most[key] >= queue[key] ? most : queue, undefined);
+
+// The queues that others send their dead letters to, by their names.
+const deadLetterQueues = values => new Set(values.flatMap(queue => queue.dead_lettered_to));
+
+// The queues that a reader asks about: all but those that only dead letters come to, or all if there is no other.
+function mainQueues(values) {
+  const targets = deadLetterQueues(values);
+  const others = values.filter(queue => !targets.has(queue.queue) || queue.sent || queue.came_by_forward);
+  return others.length ? others : values;
+}
+
+const inQueues = names => names.length ? `in ${named(names)}` : '';
+
+// The tiles of a run: what each says, its number (null if there is none), how it is written, and a note.
+function tilesOf({ values }) {
+  const queues = mainQueues(values), slowest = greatestBy(queues, 'age_p95_ms');
+  const deepest = greatestBy(queues, 'depth_greatest');
+  const noted = queue => queues.length > 1 && queue ? `in ${queue.queue}` : '';
+  return [
+    { label: 'dead letters', number: sumOf(values, 'dead_lettered'), written: grouped,
+      note: inQueues([...deadLetterQueues(values)].sort()) },
+    { label: 'age at 95 %', number: slowest ? slowest.age_p95_ms : null, written: duration, note: noted(slowest) },
+    { label: 'handled twice or more', number: sumOf(values, 'handled_more_than_once'), written: grouped, note: '' },
+    { label: 'greatest backlog', number: deepest?.depth_greatest ?? 0, written: grouped,
+      note: deepest?.depth_greatest ? `${noted(deepest)} at ${duration(deepest.depth_greatest_at_ms)}`.trim() : '' },
+    { label: 'left at the end', number: sumOf(queues, 'left'), written: grouped,
+      note: inQueues(queues.filter(queue => queue.left).map(queue => queue.queue)) }];
+}
+
+const joined = parts => parts.length < 2 ? parts.join('') : `${parts.slice(0, -1).join(', ')} and ${parts.at(-1)}`;
+
+// What came out, in a sentence or two: of the one queue that is asked about, or of all of them together.
+function sentenceOf({ values, last }) {
+  const queues = mainQueues(values), only = queues.length === 1 ? queues[0] : null;
+  const came = only ? only.came_in : sumOf(queues, 'sent'), slowest = greatestBy(queues, 'age_p95_ms');
+  if (!came) return `In ${duration(last ?? 0)} no message came in.`;
+  const targets = [...deadLetterQueues(values)].sort(), dead = sumOf(values, 'dead_lettered');
+  const parts = [only ? [only.deleted, 'deleted'] : [0, ''], [dead, `dead-lettered to ${named(targets)}`],
+    [only?.moved_away ?? 0, 'moved away by a task'], [sumOf(queues, 'lost_by_expiry'), 'lost by expiry'],
+    [sumOf(queues, 'left'), 'left at the end']].filter(([number]) => number)
+    .map(([number, what]) => `${grouped(number)} ${number === 1 ? 'was' : 'were'} ${what}`.replace('were left', 'are left')
+      .replace('was left', 'is left'));
+  const begin = only ? `${several(came, 'message')} came into ${only.queue}`
+    : `${several(came, 'message')} ${came === 1 ? 'was' : 'were'} sent to ${grouped(queues.length)} queues`;
+  const ages = slowest ? ` 95 of 100 took at most ${duration(slowest.age_p95_ms)}${only ? '' : ` in ${slowest.queue}, `
+    + 'the slowest'}.` : '';
+  return `In ${duration(last ?? 0)} ${begin}${parts.length ? `: ${joined(parts)}` : ''}.${ages}`;
+}
+
+// The tile of a number, with what it was before or in the other variant. Less is better in each.
+function tileOf({ label, number, written, note }, before) {
+  const text = value => value === null || value === undefined ? 'none' : written(value);
+  const isOther = before && text(before.number) !== text(number);
+  const sign = !isOther || before.number === null || number === null ? ''
+    : number < before.number ? 'better' : 'worse';
+  return element('div', { className: `tile ${sign}` }, element('span', { className: 'label', textContent: label }),
+    element('strong', { textContent: text(number) }),
+    element('span', { className: 'was', textContent: !isOther ? '' : `${{ better: '↓ ', worse: '↑ ' }[sign] ?? ''}from `
+      + text(before.number) }), element('span', { className: 'of', textContent: note }));
+}
+
+// Shows the answer of one variant, with what its tiles were before a slider moved, or of two: from A to B.
+function showAnswer(sides, before) {
+  const shown = sides.at(-1).result, tiles = tilesOf(shown);
+  const from = sides.length > 1 ? tilesOf(sides[0].result) : before;
+  setText(byId('answer'), `${sides.length > 1 ? `${sides.at(-1).name}: ` : ''}${sentenceOf(shown)}`);
+  byId('tiles').replaceChildren(...tiles.map((tile, i) => tileOf(tile, from?.[i])));
+  return tiles;
+}
