@@ -28,7 +28,7 @@ function tilesOf({ values }) {
     { label: 'dead letters', number: sumOf(values, 'dead_lettered'), written: grouped,
       note: inQueues([...deadLetterQueues(values)].sort()) },
     { label: 'age at 95 %', number: slowest ? slowest.age_p95_ms : null, written: duration, note: noted(slowest) },
-    { label: 'handled twice or more', number: sumOf(values, 'handled_more_than_once'), written: grouped, note: '' },
+    { label: 'handled again', number: sumOf(values, 'handled_more_than_once'), written: grouped, note: '' },
     { label: 'greatest backlog', number: deepest?.depth_greatest ?? 0, written: grouped,
       note: deepest?.depth_greatest ? `${noted(deepest)} at ${duration(deepest.depth_greatest_at_ms)}`.trim() : '' },
     { label: 'left at the end', number: sumOf(queues, 'left'), written: grouped,
@@ -41,7 +41,7 @@ const joined = parts => parts.length < 2 ? parts.join('') : `${parts.slice(0, -1
 function sentenceOf({ values, last }) {
   const queues = mainQueues(values), only = queues.length === 1 ? queues[0] : null;
   const came = only ? only.came_in : sumOf(queues, 'sent'), slowest = greatestBy(queues, 'age_p95_ms');
-  if (!came) return `In ${duration(last ?? 0)} no message came in.`;
+  if (!came) return `In ${duration(last ?? 0)}, no message came in.`;
   const targets = [...deadLetterQueues(values)].sort(), dead = sumOf(values, 'dead_lettered');
   const parts = [only ? [only.deleted, 'deleted'] : [0, ''], [dead, `dead-lettered to ${named(targets)}`],
     [only?.moved_away ?? 0, 'moved away by a task'], [sumOf(queues, 'lost_by_expiry'), 'lost by expiry'],
@@ -52,7 +52,7 @@ function sentenceOf({ values, last }) {
     : `${several(came, 'message')} ${came === 1 ? 'was' : 'were'} sent to ${grouped(queues.length)} queues`;
   const ages = slowest ? ` 95 of 100 took at most ${duration(slowest.age_p95_ms)}${only ? '' : ` in ${slowest.queue}, `
     + 'the slowest'}.` : '';
-  return `In ${duration(last ?? 0)} ${begin}${parts.length ? `: ${joined(parts)}` : ''}.${ages}`;
+  return `In ${duration(last ?? 0)}, ${begin}${parts.length ? `: ${joined(parts)}` : ''}.${ages}`;
 }
 
 // The tile of a number, with what it was before or in the other variant. Less is better in each.

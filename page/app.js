@@ -363,8 +363,12 @@ function showExamples() {
     if (!groups.has(example.question)) groups.set(example.question, []);
     groups.get(example.question).push({ number, ...example });
   }
+  // on a narrow screen the cards would hide what comes out
+  const isNarrow = matchMedia('(max-width: 1199px)').matches;
+  byId('questions').open = !isNarrow;
   const choose = number => {
     byId('example').value = String(number);
+    byId('questions').open &&= !isNarrow;
     byId('open').click();
   };
   for (const [question, examples] of groups) {

@@ -22,6 +22,7 @@ PAGE = ("units", "dom", "scenario", "faults", "side", "link", "editor", "numbers
         "answer", "log_view", "app")
 FIRST = "dead_letters.toml"
 TO_BEGIN = "What is a scenario?"
+QUESTION = re.compile(r"\]\(examples/([a-z_]+)/README[.]md\)")
 MODULE = re.compile(rb'<script type="text/plain" id="module">([A-Za-z0-9+/=]*)</script>')
 MARK = re.compile("@([A-Z]+)@")
 # What the page may do: its own script and style, compiled code, and a worker of its own text. Nothing is loaded.
@@ -44,18 +45,17 @@ def module_in(path: str, page: bytes) -> bytes:
 
 def examples() -> list[dict[str, str]]:
     """The scenarios in examples/ whose version the module reads, each with its folder, the question that this folder's
-    README asks, what it answers by its own first line, and its text. Those of no folder belong to the first question.
+    README asks, what it answers by its own first line, and its text. Those of no folder come first, and the others in
+    the order of the questions in the README of the whole.
     """
     found = []
-    for place, folders, names in os.walk(os.path.join(TOP, "examples")):
-        folders.sort()
-        folder = os.path.relpath(place, os.path.join(TOP, "examples"))
-        readme = os.path.join(place, "README.md")
-        question = first_line(read_text(readme)) if os.path.exists(readme) else TO_BEGIN
-        for name in sorted(name for name in names if name.endswith(".toml")):
+    for folder in ("", *QUESTION.findall(read_text(os.path.join(TOP, "README.md")))):
+        place = os.path.join(TOP, "examples", folder)
+        question = first_line(read_text(os.path.join(place, "README.md"))) if folder else TO_BEGIN
+        for name in sorted(name for name in os.listdir(place) if name.endswith(".toml")):
             text = read_text(os.path.join(place, name))
             if parsed(text, name).get("version") != PREVIEW:
-                found.append({"folder": "" if folder == "." else folder, "name": name, "question": question,
+                found.append({"folder": folder, "name": name, "question": question,
                               "answer": first_line(text).removeprefix(f"{question} "), "text": text})
     return found
 

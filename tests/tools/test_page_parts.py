@@ -219,17 +219,17 @@ class Parts(ToolCase):
               .map(({ label, number, written, note }) => [label, number === null ? null : written(number), note])]);""",
                           runs)
         self.assertEqual([sentence for sentence, _ in told], [
-            "In 9 min 58 s 42 messages came into orders: 39 were deleted, 2 were dead-lettered to failed and 1 is left at "
+            "In 9 min 58 s, 42 messages came into orders: 39 were deleted, 2 were dead-lettered to failed and 1 is left at "
             "the end. 95 of 100 took at most 10.2 s.",
-            "In 9 min 58 s 40 messages were sent to 2 queues: 2 were dead-lettered to failed, 1 was lost by expiry and 1 is "
+            "In 9 min 58 s, 40 messages were sent to 2 queues: 2 were dead-lettered to failed, 1 was lost by expiry and 1 is "
             "left at the end. 95 of 100 took at most 11.0 s in mail, the slowest.",
-            "In 9 min 58 s no message came in."])
+            "In 9 min 58 s, no message came in."])
         self.assertEqual([tiles for _, tiles in told], [
-            [["dead letters", "2", "in failed"], ["age at 95 %", "10.2 s", ""], ["handled twice or more", "5", ""],
+            [["dead letters", "2", "in failed"], ["age at 95 %", "10.2 s", ""], ["handled again", "5", ""],
              ["greatest backlog", "7", "at 1 min 1 s"], ["left at the end", "1", "in orders"]],
-            [["dead letters", "2", "in failed"], ["age at 95 %", "11.0 s", "in mail"], ["handled twice or more", "5", ""],
+            [["dead letters", "2", "in failed"], ["age at 95 %", "11.0 s", "in mail"], ["handled again", "5", ""],
              ["greatest backlog", "7", "in orders at 1 min 1 s"], ["left at the end", "1", "in orders"]],
-            [["dead letters", "0", ""], ["age at 95 %", None, ""], ["handled twice or more", "0", ""],
+            [["dead letters", "0", ""], ["age at 95 %", None, ""], ["handled again", "0", ""],
              ["greatest backlog", "0", ""], ["left at the end", "0", ""]]])
 
     def test_out_of_memory(self) -> None:
