@@ -1,17 +1,19 @@
 #!/usr/bin/env python3
 """Turns stored cases into lemmas that the checker computes over the definitions.
 
-    tools/compute_cases.py OUT.antt [--only WORD] [--most ROWS] FOLDER..
+    tools/compute_cases.py OUT.antt [--only WORD] [--but NAME] [--most ROWS] FOLDER..
 
 A case is a scenario NAME.toml with what the program prints for it: NAME.out and NAME.err (a missing
 one is empty) and its status in NAME.status. For a case that runs, the lemma says that the scenario
 read from the very bytes of NAME.toml has a one-list run whose log, finals and report are the CSV
 records of NAME.out, after which nothing is due by the horizon and every accepted message is in
 exactly one place. For a case that is refused, it says that the line of the first fault is NAME.err.
+In a folder whose name ends with -3 texts of version 3 are read, too.
 
 Write OUT.antt into a crate that uses the definitions (crates/sqs_examples/proofs, with a line in
 its Lib.antt) and run `rt check` there: a case that the definitions do not meet is an error.
---only takes the cases whose name has that word; --most leaves out those with more rows of log.
+--only takes the cases whose name has that word, --but leaves out the one of a name, and --most
+those with more rows of log.
 
 Each MD5 in the output is given by the body that has it, so that the checker need not compute it.
 """
@@ -27,12 +29,15 @@ from collections.abc import Iterable, Mapping, Sequence
 from rehearse_tools.console import Fault, Parser, check_output, ended, print_text, read_bytes, toml_of, write_text
 
 OPEN = ("reading_on_literals running_on_literals columns_of")
+# A handling may make no row, as a wake at which an actor of version 3 only stops. A run that has ended stays as it is.
+MORE_HANDLINGS = 20
+VERSION_3 = "shown_upto 3"
 
 HEAD = """-- Scenarios with their right output, computed over the definitions. Made by tools/compute_cases.py.
 use Rattle.std.proofs.Common.{◌≡◌, ℕ, true, List, [], ◌∷◌, ◌++◌, codes, refl}
 use Rattle.sqs_formats.specs.Report.{columns_of}
 use Rattle.sqs_formats.proofs.OnLiterals.{reading_on_literals}
-use Rattle.sqs_examples.proofs.Shown.{running_on_literals, digest, ran, refused, shown}
+use Rattle.sqs_examples.proofs.Shown.{running_on_literals, digest, ran, refused, SHOWN}
 """
 
 
@@ -91,12 +96,18 @@ def listed(items: Iterable[str]) -> str:
     return "(" + " ∷ ".join(list(items) + ["[]"]) + ")"
 
 
-def ran(name: str, text: bytes, out: bytes) -> tuple[int, str]:
+def ran(name: str, shown: str, text: bytes, out: bytes) -> tuple[int, str]:
     known = bodies(text)
     records = list(csv.reader(io.StringIO(out.decode("utf-8"), newline="")))
     rows = next(i for i, r in enumerate(records) if r[0] == "final") - 1
     lines = " ∷\n    ".join(listed(field(f, known) for f in r) for r in records)
-    return rows, "%s : shown %d [] %s\n    ≡ ran (%s ∷ [])\n" % (name, rows, quoted(text), lines)
+    handlings = rows + (MORE_HANDLINGS if shown == VERSION_3 else 0)
+    return rows, "%s : %s %d [] %s\n    ≡ ran (%s ∷ [])\n" % (name, shown, handlings, quoted(text), lines)
+
+
+def shown_in(folder: str) -> str:
+    """What shows a case of a folder: with texts of version 3, or with those of released versions alone."""
+    return VERSION_3 if os.path.basename(folder.rstrip("/")).endswith("-3") else "shown"
 
 
 def stored(path: str, may_lack: bool = True) -> bytes:
@@ -107,26 +118,27 @@ def stored(path: str, may_lack: bool = True) -> bytes:
 def lemma(path: str, number: int, most: int) -> str | None:
     base = path[:-len(".toml")]
     name = "case_%s_%s" % (number, os.path.basename(base).replace("-", "_"))
-    text = stored(path, may_lack=False)
+    text, shown = stored(path, may_lack=False), shown_in(os.path.dirname(path))
     if stored(base + ".status").strip() == b"0":
         try:
-            rows, claim = ran(name, text, stored(base + ".out", may_lack=False))
+            rows, claim = ran(name, shown, text, stored(base + ".out", may_lack=False))
         except (ValueError, KeyError, TypeError, AttributeError, StopIteration):
             raise Fault("%s.out is not the output of %s" % (base, path)) from None
         if rows > most:
             return None
     else:
-        claim = "%s : shown 0 [] %s\n    ≡ refused %s\n" % (name, quoted(text), quoted(stored(base + ".err")))
+        claim = "%s : %s 0 [] %s\n    ≡ refused %s\n" % (name, shown, quoted(text), quoted(stored(base + ".err")))
     return claim + "unfolding %s\n%s = refl\n" % (OPEN, name)
 
 
-def cases_in(folder: str, only: str) -> list[str]:
-    """The paths of the scenarios of a folder."""
+def cases_in(folder: str, only: str, but: str) -> list[str]:
+    """The paths of the scenarios of a folder, but for the one of a name."""
     try:
         names = sorted(os.listdir(folder))
     except OSError as error:
         raise Fault("cannot read %s: %s" % (folder, error.strerror)) from None
-    return [os.path.join(folder, name) for name in names if name.endswith(".toml") and only in name]
+    return [os.path.join(folder, name) for name in names if name.endswith(".toml") and only in name
+            and name != f"{but}.toml"]
 
 
 def main(words: Sequence[str]) -> int:
@@ -134,17 +146,19 @@ def main(words: Sequence[str]) -> int:
     parser.add_argument("out", metavar="OUT.antt")
     parser.add_argument("folders", nargs="+", metavar="FOLDER")
     parser.add_argument("--only", default="", metavar="WORD")
+    parser.add_argument("--but", default="", metavar="NAME")
     parser.add_argument("--most", type=int, default=10**9, metavar="ROWS")
     options = parser.parse_args(words)
     check_output(options.out)
     lemmas = []
     for number, folder in enumerate(options.folders):
-        for path in cases_in(folder, options.only):
+        for path in cases_in(folder, options.only, options.but):
             made = lemma(path, number, options.most)
             if made is not None:
                 place = os.path.basename(folder.rstrip("/")), os.path.basename(path)
                 lemmas.append("-- %s/%s\n%s" % (*place, made))
-    write_text(options.out, HEAD + "\n" + "\n".join(lemmas))
+    used = sorted({shown_in(folder).split()[0] for folder in options.folders})
+    write_text(options.out, HEAD.replace("SHOWN", ", ".join(used)) + "\n" + "\n".join(lemmas))
     print_text("%d lemmas in %s\n" % (len(lemmas), options.out))
     return 0
 

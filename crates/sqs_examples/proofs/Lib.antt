@@ -5,3 +5,5 @@ pub mod ByHand
 pub mod Faults
 pub mod Vectors
 pub mod Texts
+pub mod Version3
+pub mod Faults3

@@ -22,7 +22,7 @@ use Rattle.sqs_model.specs.Finals.{finals_of}
 use Rattle.sqs_model.specs.Accounts.{origin_in, is_first, places}
 use Rattle.sqs_formats.specs.declared.faults.ScenarioFault.{ScenarioFault}
 use Rattle.sqs_formats.specs.Actors.{Files}
-use Rattle.sqs_formats.specs.Scenario.{scenario_of}
+use Rattle.sqs_formats.specs.Scenario.{released, scenario_upto}
 use Rattle.sqs_formats.specs.Output.{output_records, fault_line}
 
 -- what a lemma opens to compute a run, but for MD5
@@ -65,6 +65,10 @@ abbrev pub shown_when : ℕ → Result Scenario ScenarioFault → Shown
 shown_when n (Err f) = refused (fault_line f)
 shown_when n (Ok s) = shown_run s (after s.horizon n (opening s))
 
--- what a text leads to in so many handlings
+-- what a text leads to in so many handlings, of which versions up to the newest one are read
+abbrev pub shown_upto : ℕ → ℕ → Files → List ℕ → Shown
+shown_upto newest n files text = shown_when n (scenario_upto newest files text)
+
+-- what a text of a released version leads to
 abbrev pub shown : ℕ → Files → List ℕ → Shown
-shown n files text = shown_when n (scenario_of files text)
+shown = shown_upto released

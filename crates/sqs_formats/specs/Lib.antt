@@ -16,4 +16,5 @@ pub mod Finals
 pub mod Report
 pub mod Comparison
 pub mod Output
+pub mod Versions
 pub mod Parts

@@ -1,6 +1,6 @@
 //! The definitions of the texts. Scenario and scripts are read; log, finals, report and comparison
 //! are written. The definitions are in `specs/`. The code has the types of the faults of a text,
-//! and a law.
+//! and two laws.
 #![tactic(auto)]
 
 mod actor_kind;
@@ -11,4 +11,4 @@ mod laws;
 pub use actor_kind::ActorKind;
 pub use faults::{ScenarioFault, ScriptFault};
 pub use home::{Home, HomeTask, HomeTasks};
-pub use laws::lines_join;
+pub use laws::{lines_join, versions_stay};

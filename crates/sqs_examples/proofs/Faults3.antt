@@ -1,0 +1,419 @@
+-- Scenarios with their right output, computed over the definitions. Made by tools/compute_cases.py.
+use Rattle.std.proofs.Common.{◌≡◌, ℕ, true, List, [], ◌∷◌, ◌++◌, codes, refl}
+use Rattle.sqs_formats.specs.Report.{columns_of}
+use Rattle.sqs_formats.proofs.OnLiterals.{reading_on_literals}
+use Rattle.sqs_examples.proofs.Shown.{running_on_literals, digest, ran, refused, shown_upto}
+
+-- faults-3/actor_named_as_a_copy.toml
+case_0_actor_named_as_a_copy : shown_upto 3 0 [] (codes "version = 3\nhorizon = 1000\n[[queue]]\nname = \"q\"\n[[queue]]\nname = \"f.fifo\"\n[[actor]]\nname = \"c\"\nkind = \"consumer\"\nqueue = \"q\"\nservice_min_ms = 1\nservice_max_ms = 1\ncopies = 2\n[[actor]]\nname = \"c-2\"\nkind = \"consumer\"\nqueue = \"q\"\nservice_min_ms = 1\nservice_max_ms = 1\n")
+    ≡ refused (codes "refused 16 NameTwice at actor[1].name\n")
+unfolding reading_on_literals running_on_literals columns_of
+case_0_actor_named_as_a_copy = refl
+
+-- faults-3/actor_named_as_a_table_with_copies.toml
+case_0_actor_named_as_a_table_with_copies : shown_upto 3 0 [] (codes "version = 3\nhorizon = 1000\n[[queue]]\nname = \"q\"\n[[queue]]\nname = \"f.fifo\"\n[[actor]]\nname = \"c\"\nkind = \"consumer\"\nqueue = \"q\"\nservice_min_ms = 1\nservice_max_ms = 1\ncopies = 2\n[[actor]]\nname = \"c\"\nkind = \"consumer\"\nqueue = \"q\"\nservice_min_ms = 1\nservice_max_ms = 1\n")
+    ≡ refused (codes "refused 16 NameTwice at actor[1].name\n")
+unfolding reading_on_literals running_on_literals columns_of
+case_0_actor_named_as_a_table_with_copies = refl
+
+-- faults-3/backoff_over_12_hours.toml
+case_0_backoff_over_12_hours : shown_upto 3 0 [] (codes "version = 3\nhorizon = 1000\n[[queue]]\nname = \"q\"\n[[queue]]\nname = \"f.fifo\"\n[[actor]]\nname = \"c\"\nkind = \"consumer\"\nqueue = \"q\"\nservice_min_ms = 1\nservice_max_ms = 1\nbackoff_s = [43200, 43201]\n")
+    ≡ refused (codes "refused 14 OutOfRange at actor[0].backoff_s[1]\n")
+unfolding reading_on_literals running_on_literals columns_of
+case_0_backoff_over_12_hours = refl
+
+-- faults-3/batch_that_fails_in_part.toml
+case_0_batch_that_fails_in_part : shown_upto 3 0 [] (codes "version = 3\nhorizon = 1000\n[[queue]]\nname = \"q\"\n[[queue]]\nname = \"f.fifo\"\n[[actor]]\nname = \"c\"\nkind = \"consumer\"\nqueue = \"q\"\nservice_min_ms = 1\nservice_max_ms = 1\nbatch_fails = \"some\"\n")
+    ≡ refused (codes "refused 14 OutOfRange at actor[0].batch_fails\n")
+unfolding reading_on_literals running_on_literals columns_of
+case_0_batch_that_fails_in_part = refl
+
+-- faults-3/bounds_beside_quantiles.toml
+case_0_bounds_beside_quantiles : shown_upto 3 0 [] (codes "version = 3\nhorizon = 1000\n[[queue]]\nname = \"q\"\n[[queue]]\nname = \"f.fifo\"\n[[actor]]\nname = \"c\"\nkind = \"consumer\"\nqueue = \"q\"\nservice_min_ms = 1\nservice_max_ms = 1\nservice = [[0, 1], [1000, 2]]\n")
+    ≡ refused (codes "refused 11 UnknownKey at actor[0].service_max_ms\n")
+unfolding reading_on_literals running_on_literals columns_of
+case_0_bounds_beside_quantiles = refl
+
+-- faults-3/bounds_of_a_gap_beside_quantiles.toml
+case_0_bounds_of_a_gap_beside_quantiles : shown_upto 3 0 [] (codes "version = 3\nhorizon = 1000\n[[queue]]\nname = \"q\"\n[[queue]]\nname = \"f.fifo\"\n[[actor]]\nname = \"p\"\nkind = \"producer\"\nqueue = \"q\"\ncount = 1\nbody = \"m\"\ngap_min_ms = 1\ngap_max_ms = 1\ngap = 7\n")
+    ≡ refused (codes "refused 11 UnknownKey at actor[0].gap_max_ms\n")
+unfolding reading_on_literals running_on_literals columns_of
+case_0_bounds_of_a_gap_beside_quantiles = refl
+
+-- faults-3/copies_after_the_other_keys.toml
+case_0_copies_after_the_other_keys : shown_upto 3 0 [] (codes "version = 3\nhorizon = 1000\n[[queue]]\nname = \"q\"\n[[queue]]\nname = \"f.fifo\"\n[[actor]]\nname = \"c\"\nkind = \"consumer\"\nqueue = \"q\"\nservice_min_ms = 1\nservice_max_ms = 1\ncopies = 0\nheartbeat_s = 0\n")
+    ≡ refused (codes "refused 14 OutOfRange at actor[0].heartbeat_s\n")
+unfolding reading_on_literals running_on_literals columns_of
+case_0_copies_after_the_other_keys = refl
+
+-- faults-3/copies_in_version_two.toml
+case_0_copies_in_version_two : shown_upto 3 0 [] (codes "version = 2\nhorizon = 1000\n[[queue]]\nname = \"q\"\n[[queue]]\nname = \"f.fifo\"\n[[actor]]\nname = \"c\"\nkind = \"consumer\"\nqueue = \"q\"\nservice_min_ms = 1\nservice_max_ms = 1\ncopies = 2\n")
+    ≡ refused (codes "refused 11 UnknownKey at actor[0].copies\n")
+unfolding reading_on_literals running_on_literals columns_of
+case_0_copies_in_version_two = refl
+
+-- faults-3/copies_of_a_producer.toml
+case_0_copies_of_a_producer : shown_upto 3 0 [] (codes "version = 3\nhorizon = 1000\n[[queue]]\nname = \"q\"\n[[queue]]\nname = \"f.fifo\"\n[[actor]]\nname = \"p\"\nkind = \"producer\"\nqueue = \"q\"\ncount = 1\nbody = \"m\"\ngap_min_ms = 1\ngap_max_ms = 1\ncopies = 2\n")
+    ≡ refused (codes "refused 11 UnknownKey at actor[0].copies\n")
+unfolding reading_on_literals running_on_literals columns_of
+case_0_copies_of_a_producer = refl
+
+-- faults-3/copies_of_zero.toml
+case_0_copies_of_zero : shown_upto 3 0 [] (codes "version = 3\nhorizon = 1000\n[[queue]]\nname = \"q\"\n[[queue]]\nname = \"f.fifo\"\n[[actor]]\nname = \"c\"\nkind = \"consumer\"\nqueue = \"q\"\nservice_min_ms = 1\nservice_max_ms = 1\ncopies = 0\n")
+    ≡ refused (codes "refused 14 OutOfRange at actor[0].copies\n")
+unfolding reading_on_literals running_on_literals columns_of
+case_0_copies_of_zero = refl
+
+-- faults-3/copies_over_a_thousand.toml
+case_0_copies_over_a_thousand : shown_upto 3 0 [] (codes "version = 3\nhorizon = 1000\n[[queue]]\nname = \"q\"\n[[queue]]\nname = \"f.fifo\"\n[[actor]]\nname = \"c\"\nkind = \"consumer\"\nqueue = \"q\"\nservice_min_ms = 1\nservice_max_ms = 1\ncopies = 1001\n")
+    ≡ refused (codes "refused 14 OutOfRange at actor[0].copies\n")
+unfolding reading_on_literals running_on_literals columns_of
+case_0_copies_over_a_thousand = refl
+
+-- faults-3/copies_with_long_names.toml
+case_0_copies_with_long_names : shown_upto 3 0 [] (codes "version = 3\nhorizon = 1000\n[[queue]]\nname = \"q\"\n[[queue]]\nname = \"f.fifo\"\n[[actor]]\nname = \"cccccccccccccccccccccccccccccccccccccccccccccccccccccccccccccccccccccccccccccc\"\nkind = \"consumer\"\nqueue = \"q\"\nservice_min_ms = 1\nservice_max_ms = 1\ncopies = 10\n")
+    ≡ refused (codes "refused 15 BadName at actor[0].copies\n")
+unfolding reading_on_literals running_on_literals columns_of
+case_0_copies_with_long_names = refl
+
+-- faults-3/copy_named_as_a_queue.toml
+case_0_copy_named_as_a_queue : shown_upto 3 0 [] (codes "version = 3\nhorizon = 1000\n[[queue]]\nname = \"q\"\n[[queue]]\nname = \"c-2\"\n[[queue]]\nname = \"f.fifo\"\n[[actor]]\nname = \"c\"\nkind = \"consumer\"\nqueue = \"q\"\nservice_min_ms = 1\nservice_max_ms = 1\ncopies = 2\n")
+    ≡ refused (codes "refused 16 NameTwice at actor[0].copies\n")
+unfolding reading_on_literals running_on_literals columns_of
+case_0_copy_named_as_a_queue = refl
+
+-- faults-3/copy_named_as_an_earlier_actor.toml
+case_0_copy_named_as_an_earlier_actor : shown_upto 3 0 [] (codes "version = 3\nhorizon = 1000\n[[queue]]\nname = \"q\"\n[[queue]]\nname = \"f.fifo\"\n[[actor]]\nname = \"c-2\"\nkind = \"consumer\"\nqueue = \"q\"\nservice_min_ms = 1\nservice_max_ms = 1\n[[actor]]\nname = \"c\"\nkind = \"consumer\"\nqueue = \"q\"\nservice_min_ms = 1\nservice_max_ms = 1\ncopies = 2\n")
+    ≡ refused (codes "refused 16 NameTwice at actor[1].copies\n")
+unfolding reading_on_literals running_on_literals columns_of
+case_0_copy_named_as_an_earlier_actor = refl
+
+-- faults-3/equal_permilles.toml
+case_0_equal_permilles : shown_upto 3 0 [] (codes "version = 3\nhorizon = 1000\n[[queue]]\nname = \"q\"\n[[queue]]\nname = \"f.fifo\"\n[[actor]]\nname = \"c\"\nkind = \"consumer\"\nqueue = \"q\"\nservice = [[0, 1], [500, 1], [500, 2], [1000, 3]]\n")
+    ≡ refused (codes "refused 14 OutOfRange at actor[0].service[2]\n")
+unfolding reading_on_literals running_on_literals columns_of
+case_0_equal_permilles = refl
+
+-- faults-3/failing_text_at_a_producer.toml
+case_0_failing_text_at_a_producer : shown_upto 3 0 [] (codes "version = 3\nhorizon = 1000\n[[queue]]\nname = \"q\"\n[[queue]]\nname = \"f.fifo\"\n[[actor]]\nname = \"p\"\nkind = \"producer\"\nqueue = \"q\"\ncount = 1\nbody = \"m\"\ngap_min_ms = 1\ngap_max_ms = 1\nfails_on = \"m\"\n")
+    ≡ refused (codes "refused 11 UnknownKey at actor[0].fails_on\n")
+unfolding reading_on_literals running_on_literals columns_of
+case_0_failing_text_at_a_producer = refl
+
+-- faults-3/failing_text_empty.toml
+case_0_failing_text_empty : shown_upto 3 0 [] (codes "version = 3\nhorizon = 1000\n[[queue]]\nname = \"q\"\n[[queue]]\nname = \"f.fifo\"\n[[actor]]\nname = \"c\"\nkind = \"consumer\"\nqueue = \"q\"\nservice_min_ms = 1\nservice_max_ms = 1\nfails_on = \"\"\n")
+    ≡ refused (codes "refused 14 OutOfRange at actor[0].fails_on\n")
+unfolding reading_on_literals running_on_literals columns_of
+case_0_failing_text_empty = refl
+
+-- faults-3/failing_text_of_129_bytes.toml
+case_0_failing_text_of_129_bytes : shown_upto 3 0 [] (codes "version = 3\nhorizon = 1000\n[[queue]]\nname = \"q\"\n[[queue]]\nname = \"f.fifo\"\n[[actor]]\nname = \"c\"\nkind = \"consumer\"\nqueue = \"q\"\nservice_min_ms = 1\nservice_max_ms = 1\nfails_on = \"" ++ (195 ∷ []) ++ (169 ∷ []) ++ (195 ∷ []) ++ (169 ∷ []) ++ (195 ∷ []) ++ (169 ∷ []) ++ (195 ∷ []) ++ (169 ∷ []) ++ (195 ∷ []) ++ (169 ∷ []) ++ (195 ∷ []) ++ (169 ∷ []) ++ (195 ∷ []) ++ (169 ∷ []) ++ (195 ∷ []) ++ (169 ∷ []) ++ (195 ∷ []) ++ (169 ∷ []) ++ (195 ∷ []) ++ (169 ∷ []) ++ (195 ∷ []) ++ (169 ∷ []) ++ (195 ∷ []) ++ (169 ∷ []) ++ (195 ∷ []) ++ (169 ∷ []) ++ (195 ∷ []) ++ (169 ∷ []) ++ (195 ∷ []) ++ (169 ∷ []) ++ (195 ∷ []) ++ (169 ∷ []) ++ (195 ∷ []) ++ (169 ∷ []) ++ (195 ∷ []) ++ (169 ∷ []) ++ (195 ∷ []) ++ (169 ∷ []) ++ (195 ∷ []) ++ (169 ∷ []) ++ (195 ∷ []) ++ (169 ∷ []) ++ (195 ∷ []) ++ (169 ∷ []) ++ (195 ∷ []) ++ (169 ∷ []) ++ (195 ∷ []) ++ (169 ∷ []) ++ (195 ∷ []) ++ (169 ∷ []) ++ (195 ∷ []) ++ (169 ∷ []) ++ (195 ∷ []) ++ (169 ∷ []) ++ (195 ∷ []) ++ (169 ∷ []) ++ (195 ∷ []) ++ (169 ∷ []) ++ (195 ∷ []) ++ (169 ∷ []) ++ (195 ∷ []) ++ (169 ∷ []) ++ (195 ∷ []) ++ (169 ∷ []) ++ (195 ∷ []) ++ (169 ∷ []) ++ (195 ∷ []) ++ (169 ∷ []) ++ (195 ∷ []) ++ (169 ∷ []) ++ (195 ∷ []) ++ (169 ∷ []) ++ (195 ∷ []) ++ (169 ∷ []) ++ (195 ∷ []) ++ (169 ∷ []) ++ (195 ∷ []) ++ (169 ∷ []) ++ (195 ∷ []) ++ (169 ∷ []) ++ (195 ∷ []) ++ (169 ∷ []) ++ (195 ∷ []) ++ (169 ∷ []) ++ (195 ∷ []) ++ (169 ∷ []) ++ (195 ∷ []) ++ (169 ∷ []) ++ (195 ∷ []) ++ (169 ∷ []) ++ (195 ∷ []) ++ (169 ∷ []) ++ (195 ∷ []) ++ (169 ∷ []) ++ (195 ∷ []) ++ (169 ∷ []) ++ (195 ∷ []) ++ (169 ∷ []) ++ (195 ∷ []) ++ (169 ∷ []) ++ (195 ∷ []) ++ (169 ∷ []) ++ (195 ∷ []) ++ (169 ∷ []) ++ (195 ∷ []) ++ (169 ∷ []) ++ (195 ∷ []) ++ (169 ∷ []) ++ (195 ∷ []) ++ (169 ∷ []) ++ (195 ∷ []) ++ (169 ∷ []) ++ (195 ∷ []) ++ (169 ∷ []) ++ (195 ∷ []) ++ (169 ∷ []) ++ (195 ∷ []) ++ (169 ∷ []) ++ (195 ∷ []) ++ (169 ∷ []) ++ (195 ∷ []) ++ (169 ∷ []) ++ (195 ∷ []) ++ (169 ∷ []) ++ (195 ∷ []) ++ (169 ∷ []) ++ (195 ∷ []) ++ (169 ∷ []) ++ codes "x\"\n")
+    ≡ refused (codes "refused 14 OutOfRange at actor[0].fails_on\n")
+unfolding reading_on_literals running_on_literals columns_of
+case_0_failing_text_of_129_bytes = refl
+
+-- faults-3/first_permille_not_zero.toml
+case_0_first_permille_not_zero : shown_upto 3 0 [] (codes "version = 3\nhorizon = 1000\n[[queue]]\nname = \"q\"\n[[queue]]\nname = \"f.fifo\"\n[[actor]]\nname = \"p\"\nkind = \"producer\"\nqueue = \"q\"\ncount = 1\nbody = \"m\"\ngap = [[1, 1], [1000, 1]]\n")
+    ≡ refused (codes "refused 14 OutOfRange at actor[0].gap[0]\n")
+unfolding reading_on_literals running_on_literals columns_of
+case_0_first_permille_not_zero = refl
+
+-- faults-3/fraction_for_a_permille.toml
+case_0_fraction_for_a_permille : shown_upto 3 0 [] (codes "version = 3\nhorizon = 1000\n[[queue]]\nname = \"q\"\n[[queue]]\nname = \"f.fifo\"\n[[actor]]\nname = \"c\"\nkind = \"consumer\"\nqueue = \"q\"\nservice = [[0, 1], [99.5, 2], [1000, 3]]\n")
+    ≡ refused (codes "refused 13 WrongType at actor[0].service[1]\n")
+unfolding reading_on_literals running_on_literals columns_of
+case_0_fraction_for_a_permille = refl
+
+-- faults-3/gap_at_a_consumer.toml
+case_0_gap_at_a_consumer : shown_upto 3 0 [] (codes "version = 3\nhorizon = 1000\n[[queue]]\nname = \"q\"\n[[queue]]\nname = \"f.fifo\"\n[[actor]]\nname = \"c\"\nkind = \"consumer\"\nqueue = \"q\"\nservice_min_ms = 1\nservice_max_ms = 1\ngap = [[0, 1], [1000, 1]]\n")
+    ≡ refused (codes "refused 11 UnknownKey at actor[0].gap\n")
+unfolding reading_on_literals running_on_literals columns_of
+case_0_gap_at_a_consumer = refl
+
+-- faults-3/group_of_129_bytes.toml
+case_0_group_of_129_bytes : shown_upto 3 0 [] (codes "version = 3\nhorizon = 1000\n[[queue]]\nname = \"q\"\n[[queue]]\nname = \"f.fifo\"\n[[actor]]\nname = \"p\"\nkind = \"producer\"\nqueue = \"f.fifo\"\ncount = 1\nbody = \"m\"\ngap_min_ms = 1\ngap_max_ms = 1\nkey_groups = [[\"ggggggggggggggggggggggggggggggggggggggggggggggggggggggggggggggggggggggggggggggggggggggggggggggggggggggggggggggggggggggggggggggggg\", 1]]\n")
+    ≡ refused (codes "refused 14 OutOfRange at actor[0].key_groups[0]\n")
+unfolding reading_on_literals running_on_literals columns_of
+case_0_group_of_129_bytes = refl
+
+-- faults-3/group_with_a_space.toml
+case_0_group_with_a_space : shown_upto 3 0 [] (codes "version = 3\nhorizon = 1000\n[[queue]]\nname = \"q\"\n[[queue]]\nname = \"f.fifo\"\n[[actor]]\nname = \"p\"\nkind = \"producer\"\nqueue = \"f.fifo\"\ncount = 1\nbody = \"m\"\ngap_min_ms = 1\ngap_max_ms = 1\nkey_groups = [[\"g\", 1], [\"g h\", 1]]\n")
+    ≡ refused (codes "refused 14 OutOfRange at actor[0].key_groups[1]\n")
+unfolding reading_on_literals running_on_literals columns_of
+case_0_group_with_a_space = refl
+
+-- faults-3/group_without_a_weight.toml
+case_0_group_without_a_weight : shown_upto 3 0 [] (codes "version = 3\nhorizon = 1000\n[[queue]]\nname = \"q\"\n[[queue]]\nname = \"f.fifo\"\n[[actor]]\nname = \"p\"\nkind = \"producer\"\nqueue = \"f.fifo\"\ncount = 1\nbody = \"m\"\ngap_min_ms = 1\ngap_max_ms = 1\nkey_groups = [[\"g\", 1], [\"h\"]]\n")
+    ≡ refused (codes "refused 14 OutOfRange at actor[0].key_groups[1]\n")
+unfolding reading_on_literals running_on_literals columns_of
+case_0_group_without_a_weight = refl
+
+-- faults-3/groups_beside_weights.toml
+case_0_groups_beside_weights : shown_upto 3 0 [] (codes "version = 3\nhorizon = 1000\n[[queue]]\nname = \"q\"\n[[queue]]\nname = \"f.fifo\"\n[[actor]]\nname = \"p\"\nkind = \"producer\"\nqueue = \"f.fifo\"\ncount = 1\nbody = \"m\"\ngap_min_ms = 1\ngap_max_ms = 1\ngroups = 1\nkey_groups = [[\"g\", 1]]\n")
+    ≡ refused (codes "refused 11 UnknownKey at actor[0].groups\n")
+unfolding reading_on_literals running_on_literals columns_of
+case_0_groups_beside_weights = refl
+
+-- faults-3/heartbeat_of_zero.toml
+case_0_heartbeat_of_zero : shown_upto 3 0 [] (codes "version = 3\nhorizon = 1000\n[[queue]]\nname = \"q\"\n[[queue]]\nname = \"f.fifo\"\n[[actor]]\nname = \"c\"\nkind = \"consumer\"\nqueue = \"q\"\nservice_min_ms = 1\nservice_max_ms = 1\nheartbeat_s = 0\n")
+    ≡ refused (codes "refused 14 OutOfRange at actor[0].heartbeat_s\n")
+unfolding reading_on_literals running_on_literals columns_of
+case_0_heartbeat_of_zero = refl
+
+-- faults-3/heartbeat_over_12_hours.toml
+case_0_heartbeat_over_12_hours : shown_upto 3 0 [] (codes "version = 3\nhorizon = 1000\n[[queue]]\nname = \"q\"\n[[queue]]\nname = \"f.fifo\"\n[[actor]]\nname = \"c\"\nkind = \"consumer\"\nqueue = \"q\"\nservice_min_ms = 1\nservice_max_ms = 1\nheartbeat_s = 43201\n")
+    ≡ refused (codes "refused 14 OutOfRange at actor[0].heartbeat_s\n")
+unfolding reading_on_literals running_on_literals columns_of
+case_0_heartbeat_over_12_hours = refl
+
+-- faults-3/last_permille_not_a_thousand.toml
+case_0_last_permille_not_a_thousand : shown_upto 3 0 [] (codes "version = 3\nhorizon = 1000\n[[queue]]\nname = \"q\"\n[[queue]]\nname = \"f.fifo\"\n[[actor]]\nname = \"c\"\nkind = \"consumer\"\nqueue = \"q\"\nservice = [[0, 1], [999, 2]]\n")
+    ≡ refused (codes "refused 14 OutOfRange at actor[0].service[1]\n")
+unfolding reading_on_literals running_on_literals columns_of
+case_0_last_permille_not_a_thousand = refl
+
+-- faults-3/neither_groups_nor_weights.toml
+case_0_neither_groups_nor_weights : shown_upto 3 0 [] (codes "version = 3\nhorizon = 1000\n[[queue]]\nname = \"q\"\n[[queue]]\nname = \"f.fifo\"\n[[actor]]\nname = \"p\"\nkind = \"producer\"\nqueue = \"f.fifo\"\ncount = 1\nbody = \"m\"\ngap_min_ms = 1\ngap_max_ms = 1\n")
+    ≡ refused (codes "refused 12 MissingKey at actor[0].groups\n")
+unfolding reading_on_literals running_on_literals columns_of
+case_0_neither_groups_nor_weights = refl
+
+-- faults-3/neither_quantiles_nor_bounds.toml
+case_0_neither_quantiles_nor_bounds : shown_upto 3 0 [] (codes "version = 3\nhorizon = 1000\n[[queue]]\nname = \"q\"\n[[queue]]\nname = \"f.fifo\"\n[[actor]]\nname = \"c\"\nkind = \"consumer\"\nqueue = \"q\"\n")
+    ≡ refused (codes "refused 12 MissingKey at actor[0].service_min_ms\n")
+unfolding reading_on_literals running_on_literals columns_of
+case_0_neither_quantiles_nor_bounds = refl
+
+-- faults-3/no_backoffs.toml
+case_0_no_backoffs : shown_upto 3 0 [] (codes "version = 3\nhorizon = 1000\n[[queue]]\nname = \"q\"\n[[queue]]\nname = \"f.fifo\"\n[[actor]]\nname = \"c\"\nkind = \"consumer\"\nqueue = \"q\"\nservice_min_ms = 1\nservice_max_ms = 1\nbackoff_s = []\n")
+    ≡ refused (codes "refused 14 OutOfRange at actor[0].backoff_s\n")
+unfolding reading_on_literals running_on_literals columns_of
+case_0_no_backoffs = refl
+
+-- faults-3/no_quantiles.toml
+case_0_no_quantiles : shown_upto 3 0 [] (codes "version = 3\nhorizon = 1000\n[[queue]]\nname = \"q\"\n[[queue]]\nname = \"f.fifo\"\n[[actor]]\nname = \"p\"\nkind = \"producer\"\nqueue = \"q\"\ncount = 1\nbody = \"m\"\ngap = []\n")
+    ≡ refused (codes "refused 14 OutOfRange at actor[0].gap\n")
+unfolding reading_on_literals running_on_literals columns_of
+case_0_no_quantiles = refl
+
+-- faults-3/no_weights.toml
+case_0_no_weights : shown_upto 3 0 [] (codes "version = 3\nhorizon = 1000\n[[queue]]\nname = \"q\"\n[[queue]]\nname = \"f.fifo\"\n[[actor]]\nname = \"p\"\nkind = \"producer\"\nqueue = \"f.fifo\"\ncount = 1\nbody = \"m\"\ngap_min_ms = 1\ngap_max_ms = 1\nkey_groups = []\n")
+    ≡ refused (codes "refused 14 OutOfRange at actor[0].key_groups\n")
+unfolding reading_on_literals running_on_literals columns_of
+case_0_no_weights = refl
+
+-- faults-3/number_for_a_failing_text.toml
+case_0_number_for_a_failing_text : shown_upto 3 0 [] (codes "version = 3\nhorizon = 1000\n[[queue]]\nname = \"q\"\n[[queue]]\nname = \"f.fifo\"\n[[actor]]\nname = \"c\"\nkind = \"consumer\"\nqueue = \"q\"\nservice_min_ms = 1\nservice_max_ms = 1\nfails_on = 5\n")
+    ≡ refused (codes "refused 13 WrongType at actor[0].fails_on\n")
+unfolding reading_on_literals running_on_literals columns_of
+case_0_number_for_a_failing_text = refl
+
+-- faults-3/number_for_a_group.toml
+case_0_number_for_a_group : shown_upto 3 0 [] (codes "version = 3\nhorizon = 1000\n[[queue]]\nname = \"q\"\n[[queue]]\nname = \"f.fifo\"\n[[actor]]\nname = \"p\"\nkind = \"producer\"\nqueue = \"f.fifo\"\ncount = 1\nbody = \"m\"\ngap_min_ms = 1\ngap_max_ms = 1\nkey_groups = [[1, 1]]\n")
+    ≡ refused (codes "refused 13 WrongType at actor[0].key_groups[0]\n")
+unfolding reading_on_literals running_on_literals columns_of
+case_0_number_for_a_group = refl
+
+-- faults-3/number_for_a_pair.toml
+case_0_number_for_a_pair : shown_upto 3 0 [] (codes "version = 3\nhorizon = 1000\n[[queue]]\nname = \"q\"\n[[queue]]\nname = \"f.fifo\"\n[[actor]]\nname = \"c\"\nkind = \"consumer\"\nqueue = \"q\"\nservice = [0, 1000]\n")
+    ≡ refused (codes "refused 13 WrongType at actor[0].service[0]\n")
+unfolding reading_on_literals running_on_literals columns_of
+case_0_number_for_a_pair = refl
+
+-- faults-3/number_for_backoffs.toml
+case_0_number_for_backoffs : shown_upto 3 0 [] (codes "version = 3\nhorizon = 1000\n[[queue]]\nname = \"q\"\n[[queue]]\nname = \"f.fifo\"\n[[actor]]\nname = \"c\"\nkind = \"consumer\"\nqueue = \"q\"\nservice_min_ms = 1\nservice_max_ms = 1\nbackoff_s = 5\n")
+    ≡ refused (codes "refused 13 WrongType at actor[0].backoff_s\n")
+unfolding reading_on_literals running_on_literals columns_of
+case_0_number_for_backoffs = refl
+
+-- faults-3/number_for_quantiles.toml
+case_0_number_for_quantiles : shown_upto 3 0 [] (codes "version = 3\nhorizon = 1000\n[[queue]]\nname = \"q\"\n[[queue]]\nname = \"f.fifo\"\n[[actor]]\nname = \"c\"\nkind = \"consumer\"\nqueue = \"q\"\nservice = 5\n")
+    ≡ refused (codes "refused 13 WrongType at actor[0].service\n")
+unfolding reading_on_literals running_on_literals columns_of
+case_0_number_for_quantiles = refl
+
+-- faults-3/one_bound_of_a_gap.toml
+case_0_one_bound_of_a_gap : shown_upto 3 0 [] (codes "version = 3\nhorizon = 1000\n[[queue]]\nname = \"q\"\n[[queue]]\nname = \"f.fifo\"\n[[actor]]\nname = \"p\"\nkind = \"producer\"\nqueue = \"q\"\ncount = 1\nbody = \"m\"\ngap_min_ms = 1\n")
+    ≡ refused (codes "refused 12 MissingKey at actor[0].gap_max_ms\n")
+unfolding reading_on_literals running_on_literals columns_of
+case_0_one_bound_of_a_gap = refl
+
+-- faults-3/one_latency_in_version_three.toml
+case_0_one_latency_in_version_three : shown_upto 3 0 [] (codes "version = 3\nhorizon = 1000\n[[queue]]\nname = \"q\"\n[[queue]]\nname = \"f.fifo\"\n[[actor]]\nname = \"c\"\nkind = \"consumer\"\nqueue = \"q\"\nservice_min_ms = 1\nservice_max_ms = 1\nforward = \"q\"\nlatency_ms = 5\n")
+    ≡ refused (codes "refused 11 UnknownKey at actor[0].latency_ms\n")
+unfolding reading_on_literals running_on_literals columns_of
+case_0_one_latency_in_version_three = refl
+
+-- faults-3/one_quantile.toml
+case_0_one_quantile : shown_upto 3 0 [] (codes "version = 3\nhorizon = 1000\n[[queue]]\nname = \"q\"\n[[queue]]\nname = \"f.fifo\"\n[[actor]]\nname = \"c\"\nkind = \"consumer\"\nqueue = \"q\"\nservice = [[0, 1]]\n")
+    ≡ refused (codes "refused 14 OutOfRange at actor[0].service\n")
+unfolding reading_on_literals running_on_literals columns_of
+case_0_one_quantile = refl
+
+-- faults-3/outage_that_ends_before_it_begins.toml
+case_0_outage_that_ends_before_it_begins : shown_upto 3 0 [] (codes "version = 3\nhorizon = 1000\n[[queue]]\nname = \"q\"\n[[queue]]\nname = \"f.fifo\"\n[[actor]]\nname = \"c\"\nkind = \"consumer\"\nqueue = \"q\"\nservice_min_ms = 1\nservice_max_ms = 1\nfails_from_ms = 5\nfails_to_ms = 4\n")
+    ≡ refused (codes "refused 14 OutOfRange at actor[0].fails_to_ms\n")
+unfolding reading_on_literals running_on_literals columns_of
+case_0_outage_that_ends_before_it_begins = refl
+
+-- faults-3/outage_without_a_begin.toml
+case_0_outage_without_a_begin : shown_upto 3 0 [] (codes "version = 3\nhorizon = 1000\n[[queue]]\nname = \"q\"\n[[queue]]\nname = \"f.fifo\"\n[[actor]]\nname = \"c\"\nkind = \"consumer\"\nqueue = \"q\"\nservice_min_ms = 1\nservice_max_ms = 1\nfails_to_ms = 5\n")
+    ≡ refused (codes "refused 11 UnknownKey at actor[0].fails_to_ms\n")
+unfolding reading_on_literals running_on_literals columns_of
+case_0_outage_without_a_begin = refl
+
+-- faults-3/outage_without_an_end.toml
+case_0_outage_without_an_end : shown_upto 3 0 [] (codes "version = 3\nhorizon = 1000\n[[queue]]\nname = \"q\"\n[[queue]]\nname = \"f.fifo\"\n[[actor]]\nname = \"c\"\nkind = \"consumer\"\nqueue = \"q\"\nservice_min_ms = 1\nservice_max_ms = 1\nfails_from_ms = 5\n")
+    ≡ refused (codes "refused 12 MissingKey at actor[0].fails_to_ms\n")
+unfolding reading_on_literals running_on_literals columns_of
+case_0_outage_without_an_end = refl
+
+-- faults-3/pair_of_three_values.toml
+case_0_pair_of_three_values : shown_upto 3 0 [] (codes "version = 3\nhorizon = 1000\n[[queue]]\nname = \"q\"\n[[queue]]\nname = \"f.fifo\"\n[[actor]]\nname = \"c\"\nkind = \"consumer\"\nqueue = \"q\"\nservice = [[0, 1], [500, 2, 3], [1000, 4]]\n")
+    ≡ refused (codes "refused 14 OutOfRange at actor[0].service[1]\n")
+unfolding reading_on_literals running_on_literals columns_of
+case_0_pair_of_three_values = refl
+
+-- faults-3/permille_before_the_type_of_its_time.toml
+case_0_permille_before_the_type_of_its_time : shown_upto 3 0 [] (codes "version = 3\nhorizon = 1000\n[[queue]]\nname = \"q\"\n[[queue]]\nname = \"f.fifo\"\n[[actor]]\nname = \"c\"\nkind = \"consumer\"\nqueue = \"q\"\nservice = [[1, \"1\"], [1000, 1]]\n")
+    ≡ refused (codes "refused 14 OutOfRange at actor[0].service[0]\n")
+unfolding reading_on_literals running_on_literals columns_of
+case_0_permille_before_the_type_of_its_time = refl
+
+-- faults-3/quantiles_in_version_two.toml
+case_0_quantiles_in_version_two : shown_upto 3 0 [] (codes "version = 2\nhorizon = 1000\n[[queue]]\nname = \"q\"\n[[queue]]\nname = \"f.fifo\"\n[[actor]]\nname = \"c\"\nkind = \"consumer\"\nqueue = \"q\"\nservice = [[0, 1], [1000, 2]]\n")
+    ≡ refused (codes "refused 11 UnknownKey at actor[0].service\n")
+unfolding reading_on_literals running_on_literals columns_of
+case_0_quantiles_in_version_two = refl
+
+-- faults-3/stop_after_the_other_keys.toml
+case_0_stop_after_the_other_keys : shown_upto 3 0 [] (codes "version = 3\nhorizon = 1000\n[[queue]]\nname = \"q\"\n[[queue]]\nname = \"f.fifo\"\n[[actor]]\nname = \"c\"\nkind = \"consumer\"\nqueue = \"q\"\nservice_min_ms = 1\nservice_max_ms = 1\nidle_ms = 0\nstop_ms = -1\n")
+    ≡ refused (codes "refused 14 OutOfRange at actor[0].idle_ms\n")
+unfolding reading_on_literals running_on_literals columns_of
+case_0_stop_after_the_other_keys = refl
+
+-- faults-3/stop_before_the_start.toml
+case_0_stop_before_the_start : shown_upto 3 0 [] (codes "version = 3\nhorizon = 1000\n[[queue]]\nname = \"q\"\n[[queue]]\nname = \"f.fifo\"\n[[actor]]\nname = \"c\"\nkind = \"consumer\"\nqueue = \"q\"\nservice_min_ms = 1\nservice_max_ms = 1\nstart_ms = 5\nstop_ms = 4\n")
+    ≡ refused (codes "refused 14 OutOfRange at actor[0].stop_ms\n")
+unfolding reading_on_literals running_on_literals columns_of
+case_0_stop_before_the_start = refl
+
+-- faults-3/stop_in_version_two.toml
+case_0_stop_in_version_two : shown_upto 3 0 [] (codes "version = 2\nhorizon = 1000\n[[queue]]\nname = \"q\"\n[[queue]]\nname = \"f.fifo\"\n[[actor]]\nname = \"p\"\nkind = \"producer\"\nqueue = \"q\"\ncount = 1\nbody = \"m\"\ngap_min_ms = 1\ngap_max_ms = 1\nstop_ms = 9\n")
+    ≡ refused (codes "refused 11 UnknownKey at actor[0].stop_ms\n")
+unfolding reading_on_literals running_on_literals columns_of
+case_0_stop_in_version_two = refl
+
+-- faults-3/stop_of_a_producer_before_its_start.toml
+case_0_stop_of_a_producer_before_its_start : shown_upto 3 0 [] (codes "version = 3\nhorizon = 1000\n[[queue]]\nname = \"q\"\n[[queue]]\nname = \"f.fifo\"\n[[actor]]\nname = \"p\"\nkind = \"producer\"\nqueue = \"q\"\ncount = 1\nbody = \"m\"\ngap_min_ms = 1\ngap_max_ms = 1\nstart_ms = 2\nstop_ms = 1\n")
+    ≡ refused (codes "refused 14 OutOfRange at actor[0].stop_ms\n")
+unfolding reading_on_literals running_on_literals columns_of
+case_0_stop_of_a_producer_before_its_start = refl
+
+-- faults-3/text_for_a_backoff.toml
+case_0_text_for_a_backoff : shown_upto 3 0 [] (codes "version = 3\nhorizon = 1000\n[[queue]]\nname = \"q\"\n[[queue]]\nname = \"f.fifo\"\n[[actor]]\nname = \"c\"\nkind = \"consumer\"\nqueue = \"q\"\nservice_min_ms = 1\nservice_max_ms = 1\nbackoff_s = [\"5\", -1]\n")
+    ≡ refused (codes "refused 13 WrongType at actor[0].backoff_s[0]\n")
+unfolding reading_on_literals running_on_literals columns_of
+case_0_text_for_a_backoff = refl
+
+-- faults-3/text_for_a_permille.toml
+case_0_text_for_a_permille : shown_upto 3 0 [] (codes "version = 3\nhorizon = 1000\n[[queue]]\nname = \"q\"\n[[queue]]\nname = \"f.fifo\"\n[[actor]]\nname = \"c\"\nkind = \"consumer\"\nqueue = \"q\"\nservice = [[\"0\", 1], [1000, 1]]\n")
+    ≡ refused (codes "refused 13 WrongType at actor[0].service[0]\n")
+unfolding reading_on_literals running_on_literals columns_of
+case_0_text_for_a_permille = refl
+
+-- faults-3/text_for_copies.toml
+case_0_text_for_copies : shown_upto 3 0 [] (codes "version = 3\nhorizon = 1000\n[[queue]]\nname = \"q\"\n[[queue]]\nname = \"f.fifo\"\n[[actor]]\nname = \"c\"\nkind = \"consumer\"\nqueue = \"q\"\nservice_min_ms = 1\nservice_max_ms = 1\ncopies = \"2\"\n")
+    ≡ refused (codes "refused 13 WrongType at actor[0].copies\n")
+unfolding reading_on_literals running_on_literals columns_of
+case_0_text_for_copies = refl
+
+-- faults-3/text_for_the_begin_of_an_outage.toml
+case_0_text_for_the_begin_of_an_outage : shown_upto 3 0 [] (codes "version = 3\nhorizon = 1000\n[[queue]]\nname = \"q\"\n[[queue]]\nname = \"f.fifo\"\n[[actor]]\nname = \"c\"\nkind = \"consumer\"\nqueue = \"q\"\nservice_min_ms = 1\nservice_max_ms = 1\nfails_from_ms = \"5\"\nfails_to_ms = -1\n")
+    ≡ refused (codes "refused 13 WrongType at actor[0].fails_from_ms\n")
+unfolding reading_on_literals running_on_literals columns_of
+case_0_text_for_the_begin_of_an_outage = refl
+
+-- faults-3/text_for_weights.toml
+case_0_text_for_weights : shown_upto 3 0 [] (codes "version = 3\nhorizon = 1000\n[[queue]]\nname = \"q\"\n[[queue]]\nname = \"f.fifo\"\n[[actor]]\nname = \"p\"\nkind = \"producer\"\nqueue = \"f.fifo\"\ncount = 1\nbody = \"m\"\ngap_min_ms = 1\ngap_max_ms = 1\nkey_groups = \"g\"\n")
+    ≡ refused (codes "refused 13 WrongType at actor[0].key_groups\n")
+unfolding reading_on_literals running_on_literals columns_of
+case_0_text_for_weights = refl
+
+-- faults-3/thirteen_backoffs.toml
+case_0_thirteen_backoffs : shown_upto 3 0 [] (codes "version = 3\nhorizon = 1000\n[[queue]]\nname = \"q\"\n[[queue]]\nname = \"f.fifo\"\n[[actor]]\nname = \"c\"\nkind = \"consumer\"\nqueue = \"q\"\nservice_min_ms = 1\nservice_max_ms = 1\nbackoff_s = [-1, -1, -1, -1, -1, -1, -1, -1, -1, -1, -1, -1, -1]\n")
+    ≡ refused (codes "refused 19 TooMany at actor[0].backoff_s\n")
+unfolding reading_on_literals running_on_literals columns_of
+case_0_thirteen_backoffs = refl
+
+-- faults-3/thirty_three_quantiles.toml
+case_0_thirty_three_quantiles : shown_upto 3 0 [] (codes "version = 3\nhorizon = 1000\n[[queue]]\nname = \"q\"\n[[queue]]\nname = \"f.fifo\"\n[[actor]]\nname = \"c\"\nkind = \"consumer\"\nqueue = \"q\"\nservice = [[0, 1], [1, 1], [2, 1], [3, 1], [4, 1], [5, 1], [6, 1], [7, 1], [8, 1], [9, 1], [10, 1], [11, 1], [12, 1], [13, 1], [14, 1], [15, 1], [16, 1], [17, 1], [18, 1], [19, 1], [20, 1], [21, 1], [22, 1], [23, 1], [24, 1], [25, 1], [26, 1], [27, 1], [28, 1], [29, 1], [30, 1], [31, 1], [1000, 1]]\n")
+    ≡ refused (codes "refused 19 TooMany at actor[0].service\n")
+unfolding reading_on_literals running_on_literals columns_of
+case_0_thirty_three_quantiles = refl
+
+-- faults-3/thousand_before_the_last_permille.toml
+case_0_thousand_before_the_last_permille : shown_upto 3 0 [] (codes "version = 3\nhorizon = 1000\n[[queue]]\nname = \"q\"\n[[queue]]\nname = \"f.fifo\"\n[[actor]]\nname = \"c\"\nkind = \"consumer\"\nqueue = \"q\"\nservice = [[0, 1], [1000, 1], [1000, 2]]\n")
+    ≡ refused (codes "refused 14 OutOfRange at actor[0].service[1]\n")
+unfolding reading_on_literals running_on_literals columns_of
+case_0_thousand_before_the_last_permille = refl
+
+-- faults-3/time_of_zero.toml
+case_0_time_of_zero : shown_upto 3 0 [] (codes "version = 3\nhorizon = 1000\n[[queue]]\nname = \"q\"\n[[queue]]\nname = \"f.fifo\"\n[[actor]]\nname = \"c\"\nkind = \"consumer\"\nqueue = \"q\"\nservice = [[0, 0], [1000, 1]]\n")
+    ≡ refused (codes "refused 14 OutOfRange at actor[0].service[0]\n")
+unfolding reading_on_literals running_on_literals columns_of
+case_0_time_of_zero = refl
+
+-- faults-3/time_over_a_day.toml
+case_0_time_over_a_day : shown_upto 3 0 [] (codes "version = 3\nhorizon = 1000\n[[queue]]\nname = \"q\"\n[[queue]]\nname = \"f.fifo\"\n[[actor]]\nname = \"c\"\nkind = \"consumer\"\nqueue = \"q\"\nservice = [[0, 1], [1000, 86400001]]\n")
+    ≡ refused (codes "refused 14 OutOfRange at actor[0].service[1]\n")
+unfolding reading_on_literals running_on_literals columns_of
+case_0_time_over_a_day = refl
+
+-- faults-3/times_that_fall.toml
+case_0_times_that_fall : shown_upto 3 0 [] (codes "version = 3\nhorizon = 1000\n[[queue]]\nname = \"q\"\n[[queue]]\nname = \"f.fifo\"\n[[actor]]\nname = \"p\"\nkind = \"producer\"\nqueue = \"q\"\ncount = 1\nbody = \"m\"\ngap = [[0, 2], [1000, 1]]\n")
+    ≡ refused (codes "refused 14 OutOfRange at actor[0].gap[1]\n")
+unfolding reading_on_literals running_on_literals columns_of
+case_0_times_that_fall = refl
+
+-- faults-3/truth_for_batch_fails.toml
+case_0_truth_for_batch_fails : shown_upto 3 0 [] (codes "version = 3\nhorizon = 1000\n[[queue]]\nname = \"q\"\n[[queue]]\nname = \"f.fifo\"\n[[actor]]\nname = \"c\"\nkind = \"consumer\"\nqueue = \"q\"\nservice_min_ms = 1\nservice_max_ms = 1\nbatch_fails = true\n")
+    ≡ refused (codes "refused 13 WrongType at actor[0].batch_fails\n")
+unfolding reading_on_literals running_on_literals columns_of
+case_0_truth_for_batch_fails = refl
+
+-- faults-3/weight_of_zero.toml
+case_0_weight_of_zero : shown_upto 3 0 [] (codes "version = 3\nhorizon = 1000\n[[queue]]\nname = \"q\"\n[[queue]]\nname = \"f.fifo\"\n[[actor]]\nname = \"p\"\nkind = \"producer\"\nqueue = \"f.fifo\"\ncount = 1\nbody = \"m\"\ngap_min_ms = 1\ngap_max_ms = 1\nkey_groups = [[\"g\", 0]]\n")
+    ≡ refused (codes "refused 14 OutOfRange at actor[0].key_groups[0]\n")
+unfolding reading_on_literals running_on_literals columns_of
+case_0_weight_of_zero = refl
+
+-- faults-3/weight_over_a_million.toml
+case_0_weight_over_a_million : shown_upto 3 0 [] (codes "version = 3\nhorizon = 1000\n[[queue]]\nname = \"q\"\n[[queue]]\nname = \"f.fifo\"\n[[actor]]\nname = \"p\"\nkind = \"producer\"\nqueue = \"f.fifo\"\ncount = 1\nbody = \"m\"\ngap_min_ms = 1\ngap_max_ms = 1\nkey_groups = [[\"g\", 1000001]]\n")
+    ≡ refused (codes "refused 14 OutOfRange at actor[0].key_groups[0]\n")
+unfolding reading_on_literals running_on_literals columns_of
+case_0_weight_over_a_million = refl
+
+-- faults-3/weights_at_a_standard_queue.toml
+case_0_weights_at_a_standard_queue : shown_upto 3 0 [] (codes "version = 3\nhorizon = 1000\n[[queue]]\nname = \"q\"\n[[queue]]\nname = \"f.fifo\"\n[[actor]]\nname = \"p\"\nkind = \"producer\"\nqueue = \"q\"\ncount = 1\nbody = \"m\"\ngap_min_ms = 1\ngap_max_ms = 1\nkey_groups = [[\"g\", 1]]\n")
+    ≡ refused (codes "refused 11 UnknownKey at actor[0].key_groups\n")
+unfolding reading_on_literals running_on_literals columns_of
+case_0_weights_at_a_standard_queue = refl
+
+-- faults-3/weights_before_ids.toml
+case_0_weights_before_ids : shown_upto 3 0 [] (codes "version = 3\nhorizon = 1000\n[[queue]]\nname = \"q\"\n[[queue]]\nname = \"f.fifo\"\n[[actor]]\nname = \"p\"\nkind = \"producer\"\nqueue = \"f.fifo\"\ncount = 1\nbody = \"m\"\ngap_min_ms = 1\ngap_max_ms = 1\nkey_groups = [[\"g\", 1]]\nids = 1\nstop_ms = -1\n")
+    ≡ refused (codes "refused 13 WrongType at actor[0].ids\n")
+unfolding reading_on_literals running_on_literals columns_of
+case_0_weights_before_ids = refl
+
+-- faults-3/weights_in_version_two.toml
+case_0_weights_in_version_two : shown_upto 3 0 [] (codes "version = 2\nhorizon = 1000\n[[queue]]\nname = \"q\"\n[[queue]]\nname = \"f.fifo\"\n[[actor]]\nname = \"p\"\nkind = \"producer\"\nqueue = \"f.fifo\"\ncount = 1\nbody = \"m\"\ngap_min_ms = 1\ngap_max_ms = 1\nkey_groups = [[\"g\", 1]]\n")
+    ≡ refused (codes "refused 11 UnknownKey at actor[0].key_groups\n")
+unfolding reading_on_literals running_on_literals columns_of
+case_0_weights_in_version_two = refl
+
+-- faults-3/weights_of_101_groups.toml
+case_0_weights_of_101_groups : shown_upto 3 0 [] (codes "version = 3\nhorizon = 1000\n[[queue]]\nname = \"q\"\n[[queue]]\nname = \"f.fifo\"\n[[actor]]\nname = \"p\"\nkind = \"producer\"\nqueue = \"f.fifo\"\ncount = 1\nbody = \"m\"\ngap_min_ms = 1\ngap_max_ms = 1\nkey_groups = [[\"g\", 1], [\"g\", 1], [\"g\", 1], [\"g\", 1], [\"g\", 1], [\"g\", 1], [\"g\", 1], [\"g\", 1], [\"g\", 1], [\"g\", 1], [\"g\", 1], [\"g\", 1], [\"g\", 1], [\"g\", 1], [\"g\", 1], [\"g\", 1], [\"g\", 1], [\"g\", 1], [\"g\", 1], [\"g\", 1], [\"g\", 1], [\"g\", 1], [\"g\", 1], [\"g\", 1], [\"g\", 1], [\"g\", 1], [\"g\", 1], [\"g\", 1], [\"g\", 1], [\"g\", 1], [\"g\", 1], [\"g\", 1], [\"g\", 1], [\"g\", 1], [\"g\", 1], [\"g\", 1], [\"g\", 1], [\"g\", 1], [\"g\", 1], [\"g\", 1], [\"g\", 1], [\"g\", 1], [\"g\", 1], [\"g\", 1], [\"g\", 1], [\"g\", 1], [\"g\", 1], [\"g\", 1], [\"g\", 1], [\"g\", 1], [\"g\", 1], [\"g\", 1], [\"g\", 1], [\"g\", 1], [\"g\", 1], [\"g\", 1], [\"g\", 1], [\"g\", 1], [\"g\", 1], [\"g\", 1], [\"g\", 1], [\"g\", 1], [\"g\", 1], [\"g\", 1], [\"g\", 1], [\"g\", 1], [\"g\", 1], [\"g\", 1], [\"g\", 1], [\"g\", 1], [\"g\", 1], [\"g\", 1], [\"g\", 1], [\"g\", 1], [\"g\", 1], [\"g\", 1], [\"g\", 1], [\"g\", 1], [\"g\", 1], [\"g\", 1], [\"g\", 1], [\"g\", 1], [\"g\", 1], [\"g\", 1], [\"g\", 1], [\"g\", 1], [\"g\", 1], [\"g\", 1], [\"g\", 1], [\"g\", 1], [\"g\", 1], [\"g\", 1], [\"g\", 1], [\"g\", 1], [\"g\", 1], [\"g\", 1], [\"g\", 1], [\"g\", 1], [\"g\", 1], [\"g\", 1], [\"g\", 1]]\n")
+    ≡ refused (codes "refused 19 TooMany at actor[0].key_groups\n")
+unfolding reading_on_literals running_on_literals columns_of
+case_0_weights_of_101_groups = refl
