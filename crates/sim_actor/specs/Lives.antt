@@ -1,5 +1,5 @@
 -- What an actor always keeps, and how a decision that may return an error agrees with the definitions.
-use Rattle.std.specs.Prelude.{Err, List, None, Ok, Option, Result, Some, [], length, max, ℕ, ◌<◌, ◌≡◌, ◌≤◌, ◌∷◌}
+use Rattle.std.specs.Prelude.{Err, List, None, Ok, Option, Result, Some, [], length, max, ℕ, ◌<◌, ◌≡◌, ◌≤◌, ◌∷◌, Bool, ◌+◌}
 use Rattle.sim_actor.specs.declared.life.LastAct.{LastAct as OwnStage}
 use Rattle.sim_actor.specs.declared.life.LastAct.TheVariants as own
 use Rattle.sim_actor.specs.declared.replies.FollowUp.{FollowUp}
@@ -19,11 +19,13 @@ use Rattle.sqs_model.specs.declared.acts.Answer.TheVariants as told_by
 use Rattle.sqs_model.specs.declared.agents.ActorSettings.{ActorSettings}
 use Rattle.sqs_model.specs.declared.agents.Role.{Role}
 use Rattle.sqs_model.specs.declared.agents.Role.TheVariants.{Consumer, Producer, Script}
-use Rattle.sqs_model.specs.Actor.{Actor, Asked, Beat, Ended, Failed, Served, LastAct, act_of, first_at}
+use Rattle.sqs_model.specs.Actor.{Actor, Asked, Beat, Ended, Failed, Served, LastAct, act_of, ends_drawn, ends_well, first_at, next_beat, wakes_after}
 use Rattle.sqs_model.specs.Answers.{most_count}
-use Rattle.sqs_model.specs.Draw.{Draws}
+use Rattle.sqs_model.specs.Draw.{Draws, drawn_chance, drawn_time}
 use Rattle.sqs_model.specs.Valid.{IsConsumer, IsProducer}
 use Rattle.sqs_redrive.specs.declared.answers.Got.{Got}
+use Rattle.sqs_model.specs.declared.agents.ConsumerSettings.{ConsumerSettings}
+use Rattle.sqs_model.specs.declared.agents.Distribution.{Distribution}
 
 -- a role whose settings are in range; a script has at most 100,000 calls
 abbrev pub IsRole : Role → Type 0
@@ -147,3 +149,27 @@ EndsThis home id receipt result old new decision =
 -- what holds of the actor before and after, whatever its settings
 abbrev pub Lived : Life → Life → (Actor → Actor → Type 0) → Type 0
 Lived old new P = (s : ActorSettings) → P (lived s old) (lived s new)
+
+-- a consumer that serves until the service ends, or until its heartbeat before that
+abbrev pub in_service : ConsumerSettings → ℕ → Life → Life
+in_service c now l = record l { wake = Some (max (now + 1) (next_beat c.heartbeat now l.ends)) }
+
+-- an actor that wakes after a time that is drawn
+abbrev pub wakes_by : Distribution → ℕ → Actor → Actor
+wakes_by d now a = wakes_after a now (drawn_time d a.draws)
+
+-- the good end of the service of a consumer's message, with the others that it holds; they may end as a whole
+abbrev pub ends_held : Bool → ConsumerSettings → ℕ → Actor → Got → Act × Actor
+ends_held whole c now a g = ends_well whole a c now g a.held
+
+-- the end of its service, which may fail by chance
+abbrev pub ends_by_chance : ConsumerSettings → ℕ → Actor → Got → Act × Actor
+ends_by_chance c now a g = ends_drawn a c now g (drawn_chance c.fail_permille a.draws)
+
+-- the end of the service of a message, wherever its actor is at home
+abbrev pub EndsAnywhere : MessageId → Receipt → Act → Life → Life → (Actor → Got → Act × Actor) → Type 0
+EndsAnywhere id receipt act old new decision = (home : ℕ) → EndsThis home id receipt (Ok act) old new decision
+
+-- how a decision of the actor with a life agrees with the definition's, whatever its settings
+abbrev pub Lives : {R : Type 0} → (R → Actor → Act × Actor → Type 0) → R → Life → Life → (Actor → Act × Actor) → Type 0
+Lives agrees result old new decision = Lived old new (λ a b. agrees result b (decision a))

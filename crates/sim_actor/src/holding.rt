@@ -1,8 +1,7 @@
 //! The messages that a consumer has.
-ghost use Rattle.std.specs.Prelude.{◌≡◌, ◌↔◌, ◌++◌, ◌∷◌, [], List, MatchOption, drop, true};
+ghost use Rattle.std.specs.Prelude.{◌≡◌, ◌↔◌, [], drop, true};
 ghost use Rattle.std.specs.Option.{option_copied};
-ghost use Rattle.sqs_redrive.specs.declared.answers.Got.{Got as GotMessage};
-ghost use Rattle.sim_actor.specs.Holdings.{failed_first, first_of, only_held, served_first};
+ghost use Rattle.sim_actor.specs.Holdings.{failed_first, first_of, only_held, served_first, OfFirst, TakesFirst, all_to_change, with_done, with_failed, with_held};
 
 use sqs_redrive::Got;
 use std::alloc::Global;
@@ -69,8 +68,7 @@ impl Holding {
 
     /// Takes the first message that is not served yet.
     pub fn take_held(&mut self) -> Option<Got>
-        ensures { MatchOption result ((self.old.held ≡ []) × (self.new ≡ self.old))
-            (λ got. self.old ≡ record self.new { held = got ∷ self.new.held }) }
+        ensures { TakesFirst (λ h. h.held) with_held self.old result self.new }
     {
         let index = self.failed + self.done;
         if index == 0 {
@@ -89,8 +87,7 @@ impl Holding {
 
     /// Takes the first message that will be deleted.
     pub fn take_done(&mut self) -> Option<Got>
-        ensures { MatchOption result ((self.old.done ≡ []) × (self.new ≡ self.old))
-            (λ got. self.old ≡ record self.new { done = got ∷ self.new.done }) }
+        ensures { TakesFirst (λ h. h.done) with_done self.old result self.new }
     {
         if self.done == 0 {
             return None;
@@ -101,8 +98,7 @@ impl Holding {
 
     /// Takes the first message whose timeout will change.
     pub fn take_failed(&mut self) -> Option<Got>
-        ensures { MatchOption result ((self.old.failed ≡ []) × (self.new ≡ self.old))
-            (λ got. self.old ≡ record self.new { failed = got ∷ self.new.failed }) }
+        ensures { TakesFirst (λ h. h.failed) with_failed self.old result self.new }
     {
         if self.failed == 0 {
             return None;
@@ -114,9 +110,8 @@ impl Holding {
     /// The first message that is not served yet was served, and will be deleted. If there is none,
     /// nothing changes.
     pub fn serve_first(&mut self)
-        ensures first { (got : GotMessage) (others : List GotMessage)
-            → self.old.held ≡ got ∷ others
-            → self.new ≡ served_first self.old got others }
+        ensures first { OfFirst self.old (λ got others. self.new
+            ≡ served_first self.old got others) }
         ensures none { self.old.held ≡ [] → self.new ≡ self.old }
     {
         if self.failed + self.done < self.messages.len() {
@@ -127,9 +122,8 @@ impl Holding {
     /// The service of the first message that is not served yet failed. Its timeout will change,
     /// and those of the messages that were served before it. If there is none, nothing changes.
     pub fn fail_first(&mut self)
-        ensures first { (got : GotMessage) (others : List GotMessage)
-            → self.old.held ≡ got ∷ others
-            → self.new ≡ failed_first self.old got others }
+        ensures first { OfFirst self.old (λ got others. self.new
+            ≡ failed_first self.old got others) }
         ensures none { self.old.held ≡ [] → self.new ≡ self.old }
     {
         if self.failed + self.done < self.messages.len() {
@@ -140,12 +134,7 @@ impl Holding {
 
     /// The timeouts of all messages will change.
     pub fn fail_all(&mut self)
-        ensures { self.new
-            ≡ record {
-              failed = self.old.failed ++ (self.old.done ++ self.old.held);
-              done = [];
-              held = [];
-            } }
+        ensures { self.new ≡ all_to_change self.old }
     {
         self.failed = self.messages.len();
         self.done = 0;

@@ -1,10 +1,9 @@
 //! What an actor holds and counts, besides its settings.
 ghost use Rattle.std.specs.Prelude.{◌≡◌, ◌≤◌, ◌<◌, ◌+◌, None};
-ghost use Rattle.sqs_model.specs.Actor.{has_come, wakes_after};
+ghost use Rattle.sqs_model.specs.Actor.{has_come};
 ghost use Rattle.sqs_model.specs.Answers.{most_count};
-ghost use Rattle.sqs_model.specs.Draw.{drawn_time};
 ghost use Rattle.sqs_model.specs.Valid.{IsDistribution};
-ghost use Rattle.sim_actor.specs.Lives.{Becomes, Lived};
+ghost use Rattle.sim_actor.specs.Lives.{Becomes, Lived, wakes_by};
 
 mod consumer;
 mod failing;
@@ -74,8 +73,8 @@ impl Life {
     ) -> Result<(), Refusal>
         requires moment { now ≤ most_count }
         requires distribution { IsDistribution distribution.now }
-        ensures life { Lived self.old self.new (λ a b. Becomes result b (wakes_after a now
-            (drawn_time distribution.now a.draws))) }
+        ensures life { Lived self.old self.new (λ a b. Becomes result b
+            (wakes_by distribution.now now a)) }
         ensures framed { self.new.number ≡ self.old.number }
     {
         if self.draws.taken() == MOST_COUNT {

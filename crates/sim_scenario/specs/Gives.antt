@@ -24,3 +24,7 @@ Fails (errors.Fault f) read = read ≡ Err f
 abbrev pub Gives : {X Y : Type 0} → (X → Y) → Result X ReadError → Result Y ScenarioFault → Type 0
 Gives view (Ok x) read = read ≡ Ok (view x)
 Gives view (Err e) read = Fails e read
+
+-- what a function returned is what the text says, unless memory ran out
+abbrev pub Returns : {X : Type 0} → Result X ReadError → Result X ScenarioFault → Type 0
+Returns result read = Gives (λ x. x) result read

@@ -10,3 +10,4 @@ pub mod Ways
 pub mod Drafts
 pub mod Firsts
 pub mod Counted
+pub mod Parts

@@ -4,6 +4,7 @@ use Rattle.toml.specs.View.{view}
 use Rattle.sqs_formats.specs.Scenario.{Top}
 use Rattle.sqs_model.specs.Valid.{Between}
 use Rattle.sim_scenario.specs.declared.top.Top.{Top as Held}
+use Rattle.sqs_formats.specs.Outline.{Outline, outline_of}
 
 -- as the definitions have it
 abbrev pub top_view : Held → Top
@@ -25,3 +26,7 @@ pub record IsTop (t : Top) : Type 0 where
   pub sample : t.sample ≤ 2592000000
   pub few_queues : Between 1 1000 (length t.queues)
   pub few_agents : length t.actors + length t.tasks ≤ 10000
+
+-- the outline of its lists
+abbrev pub outline_of_top : Top → Outline
+outline_of_top t = outline_of t.version t.queues t.actors t.tasks

@@ -1,9 +1,9 @@
 //! Times in a scenario's text: two bounds, or quantiles in their place.
 ghost use Rattle.std.specs.Prelude.{◌≡◌};
-ghost use Rattle.sqs_formats.specs.Distributions.{last_of as the_last_of, least_time, permilles, rises, time as the_time};
+ghost use Rattle.sqs_formats.specs.Distributions.{last_of as the_last_of, least_time, permilles, rises};
 ghost use Rattle.sqs_formats.specs.Keys.{has};
-ghost use Rattle.sim_scenario.specs.Gives.{Gives};
-ghost use Rattle.sim_scenario.specs.Sections.{table_of};
+ghost use Rattle.sim_scenario.specs.Gives.{Returns};
+ghost use Rattle.sim_scenario.specs.Sections.{table_of, time_at};
 
 use crate::fault::ReadError;
 use crate::key_type::{Integer, KeyType};
@@ -120,9 +120,7 @@ pub(crate) fn time(
     high: &str,
     section: &Section<'_>,
 ) -> Result<Distribution, ReadError>
-    ensures { Gives (λ d. d) result
-        (the_time (has (table_of section.now) key.now) key.now low.now high.now
-        (table_of section.now)) }
+    ensures { Returns result (time_at key.now low.now high.now (table_of section.now)) }
 {
     if section.has(key) {
         let quantiles = section.required(key, &Quantiles)?;

@@ -3,7 +3,7 @@ ghost use Rattle.std.specs.Prelude.{◌≤◌, IfOk};
 ghost use Rattle.toml.specs.View.{view};
 ghost use Rattle.sqs_formats.specs.Keys.{integer as an_integer, place_of};
 ghost use Rattle.sim_scenario.specs.Gives.{Gives};
-ghost use Rattle.sim_scenario.specs.Sections.{table_of};
+ghost use Rattle.sim_scenario.specs.Sections.{table_of, GivesAt};
 
 use crate::fault::ReadError;
 use crate::section::Section;
@@ -44,8 +44,7 @@ fn number(
     low: u64,
     high: u64,
 ) -> Result<u64, ReadError>
-    ensures value { Gives (λ n. n) result
-        (an_integer low high (place_of (table_of section.now) key.now) (view value.now)) }
+    ensures value { GivesAt (λ n. n) result section.now key.now value.now (an_integer low high) }
     ensures most { IfOk result (λ n. n ≤ high) }
 {
     let Some(n) = value.as_integer() else {

@@ -1,10 +1,9 @@
 //! Lists in a table of a scenario's text whose items are no tables.
-ghost use Rattle.std.specs.Prelude.{◌≡◌, [], length, map};
+ghost use Rattle.std.specs.Prelude.{◌≡◌, [], map};
 ghost use Rattle.toml.specs.View.{view};
-ghost use Rattle.sqs_formats.specs.Keys.{place_of};
-ghost use Rattle.sqs_formats.specs.Lists.{items as the_items, list_of as the_list_of, pair as a_pair, sized_list as a_sized_list};
+ghost use Rattle.sqs_formats.specs.Lists.{list_of as the_list_of, pair as a_pair, sized_list as a_sized_list};
 ghost use Rattle.sim_scenario.specs.Gives.{Gives};
-ghost use Rattle.sim_scenario.specs.Sections.{table_of};
+ghost use Rattle.sim_scenario.specs.Sections.{GivesAt, items_at, key_place};
 
 use crate::fault::ReadError;
 use crate::key_type::{Integer, KeyType};
@@ -38,8 +37,8 @@ pub(crate) trait ListItem {
         value: &Value,
         place: &str,
     ) -> Result<Self::Item, ReadError>
-        ensures { Gives (λ x. x) result (says self.now count before.now
-            (place_of (table_of section.now) place.now) (view value.now)) };
+        ensures { GivesAt (λ x. x) result section.now place.now value.now
+            (says self.now count before.now) };
 }
 
 /// The list that a value at a key is, of a number of items from `least` to `most`.
@@ -51,8 +50,8 @@ fn sized_list<'v>(
     least: usize,
     most: usize,
 ) -> Result<&'v [Value], ReadError>
-    ensures { Gives (λ vs. map view vs.now) result
-        (a_sized_list least most (place_of (table_of section.now) key.now) (view value.now)) }
+    ensures { GivesAt (λ vs. map view vs.now) result section.now key.now value.now
+        (a_sized_list least most) }
 {
     let values = section.items(value, key)?;
     if values.len() < least {
@@ -71,8 +70,8 @@ fn items<T: ListItem>(
     key: &str,
     of: &T,
 ) -> Result<Vec<T::Item>, ReadError>
-    ensures { Gives (λ v. v.items) result (the_items (T.says of.now (length values.now))
-        (place_of (table_of section.now) key.now) [] (map view values.now)) }
+    ensures { Gives (λ v. v.items) result (items_at (T.says of.now)
+        (key_place section.now key.now) values.now) }
 {
     let mut items = Vec::with_capacity(section.alloc, values.len())?;
     for (i, value) in values.iter().enumerate() {
@@ -99,8 +98,8 @@ pub(crate) fn list_of<T: ListItem>(
     most: usize,
     of: &T,
 ) -> Result<Vec<T::Item>, ReadError>
-    ensures { Gives (λ v. v.items) result (the_list_of least most (T.says of.now)
-        (place_of (table_of section.now) key.now) (view value.now)) }
+    ensures { GivesAt (λ v. v.items) result section.now key.now value.now (the_list_of least most
+        (T.says of.now)) }
 {
     let values = sized_list(section, value, key, least, most)?;
     items(section, values, key, of)
@@ -113,8 +112,8 @@ pub(crate) fn pair<'v>(
     value: &'v Value,
     key: &str,
 ) -> Result<(&'v Value, &'v Value), ReadError>
-    ensures { Gives (λ p. (view p.0.now, view p.1.now)) result
-        (a_pair (place_of (table_of section.now) key.now) (view value.now)) }
+    ensures { GivesAt (λ p.
+        (view p.0.now, view p.1.now)) result section.now key.now value.now a_pair }
 {
     let values = section.items(value, key)?;
     match values {

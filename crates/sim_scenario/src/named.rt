@@ -2,8 +2,8 @@
 ghost use Rattle.sqs_formats.specs.Keys.{place_of};
 ghost use Rattle.sqs_formats.specs.Names.{is_agent_name, is_queue_name};
 ghost use Rattle.sqs_formats.specs.Outline.{fresh_name, queue_number, same_kind};
-ghost use Rattle.sim_scenario.specs.Gives.{Gives};
-ghost use Rattle.sim_scenario.specs.Sections.{table_of};
+ghost use Rattle.sim_scenario.specs.Gives.{Gives, Returns};
+ghost use Rattle.sim_scenario.specs.Sections.{table_of, key_place};
 
 use crate::fault::ReadError;
 use crate::key_type::KeyType;
@@ -24,8 +24,8 @@ fn fresh_name(
     name: &str,
     is_well_formed: bool,
 ) -> Result<Text, ReadError>
-    ensures { Gives (λ t. t) result (fresh_name is_well_formed outline.now place
-        (place_of (table_of section.now) key.now) name.now) }
+    ensures { Returns result (fresh_name is_well_formed outline.now place
+        (key_place section.now key.now) name.now) }
 {
     if !is_well_formed {
         return Err(section.blame(Refusal::BadName, key));

@@ -4,8 +4,7 @@ ghost use Rattle.std.specs.List.{enumerate_from, sum, zip};
 ghost use Rattle.toml.specs.View.{view};
 ghost use Rattle.sqs_formats.specs.Keys.{text_in};
 ghost use Rattle.sqs_formats.specs.Actors.{tasks_at};
-ghost use Rattle.sqs_formats.specs.Copies.{names_taken};
-ghost use Rattle.sim_scenario.specs.Naming.{names_in};
+ghost use Rattle.sim_scenario.specs.Naming.{all_names as the_all_names, names_before_tasks};
 
 use crate::copies::{copies_before, copies_within, push_names_taken, total_beside};
 use crate::names::is_fifo;
@@ -102,10 +101,10 @@ fn all_names(
 ) -> Result<(Vec<Text>, usize), AllocError>
     requires same { length copies.now ≡ length actors.now }
     requires few { sum copies.now ≤ 32000 }
-    ensures names { IfOk result (λ n. n.0.items ≡ (names_in queues.now ++ names_taken
-        (names_in actors.now) copies.now) ++ names_in tasks.now) }
+    ensures names { IfOk result (λ n. n.0.items
+        ≡ the_all_names queues.now actors.now copies.now tasks.now) }
     ensures place { IfOk result (λ n. n.1
-        ≡ length (names_in queues.now ++ names_taken (names_in actors.now) copies.now)) }
+        ≡ length (names_before_tasks queues.now actors.now copies.now)) }
 {
     let mut names = texts(alloc, queues, "name")?;
     push_names_taken(alloc, &mut names, actors, copies)?;
@@ -146,6 +145,7 @@ impl Outline {
     ghost use Rattle.sqs_formats.specs.Keys.{is_among};
     ghost use Rattle.sqs_formats.specs.Outline.{actor_place, first_task, is_fresh, kind_at, outline_of, queue_number, queue_text, task_place};
     ghost use Rattle.sqs_formats.specs.Actors.{home_of};
+    ghost use Rattle.sim_scenario.specs.Naming.{outline_in};
 
     /// The outline of three lists of items.
     pub(crate) fn new(
@@ -156,10 +156,7 @@ impl Outline {
         tasks: &[Value],
     ) -> Result<Outline, AllocError>
         requires { length queues.now + length actors.now + length tasks.now ≤ 11000 }
-        ensures { IfOk result (λ o.
-            o
-            ≡ outline_of version (map view queues.now) (map view actors.now)
-            (map view tasks.now)) }
+        ensures { IfOk result (λ o. o ≡ outline_in version queues.now actors.now tasks.now) }
     {
         let room = MOST_AGENTS.saturating_sub(actors.len() + tasks.len());
         let copies = copies_within(alloc, version, room as u64, actors)?;

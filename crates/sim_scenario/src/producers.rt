@@ -5,7 +5,7 @@ ghost use Rattle.sqs_formats.specs.Groups.{groups as the_groups};
 ghost use Rattle.sqs_formats.specs.Keys.{only};
 ghost use Rattle.sqs_message.specs.Bodies.{filled};
 ghost use Rattle.sim_scenario.specs.Gives.{Gives};
-ghost use Rattle.sim_scenario.specs.Sections.{table_of};
+ghost use Rattle.sim_scenario.specs.Sections.{table_of, HasOnly};
 
 use crate::distributions::time;
 use crate::fault::ReadError;
@@ -52,8 +52,8 @@ fn newer_producer_keys(version: u64) -> &'static [&'static str]
 
 /// Checks that a producer has known keys alone.
 fn known_producer_keys(version: u64, is_fifo: bool, section: &Section<'_>) -> Result<(), ReadError>
-    ensures { Gives (λ u. u) result (only
-        (all_producer_keys version is_fifo (table_of section.now)) (table_of section.now)) }
+    ensures { HasOnly (all_producer_keys version is_fifo
+        (table_of section.now)) section.now result }
 {
     let gap = gap_keys(section.has_newer(version, "gap"));
     let own = sending_keys(is_fifo, section.has_newer(version, "key_groups"));

@@ -1,9 +1,9 @@
 //! The queues of a scenario's text.
-ghost use Rattle.std.specs.Prelude.{◌≡◌, codes, map};
+ghost use Rattle.std.specs.Prelude.{◌≡◌, map};
 ghost use Rattle.sqs_formats.specs.Keys.{has, only};
-ghost use Rattle.sqs_formats.specs.Queues.{kind as the_kind, kind_keys, latency as the_latency, latency_keys, policy as the_policy, policy_keys, queue_keys};
+ghost use Rattle.sqs_formats.specs.Queues.{kind as the_kind, kind_keys, latency as the_latency, latency_keys, policy as the_policy, policy_keys};
 ghost use Rattle.sim_scenario.specs.Gives.{Gives};
-ghost use Rattle.sim_scenario.specs.Sections.{table_of};
+ghost use Rattle.sim_scenario.specs.Sections.{table_of, HasOnly, all_queue_keys};
 
 use crate::fault::ReadError;
 use crate::items::ItemType;
@@ -122,9 +122,7 @@ fn policy_keys(version: u64, leads: bool) -> &'static [&'static str]
 
 /// Checks that a queue has known keys alone.
 fn known_queue_keys(version: u64, is_fifo: bool, section: &Section<'_>) -> Result<(), ReadError>
-    ensures { Gives (λ u. u) result (only
-        (queue_keys version is_fifo (has (table_of section.now) (codes "dead_letter")))
-        (table_of section.now)) }
+    ensures { HasOnly (all_queue_keys version is_fifo (table_of section.now)) section.now result }
 {
     let policy = policy_keys(version, section.has("dead_letter"));
     section.only(&[QUEUE_KEYS, kind_keys(is_fifo), policy])

@@ -1,11 +1,10 @@
 //! The reader of a scenario: from a TOML document it makes a scenario, or returns the first fault.
 ghost use Rattle.std.specs.Prelude.{◌≡◌, ◌≤◌, ◌+◌, ◌++◌, IfOk, OnOk, drop, length, map, take};
-ghost use Rattle.toml.specs.View.{table_view, view};
-ghost use Rattle.sqs_formats.specs.Outline.{outline_of};
+ghost use Rattle.toml.specs.View.{table_view};
 ghost use Rattle.sqs_formats.specs.Scenario.{agents as the_agents, by_number, scenario_in, whole};
 ghost use Rattle.sim_scenario.specs.Gives.{Gives};
 ghost use Rattle.sim_scenario.specs.Ranges.{IsInRange};
-ghost use Rattle.sim_scenario.specs.Tops.{IsTop, top_view};
+ghost use Rattle.sim_scenario.specs.Tops.{IsTop, top_view, outline_of_top};
 
 use crate::actors::Actors;
 use crate::fault::ReadError;
@@ -115,9 +114,7 @@ fn agents(
     requires few { length top.now.queues.now + length top.now.actors.now + length top.now.tasks.now
         ≤ 11000 }
     requires numbers { IsTop (top_view top.now) }
-    requires outlined { outline.now
-        ≡ outline_of top.now.version (map view top.now.queues.now) (map view top.now.actors.now)
-        (map view top.now.tasks.now) }
+    requires outlined { outline.now ≡ outline_of_top (top_view top.now) }
     ensures range { IfOk result IsInRange }
     ensures value { Gives (λ s. s) result (the_agents scripts.now (top_view top.now) outline.now) }
 {

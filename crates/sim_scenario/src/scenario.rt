@@ -46,6 +46,7 @@ impl Model for Scenario {
 impl Scenario {
     ghost use Rattle.std.specs.Prelude.{◌≡◌};
     ghost use Rattle.sim_scenario.specs.AtHome.{scenario_with};
+    ghost use Rattle.sim_scenario.specs.Parts.{scenario_of_parts};
     ghost use Rattle.sim_scenario.specs.Ranges.{IsInRange};
 
     /// The scenario with these parts; the names are those of the queues, then of the actors, then
@@ -130,8 +131,7 @@ impl Scenario {
 
     /// All parts, moved out.
     pub fn into_parts(self) -> ScenarioParts
-        ensures value { scenario_with result.horizon result.seed result.sample result.queues.items
-            result.actors.items result.tasks.items result.names.items ≡ self }
+        ensures value { scenario_of_parts result ≡ self }
         ensures range { IsInRange self }
     {
         ScenarioParts {

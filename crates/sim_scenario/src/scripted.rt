@@ -1,11 +1,11 @@
 //! An actor of a scenario's text that follows a script.
-ghost use Rattle.std.specs.Prelude.{◌≡◌, ◌++◌, codes, find, map, ok_or, option_map};
+ghost use Rattle.std.specs.Prelude.{◌≡◌, ◌++◌, codes, find, map, option_map};
 ghost use Rattle.std.specs.Str.{bytes_eq};
 ghost use Rattle.sim_clock.specs.declared.refusal.Refusal.TheVariants.{BadScript};
 ghost use Rattle.sqs_formats.specs.Actors.{actor_keys, calls_by, calls_in, script_fault, script_keys, scripted as the_scripted};
-ghost use Rattle.sqs_formats.specs.Keys.{fault_at, has, only, place_of};
+ghost use Rattle.sqs_formats.specs.Keys.{has, only, place_of};
 ghost use Rattle.sim_scenario.specs.Gives.{Gives, Names};
-ghost use Rattle.sim_scenario.specs.Sections.{table_of};
+ghost use Rattle.sim_scenario.specs.Sections.{table_of, HasOnly, key_place, file_of_name};
 
 use crate::fault::ReadError;
 use crate::key_type::KeyType;
@@ -109,9 +109,8 @@ fn file_named<'s>(
     name: &str,
     key: &str,
 ) -> Result<&'s (Text, Text), ReadError>
-    ensures { Gives (λ file. file.now) result
-        (ok_or (find (λ file. bytes_eq file.0 name.now) scripts.now)
-        (fault_at BadScript (place_of (table_of section.now) key.now))) }
+    ensures { Gives (λ file. file.now) result (file_of_name scripts.now name.now
+        (key_place section.now key.now)) }
 {
     match scripts.file(name.as_bytes()) {
         Some(file) => Ok(file),
@@ -174,8 +173,8 @@ fn script_keys(has_calls: bool) -> &'static [&'static str]
 
 /// Checks that an actor that follows a script has known keys alone.
 fn known_script_keys(section: &Section<'_>) -> Result<(), ReadError>
-    ensures { Gives (λ u. u) result (only (actor_keys ++ script_keys (has (table_of section.now)
-        (codes "calls"))) (table_of section.now)) }
+    ensures { HasOnly (actor_keys
+        ++ script_keys (has (table_of section.now) (codes "calls"))) section.now result }
 {
     let own = script_keys(section.has("calls"));
     section.only(&[ACTOR_KEYS, own])

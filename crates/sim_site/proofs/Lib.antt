@@ -19,7 +19,6 @@ pub mod Due
 pub mod Taking
 pub mod Passing
 pub mod Limiting
-pub mod Timely
 pub mod Told
 pub mod Deciding
 pub mod Answering

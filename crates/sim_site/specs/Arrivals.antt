@@ -1,18 +1,26 @@
 -- The transfers on their way to a site: those in a tree, each under its key and the number of its insertion, and where one comes in.
 use Rattle.std.specs.Prelude.{Bool, List, [], false, true, ℕ, ◌<◌, ◌≡◌, ◌≤◌, ◌∷◌}
 use Rattle.std.specs.declared.cmp.Ordering.{Ordering}
-use Rattle.std.specs.List.{AllByRecursion}
+use Rattle.std.specs.List.{AllByRecursion, insert}
 use Rattle.std.specs.List.Sorted.{IsStrictlySortedBy}
 use Rattle.std.specs.Map.{keys_of}
 use Rattle.std.specs.Ordering.{is_lt, nat_cmp, on, then_cmp}
 use Rattle.sim_clock.specs.declared.key.Key.{Key}
-use Rattle.sim_clock.specs.Order.{key_cmp}
+use Rattle.sim_clock.specs.Order.{inserted_by, key_cmp}
 use Rattle.sqs_redrive.specs.declared.transfers.Outbound.{Outbound}
 use Rattle.sqs_redrive.specs.Transfers.{transfer_key}
 
 -- by their keys, and of one key by their numbers
 abbrev pub arriving_cmp : Key × ℕ → Key × ℕ → Ordering
 arriving_cmp = then_cmp (on (λ k. k.0) key_cmp) (on (λ k. k.1) nat_cmp)
+
+-- transfers in the order of their keys, with one more
+abbrev pub with_transfer : Outbound → List Outbound → List Outbound
+with_transfer t transfers = inserted_by (on transfer_key key_cmp) t transfers
+
+-- the place at which a transfer with a key comes in among others
+abbrev pub IsPlaceFor : Key → List Outbound → ℕ → Type 0
+IsPlaceFor key transfers place = (t : Outbound) → transfer_key t ≡ key → insert transfers place t ≡ with_transfer t transfers
 
 -- a transfer under its key and a number from the first one on, below the next
 pub record IsArriving (first next : ℕ) (entry : (Key × ℕ) × Outbound) : Type 0 where

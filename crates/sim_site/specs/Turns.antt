@@ -11,12 +11,15 @@ use Rattle.sqs_model.specs.Actor.{Actor, next}
 use Rattle.sqs_model.specs.Acts.{Made, act_made}
 use Rattle.sqs_model.specs.Site.{Core, Effect, actor_numbered, is_actor, no_effect, with_actor}
 use Rattle.sqs_model.specs.Answers.{most_count}
-use Rattle.sim_actor.specs.Lives.{greatest_count}
+use Rattle.sim_actor.specs.Lives.{greatest_count, act_following, answer_of}
 use Rattle.sqs_model.specs.Dues.{core_dues}
 use Rattle.sqs_model.specs.Progress.{IsRecent}
 use Rattle.sim_site.specs.Due.{IsAmong}
-use Rattle.sim_site.specs.Effects.{Did, Effects, GoesOn, Stops}
+use Rattle.sim_site.specs.Effects.{Did, Effects, GoesOn, Stops, Does}
 use Rattle.sim_site.specs.declared.handling.Handling.{Handling}
+use Rattle.sim_actor.specs.declared.replies.Reply.{Reply}
+use Rattle.sim_actor.specs.declared.replies.FollowUp.{FollowUp}
+use Rattle.sqs_model.specs.Polls.{acts_most}
 
 -- the actor with a number decides on the answer that it gets, and takes its own place afterwards
 pub record Turned (n now : ℕ) (told : Answer) (act : Act) (old new : List Actor) : Type 0 where
@@ -69,10 +72,11 @@ abbrev pub Takes : {A : Type 0} → (A → Option Answer) → Result A Refusal �
 Takes answers result before after c t =
     MatchResult result (λ x. GoesOn before after × DidTurn before.effects.now after.effects.now c (answers x) t) (Stops t.effect)
 
--- the same of a turn by the key that is handled, of one of the site's actors
-abbrev pub ActorTakes : {A : Type 0} → (A → Option Answer) → Result A Refusal → Handling → Handling → Core → Core → (Key → Actor → Turn) → Type 0
-ActorTakes answers result before after old new t =
-    (a : Actor) → a.number ≡ before.agent → actor_numbered before.agent old ≡ Some a → Takes answers result before after new (t before.key a)
+-- the same of a turn by its act, of one of the site's actors
+abbrev pub TakesAct : {A : Type 0} → (A → Option Answer) → Result A Refusal → Handling → Handling → Core → Core → Act → Type 0
+TakesAct answers result before after old new act =
+    (a : Actor) → a.number ≡ before.agent → actor_numbered before.agent old ≡ Some a
+    → Takes answers result before after new (turn_by act (act_made before.key a old act))
 
 -- the same of the next turn of the actor that acts, on an answer
 abbrev pub TakesTurn : {A : Type 0} → (A → Option Answer) → Result A Refusal → Handling → Handling → Core → Core → Answer → Type 0
@@ -91,3 +95,11 @@ pub record IsDueNow (handling : Handling) (c : Core) : Type 0 where
   pub agent : handling.agent ≡ handling.key.agent
   pub recent : IsRecent handling.key.at c.queue
   pub due : IsAmong (core_dues c) handling.key
+
+-- the actor with a number decides what it does on a reply
+abbrev pub TurnedBy : ℕ → ℕ → Reply → List Actor → List Actor → FollowUp → Type 0
+TurnedBy n now reply old new follow_up = Turned n now (answer_of reply) (act_following follow_up) old new
+
+-- how a handling ends in which the actor that acts gets a reply, and acts so many times at most
+abbrev pub ActsMost : {A : Type 0} → ℕ → Result A Refusal → Handling → Handling → Core → Core → Reply → Type 0
+ActsMost most result before after old new reply = Does result before after new (acts_most most before.key before.agent (answer_of reply) old)

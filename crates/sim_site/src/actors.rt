@@ -1,7 +1,7 @@
 //! The actors of a site; if there are many, with a tree of their wakes.
 ghost use Rattle.std.specs.Prelude.{All, IfErr, IfOk, IfSome, MatchOption, Some, flat_map, length, map, position, true, ◌<◌, ◌≡◌, ◌≤◌};
 ghost use Rattle.std.specs.List.Sorted.{IsNonDecreasingBy};
-ghost use Rattle.sim_actor.specs.Lives.{act_following, answer_of};
+ghost use Rattle.sim_actor.specs.Lives.{answer_of};
 ghost use Rattle.sim_clock.specs.Order.{least};
 ghost use Rattle.sqs_model.specs.Answers.{most_count};
 ghost use Rattle.sqs_model.specs.Counts.{actor_count, greatest};
@@ -12,7 +12,7 @@ ghost use Rattle.sim_engine.specs.Limits.{StopsWhere};
 ghost use Rattle.sim_site.specs.Kept.{HasShortWaits, IsCount, WaitsShortly};
 ghost use Rattle.sim_index.specs.Marked.{AreMarked};
 ghost use Rattle.sim_site.specs.Marked.{AreTurnedTo, brought_up, wake_mark};
-ghost use Rattle.sim_site.specs.Turns.{HasAllPolls, PassesTurn, Polled, Turned};
+ghost use Rattle.sim_site.specs.Turns.{HasAllPolls, PassesTurn, Polled, Turned, TurnedBy};
 
 use crate::agents::wake_of;
 use sim_actor::{Actor, FollowUp, Reply};
@@ -132,9 +132,7 @@ fn answered_at(
     requires place { Stands (is_actor number) actors.old.values place }
     requires moment { now ≤ most_count }
     requires marked { AreMarked wake_mark (brought_up (Some place) actors.old) }
-    ensures turned { IfOk result (λ follow_up.
-        Turned number now (answer_of reply) (act_following follow_up) actors.old.values
-        actors.new.values) }
+    ensures turned { IfOk result (TurnedBy number now reply actors.old.values actors.new.values) }
     ensures settings { map (λ a. a.settings) actors.new.values
         ≡ map (λ a. a.settings) actors.old.values }
     ensures stops { IfErr result (StopsWhere (PassesTurn number now
@@ -283,8 +281,7 @@ impl Actors {
     ) -> Result<FollowUp, Refusal>
         requires place { Stands (is_actor number) self.old place }
         requires moment { now ≤ most_count }
-        ensures turned { IfOk result (λ follow_up.
-            Turned number now (answer_of reply) (act_following follow_up) self.old self.new) }
+        ensures turned { IfOk result (TurnedBy number now reply self.old self.new) }
         ensures settings { map (λ a. a.settings) self.new ≡ map (λ a. a.settings) self.old }
         ensures stops { IfErr result (StopsWhere (PassesTurn number now
             (answer_of reply) self.old)) }

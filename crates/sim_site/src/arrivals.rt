@@ -5,8 +5,7 @@ ghost use Rattle.std.specs.Iterator.{YieldsFirstRef, item_count};
 ghost use Rattle.std.specs.Ordering.{on};
 ghost use Rattle.std.specs.VecDeque.{deque_len};
 ghost use Rattle.sim_clock.specs.Order.{IsInOrder, inserted_by, key_cmp, least};
-ghost use Rattle.sim_site.specs.Arrivals.{ComesFirst, ReportsFirst};
-ghost use Rattle.sqs_redrive.specs.declared.transfers.Outbound.{Outbound as TheOutbound};
+ghost use Rattle.sim_site.specs.Arrivals.{ComesFirst, ReportsFirst, with_transfer, IsPlaceFor};
 ghost use Rattle.sqs_redrive.specs.Transfers.{transfer_key};
 ghost use Rattle.sim_site.specs.Kept.{AddsOrKeeps};
 
@@ -83,9 +82,7 @@ impl<'a> Iterator for Transfers<'a> {
 fn place_of(soon: &VecDeque<Outbound>, key: Key) -> usize
     requires { IsInOrder (on transfer_key key_cmp) soon.now.items }
     ensures within { result ≤ deque_len soon.now }
-    ensures place { (t : TheOutbound) → transfer_key t ≡ key
-        → insert soon.now.items result t
-        ≡ inserted_by (on transfer_key key_cmp) t soon.now.items }
+    ensures place { IsPlaceFor key soon.now.items result }
 {
     let mut place = soon.len();
     while place > 0 && key.is_before(&soon[place - 1].key()) {
@@ -98,8 +95,8 @@ fn place_of(soon: &VecDeque<Outbound>, key: Key) -> usize
 #[inline(always)]
 fn insert_soon(soon: &mut VecDeque<Outbound>, transfer: Outbound) -> Result<(), AllocError>
     requires { IsInOrder (on transfer_key key_cmp) soon.old.items }
-    ensures { AddsOrKeeps result (inserted_by (on transfer_key key_cmp) transfer soon.old.items)
-        soon.old.items soon.new.items }
+    ensures { AddsOrKeeps result
+        (with_transfer transfer soon.old.items) soon.old.items soon.new.items }
 {
     let place = place_of(soon, transfer.key());
     soon.insert(place, transfer)?;
@@ -117,8 +114,8 @@ fn insert_into_full(
 ) -> Result<(), AllocError>
     requires order { IsInOrder (on transfer_key key_cmp) (soon.old.items ++ later.old) }
     requires first { ComesFirst (transfer_key transfer) later.old }
-    ensures added { OnOk result (soon.new.items ++ later.new
-        ≡ inserted_by (on transfer_key key_cmp) transfer (soon.old.items ++ later.old)) }
+    ensures added { OnOk result (soon.new.items ++ later.new ≡ with_transfer transfer
+        (soon.old.items ++ later.old)) }
     ensures same { OnErr result (soon.new.items ++ later.new ≡ soon.old.items ++ later.old) }
 {
     soon.reserve(1)?;

@@ -1,7 +1,7 @@
 //! Tasks by their numbers and by their indices.
-ghost use Rattle.std.specs.Prelude.{MatchOption, position, ◌≡◌};
-ghost use Rattle.sim_clock.specs.Places.{IsAbsent, Stands};
+ghost use Rattle.std.specs.Prelude.{position, ◌≡◌};
 ghost use Rattle.sqs_model.specs.Site.{is_task};
+ghost use Rattle.sim_site.specs.Reading.{IsPlaceOfFirst};
 
 use crate::agents::Task;
 
@@ -14,8 +14,7 @@ fn first_task(tasks: &[Task], number: u32) -> Option<usize>
 
 /// The same; the contract says more of the list.
 pub fn place_of_task(tasks: &[Task], number: u32) -> Option<usize>
-    ensures { MatchOption result (IsAbsent (is_task number) tasks.now)
-        (Stands (is_task number) tasks.now) }
+    ensures { IsPlaceOfFirst (is_task number) tasks.now result }
 {
     first_task(tasks, number)
 }

@@ -4,11 +4,11 @@ ghost use Rattle.sim_clock.specs.Firsts.{without};
 ghost use Rattle.sim_clock.specs.Order.{least};
 ghost use Rattle.sim_index.specs.Marks.{least_of};
 ghost use Rattle.sqs_model.specs.Dues.{poll_key};
-ghost use Rattle.sim_clock.specs.Places.{IsAbsent, Stands};
 ghost use Rattle.sqs_model.specs.Step.{ends_at};
 ghost use Rattle.sim_index.specs.Marked.{AreMarked};
 ghost use Rattle.sim_site.specs.Marked.{AreWaiting, IsFirstAt, IsLeft, KeepPolls, KeepWaiting, end_mark, place_ends_at, waiting};
 ghost use Rattle.sim_site.specs.Kept.{AddsOrKeeps};
+ghost use Rattle.sim_site.specs.Reading.{IsPlaceOfFirst};
 
 use crate::agents::Poll;
 use sim_clock::Key;
@@ -99,8 +99,7 @@ fn first_ending(places: &[Option<Poll>], key: Key) -> Option<usize>
 // The same, at once if no poll ends before.
 fn place_of_end(places: &MarkedList<Option<Poll>>, key: Key) -> Option<usize>
     requires { AreMarked end_mark places.now }
-    ensures { MatchOption result (IsAbsent (place_ends_at key) places.now.values)
-        (Stands (place_ends_at key) places.now.values) }
+    ensures { IsPlaceOfFirst (place_ends_at key) places.now.values result }
 {
     if is_least(places, key) {
         return places.place_of_least();

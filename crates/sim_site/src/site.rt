@@ -8,7 +8,7 @@ ghost use Rattle.sqs_model.specs.Progress.{AreTimely, IsRecent};
 ghost use Rattle.sqs_model.specs.Scenario.{fresh_core};
 ghost use Rattle.sim_site.specs.Kept.{IsCount, IsSetUp};
 ghost use Rattle.sqs_model.specs.Step.{handled};
-ghost use Rattle.sim_site.specs.Effects.{HasHandled};
+ghost use Rattle.sim_site.specs.Effects.{DoesDue, site_of};
 
 use crate::agents::Task;
 use crate::arrivals::{Arrivals, Transfers};
@@ -69,9 +69,8 @@ fn handle_due(
     requires agent { handling.old.agent ≡ handling.old.key.agent }
     requires recent { IsRecent handling.old.key.at core.old.queue }
     requires timely { AreTimely arriving.old }
-    ensures { HasHandled result handling.old handling.new
-        (record { core = core.new; arriving = arriving.new })
-        (handled handling.old.key (record { core = core.old; arriving = arriving.old })) }
+    ensures { DoesDue result handling.old handling.new (site_of core.old arriving.old)
+        (site_of core.new arriving.new) }
 {
     if handling.key.class == Class::Arrival {
         let transfer = arriving.take_first();
@@ -101,12 +100,8 @@ impl Site {
         requires roles { All (λ x. IsRole x.1.role) actors.items }
         requires set_up { IsSetUp settings (map (λ x. x.1) actors.items) tasks.items }
         requires sample { sample ≤ most_count }
-        ensures { IfOk result (λ site.
-            site
-            ≡ record {
-              core = fresh_core number settings actors.items tasks.items seed sample;
-              arriving = [];
-            }) }
+        ensures { IfOk result (λ s. s
+            ≡ site_of (fresh_core number settings actors.items tasks.items seed sample) []) }
     {
         let actors = open_actors(alloc, actors, seed)?;
         let tasks = open_tasks(alloc, tasks.as_slice(), seed)?;

@@ -1,10 +1,11 @@
 //! A site without the transfers on their way to it.
-ghost use Rattle.std.specs.Prelude.{◌≡◌, ◌≤◌, [], map};
+ghost use Rattle.std.specs.Prelude.{◌≡◌, ◌≤◌, map};
 ghost use Rattle.sim_site.specs.Kept.{IsCount, IsSetUp, numbered_settings};
 ghost use Rattle.sqs_model.specs.Answers.{most_count};
 ghost use Rattle.sim_clock.specs.Order.{least};
 ghost use Rattle.sqs_model.specs.Counts.{greatest, site_count, task_count};
 ghost use Rattle.sqs_model.specs.Dues.{core_dues, sample_dues};
+ghost use Rattle.sim_site.specs.Reading.{idle_core};
 
 mod arrivals;
 mod deletes;
@@ -84,17 +85,7 @@ impl Core {
             (map numbered_settings tasks.items) }
         requires sample { sample ≤ most_count }
         requires words { draws.taken ≤ most_count }
-        ensures { result
-            ≡ record {
-              queue = queue;
-              actors = actors;
-              tasks = tasks.items;
-              polls = [];
-              sent = 0;
-              draws = draws;
-              sample = sample;
-              samples = 0;
-            } }
+        ensures { result ≡ idle_core queue actors tasks.items draws sample }
     {
         Core {
             alloc,

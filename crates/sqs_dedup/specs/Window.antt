@@ -1,5 +1,5 @@
 -- The entries that a window holds by their keys, and which of them it shows.
-use Rattle.std.specs.Prelude.{All, Bool, List, None, Option, Some, find, if◌then◌else◌, map, nat_lt, ℕ, ◌&&◌, ◌++◌, ◌+◌, ◌≤◌}
+use Rattle.std.specs.Prelude.{All, Bool, List, None, Option, Some, find, if◌then◌else◌, map, nat_lt, ℕ, ◌&&◌, ◌++◌, ◌+◌, ◌≤◌, [], ◌∷◌}
 use Rattle.std.specs.List.{IsDistinct}
 use Rattle.std.specs.Map.{keys_of}
 use Rattle.std.specs.Option.{option_eq}
@@ -18,6 +18,11 @@ same_key a b = option_eq bytes_eq a.scope b.scope && bytes_eq a.id b.id
 abbrev pub living_among : ℕ → Option (List ℕ) → List ℕ → List Entry → Option Entry
 living_among now scope id entries =
     find (λ e. nat_lt now e.end && same_text e.scope scope && bytes_eq e.id id) entries
+
+-- entries with one more, of the message with this number, which lives for 5 minutes; those that have ended go
+abbrev pub with_entry_of : ℕ → ScopedId → ℕ → List Entry → List Entry
+with_entry_of now key number entries =
+    living_entries now entries ++ record { scope = key.scope; id = key.id; end = now + deduplication_interval; number = number } ∷ []
 
 -- the entry of a key
 abbrev pub entry_of : ScopedId × Held → Entry

@@ -4,7 +4,7 @@ ghost use Rattle.std.specs.Option.{option_map};
 ghost use Rattle.sqs_model.specs.Answers.{most_count};
 ghost use Rattle.sqs_model.specs.Calls.{living_entries};
 ghost use Rattle.sqs_model.specs.Longest.{deduplication_interval};
-ghost use Rattle.sqs_dedup.specs.Window.{living_among};
+ghost use Rattle.sqs_dedup.specs.Window.{living_among, with_entry_of};
 
 use crate::held::{Held, add, number_at, only};
 use crate::key::ScopedId;
@@ -82,14 +82,7 @@ impl Dedup {
         requires moment { now ≤ most_count }
         requires no_earlier { All (λ e. e.end ≤ now + deduplication_interval) self.old }
         requires none_living { living_among now key.scope key.id self.old ≡ None }
-        ensures entered { OnOk result (self.new
-            ≡ living_entries now self.old
-            ++ record {
-              scope = key.scope;
-              id = key.id;
-              end = now + deduplication_interval;
-              number = number;
-            } ∷ []) }
+        ensures entered { OnOk result (self.new ≡ with_entry_of now key number self.old) }
         ensures unchanged { OnErr result (self.new ≡ self.old) }
     {
         let held = Held {

@@ -1,8 +1,7 @@
 //! A FIFO queue on its own: its messages in order, their groups and deduplication, and the calls of
 //! Amazon SQS on it.
 ghost use Rattle.std.specs.Prelude.{◌≡◌, ◌⊎◌, ◌*◌, ◌<◌, ◌≤◌, All, Err, IfOk, IsOkUnless, OnErr, OnOk, count_by, false, length, not};
-ghost use Rattle.std.specs.Result.{result_map_both};
-ghost use Rattle.sqs_queue.specs.Words.{IsFifoSettings, IsFramed, IsRecent, MeetsArrival, MeetsReceive, MeetsSend, PassesSend, all_available, arrived, change, delete_fifo, expired, is_delayed, is_empty, is_in_flight, is_visible, least, most_count, queue_dues, receive, released, returned, take_movable, to_give, without_messages};
+ghost use Rattle.sqs_queue.specs.Words.{IsFifoSettings, IsFramed, IsRecent, MeetsArrival, MeetsReceive, MeetsSend, PassesSend, all_available, arrived, change, delete_fifo, expired, is_delayed, is_empty, is_in_flight, is_visible, least, most_count, queue_dues, receive, released, returned, take_movable, to_give, without_messages, TakesMovable};
 
 use sim_clock::{Key, Refusal};
 use sqs_message::{Body, Receipt, Text};
@@ -231,8 +230,8 @@ impl FifoQueue {
     /// limit. `Memory`.
     pub fn receive(&mut self, now: u64, max: u64, timeout: Option<u64>) -> Result<Vec<Got>, Refusal>
         requires { now ≤ most_count }
-        ensures answer { MeetsReceive self.old.queue (result_map_both (λ batch. batch.items)
-            (λ refusal. refusal) result) self.new.queue now max timeout 1 false }
+        ensures answer { MeetsReceive
+            (λ b. b.items) self.old.queue result self.new.queue now max timeout 1 false }
         ensures looked { OnOk result (self.new.looked ≤ 2 * max) }
         ensures read { IfOk result (λ batch. length batch.items ≤ self.new.looked) }
         ensures counted { OnOk result
@@ -267,8 +266,8 @@ impl FifoQueue {
         max: u64,
         to: Option<u32>,
     ) -> Result<(Vec<(u32, Load)>, Rest), Refusal>
-        ensures taken { IfOk result (λ answer.
-            take_movable self.old.queue max to ≡ ((answer.0.items, answer.1), self.new.queue)) }
+        ensures taken { IfOk result
+            (λ answer. TakesMovable self.old.queue self.new.queue max to answer.0.items answer.1) }
         ensures unchanged { OnErr result (self.new ≡ self.old) }
         ensures memory_only { IsOkUnless result Refusal.Memory }
         ensures kept { self.new.queue.entries ≡ self.old.queue.entries }

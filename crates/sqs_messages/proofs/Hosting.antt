@@ -14,7 +14,7 @@ use Rattle.sqs_model.specs.Available.{has_host}
 use Rattle.sqs_model.specs.Queue.{is_visible}
 use Rattle.sqs_messages.proofs.Few.{take_few}
 use Rattle.sqs_messages.proofs.Bits.{host_bit, no_meets}
-use Rattle.sqs_messages.proofs.Marked.{wanted}
+use Rattle.sqs_messages.specs.Marked.{wanted}
 use Rattle.sqs_messages.proofs.Wanted.{filter_all}
 use Rattle.sqs_messages.specs.declared.slot.State.{State}
 use Rattle.sqs_messages.specs.Heads.{told}

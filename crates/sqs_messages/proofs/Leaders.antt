@@ -8,14 +8,11 @@ use Rattle.sqs_message.specs.declared.message.Message.{Message}
 use Rattle.sqs_model.specs.Available.{by_group, open_from}
 use Rattle.sqs_model.specs.Progress.{Ascends}
 use Rattle.sqs_messages.specs.Heads.{AreLed, given_by, leads, told}
-use Rattle.sqs_messages.specs.Slots.{Shelved, number_of}
+use Rattle.sqs_messages.specs.Slots.{Shelved, number_of, numbers_of}
 use Rattle.sqs_messages.proofs.Leads.{by_leads}
-use Rattle.sqs_messages.proofs.Marked.{wanted}
+use Rattle.sqs_messages.specs.Marked.{wanted}
 use Rattle.sqs_messages.proofs.Wanted.{filter_all, filter_next, filter_none}
 use Rattle.sqs_messages.proofs.Grouped.{told_ascends}
-
-abbrev pub numbers_of : List Message → List ℕ
-numbers_of ms = map (λ m. m.number) ms
 
 -- what was chosen so far, and what the groups of the leaders from a number on add
 pub record IsChoice (items : List Shelved) (most : ℕ) (whole : List ℕ) (from : ℕ) (chosen : List ℕ) : Type 0 where

@@ -16,7 +16,7 @@ use Rattle.sqs_redrive.specs.declared.settings.Kind.TheVariants.{Fifo, Standard}
 use Rattle.sqs_messages.specs.Heads.{AreLed, any_out, given_by, in_group, is_first, kept_until, leads, told, until_delayed}
 use Rattle.sqs_messages.specs.Slots.{Shelved, is_numbered, number_of}
 use Rattle.sqs_messages.proofs.Leads.{by_leads, find_has}
-use Rattle.sqs_messages.proofs.Marked.{wanted}
+use Rattle.sqs_messages.specs.Marked.{wanted}
 use Rattle.sqs_messages.proofs.Wanted.{filter_all, filter_next, filter_none}
 use Rattle.sqs_model.specs.Valid.{IsFifo}
 use Rattle.sqs_messages.proofs.Fronts.{found_here}

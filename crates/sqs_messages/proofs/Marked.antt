@@ -20,6 +20,7 @@ use Rattle.sqs_messages.specs.Shelves.{AreShelf}
 use Rattle.sqs_messages.specs.Slots.{IsNamed, Shelved, item_of, message_and_group, number_and_group, place_and_group, shelved, shown, standing}
 use Rattle.sqs_messages.proofs.Firsts.{none_find}
 use Rattle.sqs_messages.proofs.Shelves.{IsFrom, all_shelved, find_first, named_some, some_in, zip_at}
+use Rattle.sqs_messages.specs.Marked.{wanted}
 
 told_one : (o : Option Message) (mark : Mark) (group : ℕ) (items : List Shelved) → told (cons_option (option_map (item_of mark group) o) items) ≡ cons_option o (told items)
 told_one None mark group items = refl
@@ -56,10 +57,6 @@ any_shelved hosts [] [] h = refl
 any_shelved hosts [] (m ∷ marks) h = absurd h
 any_shelved hosts (s ∷ slots) [] h = absurd h
 any_shelved hosts (s ∷ slots) (m ∷ marks) h = ap (λ b. meets hosts m || b) (any_shelved hosts slots marks h.1) ∙ any_one hosts s.message m s.group (shelved slots marks) h.0.empty
-
--- whether a message of a number from one on is on one of these hosts
-abbrev pub wanted : ℕ → ℕ → Shelved → Bool
-wanted from hosts s = nat_le from s.message.number && meets hosts s.mark
 
 unwanted_by : (from hosts n : ℕ) (mark : Mark) (group : ℕ) (o : Option Message) → IfSome o (λ m. m.number ≡ n) → (n < from) ⊎ (meets hosts mark ≡ false)
     → IfSome (option_map (item_of mark group) o) (λ b. wanted from hosts b ≡ false)

@@ -15,7 +15,7 @@ use Rattle.sqs_messages.proofs.Grouped.{told_ascends}
 use Rattle.sqs_messages.specs.declared.groups.Groups.{Groups}
 use Rattle.sqs_messages.proofs.Hosting.{any_seen, first_seen, seen, visible_taken}
 use Rattle.sqs_messages.proofs.Leading.{any_given}
-use Rattle.sqs_messages.proofs.Marked.{wanted}
+use Rattle.sqs_messages.specs.Marked.{wanted}
 use Rattle.sqs_messages.proofs.Wanted.{any_wanted}
 use Rattle.sqs_messages.specs.declared.order.Order.{Order}
 use Rattle.sqs_messages.specs.declared.order.Order.TheVariants as orders

@@ -15,7 +15,7 @@ use Rattle.sqs_messages.specs.Shelves.{AreShelf}
 use Rattle.sqs_messages.specs.Slots.{IsNamed, Shelved, item_of, number_and_group, number_of, shelved}
 use Rattle.sqs_messages.proofs.Firsts.{none_of, some_of}
 use Rattle.sqs_messages.proofs.Leads.{find_has}
-use Rattle.sqs_messages.proofs.Marked.{wanted}
+use Rattle.sqs_messages.specs.Marked.{wanted}
 use Rattle.sqs_messages.proofs.Shelves.{all_shelved, zip_at}
 
 lower : (a b : ℕ) (xs : List Shelved) → a ≤ b → Ascends number_of b xs → Ascends number_of a xs

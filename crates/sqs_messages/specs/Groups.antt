@@ -6,7 +6,7 @@ use Rattle.sqs_message.specs.declared.message.Message.{Message}
 use Rattle.sqs_message.specs.declared.message.Place.{Place}
 use Rattle.sqs_message.specs.declared.message.Place.TheVariants as places
 use Rattle.sqs_model.specs.Queue.{is_in_flight, is_visible, same_text}
-use Rattle.sqs_messages.specs.Heads.{AreLed, in_group, of_group, told}
+use Rattle.sqs_messages.specs.Heads.{AreLed, in_group, of_group, told, IsLedBut}
 use Rattle.sqs_messages.specs.Slots.{Shelved, held}
 use Rattle.sqs_messages.specs.declared.groups.members.Members.{Members}
 
@@ -26,6 +26,22 @@ nobody = record { numbers = []; out = 0 }
 abbrev pub group_at : List Members → ℕ → Kept
 group_at groups i = get_or (map kept groups) i nobody
 
+-- its numbers
+abbrev pub numbers_at : List Members → ℕ → List ℕ
+numbers_at groups i = (group_at groups i).numbers
+
+-- how many of its messages are in flight
+abbrev pub out_at : List Members → ℕ → ℕ
+out_at groups i = (group_at groups i).out
+
+-- two lists of numbers have the same messages of a shelf
+abbrev pub HoldSame : List Shelved → List ℕ → List ℕ → Type 0
+HoldSame items old new = held items new ≡ held items old
+
+-- numbers that are below whatever the old ones were below
+abbrev pub StayBelow : List ℕ → List ℕ → Type 0
+StayBelow old new = (n : ℕ) → All (λ k. k < n) old → All (λ k. k < n) new
+
 -- the place of a group by its name
 abbrev pub place_by : List (Option (List ℕ)) → Option (List ℕ) → ℕ
 place_by names g = position_or_len (same_text g) names
@@ -33,6 +49,10 @@ place_by names g = position_or_len (same_text g) names
 -- the group of a name
 abbrev pub group_by : List (Option (List ℕ)) → List Members → Option (List ℕ) → Kept
 group_by names groups g = group_at groups (place_by names g)
+
+-- each group has the numbers that it had, and as many messages in flight
+abbrev pub KeepGroups : List (Option (List ℕ)) → List Members → List (Option (List ℕ)) → List Members → Type 0
+KeepGroups old_names old names groups = (g : Option (List ℕ)) → group_by names groups g ≡ group_by old_names old g
 
 -- whether a message is of a group and in flight
 abbrev pub is_out : Option (List ℕ) → Message → Bool
@@ -45,6 +65,13 @@ bit b = cond b 1 0
 -- how many of a group's messages are in flight
 abbrev pub out_of : Option (List ℕ) → List Message → ℕ
 out_of g ms = length (filter (is_out g) ms)
+
+-- the first message of a group with these numbers, of which so many are in flight, is marked if it leads: if all
+-- messages but that group's were marked rightly, all are
+abbrev pub MarksLeader : List Shelved → List ℕ → ℕ → List Shelved → Type 0
+MarksLeader old numbers out new =
+    (g : Option (List ℕ)) → All (IsLedBut old g) old → held old numbers ≡ of_group g (told old)
+    → out ≡ out_of g (told old) → AreLed new
 
 -- a group's list has its messages, in order, and its count those that are in flight
 pub record IsGrouped (items : List Shelved) (next : ℕ) (g : Option (List ℕ)) (k : Kept) : Type 0 where

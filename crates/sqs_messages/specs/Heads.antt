@@ -3,7 +3,7 @@ use Rattle.std.specs.List.{list_any}
 use Rattle.std.specs.Prelude.{◌≡◌, All, map, Bool, None, Some, false, filter, find, true, List, Option, [], not, ℕ, ◌&&◌, ◌==◌, ◌∷◌}
 use Rattle.sim_index.specs.Marks.{meets}
 use Rattle.sqs_message.specs.declared.message.Message.{Message}
-use Rattle.sqs_messages.specs.Slots.{Shelved}
+use Rattle.sqs_messages.specs.Slots.{Shelved, held}
 use Rattle.sim_clock.specs.Firsts.{kept_when}
 use Rattle.sqs_model.specs.Queue.{is_delayed, is_in_flight, is_visible, same_text}
 
@@ -47,6 +47,10 @@ of_group g ms = filter (in_group g) ms
 -- what a head's group may give
 abbrev pub given_by : List Message → Message → List Message
 given_by all h = until_delayed (of_group h.group all)
+
+-- what a group with these numbers may give
+abbrev pub given_of : List Shelved → List ℕ → List Message
+given_of items numbers = until_delayed (held items numbers)
 
 -- whether a message is the first of its group, by its number
 abbrev pub is_first : List Message → Message → Bool

@@ -1,4 +1,5 @@
 pub mod Slots
+pub mod Choices
 pub mod Heads
 pub mod Counted
 pub mod Shelves

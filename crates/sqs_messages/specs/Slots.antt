@@ -1,5 +1,5 @@
 -- The slots of a shelf, and what is in them.
-use Rattle.std.specs.Prelude.{[], ◌∷◌, ◌≡◌, ◌≢◌, ◌==◌, All, Bool, IsSome, find, IfSome, List, None, Option, get_or, length, ℕ, ◌<◌}
+use Rattle.std.specs.Prelude.{[], ◌∷◌, ◌≡◌, ◌≢◌, ◌==◌, All, Bool, IsSome, find, IfSome, List, None, Option, get_or, length, ℕ, ◌<◌, map}
 use Rattle.std.specs.List.{cons_option, filter_map}
 use Rattle.std.specs.Option.{option_map}
 use Rattle.sim_index.specs.declared.mark.Mark.{Mark}
@@ -47,6 +47,10 @@ pub record IsNamed (s : Slot) (mark : Mark) : Type 0 where
 abbrev pub restated : State → Message → Message
 restated s m = record m { place = s.place; release = s.release; receives = s.receives; received = s.received }
 
+-- a message with another state and another mark
+abbrev pub remarked : State → Mark → Shelved → Shelved
+remarked state mark s = record s { message = restated state s.message; mark = mark }
+
 -- messages with their marks, in the order of their numbers, the next number, and whether there is certainly room for
 -- one more message
 pub record Holding : Type 0 where
@@ -72,6 +76,10 @@ pub record IsOn (slots : List Slot) (n i : ℕ) : Type 0 where
 -- the number of a message with its mark
 abbrev pub number_of : Shelved → ℕ
 number_of s = s.message.number
+
+-- the numbers of messages
+abbrev pub numbers_of : List Message → List ℕ
+numbers_of ms = map (λ m. m.number) ms
 
 -- parts of a message with the index of its group: its number, its state, or all of it
 abbrev pub number_and_group : Shelved → ℕ × ℕ

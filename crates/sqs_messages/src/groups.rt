@@ -6,7 +6,7 @@
 ghost use Rattle.std.specs.Prelude.{◌≡◌, [], map};
 ghost use Rattle.sim_clock.specs.Firsts.{changed, without};
 ghost use Rattle.sqs_messages.specs.Groups.{AreInGroups};
-ghost use Rattle.sqs_messages.specs.Marked.{restamped, unhosted};
+ghost use Rattle.sqs_messages.specs.Marked.{restamped, unhosted, with_state};
 ghost use Rattle.sqs_messages.specs.Slots.{is_numbered, message_of};
 
 use crate::shelf::Shelf;
@@ -70,7 +70,7 @@ impl Groups {
         ensures grouped { AreInGroups shelf.new.items shelf.new.next self.new.names.keys
             self.new.members.items }
         ensures changed { map unhosted shelf.new.items
-            ≡ map unhosted (changed (is_numbered number) (restamped state due) shelf.old.items) }
+            ≡ map unhosted (with_state number state due shelf.old.items) }
         ensures next { shelf.new.next ≡ shelf.old.next }
     {
         let _next = shelf.number();

@@ -6,9 +6,10 @@
 ghost use Rattle.std.specs.Prelude.{◌≡◌, ◌+◌, ◌*◌, ◌++◌, ◌∷◌, ◌<◌, ◌≤◌, ◌^◌, [], IfOk, filter, length, map, take, true};
 ghost use Rattle.sim_clock.specs.Firsts.{changed};
 ghost use Rattle.sim_index.specs.Marks.{meets};
-ghost use Rattle.sqs_messages.specs.Marked.{host_mark, restamped, unhosted};
+ghost use Rattle.sqs_messages.specs.Marked.{host_mark, restamped, unhosted, with_state, on_hosts};
 ghost use Rattle.sqs_messages.specs.Orders.{AreOnHosts};
 ghost use Rattle.sqs_messages.specs.Slots.{is_numbered, number_of};
+ghost use Rattle.sqs_messages.specs.Choices.{chosen, ChoosesOnShelf};
 
 use crate::choose::Choice;
 use crate::shelf::Shelf;
@@ -55,7 +56,7 @@ pub fn put(hosts: u64, shelf: &mut Shelf, number: u64, state: State, due: Option
     requires hosted { AreOnHosts hosts shelf.old.items }
     ensures hosted { AreOnHosts hosts shelf.new.items }
     ensures changed { map unhosted shelf.new.items
-        ≡ map unhosted (changed (is_numbered number) (restamped state due) shelf.old.items) }
+        ≡ map unhosted (with_state number state due shelf.old.items) }
     ensures next { shelf.new.next ≡ shelf.old.next }
 {
     let host = host_bit(hosts, number, state.place);
@@ -65,11 +66,9 @@ pub fn put(hosts: u64, shelf: &mut Shelf, number: u64, state: State, due: Option
 /// The numbers of the first messages, at most `most`, that may be received and are on one of the
 /// hosts in `set`. It reads no other messages.
 pub fn choose(alloc: Global, shelf: &Shelf, set: u32, most: u64) -> Result<Choice, AllocError>
-    ensures numbers { IfOk result (λ choice.
-        choice.numbers.items
-        ≡ map number_of (take most (filter (λ s. meets set s.mark) shelf.now.items))) }
+    ensures numbers { IfOk result (ChoosesOnShelf most (on_hosts set shelf.now.items)) }
     ensures looked { IfOk result (λ choice. choice.looked ≤ 2 * most) }
-    ensures read { IfOk result (λ choice. length choice.numbers.items ≤ choice.looked) }
+    ensures read { IfOk result (λ choice. chosen choice ≤ choice.looked) }
 {
     let mut choice = Choice {
         numbers: SmallVec::new(alloc),

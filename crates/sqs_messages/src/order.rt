@@ -3,7 +3,7 @@ ghost use Rattle.std.specs.Prelude.{◌≡◌, ◌+◌, ◌++◌, ◌∷◌, ◌
 ghost use Rattle.sim_clock.specs.Firsts.{changed, without};
 ghost use Rattle.sqs_model.specs.Valid.{IsQueueSettings};
 ghost use Rattle.sqs_redrive.specs.declared.settings.Kind.{Kind};
-ghost use Rattle.sqs_messages.specs.Marked.{restamped, unhosted};
+ghost use Rattle.sqs_messages.specs.Marked.{restamped, unhosted, with_state};
 ghost use Rattle.sqs_messages.specs.Orders.{AreInOrder, IsOrderOf, IsRoomed, hosts_by};
 ghost use Rattle.sqs_messages.specs.Slots.{Shelved, is_numbered, message_of};
 
@@ -105,7 +105,7 @@ impl Order {
         ensures ordered { AreInOrder shelf.new.items shelf.new.next self.new }
         ensures kind { (kind : Kind) → IsOrderOf kind self.old → IsOrderOf kind self.new }
         ensures changed { map unhosted shelf.new.items
-            ≡ map unhosted (changed (is_numbered number) (restamped state due) shelf.old.items) }
+            ≡ map unhosted (with_state number state due shelf.old.items) }
         ensures next { shelf.new.next ≡ shelf.old.next }
     {
         match self {

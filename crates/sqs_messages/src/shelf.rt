@@ -7,7 +7,8 @@ ghost use Rattle.sim_index.specs.Marks.{least_of, meets};
 ghost use Rattle.sqs_model.specs.Progress.{Ascends};
 ghost use Rattle.sqs_model.specs.Queue.{is_delayed, is_in_flight, is_visible};
 ghost use Rattle.sqs_messages.specs.Heads.{told};
-ghost use Rattle.sqs_messages.specs.Slots.{is_numbered, message_and_group, number_and_group, number_of, place_and_group, restated, with_hosts};
+ghost use Rattle.sqs_messages.specs.Slots.{is_numbered, message_and_group, number_and_group, number_of, place_and_group, restated, with_hosts, item_of, remarked};
+ghost use Rattle.sqs_messages.specs.Marked.{wanted};
 
 use crate::counts::{Counts, NO_COUNTS, count_in, count_out};
 use crate::messages::{Messages, messages_in};
@@ -94,8 +95,7 @@ impl Shelf {
         ensures found { result
             ≡ option_map place_and_group (find (is_numbered number) self.old.items) }
         ensures items { self.new.items
-            ≡ changed (is_numbered number)
-            (λ s. record s { message = restated state s.message; mark = mark }) self.old.items }
+            ≡ changed (is_numbered number) (remarked state mark) self.old.items }
         ensures next { self.new.next ≡ self.old.next }
     {
         let place = place_of(self.slots.values(), number)?;
@@ -182,8 +182,7 @@ impl Shelf {
     #[inline(always)]
     pub fn next(&self, from: u64, hosts: u32) -> Option<(u64, usize)>
         ensures found { result
-            ≡ option_map number_and_group
-            (find (λ s. nat_le from s.message.number && meets hosts s.mark) self.now.items) }
+            ≡ option_map number_and_group (find (wanted from hosts) self.now.items) }
         ensures bound { IfSome result (λ first. first.0 < self.now.next) }
         ensures range { self.now.next < 2 ^ 64 }
         ensures ordered { Ascends number_of 0 self.now.items }
@@ -227,8 +226,8 @@ impl Shelf {
     pub fn push(&mut self, message: Message, group: usize, mark: Mark) -> Result<(), AllocError>
         requires number { message.number ≡ self.old.next }
         requires range { self.old.next + 1 < 2 ^ 64 }
-        ensures pushed { OnOk result (self.new.items
-            ≡ self.old.items ++ record { message = message; mark = mark; group = group } ∷ []) }
+        ensures pushed { OnOk result (self.new.items ≡ self.old.items
+            ++ item_of mark group message ∷ []) }
         ensures next { OnOk result (self.new.next ≡ self.old.next + 1) }
         ensures unchanged { OnErr result (self.new ≡ self.old) }
         ensures succeeds { self.old.ready ≡ true → IsOk result }

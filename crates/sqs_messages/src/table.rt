@@ -3,7 +3,7 @@ ghost use Rattle.std.specs.Prelude.{◌≡◌, ◌+◌, ◌++◌, ◌∷◌, ◌
 ghost use Rattle.std.specs.Option.{option_copied};
 ghost use Rattle.sim_clock.specs.Firsts.{is_empty};
 ghost use Rattle.sim_clock.specs.Order.{least};
-ghost use Rattle.sqs_dedup.specs.Window.{living_among};
+ghost use Rattle.sqs_dedup.specs.Window.{living_among, with_entry_of};
 ghost use Rattle.sqs_model.specs.Answers.{most_count};
 ghost use Rattle.sqs_model.specs.Available.{available};
 ghost use Rattle.sqs_model.specs.Calls.{living_entries, with_message};
@@ -17,6 +17,7 @@ ghost use Rattle.sqs_messages.specs.Orders.{IsRoomed};
 ghost use Rattle.sqs_messages.specs.Slots.{restated};
 ghost use Rattle.sqs_messages.specs.Stored.{IsCounted, IsStored};
 ghost use Rattle.sqs_messages.specs.Tables.{AreKept};
+ghost use Rattle.sqs_messages.specs.Choices.{ChoosesFirst, chosen};
 
 use crate::choose::Choice;
 use crate::counts::Counts;
@@ -171,13 +172,7 @@ impl MessageTable {
         requires none_living { living_among now key.scope key.id entries.old ≡ None }
         ensures added { OnOk result (self.new ≡ with_message self.old message) }
         ensures entered { OnOk result (entries.new
-            ≡ living_entries now entries.old
-            ++ record {
-              scope = key.scope;
-              id = key.id;
-              end = now + deduplication_interval;
-              number = self.old.arrivals;
-            } ∷ []) }
+            ≡ with_entry_of now key self.old.arrivals entries.old) }
         ensures unchanged { OnErr result (self.new ≡ self.old) }
         ensures same_entries { OnErr result (entries.new ≡ entries.old) }
     {
@@ -246,10 +241,9 @@ impl MessageTable {
     ///
     /// `AllocError` if memory runs out.
     pub fn first_numbers(&self, hosts: u32, most: u64) -> Result<Choice, AllocError>
-        ensures numbers { IfOk result (λ choice.
-            choice.numbers.items ≡ map (λ m. m.number) (take most (available self.now hosts))) }
+        ensures numbers { IfOk result (ChoosesFirst most (available self.now hosts)) }
         ensures looked { IfOk result (λ choice. choice.looked ≤ 2 * most) }
-        ensures read { IfOk result (λ choice. length choice.numbers.items ≤ choice.looked) }
+        ensures read { IfOk result (λ choice. chosen choice ≤ choice.looked) }
         ensures ordered { Ascends (λ m. m.number) 0 self.now.records }
     {
         let _next = self.shelf.number();

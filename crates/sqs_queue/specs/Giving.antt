@@ -1,5 +1,5 @@
 -- Giving in two passes: first what is returned for each message, then giving them one after another.
-use Rattle.std.specs.Prelude.{All, IfSome, List, None, Option, [], if◌then◌else◌, ℕ, ◌++◌, ◌+◌, ◌<◌, ◌==◌, ◌∷◌}
+use Rattle.std.specs.Prelude.{All, IfSome, List, None, Option, [], if◌then◌else◌, ℕ, ◌++◌, ◌+◌, ◌<◌, ◌==◌, ◌∷◌, map, take}
 use Rattle.sqs_message.specs.declared.message.Message.{Message}
 use Rattle.sqs_redrive.specs.declared.answers.Got.{Got}
 use Rattle.sqs_redrive.specs.declared.transfers.Load.{Load}
@@ -8,6 +8,7 @@ use Rattle.sqs_model.specs.Progress.{Differ}
 use Rattle.sqs_model.specs.Queue.{Queue, numbered, with_change}
 use Rattle.sqs_model.specs.Receive.{received}
 use Rattle.sqs_model.specs.Return.{released}
+use Rattle.sqs_model.specs.Available.{available}
 
 -- what a receive returns for a message, before it gives it
 abbrev pub told_of : ℕ → Message → Got
@@ -20,6 +21,14 @@ told_of site m =
       body = m.body;
       left = None;
     }
+
+-- the same for each of a queue's messages
+abbrev pub told_by : Queue → List Message → List Got
+told_by q ms = map (told_of q.site) ms
+
+-- and for the first ones that it may give to a receive that sees some hosts
+abbrev pub told_first : Queue → ℕ → ℕ → List Got
+told_first q hosts most = told_by q (take most (available q hosts))
 
 -- what is returned, with the load of a message that left
 abbrev pub with_left : Got → Option Load → Got

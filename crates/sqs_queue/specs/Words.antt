@@ -12,6 +12,6 @@ pub use Rattle.sqs_model.specs.Queue.{IsFramed, is_delayed, is_in_flight, is_vis
 pub use Rattle.sqs_model.specs.Receive.{receive, to_give}
 pub use Rattle.sqs_model.specs.Return.{released}
 pub use Rattle.sqs_model.specs.Task.{take_movable}
-pub use Rattle.sqs_queue.specs.Calls.{MeetsArrival, MeetsOneMore, MeetsReceive, MeetsSend, PassesSend, never_refused}
+pub use Rattle.sqs_queue.specs.Calls.{MeetsArrival, MeetsOneMore, MeetsReceive, MeetsSend, PassesSend, TakesMovable, never_refused}
 pub use Rattle.sqs_queue.specs.Looking.{without_messages}
 pub use Rattle.sqs_queue.specs.Kinds.{IsFifoSettings, IsStandardSettings}

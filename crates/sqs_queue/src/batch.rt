@@ -1,8 +1,8 @@
 //! What a receive returns for the messages that it gives.
-ghost use Rattle.std.specs.Prelude.{◌≡◌, ◌⊎◌, ◌+◌, ◌<◌, All, Err, IfErr, IfOk, OnOk, map};
+ghost use Rattle.std.specs.Prelude.{◌≡◌, ◌⊎◌, ◌+◌, ◌<◌, All, Err, IfErr, IfOk, OnOk};
 ghost use Rattle.sqs_model.specs.Answers.{most_count};
-ghost use Rattle.sqs_queue.specs.Giving.{told_of};
-ghost use Rattle.sqs_queue.specs.Picked.{messages_of};
+ghost use Rattle.sqs_queue.specs.Giving.{told_of, told_by};
+ghost use Rattle.sqs_queue.specs.Picked.{picked};
 ghost use Rattle.sqs_queue.specs.Calls.{HasAllReceives};
 
 use sim_clock::Refusal;
@@ -54,13 +54,12 @@ pub fn batch_of(
     messages: &MessageTable,
     numbers: &[u64],
 ) -> Result<Vec<Got>, Refusal>
-    ensures told { IfOk result (λ batch.
-        batch.items
-        ≡ map (told_of messages.now.site) (messages_of messages.now.records numbers.now)) }
-    ensures below { OnOk result
-        (All (λ m. m.receives < most_count) (messages_of messages.now.records numbers.now)) }
+    ensures told { IfOk result (λ batch. batch.items
+        ≡ told_by messages.now (picked messages.now numbers.now)) }
+    ensures below { OnOk result (All (λ m. m.receives
+        < most_count) (picked messages.now numbers.now)) }
     ensures at_limit { result ≡ Err Refusal.CountLimit
-        → HasAllReceives (messages_of messages.now.records numbers.now) }
+        → HasAllReceives (picked messages.now numbers.now) }
     ensures refused { IfErr result
         (λ refusal. (refusal ≡ Refusal.CountLimit) ⊎ (refusal ≡ Refusal.Memory)) }
 {

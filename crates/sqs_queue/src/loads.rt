@@ -3,7 +3,7 @@ ghost use Rattle.std.specs.Prelude.{◌≡◌, ◌≤◌, [], length, vec_capaci
 ghost use Rattle.sqs_message.specs.declared.message.Message.{Message};
 ghost use Rattle.sqs_model.specs.Progress.{Differ};
 ghost use Rattle.sqs_model.specs.Task.{take_each};
-ghost use Rattle.sqs_queue.specs.Picked.{messages_of};
+ghost use Rattle.sqs_queue.specs.Picked.{move_load, picked, taken};
 
 use sqs_message::{Message, MessageId};
 use sqs_messages::MessageTable;
@@ -11,9 +11,7 @@ use sqs_redrive::Load;
 
 // The load of a move of a message of this queue.
 fn move_of(site: u32, message: Message) -> Load
-    ensures { result
-        ≡ Load.Move (record { site = site; number = message.number }) message.group message.origin
-        message.body }
+    ensures { result ≡ move_load site message }
 {
     Load::Move {
         id: MessageId {
@@ -38,8 +36,8 @@ pub fn take_each(
     requires apart { Differ (λ n. n) numbers.now }
     requires none { loads.old.items ≡ [] }
     requires room { length numbers.now ≤ vec_capacity loads.old }
-    ensures { take_each messages.old to (messages_of messages.old.records numbers.now)
-        ≡ record { queue = messages.new; loads = loads.new.items; stuck = result } }
+    ensures { take_each messages.old to (picked messages.old numbers.now)
+        ≡ taken messages.new loads.new.items result }
 {
     let site = messages.site();
     for number in numbers {

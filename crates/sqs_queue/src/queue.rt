@@ -12,6 +12,7 @@ ghost use Rattle.sqs_model.specs.Polls.{can_give};
 ghost use Rattle.sqs_model.specs.Queue.{IsFramed, is_delayed, is_in_flight, is_visible, room};
 ghost use Rattle.sqs_model.specs.Return.{leaves, released};
 ghost use Rattle.sqs_model.specs.Valid.{IsQueueSettings};
+ghost use Rattle.sqs_queue.specs.Picked.{redrive_load};
 
 use crate::places::visible_again;
 use sim_clock::{Key, Refusal};
@@ -41,8 +42,7 @@ fn is_spent(settings: &QueueSettings, message: &Message) -> bool
 
 // The load by which a message of this queue goes to the dead-letter queue.
 fn redrive(site: u32, message: Message) -> Load
-    ensures { result ≡ Load.Redrive (record { site = site; number = message.number }) message.group
-        message.origin message.body message.enqueued }
+    ensures { result ≡ redrive_load site message }
 {
     Load::Redrive {
         id: MessageId {

@@ -1,5 +1,5 @@
 -- Messages that are written some at a time, and counted.
-use Rattle.std.proofs.Common.{◌≡◌, ◌∙◌, ℕ, zero, suc, ◌+◌, ◌<◌, false, Err, List, Ok, Result, [], ◌∷◌, ◌++◌, append-nil, append_assoc, ap, arith, drop, flat_map, get_or, length, map, refl, subst, sym}
+use Rattle.std.proofs.Common.{◌≡◌, ◌∙◌, ℕ, zero, suc, ◌+◌, ◌<◌, false, Err, List, Ok, Result, [], ◌∷◌, ◌++◌, append-nil, append_assoc, ap, arith, drop, flat_map, get_or, length, refl, subst, sym}
 use Rattle.csv.proofs.WriteFacts.{appends-more}
 use Rattle.std.specs.Io.KnownBytes.{Appends}
 use Rattle.std.specs.Result.{IsErrAnd}
@@ -14,10 +14,7 @@ use Rattle.sqs_formats.specs.Finals.{message_fields}
 use Rattle.sqs_formats.specs.Rows.{Names, lines}
 use Rattle.sqs_model.specs.Site.{Site}
 use Rattle.sqs_model.specs.declared.finals.FinalMessage.{FinalMessage}
-
--- the lines of messages
-abbrev pub message_lines : Names → List FinalMessage → List ℕ
-message_lines names messages = lines (map (message_fields names) messages)
+use Rattle.sqs_rehearsal.specs.Left.{message_lines}
 
 -- of all messages some are written and counted, and the rest are not
 pub record IsWriting (names : Names) (all : List FinalMessage) (old : WriterState) (uncounted : List Left) (rest : List FinalMessage) (now : WriterState) (left : List Left) : Type 0 where
@@ -71,18 +68,6 @@ module _ (names : Names) (all : List FinalMessage) (old : WriterState) (uncounte
       let after = several_after now new new (message_lines names next) (message_lines names others) (Err refusals.Memory) wrote.0 (prefix_none new.held (message_lines names others), wrote.1) in
       let all_rest = subst (λ (t : List ℕ). WroteSeveral now new t (Err refusals.Memory)) (sym (lines-append (message_fields names) next others) ∙ ap (message_lines names) parts) after in
       writing_stopped rest rest [] now new left refusals.Memory r h (append-nil rest) all_rest met
-
-  -- none are left, so all are written and counted
-  pub writing_whole : (rest : List FinalMessage) (now : WriterState) (left : List Left) (u : Unit {0}) → Writing rest now left → rest ≡ [] → WroteSeveral old now (message_lines names all) (Ok u)
-  writing_whole rest now left u h none =
-      let is : h.done ≡ all = sym (append-nil h.done) ∙ ap (λ t. h.done ++ t) (sym none) ∙ h.whole in
-      (subst (λ (ms : List FinalMessage). Appends old.held now.held (message_lines names ms)) is h.written, h.works)
-
-  pub counted_whole : (rest : List FinalMessage) (now : WriterState) (left : List Left) → Writing rest now left → rest ≡ []
-      → (queues : List QueueCounts) (before : List FinalMessage) → uncounted ≡ lefts queues before → left ≡ lefts queues (before ++ all)
-  counted_whole rest now left h none queues before is =
-      let same : h.done ≡ all = sym (append-nil h.done) ∙ ap (λ t. h.done ++ t) (sym none) ∙ h.whole in
-      h.counted queues before is ∙ ap (λ ms. lefts queues (before ++ ms)) same
 
 -- the lists of a site and of those behind it
 pub site_and_others : {X : Type 0} (f : Site → List X) (w : List Site) (i : ℕ) (d : Site) → i < length w → f (get_or w i d) ++ flat_map f (drop (i + 1) w) ≡ flat_map f (drop i w)

@@ -1,6 +1,6 @@
 -- What a recorder takes of printed rows is what it takes of the rows.
 use Rattle.std.specs.List.{list_all}
-use Rattle.std.specs.Prelude.{Err, IfErr, List, Ok, OnOk, Result, [], flat_map, map, nat_le, ℕ, ◌++◌, ◌&&◌, ◌∷◌, ◌≡◌}
+use Rattle.std.specs.Prelude.{Err, List, Ok, OnOk, Result, [], flat_map, map, nat_le, ℕ, ◌++◌, ◌&&◌, ◌∷◌, ◌≡◌}
 use Rattle.std.proofs.Common.{ap, refl, subst, sym, ◌∙◌}
 use Rattle.std.specs.Io.KnownBytes.{Appends}
 use Rattle.sim_clock.specs.declared.refusal.Refusal.{Refusal}
@@ -46,10 +46,6 @@ within_printed names (r ∷ rows) = ap (λ b. nat_le (receipt_count r.receipt) m
 pub on_ok_each : {T E A : Type 0} (B P : A → Type 0) (r : Result T E) → ((x : A) → B x → OnOk r (P x)) → OnOk r ((x : A) → B x → P x)
 on_ok_each B P (Ok t) h = h
 on_ok_each B P (Err e) h = tt
-
-pub if_err_each : {T E A : Type 0} (B : A → Type 0) (P : E → A → Type 0) (r : Result T E) → ((x : A) → B x → IfErr r (λ e. P e x)) → IfErr r (λ e. (x : A) → B x → P e x)
-if_err_each B P (Ok t) h = tt
-if_err_each B P (Err e) h = h
 
 module _ {W P : Type 0} (state : W → WriterState) (before after : Recorder W P) (made : List Printed) (rows : List Row) (are : made ≡ map (printed before.names.now) rows) (same : IsSame before after) where
   -- their text is that of the rows

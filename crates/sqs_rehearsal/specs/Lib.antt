@@ -1,5 +1,6 @@
 pub mod Homes
 pub mod Options
+pub mod Runs
 pub mod Splits
 pub mod Outcomes
 pub mod Writers

@@ -1,5 +1,5 @@
 -- What a whole run leaves.
-use Rattle.std.specs.Prelude.{List, None, Option, ℕ, ◌≡◌}
+use Rattle.std.specs.Prelude.{List, None, Option, ℕ, ◌≡◌, Result, []}
 use Rattle.sim_clock.specs.declared.refusal.Refusal.{Refusal}
 use Rattle.sim_report.specs.Reports.{Counts, running}
 use Rattle.sim_report.specs.declared.stretch.Stretch.{Stretch}
@@ -8,9 +8,15 @@ use Rattle.sqs_model.specs.Finals.{finals_of}
 use Rattle.sqs_model.specs.Limits.{IsOver}
 use Rattle.sqs_model.specs.Run.{IsRunOf, Run}
 use Rattle.sqs_model.specs.Scenario.{Scenario}
+use Rattle.sqs_formats.specs.Output.{queue_names, report_of}
 use Rattle.sqs_model.specs.Site.{Site}
 use Rattle.sqs_rehearsal.specs.Asked.{asked_of}
 use Rattle.sqs_rehearsal.specs.declared.outcome.Outcome.{Outcome}
+use Rattle.sqs_rehearsal.specs.Left.{Wrote}
+use Rattle.sqs_rehearsal.specs.Writers.{Writer}
+use Rattle.sqs_rehearsal.specs.Endings.{actor_names, in_run}
+use Rattle.sim_report.specs.Figured.{figured, FiguresState}
+use Rattle.sqs_formats.specs.Comparison.{comparison}
 
 -- a scenario's one-list run has reached its end and taken no count past the limit; its rows are counted, and these are
 -- the sites of its last world
@@ -47,3 +53,15 @@ OfEnd names counts sites P =
 -- what holds of two scenarios and their runs, which leave these outcomes
 abbrev pub OfBoth : Outcome → Outcome → (Scenario → Run → Scenario → Run → Type 0) → Type 0
 OfBoth first second P = (s t : Scenario) (r u : Run) → IsLeftBy s r first → IsLeftBy t u second → P s r t u
+
+-- a text that a scenario and its run give is written at the end of the run
+abbrev pub WroteEnd : (Scenario → Option Stretch → Run → List ℕ) → List (List ℕ) → Counts → List Site → Writer → Result (Unit {0}) Refusal → Type 0
+WroteEnd text names counts sites w result = OfEnd names counts sites (λ s r figures. Wrote w (text s figures r) result)
+
+-- the comparison of two outcomes is written
+abbrev pub WroteComparison : Outcome → Outcome → Writer → Result (Unit {0}) Refusal → Type 0
+WroteComparison first second w result = OfBoth first second (λ s r t u. Wrote w (comparison (report_of s r) (report_of t u)) result)
+
+-- the figures of no rows of a scenario, over the part of a stretch that lies in its run
+abbrev pub no_figures : Scenario → Stretch → FiguresState
+no_figures s stretch = figured (queue_names s) (actor_names s) (in_run s stretch) []

@@ -65,3 +65,7 @@ module _ {W P : Type 0} (state : W → WriterState) where
   -- it broke at printed rows
   abbrev pub BrokePrinted : Recorder W P → List Printed → Refusal → Recorder W P → Type 0
   BrokePrinted before made refusal after = (rows : List Row) → made ≡ map (printed before.names.now) rows → BrokeCounted before rows refusal after
+
+-- what holds of the rows, whichever they are, of which these are the printed ones
+abbrev pub OfPrinted : List (List ℕ) → List Printed → (List Row → Type 0) → Type 0
+OfPrinted names rows P = (made : List Row) → rows ≡ map (printed names) made → P made

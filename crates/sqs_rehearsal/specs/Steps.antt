@@ -1,6 +1,6 @@
 -- The steps of a rehearsal: what has come of it when it has begun, and when its run has come to its end.
 use Rattle.std.specs.Arc.{arc_value}
-use Rattle.std.specs.Prelude.{MatchResult, None, Ok, Result, [], ◌≡◌}
+use Rattle.std.specs.Prelude.{MatchResult, None, Ok, Result, [], ◌≡◌, ◌<◌}
 use Rattle.sim_clock.specs.declared.refusal.Refusal.{Refusal}
 use Rattle.sim_records.specs.Writes.{WriterState}
 use Rattle.sim_report.specs.Reports.{running}
@@ -12,12 +12,13 @@ use Rattle.sqs_model.specs.Limits.{IsOver}
 use Rattle.sqs_model.specs.Scenario.{Scenario}
 use Rattle.sqs_rehearsal.specs.Asked.{asked_of}
 use Rattle.sqs_rehearsal.specs.Options.{Options, split_fault}
-use Rattle.sqs_rehearsal.specs.Rehearsals.{IsRefused, Rehearsed, Request}
+use Rattle.sqs_rehearsal.specs.Rehearsals.{IsRefused, Rehearsed, Request, Rehearses}
 use Rattle.sqs_rehearsal.specs.Splits.{split_of}
 use Rattle.sqs_rehearsal.specs.Writers.{Got, GotNothing, Writer}
 use Rattle.sqs_rehearsal.specs.declared.steps.Begun.{Begun}
 use Rattle.sqs_rehearsal.specs.declared.steps.Ended.{Ended}
 use Rattle.sqs_rehearsal.specs.declared.rehearsal.Fault.TheVariants as faults
+use Rattle.sqs_rehearsal.specs.declared.rehearsal.Fault.{Fault}
 
 -- a request that states this scenario and asks for these options
 pub record Asks (q : Request) (s : Scenario) (o : Options) : Type 0 where
@@ -58,3 +59,23 @@ Begins q s log result = MatchResult result (IsBegun q s log) (StopsEarly q log)
 -- what comes of the run
 abbrev pub Logs : Request → Writer → Result Ended Refusal → Type 0
 Logs q log result = MatchResult result (IsLogged q log) (StopsEarly q log)
+
+-- the same of the run of a rehearsal that has begun, whatever request it began with and how the log was at first
+abbrev pub LogsOn : Scenario → Begun → WriterState → WriterState → Result Ended Refusal → Type 0
+LogsOn s begun before after result =
+    (q : Request) (start : WriterState) → IsBegun q s (since start before) begun → Logs q (since start after) result
+
+-- and of a request for several workers
+abbrev pub LogsOfSeveral : Scenario → Begun → WriterState → WriterState → Result Ended Refusal → Type 0
+LogsOfSeveral s begun before after result =
+    (q : Request) (start : WriterState) → 1 < q.options.workers
+    → IsBegun q s (since start before) begun → Logs q (since start after) result
+
+-- what comes of the beginning, whatever request states the scenario and asks for the options
+abbrev pub BeginsAsAsked : Scenario → Options → Writer → Result Begun Refusal → Type 0
+BeginsAsAsked s o log result = (q : Request) → Asks q s o → Begins q s log result
+
+-- what comes of the end of a rehearsal whose run has come to its end
+abbrev pub Ends : Ended → WriterState → WriterState → Writer → Result (Unit {0}) Fault → Type 0
+Ends ended before after report result =
+    (q : Request) (start : WriterState) → IsLogged q (since start before) ended → Rehearses q result (since start after) report

@@ -1,10 +1,9 @@
 //! A rehearsal on this thread alone, which starts no thread and waits for none. It is proved to
 //! return.
 ghost use Rattle.std.specs.Prelude.{◌≡◌, false, OnOk};
-ghost use Rattle.sim_records.specs.Writes.{WriterState};
 ghost use Rattle.sqs_rehearsal.specs.Options.{unsplit};
 ghost use Rattle.sqs_rehearsal.specs.Rehearsals.{Rehearses, Request, request};
-ghost use Rattle.sqs_rehearsal.specs.Steps.{Asks, IsBegun, Logs, since};
+ghost use Rattle.sqs_rehearsal.specs.Steps.{Asks, LogsOn};
 ghost use Rattle.sqs_rehearsal.specs.Writers.{seen};
 
 use crate::options::Options;
@@ -30,9 +29,7 @@ fn run_here<L: Out, P: Watch>(
 ) -> Result<Ended, Refusal>
     requires { (L.state log.old).failed ≡ false }
     ensures works { OnOk result ((L.state log.new).failed ≡ false) }
-    ensures logs { (q : Request) (start : WriterState)
-        → IsBegun q scenario (since start (L.state log.old)) begun
-        → Logs q (since start (L.state log.new)) result }
+    ensures logs { LogsOn scenario begun (L.state log.old) (L.state log.new) result }
 {
     let Begun {
         alloc,

@@ -1,16 +1,16 @@
 //! The end of a run, as it is written: the state of its sites and its report. The messages that are
 //! left are made into lines some at a time, so that no list of them all is held beside the sites.
-ghost use Rattle.std.specs.Prelude.{◌≡◌, ◌≤◌, ◌∷◌, ◌++◌, [], false, true, flat_map, IfOk, length, map, OnOk};
-ghost use Rattle.sim_records.specs.Writes.{WroteSeveral};
-ghost use Rattle.sqs_formats.specs.Finals.{finals_text, message_fields, message_header};
+ghost use Rattle.std.specs.Prelude.{◌≡◌, ◌≤◌, ◌++◌, [], false, true, flat_map, IfOk, length, OnOk};
+ghost use Rattle.sqs_formats.specs.Finals.{finals_text};
 ghost use Rattle.sqs_formats.specs.Output.{ending_of};
 ghost use Rattle.sqs_formats.specs.Rows.{lines};
 ghost use Rattle.sqs_model.specs.Finals.{final_message, finals_of, messages_at};
 ghost use Rattle.sqs_rehearsal.specs.Endings.{ending_with};
-ghost use Rattle.sqs_rehearsal.specs.Outcomes.{OfEnd};
-ghost use Rattle.sqs_rehearsal.specs.Left.{others_text};
+ghost use Rattle.sqs_rehearsal.specs.Outcomes.{WroteEnd};
+ghost use Rattle.sqs_rehearsal.specs.Left.{others_text, finals_in, message_part, Wrote, queue_text, sites_text};
 ghost use Rattle.sim_report.specs.Reports.{OfFigures};
 ghost use Rattle.sim_report.specs.Running.{CountsAll, CountsOn};
+ghost use Rattle.sqs_rehearsal.specs.Writers.{seen};
 
 use crate::finals::{final_message, tasks_of, transfers_of};
 use crate::outcome::flush;
@@ -31,9 +31,8 @@ fn next_messages(
     queue: &Queue,
     messages: &mut Messages<'_>,
 ) -> Result<Vec<FinalMessage>, AllocError>
-    ensures next { IfOk result (λ some.
-        some.items ++ map (final_message queue.now) messages.new
-        ≡ map (final_message queue.now) messages.old) }
+    ensures next { IfOk result (λ ms. ms.items ++ finals_in queue.now messages.new
+        ≡ finals_in queue.now messages.old) }
     ensures none { IfOk result (λ some. some.items ≡ [] → messages.new ≡ []) }
     ensures few { IfOk result (λ some. length some.items ≤ 1024) }
 {
@@ -56,11 +55,8 @@ fn write_queue<W: Out>(
     left: &mut MessagesLeft,
 ) -> Result<(), Refusal>
     requires { (W.state out.old).failed ≡ false }
-    ensures written { WroteSeveral (W.state out.old) (W.state out.new)
-        (lines (map (message_fields names.now) (map (final_message queue.now) queue.now.records)))
-        result }
-    ensures counted { CountsOn result left.old
-        (map (final_message queue.now) queue.now.records) left.new }
+    ensures written { Wrote (seen W.state out.old out.new) (queue_text names.now queue.now) result }
+    ensures counted { CountsOn result left.old (finals_in queue.now queue.now.records) left.new }
 {
     let mut messages = queue.view();
     loop {
@@ -82,8 +78,7 @@ fn write_queues<W: Out>(
     left: &mut MessagesLeft,
 ) -> Result<(), Refusal>
     requires { (W.state out.old).failed ≡ false }
-    ensures written { WroteSeveral (W.state out.old) (W.state out.new)
-        (lines (map (message_fields names.now) (flat_map messages_at sites.now))) result }
+    ensures written { Wrote (seen W.state out.old out.new) (sites_text names.now sites.now) result }
     ensures counted { CountsAll result left.old (flat_map messages_at sites.now) left.new }
 {
     for site in sites {
@@ -101,9 +96,8 @@ fn write_message_part<W: Out>(
     left: &mut MessagesLeft,
 ) -> Result<(), Refusal>
     requires { (W.state out.old).failed ≡ false }
-    ensures written { WroteSeveral (W.state out.old) (W.state out.new)
-        (lines (message_header ∷ map (message_fields names.now) (finals_of sites.now).messages))
-        result }
+    ensures written { Wrote (seen W.state out.old out.new) (message_part names.now
+        (finals_of sites.now)) result }
     ensures counted { CountsAll result left.old (finals_of sites.now).messages left.new }
 {
     write_message_header(alloc, out)?;
@@ -119,8 +113,8 @@ fn write_other_parts<W: Out>(
     names: &Names,
 ) -> Result<(), Refusal>
     requires { (W.state out.old).failed ≡ false }
-    ensures { WroteSeveral (W.state out.old) (W.state out.new)
-        (others_text names.now (finals_of sites.now)) result }
+    ensures { Wrote (seen W.state out.old out.new) (others_text names.now
+        (finals_of sites.now)) result }
 {
     let transfers = transfers_of(alloc, sites)?;
     let tasks = tasks_of(alloc, sites)?;
@@ -136,8 +130,8 @@ fn write_state<W: Out>(
     left: &mut MessagesLeft,
 ) -> Result<(), Refusal>
     requires { (W.state out.old).failed ≡ false }
-    ensures written { WroteSeveral (W.state out.old) (W.state out.new)
-        (finals_text names.now (finals_of sites.now)) result }
+    ensures written { Wrote (seen W.state out.old out.new) (finals_text names.now
+        (finals_of sites.now)) result }
     ensures counted { CountsAll result left.old (finals_of sites.now).messages left.new }
 {
     write_message_part(alloc, out, sites, names, left)?;
@@ -154,8 +148,8 @@ fn write_left<W: Out>(
 ) -> Result<(), Refusal>
     requires { (W.state out.old).failed ≡ false }
     ensures works { OnOk result ((W.state out.new).failed ≡ false) }
-    ensures written { OfEnd names.now report.now sites.now
-        (λ s r figures. WroteSeveral (W.state out.old) (W.state out.new) (ending_of s r) result) }
+    ensures written { WroteEnd (λ s _ r. ending_of s r) names.now report.now sites.now
+        (seen W.state out.old out.new) result }
 {
     let mut left = report.none_left(alloc)?;
     write_state(alloc, out, sites, names, &mut left)?;
@@ -165,8 +159,8 @@ fn write_left<W: Out>(
 // Writes the figures, if they are wanted, and flushes the writer.
 fn finish<W: Out>(alloc: Global, out: &mut W, report: &Report) -> Result<(), Refusal>
     requires { (W.state out.old).failed ≡ false }
-    ensures written { OfFigures report.now
-        (λ text. WroteSeveral (W.state out.old) (W.state out.new) text result) }
+    ensures written { OfFigures report.now (λ text. Wrote
+        (seen W.state out.old out.new) text result) }
     ensures flushed { OnOk result ((W.state out.new).flushed ≡ true) }
 {
     report.write_figures(alloc, out)?;
@@ -188,8 +182,8 @@ pub fn write_ending<W: Out>(
     report: &Report,
 ) -> Result<(), Refusal>
     requires { (W.state out.old).failed ≡ false }
-    ensures written { OfEnd names.now report.now sites.now (λ s r figures.
-        WroteSeveral (W.state out.old) (W.state out.new) (ending_with s figures r) result) }
+    ensures written { WroteEnd ending_with names.now report.now sites.now
+        (seen W.state out.old out.new) result }
     ensures flushed { OnOk result ((W.state out.new).flushed ≡ true) }
 {
     write_left(alloc, out, sites, names, report)?;

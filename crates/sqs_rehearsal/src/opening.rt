@@ -8,7 +8,7 @@ ghost use Rattle.sqs_model.specs.Run.{setting_of};
 ghost use Rattle.sqs_model.specs.Sqs.{sqs};
 ghost use Rattle.sqs_model.specs.Scenario.{HasItsQueues, opening};
 ghost use Rattle.sqs_model.specs.Valid.{IsQueueSettings};
-ghost use Rattle.sqs_rehearsal.specs.Homes.{AtHome, IsFit, IsSettled, IsVacant, OfHomes, actors_in, tasks_in};
+ghost use Rattle.sqs_rehearsal.specs.Homes.{IsFit, IsVacant, OfHomes, actors_in, tasks_in, HaveActors, HaveTasks, IsSettledBehind};
 
 use sim_scenario::{Scenario, edges};
 use sim_site::Site;
@@ -47,8 +47,7 @@ fn settle_actors(
 ) -> Result<(), AllocError>
     requires homes { All (λ a. a.home < length homes.old.items) actors.items }
     requires numbers { first + length actors.items < 2 ^ 32 }
-    ensures settled { OnOk result (AtHome (λ a. a.home) 0 (map actors_in homes.old.items) []
-        → AtHome (λ a. a.home) 0 (map actors_in homes.new.items)
+    ensures settled { OnOk result (HaveActors homes.old.items [] → HaveActors homes.new.items
         (enumerate_from first actors.items)) }
     ensures tasks { OnOk result (map tasks_in homes.new.items ≡ map tasks_in homes.old.items) }
     ensures count { OnOk result (length homes.new.items ≡ length homes.old.items) }
@@ -70,8 +69,7 @@ fn settle_tasks(
 ) -> Result<(), AllocError>
     requires homes { All (λ t. t.home < length homes.old.items) tasks.items }
     requires numbers { first + length tasks.items < 2 ^ 32 }
-    ensures settled { OnOk result (AtHome (λ t. t.home) 0 (map tasks_in homes.old.items) []
-        → AtHome (λ t. t.home) 0 (map tasks_in homes.new.items)
+    ensures settled { OnOk result (HaveTasks homes.old.items [] → HaveTasks homes.new.items
         (enumerate_from first tasks.items)) }
     ensures actors { OnOk result (map actors_in homes.new.items ≡ map actors_in homes.old.items) }
     ensures count { OnOk result (length homes.new.items ≡ length homes.old.items) }
@@ -95,9 +93,8 @@ fn settled_homes(
     requires actors { All (λ a. a.home < queues) actors.items }
     requires tasks { All (λ t. t.home < queues) tasks.items }
     requires numbers { queues + length actors.items + length tasks.items < 2 ^ 32 }
-    ensures settled { IfOk result (λ homes.
-        IsSettled homes.items (enumerate_from queues actors.items)
-        (enumerate_from (queues + length actors.items) tasks.items)) }
+    ensures settled { IfOk result
+        (λ homes. IsSettledBehind queues actors.items tasks.items homes.items) }
     ensures count { IfOk result (λ homes. length homes.items ≡ queues) }
 {
     let mut homes = vacant_homes(alloc, queues)?;

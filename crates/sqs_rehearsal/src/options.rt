@@ -1,9 +1,8 @@
 //! The partitions, the window and the workers of a rehearsal.
-ghost use Rattle.std.specs.Prelude.{◌≡◌, ◌≤◌, ◌⊎◌, IfErr, IfOk, None, false, true};
+ghost use Rattle.std.specs.Prelude.{◌≡◌, ◌≤◌, ◌⊎◌, IfErr, IfOk, None, false, true, OnOk};
 ghost use Rattle.sim_clock.specs.declared.refusal.Refusal.TheVariants.{BadMap, Memory};
-ghost use Rattle.sim_exchange.specs.Layout.{is_layout};
 ghost use Rattle.sqs_rehearsal.specs.Options.{in_turn, layout_of, partitions_in, parts_of, split_fault, window_fault, workers_fault};
-ghost use Rattle.sqs_rehearsal.specs.Splits.{IsUnsplit, split_of, unless};
+ghost use Rattle.sqs_rehearsal.specs.Splits.{IsUnsplit, split_of, unless, can_lay};
 
 use sim_clock::Refusal;
 use sim_exchange::PartMap;
@@ -99,12 +98,10 @@ impl Options {
 
     // The partition of each of `queues` queues.
     fn layout(&self, alloc: Global, queues: usize) -> Result<PartMap, Refusal>
-        ensures laid { IfOk result (λ layout.
-            (is_layout queues (layout_of queues self.now) ≡ true)
-            × (layout ≡ layout_of queues self.now)) }
-        ensures refused { IfErr result (λ refusal.
-            (refusal ≡ Memory)
-            ⊎ ((is_layout queues (layout_of queues self.now) ≡ false) × (refusal ≡ BadMap))) }
+        ensures allowed { OnOk result (can_lay queues self.now ≡ true) }
+        ensures laid { IfOk result (λ layout. layout ≡ layout_of queues self.now) }
+        ensures refused { IfErr result (λ refusal. (refusal ≡ Memory)
+            ⊎ ((can_lay queues self.now ≡ false) × (refusal ≡ BadMap))) }
     {
         let parts = self.parts();
         if parts < 1 || parts > 256 {

@@ -1,13 +1,11 @@
 //! The outcome of the whole run of a scenario.
 ghost use Rattle.std.specs.Prelude.{◌≡◌, [], false, true, IfErr, IfOk, None, OnOk};
 ghost use Rattle.sim_records.specs.Writes.{WroteSeveral};
-ghost use Rattle.sim_report.specs.Figured.{figured};
 ghost use Rattle.sim_report.specs.Reports.{running};
 ghost use Rattle.sqs_formats.specs.Comparison.{comparison};
-ghost use Rattle.sqs_formats.specs.Output.{queue_names, report_of};
 ghost use Rattle.sqs_rehearsal.specs.Asked.{asked_of};
-ghost use Rattle.sqs_rehearsal.specs.Endings.{actor_names, in_run};
-ghost use Rattle.sqs_rehearsal.specs.Outcomes.{HasCounted, IsOutcomeOf, OfBoth, Stops};
+ghost use Rattle.sqs_rehearsal.specs.Outcomes.{HasCounted, IsOutcomeOf, Stops, WroteComparison, no_figures};
+ghost use Rattle.sqs_rehearsal.specs.Writers.{seen};
 
 use crate::counter::Counter;
 use crate::finals::finals_of;
@@ -47,8 +45,7 @@ fn fresh_figures(
     scenario: &Scenario,
     stretch: Stretch,
 ) -> Result<Figures, AllocError>
-    ensures { IfOk result (λ figures. figures ≡ figured (queue_names scenario.now)
-        (actor_names scenario.now) (in_run scenario.now stretch) []) }
+    ensures { IfOk result (λ figures. figures ≡ no_figures scenario.now stretch) }
 {
     let queues = scenario.queues().len();
     let stretch = Stretch {
@@ -136,8 +133,7 @@ pub fn compare<W: Out>(
     second: &Outcome,
 ) -> Result<(), Refusal>
     requires { (W.state out.old).failed ≡ false }
-    ensures written { OfBoth first.now second.now (λ s r t u. WroteSeveral (W.state out.old)
-        (W.state out.new) (comparison (report_of s r) (report_of t u)) result) }
+    ensures written { WroteComparison first.now second.now (seen W.state out.old out.new) result }
     ensures flushed { OnOk result ((W.state out.new).flushed ≡ true) }
 {
     sim_report::compare(

@@ -3,18 +3,14 @@ ghost use Rattle.std.specs.Arc.{arc_value};
 ghost use Rattle.std.specs.Prelude.{◌≡◌, ◌<◌, ◌≤◌, All, false, IfErr, IfOk, OnOk, map};
 ghost use Rattle.sim_engine.specs.Mapping.{mapped_conditions, mapped_setting, with_mapper};
 ghost use Rattle.sim_engine.specs.Simulated.{IsSimulated};
-ghost use Rattle.sim_records.specs.Writes.{WriterState};
-ghost use Rattle.sim_windows.specs.Sinks.{HasTaken};
-ghost use Rattle.sim_workers.specs.Runs.{StopsAnyhow};
 ghost use Rattle.sqs_model.specs.Answers.{most_count};
 ghost use Rattle.sqs_model.specs.Conditions.{sqs_conditions};
 ghost use Rattle.sqs_model.specs.Limits.{IsOver};
 ghost use Rattle.sqs_model.specs.Run.{setting_of};
-ghost use Rattle.sqs_model.specs.Sqs.{sqs};
 ghost use Rattle.sqs_rehearsal.specs.Printed.{printed_sqs};
-ghost use Rattle.sqs_rehearsal.specs.Rehearsals.{Request};
 ghost use Rattle.sqs_rehearsal.specs.Sinks.{Recorded, StoppedAt, Works};
-ghost use Rattle.sqs_rehearsal.specs.Steps.{IsBegun, Logs, since};
+ghost use Rattle.sqs_rehearsal.specs.Steps.{LogsOfSeveral};
+ghost use Rattle.sqs_rehearsal.specs.Runs.{RunStopsAnyhow, TookRun};
 
 use crate::limited::counted;
 use crate::opening::open_world;
@@ -101,12 +97,11 @@ fn run_printed<G: Gate<Running> + Sync, L: Out, P: Watch, W: Threads + Wait + Sy
 ) -> Result<Vec<Site>, Refusal>
     requires ready { (L.state sink.old.out.now).failed ≡ false }
     requires names { arc_value names.now ≡ sink.old.names.now }
-    ensures whole { IfOk result (λ sites.
-        HasTaken sqs (Recorded L.state) (setting_of scenario) sink.old sink.new sites.items) }
+    ensures whole { IfOk result (λ sites. TookRun
+        (Recorded L.state) scenario sink.old sink.new sites.items) }
     ensures counted { OnOk result (¬ IsOver scenario) }
-    ensures stops { IfErr result (λ refusal.
-        StopsAnyhow sqs (Works L.state)
-        (Recorded L.state) (StoppedAt L.state) (setting_of scenario) sink.old refusal sink.new) }
+    ensures stops { IfErr result (RunStopsAnyhow (Works L.state) (Recorded L.state)
+        (StoppedAt L.state) scenario sink.old sink.new) }
 {
     let alloc = sink.alloc;
     let Split {
@@ -138,9 +133,7 @@ pub fn run_several<G: Gate<Running> + Sync, L: Out, P: Watch, W: Threads + Wait 
 ) -> Result<Ended, Refusal>
     requires { (L.state log.old).failed ≡ false }
     ensures works { OnOk result ((L.state log.new).failed ≡ false) }
-    ensures logs { (q : Request) (start : WriterState) → 1 < q.options.workers
-        → IsBegun q scenario (since start (L.state log.old)) begun
-        → Logs q (since start (L.state log.new)) result }
+    ensures logs { LogsOfSeveral scenario begun (L.state log.old) (L.state log.new) result }
 {
     let Begun {
         alloc,

@@ -1,10 +1,9 @@
 //! A log and a report that take rows during a run.
-ghost use Rattle.std.specs.Prelude.{◌≡◌, ◌≤◌, false, flat_map, map, nat_le, IfErr, IfOk, List, OnOk};
+ghost use Rattle.std.specs.Prelude.{◌≡◌, ◌≤◌, false, flat_map, nat_le, IfErr, IfOk, OnOk};
 ghost use Rattle.std.specs.List.{list_all};
 ghost use Rattle.sim_records.specs.Writes.{Wrote};
-ghost use Rattle.sqs_message.specs.declared.row.Row.{Row as TheRow};
 ghost use Rattle.sqs_model.specs.Answers.{most_count};
-ghost use Rattle.sqs_rehearsal.specs.Printed.{printed, printed_added};
+ghost use Rattle.sqs_rehearsal.specs.Printed.{printed, printed_added, OfPrinted};
 ghost use Rattle.sqs_rehearsal.specs.Sinks.{Recorded, StoppedAt};
 
 use crate::printed::PrintedRow;
@@ -105,10 +104,10 @@ impl<W: Out, P: Watch> Recorder<'_, W, P> {
     fn take_printed(&mut self, rows: &[PrintedRow]) -> Result<(), Refusal>
         requires ready { (W.state self.old.out.now).failed ≡ false }
         ensures ready { OnOk result ((W.state self.new.out.now).failed ≡ false) }
-        ensures took { (made : List TheRow) → rows.now ≡ map (printed self.old.names.now) made
-            → OnOk result (Recorded W.state self.old made self.new) }
-        ensures broke { (made : List TheRow) → rows.now ≡ map (printed self.old.names.now) made
-            → IfErr result (λ refusal. StoppedAt W.state self.old made refusal self.new) }
+        ensures took { OfPrinted self.old.names.now rows.now (λ made. OnOk result
+            (Recorded W.state self.old made self.new)) }
+        ensures broke { OfPrinted self.old.names.now rows.now (λ made. IfErr result
+            (λ refusal. StoppedAt W.state self.old made refusal self.new)) }
     {
         write_printed(self.alloc, self.out, rows)?;
         count_printed(self.report, rows)?;

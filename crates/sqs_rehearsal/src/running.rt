@@ -1,8 +1,6 @@
 //! Runs of scenarios.
-ghost use Rattle.std.specs.Prelude.{◌≡◌, ◌<◌, ◌≤◌, ◌⊎◌, [], Err, IfErr, IfOk, IsOk, OnOk, false};
+ghost use Rattle.std.specs.Prelude.{◌≡◌, ◌<◌, ◌≤◌, [], Err, IfErr, IfOk, IsOk, OnOk, false};
 ghost use Rattle.sim_windows.specs.Machines.{IsMachineOf};
-ghost use Rattle.sim_windows.specs.Sinks.{HasStopped, HasTaken};
-ghost use Rattle.sim_workers.specs.Runs.{StopsAnyhow};
 ghost use Rattle.sqs_model.specs.Conditions.{sqs_conditions};
 ghost use Rattle.sqs_model.specs.Limits.{IsOver};
 ghost use Rattle.sqs_model.specs.Accounts.{EachHasOnePlace, NoOtherHasPlace};
@@ -10,7 +8,8 @@ ghost use Rattle.sqs_model.specs.Run.{IsRunOf, Run, setting_of};
 ghost use Rattle.sqs_model.specs.Scenario.{HasItsQueues, least_latency as the_least_latency};
 ghost use Rattle.sqs_model.specs.Sqs.{sqs};
 ghost use Rattle.sqs_rehearsal.specs.Options.{is_within};
-ghost use Rattle.sqs_rehearsal.specs.Splits.{IfAllowed, IfFits};
+ghost use Rattle.sqs_rehearsal.specs.Splits.{IfAllowed, IfFits, IsBarred};
+ghost use Rattle.sqs_rehearsal.specs.Runs.{RefusesLonger, RunStops, RunStopsAnyhow, TookRun};
 
 use crate::limited::{Limited, counted};
 use crate::opening::open_world;
@@ -53,12 +52,10 @@ pub fn run_gathered<K: RowSink<Row>>(
 ) -> Result<Vec<Site>, Refusal>
     requires ready { K.ready sink.old }
     ensures ready { OnOk result (K.ready sink.new) }
-    ensures whole { IfOk result
-        (λ sites. HasTaken sqs K.took (setting_of scenario) sink.old sink.new sites.items) }
+    ensures whole { IfOk result (λ sites. TookRun K.took scenario sink.old sink.new sites.items) }
     ensures has_queues { IfOk result (λ _. HasItsQueues scenario) }
     ensures counted { OnOk result (¬ IsOver scenario) }
-    ensures stops { IfErr result
-        (λ refusal. HasStopped sqs K.took K.broke (setting_of scenario) sink.old refusal sink.new) }
+    ensures stops { IfErr result (RunStops K.took K.broke scenario sink.old sink.new) }
 {
     let world = open_world(alloc, scenario)?;
     let mut limited = Limited { sink };
@@ -79,14 +76,12 @@ pub fn run_alone<K: RowSink<Row>>(
 ) -> Result<Vec<Site>, Refusal>
     requires ready { K.ready sink.old }
     ensures ready { OnOk result (K.ready sink.new) }
-    ensures whole { IfOk result
-        (λ sites. HasTaken sqs K.took (setting_of scenario) sink.old sink.new sites.items) }
+    ensures whole { IfOk result (λ sites. TookRun K.took scenario sink.old sink.new sites.items) }
     ensures has_queues { IfOk result (λ _. HasItsQueues scenario) }
     ensures places { OnOk result ((r : Run) → IsRunOf scenario r
         → EachHasOnePlace r.sites r.rows × NoOtherHasPlace r.sites r.rows) }
     ensures counted { OnOk result (¬ IsOver scenario) }
-    ensures stops { IfErr result
-        (λ refusal. HasStopped sqs K.took K.broke (setting_of scenario) sink.old refusal sink.new) }
+    ensures stops { IfErr result (RunStops K.took K.broke scenario sink.old sink.new) }
 {
     run_gathered(alloc, scenario, 1, sink)
 }
@@ -95,8 +90,7 @@ pub fn run_alone<K: RowSink<Row>>(
 // transfers.
 fn check_window(scenario: &Scenario, window: u64) -> Result<(), Refusal>
     ensures short { window ≤ the_least_latency scenario.now → IsOk result }
-    ensures long { the_least_latency scenario.now < window
-        → result ≡ Err (Refusal.WindowTooLong window (the_least_latency scenario.now)) }
+    ensures long { RefusesLonger scenario.now window result }
 {
     let least = least_latency(scenario);
     if window > least {
@@ -137,19 +131,16 @@ pub fn run_workers<
 ) -> Result<Vec<Site>, Refusal>
     requires ready { K.ready sink.old }
     ensures ready { OnOk result (K.ready sink.new) }
-    ensures whole { IfOk result
-        (λ sites. HasTaken sqs K.took (setting_of scenario) sink.old sink.new sites.items) }
+    ensures whole { IfOk result (λ sites. TookRun K.took scenario sink.old sink.new sites.items) }
     ensures counted { OnOk result (¬ IsOver scenario) }
-    ensures window { the_least_latency scenario < split.window
-        → result ≡ Err (Refusal.WindowTooLong split.window (the_least_latency scenario)) }
+    ensures window { RefusesLonger scenario split.window result }
     ensures workers { IfFits split scenario
         (is_within 1 64 split.workers ≡ false → result ≡ Err Refusal.BadWorkers) }
-    ensures stops { IfAllowed split scenario (IfErr result (λ refusal.
-        StopsAnyhow sqs K.ready K.took K.broke (setting_of scenario) sink.old refusal sink.new)) }
-    ensures alone { IfFits split scenario (split.workers ≡ 1 → IfErr result (λ refusal.
-        HasStopped sqs K.took K.broke (setting_of scenario) sink.old refusal sink.new)) }
-    ensures untaken { (the_least_latency scenario < split.window) ⊎ (is_within 1 64 split.workers
-        ≡ false) → sink.new ≡ sink.old }
+    ensures stops { IfAllowed split scenario (IfErr result
+        (RunStopsAnyhow K.ready K.took K.broke scenario sink.old sink.new)) }
+    ensures alone { IfFits split scenario (split.workers ≡ 1
+        → IfErr result (RunStops K.took K.broke scenario sink.old sink.new)) }
+    ensures untaken { IsBarred split scenario → sink.new ≡ sink.old }
 {
     let Split {
         layout,
@@ -178,8 +169,7 @@ pub fn open_machine(
     window: u64,
 ) -> Result<Machine<Site>, Refusal>
     ensures opened { IfOk result (IsMachineOf sqs sqs_conditions layout (setting_of scenario) []) }
-    ensures window { the_least_latency scenario < window
-        → result ≡ Err (Refusal.WindowTooLong window (the_least_latency scenario)) }
+    ensures window { RefusesLonger scenario window result }
     ensures memory { window ≤ the_least_latency scenario
         → IfErr result (λ refusal. refusal ≡ Refusal.Memory) }
 {

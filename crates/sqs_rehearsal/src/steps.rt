@@ -1,8 +1,6 @@
 //! The steps of a rehearsal: what comes before its run, and what comes after it.
 ghost use Rattle.std.specs.Prelude.{◌≡◌, false, OnOk};
-ghost use Rattle.sim_records.specs.Writes.{WriterState};
-ghost use Rattle.sqs_rehearsal.specs.Rehearsals.{Rehearses, Request};
-ghost use Rattle.sqs_rehearsal.specs.Steps.{Asks, Begins, IsLogged, since};
+ghost use Rattle.sqs_rehearsal.specs.Steps.{Begins, BeginsAsAsked, Ends};
 ghost use Rattle.sqs_rehearsal.specs.Writers.{seen};
 
 use crate::ending::write_ending;
@@ -61,8 +59,7 @@ pub fn begin<L: Out>(
 ) -> Result<Begun, Refusal>
     requires { (L.state log.old).failed ≡ false }
     ensures works { OnOk result ((L.state log.new).failed ≡ false) }
-    ensures begins { (q : Request) → Asks q scenario.now options.now
-        → Begins q scenario.now (seen L.state log.old log.new) result }
+    ensures begins { BeginsAsAsked scenario.now options.now (seen L.state log.old log.new) result }
 {
     let horizon = scenario.horizon();
     let split = options.split(alloc, scenario)?;
@@ -113,9 +110,8 @@ impl Ended {
     pub fn end<L: Out, R: Out>(self, log: &mut L, report: &mut R) -> Result<(), Fault>
         requires log { (L.state log.old).failed ≡ false }
         requires report { (R.state report.old).failed ≡ false }
-        ensures { (q : Request) (start : WriterState) → IsLogged q (since start
-            (L.state log.old)) self → Rehearses q result (since start (L.state log.new))
-            (seen R.state report.old report.new) }
+        ensures { Ends self (L.state log.old) (L.state log.new)
+            (seen R.state report.old report.new) result }
     {
         flush(log)?;
         let sites = self.sites.as_slice();

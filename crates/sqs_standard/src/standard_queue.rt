@@ -1,7 +1,6 @@
 //! A standard queue on its own: messages that are on hosts, and the calls of Amazon SQS on them.
 ghost use Rattle.std.specs.Prelude.{◌≡◌, ◌*◌, ◌<◌, ◌≤◌, All, IfOk, IsOkUnless, OnErr, OnOk, count_by, length, not};
-ghost use Rattle.std.specs.Result.{result_map_both};
-ghost use Rattle.sqs_queue.specs.Words.{IsFramed, IsStandardSettings, MeetsArrival, MeetsOneMore, MeetsReceive, WasEnqueuedBy, all_available, change, delete_standard, expired, is_delayed, is_empty, is_in_flight, is_visible, least, most_count, queue_dues, receive, released, returned, send_standard, take_movable, to_give, without_messages};
+ghost use Rattle.sqs_queue.specs.Words.{IsFramed, IsStandardSettings, MeetsArrival, MeetsOneMore, MeetsReceive, WasEnqueuedBy, all_available, change, delete_standard, expired, is_delayed, is_empty, is_in_flight, is_visible, least, most_count, queue_dues, receive, released, returned, send_standard, take_movable, to_give, without_messages, TakesMovable};
 
 use sim_clock::{Key, Refusal};
 use sqs_message::{Body, Receipt};
@@ -220,8 +219,8 @@ impl StandardQueue {
         short: bool,
     ) -> Result<Vec<Got>, Refusal>
         requires { now ≤ most_count }
-        ensures answer { MeetsReceive self.old.queue (result_map_both (λ batch. batch.items)
-            (λ refusal. refusal) result) self.new.queue now max timeout hosts short }
+        ensures answer { MeetsReceive
+            (λ b. b.items) self.old.queue result self.new.queue now max timeout hosts short }
         ensures looked { OnOk result (self.new.looked ≤ 2 * max) }
         ensures read { IfOk result (λ batch. length batch.items ≤ self.new.looked) }
         ensures counted { OnOk result
@@ -255,8 +254,8 @@ impl StandardQueue {
         max: u64,
         to: Option<u32>,
     ) -> Result<(Vec<(u32, Load)>, Rest), Refusal>
-        ensures taken { IfOk result (λ answer.
-            take_movable self.old.queue max to ≡ ((answer.0.items, answer.1), self.new.queue)) }
+        ensures taken { IfOk result
+            (λ answer. TakesMovable self.old.queue self.new.queue max to answer.0.items answer.1) }
         ensures unchanged { OnErr result (self.new ≡ self.old) }
         ensures memory_only { IsOkUnless result Refusal.Memory }
         ensures looked { self.new.looked ≡ self.old.looked }

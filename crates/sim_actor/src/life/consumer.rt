@@ -1,12 +1,11 @@
 //! What a consumer does.
-ghost use Rattle.std.specs.Prelude.{◌≡◌, ◌≤◌, ◌+◌, [], Ok, Some, false, max, true, ℕ};
+ghost use Rattle.std.specs.Prelude.{◌≡◌, ◌≤◌, ◌+◌, [], Ok, Some, false, max, true};
 ghost use Rattle.sqs_message.specs.Ids.{receipt_text};
 ghost use Rattle.sqs_model.specs.declared.agents.ActorSettings.{ActorSettings};
-ghost use Rattle.sqs_model.specs.Actor.{next_beat, woken, idle as the_idle, serving as the_serving, serves as the_serves, settles as the_settles, fails_service as the_fails_service, ends_well as the_ends_well, ends_drawn as the_ends_drawn, backs_off as the_backs_off, backoff_at as the_backoff_at, goes_on as the_goes_on, has_failed as the_has_failed, rests as the_rests, consumer_wake as the_consumer_wake, consumer_got as the_consumer_got, consumer_told as the_consumer_told};
+ghost use Rattle.sqs_model.specs.Actor.{woken, idle as the_idle, serving as the_serving, serves as the_serves, settles as the_settles, fails_service as the_fails_service, backs_off as the_backs_off, backoff_at as the_backoff_at, goes_on as the_goes_on, has_failed as the_has_failed, rests as the_rests, consumer_wake as the_consumer_wake, consumer_got as the_consumer_got, consumer_told as the_consumer_told};
 ghost use Rattle.sqs_model.specs.Answers.{most_count};
-ghost use Rattle.sqs_model.specs.Draw.{drawn_chance};
 ghost use Rattle.sqs_model.specs.Valid.{IsConsumer, IsLatency, MayBeForward};
-ghost use Rattle.sim_actor.specs.Lives.{Becomes, Decides, DecidesAt, DoesNothing, EndsFirst, EndsThis, FollowsUp, Lived, lived};
+ghost use Rattle.sim_actor.specs.Lives.{Becomes, Decides, DecidesAt, DoesNothing, EndsFirst, EndsThis, FollowsUp, Lived, lived, EndsAnywhere, ends_by_chance, ends_held, in_service, Lives};
 
 use super::failing::fails;
 use super::{LastAct, Life, has_come};
@@ -48,10 +47,7 @@ impl Life {
     fn in_service(&mut self, consumer: &ConsumerSettings, now: u64)
         requires moment { now ≤ most_count }
         requires consumer { IsConsumer consumer.now }
-        ensures { self.new
-            ≡ record self.old {
-              wake = Some (max (now + 1) (next_beat consumer.now.heartbeat now self.old.ends));
-            } }
+        ensures { self.new ≡ in_service consumer.now now self.old }
     {
         let beat = match consumer.heartbeat {
             None => self.ends,
@@ -177,7 +173,7 @@ impl Life {
 
     // Ends a service that failed.
     fn fail_service(&mut self, consumer: &ConsumerSettings, id: MessageId, receipt: Receipt) -> Act
-        ensures decision { (home : ℕ) → EndsThis home id receipt (Ok result) self.old self.new
+        ensures decision { EndsAnywhere id receipt result self.old self.new
             (λ a g. the_fails_service a consumer.now g) }
         ensures framed { self.new.number ≡ self.old.number }
     {
@@ -208,7 +204,7 @@ impl Life {
         requires moment { now ≤ most_count }
         requires consumer { IsConsumer consumer.now }
         ensures decision { EndsThis home id receipt result self.old self.new
-            (λ a g. the_ends_well true a consumer.now now g a.held) }
+            (ends_held true consumer.now now) }
         ensures framed { self.new.number ≡ self.old.number }
     {
         self.holding.serve_first();
@@ -238,7 +234,7 @@ impl Life {
         requires moment { now ≤ most_count }
         requires consumer { IsConsumer consumer.now }
         ensures decision { EndsFirst home result self.old self.new
-            (λ a g. the_ends_well false a consumer.now now g a.held) }
+            (ends_held false consumer.now now) }
         ensures framed { self.new.number ≡ self.old.number }
     {
         match self.holding.take_held() {
@@ -259,7 +255,7 @@ impl Life {
         requires moment { now ≤ most_count }
         requires consumer { IsConsumer consumer.now }
         ensures decision { EndsThis home id receipt result self.old self.new
-            (λ a g. the_ends_well false a consumer.now now g a.held) }
+            (ends_held false consumer.now now) }
         ensures framed { self.new.number ≡ self.old.number }
     {
         if consumer.forward.is_none() {
@@ -285,8 +281,7 @@ impl Life {
         requires moment { now ≤ most_count }
         requires consumer { IsConsumer consumer.now }
         ensures decision { EndsFirst home result self.old self.new
-            (λ a g. the_ends_drawn a consumer.now now g (drawn_chance consumer.now.fail_permille
-            a.draws)) }
+            (ends_by_chance consumer.now now) }
         ensures framed { self.new.number ≡ self.old.number }
     {
         if self.draws.taken() == MOST_COUNT {
@@ -391,8 +386,8 @@ impl Life {
     ) -> Result<(), Refusal>
         requires moment { now ≤ most_count }
         requires consumer { IsConsumer consumer.now }
-        ensures decision { Lived self.old self.new (λ a b. DoesNothing result b
-            (the_consumer_got a consumer.now now batch)) }
+        ensures decision { Lives DoesNothing result self.old self.new
+            (λ a. the_consumer_got a consumer.now now batch) }
         ensures framed { self.new.number ≡ self.old.number }
     {
         let messages = batch.into_vec();

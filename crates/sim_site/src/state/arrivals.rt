@@ -7,10 +7,11 @@ ghost use Rattle.sqs_model.specs.Arrive.{arrived};
 ghost use Rattle.sqs_model.specs.Progress.{IsRecent, WasEnqueuedBy};
 ghost use Rattle.sqs_model.specs.Queue.{IsFramed};
 ghost use Rattle.sqs_model.specs.Site.{Core, number_of};
-ghost use Rattle.sqs_model.specs.Step.{arrival_done, arrival_row as the_arrival_row, load_age as the_load_age, load_origin};
+ghost use Rattle.sqs_model.specs.Step.{arrival_row as the_arrival_row, load_age as the_load_age, load_origin};
 ghost use Rattle.sim_site.specs.Effects.{Handles};
 ghost use Rattle.sim_engine.specs.Limits.{StopsWhere};
 ghost use Rattle.sim_site.specs.Origins.{origin_or};
+ghost use Rattle.sim_site.specs.Reading.{load_arrives};
 
 use super::Core;
 use crate::handling::Handling;
@@ -82,7 +83,7 @@ impl Core {
         requires enqueued { WasEnqueuedBy handling.old.key.at load }
         requires recent { IsRecent handling.old.key.at self.old.queue }
         ensures { Handles result handling.old handling.new self.new
-            (λ k. arrival_done k load self.old (arrived self.old.queue k.at load)) }
+            (λ k. load_arrives k load self.old) }
     {
         let key = handling.key;
         let site = self.queue.site();

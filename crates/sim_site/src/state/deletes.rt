@@ -1,15 +1,14 @@
 //! Deletes and changes of visibility by actors.
-ghost use Rattle.std.specs.Prelude.{None, unwrap_or, ◌/◌, ◌≡◌};
-ghost use Rattle.sqs_message.specs.Ids.{read_receipt};
+ghost use Rattle.std.specs.Prelude.{None, unwrap_or, ◌/◌, ◌≡◌, Some};
 ghost use Rattle.sqs_message.specs.declared.row.Detail.TheVariants as details;
 ghost use Rattle.sqs_message.specs.declared.row.RowAnswer.TheVariants as answers;
 ghost use Rattle.sqs_message.specs.declared.row.RowReceipt.TheVariants as receipts;
-ghost use Rattle.sqs_model.specs.Actor.{Actor};
-ghost use Rattle.sqs_model.specs.Acts.{change_made, change_answered, delete_made, deleted_row as the_deleted_row};
+ghost use Rattle.sqs_model.specs.declared.acts.Act.TheVariants as acts;
+ghost use Rattle.sqs_model.specs.Acts.{change_made, deleted_row as the_deleted_row};
 ghost use Rattle.sqs_model.specs.Calls.{change};
-ghost use Rattle.sqs_model.specs.Site.{Core, number_of};
-ghost use Rattle.sim_site.specs.Effects.{ActorDoes};
-ghost use Rattle.sim_site.specs.Rows.{row_at};
+ghost use Rattle.sqs_model.specs.Site.{Core};
+ghost use Rattle.sim_site.specs.Effects.{ActorDoes, DoesAct, IsRowOfCall};
+ghost use Rattle.sim_site.specs.Rows.{refused_row as the_refused_row};
 
 use super::Core;
 use crate::handling::Handling;
@@ -27,8 +26,8 @@ fn refused_row(
     handle: ReceiptHandle,
     refusal: Refusal,
 ) -> Row
-    ensures { result ≡ row_at handling.now.key site handling.now.agent kind
-        (answers.Refused refusal) None (receipts.Given handle) details.Absent }
+    ensures { result ≡ the_refused_row handling.now.key site handling.now.agent kind handle
+        refusal }
 {
     let answer = RowAnswer::Refused(refusal);
     let row = handling.row(site, kind, answer, None, Detail::Absent);
@@ -43,8 +42,8 @@ fn deleted_row(
     receipt: Receipt,
     answer: Result<Deleted, Refusal>,
 ) -> Row
-    ensures { (a : Actor) (c : Core) → a.number ≡ handling.now.agent → number_of c ≡ site
-        → result ≡ the_deleted_row handling.now.key a c handle receipt answer }
+    ensures { IsRowOfCall handling.now site result
+        (λ k a c. the_deleted_row k a c handle receipt answer) }
 {
     let id = MessageId {
         site,
@@ -63,13 +62,13 @@ fn deleted_row(
 impl Core {
     /// An actor deletes a message by a receipt handle, which may be no receipt. The only error is
     /// `Memory`.
+    #[tactic(auto, unfolding(sqs_model::specs::Acts::act_made))]
     pub fn delete(
         &mut self,
         handling: &mut Handling<'_>,
         handle: ReceiptHandle,
     ) -> Result<(), Refusal>
-        ensures { ActorDoes result handling.old handling.new self.new
-            (λ k a. delete_made k a self.old handle (read_receipt handle)) }
+        ensures { DoesAct result handling.old handling.new self.old self.new (acts.Delete handle) }
     {
         let site = self.queue.site();
         let Some(receipt) = handle.receipt() else {
@@ -93,8 +92,7 @@ impl Core {
         receipt: Receipt,
     ) -> Result<(), Refusal>
         ensures { ActorDoes result handling.old handling.new self.new
-            (λ k a. change_answered k a self.old handle timeout receipt
-            (change self.old.queue k.at receipt timeout)) }
+            (λ k a. change_made k a self.old handle timeout (Some receipt)) }
     {
         let site = self.queue.site();
         match self.queue.change(handling.key.at, &receipt, timeout) {
@@ -124,14 +122,15 @@ impl Core {
 
     /// An actor changes a visibility timeout, in seconds, by a receipt handle, which may be no
     /// receipt.
+    #[tactic(auto, unfolding(sqs_model::specs::Acts::act_made))]
     pub fn change(
         &mut self,
         handling: &mut Handling<'_>,
         handle: ReceiptHandle,
         timeout: u64,
     ) -> Result<(), Refusal>
-        ensures { ActorDoes result handling.old handling.new self.new
-            (λ k a. change_made k a self.old handle timeout (read_receipt handle)) }
+        ensures { DoesAct result handling.old handling.new self.old self.new
+            (acts.Change handle timeout) }
     {
         match handle.receipt() {
             None => {
@@ -151,15 +150,15 @@ impl Core {
 
     /// An actor sets a visibility timeout anew, in seconds, by a receipt handle. Without a timeout it
     /// is the queue's.
+    #[tactic(auto, unfolding(sqs_model::specs::Acts::act_made))]
     pub fn prolong(
         &mut self,
         handling: &mut Handling<'_>,
         handle: ReceiptHandle,
         timeout: Option<u64>,
     ) -> Result<(), Refusal>
-        ensures { ActorDoes result handling.old handling.new self.new
-            (λ k a. change_made k a self.old handle (unwrap_or timeout
-            (self.old.queue.settings.visibility / 1000)) (read_receipt handle)) }
+        ensures { DoesAct result handling.old handling.new self.old self.new
+            (acts.Prolong handle timeout) }
     {
         let own = self.queue.settings().visibility / 1000;
         self.change(handling, handle, timeout.unwrap_or(own))

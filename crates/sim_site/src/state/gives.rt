@@ -1,8 +1,8 @@
 //! The rows of the messages that a receive gave.
-ghost use Rattle.std.specs.Prelude.{OnOk, map, ◌++◌, ◌≡◌};
+ghost use Rattle.std.specs.Prelude.{OnOk, ◌++◌, ◌≡◌};
 ghost use Rattle.sqs_model.specs.Acts.{all_came_back, given, got_row as the_got_row};
 ghost use Rattle.sqs_model.specs.Site.{Core, number_of};
-ghost use Rattle.sim_site.specs.Effects.{AddsRows, GoesOn, Handles};
+ghost use Rattle.sim_site.specs.Effects.{GoesOn, Handles, AddsGots, GivesGots};
 
 use super::Core;
 use crate::handling::Handling;
@@ -27,8 +27,7 @@ impl Core {
     // A row for each message that was received.
     fn say_gots(&self, handling: &mut Handling<'_>, gots: &[Got]) -> Result<(), AllocError>
         ensures on { GoesOn handling.old handling.new }
-        ensures rows { OnOk result (AddsRows handling.old handling.new
-            (map (the_got_row handling.old.key self.now handling.old.agent) gots.now)) }
+        ensures rows { OnOk result (AddsGots handling.old handling.new self.now gots.now) }
         ensures sent { OnOk result (handling.new.effects.now.sent ≡ handling.old.effects.now.sent) }
     {
         let site = self.queue.site();
@@ -59,8 +58,7 @@ impl Core {
         timeout: Option<u64>,
         gots: &[Got],
     ) -> Result<(), Refusal>
-        ensures { Handles result handling.old handling.new self.new
-            (λ k. given k self.old handling.old.agent timeout (self.old.queue, gots.now)) }
+        ensures { GivesGots result handling.old handling.new self.old self.new timeout gots.now }
     {
         self.say_gots(handling, gots)?;
         let at_once = match timeout {

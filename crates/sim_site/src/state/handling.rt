@@ -1,8 +1,8 @@
 //! The handling of an entry due, by its class, and after it the answers to waiting polls.
 ghost use Rattle.std.specs.Prelude.{IfSome};
 ghost use Rattle.sqs_model.specs.Progress.{IsRecent, WasEnqueuedBy};
-ghost use Rattle.sqs_model.specs.Step.{handle_arrival, handle_class, with_polls};
-ghost use Rattle.sim_site.specs.Effects.{Handles};
+ghost use Rattle.sqs_model.specs.Step.{handle_arrival, handle_class};
+ghost use Rattle.sim_site.specs.Effects.{Handles, HandlesAndAnswers};
 ghost use Rattle.sim_site.specs.Turns.{IsDueNow};
 
 use super::Core;
@@ -36,8 +36,8 @@ impl Core {
     /// `Memory`. `CountLimit` if a count would pass its limit.
     pub fn handle(&mut self, handling: &mut Handling<'_>) -> Result<(), Refusal>
         requires { IsDueNow handling.old self.old }
-        ensures { Handles result handling.old handling.new self.new (λ k. with_polls k
-            (handle_class k.class k self.old)) }
+        ensures { HandlesAndAnswers result handling.old handling.new self.new
+            (λ k. handle_class k.class k self.old) }
     {
         self.handle_class(handling)?;
         self.answer_polls(handling)
@@ -72,8 +72,8 @@ impl Core {
     ) -> Result<(), Refusal>
         requires recent { IsRecent handling.old.key.at self.old.queue }
         requires enqueued { IfSome transfer (λ t. WasEnqueuedBy handling.old.key.at t.load) }
-        ensures { Handles result handling.old handling.new self.new (λ k. with_polls k
-            (handle_arrival k transfer self.old)) }
+        ensures { HandlesAndAnswers result handling.old handling.new self.new
+            (λ k. handle_arrival k transfer self.old) }
     {
         self.handle_transfer(handling, transfer)?;
         self.answer_polls(handling)

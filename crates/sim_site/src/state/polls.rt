@@ -1,6 +1,6 @@
 //! Polls that wait: their ends, and their answers.
 ghost use Rattle.std.specs.Prelude.{false, ◌-◌, ◌≡◌};
-ghost use Rattle.sqs_model.specs.Polls.{answer_polls, poll_answered, poll_given};
+ghost use Rattle.sqs_model.specs.Polls.{answer_polls};
 ghost use Rattle.sqs_model.specs.Site.{no_effect};
 ghost use Rattle.sim_clock.specs.declared.key.Key.{Key};
 ghost use Rattle.sqs_model.specs.Valid.{IsQueueSettings, MayBeTimeout};
@@ -8,6 +8,7 @@ ghost use Rattle.sqs_model.specs.Progress.{IsRecent};
 ghost use Rattle.sqs_model.specs.Step.{handle_poll_end};
 ghost use Rattle.sim_site.specs.Effects.{Handles};
 ghost use Rattle.sim_site.specs.Kept.{IsHostCount};
+ghost use Rattle.sim_site.specs.Reading.{poll_served};
 
 use super::Core;
 use super::receives::{all_hosts_of, receive_row, received_by};
@@ -37,7 +38,7 @@ impl Core {
         requires allowed { MayBeTimeout poll.timeout }
         requires recent { IsRecent handling.old.key.at self.old.queue }
         ensures { Handles result handling.old handling.new self.new
-            (λ k. poll_answered k poll self.old (poll_given k poll self.old.queue)) }
+            (λ k. poll_served k poll self.old) }
     {
         let agent = handling.agent;
         handling.agent = poll.actor;

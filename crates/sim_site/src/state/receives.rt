@@ -1,17 +1,19 @@
 //! Receives by actors.
-ghost use Rattle.std.specs.Prelude.{Any, Err, IfErr, IfOk, IsOk, None, OnErr, true, ◌-◌, ◌<◌, ◌^◌, ◌≡◌, ◌≤◌};
+ghost use Rattle.std.specs.Prelude.{Err, IfErr, IfOk, None, OnErr, true, ◌-◌, ◌<◌, ◌^◌, ◌≡◌, ◌≤◌};
+ghost use Rattle.sqs_model.specs.declared.acts.Act.TheVariants as acts;
 ghost use Rattle.sqs_model.specs.Acts.{receive_row as the_receive_row, hosts_from as the_hosts_from, long_poll, receive_as, receive_none, receive_some, short_poll};
 ghost use Rattle.sqs_model.specs.Answers.{most_count};
-ghost use Rattle.sqs_model.specs.Draw.{drawn_uniform};
 ghost use Rattle.sqs_model.specs.Queue.{IsFramed};
 ghost use Rattle.sqs_model.specs.Receive.{receive};
-ghost use Rattle.std.specs.Result.{result_map_both};
 ghost use Rattle.sqs_model.specs.Site.{Core, number_of};
 ghost use Rattle.sqs_model.specs.Valid.{IsStandard, MayBeTimeout};
 ghost use Rattle.sqs_model.specs.Receive.{to_give};
-ghost use Rattle.sim_site.specs.Effects.{Makes};
+ghost use Rattle.sim_site.specs.Effects.{Makes, MakesAct};
 ghost use Rattle.sim_engine.specs.Limits.{StopsWhere};
 ghost use Rattle.sim_site.specs.Kept.{IsHostCount, IsShortRefusal, MaySample, most_wait};
+ghost use Rattle.sqs_redrive.specs.declared.settings.Kind.TheVariants.{Standard};
+ghost use Rattle.sqs_queue.specs.Calls.{PassesReceive};
+ghost use Rattle.sim_site.specs.Reading.{gots_of};
 
 use super::Core;
 use super::sends::told_refusal;
@@ -72,14 +74,13 @@ pub fn received_by(
 ) -> Result<Result<Vec<Got>, Refusal>, Refusal>
     requires moment { now ≤ most_count }
     requires short { short ≡ true → IsStandard queue.old.settings.kind }
-    ensures received { IfOk result (λ answer.
-        receive queue.old now max timeout hosts short
-        ≡ (result_map_both (λ batch. batch.items) (λ refusal. refusal) answer, queue.new)) }
+    ensures received { IfOk result (λ r. receive queue.old now max timeout hosts short
+        ≡ (gots_of r, queue.new)) }
     ensures unchanged { IfOk result (λ answer. OnErr answer (queue.new ≡ queue.old)) }
     ensures allowed { IfOk result (λ answer. IfOk answer (λ _. MayBeTimeout timeout)) }
     ensures framed { IsFramed queue.old queue.new }
-    ensures stops { IfErr result (StopsWhere (Any (λ m. m.receives ≡ most_count)
-        (to_give queue.old max hosts) × IsOk (receive queue.old now max timeout hosts short).0)) }
+    ensures stops { IfErr result (StopsWhere
+        (PassesReceive queue.old now max timeout hosts short)) }
 {
     match queue.receive(now, max, timeout, hosts, short) {
         Ok(received) => Ok(Ok(received.messages)),
@@ -107,7 +108,7 @@ impl Core {
         requires allowed { MayBeTimeout timeout }
         requires wait { wait ≤ most_wait }
         ensures { Makes result handling.old handling.new self.old self.new
-            (λ k a. receive_none k a self.old max wait timeout) }
+            (λ k a c. receive_none k a c max wait timeout) }
     {
         let site = self.queue.site();
         if wait == 0 {
@@ -147,7 +148,7 @@ impl Core {
         requires allowed { MayBeTimeout timeout }
         requires wait { wait ≤ most_wait }
         ensures { Makes result handling.old handling.new self.old self.new
-            (λ k a. receive_some k a self.old max wait timeout self.old.queue gots.items) }
+            (λ k a c. receive_some k a c max wait timeout c.queue gots.items) }
     {
         if gots.is_empty() {
             return self.receive_none(handling, max, wait, timeout);
@@ -167,9 +168,8 @@ impl Core {
     ) -> Result<Reply, Refusal>
         requires hosts { MaySample hosts sampled }
         requires standard { IsStandard self.old.queue.settings.kind }
-        ensures { Makes result handling.old handling.new self.old self.new
-            (λ k a. short_poll k a self.old max timeout hosts sampled (drawn_uniform 0
-            (hosts - 1) self.old.draws)) }
+        ensures { Makes result handling.old handling.new self.old self.new (λ k a c. receive_as
+            (Standard hosts sampled) k a c max 0 timeout) }
     {
         let site = self.queue.site();
         if let Some(refusal) = short_refusal(&self.queue, timeout) {
@@ -201,7 +201,7 @@ impl Core {
         requires wait { wait ≤ most_wait }
         requires hosts { IsHostCount self.old.queue.settings.kind hosts }
         ensures { Makes result handling.old handling.new self.old self.new
-            (λ k a. long_poll k a self.old max wait timeout) }
+            (λ k a c. long_poll k a c max wait timeout) }
     {
         let site = self.queue.site();
         let set = all_hosts_of(hosts);
@@ -216,6 +216,7 @@ impl Core {
     }
 
     /// An actor receives at most `max` messages.
+    #[tactic(auto, unfolding(sqs_model::specs::Acts::act_made))]
     pub fn receive(
         &mut self,
         handling: &mut Handling<'_>,
@@ -224,8 +225,8 @@ impl Core {
         timeout: Option<u64>,
     ) -> Result<Reply, Refusal>
         requires { wait ≤ most_wait }
-        ensures { Makes result handling.old handling.new self.old self.new
-            (λ k a. receive_as self.old.queue.settings.kind k a self.old max wait timeout) }
+        ensures { MakesAct result handling.old handling.new self.old self.new
+            (acts.Receive max wait timeout) }
     {
         match self.queue.settings().kind {
             Kind::Standard { hosts, sampled } => {

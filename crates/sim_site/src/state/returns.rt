@@ -1,7 +1,6 @@
 //! Messages that come back to their queue, or leave it for the dead-letter queue.
-ghost use Rattle.std.specs.Prelude.{◌≡◌, ◌≤◌};
-ghost use Rattle.sqs_model.specs.Acts.{came_back as the_came_back, redriven};
-ghost use Rattle.sqs_model.specs.Draw.{drawn_latency};
+ghost use Rattle.std.specs.Prelude.{◌≡◌, ◌≤◌, Some};
+ghost use Rattle.sqs_model.specs.Acts.{came_back as the_came_back, redrive_by};
 ghost use Rattle.sqs_model.specs.Step.{handle_expiry, handle_release};
 ghost use Rattle.sqs_model.specs.Valid.{IsLatency};
 ghost use Rattle.sim_site.specs.Effects.{Handles};
@@ -24,9 +23,8 @@ impl Core {
         policy: Policy,
     ) -> Result<(), Refusal>
         requires { IsLatency policy.latency }
-        ensures { Handles result handling.old handling.new self.new
-            (λ k. redriven k self.old number load policy.dead_letter
-            (drawn_latency policy.latency self.old.draws)) }
+        ensures { Handles result handling.old handling.new self.new (λ k. redrive_by
+            (Some policy) k self.old number load) }
     {
         let (least, greatest) = (policy.latency.least, policy.latency.greatest);
         let varies = least < greatest;

@@ -2,13 +2,15 @@
 ghost use Rattle.std.specs.Prelude.{IfErr, IfOk, List, Option, ℕ, ◌<◌, ◌≡◌, ◌≤◌};
 ghost use Rattle.md5.specs.Md5.{md5};
 ghost use Rattle.sim_clock.specs.declared.refusal.Refusal.TheVariants as refusals;
-ghost use Rattle.sqs_model.specs.Acts.{send_made, send_row as the_send_row, sends};
+ghost use Rattle.sqs_model.specs.declared.acts.Act.TheVariants as acts;
+ghost use Rattle.sqs_model.specs.Acts.{send_row as the_send_row};
 ghost use Rattle.sqs_model.specs.Answers.{most_count};
 ghost use Rattle.sqs_model.specs.Progress.{IsRecent};
 ghost use Rattle.sqs_model.specs.Queue.{IsFramed};
 ghost use Rattle.sqs_model.specs.Site.{Core, number_of};
-ghost use Rattle.sim_site.specs.Effects.{ActorDoes, IsReportedOrEnds};
+ghost use Rattle.sim_site.specs.Effects.{IsReportedOrEnds, DoesAct};
 ghost use Rattle.sim_engine.specs.Limits.{StopsWhere};
+ghost use Rattle.sqs_queue.specs.Calls.{PassesSend, send_to};
 
 use super::Core;
 use crate::handling::Handling;
@@ -40,11 +42,10 @@ fn sent_by(
 ) -> Result<Result<Sent, Refusal>, Refusal>
     requires moment { now ≤ most_count }
     requires recent { IsRecent now queue.old }
-    ensures sent { IfOk result (λ answer.
-        sends queue.old.settings.kind queue.old now body delay group id ≡ (answer, queue.new)) }
+    ensures sent { IfOk result (λ answer. send_to queue.old now body delay group id
+        ≡ (answer, queue.new)) }
     ensures framed { IsFramed queue.old queue.new }
-    ensures stops { IfErr result (StopsWhere (most_count
-        < (sends queue.old.settings.kind queue.old now body delay group id).1.arrivals)) }
+    ensures stops { IfErr result (StopsWhere (PassesSend queue.old now body delay group id)) }
 {
     match queue.send(now, body, delay, group, id) {
         Ok(sent) => Ok(Ok(sent)),
@@ -73,6 +74,7 @@ fn send_row(
 impl Core {
     /// An actor sends a message, delayed by `delay` seconds or else by the queue's delay, in a
     /// message group and with a deduplication id, if it gives them.
+    #[tactic(auto, unfolding(sqs_model::specs::Acts::act_made))]
     pub fn send(
         &mut self,
         handling: &mut Handling<'_>,
@@ -82,9 +84,8 @@ impl Core {
         id: Option<Text>,
     ) -> Result<(), Refusal>
         requires recent { IsRecent handling.old.key.at self.old.queue }
-        ensures { ActorDoes result handling.old handling.new self.new
-            (λ k a. send_made k a self.old body (sends self.old.queue.settings.kind self.old.queue
-            k.at body delay group id)) }
+        ensures { DoesAct result handling.old handling.new self.old self.new
+            (acts.Send body delay group id) }
     {
         let site = self.queue.site();
         let digest = body.md5();

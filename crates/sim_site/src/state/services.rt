@@ -1,6 +1,6 @@
 //! Ends of services.
-ghost use Rattle.sqs_model.specs.Acts.{serve_made};
-ghost use Rattle.sim_site.specs.Effects.{ActorDoes};
+ghost use Rattle.sqs_model.specs.declared.acts.Act.TheVariants as acts;
+ghost use Rattle.sim_site.specs.Effects.{DoesAct};
 
 use super::Core;
 use crate::handling::Handling;
@@ -12,6 +12,7 @@ use sqs_redrive::Outbound;
 impl Core {
     /// An actor ends the service of a message. If the service failed, this makes a row. If not, and
     /// there is a forward, this makes a row and sends the forward. The only error is `Memory`.
+    #[tactic(auto, unfolding(sqs_model::specs::Acts::act_made))]
     pub fn serve(
         &mut self,
         handling: &mut Handling<'_>,
@@ -20,8 +21,8 @@ impl Core {
         failed: bool,
         forward: Option<Outbound>,
     ) -> Result<(), Refusal>
-        ensures { ActorDoes result handling.old handling.new self.new
-            (λ k a. serve_made k a self.old id receipt failed forward) }
+        ensures { DoesAct result handling.old handling.new self.old self.new
+            (acts.Serve id receipt failed forward) }
     {
         let site = self.queue.site();
         if failed {

@@ -5,7 +5,7 @@ ghost use Rattle.sqs_model.specs.Acts.{runs};
 ghost use Rattle.sqs_model.specs.Answers.{most_count};
 ghost use Rattle.sqs_model.specs.Dues.{core_dues};
 ghost use Rattle.sim_clock.specs.Places.{Stands};
-ghost use Rattle.sqs_model.specs.Site.{Core as TheCore, is_task, number_of, task_numbered};
+ghost use Rattle.sqs_model.specs.Site.{Core as TheCore, is_task, number_of};
 ghost use Rattle.sqs_model.specs.Step.{handle_step, load_id as the_load_id, move_row as the_move_row, moves};
 ghost use Rattle.sqs_model.specs.Task.{Task as TheTask};
 ghost use Rattle.sqs_model.specs.Valid.{IsLatency};
@@ -14,6 +14,7 @@ ghost use Rattle.sim_site.specs.Effects.{Handles};
 ghost use Rattle.sim_engine.specs.Limits.{StopsWhere};
 ghost use Rattle.sim_site.specs.Kept.{numbered_settings};
 ghost use Rattle.sim_site.specs.Steps.{IsKept, Moves, PassesSending, SendsOn, StepsTask, ReportsEnd, stepped_moves};
+ghost use Rattle.sim_site.specs.Reading.{step_due};
 
 use super::Core;
 use crate::agents::Task;
@@ -196,8 +197,7 @@ impl Core {
     pub fn handle_step(&mut self, handling: &mut Handling<'_>) -> Result<(), Refusal>
         requires class { handling.old.key.class ≡ StepClass }
         requires due { IsAmong (core_dues self.old) handling.old.key }
-        ensures { Handles result handling.old handling.new self.new (λ k. handle_step k self.old
-            (task_numbered k.agent self.old)) }
+        ensures { Handles result handling.old handling.new self.new (λ k. step_due k self.old) }
     {
         let site = self.queue.site();
         let Some(place) = place_of_task(&self.tasks, handling.key.agent) else {

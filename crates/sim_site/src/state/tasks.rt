@@ -1,12 +1,12 @@
 //! Starts and cancels of move tasks by actors.
 ghost use Rattle.std.specs.Prelude.{IfSome, false, find, map, true, ◌≡◌, ◌≤◌};
 ghost use Rattle.std.specs.List.{list_any};
-ghost use Rattle.sqs_model.specs.Actor.{Actor};
-ghost use Rattle.sqs_model.specs.Acts.{cancel_made, runs, start_made, task_row as the_task_row};
+ghost use Rattle.sqs_model.specs.declared.acts.Act.TheVariants as acts;
+ghost use Rattle.sqs_model.specs.Acts.{runs, task_row as the_task_row};
 ghost use Rattle.sqs_model.specs.Answers.{most_count};
 ghost use Rattle.sim_clock.specs.Places.{Stands};
-ghost use Rattle.sqs_model.specs.Site.{Core, is_task, number_of, task_numbered};
-ghost use Rattle.sim_site.specs.Effects.{ActorDoes};
+ghost use Rattle.sqs_model.specs.Site.{Core, is_task};
+ghost use Rattle.sim_site.specs.Effects.{DoesAct, IsRowOfCall};
 ghost use Rattle.sim_site.specs.Kept.{numbered_settings};
 ghost use Rattle.sim_site.specs.Reading.{cancelled_task, started_task};
 ghost use Rattle.sim_site.specs.Tasks.{Rewritten};
@@ -56,8 +56,7 @@ fn cancel_at(tasks: &mut Vec<Task>, place: usize, number: u32) -> bool
 
 // The row of a start or cancel.
 fn task_row(handling: &Handling<'_>, site: u32, task: u32, kind: RowKind, answer: RowAnswer) -> Row
-    ensures { (a : Actor) (c : Core) → a.number ≡ handling.now.agent → number_of c ≡ site
-        → result ≡ the_task_row handling.now.key a c task kind answer }
+    ensures { IsRowOfCall handling.now site result (λ k a c. the_task_row k a c task kind answer) }
 {
     handling.row(site, kind, answer, None, Detail::Task(task))
 }
@@ -65,9 +64,9 @@ fn task_row(handling: &Handling<'_>, site: u32, task: u32, kind: RowKind, answer
 impl Core {
     /// An actor starts a task. It is refused while a task of the site is running. The only error is
     /// `Memory`.
+    #[tactic(auto, unfolding(sqs_model::specs::Acts::act_made))]
     pub fn start(&mut self, handling: &mut Handling<'_>, task: u32) -> Result<(), Refusal>
-        ensures { ActorDoes result handling.old handling.new self.new
-            (λ k a. start_made k a self.old task (task_numbered task self.old)) }
+        ensures { DoesAct result handling.old handling.new self.old self.new (acts.Start task) }
     {
         let site = self.queue.site();
         let Some(place) = place_of_task(&self.tasks, task) else {
@@ -87,9 +86,9 @@ impl Core {
 
     /// An actor cancels a task. It is refused if the task is not running. The only error is
     /// `Memory`.
+    #[tactic(auto, unfolding(sqs_model::specs::Acts::act_made))]
     pub fn cancel(&mut self, handling: &mut Handling<'_>, task: u32) -> Result<(), Refusal>
-        ensures { ActorDoes result handling.old handling.new self.new
-            (λ k a. cancel_made k a self.old task (task_numbered task self.old)) }
+        ensures { DoesAct result handling.old handling.new self.old self.new (acts.Cancel task) }
     {
         let site = self.queue.site();
         let Some(place) = place_of_task(&self.tasks, task) else {

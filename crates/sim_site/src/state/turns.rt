@@ -4,11 +4,10 @@ ghost use Rattle.std.specs.Result.{result_map_both};
 ghost use Rattle.sim_actor.specs.Lives.{act_following, answer_of};
 ghost use Rattle.sqs_model.specs.Acts.{act_made};
 ghost use Rattle.sqs_model.specs.Progress.{IsRecent};
-ghost use Rattle.sqs_model.specs.Polls.{acts_most, told as the_told};
 ghost use Rattle.sqs_model.specs.Step.{handle_wake};
 ghost use Rattle.sim_site.specs.Effects.{Handles};
 ghost use Rattle.sim_site.specs.Kept.{WaitsShortly};
-ghost use Rattle.sim_site.specs.Turns.{ActorTakes, TakesTurn, answer_if, turn_by};
+ghost use Rattle.sim_site.specs.Turns.{TakesTurn, answer_if, TakesAct, ActsMost};
 
 use super::Core;
 use crate::handling::Handling;
@@ -31,8 +30,8 @@ impl Core {
     fn act(&mut self, handling: &mut Handling<'_>, act: Act) -> Result<Option<Reply>, Refusal>
         requires recent { IsRecent handling.old.key.at self.old.queue }
         requires wait { WaitsShortly act }
-        ensures { ActorTakes (option_map answer_of) result handling.old handling.new self.old
-            self.new (λ k a. turn_by act (act_made k a self.old act)) }
+        ensures { TakesAct (option_map answer_of) result handling.old handling.new self.old self.new
+            act }
     {
         let done = match act {
             Act::Send {
@@ -68,9 +67,8 @@ impl Core {
         follow_up: FollowUp,
     ) -> Result<bool, Refusal>
         requires { IsRecent handling.old.key.at self.old.queue }
-        ensures { ActorTakes answer_if result handling.old handling.new self.old self.new
-            (λ k a. turn_by (act_following follow_up) (act_made k a self.old
-            (act_following follow_up))) }
+        ensures { TakesAct answer_if result handling.old handling.new self.old self.new
+            (act_following follow_up) }
     {
         match follow_up {
             FollowUp::Nothing => return Ok(false),
@@ -114,8 +112,7 @@ impl Core {
     // An actor gets a reply and acts, and then the reply to that.
     fn last_turns(&mut self, handling: &mut Handling<'_>, reply: Reply) -> Result<(), Refusal>
         requires { IsRecent handling.old.key.at self.old.queue }
-        ensures { Handles result handling.old handling.new self.new
-            (λ k. acts_most 2 k handling.old.agent (answer_of reply) self.old) }
+        ensures { ActsMost 2 result handling.old handling.new self.old self.new reply }
     {
         let acted = self.next_turn(handling, reply)?;
         if !acted {
@@ -129,8 +126,7 @@ impl Core {
     /// nothing.
     pub fn told(&mut self, handling: &mut Handling<'_>, reply: Reply) -> Result<(), Refusal>
         requires { IsRecent handling.old.key.at self.old.queue }
-        ensures { Handles result handling.old handling.new self.new
-            (λ k. the_told k handling.old.agent (answer_of reply) self.old) }
+        ensures { ActsMost 3 result handling.old handling.new self.old self.new reply }
     {
         let acted = self.next_turn(handling, reply)?;
         if !acted {

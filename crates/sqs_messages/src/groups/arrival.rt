@@ -3,7 +3,7 @@ ghost use Rattle.std.specs.Prelude.{◌≡◌, ◌≢◌, ◌+◌, ◌++◌, ◌
 ghost use Rattle.sqs_messages.specs.Heads.{AreLed, IsLedBut, of_group, told};
 ghost use Rattle.sqs_messages.specs.Slots.{held};
 ghost use Rattle.sqs_messages.specs.Marked.{unhosted};
-ghost use Rattle.sqs_messages.specs.Groups.{AreInGroups, HasRoomAt, IsPlaceOf, bit, group_at, out_of};
+ghost use Rattle.sqs_messages.specs.Groups.{AreInGroups, HasRoomAt, IsPlaceOf, bit, group_at, out_of, HoldSame, MarksLeader, StayBelow, numbers_at, out_at};
 
 use crate::groups::front::leader_hosts;
 use crate::groups::members::{Members, in_flight, moved};
@@ -18,21 +18,18 @@ use sqs_message::{Message, Place, Text};
 fn join(shelf: &mut Shelf, groups: &mut [Members], place: usize, number: u64, is_out: bool)
     requires place { place < length groups.old }
     requires room { HasRoomAt groups.old place }
-    requires count { is_out ≡ true → (group_at groups.old place).out + 1 < 2 ^ 64 }
+    requires count { is_out ≡ true → out_at groups.old place + 1 < 2 ^ 64 }
     ensures kept { map unhosted shelf.new.items ≡ map unhosted shelf.old.items }
     ensures next { shelf.new.next ≡ shelf.old.next }
     ensures len { length groups.new ≡ length groups.old }
     ensures others { (j : ℕ) → j ≢ place → group_at groups.new j ≡ group_at groups.old j }
-    ensures out { (group_at groups.new place).out ≡ (group_at groups.old place).out + bit is_out }
-    ensures held { held shelf.old.items (group_at groups.new place).numbers
-        ≡ held shelf.old.items ((group_at groups.old place).numbers ++ number ∷ []) }
-    ensures below { (n : ℕ) → All (λ k. k < n) ((group_at groups.old place).numbers ++ number ∷ [])
-        → All (λ k. k < n) (group_at groups.new place).numbers }
-    ensures led { (g : Option (List ℕ)) → All (IsLedBut shelf.old.items g) shelf.old.items
-        → held shelf.old.items ((group_at groups.old place).numbers ++ number ∷ [])
-        ≡ of_group g (told shelf.old.items)
-        → (group_at groups.new place).out ≡ out_of g (told shelf.old.items)
-        → AreLed shelf.new.items }
+    ensures out { out_at groups.new place ≡ out_at groups.old place + bit is_out }
+    ensures held { HoldSame shelf.old.items (numbers_at groups.old place
+        ++ number ∷ []) (numbers_at groups.new place) }
+    ensures below { StayBelow (numbers_at groups.old place
+        ++ number ∷ []) (numbers_at groups.new place) }
+    ensures led { MarksLeader shelf.old.items (numbers_at groups.old place
+        ++ number ∷ []) (out_at groups.new place) shelf.new.items }
 {
     groups[place].numbers.push_back_reserved(number);
     moved(shelf, groups, place, false, is_out);
@@ -42,7 +39,7 @@ fn join(shelf: &mut Shelf, groups: &mut [Members], place: usize, number: u64, is
 // is its first. If not, it is marked as no leader.
 fn hosts_at(groups: &[Members], place: usize, visible: bool) -> u32
     requires { place < length groups.now }
-    ensures { (group_at groups.now place).numbers ≢ [] → result ≡ 0 }
+    ensures { numbers_at groups.now place ≢ [] → result ≡ 0 }
 {
     let members = &groups[place];
     if members.numbers.is_empty() {

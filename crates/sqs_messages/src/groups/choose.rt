@@ -2,9 +2,10 @@
 ghost use Rattle.std.specs.Prelude.{◌≡◌, ◌+◌, ◌*◌, ◌++◌, ◌<◌, ◌≤◌, ◌^◌, [], IfOk, OnOk, length, map, take};
 ghost use Rattle.sqs_model.specs.Available.{by_group, open_from};
 ghost use Rattle.sqs_model.specs.Queue.{is_delayed};
-ghost use Rattle.sqs_messages.specs.Heads.{told, until_delayed};
+ghost use Rattle.sqs_messages.specs.Heads.{told, until_delayed, given_of};
 ghost use Rattle.sqs_messages.specs.Slots.{held};
 ghost use Rattle.sqs_messages.specs.Groups.{AreInGroups};
+ghost use Rattle.sqs_messages.specs.Choices.{AddsUpTo, ChoosesFirst, chosen, open_by_group};
 
 use crate::choose::Choice;
 use crate::groups::Groups;
@@ -22,16 +23,15 @@ fn give(
     most: u64,
     choice: &mut Choice,
 ) -> Result<(), AllocError>
-    requires most { length choice.old.numbers.items ≤ most }
+    requires most { chosen choice.old ≤ most }
     requires range { most < 2 ^ 63 }
-    requires few { choice.old.looked ≤ 2 * length choice.old.numbers.items }
-    ensures walked { OnOk result (choice.new.numbers.items
-        ≡ take most (choice.old.numbers.items
-        ++ map (λ m. m.number) (until_delayed (held shelf.now.items numbers.now.items)))) }
-    ensures looked { OnOk result (choice.new.looked + length choice.old.numbers.items
-        ≤ choice.old.looked + length choice.new.numbers.items + 1) }
-    ensures read { OnOk result (choice.old.looked + length choice.new.numbers.items
-        ≤ choice.new.looked + length choice.old.numbers.items) }
+    requires few { choice.old.looked ≤ 2 * chosen choice.old }
+    ensures walked { OnOk result (AddsUpTo most
+        (given_of shelf.now.items numbers.now.items) choice.old choice.new) }
+    ensures looked { OnOk result (choice.new.looked + chosen choice.old
+        ≤ choice.old.looked + chosen choice.new + 1) }
+    ensures read { OnOk result (choice.old.looked + chosen choice.new
+        ≤ choice.new.looked + chosen choice.old) }
 {
     for number in numbers.iter() {
         if choice.numbers.len() as u64 == most {
@@ -59,12 +59,9 @@ pub fn choose(
     requires range { most < 2 ^ 63 }
     requires grouped { AreInGroups shelf.now.items shelf.now.next groups.now.names.keys
         groups.now.members.items }
-    ensures numbers { IfOk result (λ choice.
-        choice.numbers.items
-        ≡ map (λ m. m.number) (take most
-        (by_group (open_from (told shelf.now.items) [] (told shelf.now.items))))) }
+    ensures numbers { IfOk result (ChoosesFirst most (open_by_group (told shelf.now.items))) }
     ensures looked { IfOk result (λ choice. choice.looked ≤ 2 * most) }
-    ensures read { IfOk result (λ choice. length choice.numbers.items ≤ choice.looked) }
+    ensures read { IfOk result (λ choice. chosen choice ≤ choice.looked) }
 {
     let _next = shelf.number();
     let mut choice = Choice {

@@ -4,7 +4,7 @@ ghost use Rattle.sqs_model.specs.Queue.{is_visible};
 ghost use Rattle.sqs_messages.specs.Heads.{AreLed, IsLedBut, of_group, told};
 ghost use Rattle.sqs_messages.specs.Slots.{held};
 ghost use Rattle.sqs_messages.specs.Marked.{unhosted};
-ghost use Rattle.sqs_messages.specs.Groups.{bit, front_of, out_of};
+ghost use Rattle.sqs_messages.specs.Groups.{bit, front_of, out_of, HoldSame, MarksLeader, StayBelow};
 
 use crate::groups::members::{LEADS, Members};
 use crate::shelf::Shelf;
@@ -15,9 +15,8 @@ use std::collections::VecDeque;
 // first message that is there, and whether it may be received.
 pub fn trim(shelf: &Shelf, numbers: &mut VecDeque<u64>) -> Option<(u64, bool)>
     ensures front { result ≡ front_of (held shelf.now.items numbers.new.items) }
-    ensures held { held shelf.now.items numbers.new.items ≡ held shelf.now.items numbers.old.items }
-    ensures below { (n : ℕ) → All (λ k. k < n) numbers.old.items
-        → All (λ k. k < n) numbers.new.items }
+    ensures held { HoldSame shelf.now.items numbers.old.items numbers.new.items }
+    ensures below { StayBelow numbers.old.items numbers.new.items }
 {
     while let Some(first) = numbers.front() {
         let number = *first;
@@ -42,13 +41,10 @@ pub fn refresh(shelf: &mut Shelf, members: &mut Members)
     ensures kept { map unhosted shelf.new.items ≡ map unhosted shelf.old.items }
     ensures next { shelf.new.next ≡ shelf.old.next }
     ensures out { members.new.out ≡ members.old.out }
-    ensures held { held shelf.old.items members.new.numbers.items
-        ≡ held shelf.old.items members.old.numbers.items }
-    ensures below { (n : ℕ) → All (λ k. k < n) members.old.numbers.items
-        → All (λ k. k < n) members.new.numbers.items }
-    ensures led { (g : Option (List ℕ)) → All (IsLedBut shelf.old.items g) shelf.old.items
-        → held shelf.old.items members.old.numbers.items ≡ of_group g (told shelf.old.items)
-        → members.old.out ≡ out_of g (told shelf.old.items) → AreLed shelf.new.items }
+    ensures held { HoldSame shelf.old.items members.old.numbers.items members.new.numbers.items }
+    ensures below { StayBelow members.old.numbers.items members.new.numbers.items }
+    ensures led { MarksLeader shelf.old.items members.old.numbers.items members.old.out
+        shelf.new.items }
 {
     let _next = shelf.number();
     let Some((number, visible)) = trim(shelf, &mut members.numbers) else {

@@ -3,7 +3,7 @@ ghost use Rattle.std.specs.Prelude.{◌≡◌, ◌≢◌, ◌+◌, ◌<◌, ◌�
 ghost use Rattle.sqs_messages.specs.Heads.{AreLed, IsLedBut, of_group, told};
 ghost use Rattle.sqs_messages.specs.Slots.{held};
 ghost use Rattle.sqs_messages.specs.Marked.{unhosted};
-ghost use Rattle.sqs_messages.specs.Groups.{bit, group_at, in_flight_at, out_of, place_by};
+ghost use Rattle.sqs_messages.specs.Groups.{bit, group_at, in_flight_at, out_of, place_by, HoldSame, MarksLeader, StayBelow, numbers_at, out_at};
 
 use crate::groups::front::refresh;
 use crate::shelf::Shelf;
@@ -55,23 +55,18 @@ fn counted(out: u64, was: bool, is: bool) -> u64
 // Counts a change of a group's message, and marks the first message of the group anew.
 pub fn moved(shelf: &mut Shelf, groups: &mut [Members], index: usize, was: bool, is: bool)
     requires index { index < length groups.old }
-    requires less { was ≡ true → 1 ≤ (group_at groups.old index).out }
-    requires room { was ≡ false → is ≡ true → (group_at groups.old index).out + 1 < 2 ^ 64 }
+    requires less { was ≡ true → 1 ≤ out_at groups.old index }
+    requires room { was ≡ false → is ≡ true → out_at groups.old index + 1 < 2 ^ 64 }
     ensures kept { map unhosted shelf.new.items ≡ map unhosted shelf.old.items }
     ensures next { shelf.new.next ≡ shelf.old.next }
     ensures others { (j : ℕ) → j ≢ index → group_at groups.new j ≡ group_at groups.old j }
     ensures len { length groups.new ≡ length groups.old }
-    ensures out { (group_at groups.new index).out + bit was
-        ≡ (group_at groups.old index).out + bit is }
-    ensures held { held shelf.old.items (group_at groups.new index).numbers
-        ≡ held shelf.old.items (group_at groups.old index).numbers }
-    ensures below { (n : ℕ) → All (λ k. k < n) (group_at groups.old index).numbers
-        → All (λ k. k < n) (group_at groups.new index).numbers }
-    ensures led { (g : Option (List ℕ)) → All (IsLedBut shelf.old.items g) shelf.old.items
-        → held shelf.old.items (group_at groups.old index).numbers
-        ≡ of_group g (told shelf.old.items)
-        → (group_at groups.new index).out ≡ out_of g (told shelf.old.items)
-        → AreLed shelf.new.items }
+    ensures out { out_at groups.new index + bit was ≡ out_at groups.old index + bit is }
+    ensures held { HoldSame shelf.old.items (numbers_at groups.old index)
+        (numbers_at groups.new index) }
+    ensures below { StayBelow (numbers_at groups.old index) (numbers_at groups.new index) }
+    ensures led { MarksLeader shelf.old.items (numbers_at groups.old index)
+        (out_at groups.new index) shelf.new.items }
 {
     let members = &mut groups[index];
     members.out = counted(members.out, was, is);

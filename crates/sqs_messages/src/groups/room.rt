@@ -1,7 +1,7 @@
 //! Room for one more message of a group.
 ghost use Rattle.std.specs.Prelude.{◌≡◌, ◌≢◌, ◌+◌, ◌++◌, ◌∷◌, ◌<◌, ◌≤◌, [], All, IfOk, List, OnErr, OnOk, Option, filter, is_some, length, map, ℕ};
 ghost use Rattle.std.specs.VecDeque.{deque_capacity, deque_len};
-ghost use Rattle.sqs_messages.specs.Groups.{AreInGroups, HasRoomAt, IsPlaceOf, group_at, group_by, kept, nobody, place_by};
+ghost use Rattle.sqs_messages.specs.Groups.{AreInGroups, HasRoomAt, IsPlaceOf, group_at, group_by, kept, nobody, place_by, HoldSame, KeepGroups, StayBelow, numbers_at, out_at};
 ghost use Rattle.sqs_messages.specs.Slots.{held, message_of};
 
 use crate::groups::members::{Members, place_of};
@@ -44,8 +44,7 @@ fn place_for(
 ) -> Result<usize, AllocError>
     requires { length names.old.keys ≡ length groups.old.items }
     ensures same { length names.new.keys ≡ length groups.new.items }
-    ensures groups { (g : Option (List ℕ))
-        → group_by names.new.keys groups.new.items g ≡ group_by names.old.keys groups.old.items g }
+    ensures groups { KeepGroups names.old.keys groups.old.items names.new.keys groups.new.items }
     ensures places { (g : Option (List ℕ)) (i : ℕ) → IsPlaceOf names.old.keys g i
         → IsPlaceOf names.new.keys g i }
     ensures place { IfOk result (IsPlaceOf names.new.keys group.now) }
@@ -68,9 +67,8 @@ fn is_there(shelf: &Shelf, number: u64) -> bool
 // left go first; then it asks for room for as many more as stay. So a list has room for at most
 // about four times as many messages as there once were, and numbers are dropped only now and then.
 fn room_in(shelf: &Shelf, numbers: &mut VecDeque<u64>) -> Result<(), AllocError>
-    ensures held { held shelf.now.items numbers.new.items ≡ held shelf.now.items numbers.old.items }
-    ensures below { (n : ℕ) → All (λ k. k < n) numbers.old.items
-        → All (λ k. k < n) numbers.new.items }
+    ensures held { HoldSame shelf.now.items numbers.old.items numbers.new.items }
+    ensures below { StayBelow numbers.old.items numbers.new.items }
     ensures room { OnOk result (deque_len numbers.new < deque_capacity numbers.new) }
 {
     if numbers.len() < numbers.capacity() {
@@ -86,11 +84,10 @@ fn room_at(shelf: &Shelf, groups: &mut [Members], place: usize) -> Result<(), Al
     requires { place < length groups.old }
     ensures len { length groups.new ≡ length groups.old }
     ensures others { (j : ℕ) → j ≢ place → group_at groups.new j ≡ group_at groups.old j }
-    ensures out { (group_at groups.new place).out ≡ (group_at groups.old place).out }
-    ensures held { held shelf.now.items (group_at groups.new place).numbers
-        ≡ held shelf.now.items (group_at groups.old place).numbers }
-    ensures below { (n : ℕ) → All (λ k. k < n) (group_at groups.old place).numbers
-        → All (λ k. k < n) (group_at groups.new place).numbers }
+    ensures out { out_at groups.new place ≡ out_at groups.old place }
+    ensures held { HoldSame shelf.now.items (numbers_at groups.old place)
+        (numbers_at groups.new place) }
+    ensures below { StayBelow (numbers_at groups.old place) (numbers_at groups.new place) }
     ensures room { OnOk result (HasRoomAt groups.new place) }
 {
     let members = &mut groups[place];

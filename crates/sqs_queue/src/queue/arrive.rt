@@ -2,11 +2,11 @@
 ghost use Rattle.std.specs.Prelude.{◌≡◌, ◌⊎◌, ◌<◌, ◌≤◌, Err, OnErr, OnOk};
 ghost use Rattle.sqs_message.specs.declared.message.Message.{Message};
 ghost use Rattle.sqs_model.specs.Answers.{most_count};
-ghost use Rattle.sqs_model.specs.Arrive.{arrived, brought, settle};
+ghost use Rattle.sqs_model.specs.Arrive.{arrived, brought};
 ghost use Rattle.sqs_model.specs.Progress.{IsRecent, WasEnqueuedBy};
 ghost use Rattle.sqs_model.specs.Queue.{IsFramed};
 ghost use Rattle.sqs_model.specs.Valid.{IsStandard};
-ghost use Rattle.sqs_queue.specs.Calls.{MeetsArrival, MeetsOneMore, never_refused};
+ghost use Rattle.sqs_queue.specs.Calls.{MeetsArrival, MeetsComing};
 
 use super::Queue;
 use sim_clock::Refusal;
@@ -58,8 +58,8 @@ impl Queue {
     ) -> Result<(Sent, bool), Refusal>
         requires moment { now ≤ most_count }
         requires enqueued { enqueued ≤ now }
-        ensures answer { MeetsOneMore self.old result self.new (never_refused
-            (settle self.old now (brought self.old now origin body group enqueued source))) }
+        ensures answer { MeetsComing self.old result self.new now
+            (brought self.old now origin body group enqueued source) }
         ensures counted { OnOk result (self.old.arrivals < most_count) }
         ensures unchanged { OnErr result (self.new ≡ self.old) }
         ensures kept { self.new.entries ≡ self.old.entries }

@@ -8,7 +8,7 @@ ghost use Rattle.sqs_model.specs.Progress.{IsRecent};
 ghost use Rattle.sqs_model.specs.Queue.{IsFramed};
 ghost use Rattle.sqs_model.specs.Valid.{IsFifo};
 ghost use Rattle.sqs_queue.specs.Calls.{MeetsArrival, MeetsOneMore, MeetsSend, PassesSend};
-ghost use Rattle.sqs_queue.specs.Fifo.{compares_bodies, scope_in};
+ghost use Rattle.sqs_queue.specs.Fifo.{compares_bodies, scope_in, send_scoped, PassesScoped};
 
 use super::Queue;
 use crate::places::is_out;
@@ -111,12 +111,12 @@ impl Queue {
     fn send_in(&mut self, now: u64, body: Body, group: Text, id: Text) -> Result<Sent, Refusal>
         requires moment { now ≤ most_count }
         requires recent { IsRecent now self.old }
-        ensures answer { MeetsOneMore self.old result self.new (send_in self.old now body group
-            (scope_in self.old.settings.kind group) id) }
+        ensures answer { MeetsOneMore self.old result self.new
+            (send_scoped self.old now body group id) }
         ensures counted { OnOk result ((self.old.arrivals < most_count) ⊎ (self.new ≡ self.old)) }
         ensures unchanged { OnErr result (self.new ≡ self.old) }
-        ensures at_limit { result ≡ Err Refusal.CountLimit → most_count <
-            (send_in self.old now body group (scope_in self.old.settings.kind group) id).1.arrivals }
+        ensures at_limit { result ≡ Err Refusal.CountLimit
+            → PassesScoped self.old now body group id }
         ensures refused { IfErr result
             (λ refusal. (refusal ≡ Refusal.CountLimit) ⊎ (refusal ≡ Refusal.Memory)) }
         ensures recent { IsRecent now self.new }

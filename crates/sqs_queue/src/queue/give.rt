@@ -1,12 +1,11 @@
 //! The receiving of messages.
-ghost use Rattle.std.specs.Prelude.{◌≡◌, ◌*◌, false, true, ◌<◌, ◌≤◌, ◌⊎◌, All, Err, IfErr, IfOk, IfSome, OnErr, OnOk, length, map, take};
-ghost use Rattle.std.specs.Result.{result_map_both};
+ghost use Rattle.std.specs.Prelude.{◌≡◌, ◌*◌, false, true, ◌<◌, ◌≤◌, ◌⊎◌, All, Err, IfErr, IfOk, IfSome, OnErr, OnOk, length, take};
 ghost use Rattle.sqs_model.specs.Answers.{most_count};
 ghost use Rattle.sqs_model.specs.Available.{available};
 ghost use Rattle.sqs_model.specs.Longest.{longest_flight};
 ghost use Rattle.sqs_model.specs.Queue.{IsFramed, numbered};
 ghost use Rattle.sqs_model.specs.Receive.{give, is_bad_timeout, receive, timeout_of, to_give};
-ghost use Rattle.sqs_queue.specs.Giving.{CanBeGiven, gives, gives_all, told_of};
+ghost use Rattle.sqs_queue.specs.Giving.{CanBeGiven, gives, gives_all, told_first};
 ghost use Rattle.sqs_queue.specs.Calls.{HasAllReceives, MeetsReceive};
 
 use super::Queue;
@@ -38,9 +37,8 @@ impl Queue {
         short: bool,
     ) -> Result<Received, Refusal>
         requires { now ≤ most_count }
-        ensures answer { MeetsReceive self.old (result_map_both
-            (λ received. received.messages.items) (λ refusal. refusal) result) self.new now max
-            timeout hosts short }
+        ensures answer { MeetsReceive
+            (λ r. r.messages.items) self.old result self.new now max timeout hosts short }
         ensures looked { IfOk result (λ received. received.looked ≤ 2 * max) }
         ensures read { IfOk result (λ received. length received.messages.items ≤ received.looked) }
         ensures counted { OnOk result
@@ -63,9 +61,9 @@ impl Queue {
     // A receive's visibility timeout in milliseconds: its own, given in seconds, or else the
     // queue's. `BadTimeout` over 43,200 seconds.
     fn wait_of(&self, timeout: Option<u64>) -> Result<u64, Refusal>
-        ensures wait { IfOk result (λ wait.
-            (is_bad_timeout timeout ≡ false) × (timeout_of self.now timeout ≡ wait)
-            × (wait ≤ longest_flight)) }
+        ensures allowed { OnOk result (is_bad_timeout timeout ≡ false) }
+        ensures wait { IfOk result (λ wait. timeout_of self.now timeout ≡ wait) }
+        ensures short { IfOk result (λ wait. wait ≤ longest_flight) }
         ensures bad { IfErr result
             (λ refusal. (is_bad_timeout timeout ≡ true) × (refusal ≡ Refusal.BadTimeout)) }
     {
@@ -83,9 +81,8 @@ impl Queue {
 
     // What a receive returns for the first messages, before it gives them.
     fn batch(&self, hosts: u32, most: u64) -> Result<Received, Refusal>
-        ensures told { IfOk result (λ batch.
-            batch.messages.items
-            ≡ map (told_of self.now.site) (take most (available self.now hosts))) }
+        ensures told { IfOk result (λ batch. batch.messages.items
+            ≡ told_first self.now hosts most) }
         ensures given { IfOk result (λ batch. CanBeGiven self.now batch.messages.items) }
         ensures looked { IfOk result (λ batch. batch.looked ≤ 2 * most) }
         ensures read { IfOk result (λ batch. length batch.messages.items ≤ batch.looked) }

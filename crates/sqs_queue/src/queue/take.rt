@@ -1,8 +1,9 @@
 //! The messages that a step of a move task takes out.
-ghost use Rattle.std.specs.Prelude.{◌≡◌, IfOk, IsOkUnless, OnErr, take};
-ghost use Rattle.sqs_model.specs.Available.{all_available};
+ghost use Rattle.std.specs.Prelude.{◌≡◌, IfOk, IsOkUnless, OnErr};
 ghost use Rattle.sqs_model.specs.Queue.{IsFramed};
 ghost use Rattle.sqs_model.specs.Task.{take_each, take_movable};
+ghost use Rattle.sqs_queue.specs.Picked.{take_first, taken};
+ghost use Rattle.sqs_queue.specs.Calls.{TakesMovable};
 
 use super::Queue;
 use crate::loads::take_each;
@@ -19,9 +20,8 @@ impl Queue {
         most: u64,
         to: Option<u32>,
     ) -> Result<(Vec<(u32, Load)>, bool), AllocError>
-        ensures taken { IfOk result (λ answer.
-            take_each self.old to (take most (all_available self.old))
-            ≡ record { queue = self.new; loads = answer.0.items; stuck = answer.1 }) }
+        ensures taken { IfOk result (λ answer. take_first self.old most to
+            ≡ taken self.new answer.0.items answer.1) }
         ensures unchanged { OnErr result (self.new ≡ self.old) }
         ensures kept { self.new.entries ≡ self.old.entries }
         ensures framed { IsFramed self.old self.new }
@@ -46,7 +46,7 @@ impl Queue {
         to: Option<u32>,
     ) -> Result<(Vec<(u32, Load)>, Rest), Refusal>
         ensures taken { IfOk result
-            (λ answer. take_movable self.old max to ≡ ((answer.0.items, answer.1), self.new)) }
+            (λ answer. TakesMovable self.old self.new max to answer.0.items answer.1) }
         ensures unchanged { OnErr result (self.new ≡ self.old) }
         ensures memory_only { IsOkUnless result Refusal.Memory }
         ensures kept { self.new.entries ≡ self.old.entries }

@@ -3,8 +3,9 @@ use Rattle.sim_records.specs.Writes.{WroteSeveral}
 use Rattle.sim_report.specs.Left.{lefts}
 use Rattle.sqs_model.specs.Finals.{final_message}
 use Rattle.sqs_model.specs.declared.finals.FinalMessage.{FinalMessage}
-use Rattle.sqs_rehearsal.proofs.Messages.{message_lines, writing_more, writing_stopped, writing_wants_memory, written_wants_memory}
+use Rattle.sqs_rehearsal.proofs.Messages.{writing_more, writing_stopped, writing_wants_memory, written_wants_memory}
 use Rattle.sqs_rehearsal.proofs.ending.write_queue.Goals as goal
+use Rattle.sqs_rehearsal.specs.Left.{message_lines}
 
 pub loop-some-preserved : goal.loop-some-preserved
 loop-some-preserved g c =

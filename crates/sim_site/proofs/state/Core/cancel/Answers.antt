@@ -5,8 +5,10 @@ use Rattle.sqs_model.specs.Task.{Task}
 use Rattle.sim_site.specs.contracts.state.Core.{the_view}
 use Rattle.sim_site.proofs.Tasking.{cancel_done, cancel_refused}
 use Rattle.sim_site.proofs.state.Core.cancel.Goals as goal
+use Rattle.sqs_model.specs.Acts.{act_made}
 
 pub returns-then-not-cancel_at : goal.returns-then-not-cancel_at
+unfolding act_made
 returns-then-not-cancel_at c a e =
     let stands = subst (λ (ts : List Task). Stands (is_task c.args.task) ts c.in-Some.place) c.deref.ensures.value c.in-Some.ensures in
     let same = ap (λ (v : Vec Task Global). v.items) (c.cancel_at.ensures.unchanged c.if-not-cancel_at.true) in (
@@ -17,6 +19,7 @@ returns-then-not-cancel_at c a e =
     )
 
 pub returns : goal.returns
+unfolding act_made
 returns c a e = (
   record { key = refl; agent = refl; effects = refl },
   rw (← c.self.view_is)

@@ -1,6 +1,6 @@
 use Rattle.std.proofs.Common.{◌≡◌, ◌∙◌, true, false, List, ap, refl, subst, sym}
 use Rattle.std.specs.List.{list_any}
-use Rattle.sqs_model.specs.Acts.{runs}
+use Rattle.sqs_model.specs.Acts.{runs, act_made}
 use Rattle.sim_clock.specs.Places.{Stands}
 use Rattle.sqs_model.specs.Site.{is_task}
 use Rattle.sqs_model.specs.Task.{Task}
@@ -9,6 +9,7 @@ use Rattle.sim_site.proofs.Tasking.{start_done, start_refused}
 use Rattle.sim_site.proofs.state.Core.start.Goals as goal
 
 pub returns-then-any_runs : goal.returns-then-any_runs
+unfolding act_made
 returns-then-any_runs c a e =
     let any : list_any runs c.self.inside.tasks.items ≡ true = ap (list_any runs) (sym c.deref-2.ensures.value) ∙ sym c.any_runs.ensures ∙ c.if-any_runs.true in
     let stands = subst (λ (ts : List Task). Stands (is_task c.args.task) ts c.in-Some.place) c.deref.ensures.value c.in-Some.ensures in (
@@ -19,6 +20,7 @@ returns-then-any_runs c a e =
     )
 
 pub returns : goal.returns
+unfolding act_made
 returns c a e =
     let none : list_any runs c.self.inside.tasks.items ≡ false = ap (list_any runs) (sym c.deref-2.ensures.value) ∙ sym c.any_runs.ensures ∙ c.if-any_runs.false in (
       record { key = refl; agent = refl; effects = refl },

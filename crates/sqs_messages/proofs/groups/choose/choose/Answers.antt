@@ -4,14 +4,14 @@ use Rattle.std.proofs.lemmas.List.{length-map}
 use Rattle.sqs_message.specs.declared.message.Message.{Message}
 use Rattle.sqs_model.specs.Available.{by_group, open_from}
 use Rattle.sqs_messages.specs.Heads.{given_by, of_group, told, until_delayed}
-use Rattle.sqs_messages.specs.Slots.{Shelved, held, number_and_group, number_of}
+use Rattle.sqs_messages.specs.Slots.{Shelved, held, number_and_group, number_of, numbers_of}
 use Rattle.sqs_messages.specs.declared.groups.members.Members.{Members}
 use Rattle.std.specs.Option.{option_map}
-use Rattle.sqs_messages.proofs.Marked.{wanted}
+use Rattle.sqs_messages.specs.Marked.{wanted}
 use Rattle.sqs_messages.proofs.Places.{group_at_is}
 use Rattle.sqs_messages.specs.Groups.{IsPlaceOf, Kept, group_at}
 use Rattle.sqs_messages.proofs.Firsts.{none_of, some_of}
-use Rattle.sqs_messages.proofs.Leaders.{IsChoice, choice_end, choice_full, choice_more, choice_start, numbers_of}
+use Rattle.sqs_messages.proofs.Leaders.{IsChoice, choice_end, choice_full, choice_more, choice_start}
 use Rattle.sqs_messages.proofs.Leading.{leader_from, leader_gives, take_more, take_short}
 use Rattle.sqs_messages.proofs.Leads.{find_has}
 use Rattle.sqs_messages.proofs.groups.choose.choose.Goals as goal

@@ -3,7 +3,8 @@ use Rattle.std.specs.Prelude.{find}
 use Rattle.std.specs.Option.{option_map}
 use Rattle.sqs_messages.specs.declared.slot.Slot.{Slot}
 use Rattle.sqs_messages.specs.Slots.{Holding, number_and_group, number_of}
-use Rattle.sqs_messages.proofs.Marked.{next_found, next_none, wanted}
+use Rattle.sqs_messages.proofs.Marked.{next_found, next_none}
+use Rattle.sqs_messages.specs.Marked.{wanted}
 use Rattle.sqs_messages.proofs.Shelves.{IsFrom}
 use Rattle.sqs_model.specs.Progress.{Ascends}
 use Rattle.sqs_messages.proofs.Wanted.{shelf_ascends}
