@@ -1,6 +1,6 @@
 -- A machine at which nothing was done.
 use Rattle.std.specs.List.{range_with_len}
-use Rattle.std.specs.Prelude.{All, Bool, List, None, Ok, Option, Result, Some, [], cond, false, filter, length, map, true, ℕ, ◌∷◌, ◌≡◌, ◌≤◌}
+use Rattle.std.specs.Prelude.{All, Bool, List, None, Ok, Option, Result, Some, [], cond, false, filter, length, map, suc, true, zero, ℕ, ◌∷◌, ◌≡◌, ◌≤◌}
 use Rattle.std.proofs.Common.{ap, arith, inl, inr, refl, subst, ◌∙◌}
 use Rattle.std.proofs.lemmas.Bool.{le-ltb}
 use Rattle.std.proofs.lemmas.List.Elements.{All-cons, All-head, All-nil, All-tail}
@@ -8,7 +8,7 @@ use Rattle.std.proofs.lemmas.List.FromFn.{length-map-range_with_len}
 use Rattle.sim_clock.specs.declared.key.Key.{Key}
 use Rattle.sim_clock.specs.declared.refusal.Refusal.{Refusal}
 use Rattle.sim_clock.specs.Order.{due_before}
-use Rattle.sim_engine.specs.Bounds.{AreDistances, own_bound}
+use Rattle.sim_engine.specs.Bounds.{AreDistances, bound_by, moment_of, own_bound, reached}
 use Rattle.sim_engine.specs.declared.edge.Edge.{Edge}
 use Rattle.sim_engine.specs.Engine.{Engine}
 use Rattle.sim_engine.specs.Laws.{Conditions, SiteLaws}
@@ -17,15 +17,33 @@ use Rattle.sim_engine.specs.Parts.{is_of, part_due, part_of}
 use Rattle.sim_engine.specs.Prefixes.{is_before}
 use Rattle.sim_engine.specs.Setting.{Setting}
 use Rattle.sim_engine.specs.Simulated.{IsSimulated}
+use Rattle.sim_engine.proofs.OneList.{part_none}
+use Rattle.sim_engine.proofs.Simulated.{none_at_zero}
+use Rattle.sim_engine.proofs.Worlds.{not_before}
 use Rattle.sim_exchange.specs.Layout.{IsLayout, Layout, owner_of}
 use Rattle.sim_exchange.specs.Table.{Table, distance_in}
 use Rattle.sim_partition.proofs.Moments.{all_later}
 use Rattle.sim_windows.specs.Stages.{IsForward, Shows, Standing, Stands, TakeTime, bounds_by, machine_in, opened}
 use Rattle.sim_windows.proofs.Meetings.{bounds_set}
 
-none_at_zero : (d : Option Key) → due_before 0 d ≡ None
-none_at_zero None = refl
-none_at_zero (Some k) = rw (le-ltb k.at 0 (omega arith)) refl
+-- none, or not before a moment
+abbrev IsSomeFrom : ℕ → Option ℕ → Type 0
+IsSomeFrom now None = Unit {0}
+IsSomeFrom now (Some at) = now ≤ at
+
+due_from : (now : ℕ) (d : Option Key) → due_before now d ≡ None → IsSomeFrom now (moment_of d)
+due_from now None h = tt
+due_from now (Some k) h = not_before now k h
+
+reached_from : (now horizon : ℕ) (due d : Option ℕ) → now ≤ horizon → IsSomeFrom now due → now ≤ reached horizon due d
+reached_from now horizon None d l h = omega (arith, l)
+reached_from now horizon (Some at) None l h = omega (arith, l)
+reached_from now horizon (Some at) (Some d) l h = omega (arith, h)
+
+-- no bound is before a moment that no partition has anything due before
+bound_from : (distance : ℕ → ℕ → Option ℕ) (now horizon : ℕ) (due : ℕ → Option ℕ) (p n : ℕ) → now ≤ horizon → ((q : ℕ) → IsSomeFrom now (due q)) → now ≤ bound_by distance horizon due p n
+bound_from distance now horizon due p zero l h = omega (arith, l)
+bound_from distance now horizon due p (suc q) l h = omega (arith, reached_from now horizon (due q) (distance q p) l (h q), bound_from distance now horizon due p q l h)
 
 pub all_picked : {A : Type 0} (P : A → Type 0) (f : A → Bool) (xs : List A) → All P xs → All P (filter f xs)
 all_picked P f [] h = All-nil P
@@ -69,7 +87,11 @@ module _ {Site Row Transfer : Type 0} {engine : Engine Site Row Transfer} {condi
         waiting = refl;
       } in
       let forward : IsForward engine conditions layout s.horizon 0 (machine_in engine layout table s []) = record {
-        past = λ p l. all_later basics 0 (rule s.opening p) (part_of engine (owner_of layout) p s.opening) (omega arith) (all_picked (Past 0) (is_of engine (owner_of layout) p) s.opening sound.past);
+        past = λ p l.
+            all_later basics sound.begun (rule s.opening p) (part_of engine (owner_of layout) p s.opening)
+            (bound_from (distance_in table) sound.begun s.horizon (λ q. moment_of (part_due engine (owner_of layout) q s.opening)) p n sound.by
+            (λ q. due_from sound.begun (part_due engine (owner_of layout) q s.opening) (part_none basics (owner_of layout) sound.begun q s.opening sound.none)))
+            (all_picked (Past sound.begun) (is_of engine (owner_of layout) p) s.opening sound.past);
         timely = All-nil Timely;
         within = omega arith;
         reached = λ p l. omega arith;

@@ -12,9 +12,11 @@ use Rattle.sim_engine.specs.Parts.{is_of, part_of}
 use Rattle.sim_engine.specs.Setting.{IsNumbered, Setting}
 use Rattle.sim_engine.specs.Simulated.{IsSimulated}
 use Rattle.sim_engine.specs.World.{world_due}
-use Rattle.sim_partition.specs.Sites.{AreOfPast, IsPart}
-use Rattle.sim_partition.proofs.Moments.{all_later}
+use Rattle.sim_engine.proofs.OneList.{part_none}
+use Rattle.sim_partition.specs.Sites.{IsPart}
+use Rattle.sim_partition.proofs.Moments.{past_from}
 use Rattle.sim_windows.proofs.Beginning.{all_picked}
+use Rattle.sim_windows.proofs.Later.{from_none}
 use Rattle.sim_windows.proofs.Places.{over}
 
 module _ {Site Row Transfer : Type 0} {engine : Engine Site Row Transfer} {conditions : Conditions Site Transfer} (basics : SiteLaws engine conditions) where
@@ -31,10 +33,6 @@ module _ {Site Row Transfer : Type 0} {engine : Engine Site Row Transfer} {condi
         | false ↦ picked_ascend f low (n + 1) ss (omega arith) h.1
       ]
 
-  of_past : (w : List Site) → All (Past 0) w → (d : Option Key) → AreOfPast conditions w d
-  of_past w h None = tt
-  of_past w h (Some k) = all_later basics 0 k.at w (omega arith) h
-
   -- the sites of each partition make one
   pub opens_part : (s : Setting Site) → IsSimulated engine conditions s → (owner : ℕ → ℕ) (p : ℕ) → IsPart engine conditions (part_of engine owner p s.opening)
   opens_part s sound owner p =
@@ -42,7 +40,9 @@ module _ {Site Row Transfer : Type 0} {engine : Engine Site Row Transfer} {condi
       record {
         ascends = picked_ascend (is_of engine owner p) 0 0 s.opening (omega arith) sound.numbered;
         sound = all_picked Sound (is_of engine owner p) s.opening sound.sound;
-        past = of_past v (all_picked (Past 0) (is_of engine owner p) s.opening sound.past) (world_due engine v);
+        past =
+            past_from basics sound.begun v (world_due engine v) (from_none sound.begun (world_due engine v) (part_none basics owner sound.begun p s.opening sound.none))
+            (all_picked (Past sound.begun) (is_of engine owner p) s.opening sound.past);
       }
 
 -- what holds of each list

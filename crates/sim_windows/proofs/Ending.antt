@@ -15,7 +15,7 @@ use Rattle.sim_engine.specs.Simulated.{IsSimulated}
 use Rattle.sim_engine.specs.Theorems.{whole_of}
 use Rattle.sim_engine.specs.World.{Run, after, delivered, delivered_one, handled_among, handled_here, handled_there, is_due, least_due, next_due, stepped_at}
 use Rattle.sim_engine.specs.declared.picks.Pick.{Pick}
-use Rattle.sim_engine.proofs.Parts.{one_number}
+use Rattle.sim_engine.proofs.Numbered.{numbered_after}
 use Rattle.sim_exchange.specs.Layout.{Layout, owner_of}
 use Rattle.sim_exchange.specs.Table.{distance_in}
 use Rattle.sim_windows.specs.Stages.{Standing, Stands, delivered_by, machine_in}
@@ -23,36 +23,9 @@ use Rattle.sim_windows.proofs.Meetings.{delivered_in, parts_in}
 use Rattle.sim_windows.proofs.Standing.{below}
 
 module _ {Site Row Transfer : Type 0} {engine : Engine Site Row Transfer} {conditions : Conditions Site Transfer} (basics : SiteLaws engine conditions) where
-  open engine use {handled}
-  open basics use {number_handled}
-
-  numbered_one : (o : Transfer) (n : ℕ) (w : List Site) → IsNumbered engine n w → IsNumbered engine n (map (delivered_one engine o) w)
-  numbered_one o n [] h = tt
-  numbered_one o n (s ∷ ss) h = (one_number basics o s ∙ h.0, numbered_one o (n + 1) ss h.1)
-
-  numbered_delivered : (os : List Transfer) (n : ℕ) (w : List Site) → IsNumbered engine n w → IsNumbered engine n (delivered engine os w)
-  numbered_delivered [] n w h = h
-  numbered_delivered (o ∷ os) n w h = numbered_delivered os n (map (delivered_one engine o) w) (numbered_one o n w h)
-
-  numbered_among : (key : Key) (n : ℕ) (w : List Site) → IsNumbered engine n w → IsNumbered engine n (handled_among engine key w).sites
-  numbered_among key n [] h = tt
-  numbered_among key n (s ∷ ss) h =
-      elim (is_due key (least_due engine s)) as (λ b. IsNumbered engine n (if b then handled_here engine (handled key s) ss else handled_there engine s (handled_among engine key ss)).sites) [
-        | true ↦ (number_handled key s ∙ h.0, h.1)
-        | false ↦ (h.0, numbered_among key (n + 1) ss h.1)
-      ]
-
-  numbered_at : (r : Run engine) (d : Option Key) → IsNumbered engine 0 r.sites → IsNumbered engine 0 (stepped_at engine r d).sites
-  numbered_at r None h = h
-  numbered_at r (Some key) h = numbered_delivered (handled_among engine key r.sites).sent 0 (handled_among engine key r.sites).sites (numbered_among key 0 r.sites h)
-
-  numbered_after : (horizon n : ℕ) (start : List Site) → IsNumbered engine 0 start → IsNumbered engine 0 (after engine horizon n start).sites
-  numbered_after horizon zero start h = h
-  numbered_after horizon (suc n) start h = numbered_at (after engine horizon n start) (next_due engine horizon (after engine horizon n start).sites) (numbered_after horizon n start h)
-
   -- sites that open by their numbers end so
   pub ends_numbered : (s : Setting Site) → IsSimulated engine conditions s → (r : Run engine) → IsRunOf engine s r → IsNumbered engine 0 r.sites
-  ends_numbered s sound r w = subst (λ (x : Run engine). IsNumbered engine 0 x.sites) w.reached (numbered_after s.horizon w.steps s.opening sound.numbered)
+  ends_numbered s sound r w = subst (λ (x : Run engine). IsNumbered engine 0 x.sites) w.reached (numbered_after basics s.horizon w.steps s.opening sound.numbered)
 
   module _ (s : Setting Site) (done : List Pick) (g : Standing Site Row Transfer) (st : Stands engine conditions s done g) (finished : is_finished engine s.horizon (machine_in engine g.layout g.distances s done) ≡ true) where
     -- the whole of the machine, which is the one-list run

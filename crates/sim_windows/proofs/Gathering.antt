@@ -1,13 +1,13 @@
 -- What a sink and the rows that wait take in turn they take together.
-use Rattle.std.specs.Prelude.{List, [], ◌++◌, ◌≡◌, ℕ}
-use Rattle.std.proofs.Common.{ap, append_assoc, inl, inr, subst, sym, ◌∙◌}
+use Rattle.std.specs.Prelude.{List, [], zero, ◌++◌, ◌≡◌, ℕ}
+use Rattle.std.proofs.Common.{ap, append_assoc, inl, inr, refl, subst, sym, ◌∙◌}
 use Rattle.std.proofs.lemmas.List.{append-nil}
 use Rattle.sim_clock.specs.declared.refusal.Refusal.{Refusal}
 use Rattle.sim_engine.specs.Engine.{Engine}
 use Rattle.sim_engine.specs.Laws.{Conditions, SiteLaws}
 use Rattle.sim_engine.specs.Setting.{Setting}
 use Rattle.sim_engine.specs.World.{after}
-use Rattle.sim_windows.specs.Gathered.{Breaks, Gathered, Gathers, HaltsGathering, HasGathered, gathered}
+use Rattle.sim_windows.specs.Gathered.{Breaks, Gathered, Gathers, HaltsGathering, HandsFirst, HasGathered, gathered}
 use Rattle.sim_windows.specs.Sinks.{HasHalted, HasRun, HasStopped, IsPrefixOfRun}
 use Rattle.sim_windows.proofs.Sinking.{halts_on, prefix_after, runs_on}
 
@@ -33,6 +33,10 @@ module _ {Site Row Transfer : Type 0} {engine : Engine Site Row Transfer} {condi
     pub gathered_on : (horizon : ℕ) (start w end : List Site) (a b c : Gathered K Row) → HasGathered engine took horizon start a w b → HasGathered engine took horizon w b end c → HasGathered engine took horizon start a end c
     gathered_on horizon start w end a b c p q = runs_on basics (Gathers took) horizon (gathers_both took took_both) start w end a b c p q
 
+    -- some rows that waited are handed on, and nothing is handled
+    pub handed_on : (horizon : ℕ) (w : List Site) (a b : K) (rows left : List Row) → HandsFirst took a rows b left → HasGathered engine took horizon w (gathered a rows) w (gathered b left)
+    handed_on horizon w a b rows left h = record { steps = zero; reached = refl; taken = (h.0, (append-nil rows ∙ h.1.0, h.1.1)) }
+
     -- once the sink takes what waits, it has taken all
     pub all_handed :
         (horizon : ℕ) (start sites : List Site) (a b c : K) (begun left : List Row) → begun ≡ [] → HasGathered engine took horizon start (gathered a begun) sites (gathered b left) → took b left c
@@ -44,6 +48,10 @@ module _ {Site Row Transfer : Type 0} {engine : Engine Site Row Transfer} {condi
         record { steps = ran.steps; reached = ran.reached; taken = subst (λ z. took a z c) whole (took_both a b c first left ran.taken.1.1 last) }
 
     module _ (broke : K → List Row → Refusal → K → Type 0) (broke_later : (x y z : K) (xs ys : List Row) (e : Refusal) → took x xs y → broke y ys e z → broke x (xs ++ ys) e z) where
+      -- the sink breaks at rows that waited
+      pub handing_halts : (horizon : ℕ) (w : List Site) (a b : K) (rows : List Row) (e : Refusal) → broke a rows e b → HaltsGathering engine took broke horizon w (gathered a rows) e b
+      handing_halts horizon w a b rows e broken = ([], record { steps = zero; at_rows = inr (rows, ([], (refl, broken))) })
+
       -- a run stops where what it has come to does
       pub gathering_halts : (horizon : ℕ) (start w : List Site) (a b : Gathered K Row) (c : K) (e : Refusal) → HasGathered engine took horizon start a w b → HaltsGathering engine took broke horizon w b e c → HaltsGathering engine took broke horizon start a e c
       gathering_halts horizon start w a b c e p (left, q) =

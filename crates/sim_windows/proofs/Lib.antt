@@ -24,3 +24,5 @@ pub mod Ranges
 pub mod Advancing
 pub mod Stepped
 pub mod Gathering
+pub mod Later
+pub mod Continued

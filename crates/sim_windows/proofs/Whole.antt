@@ -12,17 +12,14 @@ use Rattle.sim_engine.specs.Simulated.{IsSimulated}
 use Rattle.sim_engine.specs.World.{Stepped, handled_among, world_due}
 use Rattle.sim_engine.proofs.Numbered.{numbered_ascends}
 use Rattle.sim_engine.proofs.WorldMoves.{among_falls, world_in}
-use Rattle.sim_partition.specs.Sites.{AreOfPast, HasDue, IsFrom, IsPart, due_in}
+use Rattle.sim_partition.specs.Sites.{AreOfPast, HasDue, IsPart, due_in}
 use Rattle.sim_partition.proofs.Handled.{past_sites}
 use Rattle.sim_partition.proofs.Moments.{all_later, past_from}
 use Rattle.sim_windows.specs.Worlds.{sites_in}
+use Rattle.sim_windows.proofs.Later.{from_none}
 
 none_some : {A : Type 0} {a : A} → None ≡ Some a → ⊥
 none_some h = cc
-
-from_start : (o : Option Key) → IsFrom 0 o
-from_start None = tt
-from_start (Some k) = omega arith
 
 -- the sites of a partition that lives
 pub items_of : {Site : Type 0} (v : Result (List Site) Refusal) (items : List Site) → IsOk v → IfOk v (λ w. items ≡ w) → items ≡ sites_in v
@@ -39,7 +36,7 @@ module _ {Site Row Transfer : Type 0} {engine : Engine Site Row Transfer} {condi
       record {
         ascends = numbered_ascends engine 0 s.opening h.numbered;
         sound = h.sound;
-        past = past_from basics 0 s.opening (world_due engine s.opening) (from_start (world_due engine s.opening)) h.past;
+        past = past_from basics h.begun s.opening (world_due engine s.opening) (from_none h.begun (world_due engine s.opening) h.none) h.past;
       }
 
   -- what holds of a partition's sites, where something is due

@@ -7,3 +7,4 @@ pub mod Worlds
 pub mod Rounds
 pub mod Sinks
 pub mod Gathered
+pub mod Densities

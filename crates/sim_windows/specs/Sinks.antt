@@ -5,6 +5,7 @@ use Rattle.sim_engine.specs.Counts.{run_count}
 use Rattle.sim_engine.specs.Engine.{Engine}
 use Rattle.sim_engine.specs.Limits.{IsOver, StopsWhere, most_count}
 use Rattle.sim_engine.specs.Setting.{IsRunOf, Setting}
+use Rattle.sim_engine.specs.Simulated.{later}
 use Rattle.sim_engine.specs.World.{Run, after}
 
 module _ {Site Row Transfer : Type 0} (engine : Engine Site Row Transfer) where
@@ -23,6 +24,12 @@ module _ {Site Row Transfer : Type 0} (engine : Engine Site Row Transfer) where
       pub steps : ℕ
       pub reached : (after engine horizon steps start).sites ≡ sites
       pub taken : took before (after engine horizon steps start).rows now
+
+    -- a setting's run has come to another, and a sink took the rows that it made on the way
+    pub record HasBegun (s : Setting Site) (before : K) (reached : Setting Site) (now : K) : Type 0 where
+      pub steps : ℕ
+      pub is : later engine steps s ≡ reached
+      pub taken : took before (after engine s.horizon steps s.opening).rows now
 
     -- these are the sites of a setting's last world, and a sink took all rows of its run
     pub record HasTaken (s : Setting Site) (before now : K) (sites : List Site) : Type 0 where

@@ -39,8 +39,8 @@ fn deliver_sent<S: Site>(
     roster.deliver(transfers)
 }
 
-// Hands rows on if there are enough of them.
-fn hand_many<R: Drop, K: RowSink<R>>(
+/// Hands rows on if there are enough of them.
+pub fn hand_many<R: Drop, K: RowSink<R>>(
     enough: usize,
     rows: &mut Vec<R>,
     sink: &mut K,
@@ -58,8 +58,8 @@ fn hand_many<R: Drop, K: RowSink<R>>(
     Ok(())
 }
 
-// Hands on the rows that are left, if there are any.
-fn hand_rest<R: Drop, K: RowSink<R>>(rows: &[R], sink: &mut K) -> Result<(), Refusal>
+/// Hands on the rows that are left, if there are any.
+pub fn hand_rest<R: Drop, K: RowSink<R>>(rows: &[R], sink: &mut K) -> Result<(), Refusal>
     requires ready { K.ready sink.old }
     ensures ready { OnOk result (K.ready sink.new) }
     ensures took { OnOk result (K.took sink.old rows.now sink.new) }
@@ -103,8 +103,8 @@ fn handle<S: Site, K: RowSink<S::Row>>(
     hand_many(enough, &mut effects.rows, sink)
 }
 
-// Handles all that is due at the least moment.
-fn run_moment<S: Site, K: RowSink<S::Row>>(
+/// Handles all that is due at the least moment.
+pub fn run_moment<S: Site, K: RowSink<S::Row>>(
     alloc: Global,
     roster: &mut Roster<S>,
     moment: u64,

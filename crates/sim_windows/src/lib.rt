@@ -5,6 +5,8 @@
 #![tactic(auto)]
 
 mod alone;
+mod begun;
+mod density;
 mod joining;
 mod kept;
 mod lent;
@@ -18,6 +20,7 @@ mod stage;
 mod world;
 
 pub use alone::{run_alone, run_gathered};
+pub use begun::{Begun, begin_gathered};
 pub use lent::{Came, Lent};
 pub use limit::Limit;
 pub use machine::Machine;

@@ -7,6 +7,9 @@ use std::sync::Wait;
 /// A worker passes each piece that it claimed to the gate, with the number of its partition. The
 /// gate may wait, and must return a right answer.
 pub trait Gate<W: Work> {
+    /// Whether a world is put into partitions at once, and not only once rounds would pay.
+    fn begins_parted(&self) -> bool;
+
     /// Carries out the piece of a partition.
     fn run<R: Wait>(&self, rt: &R, part: usize, piece: W::Piece) -> W::Done
         ensures { W.does piece result };
@@ -14,6 +17,9 @@ pub trait Gate<W: Work> {
 
 /// What a worker does before and after each piece of work, beside running it.
 pub trait Pause {
+    /// Whether a world is put into partitions at once, and not only once rounds would pay.
+    fn parts_at_once(&self) -> bool;
+
     /// Before the piece is run.
     fn before(&self);
 
@@ -29,6 +35,10 @@ where
 {
     ghost use Rattle.sim_windows.specs.Rounds.{Comes};
 
+    fn begins_parted(&self) -> bool {
+        self.parts_at_once()
+    }
+
     fn run<R: Wait>(&self, _rt: &R, _part: usize, piece: Piece<S>) -> Done<S>
         ensures { Comes S.engine S.conditions piece.bound piece.part result.outcome }
     {
@@ -43,6 +53,10 @@ where
 pub struct Open;
 
 impl Pause for Open {
+    fn parts_at_once(&self) -> bool {
+        false
+    }
+
     fn before(&self) {}
 
     fn after(&self, _rows: u64) {}

@@ -11,6 +11,7 @@ mod piece;
 mod rounds;
 mod run;
 mod scope;
+mod start;
 mod together;
 mod worker;
 

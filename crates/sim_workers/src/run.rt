@@ -1,22 +1,22 @@
 //! A whole run: its threads, started once, and its rounds.
-ghost use Rattle.std.specs.Prelude.{◌≡◌, ◌≤◌, ◌<◌, ◌-◌, All, Err, IfErr, IfOk, OnOk, length, min, vec_capacity, vec_len};
+ghost use Rattle.std.specs.Prelude.{◌≡◌, ◌≤◌, ◌-◌, All, Err, IfErr, IfOk, OnOk, min, vec_capacity, vec_len};
 ghost use Rattle.sim_handoff.specs.Seats.{owner_record, owner_table, places_of, table_of};
 ghost use Rattle.sim_windows.specs.Sinks.{HasStopped, HasTaken};
-ghost use Rattle.sim_workers.specs.Runs.{OfStage, RanOn, StopsAnyhow};
+ghost use Rattle.sim_workers.specs.Runs.{RanOn, StopsAnyhow};
 ghost use Rattle.sim_workers.specs.Owners.{IsAllFree};
 ghost use Rattle.sim_engine.specs.Limits.{most_count};
 ghost use Rattle.sim_engine.specs.Simulated.{IsSimulated};
 
 use crate::gate::Gate;
 use crate::piece::{PartWork, Running};
-use crate::rounds::run_stage;
 use crate::scope::{join_all, start_all};
+use crate::start::{Start, run_start};
 use crate::together::Together;
 use sim_clock::Refusal;
 use sim_engine::Site;
 use sim_exchange::PartMap;
 use sim_handoff::{Handoff, Owner};
-use sim_windows::{RowSink, Stage, World, run_gathered};
+use sim_windows::{RowSink, World, run_gathered};
 use std::alloc::Global;
 use std::sync::Wait;
 use std::thread;
@@ -39,38 +39,41 @@ fn run_in_scope<
     gate: &G,
     mut handles: Vec<JoinHandle<()>>,
     threads: usize,
-    stage: Stage<S>,
+    start: Start<S>,
     sink: &'a mut K,
     outcome: &'b mut Result<Vec<S>, Refusal>,
 ) -> (&'a mut K, &'b mut Result<Vec<S>, Refusal>)
     requires here { owner_table owner ≡ table_of handoff.now }
-    requires places { length stage.parts ≡ places_of handoff.now }
+    requires places { start.layout.parts ≡ places_of handoff.now }
     requires free { IsAllFree (owner_record owner) }
-    requires fresh { stage.settled ≡ 0 }
+    requires simulated { IsSimulated S.engine S.conditions start.world }
+    requires horizon { start.world.horizon ≤ most_count }
+    requires ways { All (λ e. (1 ≤ e.least) × (e.least ≤ 900000)) start.world.edges }
     requires ready { K.ready sink.old }
     requires room { (vec_len handles ≡ 0) × (threads ≤ vec_capacity handles) }
     requires none { outcome.old ≡ Err Refusal.NoWorker }
     ensures same_sink { result.0.ghost_name ≡ sink.entry.ghost_name }
     ensures same_outcome { result.1.ghost_name ≡ outcome.entry.ghost_name }
-    ensures ran { OfStage S.engine S.conditions stage (λ s. RanOn S.engine K.ready K.took K.broke s
-        sink.entry.now result.1.now result.0.now) }
+    ensures ran { RanOn S.engine K.ready K.took K.broke start.world
+        sink.entry.now result.1.now result.0.now }
 {
     thread::scope(
         thread::scope_env(),
         rt,
         move |scope| -> (&mut K, &mut Result<Vec<S>, Refusal>)
             requires here { owner_table owner ≡ table_of handoff.now }
-            requires places { length stage.parts ≡ places_of handoff.now }
+            requires places { start.layout.parts ≡ places_of handoff.now }
             requires free { IsAllFree (owner_record owner) }
-            requires fresh { stage.settled ≡ 0 }
+            requires simulated { IsSimulated S.engine S.conditions start.world }
+            requires horizon { start.world.horizon ≤ most_count }
+            requires ways { All (λ e. (1 ≤ e.least) × (e.least ≤ 900000)) start.world.edges }
             requires ready { K.ready sink.now }
             requires room { (vec_len handles ≡ 0) × (threads ≤ vec_capacity handles) }
             requires none { outcome.now ≡ Err Refusal.NoWorker }
             ensures same_sink { result.0.ghost_name ≡ sink.entry.ghost_name }
             ensures same_outcome { result.1.ghost_name ≡ outcome.entry.ghost_name }
-            ensures ran { OfStage S.engine S.conditions stage
-                (λ s. RanOn S.engine K.ready K.took K.broke s sink.entry.now result.1.now
-                result.0.now) }
+            ensures ran { RanOn S.engine K.ready K.took K.broke start.world
+                sink.entry.now result.1.now result.0.now }
         {
             let hand = owner.hand(handoff);
             let ready = start_all(scope, rt, handoff, &mut owner, gate, &mut handles, threads);
@@ -82,7 +85,7 @@ fn run_in_scope<
                 gate,
             };
             if ready {
-                *outcome = run_stage(&mut team, stage, sink);
+                *outcome = run_start(&mut team, start, sink);
             }
             team.stop();
             join_all(rt, handles);
@@ -91,7 +94,7 @@ fn run_in_scope<
     )
 }
 
-// Runs a stage with these threads, which are not yet started. If the start of one is refused, the
+// Runs a world with these threads, which are not yet started. If the start of one is refused, the
 // sink takes nothing.
 fn run_threads<
     S: Site,
@@ -106,17 +109,18 @@ fn run_threads<
     gate: &G,
     handles: Vec<JoinHandle<()>>,
     threads: usize,
-    stage: Stage<S>,
+    start: Start<S>,
     sink: &mut K,
 ) -> Result<Vec<S>, Refusal>
     requires here { owner_table owner ≡ table_of handoff.now }
-    requires places { length stage.parts ≡ places_of handoff.now }
+    requires places { start.layout.parts ≡ places_of handoff.now }
     requires free { IsAllFree (owner_record owner) }
-    requires fresh { stage.settled ≡ 0 }
+    requires simulated { IsSimulated S.engine S.conditions start.world }
+    requires horizon { start.world.horizon ≤ most_count }
+    requires ways { All (λ e. (1 ≤ e.least) × (e.least ≤ 900000)) start.world.edges }
     requires ready { K.ready sink.old }
     requires room { (vec_len handles ≡ 0) × (threads ≤ vec_capacity handles) }
-    ensures ran { OfStage S.engine S.conditions stage (λ s. RanOn S.engine K.ready K.took K.broke s
-        sink.old result sink.new) }
+    ensures ran { RanOn S.engine K.ready K.took K.broke start.world sink.old result sink.new }
 {
     let mut outcome = Err(Refusal::NoWorker);
     run_in_scope(
@@ -126,7 +130,7 @@ fn run_threads<
         gate,
         handles,
         threads,
-        stage,
+        start,
         sink,
         &mut outcome,
     );
@@ -150,11 +154,13 @@ fn threads_of(workers: usize, parts: usize) -> usize
 /// There are no more such threads than partitions. A single worker starts no thread, does not wait
 /// for other threads, and runs all sites on one list: which partitions there are changes nothing.
 ///
-/// With several workers each partition runs to a bound of its own, set anew at each barrier, or to
-/// where a round is cut if that is sooner. The rows before which nothing can come any more go to
-/// the sink. Those of several partitions are merged and go 256 at a time; those of a single
-/// partition go as they are. The rows that are left at the end follow together. Returns the sites
-/// of the last world, by number. All threads are joined by then.
+/// With several workers the threads are started, and the run begins on one list, too. Once rounds
+/// would make enough rows to pay, the world is put into partitions. Each partition runs to a bound
+/// of its own, set anew at each barrier, or to where a round is cut if that is sooner. The rows
+/// before which nothing can come any more go to the sink. Those of several partitions are merged
+/// and go 256 at a time; those of a single partition go as they are. The rows that are left at the
+/// end follow together. Returns the sites of the last world, by number. All threads are joined by
+/// then.
 ///
 /// # Errors
 ///
@@ -195,9 +201,14 @@ where
     if workers <= 1 {
         return run_gathered(alloc, world, ROWS_AT_ONCE, sink);
     }
-    let stage = Stage::open(alloc, world, layout)?;
-    let threads = threads_of(workers, stage.part_count());
-    let (handoff, owner) = Handoff::make(alloc, stage.part_count())?;
+    let parts = layout.parts() as usize;
+    let threads = threads_of(workers, parts);
+    let (handoff, owner) = Handoff::make(alloc, parts)?;
     let handles = Vec::with_capacity(alloc, threads)?;
-    run_threads(rt, &handoff, owner, gate, handles, threads, stage, sink)
+    let start = Start {
+        alloc,
+        world,
+        layout,
+    };
+    run_threads(rt, &handoff, owner, gate, handles, threads, start, sink)
 }

@@ -32,6 +32,10 @@ const TURNS: u32 = 1000;
 struct Late;
 
 impl Pause for Late {
+    fn parts_at_once(&self) -> bool {
+        true
+    }
+
     fn before(&self) {}
 
     fn after(&self, _rows: u64) {

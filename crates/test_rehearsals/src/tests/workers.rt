@@ -34,6 +34,10 @@ fn have_begun(begun: &AtomicU64, wanted: u64) -> bool {
 }
 
 impl Pause for Fours {
+    fn parts_at_once(&self) -> bool {
+        true
+    }
+
     fn before(&self) {
         let earlier = self.begun.fetch_add(1, Ordering::SeqCst);
         let wanted = if earlier < 4 { 4 } else { 8 };

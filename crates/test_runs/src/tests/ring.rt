@@ -193,9 +193,33 @@ fn workers_tell_the_same(rt: HostRuntime) {
         counters: 60,
         horizon: 1_000,
     };
-    for (ring, parts, workers) in [(THREE, 3, 2), (THREE, 2, 4), (many, 7, 3), (many, 60, 4)] {
+    for (ring, parts, workers) in [
+        (THREE, 3, 2),
+        (THREE, 2, 4),
+        (many, 7, 3),
+        (many, 60, 4),
+        (DENSE, 7, 3),
+        (DENSE, 2, 2),
+    ] {
         let told = with_workers(&rt, rt.alloc(), ring, parts, workers).expect(&rt, "a run");
         let wanted = alone(rt.alloc(), ring).expect(&rt, "a run");
         same(&rt, told.as_slice(), wanted.as_slice());
+    }
+}
+
+// Each counter counts a token every ten milliseconds, so a moment has 2,000 rows. The run begins on
+// one list, and two moments with 1,024 rows or more make it go on in partitions.
+const DENSE: Ring = Ring {
+    counters: 2_000,
+    horizon: 100,
+};
+
+#[test]
+fn rows_of_all_moments_where_a_world_is_parted(rt: HostRuntime) {
+    let told = with_workers(&rt, rt.alloc(), DENSE, 7, 3).expect(&rt, "a run");
+    same(&rt, told.len(), 22_000);
+    for (place, line) in told.iter().enumerate() {
+        let moment = place as u64 / 2_000;
+        same(&rt, (line.0, line.2), (10 * moment, moment + 1));
     }
 }

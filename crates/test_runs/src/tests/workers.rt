@@ -31,6 +31,10 @@ struct Together {
 }
 
 impl Gate<Next> for Together {
+    fn begins_parted(&self) -> bool {
+        true
+    }
+
     fn run<R: Wait>(&self, _rt: &R, _part: usize, piece: u32) -> u64
         ensures { result ≡ piece + 1 }
     {
