@@ -1,6 +1,7 @@
 """The figures of a run: what is counted of each queue and each other agent over a stretch of it."""
 from __future__ import annotations
 
+from collections import Counter
 from collections.abc import Iterable, Iterator, Sequence
 from typing import TYPE_CHECKING, NamedTuple, Optional
 
@@ -113,11 +114,43 @@ def busy(rows: Sequence[Fields], stretch: Stretch) -> int:
     return total
 
 
-def ages(rows: Iterable[Fields]) -> Iterator[tuple[str, Optional[int]]]:
+def tries(rows: Sequence[Fields], stretch: Stretch) -> Iterator[tuple[str, int]]:
+    """How often messages that a stretch deleted had been received, by the rows of their receives."""
+    received = Counter[str]()
+    found: list[int] = []
+    for row in rows:
+        received[row.message] += row.said() == "receive ok"
+        if row.said() == "delete deleted" and stretch.has(row):
+            found.append(received[row.message])
+    yield "received_once", found.count(1)
+    yield "received_again", len(found) - found.count(1)
+    yield "tries_sum", sum(found)
+    yield "tries_greatest", max(found, default=0)
+
+
+def of_moved(rows: Iterable[Fields], queues: Sequence[str]) -> Iterator[bool]:
+    """Of each row of a queue whether its message came there by a move."""
+    came: set[str] = set()
+    for row in rows:
+        if kind_of(row, queues) == "came_by_move":
+            came.add(row.message)
+        yield row.message in came
+
+
+def ages(name: str, rows: Iterable[Fields]) -> Iterator[tuple[str, Optional[int]]]:
     found = sorted(int(row.detail) for row in rows if row.said() == "delete deleted")
-    yield "age_sum_ms", sum(found)
-    for name, percent in ("age_p50_ms", 50), ("age_p95_ms", 95), ("age_p99_ms", 99), ("age_greatest_ms", 100):
-        yield name, found[-(-percent * len(found) // 100) - 1] if found else None
+    yield f"{name}_sum_ms", sum(found)
+    for end, percent in ("p50", 50), ("p95", 95), ("p99", 99), ("greatest", 100):
+        yield f"{name}_{end}_ms", found[-(-percent * len(found) // 100) - 1] if found else None
+
+
+def ages_apart(rows: Sequence[Fields], queues: Sequence[str], stretch: Stretch
+               ) -> Iterator[tuple[str, Optional[int]]]:
+    """The ages of all messages that a stretch deleted, of those that came by no move, and of the others."""
+    moved = [(is_moved, row) for is_moved, row in zip(of_moved(rows, queues), rows) if stretch.has(row)]
+    yield from ages("age", (row for _, row in moved))
+    yield from ages("new_age", (row for is_moved, row in moved if not is_moved))
+    yield from ages("moved_age", (row for is_moved, row in moved if is_moved))
 
 
 def figures_text(scenario: "Scenario", made: Iterable["Row"], first: int, end: int) -> str:
@@ -132,7 +165,7 @@ def figures_text(scenario: "Scenario", made: Iterable["Row"], first: int, end: i
         figures: list[tuple[str, Optional[int]]] = [*counts(inside, queues)]
         if name in queues:
             figures += [*peak("depth", depths(own), own, stretch), *peak("in_flight", flights(own), own, stretch),
-                        *ages(inside)]
+                        *tries(own, stretch), *ages_apart(own, queues, stretch)]
         else:
             figures.append(("busy_ms", busy(own, stretch)))
         lines += [["figure", name, figure, "" if value is None else value] for figure, value in figures]

@@ -21,18 +21,23 @@ from figures import Fields, Stretch, busy, depths, flights, peak  # noqa: E402 (
 
 SCENARIOS = 20
 # In LOG the three messages of a are there from 200 ms on, and all in flight from 300 ms on. Its consumer left is busy
-# from 100 to 2500 ms and from 3200 to 5300 ms, right from 300 to 3100 ms, and third from 2200 to 2600 ms.
+# from 100 to 2500 ms and from 3200 to 5300 ms, right from 300 to 3100 ms, and third from 2200 to 2600 ms. Of the two
+# messages that are deleted one had been received twice.
 FIGURES = """figure,of,name,value
 figure,a,sent,3
 figure,a,depth_greatest,3
 figure,a,depth_greatest_at_ms,200
 figure,a,in_flight_greatest,3
 figure,a,in_flight_greatest_at_ms,300
+figure,a,received_again,1
+figure,a,tries_greatest,2
 figure,d,sent,0
 figure,d,depth_greatest,1
 figure,d,depth_greatest_at_ms,5220
 figure,d,in_flight_greatest,0
 figure,d,in_flight_greatest_at_ms,0
+figure,d,received_again,0
+figure,d,tries_greatest,0
 figure,left,busy_ms,4500
 figure,right,busy_ms,2800
 figure,third,busy_ms,400
@@ -82,7 +87,7 @@ service_min_ms = 500
 service_max_ms = 500
 idle_ms = 86400000
 '''
-NAMES = "depth_max_at_ms,in_flight_max,in_flight_max_at_ms,busy"
+NAMES = "depth_max_at_ms,in_flight_max,in_flight_max_at_ms,received_again,tries_max,busy"
 
 
 class Readers(ToolCase):
@@ -109,7 +114,7 @@ class Readers(ToolCase):
     def test_damage(self) -> None:
         """A line that is cut, or has other fields, is damage here as elsewhere."""
         for damaged, told in ((FIGURES[:-1], " ends within a line"),
-                              (FIGURES + "figure,a,sent\n", " line 47 is no record of the part figure after a log")):
+                              (FIGURES + "figure,a,sent\n", " line 51 is no record of the part figure after a log")):
             path = self.write("run.txt", LOG + PARTS + damaged)
             self.assert_fault(self.run_tool("summary", path), f"summary: {path}{told}")
 
@@ -133,14 +138,14 @@ class ByHand(unittest.TestCase):
         by_log, _ = runs.reported(io.StringIO(LOG + PARTS + FIGURES), counting, figures) or ([], {})
         self.assertEqual(by_report, by_log)
         self.assertEqual([[record[0], *record[-len(COLUMNS):]] for record in by_log],
-                         [["a", "200", "3", "300", "7.2"], ["d", "5220", "0", "0", ""]])
+                         [["a", "200", "3", "300", "1", "2", "7.2"], ["d", "5220", "0", "0", "0", "0", ""]])
 
     def test_shares_of_time(self) -> None:
         """They are rounded down, so that 100 is all the time."""
         for length, share in ((4500, "100"), (4501, "99.97"), (7000, "64.28"), (45_000_000, "0.01"), (10**9, "0")):
             figures = Figures(10, 9 + length, CONSUMERS)
             found = figures.columns_of(csv.reader(io.StringIO(FIGURES)), ["a"])
-            self.assertEqual(found, [["200", "3", "300", share]])
+            self.assertEqual(found, [["200", "3", "300", "1", "2", share]])
 
     def test_figures_that_are_not_there(self) -> None:
         """A run whose figures are cut has no report: each of these lines is needed but the first and the counts."""
@@ -164,12 +169,12 @@ class Sweeps(ToolCase):
     def test_columns(self) -> None:
         """Whole; from 2 s on, when two are there, in flight, and slow is busy for 1.5 of 8 s; to 3 s, of which slow is
         busy for two; and with a copy of quick, which begins with it."""
-        for words, wanted in (((), "2,2,1100,25"), (("--from", "2s"), "2000,2,2000,18.75"),
-                              (("--to", "2999"), "2,2,1100,66.66"), (("--zip", "count.quick=2"), "2,3,1100,25")):
+        for words, wanted in (((), "2,2,1100,0,1,25"), (("--from", "2s"), "2000,2,2000,0,1,18.75"),
+                              (("--to", "2999"), "2,2,1100,0,1,66.66"), (("--zip", "count.quick=2"), "2,3,1100,0,1,25")):
             rows = self.rows("--vary", "seed=1", *words, "--columns", NAMES)
-            found = {row[-5]: ",".join(row[-4:]) for row in rows}
+            found = {row[-7]: ",".join(row[-6:]) for row in rows}
             first = 2000 if words[:1] == ("--from",) else 0
-            self.assertEqual(found, {"q": wanted, "idle": f"{first},0,{first},"}, words)
+            self.assertEqual(found, {"q": wanted, "idle": f"{first},0,{first},0,0,"}, words)
 
     def test_no_log_is_read_for_them(self) -> None:
         """It is read for other columns, and where something is cut off at the beginning."""

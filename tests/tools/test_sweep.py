@@ -196,7 +196,7 @@ class Sweep(ToolCase):
     def test_faults(self):
         known = (f"{COLUMNS},door_age_p50,door_age_p95,door_age_max,requests,cost,backlog_gone,new_age_p50,new_age_p95,"
                  "new_age_max,moved_age_p50,moved_age_p95,moved_age_max,window_age_p95,"
-                 "depth_max_at_ms,in_flight_max,in_flight_max_at_ms,busy").replace(",", ", ")
+                 "depth_max_at_ms,in_flight_max,in_flight_max_at_ms,received_again,tries_max,busy").replace(",", ", ")
         for words, line in (
                 ((), "a SCENARIO and at least one --vary, --require or --columns are needed (--help tells the usage)"),
                 ((self.scenario,),

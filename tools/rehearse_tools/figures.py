@@ -13,7 +13,8 @@ BUSY, OF_ACTOR = "busy", "busy_ms"
 # The columns that are figures of a queue, each with its figure. They are named as those of the report, and end as a
 # spread's do not. BUSY is made of a figure of the queue's consumers.
 OF_QUEUE = {"depth_max_at_ms": "depth_greatest_at_ms", "in_flight_max": "in_flight_greatest",
-            "in_flight_max_at_ms": "in_flight_greatest_at_ms"}
+            "in_flight_max_at_ms": "in_flight_greatest_at_ms", "received_again": "received_again",
+            "tries_max": "tries_greatest"}
 COLUMNS = (*OF_QUEUE, BUSY)
 # The figures that are looked at.
 NAMES = {*OF_QUEUE.values(), OF_ACTOR}

@@ -62,8 +62,8 @@
           window_age_p95: the greatest 95th percentile of age among windows of --window (5min), by time of deletion
           backlog_gone: when a backlog ended last, as `summary --help` has it: 0 if there was none, empty at its end
           requests, cost: API requests as `summary` counts them, and what they cost at --price a million
-          depth_max_at_ms, in_flight_max, in_flight_max_at_ms, busy: as docs/STATISTICS.md has them; for
-            these alone no log is read
+          depth_max_at_ms, in_flight_max, in_flight_max_at_ms, received_again, tries_max, busy: as docs/STATISTICS.md
+            has them; for these alone no log is read
 --table   prints a table for people in place of CSV, without columns, and rows of queues, that have no number
 --preview reads version 3 of scenarios too, as `run --preview` does
 --program the program; without it SQS_REHEARSE of the environment, else sqs_rehearse beside this folder

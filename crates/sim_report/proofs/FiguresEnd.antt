@@ -1,19 +1,19 @@
 -- The running figures at the end are the figures.
 use Rattle.std.proofs.Common.{◌≡◌, ℕ, ◌+◌, Bool, true, false, cond, nat_lt, Option, Some, None, List, [], ◌∷◌, ◌++◌, length, map, fold, refl, sym, ap, ◌∙◌, arith}
-use Rattle.std.specs.Prelude.{flat_map}
+use Rattle.std.specs.Prelude.{codes, flat_map}
 use Rattle.std.specs.List.{enumerate_from}
-use Rattle.std.proofs.lemmas.List.{append-nil, append_assoc}
+use Rattle.std.proofs.lemmas.List.{append-nil, append_assoc, map-append}
 use Rattle.std.proofs.lemmas.List.Sums.{fold_push}
 use Rattle.std.proofs.lemmas.Bool.Decides.{nat_tests}
 use Rattle.std.proofs.lemmas.List.Concat.{flat_map-append}
 use Rattle.sqs_message.specs.declared.row.Row.{Row}
-use Rattle.sqs_formats.specs.Report.{ages, depth, rows_of}
+use Rattle.sqs_formats.specs.Report.{ages, ascending, depth, rows_of}
 use Rattle.sqs_formats.specs.Rows.{line, lines}
 use Rattle.sim_report.specs.declared.held.Held.{Held}
 use Rattle.sim_report.specs.declared.stretch.Stretch.{Stretch}
 use Rattle.sim_report.specs.Facts.{fact_of}
-use Rattle.sim_report.specs.Figures.{actor_figures, count_of_row, counts_of, figure_fields, figures_header, figures_of_actor, figures_of_queue, figures_text, held_after, held_with, higher, hold_of, in_flight, is_serving, is_within, levels_from, overlap, peak_of, queue_figures, rows_before, rows_by, rows_within, time_from, time_while}
-use Rattle.sim_report.specs.Figured.{ActorState, QueueState, actor_numbers, actor_records, actor_state, actor_with, busy_until_end, figured, fresh_actor, fresh_queue, higher_of, peak_in, peak_state, queue_numbers, queue_others, queue_records, queue_state, raised}
+use Rattle.sim_report.specs.Figures.{Figure, actor_figures, count_of_row, counts_of, figure_fields, figures_header, figures_of_actor, figures_of_queue, figures_text, held_after, held_with, higher, hold_of, in_flight, is_serving, is_within, levels_from, named_ages, named_counts, named_peak, named_tries, overlap, peak_of, queue_figures, rows_before, rows_by, rows_of_moved, rows_of_new, rows_within, time_from, time_while, tries}
+use Rattle.sim_report.specs.Figured.{ActorState, QueueState, actor_numbers, actor_records, actor_state, actor_with, ages_named, busy_until_end, figured, fresh_actor, fresh_queue, higher_of, peak_in, peak_state, queue_ages, queue_numbers, queue_records, queue_sizes, queue_state, raised}
 use Rattle.sim_report.specs.Tally.{counted}
 use Rattle.sim_report.proofs.Ascending.{sum_by-ascending}
 use Rattle.sim_report.proofs.Groups.{filter-push, rank-ascending}
@@ -44,15 +44,56 @@ peak-from start (Some m) (n ∷ ns) =
 peak-is : (level : List Row → ℕ) (s : Stretch) (rows : List Row) → peak_in s (peak_state level s rows) ≡ peak_of level s rows
 peak-is level s rows = peak-from (s.from, level (rows_before s rows)) None (levels_from level s [] rows)
 
+-- ages by their names
+ages-named : (name ns : List ℕ) → ages_named name (ascending ns) ≡ named_ages name ns
+ages-named name ns =
+    let total = sum_by-ascending (λ x. x) ns in
+    rw (total, rank-ascending 50 ns, rank-ascending 95 ns, rank-ascending 99 ns, rank-ascending 100 ns) refl
+
+-- the figures of the ages of a queue
+abbrev age_figures_of : ℕ → Stretch → List Row → List Figure
+age_figures_of n s rows =
+    named_ages (codes "age") (ages (rows_within s rows))
+    ++ (named_ages (codes "new_age") (ages (rows_within s (rows_of_new n rows))) ++ named_ages (codes "moved_age") (ages (rows_within s (rows_of_moved n rows))))
+
+ages-are : (n : ℕ) (s : Stretch) (name : List ℕ) (rows : List Row) → queue_ages (queue_state n s name rows) ≡ age_figures_of n s rows
+unfolding queue_ages
+ages-are n s name rows =
+    let new = ages (rows_within s (rows_of_new n rows)) in
+    let moved = ages (rows_within s (rows_of_moved n rows)) in
+    ap (λ (fs : List Figure). fs ++ (ages_named (codes "new_age") (ascending new) ++ ages_named (codes "moved_age") (ascending moved)))
+    (ages-named (codes "age") (ages (rows_within s rows)))
+    ∙ ap (λ (fs : List Figure). named_ages (codes "age") (ages (rows_within s rows)) ++ (fs ++ ages_named (codes "moved_age") (ascending moved)))
+    (ages-named (codes "new_age") new)
+    ∙ ap (λ (fs : List Figure). named_ages (codes "age") (ages (rows_within s rows)) ++ (named_ages (codes "new_age") new ++ fs))
+    (ages-named (codes "moved_age") moved)
+
+-- the lines of the figures of ages, which are added one after another
+ages-lines_of : (f : Figure → List (List ℕ)) (text : List ℕ) (xs ys zs : List Figure)
+    → ((text ++ lines (map f xs)) ++ lines (map f ys)) ++ lines (map f zs) ≡ text ++ lines (map f (xs ++ (ys ++ zs)))
+ages-lines_of f text xs ys zs =
+    let said : List Figure → List ℕ = λ fs. lines (map f fs) in
+    let both : (us vs : List Figure) → said (us ++ vs) ≡ said us ++ said vs =
+    λ us vs. ap lines (map-append f us vs) ∙ flat_map-append line (map f us) (map f vs) in
+    append_assoc (text ++ said xs) (said ys) (said zs) ∙ append_assoc text (said xs) (said ys ++ said zs)
+    ∙ ap (λ (ls : List ℕ). text ++ ls) (ap (λ (ls : List ℕ). said xs ++ ls) (sym (both ys zs)) ∙ sym (both xs (ys ++ zs)))
+
+pub ages-lines : (f : Figure → List (List ℕ)) (text : List ℕ) (q : QueueState)
+    → ((text ++ lines (map f (ages_named (codes "age") q.ages))) ++ lines (map f (ages_named (codes "new_age") q.new_ages))) ++ lines (map f (ages_named (codes "moved_age") q.moved_ages))
+    ≡ text ++ lines (map f (queue_ages q))
+unfolding queue_ages
+ages-lines f text q = ages-lines_of f text (ages_named (codes "age") q.ages) (ages_named (codes "new_age") q.new_ages) (ages_named (codes "moved_age") q.moved_ages)
+
 -- the figures of a queue
 pub queue-is : (n : ℕ) (s : Stretch) (name : List ℕ) (rows : List Row) → queue_numbers s (queue_state n s name rows) ≡ queue_figures n s rows
-unfolding queue_others
+unfolding queue_sizes
 queue-is n s name rows =
-    let within = ages (rows_within s rows) in
-    let depths = peak-is depth s rows in
-    let flights = peak-is in_flight s rows in
-    let total = sum_by-ascending (λ x. x) within in
-    rw (depths, flights, total, rank-ascending 50 within, rank-ascending 95 within, rank-ascending 99 within, rank-ascending 100 within) refl
+    let sizes : ℕ × ℕ → ℕ × ℕ → List Figure = λ depths flights.
+    named_peak (codes "depth") depths ++ (named_peak (codes "in_flight") flights ++ named_tries (tries (rows_within s rows))) in
+    let all : ℕ × ℕ → ℕ × ℕ → List Figure → List Figure = λ depths flights rest. named_counts (counts_of n (rows_within s rows)) ++ (sizes depths flights ++ rest) in
+    ap (λ (fs : List Figure). all (peak_in s (peak_state depth s rows)) (peak_in s (peak_state in_flight s rows)) fs) (ages-are n s name rows)
+    ∙ ap (λ (p : ℕ × ℕ). all p (peak_in s (peak_state in_flight s rows)) (age_figures_of n s rows)) (peak-is depth s rows)
+    ∙ ap (λ (p : ℕ × ℕ). all (peak_of depth s rows) p (age_figures_of n s rows)) (peak-is in_flight s rows)
 
 -- the counts of an actor after one more row
 counts-step : (n : ℕ) (s : Stretch) (before : List Row) (row : Row) (b : Bool) → is_within s row ≡ b

@@ -1,20 +1,21 @@
 -- The running figures keep to the definitions of the figures.
-use Rattle.std.proofs.Common.{◌≡◌, ℕ, ◌+◌, ◌-◌, Bool, true, false, cond, nat_lt, nat_le, Option, Some, None, List, [], ◌∷◌, ◌++◌, length, map, refl, sym, ap, ◌∙◌, arith}
+use Rattle.std.proofs.Common.{◌≡◌, ◌==◌, ℕ, ◌+◌, ◌-◌, max, Bool, true, false, cond, not, nat_lt, nat_le, filter, filter_map, Option, Some, None, List, [], ◌∷◌, ◌++◌, length, map, refl, sym, ap, ◌∙◌, arith}
 use Rattle.std.specs.List.{enumerate_from}
-use Rattle.std.specs.Prelude.{option_map}
-use Rattle.std.proofs.lemmas.List.{append-nil, append_assoc, length-map}
+use Rattle.std.specs.Prelude.{option_map, sum}
+use Rattle.std.proofs.lemmas.List.{append-nil, append_assoc, length-append, length-map}
 use Rattle.std.proofs.lemmas.List.FromFn.{length-enumerate_from}
-use Rattle.std.proofs.lemmas.List.Sums.{fold_push}
+use Rattle.std.proofs.lemmas.List.Elements.{filter-append, filter_map-append}
+use Rattle.std.proofs.lemmas.List.Sums.{fold_push, sum_by-append, sum_by-cons}
 use Rattle.std.proofs.lemmas.Bool.Decides.{nat_tests}
 use Rattle.sqs_message.specs.declared.row.Row.{Row}
 use Rattle.sqs_formats.specs.Report.{ages, ascending, column, count, counts_in, depth, rows_of}
 use Rattle.sim_report.specs.declared.level.Level.{Level}
 use Rattle.sim_report.specs.declared.stretch.Stretch.{Stretch}
 use Rattle.sim_report.specs.Facts.{fact_of}
-use Rattle.sim_report.specs.Figures.{count_names, count_of_row, counts_of, flight_of, flying, flying_with, in_flight, is_within, levels_from, number_of, rows_before, rows_by, rows_within}
-use Rattle.sim_report.specs.Figured.{actor_state, actor_with, begins_by, depth_at, figured, figures_after, figures_with, fresh_actor, has_begun, highest, level_of, level_with, one_in, peak_state, peak_with, queue_counting, queue_levelled, queue_state, queue_with, raised}
+use Rattle.sim_report.specs.Figures.{count_names, count_of_row, counts_of, flight_of, flying, flying_with, in_flight, is_moved, is_within, levels_from, moved_here, moved_with, number_of, rows_before, rows_by, rows_of_new, rows_where, rows_within, tries, tries_when}
+use Rattle.sim_report.specs.Figured.{actor_state, actor_with, begins_by, depth_at, figured, figures_after, figures_with, fresh_actor, has_begun, highest, level_of, level_with, one_in, peak_state, peak_with, queue_counting, queue_levelled, queue_state, queue_with, raised, tries_if, tries_of, tries_with}
 use Rattle.sim_report.specs.Running.{changed}
-use Rattle.sim_report.specs.Tally.{counted}
+use Rattle.sim_report.specs.Tally.{age_in, counted, with_age}
 use Rattle.sim_report.proofs.Groups.{filter-push, grouped, grouped-at, grouped-later}
 use Rattle.sim_report.proofs.Tallies.{ages-push, columns-push, count-push}
 
@@ -113,32 +114,115 @@ peak-push level s rows row =
 flying-push : (rows : List Row) (row : Row) → flying (rows ++ row ∷ []) ≡ flying_with (flight_of row.kind row.answer) (number_of row.message) (flying rows)
 flying-push rows row = fold_push (λ ns (r : Row). flying_with (flight_of r.kind r.answer) (number_of r.message) ns) [] rows row
 
+-- the peaks of the depth and of the messages in flight with one more row
+depth-push : (s : Stretch) (rows : List Row) (row : Row)
+    → peak_state depth s (rows ++ row ∷ []) ≡ peak_with s row.key.at (depth_at (level_with (column row.kind row.answer) (level_of rows))) (peak_state depth s rows)
+depth-push s rows row =
+    peak-push depth s rows row ∙ ap (λ (l : Level). peak_with s row.key.at (depth_at l) (peak_state depth s rows)) (level-push rows row)
+
+flight-push : (s : Stretch) (rows : List Row) (row : Row)
+    → peak_state in_flight s (rows ++ row ∷ [])
+    ≡ peak_with s row.key.at (length (flying_with (flight_of row.kind row.answer) (number_of row.message) (flying rows))) (peak_state in_flight s rows)
+flight-push s rows row =
+    peak-push in_flight s rows row ∙ ap (λ (ns : List ℕ). peak_with s row.key.at (length ns) (peak_state in_flight s rows)) (flying-push rows row)
+
 -- what is counted in a stretch with one more row
 within-push : {A : Type 0} (f : List Row → A) (s : Stretch) (rows : List Row) (row : Row) (b : Bool) → is_within s row ≡ b
     → f (rows_within s (rows ++ row ∷ [])) ≡ cond b (f (rows_within s rows ++ row ∷ [])) (f (rows_within s rows))
 within-push f s rows row true e = ap f (filter-push (is_within s) rows row ∙ ap (λ b. cond b (rows_within s rows ++ row ∷ []) (rows_within s rows)) e)
 within-push f s rows row false e = ap f (filter-push (is_within s) rows row ∙ ap (λ b. cond b (rows_within s rows ++ row ∷ []) (rows_within s rows)) e)
 
+-- the rows of which something holds, with one more row
+where-push : (holds : List Row → Row → Bool) (before rows : List Row) (row : Row)
+    → rows_where holds before (rows ++ row ∷ []) ≡ rows_where holds before rows ++ cond (holds (before ++ rows) row) (row ∷ []) []
+where-push holds before [] row =
+    ap (λ (p : List Row). cond (holds p row) (row ∷ []) [] ++ []) (sym (append-nil before)) ∙ append-nil (cond (holds (before ++ []) row) (row ∷ []) [])
+where-push holds before (r ∷ rows) row =
+    let here = cond (holds before r) (r ∷ []) [] in
+    let last = λ (p : List Row). cond (holds p row) (row ∷ []) [] in
+    ap (λ (rs : List Row). here ++ rs)
+    (where-push holds (before ++ r ∷ []) rows row ∙ ap (λ p. rows_where holds (before ++ r ∷ []) rows ++ last p) (append_assoc before (r ∷ []) rows))
+    ∙ sym (append_assoc here (rows_where holds (before ++ r ∷ []) rows) (last (before ++ r ∷ rows)))
+
+-- the age in a row
+abbrev age_of : Row → Option ℕ
+age_of row = age_in (column row.kind row.answer) row
+
+-- the ages in such rows of a stretch, with one more row
+where-ages : (holds : List Row → Row → Bool) (s : Stretch) (rows : List Row) (row : Row) (b c : Bool) → is_within s row ≡ b → holds rows row ≡ c
+    → ascending (ages (rows_within s (rows_where holds [] (rows ++ row ∷ []))))
+    ≡ cond b (cond c (with_age (age_of row) (ascending (ages (rows_within s (rows_where holds [] rows))))) (ascending (ages (rows_within s (rows_where holds [] rows)))))
+    (ascending (ages (rows_within s (rows_where holds [] rows))))
+where-ages holds s rows row b true e f =
+    let chosen = rows_where holds [] rows in
+    let pushed = where-push holds [] rows row ∙ ap (λ b. chosen ++ cond b (row ∷ []) []) f in
+    let sorted = λ (rs : List Row). ascending (ages rs) in
+    ap (λ rs. sorted (rows_within s rs)) pushed ∙ within-push sorted s chosen row b e
+    ∙ ap (λ (ns : List ℕ). cond b ns (sorted (rows_within s chosen))) (ages-push (rows_within s chosen) row)
+where-ages holds s rows row b false e f =
+    let chosen = rows_where holds [] rows in
+    let pushed = where-push holds [] rows row ∙ ap (λ b. chosen ++ cond b (row ∷ []) []) f ∙ append-nil chosen in
+    ap (λ rs. ascending (ages (rows_within s rs))) pushed ∙ same b (ascending (ages (rows_within s chosen)))
+  where
+    same : (b : Bool) (ns : List ℕ) → ns ≡ cond b ns ns
+    same true ns = refl
+    same false ns = refl
+
+-- the ages of new messages with one more row
+new-push : (queues : ℕ) (s : Stretch) (rows : List Row) (row : Row) (b m : Bool) → is_within s row ≡ b → is_moved queues rows row ≡ m
+    → ascending (ages (rows_within s (rows_of_new queues (rows ++ row ∷ []))))
+    ≡ cond b (cond m (ascending (ages (rows_within s (rows_of_new queues rows)))) (with_age (age_of row) (ascending (ages (rows_within s (rows_of_new queues rows))))))
+    (ascending (ages (rows_within s (rows_of_new queues rows))))
+new-push queues s rows row b true e f = where-ages (λ before row. not (is_moved queues before row)) s rows row b false e (ap not f)
+new-push queues s rows row b false e f = where-ages (λ before row. not (is_moved queues before row)) s rows row b true e (ap not f)
+
+-- the tries of one more message
+one-more_try : (test : ℕ → Bool) (ns : List ℕ) (n : ℕ) (b : Bool) → test n ≡ b → length (filter test (ns ++ n ∷ [])) ≡ length (filter test ns) + cond b 1 0
+one-more_try test ns n true e =
+    ap length (filter-append test ns (n ∷ []) ∙ ap (λ b. filter test ns ++ cond b (n ∷ []) []) e) ∙ length-append (filter test ns) (n ∷ [])
+one-more_try test ns n false e =
+    ap length (filter-append test ns (n ∷ []) ∙ ap (λ b. filter test ns ++ cond b (n ∷ []) []) e) ∙ length-append (filter test ns) []
+
+tries-more : (ns : List ℕ) (n : ℕ) → tries_of (ns ++ n ∷ []) ≡ tries_with n (tries_of ns)
+tries-more ns n =
+    let once = one-more_try (λ n. n == 1) ns n (n == 1) refl in
+    let again = one-more_try (λ n. nat_lt 1 n) ns n (nat_lt 1 n) refl in
+    let total : sum (ns ++ n ∷ []) ≡ sum ns + n = omega (arith, sum_by-append (λ x. x) ns (n ∷ []), sum_by-cons (λ x. x) n []) in
+    let most = fold_push max 0 ns n in
+    rw (once, again, total, most) refl
+
+tries-if : (t : Option ℕ) (ns : List ℕ) (row : Row) → tries_of (ns ++ filter_map (λ (r : Row). t) (row ∷ [])) ≡ tries_if t (tries_of ns)
+tries-if None ns row = ap tries_of (append-nil ns)
+tries-if (Some n) ns row = tries-more ns n
+
+-- what tries come to with one more row
+tries-push : (rows : List Row) (row : Row) → tries_of (tries (rows ++ row ∷ [])) ≡ tries_if (tries_when (counts_in 4 row) row.receipt) (tries_of (tries rows))
+tries-push rows row =
+    ap tries_of (filter_map-append (λ row. tries_when (counts_in 4 row) row.receipt) rows (row ∷ []))
+    ∙ tries-if (tries_when (counts_in 4 row) row.receipt) (tries rows) row
+
+-- the messages that came by a move with one more row
+moved-push : (queues : ℕ) (rows : List Row) (row : Row) → moved_here queues (rows ++ row ∷ []) ≡ moved_with queues (moved_here queues rows) row
+moved-push queues rows row = fold_push (moved_with queues) [] rows row
+
 -- a queue with one more row
 queue-push : (queues : ℕ) (s : Stretch) (name : List ℕ) (rows : List Row) (row : Row) (b : Bool) → is_within s row ≡ b
     → queue_state queues s name (rows ++ row ∷ [])
-    ≡ cond b (queue_counting queues (fact_of row) (queue_levelled s (fact_of row) (queue_state queues s name rows))) (queue_levelled s (fact_of row) (queue_state queues s name rows))
+    ≡ cond b (queue_levelled queues s (fact_of row) (queue_counting queues (fact_of row) (queue_state queues s name rows))) (queue_levelled queues s (fact_of row) (queue_state queues s name rows))
 queue-push queues s name rows row true e =
     let counts = within-push (counts_of queues) s rows row true e ∙ counts-push queues (rows_within s rows) row in
+    let tried = within-push (λ (rs : List Row). tries_of (tries rs)) s rows row true e ∙ tries-push (rows_within s rows) row in
     let old = within-push (λ (rs : List Row). ascending (ages rs)) s rows row true e ∙ ages-push (rows_within s rows) row in
-    let level = level-push rows row in
-    let depths = peak-push depth s rows row ∙ ap (λ (l : Level). peak_with s row.key.at (depth_at l) (peak_state depth s rows)) level in
-    let flight = flying-push rows row in
-    let flights = peak-push in_flight s rows row ∙ ap (λ (ns : List ℕ). peak_with s row.key.at (length ns) (peak_state in_flight s rows)) flight in
-    rw (counts, old, level, depths, flight, flights) refl
+    let new = new-push queues s rows row true (is_moved queues rows row) e refl in
+    let moved = where-ages (is_moved queues) s rows row true (is_moved queues rows row) e refl in
+    rw (counts, tried, old, new, moved, level-push rows row, depth-push s rows row, flying-push rows row, flight-push s rows row, moved-push queues rows row) refl
 queue-push queues s name rows row false e =
     let counts = within-push (counts_of queues) s rows row false e in
+    let tried = within-push (λ (rs : List Row). tries_of (tries rs)) s rows row false e in
     let old = within-push (λ (rs : List Row). ascending (ages rs)) s rows row false e in
-    let level = level-push rows row in
-    let depths = peak-push depth s rows row ∙ ap (λ (l : Level). peak_with s row.key.at (depth_at l) (peak_state depth s rows)) level in
-    let flight = flying-push rows row in
-    let flights = peak-push in_flight s rows row ∙ ap (λ (ns : List ℕ). peak_with s row.key.at (length ns) (peak_state in_flight s rows)) flight in
-    rw (counts, old, level, depths, flight, flights) refl
+    let new = new-push queues s rows row false (is_moved queues rows row) e refl in
+    let moved = where-ages (is_moved queues) s rows row false (is_moved queues rows row) e refl in
+    rw (counts, tried, old, new, moved, level-push rows row, depth-push s rows row, flying-push rows row, flight-push s rows row, moved-push queues rows row) refl
 
 -- an actor with one more row
 actor-push : (queues : ℕ) (s : Stretch) (name : List ℕ) (rows : List Row) (row : Row)

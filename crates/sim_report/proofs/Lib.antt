@@ -4,6 +4,7 @@ pub mod Tallies
 pub mod Groups
 pub mod Comparing
 mod Figuring
+mod Marked
 mod Named
 mod FiguresEnd
 pub mod Reporting

@@ -1,15 +1,20 @@
 -- The running figures of queues and actors.
-use Rattle.std.specs.Prelude.{ℕ, ◌+◌, ◌-◌, nat_le, nat_lt, Bool, true, false, codes, cond, List, [], ◌∷◌, ◌++◌, fold, length, map, sum, Option, Some, None}
-use Rattle.std.specs.List.{enumerate_from}
+use Rattle.std.specs.Prelude.{ℕ, ◌+◌, ◌-◌, ◌==◌, ◌||◌, nat_le, nat_lt, Bool, true, false, codes, cond, max, List, [], ◌∷◌, ◌++◌, filter, fold, length, map, sum, Option, Some, None}
+use Rattle.std.specs.BTreeMap.{is_at}
+use Rattle.std.specs.BTreeSet.{insert_key}
+use Rattle.std.specs.List.{enumerate_from, list_any}
+use Rattle.std.specs.Ordering.{nat_cmp}
+use Rattle.std.specs.Set.{remove_key}
 use Rattle.sqs_message.specs.declared.row.Row.{Row}
-use Rattle.sqs_formats.specs.Report.{ages, ascending, count, depth, is_column, numbers, rows_of}
+use Rattle.sqs_formats.specs.Report.{ages, ascending, count, depth, greatest, is_column, numbers, rows_of}
 use Rattle.sim_report.specs.declared.fact.Fact.{Fact}
 use Rattle.sim_report.specs.declared.stretch.Stretch.{Stretch}
 use Rattle.sim_report.specs.declared.held.Held.{Held}
 use Rattle.sim_report.specs.declared.level.Level.{Level}
 use Rattle.sim_report.specs.declared.peak.Peak.{Peak}
+use Rattle.sim_report.specs.declared.tries.Tries.{Tries}
 use Rattle.sim_report.specs.Facts.{fact_of, place_in}
-use Rattle.sim_report.specs.Figures.{Figure, count_names, counts_of, figure_fields, flying, flying_with, held_after, held_with, higher, in_flight, levels_from, named_counts, named_peak, overlap, rows_before, rows_by, rows_within}
+use Rattle.sim_report.specs.Figures.{Figure, count_names, counts_of, figure_fields, flying, flying_with, held_after, held_with, higher, in_flight, levels_from, moved_here, named_counts, named_peak, overlap, rows_before, rows_by, rows_of_moved, rows_of_new, rows_within, tries}
 use Rattle.sim_report.specs.Running.{changed}
 use Rattle.sim_report.specs.Tally.{counted, rank_in, with_age}
 
@@ -80,15 +85,52 @@ higher_of start (Some second) = higher start second
 abbrev pub peak_in : Stretch → Peak → ℕ × ℕ
 peak_in s p = higher_of (s.from, p.start) p.top
 
+-- what tries come to
+abbrev pub tries_of : List ℕ → Tries
+tries_of ns =
+    record {
+      once = length (filter (λ n. n == 1) ns);
+      again = length (filter (λ n. nat_lt 1 n) ns);
+      sum = sum ns;
+      greatest = greatest ns;
+    }
+
+-- with those of one more message
+abbrev pub tries_with : ℕ → Tries → Tries
+tries_with n t =
+    record {
+      once = t.once + cond (n == 1) 1 0;
+      again = t.again + cond (nat_lt 1 n) 1 0;
+      sum = t.sum + n;
+      greatest = max t.greatest n;
+    }
+
+-- with those of one more message, if there is one
+abbrev pub tries_if : Option ℕ → Tries → Tries
+tries_if None t = t
+tries_if (Some n) t = tries_with n t
+
+-- the numbers of messages with what a row in this column that counts as this does to that of its message, where moved
+-- messages are kept
+abbrev pub moved_by : Option ℕ → Option ℕ → ℕ → List ℕ → List ℕ
+moved_by place column n ns =
+    cond (is_column 4 place) (insert_key nat_cmp ns n)
+    (cond (is_column 4 column || is_column 5 column || is_column 6 column || is_column 7 column)
+    (remove_key (is_at (nat_cmp n)) ns) ns)
+
 -- the running figures of a queue
 pub record QueueState : Type 0 where
   pub name : List ℕ
   pub counts : List ℕ
+  pub tries : Tries
   pub ages : List ℕ
+  pub new_ages : List ℕ
+  pub moved_ages : List ℕ
   pub level : Level
   pub depth : Peak
   pub flying : List ℕ
   pub in_flight : Peak
+  pub moved : List ℕ
 
 -- the counts of no rows
 abbrev pub no_counts : List ℕ
@@ -101,7 +143,19 @@ no_peak = record { begun = false; start = 0; top = None }
 -- the running figures of a queue without rows
 abbrev pub fresh_queue : List ℕ → QueueState
 fresh_queue name =
-    record { name = name; counts = no_counts; ages = []; level = level_of []; depth = no_peak; flying = []; in_flight = no_peak }
+    record {
+      name = name;
+      counts = no_counts;
+      tries = tries_of [];
+      ages = [];
+      new_ages = [];
+      moved_ages = [];
+      level = level_of [];
+      depth = no_peak;
+      flying = [];
+      in_flight = no_peak;
+      moved = [];
+    }
 
 -- after these rows of it
 abbrev pub queue_state : ℕ → Stretch → List ℕ → List Row → QueueState
@@ -109,41 +163,74 @@ queue_state queues s name rows =
     record {
       name = name;
       counts = counts_of queues (rows_within s rows);
+      tries = tries_of (tries (rows_within s rows));
       ages = ascending (ages (rows_within s rows));
+      new_ages = ascending (ages (rows_within s (rows_of_new queues rows)));
+      moved_ages = ascending (ages (rows_within s (rows_of_moved queues rows)));
       level = level_of rows;
       depth = peak_state depth s rows;
       flying = flying rows;
       in_flight = peak_state in_flight s rows;
+      moved = moved_here queues rows;
     }
+
+-- whether the message of a fact had come by a move
+abbrev pub was_moved : Fact → QueueState → Bool
+was_moved f q = list_any (λ n. n == f.number) q.moved
 
 -- with one more fact of the stretch
 abbrev pub queue_counting : ℕ → Fact → QueueState → QueueState
-queue_counting queues f q = record q { counts = counted (place_in queues f) q.counts; ages = with_age f.count.age q.ages }
+queue_counting queues f q =
+    record q {
+      counts = counted (place_in queues f) q.counts;
+      tries = tries_if f.tries q.tries;
+      ages = with_age f.count.age q.ages;
+      new_ages = cond (was_moved f q) q.new_ages (with_age f.count.age q.new_ages);
+      moved_ages = cond (was_moved f q) (with_age f.count.age q.moved_ages) q.moved_ages;
+    }
 
--- the levels and their peaks with one more fact
-abbrev pub queue_levelled : Stretch → Fact → QueueState → QueueState
-queue_levelled s f q =
+-- the levels with their peaks, and what is moved, with one more fact
+abbrev pub queue_levelled : ℕ → Stretch → Fact → QueueState → QueueState
+queue_levelled queues s f q =
     record q {
       level = level_with f.count.column q.level;
       depth = peak_with s f.at (depth_at (level_with f.count.column q.level)) q.depth;
       flying = flying_with f.flight f.number q.flying;
       in_flight = peak_with s f.at (length (flying_with f.flight f.number q.flying)) q.in_flight;
+      moved = moved_by (place_in queues f) f.count.column f.number q.moved;
     }
 
 -- with one more fact
 abbrev pub queue_with : ℕ → Stretch → Fact → QueueState → QueueState
-queue_with queues s f q = cond (holds_moment s f.at) (queue_counting queues f (queue_levelled s f q)) (queue_levelled s f q)
+queue_with queues s f q =
+    cond (holds_moment s f.at) (queue_levelled queues s f (queue_counting queues f q)) (queue_levelled queues s f q)
 
--- the figures of a queue that are no counts
-unfoldable pub queue_others : Stretch → QueueState → List Figure
-queue_others s q =
-    named_peak (codes "depth") (peak_in s q.depth) ++ (named_peak (codes "in_flight") (peak_in s q.in_flight)
-    ++ ((codes "age_sum_ms", Some (sum q.ages)) ∷ (codes "age_p50_ms", rank_in 50 q.ages) ∷ (codes "age_p95_ms", rank_in 95 q.ages)
-    ∷ (codes "age_p99_ms", rank_in 99 q.ages) ∷ (codes "age_greatest_ms", rank_in 100 q.ages) ∷ []))
+-- tries by their names
+abbrev pub tries_named : Tries → List Figure
+tries_named t =
+    (codes "received_once", Some t.once) ∷ (codes "received_again", Some t.again) ∷ (codes "tries_sum", Some t.sum)
+    ∷ (codes "tries_greatest", Some t.greatest) ∷ []
+
+-- ages in ascending order by their names
+abbrev pub ages_named : List ℕ → List ℕ → List Figure
+ages_named name ages =
+    (name ++ codes "_sum_ms", Some (sum ages)) ∷ (name ++ codes "_p50_ms", rank_in 50 ages)
+    ∷ (name ++ codes "_p95_ms", rank_in 95 ages) ∷ (name ++ codes "_p99_ms", rank_in 99 ages)
+    ∷ (name ++ codes "_greatest_ms", rank_in 100 ages) ∷ []
+
+-- the figures of a queue that are neither counts nor ages
+unfoldable pub queue_sizes : Stretch → QueueState → List Figure
+queue_sizes s q =
+    named_peak (codes "depth") (peak_in s q.depth) ++ (named_peak (codes "in_flight") (peak_in s q.in_flight) ++ tries_named q.tries)
+
+-- those of ages
+unfoldable pub queue_ages : QueueState → List Figure
+queue_ages q =
+    ages_named (codes "age") q.ages ++ (ages_named (codes "new_age") q.new_ages ++ ages_named (codes "moved_age") q.moved_ages)
 
 -- the figures of a queue
 abbrev pub queue_numbers : Stretch → QueueState → List Figure
-queue_numbers s q = named_counts q.counts ++ queue_others s q
+queue_numbers s q = named_counts q.counts ++ (queue_sizes s q ++ queue_ages q)
 
 -- the running figures of an actor: `busy` up to the moment `at` of its last row
 pub record ActorState : Type 0 where

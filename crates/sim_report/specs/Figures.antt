@@ -1,20 +1,24 @@
 -- Figures: what a stretch of a run says of a queue or an actor, over the rows of its log.
-use Rattle.std.specs.Prelude.{ℕ, ◌+◌, ◌-◌, ◌==◌, nat_le, nat_lt, Bool, true, false, codes, cond, max, min, List, [], ◌∷◌, ◌++◌, filter, flat_map, fold, length, map, sum, zip, Option, Some, None}
+use Rattle.std.specs.Prelude.{ℕ, ◌+◌, ◌-◌, ◌==◌, ◌||◌, nat_le, nat_lt, not, Bool, true, false, codes, cond, max, min, List, [], ◌∷◌, ◌++◌, filter, filter_map, flat_map, fold, length, map, option_map, sum, zip, Option, Some, None}
 use Rattle.std.specs.BTreeMap.{is_at}
 use Rattle.std.specs.BTreeSet.{insert_key}
 use Rattle.std.specs.Set.{remove_key}
 use Rattle.std.specs.Fmt.{decimal}
-use Rattle.std.specs.List.{enumerate_from}
+use Rattle.std.specs.List.{enumerate_from, list_any}
 use Rattle.std.specs.Ordering.{nat_cmp}
+use Rattle.sqs_message.specs.Ids.{read_receipt}
 use Rattle.sqs_message.specs.declared.ids.MessageId.{MessageId}
+use Rattle.sqs_message.specs.declared.ids.Receipt.{Receipt}
 use Rattle.sqs_message.specs.declared.row.Row.{Row}
 use Rattle.sqs_message.specs.declared.row.RowKind.{RowKind}
 use Rattle.sqs_message.specs.declared.row.RowKind.TheVariants as kinds
 use Rattle.sqs_message.specs.declared.row.RowAnswer.{RowAnswer}
 use Rattle.sqs_message.specs.declared.row.RowAnswer.TheVariants as answers
+use Rattle.sqs_message.specs.declared.row.RowReceipt.{RowReceipt}
+use Rattle.sqs_message.specs.declared.row.RowReceipt.TheVariants as receipts
 use Rattle.sqs_message.specs.declared.row.Detail.{Detail}
 use Rattle.sqs_message.specs.declared.row.Detail.TheVariants as details
-use Rattle.sqs_formats.specs.Report.{ages, depth, is_column, numbers, rank, rows_of}
+use Rattle.sqs_formats.specs.Report.{ages, counts_in, depth, greatest, is_column, numbers, rank, rows_of}
 use Rattle.sqs_formats.specs.Rows.{lines, text_if}
 use Rattle.sim_report.specs.declared.stretch.Stretch.{Stretch}
 use Rattle.sim_report.specs.declared.held.Held.{Held}
@@ -143,6 +147,47 @@ flying rows = fold (λ ns (row : Row). flying_with (flight_of row.kind row.answe
 abbrev pub in_flight : List Row → ℕ
 in_flight rows = length (flying rows)
 
+-- how often the message of a row had been received in its queue, if the row deleted it: its receipt is the newest, and
+-- counts the receives
+abbrev pub tries_when : Bool → RowReceipt → Option ℕ
+tries_when true (receipts.Given handle) = option_map (λ (r : Receipt). r.count) (read_receipt handle)
+tries_when deletes receipt = None
+
+-- how often each of the messages that rows deleted had been received
+abbrev pub tries : List Row → List ℕ
+tries rows = filter_map (λ row. tries_when (counts_in 4 row) row.receipt) rows
+
+-- the rows of which something holds, given the rows before them; `before` come before all
+abbrev pub rows_where : (List Row → Row → Bool) → List Row → List Row → List Row
+rows_where holds before [] = []
+rows_where holds before (row ∷ rows) =
+    cond (holds before row) (row ∷ []) [] ++ rows_where holds (before ++ row ∷ []) rows
+
+-- whether a message leaves its queue by a row
+abbrev pub takes_out : Row → Bool
+takes_out row = counts_in 4 row || counts_in 5 row || counts_in 6 row || counts_in 7 row
+
+-- the messages that are in a queue and came by a move, by their numbers in ascending order, with one more row
+abbrev pub moved_with : ℕ → List ℕ → Row → List ℕ
+moved_with queues ns row =
+    cond (is_column 4 (count_of_row queues row)) (insert_key nat_cmp ns (number_of row.message))
+    (cond (takes_out row) (remove_key (is_at (nat_cmp (number_of row.message))) ns) ns)
+
+-- these messages after these rows of a queue
+abbrev pub moved_here : ℕ → List Row → List ℕ
+moved_here queues rows = fold (moved_with queues) [] rows
+
+-- whether the message of a row had come by a move, given the rows before
+abbrev pub is_moved : ℕ → List Row → Row → Bool
+is_moved queues before row = list_any (λ n. n == number_of row.message) (moved_here queues before)
+
+-- the rows of moved messages, and those of all others, which are new to the queue
+abbrev pub rows_of_moved : ℕ → List Row → List Row
+rows_of_moved queues rows = rows_where (is_moved queues) [] rows
+
+abbrev pub rows_of_new : ℕ → List Row → List Row
+rows_of_new queues rows = rows_where (λ before row. not (is_moved queues before row)) [] rows
+
 -- what a row of an actor changes of the messages that it holds
 abbrev pub hold_of : RowKind → RowAnswer → Hold
 hold_of kinds.Receive answers.Ok = Takes
@@ -192,17 +237,29 @@ named_counts ns = map (λ p. (p.0, Some p.1)) (zip count_names ns)
 abbrev pub named_peak : List ℕ → ℕ × ℕ → List Figure
 named_peak name peak = (name ++ codes "_greatest", Some peak.1) ∷ (name ++ codes "_greatest_at_ms", Some peak.0) ∷ []
 
+-- tries by their names: how many messages were received once, and how many more often
+abbrev pub named_tries : List ℕ → List Figure
+named_tries ns =
+    (codes "received_once", Some (length (filter (λ n. n == 1) ns)))
+    ∷ (codes "received_again", Some (length (filter (λ n. nat_lt 1 n) ns)))
+    ∷ (codes "tries_sum", Some (sum ns)) ∷ (codes "tries_greatest", Some (greatest ns)) ∷ []
+
 -- ages by their names
-abbrev pub named_ages : List ℕ → List Figure
-named_ages ages =
-    (codes "age_sum_ms", Some (sum ages)) ∷ (codes "age_p50_ms", rank 50 ages) ∷ (codes "age_p95_ms", rank 95 ages)
-    ∷ (codes "age_p99_ms", rank 99 ages) ∷ (codes "age_greatest_ms", rank 100 ages) ∷ []
+abbrev pub named_ages : List ℕ → List ℕ → List Figure
+named_ages name ages =
+    (name ++ codes "_sum_ms", Some (sum ages)) ∷ (name ++ codes "_p50_ms", rank 50 ages)
+    ∷ (name ++ codes "_p95_ms", rank 95 ages) ∷ (name ++ codes "_p99_ms", rank 99 ages)
+    ∷ (name ++ codes "_greatest_ms", rank 100 ages) ∷ []
 
 -- the figures of a queue over its rows, where so many queues are the first agents
 abbrev pub queue_figures : ℕ → Stretch → List Row → List Figure
 queue_figures queues s rows =
     named_counts (counts_of queues (rows_within s rows)) ++ (named_peak (codes "depth") (peak_of depth s rows)
-    ++ (named_peak (codes "in_flight") (peak_of in_flight s rows) ++ named_ages (ages (rows_within s rows))))
+    ++ (named_peak (codes "in_flight") (peak_of in_flight s rows)
+    ++ (named_tries (tries (rows_within s rows))
+    ++ (named_ages (codes "age") (ages (rows_within s rows))
+    ++ (named_ages (codes "new_age") (ages (rows_within s (rows_of_new queues rows)))
+    ++ named_ages (codes "moved_age") (ages (rows_within s (rows_of_moved queues rows))))))))
 
 -- the figures of an actor over its rows
 abbrev pub actor_figures : ℕ → Stretch → List Row → List Figure

@@ -5,5 +5,6 @@ pub mod Running
 pub mod Compared
 pub mod Figures
 pub mod Facts
+pub mod Numbered
 pub mod Figured
 pub mod Reports

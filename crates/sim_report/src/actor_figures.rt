@@ -58,9 +58,9 @@ impl ActorFigures {
         &mut self,
         queues: usize,
         stretch: Stretch,
-        fact: Fact,
+        fact: &Fact,
     ) -> Result<(), AllocError>
-        ensures { OnOk result (self.new ≡ actor_with queues stretch fact self.old) }
+        ensures { OnOk result (self.new ≡ actor_with queues stretch fact.now self.old) }
     {
         if self.held.number > 0 {
             let served = stretch.overlap(self.at, fact.at);

@@ -6,7 +6,7 @@ ghost use Rattle.sqs_formats.specs.Report.{age_when, column, is_column};
 use sqs_message::{Detail, Row, RowAnswer, RowKind};
 
 // The index of the column that counts deletions.
-const DELETES: u16 = 4;
+pub(crate) const DELETES: u16 = 4;
 
 // The index of the column that counts a row. The columns of the errors follow the first nine.
 pub(crate) fn column_of(kind: RowKind, answer: RowAnswer) -> Option<u16>

@@ -1,10 +1,11 @@
 //! What the figures need of a row.
 ghost use Rattle.std.specs.Prelude.{◌≡◌};
 ghost use Rattle.sim_report.specs.Facts.{fact_of, place_in};
-ghost use Rattle.sim_report.specs.Figures.{counted_as, flight_of, hold_of, is_own, number_of};
+ghost use Rattle.sim_report.specs.Figures.{counted_as, flight_of, hold_of, is_own, number_of, tries_when};
+ghost use Rattle.sqs_formats.specs.Report.{is_column};
 
-use crate::column::RowCount;
-use sqs_message::{Detail, MessageId, Row, RowAnswer, RowKind};
+use crate::column::{DELETES, RowCount};
+use sqs_message::{Detail, MessageId, Row, RowAnswer, RowKind, RowReceipt};
 
 // The place of arrivals among the counts, before it is known how they came.
 const ARRIVAL: u16 = 2;
@@ -13,7 +14,8 @@ const BY_FORWARD: u16 = 2;
 
 const BY_REDRIVE: u16 = 3;
 
-const BY_MOVE: u16 = 4;
+/// The place among the counts of arrivals by a move.
+pub(crate) const BY_MOVE: u16 = 4;
 
 /// What a row changes of the messages that its actor holds.
 #[derive(Clone, Copy, Debug, PartialEq, Eq)]
@@ -59,6 +61,8 @@ pub struct Fact {
     pub flight: Flight,
     /// The number of its message in the queue; 0 if it has none.
     pub number: u64,
+    /// How often the message had been received, if the row deleted it.
+    pub tries: Option<u64>,
 }
 
 // Whether a message that arrived is of an origin of its own.
@@ -138,26 +142,39 @@ fn number_of(message: Option<MessageId>) -> u64
     }
 }
 
+// How often the message of a row in this column had been received, if the row deleted it.
+fn tries_of(column: Option<u16>, receipt: &RowReceipt) -> Option<u64>
+    ensures { result ≡ tries_when (is_column 4 column) receipt.now }
+{
+    match (column, receipt) {
+        (Some(DELETES), RowReceipt::Given(handle)) => Some(handle.receipt()?.count),
+        _ => None,
+    }
+}
+
 impl Fact {
     /// What a row says.
+    #[inline(always)]
     pub fn of(row: &Row) -> Fact
         ensures { result ≡ fact_of row.now }
     {
+        let count = RowCount::of(row);
         Fact {
             at: row.key.at,
             agent: row.agent,
-            count: RowCount::of(row),
+            count,
             place: counted_as(row.kind, row.answer),
             own: is_own(row.message, row.detail),
             hold: hold_of(row.kind, row.answer),
             flight: flight_of(row.kind, row.answer),
             number: number_of(row.message),
+            tries: tries_of(count.column, &row.receipt),
         }
     }
 
     // Its place among the counts, where the first `queues` agents are the queues.
-    pub(crate) fn place_in(self, queues: usize) -> Option<u16>
-        ensures { result ≡ place_in queues self }
+    pub(crate) fn place_in(&self, queues: usize) -> Option<u16>
+        ensures { result ≡ place_in queues self.now }
     {
         if self.place != Some(ARRIVAL) {
             self.place

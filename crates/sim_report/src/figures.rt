@@ -37,10 +37,10 @@ impl Model for Figures {
 fn take_at_queue(
     queues: &mut [QueueFigures],
     stretch: Stretch,
-    fact: Fact,
+    fact: &Fact,
 ) -> Result<(), AllocError>
     ensures { OnOk result (queues.new
-        ≡ changed (queue_with (length queues.old) stretch fact) fact.count.queue queues.old) }
+        ≡ changed (queue_with (length queues.old) stretch fact.now) fact.now.count.queue queues.old) }
 {
     let place = fact.count.queue as usize;
     let many = queues.len();
@@ -55,9 +55,9 @@ fn take_at_actor(
     actors: &mut [ActorFigures],
     queues: usize,
     stretch: Stretch,
-    fact: Fact,
+    fact: &Fact,
 ) -> Result<(), AllocError>
-    ensures { OnOk result (actors.new ≡ actors_with queues stretch fact actors.old) }
+    ensures { OnOk result (actors.new ≡ actors_with queues stretch fact.now actors.old) }
 {
     let agent = fact.agent as usize;
     if agent < queues {
@@ -152,8 +152,8 @@ impl Figures {
     ///
     /// `AllocError` if a count is at its greatest value, or an age could not be kept. The figures
     /// may then have a part of the row, and must not be used again.
-    pub fn take(&mut self, fact: Fact) -> Result<(), AllocError>
-        ensures { OnOk result (self.new ≡ figures_with fact self.old) }
+    pub fn take(&mut self, fact: &Fact) -> Result<(), AllocError>
+        ensures { OnOk result (self.new ≡ figures_with fact.now self.old) }
     {
         let queues = self.of_queues.len();
         take_at_queue(self.of_queues.as_mut_slice(), self.stretch, fact)?;
@@ -169,7 +169,7 @@ impl Figures {
         ensures { OnOk result (self.new ≡ figures_after rows.now self.old) }
     {
         for row in rows {
-            self.take(Fact::of(row))?;
+            self.take(&Fact::of(row))?;
         }
         Ok(())
     }

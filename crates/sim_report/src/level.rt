@@ -15,7 +15,7 @@ pub(crate) struct Level {
 pub(crate) const EMPTY: Level = Level { came: 0, went: 0 };
 
 // One more. A count that is at its greatest value would have to grow, which is refused.
-fn one_more(count: u64) -> Result<u64, AllocError>
+pub(crate) fn one_more(count: u64) -> Result<u64, AllocError>
     ensures { IfOk result (λ more. more ≡ count + 1) }
 {
     count.checked_add(1).ok_or(AllocError)

@@ -33,19 +33,20 @@ fn raised(first: Option<(u64, u64)>, second: (u64, u64)) -> (u64, u64)
 }
 
 impl Peak {
-    /// The peak with one more row at this moment, after which the number is this.
-    pub(crate) fn with(self, stretch: Stretch, at: u64, number: u64) -> Peak
-        ensures { result ≡ peak_with stretch at number self }
+    /// Takes in one more row at this moment, after which the number is this.
+    pub(crate) fn take(&mut self, stretch: Stretch, at: u64, number: u64)
+        ensures { self.new ≡ peak_with stretch at number self.old }
     {
-        let begun = self.begun || at >= stretch.from;
-        Peak {
-            begun,
-            start: if begun { self.start } else { number },
-            top: if stretch.holds(at) {
-                Some(raised(self.top, (at, number)))
-            } else {
-                self.top
-            },
+        if !self.begun && at < stretch.from {
+            self.start = number;
+            return;
+        }
+        self.begun = true;
+        if stretch.holds(at) {
+            match self.top {
+                Some((_, most)) if most >= number => {}
+                _ => self.top = Some((at, number)),
+            }
         }
     }
 

@@ -2,6 +2,7 @@
 ghost use Rattle.std.specs.Prelude.{◌≡◌, ◌++◌, ℕ, List, [], false, option_map, IfOk, OnOk};
 ghost use Rattle.sim_report.specs.Left.{lefts};
 ghost use Rattle.sim_report.specs.Figured.{figures_after};
+ghost use Rattle.sim_report.specs.Running.{rows_added};
 ghost use Rattle.sim_report.specs.Reports.{Asked, OfFigures, OfLeft, OfReport, OfReports, begun_with, fact_added, running};
 ghost use Rattle.sim_records.specs.Writes.{Wrote};
 ghost use Rattle.sqs_message.specs.declared.row.Row.{Row};
@@ -38,14 +39,37 @@ impl Model for Report {
     ghost view = { λ r. record { queues = r.queues.items; figures = r.figures } };
 }
 
-// Adds rows to figures, if there are figures.
-fn add_to_figures(figures: &mut Option<Figures>, rows: &[Row]) -> Result<(), AllocError>
-    ensures { OnOk result (figures.new ≡ option_map (figures_after rows.now) figures.old) }
+// Adds rows to the counts of queues and to figures. What a row says is made once for both.
+fn add_with_figures(
+    queues: &mut [QueueCounts],
+    figures: &mut Figures,
+    rows: &[Row],
+) -> Result<(), AllocError>
+    ensures counted { OnOk result (queues.new ≡ rows_added queues.old rows.now) }
+    ensures figured { OnOk result (figures.new ≡ figures_after rows.now figures.old) }
 {
-    if let Some(figures) = figures {
-        figures.take_rows(rows)?;
+    for row in rows {
+        let fact = Fact::of(row);
+        add_count(queues, fact.count)?;
+        figures.take(&fact)?;
     }
     Ok(())
+}
+
+// Adds rows to the counts of queues, and to figures, if there are figures.
+fn add_to(
+    queues: &mut [QueueCounts],
+    figures: &mut Option<Figures>,
+    rows: &[Row],
+) -> Result<(), AllocError>
+    ensures counted { OnOk result (queues.new ≡ rows_added queues.old rows.now) }
+    ensures figured { OnOk result
+        (figures.new ≡ option_map (figures_after rows.now) figures.old) }
+{
+    match figures {
+        Some(figures) => add_with_figures(queues, figures, rows),
+        None => add_rows(queues, rows),
+    }
 }
 
 impl Report {
@@ -78,8 +102,8 @@ impl Report {
         ensures { (asked : Asked) (before : List Row) → self.old ≡ running asked before
             → OnOk result (self.new ≡ running asked (before ++ rows.now)) }
     {
-        add_rows(self.queues.as_mut_slice(), rows)?;
-        add_to_figures(&mut self.figures, rows)
+        add_to(self.queues.as_mut_slice(), &mut self.figures, rows)?;
+        Ok(())
     }
 
     /// Adds what another row says. A row of a queue whose number is past the last is not counted.
@@ -87,8 +111,8 @@ impl Report {
     /// # Errors
     ///
     /// Those of `add`.
-    pub fn add_fact(&mut self, fact: Fact) -> Result<(), AllocError>
-        ensures { OnOk result (self.new ≡ fact_added self.old fact) }
+    pub fn add_fact(&mut self, fact: &Fact) -> Result<(), AllocError>
+        ensures { OnOk result (self.new ≡ fact_added self.old fact.now) }
     {
         add_count(self.queues.as_mut_slice(), fact.count)?;
         if let Some(figures) = &mut self.figures {

@@ -39,10 +39,10 @@ impl PrintedRow {
     }
 
     /// What the row says to the report.
-    pub fn fact(&self) -> Fact
-        ensures { result ≡ self.now.fact }
+    pub fn fact(&self) -> &Fact
+        ensures { result.now ≡ self.now.fact }
     {
-        self.fact
+        &self.fact
     }
 
     /// How often the message of the row was received, by the row's receipt.

@@ -5,7 +5,9 @@ use crate::tests::same::same;
 use sim_clock::{Class, Key};
 use sim_records::ToWriter;
 use sim_report::{Fact, Figures, Report, Stretch};
-use sqs_message::{Detail, MessageId, Origin, Row, RowAnswer, RowKind, RowReceipt, Text};
+use sqs_message::{
+    Detail, MessageId, Origin, Receipt, ReceiptHandle, Row, RowAnswer, RowKind, RowReceipt, Text,
+};
 use std::alloc::Global;
 use std::process::Abort;
 
@@ -13,8 +15,8 @@ const NONE: Detail = Detail::Absent;
 
 /// The moment, queue, agent, kind, answer, message's number and detail of each row. Over the stretch
 /// from 10 to before 100, the consumer serves from 20 to 50 and from 60 to 70, and it still holds a
-/// message from 90 on.
-const ROWS: [(u64, u32, u32, RowKind, RowAnswer, Option<u64>, Detail); 18] = [
+/// message from 90 on. The messages 2 and 3 of `q` came by a move.
+const ROWS: [(u64, u32, u32, RowKind, RowAnswer, Option<u64>, Detail); 20] = [
     (5, 0, 3, RowKind::Send, RowAnswer::New, Some(0), NONE),
     (10, 0, 3, RowKind::Send, RowAnswer::New, Some(1), NONE),
     (20, 0, 2, RowKind::Receive, RowAnswer::Ok, Some(0), NONE),
@@ -87,6 +89,16 @@ const ROWS: [(u64, u32, u32, RowKind, RowAnswer, Option<u64>, Detail); 18] = [
         Detail::From(Origin { site: 0, number: 6 }),
     ),
     (90, 0, 2, RowKind::Receive, RowAnswer::Ok, Some(2), NONE),
+    (96, 0, 2, RowKind::Receive, RowAnswer::Ok, Some(3), NONE),
+    (
+        97,
+        0,
+        2,
+        RowKind::Delete,
+        RowAnswer::Deleted,
+        Some(3),
+        Detail::Age(12),
+    ),
     (100, 0, 3, RowKind::Send, RowAnswer::New, Some(4), NONE),
     (
         120,
@@ -99,6 +111,9 @@ const ROWS: [(u64, u32, u32, RowKind, RowAnswer, Option<u64>, Detail); 18] = [
     ),
 ];
 
+/// How often the messages 0 to 3 of `q` had been received when they were deleted.
+const TRIES: [u64; 4] = [2, 1, 1, 1];
+
 /// The figures over the stretch.
 const FIGURES: &[u8] = b"figure,of,name,value
 figure,q,sent,1
@@ -107,10 +122,10 @@ figure,q,came_by_forward,0
 figure,q,came_by_redrive,0
 figure,q,came_by_move,2
 figure,q,forwarded_again,0
-figure,q,receives,4
+figure,q,receives,5
 figure,q,waits,1
 figure,q,empty_receives,1
-figure,q,deleted,2
+figure,q,deleted,3
 figure,q,deletes_by_older_receipt,0
 figure,q,deletes_of_gone,0
 figure,q,changes,0
@@ -127,11 +142,25 @@ figure,q,depth_greatest,2
 figure,q,depth_greatest_at_ms,10
 figure,q,in_flight_greatest,2
 figure,q,in_flight_greatest_at_ms,20
-figure,q,age_sum_ms,105
+figure,q,received_once,2
+figure,q,received_again,1
+figure,q,tries_sum,4
+figure,q,tries_greatest,2
+figure,q,age_sum_ms,117
 figure,q,age_p50_ms,40
 figure,q,age_p95_ms,65
 figure,q,age_p99_ms,65
 figure,q,age_greatest_ms,65
+figure,q,new_age_sum_ms,105
+figure,q,new_age_p50_ms,40
+figure,q,new_age_p95_ms,65
+figure,q,new_age_p99_ms,65
+figure,q,new_age_greatest_ms,65
+figure,q,moved_age_sum_ms,12
+figure,q,moved_age_p50_ms,12
+figure,q,moved_age_p95_ms,12
+figure,q,moved_age_p99_ms,12
+figure,q,moved_age_greatest_ms,12
 figure,d,sent,0
 figure,d,sent_again,0
 figure,d,came_by_forward,1
@@ -158,21 +187,35 @@ figure,d,depth_greatest,2
 figure,d,depth_greatest_at_ms,75
 figure,d,in_flight_greatest,0
 figure,d,in_flight_greatest_at_ms,10
+figure,d,received_once,0
+figure,d,received_again,0
+figure,d,tries_sum,0
+figure,d,tries_greatest,0
 figure,d,age_sum_ms,0
 figure,d,age_p50_ms,
 figure,d,age_p95_ms,
 figure,d,age_p99_ms,
 figure,d,age_greatest_ms,
+figure,d,new_age_sum_ms,0
+figure,d,new_age_p50_ms,
+figure,d,new_age_p95_ms,
+figure,d,new_age_p99_ms,
+figure,d,new_age_greatest_ms,
+figure,d,moved_age_sum_ms,0
+figure,d,moved_age_p50_ms,
+figure,d,moved_age_p95_ms,
+figure,d,moved_age_p99_ms,
+figure,d,moved_age_greatest_ms,
 figure,c,sent,0
 figure,c,sent_again,0
 figure,c,came_by_forward,1
 figure,c,came_by_redrive,0
 figure,c,came_by_move,0
 figure,c,forwarded_again,0
-figure,c,receives,4
+figure,c,receives,5
 figure,c,waits,1
 figure,c,empty_receives,1
-figure,c,deleted,2
+figure,c,deleted,3
 figure,c,deletes_by_older_receipt,0
 figure,c,deletes_of_gone,0
 figure,c,changes,0
@@ -190,6 +233,18 @@ figure,c,busy_ms,50
 
 fn text(rt: &impl Abort, alloc: Global, name: &[u8]) -> Text {
     Text::new(name.to_vec(alloc).expect(rt, "memory"))
+}
+
+// The receipt of a row: that of a delete is the newest of its message.
+fn receipt(queue: u32, kind: RowKind, number: Option<u64>) -> RowReceipt {
+    match (kind, number) {
+        (RowKind::Delete, Some(number)) => RowReceipt::Given(ReceiptHandle::from(Receipt {
+            site: queue,
+            number,
+            count: TRIES[number as usize],
+        })),
+        _ => RowReceipt::Absent,
+    }
 }
 
 fn rows(rt: &impl Abort, alloc: Global) -> Vec<Row> {
@@ -215,7 +270,7 @@ fn rows(rt: &impl Abort, alloc: Global) -> Vec<Row> {
             kind,
             answer,
             message,
-            receipt: RowReceipt::Absent,
+            receipt: receipt(queue, kind, number),
             detail,
         };
         rows.push(row).expect(rt, "memory");
@@ -242,7 +297,7 @@ fn the_figures_of_two_queues_and_a_consumer(rt: HostRuntime) {
     let mut figures = fresh(&rt, alloc);
     figures.take_rows(first).expect(&rt, "memory");
     for row in second {
-        figures.take(Fact::of(row)).expect(&rt, "memory");
+        figures.take(&Fact::of(row)).expect(&rt, "memory");
     }
     let text = figures.text(alloc).expect(&rt, "memory");
     same(&rt, text.as_slice(), FIGURES);
@@ -258,7 +313,7 @@ fn a_report_with_figures(rt: HostRuntime) {
     let (first, second) = rows.as_slice().split_at(rows.len() / 2);
     report.add(first).expect(&rt, "memory");
     for row in second {
-        report.add_fact(Fact::of(row)).expect(&rt, "memory");
+        report.add_fact(&Fact::of(row)).expect(&rt, "memory");
     }
     let mut out = ToWriter::new(Vec::new(alloc));
     let answer = report.write_figures(alloc, &mut out);

@@ -1,7 +1,6 @@
 use Rattle.std.proofs.Common.{arith, ◌++◌, ◌∙◌, ap, List, Option}
-use Rattle.std.specs.Prelude.{option_map}
 use Rattle.std.proofs.lemmas.Grind.{common_steps}
-use Rattle.std.proofs.lemmas.Result.{on_ok_weaker}
+use Rattle.std.specs.Prelude.{option_map}
 use Rattle.sim_report.specs.declared.queue.QueueCounts.{QueueCounts}
 use Rattle.sim_report.specs.Figured.{FiguresState, figures_after}
 use Rattle.sim_report.specs.Reports.{Counts}
@@ -14,12 +13,11 @@ pub returns : goal.returns
 returns c = λ asked before is.
     let rows = c.args.rows.now in
     let queues = c.self.inside.queues in
-    let all = written_back queues.len c.add_rows.new.queues queues.items (grind (arith, common_steps)) (grind (arith, common_steps)) in
+    let all = written_back queues.len c.add_to.new.queues queues.items (grind (arith, common_steps)) (grind (arith, common_steps)) in
     let same = c.self.view_is ∙ is in
     let start = c.as_mut_slice.ensures.value ∙ ap (λ (r : Counts). r.queues) same in
-    let added = c.in_ok-add_rows.ensures ∙ ap (λ (qs : List QueueCounts). rows_added qs rows) start ∙ running-append asked.queues before rows in
+    let added = c.in_ok-add_to.ensures.counted ∙ ap (λ (qs : List QueueCounts). rows_added qs rows) start ∙ running-append asked.queues before rows in
     let figures = ap (λ (r : Counts). option_map (figures_after rows) r.figures) same ∙ asked-append asked.queues asked.actors asked.stretch before rows in
     let made : List QueueCounts → Option FiguresState → Counts = λ qs fs. record { queues = qs; figures = fs } in
-    on_ok_weaker c.add_to_figures.result
-    (λ taken. ap (λ (qs : List QueueCounts). made qs c.add_to_figures.new.figures) (all ∙ added) ∙ ap (made (queues_running asked.queues (before ++ rows))) (taken ∙ figures))
-    c.add_to_figures.ensures
+    ap (λ (qs : List QueueCounts). made qs c.add_to.new.figures) (all ∙ added)
+    ∙ ap (made (queues_running asked.queues (before ++ rows))) (c.in_ok-add_to.ensures.figured ∙ figures)
