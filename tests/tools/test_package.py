@@ -315,7 +315,7 @@ class Dist(PackageCase):
 
     def test_the_manifest_names_the_page(self):
         """The one that is there, and then the one that tools/page makes."""
-        for name in ("page", "examples", "docs"):
+        for name in ("page", "examples", "docs", "README.md"):
             os.symlink(os.path.join(ROOT, name), self.path(name))
         os.mkdir(self.path("dist"))
         for made in (self.make, lambda: self.run_in(self.folder, self.path("tools/page"), "--module", f"{ROOT}/dist/"
