@@ -394,8 +394,15 @@ byId('file').onchange = async ({ target }) => {
   if (target.files.length) await openFiles([...target.files]);
   target.value = '';
 };
-byId('run').onclick = () => { for (const side of sides) side.run(); };
-byId('stop').onclick = () => { for (const side of sides) if (side.isRunning) side.stop('The run was stopped.'); };
+// What a change has put off does not begin, or end, what is asked for here.
+byId('run').onclick = () => {
+  clearTimeout(timer);
+  for (const side of sides) side.run();
+};
+byId('stop').onclick = () => {
+  clearTimeout(timer);
+  for (const side of sides) if (side.isRunning) side.stop('The run was stopped.');
+};
 byId('save').onclick = () => saveAs('scenario.toml', [active.text], 'text/plain');
 byId('copy').onclick = copyLink;
 byId('compare').onclick = compare;

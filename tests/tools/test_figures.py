@@ -17,7 +17,7 @@ from rehearse_tools.figures import COLUMNS, OF_QUEUE, Figures
 from rehearse_tools.scenarios import consumers_of, names_of, parsed
 
 sys.path.insert(0, os.path.join(ROOT, "tests", "reference"))
-from figures import Fields, Stretch, busy, depths, flights, peak  # noqa: E402 (of the folder above)
+from figures import Fields, Stretch, busy, depths, flights, peak, tries  # noqa: E402 (of the folder above)
 
 SCENARIOS = 20
 # In LOG the three messages of a are there from 200 ms on, and all in flight from 300 ms on. Its consumer left is busy
@@ -240,7 +240,7 @@ class Sweeps(ToolCase):
             for name, *numbers in ran.records or []:
                 own = [row for row in rows if row.queue == name]
                 found = dict([*peak("depth", depths(own), own, stretch),
-                              *peak("in_flight", flights(own), own, stretch)])
+                              *peak("in_flight", flights(own), own, stretch), *tries(own, stretch)])
                 times = [busy([row for row in rows if row.agent == agent], stretch)
                          for agent in consumers.get(name, ())]
                 wanted = [str(found[figure]) for figure in OF_QUEUE.values()]
