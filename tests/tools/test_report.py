@@ -5,11 +5,13 @@ import hashlib
 import json
 import os
 import re
+import shutil
+import subprocess
 import sys
 import unittest
 from html.parser import HTMLParser
 
-from tool import PROGRAM, ROOT, TOOLS, ToolCase, module_of, needs_program, row_of
+from tool import LIMIT, PROGRAM, ROOT, TOOLS, ToolCase, module_of, needs_program, row_of
 from rehearse_tools.console import Fault, check_library
 from rehearse_tools.histories import History
 
@@ -135,6 +137,18 @@ class Report(ToolCase):
             self.assertIn(part.replace("{version}", version).replace("{sha}", sha), told)
         self.assertTrue(told.endswith("--require 'q.age_p95<60s' --require q.expiries=0 --title 'A <run>'"))
         self.assertIn(f"tools/report {self.scenario} --output r.html", told)
+
+    @unittest.skipUnless(shutil.which("node"), "node is not here")
+    def test_a_narrow_page(self):
+        """The buttons of a picture cover no name of a line there: they are hidden."""
+        code = re.search(r"^function draw\(.*?^}$", self.page()[0], re.M | re.S)[0]
+        ran = subprocess.run(["node", "-"], capture_output=True, text=True, timeout=LIMIT, check=True, input=f"""
+            {code}
+            const isLibraryThere = {{ then: then => then() }}, shown = [];
+            globalThis.Plotly = {{ newPlot: (...given) => shown.push(given[3].displayModeBar ?? true) }};
+            for (globalThis.innerWidth of [420, 699, 700, 1600]) draw('id', [], {{ margin: {{}} }}, {{}});
+            console.log(JSON.stringify(shown));""")
+        self.assertEqual(json.loads(ran.stdout), [False, False, True, True])
 
     def test_pictures(self):
         """The numbers that are drawn: two messages at 1 s, one deleted of an age of 2 s, the second expired."""
