@@ -185,7 +185,7 @@ module _ (key : Key) (site : ℕ) (Comes : Key → Type 0) (later_comes : (j : K
 
   -- deletes and changes
   delete_still : (k : Kind) (q : Queue) (r : Receipt) → Still q → Leaves (delete_as k q key.at r)
-  delete_still k q r h = delete_by (λ x. Leaves x) q key.at r (record { refused = h; gone = h; kept = h; taken = λ m e. less_still q r.number h }) k
+  delete_still k q r h = delete_by (λ x. Leaves x) q key.at r (record { refused = h; gone = λ _ _. h; kept = λ _ _. h; taken = λ m e. less_still q r.number h }) k
 
   until_still : (q : Queue) (n timeout : ℕ) → Still q → (timeout == 0) ≡ false → Still (with_change q n (in_flight_until (key.at + 1000 * timeout)))
   until_still q n timeout h e =
@@ -195,7 +195,7 @@ module _ (key : Key) (site : ℕ) (Comes : Key → Type 0) (later_comes : (j : K
   change_still : (q : Queue) (r : Receipt) (timeout : ℕ) → Still q → Leaves (change q key.at r timeout)
   change_still q r timeout h =
       change_by (λ x. Leaves x) q key.at r timeout
-      (record { refused = λ e. h; back = λ e. released_still q r.number h; kept = λ e. until_still q r.number timeout h e })
+      (record { refused = λ e. h; back = λ _ _ _ e. released_still q r.number h; kept = λ _ _ _ e. until_still q r.number timeout h e })
 
   -- moves
   take_still : (to : Option ℕ) (ms : List Message) (q : Queue) → Still q → Still (take_each q to ms).queue

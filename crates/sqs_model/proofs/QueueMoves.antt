@@ -203,7 +203,7 @@ module _ (now e : ℕ) (l : e ≤ now) where
   -- deletes
   pub delete_keeps : (q : Queue) (k : Kind) (r : Receipt) → IsSoundQueue q → Keeps e 0 q (delete_as k q now r).1
   delete_keeps q k r s =
-      delete_by (λ x. Keeps e 0 q x.1) q now r (record { refused = stays e q s; gone = stays e q s; kept = stays e q s; taken = λ m f. taken_keeps e q r.number s }) k
+      delete_by (λ x. Keeps e 0 q x.1) q now r (record { refused = stays e q s; gone = λ _ _. stays e q s; kept = λ _ _. stays e q s; taken = λ m f. taken_keeps e q r.number s }) k
 
   -- changes
   later_keeps : (q : Queue) (n timeout : ℕ) → IsSoundQueue q → (timeout == 0) ≡ false → Keeps e 0 q (with_change q n (in_flight_until (now + 1000 * timeout)))
@@ -215,7 +215,7 @@ module _ (now e : ℕ) (l : e ≤ now) where
   pub change_keeps : (q : Queue) (r : Receipt) (timeout : ℕ) → IsSoundQueue q → Keeps e 0 q (change q now r timeout).1
   change_keeps q r timeout s =
       change_by (λ x. Keeps e 0 q x.1) q now r timeout
-      (record { refused = λ x. stays e q s; back = λ h. released_keeps e q r.number s; kept = λ h. later_keeps q r.number timeout s h })
+      (record { refused = λ x. stays e q s; back = λ _ _ _ h. released_keeps e q r.number s; kept = λ _ _ _ h. later_keeps q r.number timeout s h })
 
   -- arrivals
   settled_keeps : (q : Queue) (m : Message) (b : Bool) → IsSoundQueue q → m.number ≡ q.arrivals → m.release ≡ None → is_too_old q now m ≡ b → Keeps e 0 q (settled_when b q m).1
