@@ -13,6 +13,7 @@ use Rattle.sqs_message.specs.declared.ids.MessageId.{MessageId}
 use Rattle.sqs_message.specs.declared.ids.Origin.{Origin}
 use Rattle.sqs_message.specs.declared.ids.Receipt.{Receipt}
 use Rattle.sqs_message.specs.declared.row.Row.{Row}
+use Rattle.sqs_message.specs.declared.row.RowAnswer.{RowAnswer}
 use Rattle.sqs_message.specs.declared.row.RowAnswer.TheVariants as answers
 use Rattle.sqs_message.specs.declared.row.RowKind.{RowKind}
 use Rattle.sqs_message.specs.declared.row.RowKind.TheVariants as kinds
@@ -45,13 +46,17 @@ use Rattle.sqs_model.proofs.Answered.{receive_by}
 use Rattle.sqs_model.proofs.Branches.{either, either_by}
 use Rattle.sqs_model.proofs.Ledger.{marks}
 
--- whether rows of a kind may name no message: those of receives that give none, of tasks and of samples
-abbrev pub IsOfNone : RowKind → Type 0
-IsOfNone kinds.Receive = Unit {0}
-IsOfNone kinds.Start = Unit {0}
-IsOfNone kinds.Cancel = Unit {0}
-IsOfNone kinds.Sample = Unit {0}
-IsOfNone kind = ⊥
+-- whether a row of a kind with an answer tells of no message: that of a receive that gives none, of a task or of a sample
+abbrev pub TellsOfNone : RowKind → RowAnswer → Type 0
+TellsOfNone kinds.Receive answers.Empty = Unit {0}
+TellsOfNone kinds.Receive answers.Wait = Unit {0}
+TellsOfNone kinds.Receive (answers.Refused e) = Unit {0}
+TellsOfNone kinds.Start answers.Ok = Unit {0}
+TellsOfNone kinds.Start (answers.Refused e) = Unit {0}
+TellsOfNone kinds.Cancel answers.Ok = Unit {0}
+TellsOfNone kinds.Cancel (answers.Refused e) = Unit {0}
+TellsOfNone kinds.Sample answers.Ok = Unit {0}
+TellsOfNone kind answer = ⊥
 
 -- a row of this handling at this site that names no message
 pub record IsNameless (key : Key) (c : Core) (r : Row) : Type 0 where
@@ -59,7 +64,7 @@ pub record IsNameless (key : Key) (c : Core) (r : Row) : Type 0 where
   pub at_site : r.queue ≡ number_of c
   pub silent : (o : Origin) → marks o r ≡ false
   pub nameless : r.message ≡ None
-  pub kind : IsOfNone r.kind
+  pub kind : TellsOfNone r.kind r.answer
 
 -- what an answer tells of messages that were received, if it is that of a receive
 abbrev pub IsTold : (Core → List Got → Type 0) → Core → Answer → Type 0

@@ -1,0 +1,23 @@
+-- The rules of SQS as laws of the log: of its rows, in order, and of the settings of its scenario, and of nothing else.
+use Rattle.std.specs.Prelude.{All, IsTrue, List, Some, false, slice_get, ℕ, ◌<◌, ◌≡◌, ◌||◌}
+use Rattle.sqs_message.specs.declared.row.Detail.TheVariants as details
+use Rattle.sqs_message.specs.declared.row.Row.{Row}
+use Rattle.sqs_redrive.specs.declared.settings.Policy.{Policy}
+use Rattle.sqs_redrive.specs.declared.settings.QueueSettings.{QueueSettings}
+use Rattle.sqs_model.specs.Progress.{IsSoundScenario}
+use Rattle.sqs_model.specs.Run.{after}
+use Rattle.sqs_model.specs.Scenario.{Scenario, opening}
+use Rattle.sqs_laws.specs.Words.{EachNaming, comes, comings, has_left, is_gone, is_redrive, is_release, may_follow, received, times}
+
+-- The end is the end. The messages that come to a queue are numbered from 0 on, and no row names one before it comes. Once it
+-- was deleted, has expired, or left for another queue, only answers gone and repeat and a consumer's fail and forward name it
+-- again; and gone is answered only then.
+pub record TheEnd (rows : List Row) : Type 0 where
+  pub numbered : EachNaming rows (λ before r m. IsTrue (comes r) → m ≡ record { site = r.queue; number = comings r.queue before })
+  pub came : EachNaming rows (λ before r m. comes r ≡ false → (m.site ≡ r.queue) × (m.number < comings r.queue before))
+  pub after : EachNaming rows (λ before r m. IsTrue (has_left m before) → IsTrue (may_follow r))
+  pub gone : EachNaming rows (λ before r m. IsTrue (is_gone r.answer) → IsTrue (has_left m before))
+
+-- every log keeps the rules
+abbrev pub LogKeepsTheRules : Type 0
+LogKeepsTheRules = (s : Scenario) → IsSoundScenario s → (n : ℕ) → TheEnd (after s.horizon n (opening s)).rows
