@@ -2,3 +2,5 @@ pub mod Moves
 pub mod Calls
 pub mod Giving
 pub mod Rows
+pub mod Holding
+pub mod Chains

@@ -116,12 +116,12 @@ pub record CallLaw (key : Key) : Type 1 where
   pub starts : (p : Past) (c : Core) (n : ℕ) (t : Task) → task_numbered n c ≡ Some t → At p c → At p (with_task c (record t { move = task_started t.move key.at }))
   pub cancels : (p : Past) (c : Core) (n : ℕ) (t : Task) → task_numbered n c ≡ Some t → At p c → At p (with_task c (record t { move = record t.move { status = Cancelled } }))
   -- actors: what holds of one after its turn among the actors of its site, and of its act; its poll begins to wait; its service ends
-  pub Stands : List Actor → Actor → Type 0
+  pub Stands : Queue → List Actor → Actor → Type 0
   pub May : Core → Act → Type 0
   pub turns :
       (p : Past) (n : ℕ) (c : Core) (a : Actor) (w : Answer) → actor_numbered n c ≡ Some a → IsTold Hears c w → At p c
-      → At p (with_actor c (next a key.at w).1) × Stands (with_actor c (next a key.at w).1).actors (next a key.at w).1 × May (with_actor c (next a key.at w).1) (next a key.at w).0
-  pub polls : (p : Past) (a : Actor) (c : Core) (max wait : ℕ) (timeout : Option ℕ) → (wait == 0) ≡ false → Stands c.actors a → At p c → At p (with_poll key a c max wait timeout)
+      → At p (with_actor c (next a key.at w).1) × Stands c.queue (with_actor c (next a key.at w).1).actors (next a key.at w).1 × May (with_actor c (next a key.at w).1) (next a key.at w).0
+  pub polls : (p : Past) (a : Actor) (c : Core) (max wait : ℕ) (timeout : Option ℕ) → (wait == 0) ≡ false → Stands c.queue c.actors a → At p c → At p (with_poll key a c max wait timeout)
   pub serves : (p : Past) (a : Actor) (c : Core) (id : MessageId) (r : Receipt) (failed : Bool) (o : Option Outbound) → May c (acts.Serve id r failed o) → At p c → Goes p (serve_made key a c id r failed o).effect
 
 module _ (key : Key) (law : CallLaw key) where
@@ -148,7 +148,7 @@ module _ (key : Key) (law : CallLaw key) where
   plainly : (p : Past) (m : Made) → IsBare m.answer → Goes p m.effect → Makes p m
   plainly p m b g = record { goes = g; told = bare_told Hears law.hears_none m.effect.core m.answer b }
 
-  none_goes : (p : Past) (a : Actor) (c : Core) (max wait : ℕ) (timeout : Option ℕ) → Stands c.actors a → At p c → Makes p (receive_none key a c max wait timeout)
+  none_goes : (p : Past) (a : Actor) (c : Core) (max wait : ℕ) (timeout : Option ℕ) → Stands c.queue c.actors a → At p c → Makes p (receive_none key a c max wait timeout)
   none_goes p a c max wait timeout s h =
       either_by (Makes p) (wait == 0) (made (says c (receive_row key c a.number answers.Empty)) (told_by.Got []))
       (made (says (with_poll key a c max wait timeout) (receive_row key c a.number answers.Wait)) told_by.Waiting)
@@ -156,18 +156,18 @@ module _ (key : Key) (law : CallLaw key) where
       (λ e. plainly p _ tt (says_so p c (with_poll key a c max wait timeout) _ (record { at_key = refl; at_site = refl; silent = λ o. refl; nameless = refl; kind = tt }) h (law.polls p a c max wait timeout e s h)))
 
   pub some_goes :
-      (p : Past) (a : Actor) (c : Core) (max wait : ℕ) (timeout : Option ℕ) (x : Queue × List Got) → Stands c.actors a → At p c
+      (p : Past) (a : Actor) (c : Core) (max wait : ℕ) (timeout : Option ℕ) (x : Queue × List Got) → Stands c.queue c.actors a → At p c
       → Goes p (given key c a.number timeout x) × Hears (given key c a.number timeout x).core x.1 → Makes p (receive_some key a c max wait timeout x.0 x.1)
   some_goes p a c max wait timeout (q, []) s h k = none_goes p a c max wait timeout s h
   some_goes p a c max wait timeout (q, g ∷ gs) s h k = record { goes = k.0; told = k.1 }
 
-  receive_goes : (p : Past) (a : Actor) (c d : Core) (max wait : ℕ) (timeout : Option ℕ) (set : ℕ) (short : Bool) → d.queue ≡ c.queue → Stands d.actors a → At p c → At p d → Makes p (receive_made key a c d max wait timeout (receive d.queue key.at max timeout set short))
+  receive_goes : (p : Past) (a : Actor) (c d : Core) (max wait : ℕ) (timeout : Option ℕ) (set : ℕ) (short : Bool) → d.queue ≡ c.queue → Stands d.queue d.actors a → At p c → At p d → Makes p (receive_made key a c d max wait timeout (receive d.queue key.at max timeout set short))
   receive_goes p a c d max wait timeout set short e s h k =
       receive_by (λ x. Makes p (receive_made key a c d max wait timeout x)) d.queue key.at max timeout set short
       (λ r. plainly p _ tt (says_only p c _ (record { at_key = refl; at_site = refl; silent = λ o. refl; nameless = refl; kind = tt }) h))
       (some_goes p a d max wait timeout (give_most d.queue key.at max timeout set) s k (law.gives p d a.number max timeout set k))
 
-  as_goes : (k : Kind) (p : Past) (a : Actor) (c : Core) (max wait : ℕ) (timeout : Option ℕ) → Stands c.actors a → At p c → Makes p (receive_as k key a c max wait timeout)
+  as_goes : (k : Kind) (p : Past) (a : Actor) (c : Core) (max wait : ℕ) (timeout : Option ℕ) → Stands c.queue c.actors a → At p c → Makes p (receive_as k key a c max wait timeout)
   as_goes (Fifo content scope) p a c max wait timeout s h = receive_goes p a c c max wait timeout (all_hosts c.queue.settings.kind) false refl s h h
   as_goes (Standard hosts sampled) p a c max wait timeout s h =
       let drawn : ℕ × Draws = drawn_uniform 0 (hosts - 1) c.draws in
@@ -210,7 +210,7 @@ module _ (key : Key) (law : CallLaw key) where
   serves_goes p a c id r false None g = plainly p _ tt g
   serves_goes p a c id r false (Some o) g = plainly p _ tt g
 
-  pub act_goes : (p : Past) (a : Actor) (c : Core) (x : Act) → Stands c.actors a → May c x → At p c → Makes p (act_made key a c x)
+  pub act_goes : (p : Past) (a : Actor) (c : Core) (x : Act) → Stands c.queue c.actors a → May c x → At p c → Makes p (act_made key a c x)
   unfolding act_made
   act_goes p a c (acts.Send body delay group id) s m h = plainly p _ tt (law.sends p a c body delay group id h)
   act_goes p a c (acts.Receive max wait timeout) s m h = as_goes c.queue.settings.kind p a c max wait timeout s h
@@ -231,13 +231,13 @@ module _ (key : Key) (law : CallLaw key) where
   abbrev pub FollowsOn : Answer → (Core → Effect) → Type 0
   FollowsOn w f = (p : Past) (c : Core) → Told c w → At p c → Goes p (f c)
 
-  on : (more : Answer → Core → Effect) (p : Past) (a : Actor) (c : Core) (x : Act) → ((w : Answer) → FollowsOn w (more w)) → Stands c.actors a → May c x → At p c → Goes p (and_then (act_made key a c x).effect (more (act_made key a c x).answer))
+  on : (more : Answer → Core → Effect) (p : Past) (a : Actor) (c : Core) (x : Act) → ((w : Answer) → FollowsOn w (more w)) → Stands c.queue c.actors a → May c x → At p c → Goes p (and_then (act_made key a c x).effect (more (act_made key a c x).answer))
   on more p a c x f s m h =
       let did : Makes p (act_made key a c x) = act_goes p a c x s m h in
       follows p (act_made key a c x).effect (more (act_made key a c x).answer)
       (λ q k. f (act_made key a c x).answer q (act_made key a c x).effect.core did.told k) did.goes
 
-  pub next_goes : (more : Answer → Core → Effect) (p : Past) (c : Core) (x : Act) (a : Actor) → ((w : Answer) → FollowsOn w (more w)) → Stands (with_actor c a).actors a → May (with_actor c a) x → At p (with_actor c a) → Goes p (acts_next more key c (x, a))
+  pub next_goes : (more : Answer → Core → Effect) (p : Past) (c : Core) (x : Act) (a : Actor) → ((w : Answer) → FollowsOn w (more w)) → Stands c.queue (with_actor c a).actors a → May (with_actor c a) x → At p (with_actor c a) → Goes p (acts_next more key c (x, a))
   next_goes more p c acts.Nothing a f s m h = nothing p (with_actor c a) h
   next_goes more p c x a f s m h = on more p a (with_actor c a) x f s m h
 

@@ -204,7 +204,7 @@ module _ (key : Key) (law : TurnLaw key) where
         draws = law.draws;
         starts = law.starts;
         cancels = law.cancels;
-        Stands = Stands;
+        Stands = λ q actors a. Stands actors a;
         May = λ c x. Sends Sent x;
         turns = λ p n c a w e t h. law.turns p n c a w e h;
         polls = law.polls;
