@@ -29,8 +29,9 @@ use Rattle.sqs_model.proofs.Chosen.{Stand}
 use Rattle.sqs_model.proofs.Counts.{find_changed, find_picked}
 use Rattle.sqs_model.proofs.Giving.{find_apart}
 use Rattle.sqs_model.proofs.Numbered.{Apart, one_number, other_without}
+use Rattle.sqs_model.proofs.SiteAccounts.{IsFound}
 use Rattle.sqs_laws.specs.Words as words
-use Rattle.sqs_laws.proofs.Moves.{Chain, Changes, Comes, Does, Ends, IsStocked, IsThere, Keeps, Move, Names, Receives, Redrives, Releases, Stays, Tells, changes, chain_append, chain_keeps, comes, ends, one_move, receives, redrives, releases, stays}
+use Rattle.sqs_laws.proofs.Moves.{Chain, Changes, Comes, Does, Ends, IsStocked, Keeps, Move, Names, Receives, Redrives, Releases, Stays, Tells, changes, chain_append, chain_keeps, comes, ends, one_move, receives, redrives, releases, stays}
 
 -- what a row tells, each as it computes
 pub tells : (r : Row) (a b c d e : Bool) → words.comes r ≡ a → words.received r ≡ b → words.changed r ≡ c → words.is_release r.kind ≡ d → words.leaves r ≡ e → Tells r a b c d e
@@ -181,7 +182,7 @@ module _ (key : Key) where
 
   -- each of them stands in the queue, whatever has changed of it
   abbrev pub AreThere : Queue → List Message → Type 0
-  AreThere q ms = All (λ m. IsThere (numbered m.number q.records)) ms
+  AreThere q ms = All (λ m. IsFound (numbered m.number q.records)) ms
 
   other_back_when : (b : Bool) (q : Queue) (n k : ℕ) (m : Message) → n ≢ k → numbered n (released_when b q k m).0.records ≡ numbered n q.records
   other_back_when true q n k m d = other_without k n q.records d
@@ -203,9 +204,9 @@ module _ (key : Key) where
   back_there q m ms d s =
       λ i e l.
       let x : Message = get_or ms i e in
-      subst IsThere (sym (other_back_found (numbered m.number q.records) q x.number m.number (d i e l))) (s i e l)
+      subst IsFound (sym (other_back_found (numbered m.number q.records) q x.number m.number (d i e l))) (s i e l)
 
-  found_by : (q : Queue) (d : Core) (n : ℕ) (o : Option Message) → numbered n q.records ≡ o → IsThere o → d.queue.site ≡ q.site → d.queue.settings ≡ q.settings → Chain key q (came_back key d n (released q n).1).rows (released q n).0
+  found_by : (q : Queue) (d : Core) (n : ℕ) (o : Option Message) → numbered n q.records ≡ o → IsFound o → d.queue.site ≡ q.site → d.queue.settings ≡ q.settings → Chain key q (came_back key d n (released q n).1).rows (released q n).0
   found_by q d n None f t e s = absurd t
   found_by q d n (Some m) f t e s = one_back q d n m e s f
 
@@ -218,12 +219,12 @@ module _ (key : Key) where
       let f : Effect = came_back key d g.id.number g.left in
       let same : Told d f.core = back_told d g.id.number g.left in
       let frame = frame_found (numbered m.number q.records) q m.number in
-      let one : Chain key q (came_back key d m.number (released q m.number).1).rows x = found_by q d m.number (numbered m.number q.records) refl (All-head (λ y. IsThere (numbered y.number q.records)) m ms t) e s in
+      let one : Chain key q (came_back key d m.number (released q m.number).1).rows x = found_by q d m.number (numbered m.number q.records) refl (All-head (λ y. IsFound (numbered y.number q.records)) m ms t) e s in
       let here : Chain key q f.rows x = subst (λ n. Chain key q (came_back key d n g.left).rows x) (sym b.0) (subst (λ l. Chain key q (came_back key d m.number l).rows x) (sym b.1) one) in
       let site : f.core.queue.site ≡ x.site = ap (λ (y : Queue). y.site) same.queue ∙ e ∙ sym frame.0 in
       let settings : f.core.queue.settings ≡ x.settings = ap (λ (y : Queue). y.settings) same.queue ∙ s ∙ sym frame.1 in
       chain_append key f.rows (all_came_back key gs f.core).rows q x (all_released ms x) here
-      (back_chain ms gs x f.core site settings b.2 a.1 (back_there q m ms a.0 (All-tail (λ y. IsThere (numbered y.number q.records)) m ms t)))
+      (back_chain ms gs x f.core site settings b.2 a.1 (back_there q m ms a.0 (All-tail (λ y. IsFound (numbered y.number q.records)) m ms t)))
   back_chain [] (g ∷ gs) q d e s b a t = absurd b
   back_chain (m ∷ ms) [] q d e s b a t = absurd b
 

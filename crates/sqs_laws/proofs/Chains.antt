@@ -33,22 +33,17 @@ use Rattle.sqs_model.specs.Step.{arrival_done, ends_at, handle_expiry, handle_st
 use Rattle.sqs_model.specs.Task.{Task}
 use Rattle.sqs_model.proofs.CallWalk.{CallLaw, DueLaw, IsNameless, IsTold, effect_of, handled_goes}
 use Rattle.sqs_model.proofs.Counts.{all_changed, find_all}
+use Rattle.sqs_model.proofs.SiteAccounts.{IsDueThere, IsFound}
 use Rattle.sqs_laws.proofs.Calls.{Told}
 use Rattle.sqs_laws.proofs.Giving.{AreKnown, IsGiven, most_given}
 use Rattle.sqs_laws.proofs.Holding.{HearsOfKnown, IsInformed, ServesKnown, informed_later, known_later, next_acts}
-use Rattle.sqs_laws.proofs.Moves.{Chain, IsStocked, IsThere, Keeps, Move, chain_append, chain_keeps, one_move}
+use Rattle.sqs_laws.proofs.Moves.{Chain, IsStocked, Keeps, Move, chain_append, chain_keeps, one_move}
 use Rattle.sqs_laws.proofs.Rows.{IsChain, arrived_chain, change_chain, delete_chain, expiry_chain, quiet_move, release_chain, sends_chain, serve_chain, step_chain}
 
 -- a site whose queue's messages are in order, and whose actors hold only messages of it
 pub record IsInOrder (c : Core) : Type 0 where
   pub stocked : IsStocked c.queue
   pub actors : All (IsInformed c.queue.site c.queue.arrivals) c.actors
-
--- a message that is due is there
-abbrev pub IsDueThere : Key → Class → Core → Type 0
-IsDueThere key classes.Expiry c = IsThere (numbered key.number c.queue.records)
-IsDueThere key classes.Release c = IsThere (numbered key.number c.queue.records)
-IsDueThere key class c = Unit {0}
 
 module _ (key : Key) (start : Queue) (fine : IsStocked start) where
   -- after some rows
@@ -153,11 +148,11 @@ module _ (key : Key) (start : Queue) (fine : IsStocked start) where
         serves = λ rows a c id r failed o m h. extends rows c _ h (serve_chain key a c id r failed o m.0 m.1);
       }
 
-  expires_by : (rows : List Row) (c : Core) (o : Option Message) → numbered key.number c.queue.records ≡ o → IsThere o → At rows c → After rows (handle_expiry key c)
+  expires_by : (rows : List Row) (c : Core) (o : Option Message) → numbered key.number c.queue.records ≡ o → IsFound o → At rows c → After rows (handle_expiry key c)
   expires_by rows c None f t h = absurd t
   expires_by rows c (Some m) f t h = extends rows c (handle_expiry key c) h (expiry_chain key c m f)
 
-  releases_by : (rows : List Row) (c : Core) (o : Option Message) → numbered key.number c.queue.records ≡ o → IsThere o → At rows c → After rows (release_done key c (released c.queue key.number))
+  releases_by : (rows : List Row) (c : Core) (o : Option Message) → numbered key.number c.queue.records ≡ o → IsFound o → At rows c → After rows (release_done key c (released c.queue key.number))
   releases_by rows c None f t h = absurd t
   releases_by rows c (Some m) f t h = extends rows c (release_done key c (released c.queue key.number)) h (release_chain key c m (stocked rows c h) f)
 

@@ -26,8 +26,9 @@ use Rattle.sqs_model.proofs.Giving.{gives}
 use Rattle.sqs_model.proofs.Grouped.{all_groups}
 use Rattle.sqs_model.proofs.Numbered.{Apart}
 use Rattle.sqs_model.proofs.QueueAccounts.{same_timeout}
+use Rattle.sqs_model.proofs.SiteAccounts.{IsFound}
 use Rattle.sqs_laws.proofs.Calls.{AreThere, AreToldOf, Told, all_told, back_chain, back_got, other_changed, own_changed, received_chain, told_got, told_kept}
-use Rattle.sqs_laws.proofs.Moves.{Chain, IsStocked, IsThere, Keeps, chain_append, chain_keeps}
+use Rattle.sqs_laws.proofs.Moves.{Chain, IsStocked, Keeps, chain_append, chain_keeps}
 
 -- what a receive tells of messages of a queue: each came there before
 pub record IsKnown (site arrivals : ℕ) (g : Got) : Type 0 where
@@ -73,17 +74,17 @@ visible_available (Standard hosts sampled) set ms = visible_filter (λ m. has_ho
 visible_available (Fifo content scope) set ms = let opened : List Message = open_from ms [] ms in all_groups (λ x. is_visible x ≡ true) opened (firsts [] opened) (visible_open ms [] ms)
 
 -- what stands in a queue still does after a change of one message
-there_changed_by : (b : Bool) (q : Queue) (n k : ℕ) (f : Message → Message) → ((m : Message) → (f m).number ≡ m.number) → (n == k) ≡ b → (o : Option Message) → numbered n q.records ≡ o → IsThere o → IsThere (numbered n (with_change q k f).records)
+there_changed_by : (b : Bool) (q : Queue) (n k : ℕ) (f : Message → Message) → ((m : Message) → (f m).number ≡ m.number) → (n == k) ≡ b → (o : Option Message) → numbered n q.records ≡ o → IsFound o → IsFound (numbered n (with_change q k f).records)
 there_changed_by b q n k f same e None s h = absurd h
 there_changed_by true q n k f same e (Some m) s h =
     let is : k ≡ n = sym (eqb-true n k e) in
-    subst (λ j. IsThere (numbered n (with_change q j f).records)) (sym is) (subst IsThere (sym (own_changed n f same q.records m s)) tt)
-there_changed_by false q n k f same e (Some m) s h = subst IsThere (sym (other_changed n k f same (eqb-false n k e) q.records ∙ s)) tt
+    subst (λ j. IsFound (numbered n (with_change q j f).records)) (sym is) (subst IsFound (sym (own_changed n f same q.records m s)) tt)
+there_changed_by false q n k f same e (Some m) s h = subst IsFound (sym (other_changed n k f same (eqb-false n k e) q.records ∙ s)) tt
 
-there_changed : (q : Queue) (n k : ℕ) (f : Message → Message) → ((m : Message) → (f m).number ≡ m.number) → IsThere (numbered n q.records) → IsThere (numbered n (with_change q k f).records)
+there_changed : (q : Queue) (n k : ℕ) (f : Message → Message) → ((m : Message) → (f m).number ≡ m.number) → IsFound (numbered n q.records) → IsFound (numbered n (with_change q k f).records)
 there_changed q n k f same h = there_changed_by (n == k) q n k f same refl (numbered n q.records) refl h
 
-there_received : (now timeout n : ℕ) (ms : List Message) (q : Queue) → IsThere (numbered n q.records) → IsThere (numbered n (all_received now timeout ms q).records)
+there_received : (now timeout n : ℕ) (ms : List Message) (q : Queue) → IsFound (numbered n q.records) → IsFound (numbered n (all_received now timeout ms q).records)
 there_received now timeout n [] q h = h
 there_received now timeout n (m ∷ ms) q h = there_received now timeout n ms (with_change q m.number (received now timeout)) (there_changed q n m.number (received now timeout) (λ x. refl) h)
 
@@ -124,7 +125,7 @@ module _ (key : Key) (c : Core) (agent : ℕ) (timeout : Option ℕ) where
         let told : AreToldOf c.queue.site ms gots = told_got c.queue taken ms in
         let first : Chain key c.queue f.rows taken = received_chain key c agent 0 ms gots c.queue refl told apart stand visible in
         let kept : Keeps c.queue taken = chain_keeps key f.rows c.queue taken first stocked in
-        let there : AreThere key taken ms = λ i l h. let m : Message = get_or ms i l in there_received key.at 0 m.number ms c.queue (subst IsThere (sym (stand i l h)) tt) in
+        let there : AreThere key taken ms = λ i l h. let m : Message = get_or ms i l in there_received key.at 0 m.number ms c.queue (subst IsFound (sym (stand i l h)) tt) in
         let back : (e : Core) → e.queue.site ≡ taken.site → e.queue.settings ≡ taken.settings → Chain key taken (all_came_back key gots e).rows q = λ e s t. back_chain key ms gots taken e s t (back_got key c.queue taken ms) apart there in
         let from_old : Keeps taken q = chain_keeps key (all_came_back key gots c).rows taken q (back c kept.site kept.settings) kept.stocked in
         let second : Chain key taken (all_came_back key gots d).rows q = back d (sym from_old.site) (sym from_old.settings) in

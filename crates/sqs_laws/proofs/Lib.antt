@@ -4,3 +4,4 @@ pub mod Giving
 pub mod Rows
 pub mod Holding
 pub mod Chains
+pub mod Worlds

@@ -17,12 +17,8 @@ use Rattle.sqs_model.specs.Receive.{received}
 use Rattle.sqs_model.specs.Return.{leaves, visible_again}
 use Rattle.sqs_model.proofs.Counts.{all_changed, all_without, ascends_changed, ascends_push, ascends_without}
 use Rattle.sqs_model.proofs.Numbered.{Climbs}
+use Rattle.sqs_model.proofs.SiteAccounts.{IsFound}
 use Rattle.sqs_laws.specs.Words as words
-
--- a message that is there
-abbrev pub IsThere : Option Message → Type 0
-IsThere None = ⊥
-IsThere (Some m) = Unit {0}
 
 -- what a row tells of a message: whether it comes, is received, is changed, is released or leaves
 pub record Tells (r : Row) (comes received changed released leaves : Bool) : Type 0 where
@@ -38,7 +34,7 @@ module _ (key : Key) (q : Queue) (r : Row) (p : Queue) where
     pub same : q ≡ p
     pub tells : Tells r false false false false false
     pub old : (m : MessageId) → r.message ≡ Some m → (m.site ≡ q.site) × (m.number < q.arrivals)
-    pub follows : (m : MessageId) → r.message ≡ Some m → words.may_follow r ≡ false → IsThere (numbered m.number q.records)
+    pub follows : (m : MessageId) → r.message ≡ Some m → words.may_follow r ≡ false → IsFound (numbered m.number q.records)
     pub gone : words.is_gone r.answer ≡ true → (m : MessageId) → r.message ≡ Some m → numbered m.number q.records ≡ None
 
   -- a message that comes, with the next number; deduplication entries may come and go with it
@@ -187,7 +183,7 @@ pushed_keeps q m entries e o s =
       };
     }
 
-does_keep : (key : Key) (q : Queue) (r : Row) (p : Queue) → Does key q r p → IsStocked q → Keeps q p
+pub does_keep : (key : Key) (q : Queue) (r : Row) (p : Queue) → Does key q r p → IsStocked q → Keeps q p
 does_keep key q r p (stays d) s = keeps_same q p d.same s
 does_keep key q r p (comes d) s = subst (Keeps q) d.after (pushed_keeps q d.one d.entries d.number d.old s)
 does_keep key q r p (receives d) s = subst (Keeps q) d.after (changed_keeps q d.number (received key.at d.timeout) (λ m. refl) s)
@@ -209,3 +205,19 @@ chain_append key (r ∷ rs) ss q x p (y, m, c) d = (y, m, chain_append key rs ss
 
 pub one_move : (key : Key) (q : Queue) (r : Row) (p : Queue) → Move key q r p → Chain key q (r ∷ []) p
 one_move key q r p m = (p, m, refl)
+
+-- a row names a message of its own queue alone
+own_named : (q : Queue) (r : Row) (n : ℕ) (m : MessageId) → r.message ≡ Some (id_of q n) → r.message ≡ Some m → m.site ≡ q.site
+own_named q r n m e f = let s : id_of q n ≡ m = cc in subst (λ (x : MessageId). x.site ≡ q.site) s refl
+
+does_own : (key : Key) (q : Queue) (r : Row) (p : Queue) → Does key q r p → (m : MessageId) → r.message ≡ Some m → m.site ≡ q.site
+does_own key q r p (stays d) m e = (d.old m e).0
+does_own key q r p (comes d) m e = own_named q r q.arrivals m d.message e
+does_own key q r p (receives d) m e = own_named q r d.number m d.names.message e
+does_own key q r p (changes d) m e = own_named q r d.number m d.names.message e
+does_own key q r p (releases d) m e = own_named q r d.number m d.names.message e
+does_own key q r p (redrives d) m e = own_named q r d.number m d.names.message e
+does_own key q r p (ends d) m e = own_named q r d.number m d.names.message e
+
+pub moves_own : (key : Key) (q : Queue) (r : Row) (p : Queue) → Move key q r p → (m : MessageId) → r.message ≡ Some m → m.site ≡ r.queue
+moves_own key q r p h m e = does_own key q r p h.does m e ∙ sym h.at_site

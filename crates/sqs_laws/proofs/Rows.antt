@@ -54,9 +54,10 @@ use Rattle.sqs_model.proofs.Answered.{IsOfChanges, IsOfDeletes, change_by, delet
 use Rattle.sqs_model.proofs.Branches.{either, either_by}
 use Rattle.sqs_model.proofs.CallWalk.{IsNameless, TellsOfNone}
 use Rattle.sqs_model.proofs.Counts.{changed_twice, find_all, find_picked, without_changed}
+use Rattle.sqs_model.proofs.SiteAccounts.{IsFound}
 use Rattle.sqs_laws.specs.Words as words
 use Rattle.sqs_laws.proofs.Calls.{Told, back_told, one_back, own_changed, tells}
-use Rattle.sqs_laws.proofs.Moves.{Chain, chain_keeps, Comes, Does, Ends, IsStocked, IsThere, Keeps, Move, Names, Stays, Tells, Changes, changes, chain_append, comes, ends, one_move, stays}
+use Rattle.sqs_laws.proofs.Moves.{Chain, chain_keeps, Comes, Does, Ends, IsStocked, Keeps, Move, Names, Stays, Tells, Changes, changes, chain_append, comes, ends, one_move, stays}
 
 -- what a row of none tells
 abbrev SaysNothing : RowKind → RowAnswer → Type 0
@@ -108,13 +109,13 @@ module _ (key : Key) where
       omega (arith, is, l)
 
   -- a row that names a message which came before, and changes nothing
-  named_stays : (q : Queue) (r : Row) (n : ℕ) → r.message ≡ Some (id_of q n) → Tells r false false false false false → n < q.arrivals → (words.may_follow r ≡ false → IsThere (numbered n q.records)) → (words.is_gone r.answer ≡ true → numbered n q.records ≡ None) → Stays key q r q
+  named_stays : (q : Queue) (r : Row) (n : ℕ) → r.message ≡ Some (id_of q n) → Tells r false false false false false → n < q.arrivals → (words.may_follow r ≡ false → IsFound (numbered n q.records)) → (words.is_gone r.answer ≡ true → numbered n q.records ≡ None) → Stays key q r q
   named_stays q r n m t l f g =
       record {
         same = refl;
         tells = t;
         old = λ i e. let s : id_of q n ≡ i = cc in subst (λ (x : MessageId). (x.site ≡ q.site) × (x.number < q.arrivals)) s (refl, l);
-        follows = λ i e h. let s : id_of q n ≡ i = cc in subst (λ (x : MessageId). IsThere (numbered x.number q.records)) s (f h);
+        follows = λ i e h. let s : id_of q n ≡ i = cc in subst (λ (x : MessageId). IsFound (numbered x.number q.records)) s (f h);
         gone = λ h i e. let s : id_of q n ≡ i = cc in subst (λ (x : MessageId). numbered x.number q.records ≡ None) s (g h);
       }
 
@@ -197,7 +198,7 @@ module _ (key : Key) where
         gone = λ f l. one_row c c _ refl refl refl (stays (named_stays c.queue _ r.number refl (tells _ false false false false false refl refl refl refl refl) (grind (arith, nat_tests, l)) (λ h. cc) (λ h. f)));
         kept = λ m f.
             one_row c c _ refl refl refl
-            (stays (named_stays c.queue _ r.number refl (tells _ false false false false false refl refl refl refl refl) (found_old c.queue r.number m s f) (λ h. subst IsThere (sym f) tt) (λ h. cc)));
+            (stays (named_stays c.queue _ r.number refl (tells _ false false false false false refl refl refl refl refl) (found_old c.queue r.number m s f) (λ h. subst IsFound (sym f) tt) (λ h. cc)));
         taken = λ m f.
             one_row c (with_queue c (taken_out c.queue r.number)) _ refl refl refl
             (ends (record { one = m; number = r.number; tells = tells _ false false false false true refl refl refl refl refl; names = record { there = f; message = refl }; kind = refl; after = refl }));

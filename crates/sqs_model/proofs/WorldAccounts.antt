@@ -39,7 +39,7 @@ use Rattle.sqs_model.proofs.Ledger.{IsPast, bit, ended, first_in, given_by, id_a
 use Rattle.sqs_model.proofs.Members.{From, In, in_append, in_flat, in_found, in_map}
 use Rattle.sqs_model.proofs.Opening.{all_enumerated}
 use Rattle.sqs_model.proofs.QueueAccounts.{carried}
-use Rattle.sqs_model.proofs.SiteAccounts.{At, Goes, IsBound, IsFound, Leads, MayExpire, come_goes, due_goes, none_come, sent_bits}
+use Rattle.sqs_model.proofs.SiteAccounts.{At, Goes, IsBound, IsFound, Leads, IsDueThere, come_goes, due_goes, none_come, sent_bits}
 use Rattle.sqs_model.proofs.WorldMoves.{is_due_least, least_in}
 use Rattle.sqs_model.proofs.Instance.{total_inserted}
 
@@ -55,30 +55,30 @@ sum_is f (x ∷ xs) = omega (arith, sum_by-cons f x xs, sum_is f xs)
 count_total : {A : Type 0} (p : A → Bool) (xs : List A) → count_by p xs ≡ total (λ x. bit (p x)) xs
 count_total p xs = sum_is (λ x. bit (p x)) xs
 
--- what is due to expire is there
+-- a message that is due is there
 module _ (s : Site) where
-  abbrev Expires : Key → Class → Type 0
-  Expires key k = MayExpire key k s.core
+  abbrev pub Expires : Key → Class → Type 0
+  Expires key k = IsDueThere key k s.core
 
-  abbrev Fits : Key → Type 0
-  Fits key = Expires key key.class
+  abbrev pub Fits : Key → Type 0
+  Fits key = IsDueThere key key.class s.core
 
   found_is : (f : Option Message) (m : Message) → f ≡ Some m → IsFound f
   found_is f m e = subst IsFound (sym e) tt
 
-  expiry_there : (m : Message) → In s.core.queue.records m → IsFound (numbered m.number s.core.queue.records)
-  expiry_there m i =
+  message_there : (m : Message) → In s.core.queue.records m → IsFound (numbered m.number s.core.queue.records)
+  message_there m i =
       let f : From s.core.queue.records (λ x. find (has_number m.number) s.core.queue.records ≡ Some x) = in_found (has_number m.number) s.core.queue.records m i (eq-eqb m.number m.number refl) in
       found_is (numbered m.number s.core.queue.records) f.one f.gives
 
-  release_fits : (key : Key) (m : Message) (o : Option ℕ) → In (release_due s.core.queue.site m o) key → Fits key
-  release_fits key m None i = elim i [ ]
-  release_fits key m (Some at) (inl e) = subst Fits e tt
-  release_fits key m (Some at) (inr i) = elim i [ ]
+  release_fits : (key : Key) (m : Message) (o : Option ℕ) → In s.core.queue.records m → In (release_due s.core.queue.site m o) key → Fits key
+  release_fits key m None i k = elim k [ ]
+  release_fits key m (Some at) i (inl e) = subst Fits e (message_there m i)
+  release_fits key m (Some at) i (inr k) = elim k [ ]
 
   message_fits : (key : Key) (m : Message) → In s.core.queue.records m → In (message_dues s.core.queue.site s.core.queue.settings.retention m) key → Fits key
-  message_fits key m i (inl e) = subst Fits e (expiry_there m i)
-  message_fits key m i (inr k) = release_fits key m m.release k
+  message_fits key m i (inl e) = subst Fits e (message_there m i)
+  message_fits key m i (inr k) = release_fits key m m.release i k
 
   queue_fits : (key : Key) → In (queue_dues s.core.queue) key → Fits key
   queue_fits key i =
@@ -132,7 +132,7 @@ module _ (s : Site) where
             ]
       ]
 
-  due_fits : (key : Key) → In (dues s) key → Fits key
+  pub due_fits : (key : Key) → In (dues s) key → Fits key
   unfolding dues
   due_fits key i =
       elim (in_append (map transfer_key s.arriving) (core_dues s.core) key i) as (λ _. Fits key) [
@@ -243,7 +243,7 @@ module _ (o : Origin) (top : ℕ) where
       left_stays rows elsewhere left _ (all_without (has_key key) (IsBound o top) s.arriving k.arriving)
       (come_goes o top rows key rows (sent_bits o top left + elsewhere) x s.core bound (at_site rows (carried o x.load + (sent_bits o top left + elsewhere)) s k (omega (arith, h, less))))
 
-  when_stays : (b : Bool) (key : Key) (rows : List Row) (elsewhere : ℕ) (s : Site) → MayExpire key key.class s.core → IsKept rows s → stock s + ended o rows + elsewhere ≡ first_in o rows → Stays rows elsewhere (handled_when b key s)
+  when_stays : (b : Bool) (key : Key) (rows : List Row) (elsewhere : ℕ) (s : Site) → IsDueThere key key.class s.core → IsKept rows s → stock s + ended o rows + elsewhere ≡ first_in o rows → Stays rows elsewhere (handled_when b key s)
   when_stays true key rows elsewhere s m k h = came_stays key rows elsewhere s (find (has_key key) s.arriving) refl k h
   when_stays false key rows elsewhere s m k h =
       left_stays rows elsewhere s.arriving _ k.arriving (due_goes o top rows key key.class rows (sent_bits o top s.arriving + elsewhere) s.core m (at_site rows (sent_bits o top s.arriving + elsewhere) s k (omega (arith, h))))
