@@ -2,6 +2,7 @@
 use Rattle.std.specs.Prelude.{All, Bool, Err, List, None, Ok, Option, Result, Some, [], false, filter, find, get_or, if◌then◌else◌, map, nat_lt, true, zip, ℕ, ◌&&◌, ◌*◌, ◌+◌, ◌++◌, ◌<◌, ◌==◌, ◌∷◌, ◌≡◌, ◌≢◌}
 use Rattle.std.proofs.Common.{ap, arith, refl, subst, sym, ◌∙◌}
 use Rattle.std.proofs.lemmas.Bool.{eqb-true}
+use Rattle.std.proofs.lemmas.Bool.Decides.{nat_tests}
 use Rattle.std.proofs.lemmas.List.{append-nil}
 use Rattle.std.proofs.lemmas.List.Elements.{All-cons, All-filter, All-head, All-nil, All-push, All-tail, All-weaker}
 use Rattle.sim_clock.specs.declared.key.Key.{Key}
@@ -26,7 +27,7 @@ use Rattle.sqs_model.specs.Receive.{got_of, received}
 use Rattle.sqs_model.specs.Return.{leaves, released, released_found, released_when, redrive_of, visible_again}
 use Rattle.sqs_model.specs.Site.{Core, Effect, and_then, number_of}
 use Rattle.sqs_model.proofs.Chosen.{Stand}
-use Rattle.sqs_model.proofs.Counts.{find_changed, find_picked}
+use Rattle.sqs_model.proofs.Counts.{find_all, find_changed, find_picked}
 use Rattle.sqs_model.proofs.Giving.{find_apart}
 use Rattle.sqs_model.proofs.Numbered.{Apart, one_number, other_without}
 use Rattle.sqs_model.proofs.SiteAccounts.{IsFound}
@@ -45,6 +46,26 @@ other_changed n k f same d ms =
 pub own_changed : (n : ℕ) (f : Message → Message) → ((m : Message) → (f m).number ≡ m.number) → (ms : List Message) (m : Message) → numbered n ms ≡ Some m → numbered n (changed (has_number n) f ms) ≡ Some (f m)
 own_changed n f same ms m e =
     find_changed (has_number n) f ms m e (ap (λ i. i == n) (same m) ∙ find_picked (has_number n) ms m e)
+
+-- the number of a message that is there, or has gone, was given out
+pub found_old : (q : Queue) (n : ℕ) (m : Message) → IsStocked q → numbered n q.records ≡ Some m → n < q.arrivals
+found_old q n m s f =
+    let is : m.number ≡ n = eqb-true m.number n (find_picked (has_number n) q.records m f) in
+    let l : m.number < q.arrivals = find_all (has_number n) (λ x. x.number < q.arrivals) q.records m s.given_out f in
+    omega (arith, is, l)
+
+-- a message that comes too old leaves at once
+pub pushed_out : (n : ℕ) (ms : List Message) (m : Message) → m.number ≡ n → All (λ x. x.number < n) ms → without (has_number n) (ms ++ m ∷ []) ≡ ms
+pushed_out n [] m e h = let is : has_number n m ≡ true = grind (arith, nat_tests, e) in rw is refl
+pushed_out n (x ∷ xs) m e h =
+    let other : has_number n x ≡ false = let l : x.number < n = All-head (λ y. y.number < n) x xs h in grind (arith, nat_tests) in
+    rw other (ap (λ t. x ∷ t) (pushed_out n xs m e (All-tail (λ y. y.number < n) x xs h)))
+
+pub pushed_found : (n : ℕ) (ms : List Message) (m : Message) → m.number ≡ n → All (λ x. x.number < n) ms → numbered n (ms ++ m ∷ []) ≡ Some m
+pushed_found n [] m e h = let is : has_number n m ≡ true = grind (arith, nat_tests, e) in rw is refl
+pushed_found n (x ∷ xs) m e h =
+    let other : has_number n x ≡ false = let l : x.number < n = All-head (λ y. y.number < n) x xs h in grind (arith, nat_tests) in
+    rw other (pushed_found n xs m e (All-tail (λ y. y.number < n) x xs h))
 
 -- what is told of messages that are received, one for each
 pub record IsToldOf (site : ℕ) (m : Message) (g : Got) : Type 0 where
@@ -85,7 +106,7 @@ module _ (key : Key) where
               number = m.number;
               timeout = timeout;
               tells = tells _ false true false false false refl refl refl refl refl;
-              names = record { there = s; message = ap (λ i. Some i) t.id };
+              names = record { there = s; message = ap (λ i. Some i) t.id; sure = refl };
               rested = v;
               receipt = ap (λ r. receipts.Made r) t.receipt;
               origin = ap (λ o. details.From o) t.origin;
@@ -119,7 +140,7 @@ module _ (key : Key) where
               one = m;
               number = n;
               tells = tells _ false false false true false refl refl refl refl refl;
-              names = record { there = f; message = ap (λ s. Some (record { site = s; number = n })) e };
+              names = record { there = f; message = ap (λ s. Some (record { site = s; number = n })) e; sure = refl };
               lasts = ap (λ x. leaves x m) p ∙ l;
               after = refl;
             });
@@ -139,7 +160,7 @@ module _ (key : Key) where
               number = n;
               policy = policy;
               tells = tells _ false false false false true refl refl refl refl refl;
-              names = record { there = f; message = ap (λ s. Some (record { site = s; number = n })) e };
+              names = record { there = f; message = ap (λ s. Some (record { site = s; number = n })) e; sure = refl };
               by = p;
               worn = l;
               kind = refl;

@@ -5,3 +5,5 @@ pub mod Rows
 pub mod Holding
 pub mod Chains
 pub mod Worlds
+pub mod Said
+pub mod End

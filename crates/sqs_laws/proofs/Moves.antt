@@ -53,6 +53,7 @@ module _ (key : Key) (q : Queue) (r : Row) (p : Queue) where
   pub record Names (one : Message) (number : ℕ) : Type 0 where
     pub there : numbered number q.records ≡ Some one
     pub message : r.message ≡ Some (id_of q number)
+    pub sure : words.is_gone r.answer ≡ false
 
   -- it is received
   pub record Receives : Type 0 where

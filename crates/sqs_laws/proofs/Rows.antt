@@ -56,7 +56,7 @@ use Rattle.sqs_model.proofs.CallWalk.{IsNameless, TellsOfNone}
 use Rattle.sqs_model.proofs.Counts.{changed_twice, find_all, find_picked, without_changed}
 use Rattle.sqs_model.proofs.SiteAccounts.{IsFound}
 use Rattle.sqs_laws.specs.Words as words
-use Rattle.sqs_laws.proofs.Calls.{Told, back_told, one_back, own_changed, tells}
+use Rattle.sqs_laws.proofs.Calls.{Told, back_told, found_old, one_back, own_changed, pushed_found, pushed_out, tells}
 use Rattle.sqs_laws.proofs.Moves.{Chain, chain_keeps, Comes, Does, Ends, IsStocked, Keeps, Move, Names, Stays, Tells, Changes, changes, chain_append, comes, ends, one_move, stays}
 
 -- what a row of none tells
@@ -100,13 +100,6 @@ module _ (key : Key) where
   pub record IsChain (c : Core) (e : Effect) : Type 0 where
     pub chain : Chain key c.queue e.rows e.core.queue
     pub actors : e.core.actors ≡ c.actors
-
-  -- the number of a message that is there, or has gone, was given out
-  pub found_old : (q : Queue) (n : ℕ) (m : Message) → IsStocked q → numbered n q.records ≡ Some m → n < q.arrivals
-  found_old q n m s f =
-      let is : m.number ≡ n = eqb-true m.number n (find_picked (has_number n) q.records m f) in
-      let l : m.number < q.arrivals = find_all (has_number n) (λ x. x.number < q.arrivals) q.records m s.given_out f in
-      omega (arith, is, l)
 
   -- a row that names a message which came before, and changes nothing
   named_stays : (q : Queue) (r : Row) (n : ℕ) → r.message ≡ Some (id_of q n) → Tells r false false false false false → n < q.arrivals → (words.may_follow r ≡ false → IsFound (numbered n q.records)) → (words.is_gone r.answer ≡ true → numbered n q.records ≡ None) → Stays key q r q
@@ -201,7 +194,7 @@ module _ (key : Key) where
             (stays (named_stays c.queue _ r.number refl (tells _ false false false false false refl refl refl refl refl) (found_old c.queue r.number m s f) (λ h. subst IsFound (sym f) tt) (λ h. cc)));
         taken = λ m f.
             one_row c (with_queue c (taken_out c.queue r.number)) _ refl refl refl
-            (ends (record { one = m; number = r.number; tells = tells _ false false false false true refl refl refl refl refl; names = record { there = f; message = refl }; kind = refl; after = refl }));
+            (ends (record { one = m; number = r.number; tells = tells _ false false false false true refl refl refl refl refl; names = record { there = f; message = refl; sure = refl }; kind = refl; after = refl }));
       }) c.queue.settings.kind
 
   pub delete_chain : (a : Actor) (c : Core) (text : List ℕ) (o : Option Receipt) → IsStocked c.queue → IsChain c (delete_made key a c text o).effect
@@ -231,7 +224,7 @@ module _ (key : Key) where
       record {
         at_key = refl;
         at_site = refl;
-        does = changes (record { one = m; number = r.number; end = end; tells = tells _ false false true false false refl refl refl refl refl; names = record { there = f; message = refl }; flies = l; after = refl });
+        does = changes (record { one = m; number = r.number; end = end; tells = tells _ false false true false false refl refl refl refl refl; names = record { there = f; message = refl; sure = refl }; flies = l; after = refl });
       }
 
   kept_change : (a : Actor) (c : Core) (text : List ℕ) (timeout : ℕ) (r : Receipt) (m : Message) → numbered r.number c.queue.records ≡ Some m → is_in_flight m ≡ true → (timeout == 0) ≡ false → IsChanged a c text timeout r (Ok None, with_change c.queue r.number (in_flight_until (key.at + 1000 * timeout)))
@@ -275,7 +268,7 @@ module _ (key : Key) where
   expiry_chain c m f =
       subst (λ x. IsChain c (expiry_done key c (expired_found c.queue key.at key.number x))) (sym f)
       (one_row c (with_queue c (taken_out c.queue key.number)) _ refl refl refl
-      (ends (record { one = m; number = key.number; tells = tells _ false false false false true refl refl refl refl refl; names = record { there = f; message = refl }; kind = refl; after = refl })))
+      (ends (record { one = m; number = key.number; tells = tells _ false false false false true refl refl refl refl refl; names = record { there = f; message = refl; sure = refl }; kind = refl; after = refl })))
 
   pub release_chain : (c : Core) (m : Message) → IsStocked c.queue → numbered key.number c.queue.records ≡ Some m → IsChain c (release_done key c (released c.queue key.number))
   release_chain c m s f =
@@ -294,19 +287,6 @@ module _ (key : Key) where
   abbrev IsArrived : Core → Load → (Sent × Bool) × Queue → Type 0
   IsArrived c load x = IsChain c (arrival_done key load c x)
 
-  -- a message that comes too old leaves at once
-  pushed_out : (n : ℕ) (ms : List Message) (m : Message) → m.number ≡ n → All (λ x. x.number < n) ms → without (has_number n) (ms ++ m ∷ []) ≡ ms
-  pushed_out n [] m e h = let is : has_number n m ≡ true = grind (arith, nat_tests, e) in rw is refl
-  pushed_out n (x ∷ xs) m e h =
-      let other : has_number n x ≡ false = let l : x.number < n = All-head (λ y. y.number < n) x xs h in grind (arith, nat_tests) in
-      rw other (ap (λ t. x ∷ t) (pushed_out n xs m e (All-tail (λ y. y.number < n) x xs h)))
-
-  pushed_found : (n : ℕ) (ms : List Message) (m : Message) → m.number ≡ n → All (λ x. x.number < n) ms → numbered n (ms ++ m ∷ []) ≡ Some m
-  pushed_found n [] m e h = let is : has_number n m ≡ true = grind (arith, nat_tests, e) in rw is refl
-  pushed_found n (x ∷ xs) m e h =
-      let other : has_number n x ≡ false = let l : x.number < n = All-head (λ y. y.number < n) x xs h in grind (arith, nat_tests) in
-      rw other (pushed_found n xs m e (All-tail (λ y. y.number < n) x xs h))
-
   come_move : (c : Core) (r : Row) (m : Message) (entries : List Entry) → r.key ≡ key → r.queue ≡ c.queue.site → r.message ≡ Some (id_of c.queue c.queue.arrivals) → Tells r true false false false false → m.number ≡ c.queue.arrivals → m.receives ≡ 0 → is_in_flight m ≡ false → All (λ e. e.number < c.queue.arrivals + 1) entries → Move key c.queue r (with_message (record c.queue { entries = entries }) m)
   come_move c r m entries k s i t n f l o = record { at_key = k; at_site = s; does = comes (record { one = m; entries = entries; tells = t; message = i; number = n; fresh = f; rests = l; old = o; after = refl }) }
 
@@ -324,7 +304,7 @@ module _ (key : Key) where
               (record {
                 at_key = refl;
                 at_site = refl;
-                does = ends (record { one = m; number = q.arrivals; tells = tells _ false false false false true refl refl refl refl refl; names = record { there = pushed_found q.arrivals q.records m n s.given_out; message = refl }; kind = refl; after = gone });
+                does = ends (record { one = m; number = q.arrivals; tells = tells _ false false false false true refl refl refl refl refl; names = record { there = pushed_found q.arrivals q.records m n s.given_out; message = refl; sure = refl }; kind = refl; after = gone });
               }),
         );
         actors = refl;
@@ -385,7 +365,7 @@ module _ (key : Key) where
                       one = m;
                       number = m.number;
                       tells = tells _ false false false false true refl refl refl refl refl;
-                      names = record { there = All-head (λ y. numbered y.number q.records ≡ Some y) m ms s; message = refl };
+                      names = record { there = All-head (λ y. numbered y.number q.records ≡ Some y) m ms s; message = refl; sure = refl };
                       kind = refl;
                       after = refl;
                     });
