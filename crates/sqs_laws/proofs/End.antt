@@ -200,20 +200,20 @@ says_apart rows r q d own h =
       fresh = λ n o. still n ∙ h.fresh n o;
     }
 
-abbrev the_end : RowLaw
-the_end =
+abbrev the_end : (s : Scenario) → RowLaw s
+the_end s =
     record {
       Holds = Says;
       Meets = Meets;
       moves = λ rows key q r p m s h. does_end key rows q r p m.at_site s h m.does;
       apart = says_apart;
-      opens = λ n settings. record { came = refl; left = λ k o. absurd (omega (arith, o)); fresh = λ k o. refl };
+      opens = λ n settings e. record { came = refl; left = λ k o. absurd (omega (arith, o)); fresh = λ k o. refl };
     }
 
 -- the law
 pub ends_are_ends : (s : Scenario) (n : ℕ) → TheEnd (after s.horizon n (opening s)).rows
 ends_are_ends s n =
-    let each : EachRow (after s.horizon n (opening s)).rows Meets = every_row the_end s n in
+    let each : EachRow (after s.horizon n (opening s)).rows Meets = every_row s (the_end s) n in
     record {
       numbered = λ before r after e m i t. (each before r after e m i).numbered t;
       came = λ before r after e m i t. (each before r after e m i).came t;

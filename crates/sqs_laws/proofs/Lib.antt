@@ -7,3 +7,5 @@ pub mod Chains
 pub mod Worlds
 pub mod Said
 pub mod End
+pub mod Each
+pub mod Letters

@@ -37,7 +37,7 @@ names_id m i r e = ap (same_id (Some m)) e
 pub names_same : (m : MessageId) (r : Row) → r.message ≡ Some m → names m r ≡ true
 names_same m r e = names_id m m r e ∙ (rw (eq-eqb m.site m.site refl, eq-eqb m.number m.number refl) refl)
 
-and_false : (b : Bool) → (b && false) ≡ false
+pub and_false : (b : Bool) → (b && false) ≡ false
 and_false true = refl
 and_false false = refl
 

@@ -1,6 +1,6 @@
 -- A law that each single move keeps holds of all rows of a run.
 use Rattle.std.specs.List.{enumerate_from}
-use Rattle.std.specs.Prelude.{All, Bool, List, None, Option, Some, [], false, filter, get_or, if◌then◌else◌, map, suc, true, zero, ℕ, ◌+◌, ◌++◌, ◌<◌, ◌==◌, ◌∷◌, ◌≡◌, ◌≢◌, ◌≤◌}
+use Rattle.std.specs.Prelude.{All, Bool, List, None, Option, Some, [], false, filter, get_or, if◌then◌else◌, map, slice_get, suc, true, zero, ℕ, ◌+◌, ◌++◌, ◌<◌, ◌==◌, ◌∷◌, ◌≡◌, ◌≢◌, ◌≤◌}
 use Rattle.std.proofs.Common.{ap, arith, refl, subst, sym, ◌∙◌}
 use Rattle.std.proofs.lemmas.List.{append-nil, append_assoc}
 use Rattle.std.proofs.lemmas.List.Elements.{All-cons, All-filter, All-head, All-map, All-nil, All-tail, All-weaker}
@@ -33,12 +33,12 @@ NamesOwn r = (m : MessageId) → r.message ≡ Some m → m.site ≡ r.queue
 
 -- A law of rows. `Holds rows queue` is what holds of a queue after all rows of a run so far. A move at the queue keeps it and its
 -- row meets the law; rows of other queues leave it.
-pub record RowLaw : Type 1 where
+pub record RowLaw (s : Scenario) : Type 1 where
   pub Holds : List Row → Queue → Type 0
   pub Meets : List Row → Row → Type 0
   pub moves : (rows : List Row) (key : Key) (q : Queue) (r : Row) (p : Queue) → Move key q r p → IsStocked q → Holds rows q → Meets rows r × Holds (rows ++ r ∷ []) p
   pub apart : (rows : List Row) (r : Row) (q : Queue) → r.queue ≢ q.site → NamesOwn r → Holds rows q → Holds (rows ++ r ∷ []) q
-  pub opens : (n : ℕ) (settings : QueueSettings) → Holds [] (record { site = n; settings = settings; records = []; entries = []; arrivals = 0 })
+  pub opens : (n : ℕ) (settings : QueueSettings) → slice_get s.queues n ≡ Some settings → Holds [] (record { site = n; settings = settings; records = []; entries = []; arrivals = 0 })
 
 -- what holds of each of some rows, with all rows before it
 abbrev EachAfter : (List Row → Row → Type 0) → List Row → List Row → Type 0
@@ -63,7 +63,7 @@ each_row_from P done (x ∷ xs) (b ∷ bs) r after h e =
 each_row : (P : List Row → Row → Type 0) (rows : List Row) → EachAfter P [] rows → EachRow rows P
 each_row P rows h before r after e = each_row_from P [] rows before r after h e
 
-module _ (law : RowLaw) where
+module _ (scenario : Scenario) (law : RowLaw scenario) where
   open law use {Holds, Meets}
 
   -- the rows of a handling
@@ -196,22 +196,23 @@ module _ (law : RowLaw) where
   after_lawful horizon (suc n) start h = let r : Run = after horizon n start in stepped_lawful r (next_due horizon r.sites) (after_lawful horizon n start h)
 
   -- the opening
-  opening_order : (s : Scenario) (x : ℕ × QueueSettings) → IsInOrder (opening_site s x).core
-  opening_order s (n, settings) =
+  opening_order : (x : ℕ × QueueSettings) → IsInOrder (opening_site scenario x).core
+  opening_order (n, settings) =
       record {
         stocked = record { ordered = tt; given_out = All-nil (λ (m : Message). m.number < 0); entries = All-nil (λ (e : Entry). e.number < 0) };
         actors =
-            All-map (IsInformed n 0) (opening_actor s.seed) (filter (λ x. x.1.home == n) (numbered_actors s))
+            All-map (IsInformed n 0) (opening_actor scenario.seed) (filter (λ x. x.1.home == n) (numbered_actors scenario))
             (λ i e l. record { held = tt; done = tt; failed = tt });
       }
 
-  opens : (s : Scenario) (n : ℕ) (queues : List QueueSettings) → All (IsGood []) (map (opening_site s) (enumerate_from n queues)) × AreNumbered n (map (opening_site s) (enumerate_from n queues))
-  opens s n [] = (All-nil (IsGood []), tt)
-  opens s n (q ∷ qs) =
-      let rest = opens s (n + 1) qs in
-      (All-cons (IsGood []) _ _ (record { order = opening_order s (n, q); holds = law.opens n q }) rest.0, (refl, rest.1))
+  opens : (n : ℕ) (queues : List QueueSettings) → ((i : ℕ) (q : QueueSettings) → slice_get queues i ≡ Some q → slice_get scenario.queues (n + i) ≡ Some q) → All (IsGood []) (map (opening_site scenario) (enumerate_from n queues)) × AreNumbered n (map (opening_site scenario) (enumerate_from n queues))
+  opens n [] f = (All-nil (IsGood []), tt)
+  opens n (q ∷ qs) f =
+      let rest = opens (n + 1) qs (λ i x e. let same : n + 1 + i ≡ n + suc i = omega arith in subst (λ k. slice_get scenario.queues k ≡ Some x) (sym same) (f (suc i) x e)) in
+      let own : slice_get scenario.queues n ≡ Some q = let same : n + 0 ≡ n = omega arith in subst (λ k. slice_get scenario.queues k ≡ Some q) same (f 0 q refl) in
+      (All-cons (IsGood []) _ _ (record { order = opening_order (n, q); holds = law.opens n q own }) rest.0, (refl, rest.1))
 
-  pub every_row : (s : Scenario) (n : ℕ) → EachRow (after s.horizon n (opening s)).rows Meets
-  every_row s n =
-      let o = opens s 0 s.queues in
-      each_row Meets (after s.horizon n (opening s)).rows (after_lawful s.horizon n (opening s) (record { each = tt; good = o.0; numbers = o.1 })).each
+  pub every_row : (n : ℕ) → EachRow (after scenario.horizon n (opening scenario)).rows Meets
+  every_row n =
+      let o = opens 0 scenario.queues (λ i q e. let same : i ≡ 0 + i = omega arith in subst (λ k. slice_get scenario.queues k ≡ Some q) same e) in
+      each_row Meets (after scenario.horizon n (opening scenario)).rows (after_lawful scenario.horizon n (opening scenario) (record { each = tt; good = o.0; numbers = o.1 })).each

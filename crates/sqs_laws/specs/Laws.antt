@@ -4,9 +4,9 @@ use Rattle.sqs_message.specs.declared.row.Detail.TheVariants as details
 use Rattle.sqs_message.specs.declared.row.Row.{Row}
 use Rattle.sqs_redrive.specs.declared.settings.Policy.{Policy}
 use Rattle.sqs_redrive.specs.declared.settings.QueueSettings.{QueueSettings}
-use Rattle.sqs_model.specs.Progress.{IsSoundScenario}
 use Rattle.sqs_model.specs.Run.{after}
 use Rattle.sqs_model.specs.Scenario.{Scenario, opening}
+use Rattle.sqs_model.specs.Valid.{IsQueueSettings}
 use Rattle.sqs_laws.specs.Words.{EachNaming, comes, comings, has_left, is_gone, is_redrive, is_release, may_follow, received, times}
 
 -- The end is the end. The messages that come to a queue are numbered from 0 on, and no row names one before it comes. Once it
@@ -18,6 +18,22 @@ pub record TheEnd (rows : List Row) : Type 0 where
   pub after : EachNaming rows (λ before r m. IsTrue (has_left m before) → IsTrue (may_follow r))
   pub gone : EachNaming rows (λ before r m. IsTrue (is_gone r.answer) → IsTrue (has_left m before))
 
--- every log keeps the rules
+-- the policy of a row's queue
+abbrev pub HasPolicy : Scenario → Row → Policy → Type 0
+HasPolicy s r p = (q : QueueSettings) × (slice_get s.queues r.queue ≡ Some q) × (q.policy ≡ Some p)
+
+-- Dead letters. A message that comes back leaves for its queue's dead_letter if it was received exactly max_receives times since
+-- it came, and is released if fewer times. It is never received more often. Without dead_letter none leaves.
+pub record DeadLetters (s : Scenario) (rows : List Row) : Type 0 where
+  pub leaves : EachNaming rows (λ before r m. IsTrue (is_redrive r.kind)
+      → (p : Policy) × HasPolicy s r p × (times m before ≡ p.max_receives) × (r.detail ≡ details.Queue p.dead_letter))
+  pub stays : EachNaming rows (λ before r m. IsTrue (is_release r.kind || received r) → (p : Policy) → HasPolicy s r p → times m before < p.max_receives)
+
+-- a log that keeps the rules
+pub record KeepsTheRules (s : Scenario) (rows : List Row) : Type 0 where
+  pub the_end : TheEnd rows
+  pub dead_letters : DeadLetters s rows
+
+-- the log of every scenario whose queues are in their ranges keeps the rules, at every step of its one-list run
 abbrev pub LogKeepsTheRules : Type 0
-LogKeepsTheRules = (s : Scenario) → IsSoundScenario s → (n : ℕ) → TheEnd (after s.horizon n (opening s)).rows
+LogKeepsTheRules = (s : Scenario) → All IsQueueSettings s.queues → (n : ℕ) → KeepsTheRules s (after s.horizon n (opening s)).rows
