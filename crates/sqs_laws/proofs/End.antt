@@ -11,8 +11,8 @@ use Rattle.sqs_model.specs.Calls.{in_flight_until, with_message}
 use Rattle.sqs_model.specs.Queue.{Entry, Queue, has_number, id_of, numbered, taken_out, with_change}
 use Rattle.sqs_model.specs.Receive.{received}
 use Rattle.sqs_model.specs.Return.{visible_again}
-use Rattle.sqs_model.specs.Run.{after}
-use Rattle.sqs_model.specs.Scenario.{Scenario, opening}
+use Rattle.sqs_model.specs.Run.{IsRunOf, Run}
+use Rattle.sqs_model.specs.Scenario.{Scenario}
 use Rattle.sqs_model.proofs.Ledger.{bit}
 use Rattle.sqs_model.proofs.Numbered.{other_without}
 use Rattle.sqs_model.proofs.SiteAccounts.{IsFound}
@@ -205,15 +205,15 @@ the_end s =
     record {
       Holds = Says;
       Meets = Meets;
-      moves = λ rows key q r p m s h. does_end key rows q r p m.at_site s h m.does;
+      moves = λ rows key q r p by m s h. does_end key rows q r p m.at_site s h m.does;
       apart = says_apart;
       opens = λ n settings e. record { came = refl; left = λ k o. absurd (omega (arith, o)); fresh = λ k o. refl };
     }
 
 -- the law
-pub ends_are_ends : (s : Scenario) (n : ℕ) → TheEnd (after s.horizon n (opening s)).rows
-ends_are_ends s n =
-    let each : EachRow (after s.horizon n (opening s)).rows Meets = every_row s (the_end s) n in
+pub ends_are_ends : (s : Scenario) (x : Run) → IsRunOf s x → TheEnd x.rows
+ends_are_ends s x is =
+    let each : EachRow x.rows Meets = every_row s (the_end s) x is in
     record {
       numbered = λ before r after e m i t. (each before r after e m i).numbered t;
       came = λ before r after e m i t. (each before r after e m i).came t;

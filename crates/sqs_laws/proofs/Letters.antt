@@ -17,8 +17,8 @@ use Rattle.sqs_model.specs.Calls.{in_flight_until}
 use Rattle.sqs_model.specs.Queue.{Queue, has_number, id_of, is_in_flight, is_visible, numbered, taken_out, with_change}
 use Rattle.sqs_model.specs.Receive.{received}
 use Rattle.sqs_model.specs.Return.{leaves, visible_again}
-use Rattle.sqs_model.specs.Run.{after}
-use Rattle.sqs_model.specs.Scenario.{Scenario, opening}
+use Rattle.sqs_model.specs.Run.{IsRunOf, Run}
+use Rattle.sqs_model.specs.Scenario.{Scenario}
 use Rattle.sqs_model.specs.Valid.{IsPolicy, IsQueueSettings, MayBePolicy}
 use Rattle.sqs_model.proofs.Ledger.{bit}
 use Rattle.sqs_model.proofs.Numbered.{other_without}
@@ -237,16 +237,16 @@ module _ (s : Scenario) where
       record {
         Holds = Says;
         Meets = Meets;
-        moves = λ rows key q r p m k h. does_letters key rows q r p m.at_site k h m.does;
+        moves = λ rows key q r p by m k h. does_letters key rows q r p m.at_site k h m.does;
         apart = says_apart;
         opens = λ n settings e. opens n settings v e;
       }
 
   -- the law
-  pub letters_are_dead : All IsQueueSettings s.queues → (n : ℕ) → DeadLetters s (after s.horizon n (opening s)).rows
-  letters_are_dead v n =
-      let each : EachRow (after s.horizon n (opening s)).rows Meets = every_row s (letters v) n in
+  pub letters_are_dead : All IsQueueSettings s.queues → (x : Run) → IsRunOf s x → DeadLetters s x.rows
+  letters_are_dead v x is =
+      let each : EachRow x.rows Meets = every_row s (letters v) x is in
       record {
         leaves = λ before r after e m i t. (each before r after e m i).leaves t;
-        stays = λ before r after e m i t x w. (each before r after e m i).stays t x w;
+        stays = λ before r after e m i t y w. (each before r after e m i).stays t y w;
       }

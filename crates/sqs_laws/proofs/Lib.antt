@@ -9,3 +9,4 @@ pub mod Said
 pub mod End
 pub mod Each
 pub mod Letters
+pub mod Order

@@ -1,7 +1,8 @@
 -- A law that each single move keeps holds of all rows of a run.
 use Rattle.std.specs.List.{enumerate_from}
-use Rattle.std.specs.Prelude.{All, Bool, List, None, Option, Some, [], false, filter, get_or, if◌then◌else◌, map, slice_get, suc, true, zero, ℕ, ◌+◌, ◌++◌, ◌<◌, ◌==◌, ◌∷◌, ◌≡◌, ◌≢◌, ◌≤◌}
+use Rattle.std.specs.Prelude.{All, Bool, List, None, Option, Some, [], false, filter, get_or, if◌then◌else◌, map, nat_le, slice_get, suc, true, zero, ℕ, ◌+◌, ◌++◌, ◌<◌, ◌==◌, ◌∷◌, ◌≡◌, ◌≢◌, ◌≤◌}
 use Rattle.std.proofs.Common.{ap, arith, refl, subst, sym, ◌∙◌}
+use Rattle.std.proofs.lemmas.Bool.{leb-true}
 use Rattle.std.proofs.lemmas.List.{append-nil, append_assoc}
 use Rattle.std.proofs.lemmas.List.Elements.{All-cons, All-filter, All-head, All-map, All-nil, All-tail, All-weaker}
 use Rattle.sim_clock.specs.declared.key.Key.{Key}
@@ -14,11 +15,11 @@ use Rattle.sqs_model.specs.declared.agents.ActorSettings.{ActorSettings}
 use Rattle.sqs_model.specs.Actor.{Actor}
 use Rattle.sqs_model.specs.Dues.{dues, least_due}
 use Rattle.sqs_model.specs.Queue.{Entry, Queue}
-use Rattle.sqs_model.specs.Run.{Run, after}
+use Rattle.sqs_model.specs.Run.{IsRunOf, Run, after}
 use Rattle.sqs_model.specs.Scenario.{Scenario, numbered_actors, opening, opening_actor, opening_site}
 use Rattle.sqs_model.specs.Site.{Core, Site, accepted, number_of}
 use Rattle.sqs_model.specs.Step.{Handled, handled, is_arrival}
-use Rattle.sqs_model.specs.World.{Stepped, delivered, delivered_one, handled_among, handled_here, handled_there, is_due, next_due, run_on, stepped_at}
+use Rattle.sqs_model.specs.World.{Stepped, due_by, world_due, delivered, delivered_one, handled_among, handled_here, handled_there, is_due, next_due, run_on, stepped_at}
 use Rattle.sqs_model.proofs.Branches.{either}
 use Rattle.sqs_model.proofs.WorldAccounts.{due_fits}
 use Rattle.sqs_model.proofs.WorldMoves.{is_due_least, least_in}
@@ -36,7 +37,7 @@ NamesOwn r = (m : MessageId) → r.message ≡ Some m → m.site ≡ r.queue
 pub record RowLaw (s : Scenario) : Type 1 where
   pub Holds : List Row → Queue → Type 0
   pub Meets : List Row → Row → Type 0
-  pub moves : (rows : List Row) (key : Key) (q : Queue) (r : Row) (p : Queue) → Move key q r p → IsStocked q → Holds rows q → Meets rows r × Holds (rows ++ r ∷ []) p
+  pub moves : (rows : List Row) (key : Key) (q : Queue) (r : Row) (p : Queue) → key.at ≤ s.horizon → Move key q r p → IsStocked q → Holds rows q → Meets rows r × Holds (rows ++ r ∷ []) p
   pub apart : (rows : List Row) (r : Row) (q : Queue) → r.queue ≢ q.site → NamesOwn r → Holds rows q → Holds (rows ++ r ∷ []) q
   pub opens : (n : ℕ) (settings : QueueSettings) → slice_get s.queues n ≡ Some settings → Holds [] (record { site = n; settings = settings; records = []; entries = []; arrivals = 0 })
 
@@ -72,17 +73,17 @@ module _ (scenario : Scenario) (law : RowLaw scenario) where
     pub here : Holds (rows ++ rs) p
     pub apart : (t : Queue) → t.site ≢ q.site → Holds rows t → Holds (rows ++ rs) t
 
-  chain_passes : (key : Key) (rs rows : List Row) (q p : Queue) → Chain key q rs p → IsStocked q → Holds rows q → Passes rows rs q p
-  chain_passes key [] rows q p c s h =
+  chain_passes : (key : Key) → key.at ≤ scenario.horizon → (rs rows : List Row) (q p : Queue) → Chain key q rs p → IsStocked q → Holds rows q → Passes rows rs q p
+  chain_passes key by [] rows q p c s h =
       record {
         each = tt;
         here = subst (λ r. Holds r p) (sym (append-nil rows)) (subst (Holds rows) c h);
         apart = λ t d k. subst (λ r. Holds r t) (sym (append-nil rows)) k;
       }
-  chain_passes key (r ∷ rs) rows q p (x, m, c) s h =
-      let one : Meets rows r × Holds (rows ++ r ∷ []) x = law.moves rows key q r x m s h in
+  chain_passes key by (r ∷ rs) rows q p (x, m, c) s h =
+      let one : Meets rows r × Holds (rows ++ r ∷ []) x = law.moves rows key q r x by m s h in
       let keeps : Keeps q x = does_keep key q r x m.does s in
-      let rest : Passes (rows ++ r ∷ []) rs x p = chain_passes key rs (rows ++ r ∷ []) x p c keeps.stocked one.1 in
+      let rest : Passes (rows ++ r ∷ []) rs x p = chain_passes key by rs (rows ++ r ∷ []) x p c keeps.stocked one.1 in
       let own : NamesOwn r = moves_own key q r x m in
       let same : (rows ++ r ∷ []) ++ rs ≡ rows ++ (r ∷ rs) = append_assoc rows (r ∷ []) rs in
       record {
@@ -114,12 +115,12 @@ module _ (scenario : Scenario) (law : RowLaw scenario) where
     pub numbers : AreNumbered n t.sites
     pub before : (q : Queue) → q.site < n → Holds rows q → Holds (rows ++ t.rows) q
 
-  here_steps : (key : Key) (rows : List Row) (n : ℕ) (s : Site) (ss : List Site) → All (IsGood rows) (s ∷ ss) → AreNumbered n (s ∷ ss) → least_due s ≡ Some key → Steps rows n (handled_here (handled key s) ss)
-  here_steps key rows n s ss g a d =
+  here_steps : (key : Key) → key.at ≤ scenario.horizon → (rows : List Row) (n : ℕ) (s : Site) (ss : List Site) → All (IsGood rows) (s ∷ ss) → AreNumbered n (s ∷ ss) → least_due s ≡ Some key → Steps rows n (handled_here (handled key s) ss)
+  here_steps key by rows n s ss g a d =
       let one : IsGood rows s = All-head (IsGood rows) s ss g in
       let h : Handled = handled key s in
       let moved : IsMoved key s.core h.rows h.site.core = handled_moves key s one.order (λ _. due_fits s key (least_in (dues s) key d)) in
-      let p : Passes rows h.rows s.core.queue h.site.core.queue = chain_passes key h.rows rows s.core.queue h.site.core.queue moved.chain one.order.stocked one.holds in
+      let p : Passes rows h.rows s.core.queue h.site.core.queue = chain_passes key by h.rows rows s.core.queue h.site.core.queue moved.chain one.order.stocked one.holds in
       let site : number_of s.core ≡ number_of h.site.core = (chain_keeps key h.rows s.core.queue h.site.core.queue moved.chain one.order.stocked).site in
       let others : All (λ x. n + 1 ≤ number_of x.core) ss = above (n + 1) ss a.1 in
       let rest : All (IsGood rows) ss = All-tail (IsGood rows) s ss g in
@@ -145,19 +146,19 @@ module _ (scenario : Scenario) (law : RowLaw scenario) where
         before = λ q l k. h.before q (omega (arith, l)) k;
       }
 
-  among_steps : (key : Key) (sites : List Site) (rows : List Row) (n : ℕ) → All (IsGood rows) sites → AreNumbered n sites → Steps rows n (handled_among key sites)
-  among_steps key [] rows n g a =
+  among_steps : (key : Key) → key.at ≤ scenario.horizon → (sites : List Site) (rows : List Row) (n : ℕ) → All (IsGood rows) sites → AreNumbered n sites → Steps rows n (handled_among key sites)
+  among_steps key by [] rows n g a =
       record {
         each = tt;
         good = All-nil (IsGood (rows ++ []));
         numbers = tt;
         before = λ q l k. subst (λ r. Holds r q) (sym (append-nil rows)) k;
       }
-  among_steps key (s ∷ ss) rows n g a =
+  among_steps key by (s ∷ ss) rows n g a =
       elim (is_due key (least_due s)) as
       (λ b. is_due key (least_due s) ≡ b → Steps rows n (if b then handled_here (handled key s) ss else handled_there s (handled_among key ss))) [
-        | true ↦ λ i. here_steps key rows n s ss g a (is_due_least key (least_due s) i)
-        | false ↦ λ i. there_steps rows n s ss (handled_among key ss) g a (among_steps key ss rows (n + 1) (All-tail (IsGood rows) s ss g) a.1)
+        | true ↦ λ i. here_steps key by rows n s ss g a (is_due_least key (least_due s) i)
+        | false ↦ λ i. there_steps rows n s ss (handled_among key ss) g a (among_steps key by ss rows (n + 1) (All-tail (IsGood rows) s ss g) a.1)
       ] refl
 
   -- delivery
@@ -183,17 +184,27 @@ module _ (scenario : Scenario) (law : RowLaw scenario) where
     pub good : All (IsGood r.rows) r.sites
     pub numbers : AreNumbered 0 r.sites
 
-  stepped_lawful : (r : Run) (due : Option Key) → IsLawful r → IsLawful (stepped_at r due)
-  stepped_lawful r None h = h
-  stepped_lawful r (Some key) h =
+  -- what is due next is due by the horizon
+  due_within : (o : Option Key) (key : Key) → due_by scenario.horizon o ≡ Some key → key.at ≤ scenario.horizon
+  due_within None key e = cc
+  due_within (Some k) key e =
+      elim (nat_le k.at scenario.horizon) as (λ b. nat_le k.at scenario.horizon ≡ b → (if b then Some k else None) ≡ Some key → key.at ≤ scenario.horizon) [
+        | true ↦ λ t f. let is : k ≡ key = cc in subst (λ (x : Key). x.at ≤ scenario.horizon) is (leb-true k.at scenario.horizon t)
+        | false ↦ λ t f. cc
+      ] refl e
+
+  stepped_lawful : (r : Run) (due : Option Key) → ((key : Key) → due ≡ Some key → key.at ≤ scenario.horizon) → IsLawful r → IsLawful (stepped_at r due)
+  stepped_lawful r None w h = h
+  stepped_lawful r (Some key) w h =
       let t : Stepped = handled_among key r.sites in
-      let s : Steps r.rows 0 t = among_steps key r.sites r.rows 0 h.good h.numbers in
+      let s : Steps r.rows 0 t = among_steps key (w key refl) r.sites r.rows 0 h.good h.numbers in
       let d = delivers (r.rows ++ t.rows) t.sent t.sites s.good s.numbers in
       record { each = each_append Meets [] r.rows t.rows h.each s.each; good = d.0; numbers = d.1 }
 
-  after_lawful : (horizon n : ℕ) (start : List Site) → IsLawful (record { sites = start; rows = [] }) → IsLawful (after horizon n start)
-  after_lawful horizon zero start h = h
-  after_lawful horizon (suc n) start h = let r : Run = after horizon n start in stepped_lawful r (next_due horizon r.sites) (after_lawful horizon n start h)
+  after_lawful : (n : ℕ) (start : List Site) → IsLawful (record { sites = start; rows = [] }) → IsLawful (after scenario.horizon n start)
+  after_lawful zero start h = h
+  after_lawful (suc n) start h =
+      let r : Run = after scenario.horizon n start in stepped_lawful r (next_due scenario.horizon r.sites) (due_within (world_due r.sites)) (after_lawful n start h)
 
   -- the opening
   opening_order : (x : ℕ × QueueSettings) → IsInOrder (opening_site scenario x).core
@@ -212,7 +223,10 @@ module _ (scenario : Scenario) (law : RowLaw scenario) where
       let own : slice_get scenario.queues n ≡ Some q = let same : n + 0 ≡ n = omega arith in subst (λ k. slice_get scenario.queues k ≡ Some q) same (f 0 q refl) in
       (All-cons (IsGood []) _ _ (record { order = opening_order (n, q); holds = law.opens n q own }) rest.0, (refl, rest.1))
 
-  pub every_row : (n : ℕ) → EachRow (after scenario.horizon n (opening scenario)).rows Meets
-  every_row n =
+  every_row_after : (n : ℕ) → EachRow (after scenario.horizon n (opening scenario)).rows Meets
+  every_row_after n =
       let o = opens 0 scenario.queues (λ i q e. let same : i ≡ 0 + i = omega arith in subst (λ k. slice_get scenario.queues k ≡ Some q) same e) in
-      each_row Meets (after scenario.horizon n (opening scenario)).rows (after_lawful scenario.horizon n (opening scenario) (record { each = tt; good = o.0; numbers = o.1 })).each
+      each_row Meets (after scenario.horizon n (opening scenario)).rows (after_lawful n (opening scenario) (record { each = tt; good = o.0; numbers = o.1 })).each
+
+  pub every_row : (r : Run) → IsRunOf scenario r → EachRow r.rows Meets
+  every_row r is = subst (λ (x : Run). EachRow x.rows Meets) is.reached (every_row_after is.steps)

@@ -1,13 +1,14 @@
 -- The rules of SQS as laws of the log: of its rows, in order, and of the settings of its scenario, and of nothing else.
-use Rattle.std.specs.Prelude.{All, IsTrue, List, Some, false, slice_get, ℕ, ◌<◌, ◌≡◌, ◌||◌}
+use Rattle.std.specs.Prelude.{All, IsTrue, List, Some, false, slice_get, ℕ, ◌<◌, ◌≡◌, ◌≤◌, ◌||◌}
 use Rattle.sqs_message.specs.declared.row.Detail.TheVariants as details
 use Rattle.sqs_message.specs.declared.row.Row.{Row}
 use Rattle.sqs_redrive.specs.declared.settings.Policy.{Policy}
 use Rattle.sqs_redrive.specs.declared.settings.QueueSettings.{QueueSettings}
-use Rattle.sqs_model.specs.Run.{after}
-use Rattle.sqs_model.specs.Scenario.{Scenario, opening}
+use Rattle.sqs_model.specs.Progress.{IsSoundScenario}
+use Rattle.sqs_model.specs.Run.{IsRunOf, Run}
+use Rattle.sqs_model.specs.Scenario.{Scenario}
 use Rattle.sqs_model.specs.Valid.{IsQueueSettings}
-use Rattle.sqs_laws.specs.Words.{EachNaming, comes, comings, has_left, is_gone, is_redrive, is_release, may_follow, received, times}
+use Rattle.sqs_laws.specs.Words.{EachNaming, EachRow, comes, comings, has_left, is_gone, is_redrive, is_release, may_follow, received, times}
 
 -- The end is the end. The messages that come to a queue are numbered from 0 on, and no row names one before it comes. Once it
 -- was deleted, has expired, or left for another queue, only answers gone and repeat and a consumer's fail and forward name it
@@ -29,11 +30,17 @@ pub record DeadLetters (s : Scenario) (rows : List Row) : Type 0 where
       → (p : Policy) × HasPolicy s r p × (times m before ≡ p.max_receives) × (r.detail ≡ details.Queue p.dead_letter))
   pub stays : EachNaming rows (λ before r m. IsTrue (is_release r.kind || received r) → (p : Policy) → HasPolicy s r p → times m before < p.max_receives)
 
+-- Time. Rows are in the order of time, none after the horizon.
+pub record InTime (s : Scenario) (rows : List Row) : Type 0 where
+  pub order : EachRow rows (λ before r. All (λ x. x.key.at ≤ r.key.at) before)
+  pub horizon : EachRow rows (λ before r. r.key.at ≤ s.horizon)
+
 -- a log that keeps the rules
 pub record KeepsTheRules (s : Scenario) (rows : List Row) : Type 0 where
   pub the_end : TheEnd rows
   pub dead_letters : DeadLetters s rows
+  pub in_time : InTime s rows
 
--- the log of every scenario whose queues are in their ranges keeps the rules, at every step of its one-list run
+-- the log of every sound scenario whose queues are in their ranges keeps the rules
 abbrev pub LogKeepsTheRules : Type 0
-LogKeepsTheRules = (s : Scenario) → All IsQueueSettings s.queues → (n : ℕ) → KeepsTheRules s (after s.horizon n (opening s)).rows
+LogKeepsTheRules = (s : Scenario) → IsSoundScenario s → All IsQueueSettings s.queues → (r : Run) → IsRunOf s r → KeepsTheRules s r.rows
