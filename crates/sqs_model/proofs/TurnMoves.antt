@@ -1,15 +1,14 @@
 -- An actor's turn, act after act, and the answers to waiting polls make nothing due by the present, and send only what arrives later.
 use Rattle.sim_clock.specs.declared.key.Key.{Key}
-use Rattle.sim_clock.specs.declared.refusal.Refusal.{Refusal}
 use Rattle.sqs_model.proofs.ActorMoves.{Acts, IsWakeWhere, next_acts, IsLater}
-use Rattle.sqs_model.proofs.CoreLaws.{leaves_same}
+use Rattle.sqs_model.proofs.CoreLaws.{changed_same, given_same}
 use Rattle.sqs_model.proofs.Counts.{find_all, find_changed, find_picked, total_drop, total, total_push}
 use Rattle.sqs_model.proofs.EachDue.{step_key, wake_key}
 use Rattle.sqs_model.proofs.Weights.{Weight, poll_weight, task_weight}
 use Rattle.sqs_model.proofs.Effects.{KeepsCore, KeepsEffect, actor_keeps, after_core, came_back_keeps, polls_keep, queue_keeps, sound_drawn, task_keeps, with_rows, same_core}
 use Rattle.sqs_model.proofs.QueueMoves.{Keeps, change_keeps, delete_keeps, send_fifo_keeps, send_standard_keeps, give_keeps}
 use Rattle.sqs_model.proofs.Sending.{Sends}
-use Rattle.sqs_model.proofs.Walk.{Changes, Gives, TurnLaw, lefts, most_goes, next_goes, polls_go}
+use Rattle.sqs_model.proofs.Walk.{TurnLaw, most_goes, next_goes, polls_go}
 use Rattle.sqs_model.specs.Actor.{Actor, next}
 use Rattle.sqs_model.specs.Acts.{came_back, sends, with_poll}
 use Rattle.sqs_model.specs.Calls.{change, delete}
@@ -25,16 +24,14 @@ use Rattle.sqs_model.specs.declared.acts.Answer.{Answer}
 use Rattle.sqs_model.specs.declared.agents.Role.{Role}
 use Rattle.sqs_model.specs.declared.agents.Role.TheVariants.{Consumer, Producer, Script}
 use Rattle.sqs_redrive.specs.MoveTasks.{task_started}
-use Rattle.sqs_redrive.specs.declared.answers.Got.{Got}
 use Rattle.sqs_redrive.specs.declared.settings.Kind.{Kind}
 use Rattle.sqs_redrive.specs.declared.settings.Kind.TheVariants.{Fifo, Standard}
 use Rattle.sqs_redrive.specs.declared.settings.TaskStatus.TheVariants.{Cancelled}
-use Rattle.sqs_redrive.specs.declared.transfers.Load.{Load}
 use Rattle.sqs_redrive.specs.declared.transfers.Outbound.{Outbound}
 use Rattle.std.proofs.Common.{arith, inl, inr, refl, subst, sym}
 use Rattle.std.proofs.lemmas.Bool.{eq-eqb, eqb-true, eqb-false}
 use Rattle.std.proofs.lemmas.List.Elements.{All-append, All-cons, All-nil}
-use Rattle.std.specs.Prelude.{find, Err, List, Ok, Option, Result, Some, [], false, ℕ, ◌*◌, ◌+◌, ◌++◌, ◌<◌, ◌==◌, ◌∷◌, ◌≡◌, drop}
+use Rattle.std.specs.Prelude.{find, List, Option, Some, [], false, ℕ, ◌*◌, ◌+◌, ◌++◌, ◌<◌, ◌==◌, ◌∷◌, ◌≡◌, drop}
 use Rattle.sqs_model.specs.declared.acts.Answer.TheVariants as told_by
 use Rattle.sqs_model.specs.Dues.{poll_key}
 
@@ -119,13 +116,6 @@ module _ (key : Key) (w : Weight key.at) where
     pub then_queue : (c : Core) (q : Queue) → KeepsCore w gone from c → Keeps w 0 c.queue q → KeepsCore w gone from (with_queue c q)
     then_queue c q h k = then_core c (with_queue c q) h (queue_keeps w 0 c q h.sound k)
 
-    pub changed_at : (c : Core) (timeout : ℕ) (x : Result (Option Load) Refusal × Queue) → KeepsCore w gone from (with_queue c x.1) → Changes (λ _ d. KeepsCore w gone from d) c timeout x
-    changed_at c timeout (Err f, q) h = tt
-    changed_at c timeout (Ok left, q) h = leaves_same (KeepsCore w gone from) (with_queue c q) (timeout == 0) (left ∷ []) h
-
-    pub given_at : (c : Core) (timeout : Option ℕ) (x : Queue × List Got) → KeepsCore w gone from (with_queue c x.0) → Gives (λ _ d. KeepsCore w gone from d) c timeout x
-    given_at c timeout (q, gots) h = leaves_same (KeepsCore w gone from) (with_queue c q) (timeout_of q timeout == 0) (lefts gots) h
-
     -- the law of turns
     abbrev pub moves : TurnLaw key
     moves =
@@ -139,8 +129,8 @@ module _ (key : Key) (w : Weight key.at) where
           quiet = λ _ ls ms c d rows h r k. with_rows key w gone from d rows k;
           stays = λ _ ls c h. h;
           leaves = λ _ ls c n load h. after_core key w gone from c (came_back key c n (Some load)) h (came_back_keeps key w c n (Some load) h.sound);
-          gives = λ _ c max timeout set h. given_at c timeout (give_most c.queue key.at max timeout set) (then_queue c _ h (give_keeps key.at w (timeout_of c.queue timeout) (to_give c.queue max set) c.queue h.sound.queue));
-          changes = λ _ c r timeout h. changed_at c timeout (change c.queue key.at r timeout) (then_queue c _ h (change_keeps key.at w c.queue r timeout h.sound.queue));
+          gives = λ _ c max timeout set h. given_same (KeepsCore w gone from) c timeout (give_most c.queue key.at max timeout set) (then_queue c _ h (give_keeps key.at w (timeout_of c.queue timeout) (to_give c.queue max set) c.queue h.sound.queue));
+          changes = λ _ c r timeout h. changed_same (KeepsCore w gone from) c timeout (change c.queue key.at r timeout) (then_queue c _ h (change_keeps key.at w c.queue r timeout h.sound.queue));
           deletes = λ _ a c text r h. with_rows key w gone from (with_queue c (delete c.queue key.at r).1) _ (then_queue c _ h (delete_keeps key.at w c.queue c.queue.settings.kind r h.sound.queue));
           sends = λ _ a c body delay group id h.
               let q : Queue = (sends c.queue.settings.kind c.queue key.at body delay group id).1 in
