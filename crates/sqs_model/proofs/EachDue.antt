@@ -1,6 +1,6 @@
 -- What holds of each key that is due at a site, by what the key is of.
-use Rattle.std.specs.Prelude.{List, None, Option, Some, [], false, flat_map, if◌then◌else◌, map, true, ℕ, ◌*◌, ◌+◌, ◌++◌, ◌==◌, ◌∷◌, ◌≡◌}
-use Rattle.std.proofs.Common.{inl, inr, refl, subst, sym}
+use Rattle.std.specs.Prelude.{List, None, Option, Some, [], false, flat_map, map, true, ℕ, ◌*◌, ◌+◌, ◌++◌, ◌==◌, ◌∷◌, ◌≡◌}
+use Rattle.std.proofs.Common.{inl, inr, refl, subst}
 use Rattle.sim_clock.specs.declared.key.Class.TheVariants.{Release, Sample, Step, Wake}
 use Rattle.sim_clock.specs.declared.key.Key.{Key}
 use Rattle.sqs_message.specs.declared.message.Message.{Message}
@@ -12,7 +12,7 @@ use Rattle.sqs_model.specs.Dues.{actor_dues, core_dues, dues, expiry_key, messag
 use Rattle.sqs_model.specs.Site.{Core, Poll, Site, number_of}
 use Rattle.sqs_model.specs.Task.{Task}
 use Rattle.sqs_model.proofs.Branches.{either_by}
-use Rattle.sqs_model.proofs.Members.{In, in_append, in_flat, in_left, in_map, in_right, into_flat, into_map}
+use Rattle.sqs_model.proofs.Members.{In, in_append, in_flat, in_map}
 
 -- keys by what they are of
 abbrev pub release_key : ℕ → ℕ → Message → Key
@@ -62,36 +62,20 @@ module _ (P : Key → Type 0) (key : Key) where
   unfolding core_dues
   of_core c h =
       let Of : List Key → Type 0 = λ ks. In ks key → P key in
-      let messages : Of (queue_dues c.queue) = λ k. let f = in_flat (message_dues c.queue.site c.queue.settings.retention) c.queue.records key k in message_due c f.one h f.within f.gives in
+      let messages : Of (queue_dues c.queue) =
+      λ k. let f = in_flat (message_dues c.queue.site c.queue.settings.retention) c.queue.records key k in message_due c f.one h f.within f.gives in
       let polls : Of (map poll_key c.polls) = λ k. let f = in_map poll_key c.polls key k in subst P f.gives (h.poll f.one f.within) in
       let wakes : Of (flat_map actor_dues c.actors) = λ k. let f = in_flat actor_dues c.actors key k in wake_due_by c f.one f.one.wake h f.within refl f.gives in
-      let sample : Of (sample_dues c) = either_by Of (c.sample == 0) [] (sample_key (number_of c) c.sample c.samples ∷ []) (λ e k. absurd k) (λ e. alone (sample_key (number_of c) c.sample c.samples) (h.sample e)) in
-      let step : (t : Task) → In c.tasks t → Of (task_dues t) = λ t i. either_by Of (is_running t.move.status) (step_key t ∷ []) [] (λ e. alone (step_key t) (h.step t i e)) (λ e k. absurd k) in
+      let next : Key = sample_key (number_of c) c.sample c.samples in
+      let sample : Of (sample_dues c) = either_by Of (c.sample == 0) [] (next ∷ []) (λ e k. absurd k) (λ e. alone next (h.sample e)) in
+      let step : (t : Task) → In c.tasks t → Of (task_dues t) =
+      λ t i. either_by Of (is_running t.move.status) (step_key t ∷ []) [] (λ e. alone (step_key t) (h.step t i e)) (λ e k. absurd k) in
       let steps : Of (flat_map task_dues c.tasks) = λ k. let f = in_flat task_dues c.tasks key k in step f.one f.within f.gives in
-      of_either _ (flat_map task_dues c.tasks) (of_either _ (sample_dues c) (of_either _ (flat_map actor_dues c.actors) (of_either _ (map poll_key c.polls) messages polls) wakes) sample) steps
+      of_either _ (flat_map task_dues c.tasks)
+      (of_either _ (sample_dues c) (of_either _ (flat_map actor_dues c.actors) (of_either _ (map poll_key c.polls) messages polls) wakes) sample) steps
 
   pub of_site : (s : Site) → ((o : Outbound) → In s.arriving o → P (transfer_key o)) → EachDue P s.core → In (dues s) key → P key
   unfolding dues
   of_site s f h =
-      of_either (map transfer_key s.arriving) (core_dues s.core) (λ k. let t = in_map transfer_key s.arriving key k in subst P t.gives (f t.one t.within)) (of_core s.core h)
-
--- and the other way round
-pub each_due : (P : Key → Type 0) (c : Core) → ((key : Key) → In (core_dues c) key → P key) → EachDue P c
-unfolding core_dues
-each_due P c f =
-    let messages : (m : Message) (k : Key) → In c.queue.records m → In (message_dues c.queue.site c.queue.settings.retention m) k → P k =
-    λ m k i j. f k (in_left _ (flat_map task_dues c.tasks) k (in_left _ (sample_dues c) k (in_left _ (flat_map actor_dues c.actors) k (in_left _ (map poll_key c.polls) k (into_flat (message_dues c.queue.site c.queue.settings.retention) c.queue.records m k i j))))) in
-    record {
-      expiry = λ m i. messages m _ i (inl refl);
-      release = λ m at i e. messages m _ i (inr (subst (λ o. In (release_due c.queue.site m o) (release_key c.queue.site at m)) (sym e) (inl refl)));
-      poll = λ p i. f _ (in_left _ (flat_map task_dues c.tasks) _ (in_left _ (sample_dues c) _ (in_left _ (flat_map actor_dues c.actors) _ (in_right (queue_dues c.queue) _ _ (into_map poll_key c.polls p i)))));
-      wake = λ a at i e.
-          f _ (in_left _ (flat_map task_dues c.tasks) _ (in_left _ (sample_dues c) _ (in_right (queue_dues c.queue ++ map poll_key c.polls) _ _
-          (into_flat actor_dues c.actors a _ i (subst (λ o. In (wake_due a o) (wake_key at a)) (sym e) (inl refl))))));
-      sample = λ e.
-          f _ (in_left _ (flat_map task_dues c.tasks) _ (in_right (queue_dues c.queue ++ map poll_key c.polls ++ flat_map actor_dues c.actors) _ _
-          (subst (λ b. In (if b then [] else sample_key (number_of c) c.sample c.samples ∷ []) (sample_key (number_of c) c.sample c.samples)) (sym e) (inl refl))));
-      step = λ t i e.
-          f _ (in_right (queue_dues c.queue ++ map poll_key c.polls ++ flat_map actor_dues c.actors ++ sample_dues c) _ _
-          (into_flat task_dues c.tasks t _ i (subst (λ b. In (if b then step_key t ∷ [] else []) (step_key t)) (sym e) (inl refl))));
-    }
+      of_either (map transfer_key s.arriving) (core_dues s.core)
+      (λ k. let t = in_map transfer_key s.arriving key k in subst P t.gives (f t.one t.within)) (of_core s.core h)

@@ -73,8 +73,10 @@ none_has :
     (key : Key) (s : Site) (has : Key → Bool) → IsSound s.core → ((k : Key) → key.at < k.at → has k ≡ false) → ((j k : Key) → k.at < j.at → has j ≡ true → has k ≡ true)
     → ((k : Key) → In (dues s) k → has k ≡ false) → (k : Key) → In (dues (handled key s).site) k → has k ≡ false
 none_has key s has h past less none k i =
-    let a = weightless key s h (flagged key.at (number_of s.core) has past less) refl (all_in (λ j. bit (has j) ≡ 0) (dues s) (λ j l. ap bit (none j l))) in
-    by_cases (has k) (λ t. absurd (let z : bit (has k) ≡ 0 = of_all (λ j. bit (has j) ≡ 0) (dues (handled key s).site) k a i in let o : bit (has k) ≡ 1 = ap bit t in omega arith)) (λ n. n)
+    let before : All (λ j. bit (has j) ≡ 0) (dues s) = all_in (λ j. bit (has j) ≡ 0) (dues s) (λ j l. ap bit (none j l)) in
+    let a = weightless key s h (flagged key.at (number_of s.core) has past less) refl before in
+    let nothing : bit (has k) ≡ 0 = of_all (λ j. bit (has j) ≡ 0) (dues (handled key s).site) k a i in
+    by_cases (has k) (λ t. absurd (let one : bit (has k) ≡ 1 = ap bit t in omega arith)) (λ n. n)
 
 -- nothing that comes before the handled key, where nothing due does
 pub leaves_none_before : HandlingLeavesNoneBefore
@@ -106,5 +108,6 @@ makes_nothing_due_now key s h f =
     sooner : (j k : Key) → k.at < j.at → is_new j ≡ true → is_new k ≡ true
     sooner j k l t =
         let at : j.at ≤ key.at = leb-true j.at key.at (and_parts (not (was j)) (nat_le j.at key.at) t).1 in
-        by_cases (was k) (λ w. absurd (let c = of_all (λ (x : Key). key.at ≤ x.at) (dues s) k f (in_contains (dues s) k (Contains-from_any key_tied k (dues s) w)) in omega (arith, at, l, c)))
+        by_cases (was k)
+        (λ w. absurd (omega (arith, at, l, of_all (λ (x : Key). key.at ≤ x.at) (dues s) k f (in_contains (dues s) k (Contains-from_any key_tied k (dues s) w)))))
         (λ w. rw (w, le-leb k.at key.at (omega (arith, at, l))) refl)

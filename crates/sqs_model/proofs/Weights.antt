@@ -22,7 +22,8 @@ pub record Weight (now : ℕ) : Type 0 where
 
 -- one for each key of a moment or before
 abbrev pub ticks : (now e site : ℕ) → e ≤ now → Weight now
-ticks now e site l = record { of = λ k. tick e k.at; site = site; past = λ k m. tick_past e k.at (omega arith); less = λ j k m. tick_less e k.at j.at (omega arith) }
+ticks now e site l =
+    record { of = λ k. tick e k.at; site = site; past = λ k m. tick_past e k.at (omega arith); less = λ j k m. tick_less e k.at j.at (omega arith) }
 
 -- of what is due at some moment, if it is
 abbrev pub weigh_if : (ℕ → ℕ) → Option ℕ → ℕ
@@ -106,8 +107,10 @@ module _ {now : ℕ} (w : Weight now) where
   weight_is : (c : Core) → w.site ≡ number_of c → total w.of (core_dues c) ≡ weight c
   unfolding core_dues
   weight_is c e =
-      omega (arith, joined_is (queue_dues c.queue) (map poll_key c.polls) (flat_map actor_dues c.actors) (sample_dues c) (flat_map task_dues c.tasks), queue_is c.queue e, total_map w.of poll_key c.polls, actors_are c.actors, sample_is c e, tasks_are c.tasks)
+      let j : total w.of (core_dues c) ≡ _ = joined_is (queue_dues c.queue) (map poll_key c.polls) (flat_map actor_dues c.actors) (sample_dues c) (flat_map task_dues c.tasks) in
+      omega (arith, j, queue_is c.queue e, total_map w.of poll_key c.polls, actors_are c.actors, sample_is c e, tasks_are c.tasks)
 
   pub site_is : (s : Site) → w.site ≡ number_of s.core → total w.of (dues s) ≡ site_weight s
   unfolding dues
-  site_is s e = omega (arith, total_append w.of (map transfer_key s.arriving) (core_dues s.core), total_map w.of transfer_key s.arriving, weight_is s.core e)
+  site_is s e =
+      omega (arith, total_append w.of (map transfer_key s.arriving) (core_dues s.core), total_map w.of transfer_key s.arriving, weight_is s.core e)
