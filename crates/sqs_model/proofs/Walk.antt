@@ -47,7 +47,8 @@ use Rattle.sqs_model.proofs.Ledger.{marks}
 use Rattle.sqs_model.proofs.Sending.{Sends}
 
 use Rattle.sqs_model.proofs.CallWalk as walk
-use Rattle.sqs_model.proofs.CallWalk.{CallLaw, DueLaw, IsTold, effect_of}
+use Rattle.sqs_model.proofs.CallWalk.{CallLaw, DueLaw, IsTold}
+pub use Rattle.sqs_model.proofs.CallWalk.{effect_of}
 
 -- a row of this handling at this site that tells of no message that came or went
 pub record IsPlain (key : Key) (c : Core) (r : Row) : Type 0 where
