@@ -99,6 +99,7 @@ module _ (key : Key) where
       record {
         at_key = refl;
         at_site = e;
+        asked = tt;
         does =
             receives
             (record {
@@ -134,6 +135,7 @@ module _ (key : Key) where
       (record {
         at_key = refl;
         at_site = e;
+        asked = tt;
         does =
             releases
             (record {
@@ -153,6 +155,7 @@ module _ (key : Key) where
       (record {
         at_key = refl;
         at_site = e;
+        asked = tt;
         does =
             redrives
             (record {

@@ -136,7 +136,7 @@ module _ (key : Key) (start : Queue) (fine : IsStocked start) where
         hears_none = λ c. tt;
         gives = givingly;
         changes = λ rows a c text timeout h. extends rows c _ h (change_chain key a c text timeout (read_receipt text) (stocked rows c h));
-        deletes = λ rows a c text h. extends rows c _ h (delete_chain key a c text (read_receipt text) (stocked rows c h));
+        deletes = λ rows a c text h. extends rows c _ h (delete_chain key a c text (stocked rows c h));
         sends = λ rows a c body delay group id h. extends rows c _ h (sends_chain key c.queue.settings.kind a c body delay group id (stocked rows c h));
         draws = λ rows c hosts h. record { chain = h.chain; actors = h.actors };
         starts = λ rows c n t e h. record { chain = h.chain; actors = h.actors };

@@ -1,18 +1,28 @@
 -- What a row of a handling did to its queue.
-use Rattle.std.specs.Prelude.{All, Bool, List, None, Option, Some, [], false, suc, true, ℕ, ◌+◌, ◌++◌, ◌<◌, ◌∷◌, ◌≡◌, ◌≤◌}
+use Rattle.std.specs.Prelude.{All, Bool, Err, List, None, Ok, Option, Result, Some, [], false, suc, true, ℕ, ◌+◌, ◌++◌, ◌<◌, ◌∷◌, ◌≡◌, ◌≤◌}
 use Rattle.std.proofs.Common.{ap, arith, refl, subst, sym, ◌∙◌}
 use Rattle.std.proofs.lemmas.List.Elements.{All-push, All-weaker}
 use Rattle.sim_clock.specs.declared.key.Key.{Key}
+use Rattle.sim_clock.specs.declared.refusal.Refusal.{Refusal}
+use Rattle.sim_clock.specs.declared.refusal.Refusal.TheVariants as refusals
 use Rattle.sim_clock.specs.Firsts.{changed, without}
 use Rattle.sqs_message.specs.declared.ids.MessageId.{MessageId}
+use Rattle.sqs_message.specs.declared.ids.Receipt.{Receipt}
 use Rattle.sqs_message.specs.declared.message.Message.{Message}
 use Rattle.sqs_message.specs.declared.row.Detail.TheVariants as details
 use Rattle.sqs_message.specs.declared.row.Row.{Row}
+use Rattle.sqs_message.specs.declared.row.RowAnswer.{RowAnswer}
+use Rattle.sqs_message.specs.declared.row.RowAnswer.TheVariants as answers
+use Rattle.sqs_message.specs.declared.row.RowKind.{RowKind}
+use Rattle.sqs_message.specs.declared.row.RowKind.TheVariants as kinds
 use Rattle.sqs_message.specs.declared.row.RowReceipt.TheVariants as receipts
+use Rattle.sqs_message.specs.Ids.{read_receipt}
+use Rattle.sqs_redrive.specs.declared.answers.Deleted.{Deleted}
+use Rattle.sqs_redrive.specs.declared.answers.Deleted.TheVariants.{Gone, Kept, Removed}
 use Rattle.sqs_redrive.specs.declared.settings.Policy.{Policy}
 use Rattle.sqs_redrive.specs.MoveTasks.{is_worn}
 use Rattle.sqs_model.specs.Queue.{Entry, Queue, has_number, id_of, is_in_flight, is_visible, numbered, taken_out, with_change, with_records}
-use Rattle.sqs_model.specs.Calls.{in_flight_until, with_message}
+use Rattle.sqs_model.specs.Calls.{delete, in_flight_until, with_message}
 use Rattle.sqs_model.specs.Receive.{received}
 use Rattle.sqs_model.specs.Return.{leaves, visible_again}
 use Rattle.sqs_model.proofs.Counts.{all_changed, all_without, ascends_changed, ascends_push, ascends_without}
@@ -27,6 +37,25 @@ pub record Tells (r : Row) (comes received changed released leaves : Bool) : Typ
   pub changed_so : words.changed r ≡ changed
   pub released_so : words.is_release r.kind ≡ released
   pub leaves_so : words.leaves r ≡ leaves
+
+-- the answer that the row of a delete tells
+abbrev pub deleted_answer : Result Deleted Refusal → RowAnswer
+deleted_answer (Ok (Removed age)) = answers.Deleted
+deleted_answer (Ok Kept) = answers.Kept
+deleted_answer (Ok Gone) = answers.Gone
+deleted_answer (Err e) = answers.Refused e
+
+-- a delete by a text, which may be no receipt
+pub record AsksDelete (key : Key) (q : Queue) (r : Row) : Type 0 where
+  pub text : List ℕ
+  pub given : r.receipt ≡ receipts.Given text
+  pub by : (x : Receipt) → read_receipt text ≡ Some x → r.answer ≡ deleted_answer (delete q key.at x).0
+  pub none : read_receipt text ≡ None → r.answer ≡ answers.Refused refusals.ReceiptHandleIsInvalid
+
+-- what a row of a kind asks of its queue
+abbrev pub Asks : Key → Queue → Row → RowKind → Type 0
+Asks key q r kinds.Delete = AsksDelete key q r
+Asks key q r kind = Unit {0}
 
 module _ (key : Key) (q : Queue) (r : Row) (p : Queue) where
   -- a row that tells of no message that came, changed or left; it may name one that came before
@@ -121,6 +150,7 @@ module _ (key : Key) (q : Queue) (r : Row) (p : Queue) where
   pub record Move : Type 0 where
     pub at_key : r.key ≡ key
     pub at_site : r.queue ≡ q.site
+    pub asked : Asks key q r r.kind
     pub does : Does
 
 -- rows one after another

@@ -21,6 +21,7 @@ use Rattle.sqs_message.specs.declared.row.RowAnswer.{RowAnswer}
 use Rattle.sqs_message.specs.declared.row.RowAnswer.TheVariants as answers
 use Rattle.sqs_message.specs.declared.row.RowKind.{RowKind}
 use Rattle.sqs_message.specs.declared.row.RowKind.TheVariants as kinds
+use Rattle.sqs_message.specs.declared.row.RowReceipt.TheVariants as receipts
 use Rattle.sqs_message.specs.Ids.{id_text, read_receipt}
 use Rattle.sqs_redrive.specs.declared.answers.Deleted.{Deleted}
 use Rattle.sqs_redrive.specs.declared.answers.Deleted.TheVariants.{Gone, Kept, Removed}
@@ -57,7 +58,7 @@ use Rattle.sqs_model.proofs.Counts.{changed_twice, find_all, find_picked, withou
 use Rattle.sqs_model.proofs.SiteAccounts.{IsFound}
 use Rattle.sqs_laws.specs.Words as words
 use Rattle.sqs_laws.proofs.Calls.{Told, back_told, found_old, one_back, own_changed, pushed_found, pushed_out, tells}
-use Rattle.sqs_laws.proofs.Moves.{Chain, chain_keeps, Comes, Does, Ends, IsStocked, Keeps, Move, Names, Stays, Tells, Changes, changes, chain_append, comes, ends, one_move, stays}
+use Rattle.sqs_laws.proofs.Moves.{Asks, AsksDelete, Chain, deleted_answer, chain_keeps, Comes, Does, Ends, IsStocked, Keeps, Move, Names, Stays, Tells, Changes, changes, chain_append, comes, ends, one_move, stays}
 
 -- what a row of none tells
 abbrev SaysNothing : RowKind → RowAnswer → Type 0
@@ -76,6 +77,11 @@ says_nothing kinds.Cancel (answers.Refused x) t = (refl, refl, refl, refl, refl)
 says_nothing kinds.Sample answers.Ok t = (refl, refl, refl, refl, refl)
 says_nothing k a t = absurd t
 
+-- it asks nothing of a message
+asks_none : (key : Key) (q : Queue) (r : Row) (k : RowKind) (a : RowAnswer) → TellsOfNone k a → Asks key q r k
+asks_none key q r kinds.Delete a t = absurd t
+asks_none key q r k a t = tt
+
 -- a row that names no message changes nothing
 nameless_stays : (key : Key) (q : Queue) (r : Row) → r.message ≡ None → Tells r false false false false false → Stays key q r q
 nameless_stays key q r n t =
@@ -92,6 +98,7 @@ quiet_move key c q r e i =
     record {
       at_key = i.at_key;
       at_site = i.at_site ∙ e;
+      asked = asks_none key q r r.kind r.answer i.kind;
       does = stays (nameless_stays key q r i.nameless (let n : SaysNothing r.kind r.answer = says_nothing r.kind r.answer i.kind in tells r false false false false false n.0 n.1 n.2 n.3 n.4));
     }
 
@@ -112,13 +119,13 @@ module _ (key : Key) where
         gone = λ h i e. let s : id_of q n ≡ i = cc in subst (λ (x : MessageId). numbered x.number q.records ≡ None) s (g h);
       }
 
-  one_row : (c d : Core) (r : Row) → r.key ≡ key → r.queue ≡ c.queue.site → d.actors ≡ c.actors → Does key c.queue r d.queue → IsChain c (says d r)
-  one_row c d r k s a h = record { chain = one_move key c.queue r d.queue (record { at_key = k; at_site = s; does = h }); actors = a }
+  one_row : (c d : Core) (r : Row) → r.key ≡ key → r.queue ≡ c.queue.site → d.actors ≡ c.actors → Asks key c.queue r r.kind → Does key c.queue r d.queue → IsChain c (says d r)
+  one_row c d r k s a y h = record { chain = one_move key c.queue r d.queue (record { at_key = k; at_site = s; asked = y; does = h }); actors = a }
 
   -- services
   pub serve_chain : (a : Actor) (c : Core) (id : MessageId) (r : Receipt) (failed : Bool) (o : Option Outbound) → id.site ≡ c.queue.site → id.number < c.queue.arrivals → IsChain c (serve_made key a c id r failed o).effect
   serve_chain a c id r true o e l =
-      one_row c c _ refl refl refl (stays (named_stays c.queue _ id.number (ap (λ s. Some (record { site = s; number = id.number })) e) (tells _ false false false false false refl refl refl refl refl) l (λ h. cc) (λ h. cc)))
+      one_row c c _ refl refl refl tt (stays (named_stays c.queue _ id.number (ap (λ s. Some (record { site = s; number = id.number })) e) (tells _ false false false false false refl refl refl refl refl) l (λ h. cc) (λ h. cc)))
   serve_chain a c id r false None e l = record { chain = refl; actors = refl }
   serve_chain a c id r false (Some o) e l =
       record {
@@ -126,6 +133,7 @@ module _ (key : Key) where
             (record {
               at_key = refl;
               at_site = refl;
+              asked = tt;
               does = stays (named_stays c.queue _ id.number (ap (λ s. Some (record { site = s; number = id.number })) e) (tells _ false false false false false refl refl refl refl refl) l (λ h. cc) (λ h. cc));
             });
         actors = refl;
@@ -136,15 +144,15 @@ module _ (key : Key) where
   IsSent a c body x = IsChain c (send_made key a c body x).effect
 
   refused_sent : (a : Actor) (c : Core) (body : List ℕ) (e : Refusal) → IsSent a c body (Err e, c.queue)
-  refused_sent a c body e = one_row c c _ refl refl refl (stays (nameless_stays key c.queue _ refl (tells _ false false false false false refl refl refl refl refl)))
+  refused_sent a c body e = one_row c c _ refl refl refl tt (stays (nameless_stays key c.queue _ refl (tells _ false false false false false refl refl refl refl refl)))
 
   new_sent : (a : Actor) (c : Core) (body : List ℕ) (m : Message) (entries : List Entry) → m.number ≡ c.queue.arrivals → m.receives ≡ 0 → is_in_flight m ≡ false → All (λ e. e.number < c.queue.arrivals + 1) entries → IsSent a c body (Ok (New (id_of c.queue c.queue.arrivals)), with_message (record c.queue { entries = entries }) m)
   new_sent a c body m entries n f r o =
-      one_row c (with_queue c (with_message (record c.queue { entries = entries }) m)) _ refl refl refl
+      one_row c (with_queue c (with_message (record c.queue { entries = entries }) m)) _ refl refl refl tt
       (comes (record { one = m; entries = entries; tells = tells _ true false false false false refl refl refl refl refl; message = refl; number = n; fresh = f; rests = r; old = o; after = refl }))
 
   repeat_sent : (a : Actor) (c : Core) (body : List ℕ) (n : ℕ) → n < c.queue.arrivals → IsSent a c body (Ok (Repeat (id_of c.queue n)), c.queue)
-  repeat_sent a c body n l = one_row c c _ refl refl refl (stays (named_stays c.queue _ n refl (tells _ false false false false false refl refl refl refl refl) l (λ h. cc) (λ h. cc)))
+  repeat_sent a c body n l = one_row c c _ refl refl refl tt (stays (named_stays c.queue _ n refl (tells _ false false false false false refl refl refl refl refl) l (λ h. cc) (λ h. cc)))
 
   -- a message that is not in flight as it comes
   rests_at : (q : Queue) (body : List ℕ) (group : Option (List ℕ)) (delay : ℕ) → is_in_flight (new_message q key.at body group delay) ≡ false
@@ -177,29 +185,46 @@ module _ (key : Key) where
       either (IsSent a c body) (is_bad_delay 0 delay) _ _ (refused_sent a c body refusals.BadDelay) (with_sent a c scope body group (deduplication_id content body id) s)
 
   -- deletes
-  refused_row : (c : Core) (r : Row) → r.key ≡ key → r.queue ≡ c.queue.site → r.message ≡ None → Tells r false false false false false → IsChain c (says c r)
-  refused_row c r k s n t = one_row c c r k s refl (stays (nameless_stays key c.queue r n t))
+  refused_row : (c : Core) (r : Row) → r.key ≡ key → r.queue ≡ c.queue.site → r.message ≡ None → Asks key c.queue r r.kind → Tells r false false false false false → IsChain c (says c r)
+  refused_row c r k s n y t = one_row c c r k s refl y (stays (nameless_stays key c.queue r n t))
 
-  abbrev IsDeleted : Actor → Core → List ℕ → Receipt → Result Deleted Refusal × Queue → Type 0
-  IsDeleted a c text r x = IsChain c (delete_done key a c text r x).effect
+  module _ (a : Actor) (c : Core) (text : List ℕ) (r : Receipt) (read : read_receipt text ≡ Some r) (s : IsStocked c.queue) where
+    -- of the answer that the delete has
+    abbrev IsDeleted : Result Deleted Refusal × Queue → Type 0
+    IsDeleted x = delete c.queue key.at r ≡ x → IsChain c (delete_done key a c text r x).effect
 
-  deleted_chain : (a : Actor) (c : Core) (text : List ℕ) (r : Receipt) → IsStocked c.queue → IsDeleted a c text r (delete_as c.queue.settings.kind c.queue key.at r)
-  deleted_chain a c text r s =
-      delete_by (IsDeleted a c text r) c.queue key.at r
-      (record {
-        refused = refused_row c _ refl refl refl (tells _ false false false false false refl refl refl refl refl);
-        gone = λ f l. one_row c c _ refl refl refl (stays (named_stays c.queue _ r.number refl (tells _ false false false false false refl refl refl refl refl) (grind (arith, nat_tests, l)) (λ h. cc) (λ h. f)));
-        kept = λ m f.
-            one_row c c _ refl refl refl
-            (stays (named_stays c.queue _ r.number refl (tells _ false false false false false refl refl refl refl refl) (found_old c.queue r.number m s f) (λ h. subst IsFound (sym f) tt) (λ h. cc)));
-        taken = λ m f.
-            one_row c (with_queue c (taken_out c.queue r.number)) _ refl refl refl
-            (ends (record { one = m; number = r.number; tells = tells _ false false false false true refl refl refl refl refl; names = record { there = f; message = refl; sure = refl }; kind = refl; after = refl }));
-      }) c.queue.settings.kind
+    asks_delete : (x : Result Deleted Refusal × Queue) (row : Row) → row.receipt ≡ receipts.Given text → row.answer ≡ deleted_answer x.0 → delete c.queue key.at r ≡ x → AsksDelete key c.queue row
+    asks_delete x row g w e =
+        record {
+          text = text;
+          given = g;
+          by = λ y f. let is : r ≡ y = cc in w ∙ ap (λ (z : Result Deleted Refusal × Queue). deleted_answer z.0) (sym e) ∙ ap (λ z. deleted_answer (delete c.queue key.at z).0) is;
+          none = λ f. cc;
+        }
 
-  pub delete_chain : (a : Actor) (c : Core) (text : List ℕ) (o : Option Receipt) → IsStocked c.queue → IsChain c (delete_made key a c text o).effect
-  delete_chain a c text None s = refused_row c _ refl refl refl (tells _ false false false false false refl refl refl refl refl)
-  delete_chain a c text (Some r) s = deleted_chain a c text r s
+    deleted_chain : IsDeleted (delete c.queue key.at r)
+    deleted_chain =
+        delete_by IsDeleted c.queue key.at r
+        (record {
+          refused = λ e. refused_row c _ refl refl refl (asks_delete _ _ refl refl e) (tells _ false false false false false refl refl refl refl refl);
+          gone = λ f l e.
+              one_row c c _ refl refl refl (asks_delete _ _ refl refl e)
+              (stays (named_stays c.queue _ r.number refl (tells _ false false false false false refl refl refl refl refl) (grind (arith, nat_tests, l)) (λ h. cc) (λ h. f)));
+          kept = λ m f e.
+              one_row c c _ refl refl refl (asks_delete _ _ refl refl e)
+              (stays (named_stays c.queue _ r.number refl (tells _ false false false false false refl refl refl refl refl) (found_old c.queue r.number m s f) (λ h. subst IsFound (sym f) tt) (λ h. cc)));
+          taken = λ m f e.
+              one_row c (with_queue c (taken_out c.queue r.number)) _ refl refl refl (asks_delete _ _ refl refl e)
+              (ends (record { one = m; number = r.number; tells = tells _ false false false false true refl refl refl refl refl; names = record { there = f; message = refl; sure = refl }; kind = refl; after = refl }));
+        }) c.queue.settings.kind
+
+  delete_chain_of : (a : Actor) (c : Core) (text : List ℕ) (o : Option Receipt) → read_receipt text ≡ o → IsStocked c.queue → IsChain c (delete_made key a c text o).effect
+  delete_chain_of a c text None e s =
+      refused_row c _ refl refl refl (record { text = text; given = refl; by = λ y f. cc; none = λ f. refl }) (tells _ false false false false false refl refl refl refl refl)
+  delete_chain_of a c text (Some r) e s = deleted_chain a c text r e s refl
+
+  pub delete_chain : (a : Actor) (c : Core) (text : List ℕ) → IsStocked c.queue → IsChain c (delete_made key a c text (read_receipt text)).effect
+  delete_chain a c text s = delete_chain_of a c text (read_receipt text) refl s
 
   -- changes of visibility
   changed_back : (b : Bool) (q : Queue) (n end : ℕ) (m : Message) → released_when b (with_change q n (in_flight_until end)) n (in_flight_until end m) ≡ released_when b q n m
@@ -224,6 +249,7 @@ module _ (key : Key) where
       record {
         at_key = refl;
         at_site = refl;
+        asked = tt;
         does = changes (record { one = m; number = r.number; end = end; tells = tells _ false false true false false refl refl refl refl refl; names = record { there = f; message = refl; sure = refl }; flies = l; after = refl });
       }
 
@@ -254,11 +280,11 @@ module _ (key : Key) where
       subst (IsChain c) (sym (ap (λ b. if b then both else one) e)) (record { chain = subst (Chain key c.queue both.rows) (sym after.queue) chain; actors = after.actors })
 
   pub change_chain : (a : Actor) (c : Core) (text : List ℕ) (timeout : ℕ) (o : Option Receipt) → IsStocked c.queue → IsChain c (change_made key a c text timeout o).effect
-  change_chain a c text timeout None s = refused_row c _ refl refl refl (tells _ false false false false false refl refl refl refl refl)
+  change_chain a c text timeout None s = refused_row c _ refl refl refl tt (tells _ false false false false false refl refl refl refl refl)
   change_chain a c text timeout (Some r) s =
       change_by (IsChanged a c text timeout r) c.queue key.at r timeout
       (record {
-        refused = λ e. refused_row c _ refl refl refl (tells _ false false false false false refl refl refl refl refl);
+        refused = λ e. refused_row c _ refl refl refl tt (tells _ false false false false false refl refl refl refl refl);
         back = λ m f l e. back_change a c text timeout r m s f l e;
         kept = λ m f l e. kept_change a c text timeout r m f l e;
       })
@@ -267,7 +293,7 @@ module _ (key : Key) where
   pub expiry_chain : (c : Core) (m : Message) → numbered key.number c.queue.records ≡ Some m → IsChain c (handle_expiry key c)
   expiry_chain c m f =
       subst (λ x. IsChain c (expiry_done key c (expired_found c.queue key.at key.number x))) (sym f)
-      (one_row c (with_queue c (taken_out c.queue key.number)) _ refl refl refl
+      (one_row c (with_queue c (taken_out c.queue key.number)) _ refl refl refl tt
       (ends (record { one = m; number = key.number; tells = tells _ false false false false true refl refl refl refl refl; names = record { there = f; message = refl; sure = refl }; kind = refl; after = refl })))
 
   pub release_chain : (c : Core) (m : Message) → IsStocked c.queue → numbered key.number c.queue.records ≡ Some m → IsChain c (release_done key c (released c.queue key.number))
@@ -287,23 +313,24 @@ module _ (key : Key) where
   abbrev IsArrived : Core → Load → (Sent × Bool) × Queue → Type 0
   IsArrived c load x = IsChain c (arrival_done key load c x)
 
-  come_move : (c : Core) (r : Row) (m : Message) (entries : List Entry) → r.key ≡ key → r.queue ≡ c.queue.site → r.message ≡ Some (id_of c.queue c.queue.arrivals) → Tells r true false false false false → m.number ≡ c.queue.arrivals → m.receives ≡ 0 → is_in_flight m ≡ false → All (λ e. e.number < c.queue.arrivals + 1) entries → Move key c.queue r (with_message (record c.queue { entries = entries }) m)
-  come_move c r m entries k s i t n f l o = record { at_key = k; at_site = s; does = comes (record { one = m; entries = entries; tells = t; message = i; number = n; fresh = f; rests = l; old = o; after = refl }) }
+  come_move : (c : Core) (r : Row) (m : Message) (entries : List Entry) → r.key ≡ key → r.queue ≡ c.queue.site → r.message ≡ Some (id_of c.queue c.queue.arrivals) → Asks key c.queue r r.kind → Tells r true false false false false → m.number ≡ c.queue.arrivals → m.receives ≡ 0 → is_in_flight m ≡ false → All (λ e. e.number < c.queue.arrivals + 1) entries → Move key c.queue r (with_message (record c.queue { entries = entries }) m)
+  come_move c r m entries k s i y t n f l o = record { at_key = k; at_site = s; asked = y; does = comes (record { one = m; entries = entries; tells = t; message = i; number = n; fresh = f; rests = l; old = o; after = refl }) }
 
   settled_chain : (b : Bool) (c : Core) (load : Load) (m : Message) → m.number ≡ c.queue.arrivals → m.receives ≡ 0 → is_in_flight m ≡ false → IsStocked c.queue → IsArrived c load (settled_when b c.queue m)
   settled_chain false c load m n f l s =
-      record { chain = one_move key c.queue _ _ (come_move c _ m c.queue.entries refl refl refl (tells _ true false false false false refl refl refl refl refl) n f l (old_entries c.queue s)); actors = refl }
+      record { chain = one_move key c.queue _ _ (come_move c _ m c.queue.entries refl refl refl tt (tells _ true false false false false refl refl refl refl refl) n f l (old_entries c.queue s)); actors = refl }
   settled_chain true c load m n f l s =
       let q : Queue = c.queue in
       let x : Queue = with_message q m in
       let gone : taken_out x q.arrivals ≡ record q { arrivals = q.arrivals + 1 } = ap (λ records. record q { records = records; arrivals = q.arrivals + 1 }) (pushed_out q.arrivals q.records m n s.given_out) in
       record {
         chain = (
-          x, come_move c _ m q.entries refl refl refl (tells _ true false false false false refl refl refl refl refl) n f l (old_entries q s),
+          x, come_move c _ m q.entries refl refl refl tt (tells _ true false false false false refl refl refl refl refl) n f l (old_entries q s),
           one_move key x _ (record q { arrivals = q.arrivals + 1 })
               (record {
                 at_key = refl;
                 at_site = refl;
+                asked = tt;
                 does = ends (record { one = m; number = q.arrivals; tells = tells _ false false false false true refl refl refl refl refl; names = record { there = pushed_found q.arrivals q.records m n s.given_out; message = refl; sure = refl }; kind = refl; after = gone });
               }),
         );
@@ -312,7 +339,7 @@ module _ (key : Key) where
 
   new_come : (c : Core) (id : MessageId) (group : Option (List ℕ)) (body : List ℕ) (m : Message) (entries : List Entry) → m.number ≡ c.queue.arrivals → m.receives ≡ 0 → is_in_flight m ≡ false → All (λ e. e.number < c.queue.arrivals + 1) entries → IsArrived c (Forward id group body) ((New (id_of c.queue c.queue.arrivals), false), with_message (record c.queue { entries = entries }) m)
   new_come c id group body m entries n f l o =
-      record { chain = one_move key c.queue _ _ (come_move c _ m entries refl refl refl (tells _ true false false false false refl refl refl refl refl) n f l o); actors = refl }
+      record { chain = one_move key c.queue _ _ (come_move c _ m entries refl refl refl tt (tells _ true false false false false refl refl refl refl refl) n f l o); actors = refl }
 
   unless_come : (c : Core) (id : MessageId) (g : Option (List ℕ)) (b body group : List ℕ) (scope : Option (List ℕ)) (text : List ℕ) (o : Option Entry) → living c.queue key.at scope text ≡ o → IsStocked c.queue → IsArrived c (Forward id g b) (sent_of c.queue (send_unless c.queue key.at body group scope text o))
   unless_come c id g b body group scope text None f s =
@@ -320,7 +347,7 @@ module _ (key : Key) where
   unless_come c id g b body group scope text (Some e) f s =
       let old : e.number < c.queue.arrivals = find_all (λ (x : Entry). nat_lt key.at x.end && same_text x.scope scope && bytes_eq x.id text) (λ x. x.number < c.queue.arrivals) c.queue.entries e s.entries f in
       record {
-        chain = one_move key c.queue _ _ (record { at_key = refl; at_site = refl; does = stays (named_stays c.queue _ e.number refl (tells _ false false false false false refl refl refl refl refl) old (λ h. cc) (λ h. cc)) });
+        chain = one_move key c.queue _ _ (record { at_key = refl; at_site = refl; asked = tt; does = stays (named_stays c.queue _ e.number refl (tells _ false false false false false refl refl refl refl refl) old (λ h. cc) (λ h. cc)) });
         actors = refl;
       }
 
@@ -359,6 +386,7 @@ module _ (key : Key) where
               record {
                 at_key = refl;
                 at_site = e;
+                asked = tt;
                 does =
                     ends
                     (record {
@@ -375,9 +403,9 @@ module _ (key : Key) where
       ]
 
   end_chain : (c : Core) (q : Queue) (t : Task) (rest : Rest) → c.queue.site ≡ q.site → Chain key q (end_row key c t rest) q
-  end_chain c q t Empty e = one_move key q _ q (record { at_key = refl; at_site = e; does = stays (nameless_stays key q _ refl (tells _ false false false false false refl refl refl refl refl)) })
+  end_chain c q t Empty e = one_move key q _ q (record { at_key = refl; at_site = e; asked = tt; does = stays (nameless_stays key q _ refl (tells _ false false false false false refl refl refl refl refl)) })
   end_chain c q t More e = refl
-  end_chain c q t NoSource e = one_move key q _ q (record { at_key = refl; at_site = e; does = stays (nameless_stays key q _ refl (tells _ false false false false false refl refl refl refl refl)) })
+  end_chain c q t NoSource e = one_move key q _ q (record { at_key = refl; at_site = e; asked = tt; does = stays (nameless_stays key q _ refl (tells _ false false false false false refl refl refl refl refl)) })
 
   taken_site : (to : Option ℕ) (ms : List Message) (q : Queue) → (take_each q to ms).queue.site ≡ q.site
   taken_site to [] q = refl
