@@ -10,3 +10,4 @@ pub mod End
 pub mod Each
 pub mod Letters
 pub mod Order
+pub mod Rules
