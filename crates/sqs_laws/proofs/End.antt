@@ -24,17 +24,17 @@ use Rattle.sqs_laws.proofs.Said.{comings_as, left_now, left_still, names_apart, 
 use Rattle.sqs_laws.proofs.Worlds.{NamesOwn, RowLaw, every_row}
 
 -- what the law says of a row
-record IsAsTold (before : List Row) (r : Row) (m : MessageId) : Type 0 where
+pub record IsAsTold (before : List Row) (r : Row) (m : MessageId) : Type 0 where
   pub numbered : comes r ≡ true → m ≡ record { site = r.queue; number = comings r.queue before }
   pub came : comes r ≡ false → (m.site ≡ r.queue) × (m.number < comings r.queue before)
   pub after : has_left m before ≡ true → may_follow r ≡ true
   pub gone : is_gone r.answer ≡ true → has_left m before ≡ true
 
-abbrev Meets : List Row → Row → Type 0
+abbrev pub Meets : List Row → Row → Type 0
 Meets before r = (m : MessageId) → r.message ≡ Some m → IsAsTold before r m
 
 -- what the rows so far say of a queue: how many came, and that those which are not there have left
-record Says (rows : List Row) (q : Queue) : Type 0 where
+pub record Says (rows : List Row) (q : Queue) : Type 0 where
   pub came : comings q.site rows ≡ q.arrivals
   pub left : (n : ℕ) → n < q.arrivals → has_left (id_of q n) rows ≡ is_none (numbered n q.records)
   pub fresh : (n : ℕ) → q.arrivals ≤ n → has_left (id_of q n) rows ≡ false
@@ -179,7 +179,7 @@ module _ (key : Key) (rows : List Row) (q : Queue) (r : Row) (p : Queue) (here :
         subst (Says (rows ++ r ∷ [])) d.same (like rows r q q refl refl none d.tells.leaves_so (λ n. refl) h),
       )
 
-  does_end : Does key q r p → Meets rows r × Says (rows ++ r ∷ []) p
+  pub does_end : Does key q r p → Meets rows r × Says (rows ++ r ∷ []) p
   does_end (stays d) = stays_there d
   does_end (comes_in d) = comes_there d
   does_end (receives d) = changes_there d.one d.number (received key.at d.timeout) (λ m. refl) d.names d.tells.comes_so d.tells.leaves_so d.after
@@ -189,7 +189,7 @@ module _ (key : Key) (rows : List Row) (q : Queue) (r : Row) (p : Queue) (here :
   does_end (ends d) = leaves_there d.one d.number d.names d.tells.comes_so d.tells.leaves_so d.after
 
 -- rows of other queues
-says_apart : (rows : List Row) (r : Row) (q : Queue) → r.queue ≢ q.site → NamesOwn r → Says rows q → Says (rows ++ r ∷ []) q
+pub says_apart : (rows : List Row) (r : Row) (q : Queue) → r.queue ≢ q.site → NamesOwn r → Says rows q → Says (rows ++ r ∷ []) q
 says_apart rows r q d own h =
     let still : (n : ℕ) → has_left (id_of q n) (rows ++ r ∷ []) ≡ has_left (id_of q n) rows = λ n. left_still (id_of q n) rows r (ap (λ b. leaves r && b) (names_apart (id_of q n) r own d) ∙ and_false (leaves r)) in
     record {
@@ -200,7 +200,7 @@ says_apart rows r q d own h =
       fresh = λ n o. still n ∙ h.fresh n o;
     }
 
-abbrev the_end : (s : Scenario) → RowLaw s
+abbrev pub the_end : (s : Scenario) → RowLaw s
 the_end s =
     record {
       Holds = Says;

@@ -38,7 +38,7 @@ pub record IsWithin (most : ℕ) (m : Message) : Type 0 where
 
 module _ (s : Scenario) where
   -- what the rows so far say of a queue: how often each of its messages was received, and that none was too often
-  record Says (rows : List Row) (q : Queue) : Type 0 where
+  pub record Says (rows : List Row) (q : Queue) : Type 0 where
     pub settings : slice_get s.queues q.site ≡ Some q.settings
     pub valid : IsQueueSettings q.settings
     pub received : (n : ℕ) (m : Message) → numbered n q.records ≡ Some m → times (id_of q n) rows ≡ m.receives
@@ -46,11 +46,11 @@ module _ (s : Scenario) where
     pub within : (p : Policy) → q.settings.policy ≡ Some p → (n : ℕ) (m : Message) → numbered n q.records ≡ Some m → IsWithin p.max_receives m
 
   -- what the law says of a row
-  record IsAsTold (before : List Row) (r : Row) (m : MessageId) : Type 0 where
+  pub record IsAsTold (before : List Row) (r : Row) (m : MessageId) : Type 0 where
     pub leaves : is_redrive r.kind ≡ true → (p : Policy) × HasPolicy s r p × (times m before ≡ p.max_receives) × (r.detail ≡ details.Queue p.dead_letter)
     pub stays : (is_release r.kind || words.received r) ≡ true → (p : Policy) → HasPolicy s r p → times m before < p.max_receives
 
-  abbrev Meets : List Row → Row → Type 0
+  abbrev pub Meets : List Row → Row → Type 0
   Meets before r = (m : MessageId) → r.message ≡ Some m → IsAsTold before r m
 
   -- a row that is no redrive, no release and no receive
@@ -202,7 +202,7 @@ module _ (s : Scenario) where
         changed_by d.one d.number (in_flight_until d.end) (λ m. refl) d.names d.tells.received_so refl
         (λ x b. record { receives = (h.within x b d.number d.one d.names.there).receives; rested = λ e. cc }) d.after
 
-    does_letters : Does key q r p → Meets rows r × Says (rows ++ r ∷ []) p
+    pub does_letters : Does key q r p → Meets rows r × Says (rows ++ r ∷ []) p
     does_letters (stays d) = (meets_none rows r (no_redrive r d.tells.leaves_so) d.tells.released_so d.tells.received_so, subst (Says (rows ++ r ∷ [])) d.same (unchanged d.tells.received_so))
     does_letters (comes d) = (meets_none rows r (no_redrive r d.tells.leaves_so) d.tells.released_so d.tells.received_so, comes_by d)
     does_letters (receives d) = receives_by d
@@ -212,7 +212,7 @@ module _ (s : Scenario) where
     does_letters (ends d) = (meets_none rows r d.kind d.tells.released_so d.tells.received_so, taken_by d.number d.tells.received_so d.after)
 
   -- rows of other queues
-  says_apart : (rows : List Row) (r : Row) (q : Queue) → r.queue ≢ q.site → NamesOwn r → Says rows q → Says (rows ++ r ∷ []) q
+  pub says_apart : (rows : List Row) (r : Row) (q : Queue) → r.queue ≢ q.site → NamesOwn r → Says rows q → Says (rows ++ r ∷ []) q
   says_apart rows r q d own h =
       let still : (n : ℕ) → times (id_of q n) (rows ++ r ∷ []) ≡ times (id_of q n) rows =
       λ n. same_times (id_of q n) rows r (ap (λ b. words.received r && b) (names_apart (id_of q n) r own d) ∙ and_false (words.received r)) in
@@ -229,10 +229,10 @@ module _ (s : Scenario) where
   valid_at (x ∷ xs) zero q a e = let is : x ≡ q = cc in subst IsQueueSettings is (All-head IsQueueSettings x xs a)
   valid_at (x ∷ xs) (suc n) q a e = valid_at xs n q (All-tail IsQueueSettings x xs a) e
 
-  opens : (n : ℕ) (settings : QueueSettings) → All IsQueueSettings s.queues → slice_get s.queues n ≡ Some settings → Says [] (record { site = n; settings = settings; records = []; entries = []; arrivals = 0 })
+  pub opens : (n : ℕ) (settings : QueueSettings) → All IsQueueSettings s.queues → slice_get s.queues n ≡ Some settings → Says [] (record { site = n; settings = settings; records = []; entries = []; arrivals = 0 })
   opens n settings v e = record { settings = e; valid = valid_at s.queues n settings v e; received = λ i m f. cc; fresh = λ i l. refl; within = λ x b i m f. cc }
 
-  abbrev letters : All IsQueueSettings s.queues → RowLaw s
+  abbrev pub letters : All IsQueueSettings s.queues → RowLaw s
   letters v =
       record {
         Holds = Says;

@@ -11,3 +11,5 @@ pub mod Each
 pub mod Letters
 pub mod Order
 pub mod Rules
+pub mod Flights
+pub mod Receipts

@@ -110,3 +110,11 @@ taken_absent n a (x ∷ xs) c =
       | true ↦ λ e. let is : x.number ≡ n = eqb-true x.number n e in absent_above n (x.number + 1) xs (omega arith) c.1
       | false ↦ λ e. rw e (taken_absent n (x.number + 1) xs c.1)
     ] refl
+
+-- no message has the next number yet
+pub not_there : (n : ℕ) (ms : List Message) → All (λ m. m.number < n) ms → numbered n ms ≡ None
+not_there n [] h = refl
+not_there n (x ∷ xs) h =
+    let l : x.number < n = All-head (λ m. m.number < n) x xs h in
+    let other : has_number n x ≡ false = grind (arith, nat_tests, l) in
+    rw other (not_there n xs (All-tail (λ m. m.number < n) x xs h))

@@ -230,3 +230,32 @@ module _ (scenario : Scenario) (law : RowLaw scenario) where
 
   pub every_row : (r : Run) → IsRunOf scenario r → EachRow r.rows Meets
   every_row r is = subst (λ (x : Run). EachRow x.rows Meets) is.reached (every_row_after is.steps)
+
+-- what a law says of each row, by its move
+pub every_row_by :
+    (s : Scenario) (law : RowLaw s) (P : List Row → Row → Type 0)
+    → ((rows : List Row) (key : Key) (q : Queue) (r : Row) (p : Queue) → Move key q r p → IsStocked q → law.Holds rows q → P rows r)
+    → (r : Run) → IsRunOf s r → EachRow r.rows P
+every_row_by s law P meets r is =
+    every_row s
+    (record {
+      Holds = law.Holds;
+      Meets = P;
+      moves = λ rows key q x p by m k h. (meets rows key q x p m k h, (law.moves rows key q x p by m k h).1);
+      apart = law.apart;
+      opens = law.opens;
+    }) r is
+
+-- two laws as one
+abbrev pub both : (s : Scenario) → RowLaw s → RowLaw s → RowLaw s
+both s a b =
+    record {
+      Holds = λ rows q. a.Holds rows q × b.Holds rows q;
+      Meets = λ rows r. a.Meets rows r × b.Meets rows r;
+      moves = λ rows key q r p by m k h.
+          let x = a.moves rows key q r p by m k h.0 in
+          let y = b.moves rows key q r p by m k h.1 in
+          ((x.0, y.0), (x.1, y.1));
+      apart = λ rows r q d own h. (a.apart rows r q d own h.0, b.apart rows r q d own h.1);
+      opens = λ n settings e. (a.opens n settings e, b.opens n settings e);
+    }

@@ -1,14 +1,22 @@
 -- The rules of SQS as laws of the log: of its rows, in order, and of the settings of its scenario, and of nothing else.
-use Rattle.std.specs.Prelude.{All, IsTrue, List, Some, false, slice_get, ℕ, ◌<◌, ◌≡◌, ◌≤◌, ◌||◌}
+use Rattle.std.specs.Prelude.{All, Bool, IsTrue, List, None, Some, false, if◌then◌else◌, nat_lt, not, slice_get, true, ℕ, ◌&&◌, ◌+◌, ◌<◌, ◌==◌, ◌≡◌, ◌≤◌, ◌⊎◌, ◌||◌}
+use Rattle.sim_clock.specs.declared.refusal.Refusal.TheVariants as refusals
+use Rattle.sqs_message.specs.declared.ids.MessageId.{MessageId}
 use Rattle.sqs_message.specs.declared.row.Detail.TheVariants as details
 use Rattle.sqs_message.specs.declared.row.Row.{Row}
+use Rattle.sqs_message.specs.declared.row.RowAnswer.{RowAnswer}
+use Rattle.sqs_message.specs.declared.row.RowAnswer.TheVariants as answers
+use Rattle.sqs_message.specs.declared.row.RowReceipt.TheVariants as receipts
+use Rattle.sqs_message.specs.Ids.{read_receipt}
+use Rattle.sqs_redrive.specs.declared.settings.Kind.{Kind}
+use Rattle.sqs_redrive.specs.declared.settings.Kind.TheVariants.{Fifo, Standard}
 use Rattle.sqs_redrive.specs.declared.settings.Policy.{Policy}
 use Rattle.sqs_redrive.specs.declared.settings.QueueSettings.{QueueSettings}
 use Rattle.sqs_model.specs.Progress.{IsSoundScenario}
 use Rattle.sqs_model.specs.Run.{IsRunOf, Run}
 use Rattle.sqs_model.specs.Scenario.{Scenario}
 use Rattle.sqs_model.specs.Valid.{IsQueueSettings}
-use Rattle.sqs_laws.specs.Words.{EachNaming, EachRow, comes, comings, has_left, is_gone, is_redrive, is_release, may_follow, received, times}
+use Rattle.sqs_laws.specs.Words.{EachNaming, EachRow, comes, comings, flying, has_left, is_delete, is_gone, is_redrive, is_release, may_follow, received, times}
 
 -- The end is the end. The messages that come to a queue are numbered from 0 on, and no row names one before it comes. Once it
 -- was deleted, has expired, or left for another queue, only answers gone and repeat and a consumer's fail and forward name it
@@ -30,6 +38,45 @@ pub record DeadLetters (s : Scenario) (rows : List Row) : Type 0 where
       → (p : Policy) × HasPolicy s r p × (times m before ≡ p.max_receives) × (r.detail ≡ details.Queue p.dead_letter))
   pub stays : EachNaming rows (λ before r m. IsTrue (is_release r.kind || received r) → (p : Policy) → HasPolicy s r p → times m before < p.max_receives)
 
+-- a receipt of the queue of a row and of a message that came there, with the count of a receive
+pub record Known (before : List Row) (r : Row) (m : MessageId) (count : ℕ) : Type 0 where
+  pub text : List ℕ
+  pub given : r.receipt ≡ receipts.Given text
+  pub read : read_receipt text ≡ Some (record { site = m.site; number = m.number; count = count })
+  pub here : m.site ≡ r.queue
+  pub came : m.number < comings r.queue before
+
+-- whether the queue of a row is a FIFO queue
+abbrev pub is_fifo : Kind → Bool
+is_fifo (Standard hosts sampled) = false
+is_fifo (Fifo content_dedup scope) = true
+
+abbrev pub fifo_at : Scenario → Row → Bool
+fifo_at s r = elim (slice_get s.queues r.queue) as (λ _. Bool) [ None ↦ false | Some q ↦ is_fifo q.kind ]
+
+-- whether a receipt is the newest of a message that may be deleted: at a FIFO queue it is in flight
+abbrev pub deletes : Bool → List Row → MessageId → ℕ → Bool
+deletes fifo before m count = count == times m before && (not fifo || flying m before)
+
+-- the answer to a delete by a receipt that was given, or is yet to come
+abbrev pub delete_answer : Bool → List Row → MessageId → ℕ → RowAnswer
+delete_answer fifo before m count =
+    if has_left m before then answers.Gone
+    else (if nat_lt (times m before) count then answers.Refused refusals.ReceiptHandleIsInvalid
+    else (if deletes fifo before m count then answers.Deleted
+    else (if fifo then answers.Refused refusals.ReceiptHandleIsInvalid else answers.Kept)))
+
+-- Receipts. The c-th receive of message n at queue S gives the receipt r-S-n-c. A delete by it is gone if the message has left,
+-- deleted if it is the newest (at a FIFO queue: of a message in flight), kept if it is an older one at a standard queue, and
+-- else ReceiptHandleIsInvalid, as for a receipt never given.
+pub record Receipts (s : Scenario) (rows : List Row) : Type 0 where
+  pub made : EachNaming rows (λ before r m. IsTrue (received r)
+      → r.receipt ≡ receipts.Made (record { site = r.queue; number = m.number; count = times m before + 1 }))
+  pub deletes : EachRow rows (λ before r. IsTrue (is_delete r.kind) → (m : MessageId) (count : ℕ) → Known before r m count
+      → r.answer ≡ delete_answer (fifo_at s r) before m count)
+  pub others : EachRow rows (λ before r. IsTrue (is_delete r.kind)
+      → ((m : MessageId) × (count : ℕ) × Known before r m count) ⊎ (r.answer ≡ answers.Refused refusals.ReceiptHandleIsInvalid))
+
 -- Time. Rows are in the order of time, none after the horizon.
 pub record InTime (s : Scenario) (rows : List Row) : Type 0 where
   pub order : EachRow rows (λ before r. All (λ x. x.key.at ≤ r.key.at) before)
@@ -39,6 +86,7 @@ pub record InTime (s : Scenario) (rows : List Row) : Type 0 where
 pub record KeepsTheRules (s : Scenario) (rows : List Row) : Type 0 where
   pub the_end : TheEnd rows
   pub dead_letters : DeadLetters s rows
+  pub receipts : Receipts s rows
   pub in_time : InTime s rows
 
 -- the log of every sound scenario whose queues are in their ranges keeps the rules

@@ -1,6 +1,6 @@
 -- What rows say: their kinds and answers, and what the rows before one row say of its message.
 use Rattle.std.specs.List.{list_any}
-use Rattle.std.specs.Prelude.{Bool, List, Option, Some, count_by, false, true, ℕ, ◌&&◌, ◌++◌, ◌==◌, ◌∷◌, ◌≡◌, ◌||◌}
+use Rattle.std.specs.Prelude.{Bool, List, None, Option, Some, count_by, false, fold, if◌then◌else◌, is_some, not, true, ℕ, ◌&&◌, ◌++◌, ◌==◌, ◌∷◌, ◌≡◌, ◌||◌}
 use Rattle.sqs_message.specs.declared.ids.MessageId.{MessageId}
 use Rattle.sqs_message.specs.declared.row.Row.{Row}
 use Rattle.sqs_message.specs.declared.row.RowAnswer.{RowAnswer}
@@ -13,6 +13,10 @@ use Rattle.sqs_model.specs.Accounts.{is_deleted, is_expired, same_id}
 abbrev pub is_receive : RowKind → Bool
 is_receive kinds.Receive = true
 is_receive _ = false
+
+abbrev pub is_delete : RowKind → Bool
+is_delete kinds.Delete = true
+is_delete _ = false
 
 abbrev pub is_change : RowKind → Bool
 is_change kinds.Change = true
@@ -91,6 +95,15 @@ times m rows = count_by (λ r. received r && names m r) rows
 -- whether a message has left its queue
 abbrev pub has_left : MessageId → List Row → Bool
 has_left m rows = list_any (λ r. leaves r && names m r) rows
+
+-- the receive or change by which a message is in flight, if it is
+abbrev pub flight : MessageId → List Row → Option Row
+flight m rows =
+    fold (λ f r. if not (names m r) then f else (if received r || changed r then Some r else (if is_release r.kind || leaves r then None else f))) None rows
+
+-- whether it is in flight
+abbrev pub flying : MessageId → List Row → Bool
+flying m rows = is_some (flight m rows)
 
 -- the rows that may still name a message that has left
 abbrev pub may_follow : Row → Bool

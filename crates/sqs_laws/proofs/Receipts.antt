@@ -1,0 +1,228 @@
+-- Receipts: each receive gives a new one, and what a delete by one does follows from the rows before it.
+use Rattle.std.specs.Prelude.{All, Bool, Err, List, None, Ok, Option, Result, Some, [], false, if◌then◌else◌, drop, is_none, nat_le, nat_lt, not, slice_get, true, ℕ, ◌&&◌, ◌+◌, ◌<◌, ◌==◌, ◌∷◌, ◌≡◌, ◌≢◌, ◌≤◌, ◌⊎◌, ◌^◌, ◌||◌}
+use Rattle.std.specs.Str.{bytes_eq}
+use Rattle.std.proofs.Common.{ap, arith, inl, inr, refl, subst, sym, ◌∙◌}
+use Rattle.std.proofs.lemmas.Bool.{and_parts, eq-eqb, eqb-false, eqb-true, leb-true, ne_eqb}
+use Rattle.std.proofs.lemmas.Bool.Decides.{nat_tests}
+use Rattle.sim_clock.specs.declared.key.Key.{Key}
+use Rattle.sim_clock.specs.declared.refusal.Refusal.{Refusal}
+use Rattle.sim_clock.specs.declared.refusal.Refusal.TheVariants as refusals
+use Rattle.sqs_message.specs.declared.ids.MessageId.{MessageId}
+use Rattle.sqs_message.specs.declared.ids.Receipt.{Receipt}
+use Rattle.sqs_message.specs.declared.message.Message.{Message}
+use Rattle.sqs_message.specs.declared.row.Row.{Row}
+use Rattle.sqs_message.specs.declared.row.RowAnswer.{RowAnswer}
+use Rattle.sqs_message.specs.declared.row.RowAnswer.TheVariants as answers
+use Rattle.sqs_message.specs.declared.row.RowKind.{RowKind}
+use Rattle.sqs_message.specs.declared.row.RowKind.TheVariants as kinds
+use Rattle.sqs_message.specs.declared.row.RowReceipt.TheVariants as receipts
+use Rattle.sqs_message.specs.Ids.{fits, numbers_in, read_receipt, receipt_text}
+use Rattle.sqs_redrive.specs.declared.answers.Deleted.{Deleted}
+use Rattle.sqs_redrive.specs.declared.answers.Deleted.TheVariants.{Gone, Kept, Removed}
+use Rattle.sqs_redrive.specs.declared.settings.Kind.{Kind}
+use Rattle.sqs_redrive.specs.declared.settings.Kind.TheVariants.{Fifo, Standard}
+use Rattle.sqs_redrive.specs.declared.settings.QueueSettings.{QueueSettings}
+use Rattle.sqs_model.specs.Calls.{delete, delete_as, delete_fifo_here, delete_gone, delete_standard_here, may_be_given, removed}
+use Rattle.sqs_model.specs.Queue.{Queue, id_of, is_in_flight, numbered}
+use Rattle.sqs_model.specs.Run.{IsRunOf, Run}
+use Rattle.sqs_model.specs.Scenario.{Scenario}
+use Rattle.sqs_model.specs.Valid.{IsQueueSettings}
+use Rattle.sqs_laws.specs.Laws.{Known, Receipts, delete_answer, fifo_at, is_fifo}
+use Rattle.sqs_laws.specs.Words.{EachRow, comings, flying, has_left, is_delete, times}
+use Rattle.sqs_laws.specs.Words as words
+use Rattle.sqs_laws.proofs.Calls.{found_old}
+use Rattle.sqs_laws.proofs.End as end
+use Rattle.sqs_laws.proofs.Flights as fly
+use Rattle.sqs_laws.proofs.Letters as letter
+use Rattle.sqs_laws.proofs.Moves.{Asks, AsksDelete, Does, IsStocked, Move, Receives, changes, comes, deleted_answer, ends, receives, redrives, releases, stays}
+use Rattle.sqs_laws.proofs.Said.{not_there}
+use Rattle.sqs_laws.proofs.Worlds.{RowLaw, both, every_row_by}
+
+-- a receipt that is read counts from 1
+read_counts : (text : List ℕ) (r x : Receipt) → (if fits r && bytes_eq (receipt_text r) text then Some r else None) ≡ Some x → 1 ≤ x.count
+read_counts text r x e =
+    elim (fits r && bytes_eq (receipt_text r) text) as (λ b. (fits r && bytes_eq (receipt_text r) text) ≡ b → (if b then Some r else None) ≡ Some x → 1 ≤ x.count) [
+      | true ↦ λ t f.
+          let is : r ≡ x = cc in
+          let fit : fits r ≡ true = (and_parts (fits r) (bytes_eq (receipt_text r) text) t).0 in
+          let least : nat_le 1 r.count ≡ true = (and_parts (nat_lt r.site (2 ^ 32) && nat_lt r.number (2 ^ 62) && nat_lt r.count (2 ^ 62)) (nat_le 1 r.count) fit).1 in
+          subst (λ (y : Receipt). 1 ≤ y.count) is (leb-true 1 r.count least)
+      | false ↦ λ t f. cc
+    ] refl e
+
+counts_from_1 : (text : List ℕ) (x : Receipt) → read_receipt text ≡ Some x → 1 ≤ x.count
+counts_from_1 text x e = read_counts text (numbers_in (drop 2 text)) x e
+
+-- what a row of a delete asked
+asked_by : (key : Key) (q : Queue) (r : Row) (k : RowKind) → is_delete k ≡ true → Asks key q r k → AsksDelete key q r
+asked_by key q r kinds.Delete e a = a
+asked_by key q r k e a = cc
+
+-- the answer of a delete of a message that is there
+standard_answer : (q : Queue) (now : ℕ) (x : Receipt) (m : Message) (b c d : Bool) → nat_lt m.receives x.count ≡ b → nat_lt x.count m.receives ≡ c → (x.count == m.receives) ≡ d
+    → deleted_answer (if b then (Err refusals.ReceiptHandleIsInvalid, q) else (if c then (Ok Kept, q) else removed q now x m)).0
+    ≡ (if b then answers.Refused refusals.ReceiptHandleIsInvalid else (if d && true then answers.Deleted else answers.Kept))
+standard_answer q now x m true c d e f g = refl
+standard_answer q now x m false true true e f g = absurd (let s : x.count ≡ m.receives = eqb-true x.count m.receives g in grind (arith, nat_tests, f, s))
+standard_answer q now x m false true false e f g = refl
+standard_answer q now x m false false true e f g = refl
+standard_answer q now x m false false false e f g = absurd (let s : x.count ≢ m.receives = eqb-false x.count m.receives g in grind (arith, nat_tests, e, f, s))
+
+fifo_answer : (q : Queue) (now : ℕ) (x : Receipt) (m : Message) (flies b d : Bool) → nat_lt m.receives x.count ≡ b → (x.count == m.receives) ≡ d
+    → deleted_answer (if d && flies then removed q now x m else (Err refusals.ReceiptHandleIsInvalid, q)).0
+    ≡ (if b then answers.Refused refusals.ReceiptHandleIsInvalid else (if d && flies then answers.Deleted else answers.Refused refusals.ReceiptHandleIsInvalid))
+fifo_answer q now x m flies true true e g = absurd (let s : x.count ≡ m.receives = eqb-true x.count m.receives g in grind (arith, nat_tests, e, s))
+fifo_answer q now x m flies true false e g = refl
+fifo_answer q now x m true false true e g = refl
+fifo_answer q now x m false false true e g = refl
+fifo_answer q now x m flies false false e g = refl
+
+-- the answer by the rows, of a message that is there
+answer_there : (fifo : Bool) (rows : List Row) (m : MessageId) (count got : ℕ) (flies : Bool) → has_left m rows ≡ false → times m rows ≡ got → flying m rows ≡ flies
+    → delete_answer fifo rows m count
+    ≡ (if nat_lt got count then answers.Refused refusals.ReceiptHandleIsInvalid else (if count == got && (not fifo || flies) then answers.Deleted else (if fifo then answers.Refused refusals.ReceiptHandleIsInvalid else answers.Kept)))
+answer_there fifo rows m count got flies l t f = rw (l, t, f) refl
+
+module _ (s : Scenario) (v : All IsQueueSettings s.queues) where
+  abbrev told : RowLaw s
+  told = both s (end.the_end s) (both s (letter.letters s v) (fly.flights s))
+
+  module _ (rows : List Row) (key : Key) (q : Queue) (r : Row) (p : Queue) (d : Move key q r p) (k : IsStocked q) (h : told.Holds rows q) where
+    came : comings r.queue rows ≡ q.arrivals
+    came = ap (λ n. comings n rows) d.at_site ∙ h.0.came
+
+    -- a receive
+    made_by : Does key q r p → (m : MessageId) → r.message ≡ Some m → words.received r ≡ true → r.receipt ≡ receipts.Made (record { site = r.queue; number = m.number; count = times m rows + 1 })
+    made_by (receives x) m e t =
+        let i : id_of q x.number ≡ m = cc in
+        let before : times (id_of q x.number) rows ≡ x.one.receives = h.1.0.received x.number x.one x.names.there in
+        x.receipt
+        ∙ ap (λ n. receipts.Made (record { site = q.site; number = x.number; count = n + 1 })) (sym before)
+        ∙ ap (λ n. receipts.Made (record { site = n; number = x.number; count = times (id_of q x.number) rows + 1 })) (sym d.at_site)
+        ∙ ap (λ y. receipts.Made (record { site = r.queue; number = y.number; count = times y rows + 1 })) i
+    made_by (stays x) m e t = let none : words.received r ≡ false = x.tells.received_so in cc
+    made_by (comes x) m e t = let none : words.received r ≡ false = x.tells.received_so in cc
+    made_by (changes x) m e t = let none : words.received r ≡ false = x.tells.received_so in cc
+    made_by (releases x) m e t = let none : words.received r ≡ false = x.tells.received_so in cc
+    made_by (redrives x) m e t = let none : words.received r ≡ false = x.tells.received_so in cc
+    made_by (ends x) m e t = let none : words.received r ≡ false = x.tells.received_so in cc
+
+    -- the kind of its queue
+    fifo_is : fifo_at s r ≡ is_fifo q.settings.kind
+    fifo_is =
+        ap (λ n. elim (slice_get s.queues n) as (λ _. Bool) [ None ↦ false | Some x ↦ is_fifo x.kind ]) d.at_site
+        ∙ ap (λ o. elim o as (λ _. Bool) [ None ↦ false | Some x ↦ is_fifo x.kind ]) h.1.0.settings
+
+    -- a delete by a receipt that was given, or is yet to come
+    module _ (m : MessageId) (count : ℕ) (here : m.site ≡ q.site) (old : m.number < q.arrivals) (first : 1 ≤ count) where
+      abbrev by : Receipt
+      by = record { site = m.site; number = m.number; count = count }
+
+      is_id : id_of q m.number ≡ m
+      is_id = ap (λ n. record { site = n; number = m.number }) (sym here)
+
+      left_is : has_left m rows ≡ is_none (numbered m.number q.records)
+      left_is = subst (λ x. has_left x rows ≡ is_none (numbered m.number q.records)) is_id (h.0.left m.number old)
+
+      given : may_be_given q by ≡ true
+      given = rw here (let one : nat_lt 0 count ≡ true = grind (arith, nat_tests, first) in rw (eq-eqb q.site q.site refl, one) refl)
+
+      there : (one : Message) → numbered m.number q.records ≡ Some one → (fifo : Bool) → delete_answer fifo rows m count
+          ≡ (if nat_lt one.receives count then answers.Refused refusals.ReceiptHandleIsInvalid else (if count == one.receives && (not fifo || is_in_flight one) then answers.Deleted else (if fifo then answers.Refused refusals.ReceiptHandleIsInvalid else answers.Kept)))
+      there one f fifo =
+          answer_there fifo rows m count one.receives (is_in_flight one) (left_is ∙ ap is_none f)
+          (subst (λ x. times x rows ≡ one.receives) is_id (h.1.0.received m.number one f))
+          (subst (λ x. flying x rows ≡ is_in_flight one) is_id (h.1.1.flies m.number one f))
+
+      gone_told : numbered m.number q.records ≡ None → (fifo : Bool) → deleted_answer (delete_gone q by).0 ≡ delete_answer fifo rows m count
+      gone_told f fifo =
+          let left : has_left m rows ≡ true = left_is ∙ ap is_none f in
+          let come : nat_lt m.number q.arrivals ≡ true = grind (arith, nat_tests, old) in
+          let one : deleted_answer (delete_gone q by).0 ≡ answers.Gone = rw come refl in
+          one ∙ sym (ap (λ b. if b then answers.Gone else (if nat_lt (times m rows) count then answers.Refused refusals.ReceiptHandleIsInvalid
+              else (if count == times m rows && (not fifo || flying m rows) then answers.Deleted else (if fifo then answers.Refused refusals.ReceiptHandleIsInvalid else answers.Kept)))) left)
+
+      standard_found : (o : Option Message) → numbered m.number q.records ≡ o
+          → deleted_answer (elim o as (λ _. Result Deleted Refusal × Queue) [ None ↦ delete_gone q by | Some one ↦ delete_standard_here q key.at by one ]).0 ≡ delete_answer false rows m count
+      standard_found None f = gone_told f false
+      standard_found (Some one) f = standard_answer q key.at by one (nat_lt one.receives count) (nat_lt count one.receives) (count == one.receives) refl refl refl ∙ sym (there one f false)
+
+      fifo_found : (o : Option Message) → numbered m.number q.records ≡ o
+          → deleted_answer (elim o as (λ _. Result Deleted Refusal × Queue) [ None ↦ delete_gone q by | Some one ↦ delete_fifo_here q key.at by one ]).0 ≡ delete_answer true rows m count
+      fifo_found None f = gone_told f true
+      fifo_found (Some one) f = fifo_answer q key.at by one (is_in_flight one) (nat_lt one.receives count) (count == one.receives) refl refl ∙ sym (there one f true)
+
+      told_as : (k : Kind) → deleted_answer (delete_as k q key.at by).0 ≡ delete_answer (is_fifo k) rows m count
+      told_as (Standard hosts sampled) = ap (λ b. deleted_answer (if b then elim (numbered m.number q.records) as (λ _. Result Deleted Refusal × Queue) [ None ↦ delete_gone q by | Some one ↦ delete_standard_here q key.at by one ] else (Err refusals.ReceiptHandleIsInvalid, q)).0) given ∙ standard_found (numbered m.number q.records) refl
+      told_as (Fifo content scope) = ap (λ b. deleted_answer (if b then elim (numbered m.number q.records) as (λ _. Result Deleted Refusal × Queue) [ None ↦ delete_gone q by | Some one ↦ delete_fifo_here q key.at by one ] else (Err refusals.ReceiptHandleIsInvalid, q)).0) given ∙ fifo_found (numbered m.number q.records) refl
+
+    deletes_by : is_delete r.kind ≡ true → (m : MessageId) (count : ℕ) → Known rows r m count → r.answer ≡ delete_answer (fifo_at s r) rows m count
+    deletes_by t m count x =
+        let a : AsksDelete key q r = asked_by key q r r.kind t d.asked in
+        let same : receipts.Given x.text ≡ receipts.Given a.text = sym x.given ∙ a.given in
+        let text : x.text ≡ a.text = cc in
+        let read : read_receipt a.text ≡ Some (record { site = m.site; number = m.number; count = count }) = ap read_receipt (sym text) ∙ x.read in
+        let here : m.site ≡ q.site = x.here ∙ d.at_site in
+        let old : m.number < q.arrivals = let n : m.number < comings r.queue rows = x.came in omega (arith, came, n) in
+        a.by (record { site = m.site; number = m.number; count = count }) read
+        ∙ told_as m count here old (counts_from_1 a.text (record { site = m.site; number = m.number; count = count }) read) q.settings.kind
+        ∙ ap (λ b. delete_answer b rows m count) (sym fifo_is)
+
+    -- any other delete is refused
+    foreign : (x : Receipt) → may_be_given q x ≡ false → (k : Kind) → deleted_answer (delete_as k q key.at x).0 ≡ answers.Refused refusals.ReceiptHandleIsInvalid
+    foreign x g (Standard hosts sampled) = rw g refl
+    foreign x g (Fifo content scope) = rw g refl
+
+    early_by : (here : Message → Result Deleted Refusal × Queue) (x : Receipt) → nat_lt x.number q.arrivals ≡ false → (o : Option Message) → numbered x.number q.records ≡ o
+        → deleted_answer (elim o as (λ _. Result Deleted Refusal × Queue) [ None ↦ delete_gone q x | Some one ↦ here one ]).0 ≡ answers.Refused refusals.ReceiptHandleIsInvalid
+    early_by here x l None f = rw l refl
+    early_by here x l (Some one) f = let old : x.number < q.arrivals = found_old q x.number one k f in absurd (grind (arith, nat_tests, l, old))
+
+    early : (x : Receipt) → may_be_given q x ≡ true → nat_lt x.number q.arrivals ≡ false → (kind : Kind) → deleted_answer (delete_as kind q key.at x).0 ≡ answers.Refused refusals.ReceiptHandleIsInvalid
+    early x g l (Standard hosts sampled) = rw g (early_by (delete_standard_here q key.at x) x l (numbered x.number q.records) refl)
+    early x g l (Fifo content scope) = rw g (early_by (delete_fifo_here q key.at x) x l (numbered x.number q.records) refl)
+
+    abbrev IsKnown : Type 0
+    IsKnown = (m : MessageId) × (count : ℕ) × Known rows r m count
+
+    abbrev IsInvalid : Type 0
+    IsInvalid = r.answer ≡ answers.Refused refusals.ReceiptHandleIsInvalid
+
+    known_by : (a : AsksDelete key q r) (x : Receipt) → read_receipt a.text ≡ Some x → may_be_given q x ≡ true → nat_lt x.number q.arrivals ≡ true → IsKnown
+    known_by a x e g l =
+        let site : x.site ≡ q.site = eqb-true x.site q.site (and_parts (x.site == q.site) (nat_lt 0 x.count) g).0 in
+        let old : x.number < q.arrivals = grind (arith, nat_tests, l) in
+        (record { site = x.site; number = x.number }, x.count, record { text = a.text; given = a.given; read = e; here = site ∙ sym d.at_site; came = omega (arith, came, old) })
+
+    other_come : (b : Bool) (a : AsksDelete key q r) (x : Receipt) → read_receipt a.text ≡ Some x → may_be_given q x ≡ true → nat_lt x.number q.arrivals ≡ b → IsKnown ⊎ IsInvalid
+    other_come true a x e g l = inl (known_by a x e g l)
+    other_come false a x e g l = inr (a.by x e ∙ early x g l q.settings.kind)
+
+    other_given : (b : Bool) (a : AsksDelete key q r) (x : Receipt) → read_receipt a.text ≡ Some x → may_be_given q x ≡ b → IsKnown ⊎ IsInvalid
+    other_given true a x e g = other_come (nat_lt x.number q.arrivals) a x e g refl
+    other_given false a x e g = inr (a.by x e ∙ foreign x g q.settings.kind)
+
+    other_read : (o : Option Receipt) (a : AsksDelete key q r) → read_receipt a.text ≡ o → IsKnown ⊎ IsInvalid
+    other_read None a e = inr (a.none e)
+    other_read (Some x) a e = other_given (may_be_given q x) a x e refl
+
+    others_by : is_delete r.kind ≡ true → IsKnown ⊎ IsInvalid
+    others_by t = let a : AsksDelete key q r = asked_by key q r r.kind t d.asked in other_read (read_receipt a.text) a refl
+
+  -- what the law says of a row
+  record IsAsTold (before : List Row) (r : Row) : Type 0 where
+    pub made : (m : MessageId) → r.message ≡ Some m → words.received r ≡ true → r.receipt ≡ receipts.Made (record { site = r.queue; number = m.number; count = times m before + 1 })
+    pub deletes : is_delete r.kind ≡ true → (m : MessageId) (count : ℕ) → Known before r m count → r.answer ≡ delete_answer (fifo_at s r) before m count
+    pub others : is_delete r.kind ≡ true → ((m : MessageId) × (count : ℕ) × Known before r m count) ⊎ (r.answer ≡ answers.Refused refusals.ReceiptHandleIsInvalid)
+
+  -- the law
+  pub receipts_are_known : (x : Run) → IsRunOf s x → Receipts s x.rows
+  receipts_are_known x is =
+      let each : EachRow x.rows IsAsTold =
+      every_row_by s told IsAsTold
+      (λ rows key q r p d k h. record { made = made_by rows key q r p d k h d.does; deletes = deletes_by rows key q r p d k h; others = others_by rows key q r p d k h }) x is in
+      record {
+        made = λ before r after e m i t. (each before r after e).made m i t;
+        deletes = λ before r after e t m count y. (each before r after e).deletes t m count y;
+        others = λ before r after e t. (each before r after e).others t;
+      }
