@@ -135,7 +135,7 @@ module _ (key : Key) (start : Queue) (fine : IsStocked start) where
         Hears = Hears;
         hears_none = λ c. tt;
         gives = givingly;
-        changes = λ rows a c text timeout h. extends rows c _ h (change_chain key a c text timeout (read_receipt text) (stocked rows c h));
+        changes = λ rows a c text timeout h. extends rows c _ h (change_chain key a c text timeout (stocked rows c h));
         deletes = λ rows a c text h. extends rows c _ h (delete_chain key a c text (stocked rows c h));
         sends = λ rows a c body delay group id h. extends rows c _ h (sends_chain key c.queue.settings.kind a c body delay group id (stocked rows c h));
         draws = λ rows c hosts h. record { chain = h.chain; actors = h.actors };

@@ -1,5 +1,5 @@
 -- What a row of a handling did to its queue.
-use Rattle.std.specs.Prelude.{All, Bool, Err, List, None, Ok, Option, Result, Some, [], false, suc, true, ℕ, ◌+◌, ◌++◌, ◌<◌, ◌∷◌, ◌≡◌, ◌≤◌}
+use Rattle.std.specs.Prelude.{All, Bool, Err, List, None, Ok, Option, Result, Some, [], false, suc, true, ℕ, ◌+◌, ◌++◌, ◌<◌, ◌∷◌, ◌≡◌, ◌≤◌, ◌⊎◌}
 use Rattle.std.proofs.Common.{ap, arith, refl, subst, sym, ◌∙◌}
 use Rattle.std.proofs.lemmas.List.Elements.{All-push, All-weaker}
 use Rattle.sim_clock.specs.declared.key.Key.{Key}
@@ -20,9 +20,10 @@ use Rattle.sqs_message.specs.Ids.{read_receipt}
 use Rattle.sqs_redrive.specs.declared.answers.Deleted.{Deleted}
 use Rattle.sqs_redrive.specs.declared.answers.Deleted.TheVariants.{Gone, Kept, Removed}
 use Rattle.sqs_redrive.specs.declared.settings.Policy.{Policy}
+use Rattle.sqs_redrive.specs.declared.transfers.Load.{Load}
 use Rattle.sqs_redrive.specs.MoveTasks.{is_worn}
 use Rattle.sqs_model.specs.Queue.{Entry, Queue, has_number, id_of, is_in_flight, is_visible, numbered, taken_out, with_change, with_records}
-use Rattle.sqs_model.specs.Calls.{delete, in_flight_until, with_message}
+use Rattle.sqs_model.specs.Calls.{change, delete, in_flight_until, with_message}
 use Rattle.sqs_model.specs.Receive.{received}
 use Rattle.sqs_model.specs.Return.{leaves, visible_again}
 use Rattle.sqs_model.proofs.Counts.{all_changed, all_without, ascends_changed, ascends_push, ascends_without}
@@ -52,9 +53,27 @@ pub record AsksDelete (key : Key) (q : Queue) (r : Row) : Type 0 where
   pub by : (x : Receipt) → read_receipt text ≡ Some x → r.answer ≡ deleted_answer (delete q key.at x).0
   pub none : read_receipt text ≡ None → r.answer ≡ answers.Refused refusals.ReceiptHandleIsInvalid
 
+-- the answer that the row of a change tells
+abbrev pub changed_answer : Result (Option Load) Refusal → RowAnswer
+changed_answer (Ok left) = answers.Ok
+changed_answer (Err e) = answers.Refused e
+
+-- an error of a change by a text that is no receipt
+abbrev pub IsNoReceipt : RowAnswer → Type 0
+IsNoReceipt a = (a ≡ answers.Refused refusals.ReceiptHandleIsInvalid) ⊎ (a ≡ answers.Refused refusals.BadTimeout)
+
+-- a change by a text, which may be no receipt
+pub record AsksChange (key : Key) (q : Queue) (r : Row) : Type 0 where
+  pub text : List ℕ
+  pub given : r.receipt ≡ receipts.Given text
+  pub timeout : ℕ
+  pub by : (x : Receipt) → read_receipt text ≡ Some x → r.answer ≡ changed_answer (change q key.at x timeout).0
+  pub none : read_receipt text ≡ None → IsNoReceipt r.answer
+
 -- what a row of a kind asks of its queue
 abbrev pub Asks : Key → Queue → Row → RowKind → Type 0
 Asks key q r kinds.Delete = AsksDelete key q r
+Asks key q r kinds.Change = AsksChange key q r
 Asks key q r kind = Unit {0}
 
 module _ (key : Key) (q : Queue) (r : Row) (p : Queue) where

@@ -1,7 +1,7 @@
 -- The rows of each other call, and of what is due, are a chain of single moves.
 use Rattle.std.specs.Str.{bytes_eq}
 use Rattle.std.specs.Prelude.{All, Bool, Err, List, None, Ok, Option, Result, Some, [], false, find, get_or, if◌then◌else◌, length, map, nat_lt, take, true, ℕ, ◌&&◌, ◌*◌, ◌+◌, ◌++◌, ◌<◌, ◌==◌, ◌∷◌, ◌≡◌, ◌≢◌, ◌||◌}
-use Rattle.std.proofs.Common.{ap, arith, refl, subst, sym, ◌∙◌}
+use Rattle.std.proofs.Common.{ap, arith, inl, inr, refl, subst, sym, ◌∙◌}
 use Rattle.std.proofs.lemmas.Bool.{eqb-true}
 use Rattle.std.proofs.lemmas.Bool.Decides.{nat_tests}
 use Rattle.std.proofs.lemmas.List.{append-nil}
@@ -58,7 +58,7 @@ use Rattle.sqs_model.proofs.Counts.{changed_twice, find_all, find_picked, withou
 use Rattle.sqs_model.proofs.SiteAccounts.{IsFound}
 use Rattle.sqs_laws.specs.Words as words
 use Rattle.sqs_laws.proofs.Calls.{Told, back_told, found_old, one_back, own_changed, pushed_found, pushed_out, tells}
-use Rattle.sqs_laws.proofs.Moves.{Asks, AsksDelete, Chain, deleted_answer, chain_keeps, Comes, Does, Ends, IsStocked, Keeps, Move, Names, Stays, Tells, Changes, changes, chain_append, comes, ends, one_move, stays}
+use Rattle.sqs_laws.proofs.Moves.{Asks, AsksChange, AsksDelete, Chain, IsNoReceipt, changed_answer, deleted_answer, chain_keeps, Comes, Does, Ends, IsStocked, Keeps, Move, Names, Stays, Tells, Changes, changes, chain_append, comes, ends, one_move, stays}
 
 -- what a row of none tells
 abbrev SaysNothing : RowKind → RowAnswer → Type 0
@@ -80,6 +80,7 @@ says_nothing k a t = absurd t
 -- it asks nothing of a message
 asks_none : (key : Key) (q : Queue) (r : Row) (k : RowKind) (a : RowAnswer) → TellsOfNone k a → Asks key q r k
 asks_none key q r kinds.Delete a t = absurd t
+asks_none key q r kinds.Change a t = absurd t
 asks_none key q r k a t = tt
 
 -- a row that names no message changes nothing
@@ -241,53 +242,76 @@ module _ (key : Key) where
       ∙ ap (λ b. released_when b (with_change q n (in_flight_until end)) n (in_flight_until end m)) (leaves_alike q.settings.policy end m)
       ∙ changed_back (leaves q.settings.policy m) q n end m ∙ sym (ap (released_found q n) f)
 
-  abbrev IsChanged : Actor → Core → List ℕ → ℕ → Receipt → Result (Option Load) Refusal × Queue → Type 0
-  IsChanged a c text timeout r x = IsChain c (change_answered key a c text timeout r x).effect
+  module _ (a : Actor) (c : Core) (text : List ℕ) (timeout : ℕ) (r : Receipt) (read : read_receipt text ≡ Some r) (s : IsStocked c.queue) where
+    -- of the answer that the change has
+    abbrev IsChanged : Result (Option Load) Refusal × Queue → Type 0
+    IsChanged x = change c.queue key.at r timeout ≡ x → IsChain c (change_answered key a c text timeout r x).effect
 
-  change_move : (a : Actor) (c : Core) (text : List ℕ) (timeout : ℕ) (r : Receipt) (m : Message) (end : ℕ) → numbered r.number c.queue.records ≡ Some m → is_in_flight m ≡ true → Move key c.queue (change_row key a c text answers.Ok (Some (id_of c.queue r.number)) (details.Timeout timeout)) (with_change c.queue r.number (in_flight_until end))
-  change_move a c text timeout r m end f l =
-      record {
-        at_key = refl;
-        at_site = refl;
-        asked = tt;
-        does = changes (record { one = m; number = r.number; end = end; tells = tells _ false false true false false refl refl refl refl refl; names = record { there = f; message = refl; sure = refl }; flies = l; after = refl });
-      }
+    asks_change : (x : Result (Option Load) Refusal × Queue) (row : Row) → row.receipt ≡ receipts.Given text → row.answer ≡ changed_answer x.0 → change c.queue key.at r timeout ≡ x → AsksChange key c.queue row
+    asks_change x row g w e =
+        record {
+          text = text;
+          given = g;
+          timeout = timeout;
+          by = λ y f. let is : r ≡ y = cc in w ∙ ap (λ (z : Result (Option Load) Refusal × Queue). changed_answer z.0) (sym e) ∙ ap (λ z. changed_answer (change c.queue key.at z timeout).0) is;
+          none = λ f. cc;
+        }
 
-  kept_change : (a : Actor) (c : Core) (text : List ℕ) (timeout : ℕ) (r : Receipt) (m : Message) → numbered r.number c.queue.records ≡ Some m → is_in_flight m ≡ true → (timeout == 0) ≡ false → IsChanged a c text timeout r (Ok None, with_change c.queue r.number (in_flight_until (key.at + 1000 * timeout)))
-  kept_change a c text timeout r m f l e =
-      let q : Queue = with_change c.queue r.number (in_flight_until (key.at + 1000 * timeout)) in
-      let row : Row = change_row key a c text answers.Ok (Some (id_of c.queue r.number)) (details.Timeout timeout) in
-      let one : Effect = says (with_queue c q) row in
-      let both : Effect = and_then one (λ d. came_back key d r.number None) in
-      subst (IsChain c) (sym (ap (λ b. if b then both else one) e)) (record { chain = one_move key c.queue row q (change_move a c text timeout r m (key.at + 1000 * timeout) f l); actors = refl })
+    change_move : (m : Message) (end : ℕ) → AsksChange key c.queue (change_row key a c text answers.Ok (Some (id_of c.queue r.number)) (details.Timeout timeout)) → numbered r.number c.queue.records ≡ Some m → is_in_flight m ≡ true → Move key c.queue (change_row key a c text answers.Ok (Some (id_of c.queue r.number)) (details.Timeout timeout)) (with_change c.queue r.number (in_flight_until end))
+    change_move m end y f l =
+        record {
+          at_key = refl;
+          at_site = refl;
+          asked = y;
+          does = changes (record { one = m; number = r.number; end = end; tells = tells _ false false true false false refl refl refl refl refl; names = record { there = f; message = refl; sure = refl }; flies = l; after = refl });
+        }
 
-  back_change : (a : Actor) (c : Core) (text : List ℕ) (timeout : ℕ) (r : Receipt) (m : Message) → IsStocked c.queue → numbered r.number c.queue.records ≡ Some m → is_in_flight m ≡ true → (timeout == 0) ≡ true → IsChanged a c text timeout r (returned (released c.queue r.number))
-  back_change a c text timeout r m s f l e =
-      let n : ℕ = r.number in
-      let x : Queue × Option Load = released c.queue n in
-      let taken : Queue = with_change c.queue n (in_flight_until key.at) in
-      let row : Row = change_row key a c text answers.Ok (Some (id_of c.queue n)) (details.Timeout timeout) in
-      let d : Core = with_queue c x.0 in
-      let one : Effect = says d row in
-      let both : Effect = and_then one (λ d. came_back key d n x.1) in
-      let same : released taken n ≡ x = released_changed c.queue n key.at m f in
-      let back : (e : Core) → e.queue.site ≡ c.queue.site → e.queue.settings ≡ c.queue.settings → Chain key taken (came_back key e n x.1).rows x.0 =
-      λ e i j. subst (λ (y : Queue × Option Load). Chain key taken (came_back key e n y.1).rows y.0) same (one_back key taken e n (in_flight_until key.at m) i j (own_changed n (in_flight_until key.at) (λ x. refl) c.queue.records m f)) in
-      let first : Chain key c.queue (row ∷ []) taken = one_move key c.queue row taken (change_move a c text timeout r m key.at f l) in
-      let kept : Keeps c.queue x.0 = chain_keeps key (row ∷ [] ++ (came_back key c n x.1).rows) c.queue x.0 (chain_append key (row ∷ []) (came_back key c n x.1).rows c.queue taken x.0 first (back c refl refl)) s in
-      let after : Told key d (came_back key d n x.1).core = back_told key d n x.1 in
-      let chain : Chain key c.queue both.rows x.0 = chain_append key (row ∷ []) (came_back key d n x.1).rows c.queue taken x.0 first (back d (sym kept.site) (sym kept.settings)) in
-      subst (IsChain c) (sym (ap (λ b. if b then both else one) e)) (record { chain = subst (Chain key c.queue both.rows) (sym after.queue) chain; actors = after.actors })
+    kept_change : (m : Message) → numbered r.number c.queue.records ≡ Some m → is_in_flight m ≡ true → (timeout == 0) ≡ false → IsChanged (Ok None, with_change c.queue r.number (in_flight_until (key.at + 1000 * timeout)))
+    kept_change m f l e x =
+        let q : Queue = with_change c.queue r.number (in_flight_until (key.at + 1000 * timeout)) in
+        let row : Row = change_row key a c text answers.Ok (Some (id_of c.queue r.number)) (details.Timeout timeout) in
+        let one : Effect = says (with_queue c q) row in
+        let both : Effect = and_then one (λ d. came_back key d r.number None) in
+        subst (IsChain c) (sym (ap (λ b. if b then both else one) e)) (record { chain = one_move key c.queue row q (change_move m (key.at + 1000 * timeout) (asks_change _ row refl refl x) f l); actors = refl })
 
-  pub change_chain : (a : Actor) (c : Core) (text : List ℕ) (timeout : ℕ) (o : Option Receipt) → IsStocked c.queue → IsChain c (change_made key a c text timeout o).effect
-  change_chain a c text timeout None s = refused_row c _ refl refl refl tt (tells _ false false false false false refl refl refl refl refl)
-  change_chain a c text timeout (Some r) s =
-      change_by (IsChanged a c text timeout r) c.queue key.at r timeout
-      (record {
-        refused = λ e. refused_row c _ refl refl refl tt (tells _ false false false false false refl refl refl refl refl);
-        back = λ m f l e. back_change a c text timeout r m s f l e;
-        kept = λ m f l e. kept_change a c text timeout r m f l e;
-      })
+    back_change : (m : Message) → numbered r.number c.queue.records ≡ Some m → is_in_flight m ≡ true → (timeout == 0) ≡ true → IsChanged (returned (released c.queue r.number))
+    back_change m f l e w =
+        let n : ℕ = r.number in
+        let x : Queue × Option Load = released c.queue n in
+        let taken : Queue = with_change c.queue n (in_flight_until key.at) in
+        let row : Row = change_row key a c text answers.Ok (Some (id_of c.queue n)) (details.Timeout timeout) in
+        let d : Core = with_queue c x.0 in
+        let one : Effect = says d row in
+        let both : Effect = and_then one (λ d. came_back key d n x.1) in
+        let same : released taken n ≡ x = released_changed c.queue n key.at m f in
+        let back : (e : Core) → e.queue.site ≡ c.queue.site → e.queue.settings ≡ c.queue.settings → Chain key taken (came_back key e n x.1).rows x.0 =
+        λ e i j. subst (λ (y : Queue × Option Load). Chain key taken (came_back key e n y.1).rows y.0) same (one_back key taken e n (in_flight_until key.at m) i j (own_changed n (in_flight_until key.at) (λ x. refl) c.queue.records m f)) in
+        let first : Chain key c.queue (row ∷ []) taken = one_move key c.queue row taken (change_move m key.at (asks_change _ row refl refl w) f l) in
+        let kept : Keeps c.queue x.0 = chain_keeps key (row ∷ [] ++ (came_back key c n x.1).rows) c.queue x.0 (chain_append key (row ∷ []) (came_back key c n x.1).rows c.queue taken x.0 first (back c refl refl)) s in
+        let after : Told key d (came_back key d n x.1).core = back_told key d n x.1 in
+        let chain : Chain key c.queue both.rows x.0 = chain_append key (row ∷ []) (came_back key d n x.1).rows c.queue taken x.0 first (back d (sym kept.site) (sym kept.settings)) in
+        subst (IsChain c) (sym (ap (λ b. if b then both else one) e)) (record { chain = subst (Chain key c.queue both.rows) (sym after.queue) chain; actors = after.actors })
+
+    changed_chain : IsChanged (change c.queue key.at r timeout)
+    changed_chain =
+        change_by IsChanged c.queue key.at r timeout
+        (record {
+          refused = λ e w. refused_row c _ refl refl refl (asks_change _ _ refl refl w) (tells _ false false false false false refl refl refl refl refl);
+          back = λ m f l e w. back_change m f l e w;
+          kept = λ m f l e w. kept_change m f l e w;
+        })
+
+  no_receipt : (b : Bool) → IsNoReceipt (answers.Refused (if b then refusals.BadTimeout else refusals.ReceiptHandleIsInvalid))
+  no_receipt true = inr refl
+  no_receipt false = inl refl
+
+  change_chain_of : (a : Actor) (c : Core) (text : List ℕ) (timeout : ℕ) (o : Option Receipt) → read_receipt text ≡ o → IsStocked c.queue → IsChain c (change_made key a c text timeout o).effect
+  change_chain_of a c text timeout None e s =
+      refused_row c _ refl refl refl (record { text = text; given = refl; timeout = timeout; by = λ y f. cc; none = λ f. no_receipt (nat_lt 43200 timeout) }) (tells _ false false false false false refl refl refl refl refl)
+  change_chain_of a c text timeout (Some r) e s = changed_chain a c text timeout r e s refl
+
+  pub change_chain : (a : Actor) (c : Core) (text : List ℕ) (timeout : ℕ) → IsStocked c.queue → IsChain c (change_made key a c text timeout (read_receipt text)).effect
+  change_chain a c text timeout s = change_chain_of a c text timeout (read_receipt text) refl s
 
   -- what is due of messages
   pub expiry_chain : (c : Core) (m : Message) → numbered key.number c.queue.records ≡ Some m → IsChain c (handle_expiry key c)
