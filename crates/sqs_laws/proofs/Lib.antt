@@ -13,3 +13,4 @@ pub mod Order
 pub mod Rules
 pub mod Flights
 pub mod Receipts
+pub mod InFlight

@@ -154,6 +154,7 @@ module _ (key : Key) (q : Queue) (r : Row) (p : Queue) where
     pub tells : Tells r false false false false true
     pub names : Names one number
     pub kind : words.is_redrive r.kind ≡ false
+    pub rested : words.is_move r.kind ≡ true → is_visible one ≡ true
     pub after : taken_out q number ≡ p
 
   pub data Does : Type 0 where

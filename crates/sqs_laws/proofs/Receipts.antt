@@ -1,7 +1,7 @@
 -- Receipts: each receive gives a new one, and what a delete by one does follows from the rows before it.
-use Rattle.std.specs.Prelude.{All, Bool, Err, List, None, Ok, Option, Result, Some, [], false, if◌then◌else◌, drop, is_none, nat_le, nat_lt, not, slice_get, true, ℕ, ◌&&◌, ◌+◌, ◌<◌, ◌==◌, ◌∷◌, ◌≡◌, ◌≢◌, ◌≤◌, ◌⊎◌, ◌^◌, ◌||◌}
+use Rattle.std.specs.Prelude.{All, Bool, Err, List, None, Ok, Option, Result, Some, [], false, if◌then◌else◌, drop, is_none, nat_le, nat_lt, not, slice_get, true, ℕ, ◌&&◌, ◌*◌, ◌+◌, ◌<◌, ◌==◌, ◌∷◌, ◌≡◌, ◌≢◌, ◌≤◌, ◌⊎◌, ◌^◌, ◌||◌}
 use Rattle.std.specs.Str.{bytes_eq}
-use Rattle.std.proofs.Common.{ap, arith, inl, inr, refl, subst, sym, ◌∙◌}
+use Rattle.std.proofs.Common.{ap, arith, inl, inr, refl, subst, sym, true≢false, ◌∙◌}
 use Rattle.std.proofs.lemmas.Bool.{and_parts, eq-eqb, eqb-false, eqb-true, leb-true, ne_eqb}
 use Rattle.std.proofs.lemmas.Bool.Decides.{nat_tests}
 use Rattle.sim_clock.specs.declared.key.Key.{Key}
@@ -22,19 +22,22 @@ use Rattle.sqs_redrive.specs.declared.answers.Deleted.TheVariants.{Gone, Kept, R
 use Rattle.sqs_redrive.specs.declared.settings.Kind.{Kind}
 use Rattle.sqs_redrive.specs.declared.settings.Kind.TheVariants.{Fifo, Standard}
 use Rattle.sqs_redrive.specs.declared.settings.QueueSettings.{QueueSettings}
-use Rattle.sqs_model.specs.Calls.{delete, delete_as, delete_fifo_here, delete_gone, delete_standard_here, may_be_given, removed}
-use Rattle.sqs_model.specs.Queue.{Queue, id_of, is_in_flight, numbered}
+use Rattle.sqs_redrive.specs.declared.transfers.Load.{Load}
+use Rattle.sqs_model.specs.Calls.{change, change_done, change_found, change_here, delete, delete_as, delete_fifo_here, delete_gone, delete_standard_here, in_flight_until, may_be_given, removed, returned}
+use Rattle.sqs_model.specs.Queue.{Queue, id_of, is_in_flight, numbered, with_change}
+use Rattle.sqs_model.specs.Return.{released}
+use Rattle.sqs_model.proofs.Branches.{either}
 use Rattle.sqs_model.specs.Run.{IsRunOf, Run}
 use Rattle.sqs_model.specs.Scenario.{Scenario}
 use Rattle.sqs_model.specs.Valid.{IsQueueSettings}
-use Rattle.sqs_laws.specs.Laws.{Known, Receipts, delete_answer, fifo_at, is_fifo}
-use Rattle.sqs_laws.specs.Words.{EachRow, comings, flying, has_left, is_delete, times}
+use Rattle.sqs_laws.specs.Laws.{Known, Receipts, change_answer, delete_answer, fifo_at, is_fifo}
+use Rattle.sqs_laws.specs.Words.{EachRow, comings, flying, has_left, is_change, is_delete, times}
 use Rattle.sqs_laws.specs.Words as words
 use Rattle.sqs_laws.proofs.Calls.{found_old}
 use Rattle.sqs_laws.proofs.End as end
 use Rattle.sqs_laws.proofs.Flights as fly
 use Rattle.sqs_laws.proofs.Letters as letter
-use Rattle.sqs_laws.proofs.Moves.{Asks, AsksDelete, Does, IsStocked, Move, Receives, changes, comes, deleted_answer, ends, receives, redrives, releases, stays}
+use Rattle.sqs_laws.proofs.Moves.{Asks, AsksChange, AsksDelete, changed_answer, Does, IsStocked, Move, Receives, changes, comes, deleted_answer, ends, receives, redrives, releases, stays}
 use Rattle.sqs_laws.proofs.Said.{not_there}
 use Rattle.sqs_laws.proofs.Worlds.{RowLaw, both, every_row_by}
 
@@ -57,6 +60,10 @@ counts_from_1 text x e = read_counts text (numbers_in (drop 2 text)) x e
 asked_by : (key : Key) (q : Queue) (r : Row) (k : RowKind) → is_delete k ≡ true → Asks key q r k → AsksDelete key q r
 asked_by key q r kinds.Delete e a = a
 asked_by key q r k e a = cc
+
+changed_by : (key : Key) (q : Queue) (r : Row) (k : RowKind) → is_change k ≡ true → Asks key q r k → AsksChange key q r
+changed_by key q r kinds.Change e a = a
+changed_by key q r k e a = cc
 
 -- the answer of a delete of a message that is there
 standard_answer : (q : Queue) (now : ℕ) (x : Receipt) (m : Message) (b c d : Bool) → nat_lt m.receives x.count ≡ b → nat_lt x.count m.receives ≡ c → (x.count == m.receives) ≡ d
@@ -168,7 +175,91 @@ module _ (s : Scenario) (v : All IsQueueSettings s.queues) where
         ∙ told_as m count here old (counts_from_1 a.text (record { site = m.site; number = m.number; count = count }) read) q.settings.kind
         ∙ ap (λ b. delete_answer b rows m count) (sym fifo_is)
 
-    -- any other delete is refused
+    -- a change
+    module _ (m : MessageId) (count timeout : ℕ) (here : m.site ≡ q.site) (old : m.number < q.arrivals) (first : 1 ≤ count) where
+      abbrev with_count : Receipt
+      with_count = record { site = m.site; number = m.number; count = count }
+
+      abbrev Answers : Result (Option Load) Refusal × Queue → Type 0
+      Answers x = (changed_answer x.0 ≡ change_answer rows m count) ⊎ (changed_answer x.0 ≡ answers.Refused refusals.BadTimeout)
+
+      done_ok : changed_answer (change_done q key.at m.number timeout).0 ≡ answers.Ok
+      done_ok = either (λ (x : Result (Option Load) Refusal × Queue). changed_answer x.0 ≡ answers.Ok) (timeout == 0) (returned (released q m.number)) (Ok None, with_change q m.number (in_flight_until (key.at + 1000 * timeout))) refl refl
+
+      -- by the rows, of a message that is there
+      there_changed : (one : Message) → numbered m.number q.records ≡ Some one
+          → change_answer rows m count ≡ (if nat_lt one.receives count then answers.Refused refusals.ReceiptHandleIsInvalid else (if is_in_flight one && count == one.receives then answers.Ok else answers.Refused refusals.MessageNotInflight))
+      there_changed one f =
+          let left : has_left m rows ≡ false = left_is m count here old first ∙ ap is_none f in
+          let got : times m rows ≡ one.receives = subst (λ x. times x rows ≡ one.receives) (is_id m count here old first) (h.1.0.received m.number one f) in
+          let flies : flying m rows ≡ is_in_flight one = subst (λ x. flying x rows ≡ is_in_flight one) (is_id m count here old first) (h.1.1.flies m.number one f) in
+          rw (left, got, flies) refl
+
+      cases_of : (a b c d e : Bool) → (c ≡ true → e ≡ false) → (a ≡ false → c ≡ false → e ≡ true)
+          → (changed_answer (if a then (Err refusals.ReceiptHandleIsInvalid, q) else (if not b || c then (Err refusals.MessageNotInflight, q) else (if d then (Err refusals.BadTimeout, q) else change_done q key.at m.number timeout))).0
+          ≡ (if a then answers.Refused refusals.ReceiptHandleIsInvalid else (if b && e then answers.Ok else answers.Refused refusals.MessageNotInflight)))
+          ⊎ (changed_answer (if a then (Err refusals.ReceiptHandleIsInvalid, q) else (if not b || c then (Err refusals.MessageNotInflight, q) else (if d then (Err refusals.BadTimeout, q) else change_done q key.at m.number timeout))).0 ≡ answers.Refused refusals.BadTimeout)
+      cases_of true b c d e f g = inl refl
+      cases_of false false c d e f g = inl refl
+      cases_of false true true d true f g = absurd (true≢false (f refl))
+      cases_of false true true d false f g = inl refl
+      cases_of false true false true e f g = inr refl
+      cases_of false true false false true f g = inl done_ok
+      cases_of false true false false false f g = absurd (true≢false (sym (g refl refl)))
+
+      older : (n : ℕ) → nat_lt count n ≡ true → (count == n) ≡ false
+      older n e = grind (arith, nat_tests, e)
+
+      newest : (n : ℕ) → nat_lt n count ≡ false → nat_lt count n ≡ false → (count == n) ≡ true
+      newest n e f = grind (arith, nat_tests, e, f)
+
+      here_answers : (one : Message) → numbered m.number q.records ≡ Some one → Answers (change_here q key.at with_count timeout one)
+      here_answers one f =
+          subst (λ z. (changed_answer (change_here q key.at with_count timeout one).0 ≡ z) ⊎ (changed_answer (change_here q key.at with_count timeout one).0 ≡ answers.Refused refusals.BadTimeout)) (sym (there_changed one f))
+          (cases_of (nat_lt one.receives count) (is_in_flight one) (nat_lt count one.receives) (nat_lt (one.received + 43200000) (key.at + 1000 * timeout)) (count == one.receives)
+          (older one.receives) (newest one.receives))
+
+      gone_answers : numbered m.number q.records ≡ None → Answers (change_found q key.at with_count timeout None)
+      gone_answers f =
+          let left : has_left m rows ≡ true = left_is m count here old first ∙ ap is_none f in
+          let rests : flying m rows ≡ false = subst (λ x. flying x rows ≡ false) (is_id m count here old first) (h.1.1.rests m.number f) in
+          let come : nat_lt m.number q.arrivals ≡ true = grind (arith, nat_tests, old) in
+          let one : changed_answer (change_found q key.at with_count timeout None).0 ≡ answers.Refused refusals.MessageNotInflight = rw come refl in
+          let two : change_answer rows m count ≡ answers.Refused refusals.MessageNotInflight = rw (left, rests) refl in
+          inl (one ∙ sym two)
+
+      found_answers : (o : Option Message) → numbered m.number q.records ≡ o → Answers (change_found q key.at with_count timeout o)
+      found_answers None f = gone_answers f
+      found_answers (Some one) f = here_answers one f
+
+      change_answers : Answers (change q key.at with_count timeout)
+      change_answers =
+          let found : Result (Option Load) Refusal × Queue = change_found q key.at with_count timeout (numbered m.number q.records) in
+          let taken : Answers (if may_be_given q with_count then found else (Err refusals.ReceiptHandleIsInvalid, q)) =
+          subst (λ b. Answers (if b then found else (Err refusals.ReceiptHandleIsInvalid, q))) (sym (given m count here old first)) (found_answers (numbered m.number q.records) refl) in
+          either Answers (nat_lt 43200 timeout) (Err refusals.BadTimeout, q) (if may_be_given q with_count then found else (Err refusals.ReceiptHandleIsInvalid, q)) (inr refl) taken
+
+    changes_by : is_change r.kind ≡ true → (m : MessageId) (count : ℕ) → Known rows r m count → (r.answer ≡ change_answer rows m count) ⊎ (r.answer ≡ answers.Refused refusals.BadTimeout)
+    changes_by t m count x =
+        let a : AsksChange key q r = changed_by key q r r.kind t d.asked in
+        let same : receipts.Given x.text ≡ receipts.Given a.text = sym x.given ∙ a.given in
+        let text : x.text ≡ a.text = cc in
+        let read : read_receipt a.text ≡ Some (record { site = m.site; number = m.number; count = count }) = ap read_receipt (sym text) ∙ x.read in
+        let here : m.site ≡ q.site = x.here ∙ d.at_site in
+        let old : m.number < q.arrivals = let n : m.number < comings r.queue rows = x.came in omega (arith, came, n) in
+        let told : r.answer ≡ changed_answer (change q key.at (record { site = m.site; number = m.number; count = count }) a.timeout).0 = a.by (record { site = m.site; number = m.number; count = count }) read in
+        elim (change_answers m count a.timeout here old (counts_from_1 a.text (record { site = m.site; number = m.number; count = count }) read)) as (λ _. (r.answer ≡ change_answer rows m count) ⊎ (r.answer ≡ answers.Refused refusals.BadTimeout)) [
+          | inl e ↦ inl (told ∙ e)
+          | inr e ↦ inr (told ∙ e)
+        ]
+
+    -- any other delete or change is refused
+    abbrev IsKnown : Type 0
+    IsKnown = (m : MessageId) × (count : ℕ) × Known rows r m count
+
+    abbrev IsRefused : Type 0
+    IsRefused = (r.answer ≡ answers.Refused refusals.ReceiptHandleIsInvalid) ⊎ ((is_change r.kind ≡ true) × (r.answer ≡ answers.Refused refusals.BadTimeout))
+
     foreign : (x : Receipt) → may_be_given q x ≡ false → (k : Kind) → deleted_answer (delete_as k q key.at x).0 ≡ answers.Refused refusals.ReceiptHandleIsInvalid
     foreign x g (Standard hosts sampled) = rw g refl
     foreign x g (Fifo content scope) = rw g refl
@@ -182,47 +273,94 @@ module _ (s : Scenario) (v : All IsQueueSettings s.queues) where
     early x g l (Standard hosts sampled) = rw g (early_by (delete_standard_here q key.at x) x l (numbered x.number q.records) refl)
     early x g l (Fifo content scope) = rw g (early_by (delete_fifo_here q key.at x) x l (numbered x.number q.records) refl)
 
-    abbrev IsKnown : Type 0
-    IsKnown = (m : MessageId) × (count : ℕ) × Known rows r m count
+    early_found : (x : Receipt) (timeout : ℕ) → nat_lt x.number q.arrivals ≡ false → (o : Option Message) → numbered x.number q.records ≡ o → changed_answer (change_found q key.at x timeout o).0 ≡ answers.Refused refusals.ReceiptHandleIsInvalid
+    early_found x timeout l None f = rw l refl
+    early_found x timeout l (Some one) f = let old : x.number < q.arrivals = found_old q x.number one k f in absurd (grind (arith, nat_tests, l, old))
 
-    abbrev IsInvalid : Type 0
-    IsInvalid = r.answer ≡ answers.Refused refusals.ReceiptHandleIsInvalid
+    -- a change that no receipt of the queue asks for
+    change_refused : (t : is_change r.kind ≡ true) (a : AsksChange key q r) (x : Receipt) → read_receipt a.text ≡ Some x
+        → changed_answer (if may_be_given q x then change_found q key.at x a.timeout (numbered x.number q.records) else (Err refusals.ReceiptHandleIsInvalid, q)).0 ≡ answers.Refused refusals.ReceiptHandleIsInvalid → IsRefused
+    change_refused t a x e g =
+        let found : Result (Option Load) Refusal × Queue = if may_be_given q x then change_found q key.at x a.timeout (numbered x.number q.records) else (Err refusals.ReceiptHandleIsInvalid, q) in
+        let either_way : (changed_answer (change q key.at x a.timeout).0 ≡ answers.Refused refusals.ReceiptHandleIsInvalid) ⊎ (changed_answer (change q key.at x a.timeout).0 ≡ answers.Refused refusals.BadTimeout) =
+        either (λ (y : Result (Option Load) Refusal × Queue). (changed_answer y.0 ≡ answers.Refused refusals.ReceiptHandleIsInvalid) ⊎ (changed_answer y.0 ≡ answers.Refused refusals.BadTimeout)) (nat_lt 43200 a.timeout) (Err refusals.BadTimeout, q) found (inr refl) (inl g) in
+        elim either_way as (λ _. IsRefused) [ inl y ↦ inl (a.by x e ∙ y) | inr y ↦ inr (t, a.by x e ∙ y) ]
 
-    known_by : (a : AsksDelete key q r) (x : Receipt) → read_receipt a.text ≡ Some x → may_be_given q x ≡ true → nat_lt x.number q.arrivals ≡ true → IsKnown
-    known_by a x e g l =
+    -- what was asked, by a text
+    pub record Asked : Type 0 where
+      pub text : List ℕ
+      pub given : r.receipt ≡ receipts.Given text
+      pub none : read_receipt text ≡ None → IsRefused
+      pub foreign : (x : Receipt) → read_receipt text ≡ Some x → may_be_given q x ≡ false → IsRefused
+      pub early : (x : Receipt) → read_receipt text ≡ Some x → may_be_given q x ≡ true → nat_lt x.number q.arrivals ≡ false → IsRefused
+
+    asked_delete : is_delete r.kind ≡ true → Asked
+    asked_delete t =
+        let a : AsksDelete key q r = asked_by key q r r.kind t d.asked in
+        record {
+          text = a.text;
+          given = a.given;
+          none = λ e. inl (a.none e);
+          foreign = λ x e g. inl (a.by x e ∙ foreign x g q.settings.kind);
+          early = λ x e g l. inl (a.by x e ∙ early x g l q.settings.kind);
+        }
+
+    asked_change : is_change r.kind ≡ true → Asked
+    asked_change t =
+        let a : AsksChange key q r = changed_by key q r r.kind t d.asked in
+        record {
+          text = a.text;
+          given = a.given;
+          none = λ e. elim (a.none e) as (λ _. IsRefused) [ inl y ↦ inl y | inr y ↦ inr (t, y) ];
+          foreign = λ x e g. change_refused t a x e (rw g refl);
+          early = λ x e g l. change_refused t a x e (rw g (early_found x a.timeout l (numbered x.number q.records) refl));
+        }
+
+    known_as : (a : Asked) (x : Receipt) → read_receipt a.text ≡ Some x → may_be_given q x ≡ true → nat_lt x.number q.arrivals ≡ true → IsKnown
+    known_as a x e g l =
         let site : x.site ≡ q.site = eqb-true x.site q.site (and_parts (x.site == q.site) (nat_lt 0 x.count) g).0 in
         let old : x.number < q.arrivals = grind (arith, nat_tests, l) in
         (record { site = x.site; number = x.number }, x.count, record { text = a.text; given = a.given; read = e; here = site ∙ sym d.at_site; came = omega (arith, came, old) })
 
-    other_come : (b : Bool) (a : AsksDelete key q r) (x : Receipt) → read_receipt a.text ≡ Some x → may_be_given q x ≡ true → nat_lt x.number q.arrivals ≡ b → IsKnown ⊎ IsInvalid
-    other_come true a x e g l = inl (known_by a x e g l)
-    other_come false a x e g l = inr (a.by x e ∙ early x g l q.settings.kind)
+    other_come : (b : Bool) (a : Asked) (x : Receipt) → read_receipt a.text ≡ Some x → may_be_given q x ≡ true → nat_lt x.number q.arrivals ≡ b → IsKnown ⊎ IsRefused
+    other_come true a x e g l = inl (known_as a x e g l)
+    other_come false a x e g l = inr (a.early x e g l)
 
-    other_given : (b : Bool) (a : AsksDelete key q r) (x : Receipt) → read_receipt a.text ≡ Some x → may_be_given q x ≡ b → IsKnown ⊎ IsInvalid
+    other_given : (b : Bool) (a : Asked) (x : Receipt) → read_receipt a.text ≡ Some x → may_be_given q x ≡ b → IsKnown ⊎ IsRefused
     other_given true a x e g = other_come (nat_lt x.number q.arrivals) a x e g refl
-    other_given false a x e g = inr (a.by x e ∙ foreign x g q.settings.kind)
+    other_given false a x e g = inr (a.foreign x e g)
 
-    other_read : (o : Option Receipt) (a : AsksDelete key q r) → read_receipt a.text ≡ o → IsKnown ⊎ IsInvalid
+    other_read : (o : Option Receipt) (a : Asked) → read_receipt a.text ≡ o → IsKnown ⊎ IsRefused
     other_read None a e = inr (a.none e)
     other_read (Some x) a e = other_given (may_be_given q x) a x e refl
 
-    others_by : is_delete r.kind ≡ true → IsKnown ⊎ IsInvalid
-    others_by t = let a : AsksDelete key q r = asked_by key q r r.kind t d.asked in other_read (read_receipt a.text) a refl
+    others_by : (b : Bool) → is_delete r.kind ≡ b → (is_delete r.kind || is_change r.kind) ≡ true → IsKnown ⊎ IsRefused
+    others_by true e t = let a : Asked = asked_delete e in other_read (read_receipt a.text) a refl
+    others_by false e t = let a : Asked = asked_change (ap (λ b. b || is_change r.kind) (sym e) ∙ t) in other_read (read_receipt a.text) a refl
 
   -- what the law says of a row
   record IsAsTold (before : List Row) (r : Row) : Type 0 where
     pub made : (m : MessageId) → r.message ≡ Some m → words.received r ≡ true → r.receipt ≡ receipts.Made (record { site = r.queue; number = m.number; count = times m before + 1 })
     pub deletes : is_delete r.kind ≡ true → (m : MessageId) (count : ℕ) → Known before r m count → r.answer ≡ delete_answer (fifo_at s r) before m count
-    pub others : is_delete r.kind ≡ true → ((m : MessageId) × (count : ℕ) × Known before r m count) ⊎ (r.answer ≡ answers.Refused refusals.ReceiptHandleIsInvalid)
+    pub changes : is_change r.kind ≡ true → (m : MessageId) (count : ℕ) → Known before r m count → (r.answer ≡ change_answer before m count) ⊎ (r.answer ≡ answers.Refused refusals.BadTimeout)
+    pub others : (is_delete r.kind || is_change r.kind) ≡ true → ((m : MessageId) × (count : ℕ) × Known before r m count)
+        ⊎ ((r.answer ≡ answers.Refused refusals.ReceiptHandleIsInvalid) ⊎ ((is_change r.kind ≡ true) × (r.answer ≡ answers.Refused refusals.BadTimeout)))
 
   -- the law
   pub receipts_are_known : (x : Run) → IsRunOf s x → Receipts s x.rows
   receipts_are_known x is =
       let each : EachRow x.rows IsAsTold =
       every_row_by s told IsAsTold
-      (λ rows key q r p d k h. record { made = made_by rows key q r p d k h d.does; deletes = deletes_by rows key q r p d k h; others = others_by rows key q r p d k h }) x is in
+      (λ rows key q r p d k h.
+      record {
+        made = made_by rows key q r p d k h d.does;
+        deletes = deletes_by rows key q r p d k h;
+        changes = changes_by rows key q r p d k h;
+        others = λ t. others_by rows key q r p d k h (is_delete r.kind) refl t;
+      }) x is in
       record {
         made = λ before r after e m i t. (each before r after e).made m i t;
         deletes = λ before r after e t m count y. (each before r after e).deletes t m count y;
+        changes = λ before r after e t m count y. (each before r after e).changes t m count y;
         others = λ before r after e t. (each before r after e).others t;
       }

@@ -5,7 +5,7 @@ use Rattle.std.proofs.Common.{ap, arith, inl, inr, refl, subst, sym, ◌∙◌}
 use Rattle.std.proofs.lemmas.Bool.{eqb-true}
 use Rattle.std.proofs.lemmas.Bool.Decides.{nat_tests}
 use Rattle.std.proofs.lemmas.List.{append-nil}
-use Rattle.std.proofs.lemmas.List.Elements.{All-cons, All-filter, All-head, All-nil, All-push, All-tail, All-weaker}
+use Rattle.std.proofs.lemmas.List.Elements.{All-cons, All-filter, All-head, All-nil, All-push, All-tail, All-take, All-weaker}
 use Rattle.sim_clock.specs.declared.key.Key.{Key}
 use Rattle.sim_clock.specs.declared.refusal.Refusal.{Refusal}
 use Rattle.sim_clock.specs.declared.refusal.Refusal.TheVariants as refusals
@@ -38,7 +38,7 @@ use Rattle.sqs_model.specs.Accounts.{is_deleted, is_expired}
 use Rattle.sqs_model.specs.Acts.{change_answered, change_made, change_row, came_back, delete_done, delete_made, send_made, sends, serve_made}
 use Rattle.sqs_model.specs.Actor.{Actor}
 use Rattle.sqs_model.specs.Calls.{change, deduplication_id, delay_of, delete, delete_as, in_flight_until, is_bad_delay, living, living_entries, new_message, returned, scope_of, send_standard, send_unless, send_with, with_entry, with_message}
-use Rattle.sqs_model.specs.Queue.{Entry, Queue, has_number, id_of, is_in_flight, numbered, same_text, taken_out, with_change, with_records}
+use Rattle.sqs_model.specs.Queue.{Entry, Queue, has_number, id_of, is_in_flight, is_visible, numbered, same_text, taken_out, with_change, with_records}
 use Rattle.sqs_model.specs.Return.{leaves, redrive_of, released, released_found, released_when, visible_again}
 use Rattle.sqs_model.specs.Site.{Core, Effect, and_then, no_effect, number_of, says, with_queue}
 use Rattle.sqs_model.specs.Arrive.{arrived, brought, enqueued_at, expired_found, forwarded, forwarded_group, is_too_old, sent_of, settled_when}
@@ -58,6 +58,7 @@ use Rattle.sqs_model.proofs.Counts.{changed_twice, find_all, find_picked, withou
 use Rattle.sqs_model.proofs.SiteAccounts.{IsFound}
 use Rattle.sqs_laws.specs.Words as words
 use Rattle.sqs_laws.proofs.Calls.{Told, back_told, found_old, one_back, own_changed, pushed_found, pushed_out, tells}
+use Rattle.sqs_laws.proofs.Giving.{visible_available}
 use Rattle.sqs_laws.proofs.Moves.{Asks, AsksChange, AsksDelete, Chain, IsNoReceipt, changed_answer, deleted_answer, chain_keeps, Comes, Does, Ends, IsStocked, Keeps, Move, Names, Stays, Tells, Changes, changes, chain_append, comes, ends, one_move, stays}
 
 -- what a row of none tells
@@ -216,7 +217,7 @@ module _ (key : Key) where
               (stays (named_stays c.queue _ r.number refl (tells _ false false false false false refl refl refl refl refl) (found_old c.queue r.number m s f) (λ h. subst IsFound (sym f) tt) (λ h. cc)));
           taken = λ m f e.
               one_row c (with_queue c (taken_out c.queue r.number)) _ refl refl refl (asks_delete _ _ refl refl e)
-              (ends (record { one = m; number = r.number; tells = tells _ false false false false true refl refl refl refl refl; names = record { there = f; message = refl; sure = refl }; kind = refl; after = refl }));
+              (ends (record { one = m; number = r.number; tells = tells _ false false false false true refl refl refl refl refl; names = record { there = f; message = refl; sure = refl }; kind = refl; rested = λ e. cc; after = refl }));
         }) c.queue.settings.kind
 
   delete_chain_of : (a : Actor) (c : Core) (text : List ℕ) (o : Option Receipt) → read_receipt text ≡ o → IsStocked c.queue → IsChain c (delete_made key a c text o).effect
@@ -318,7 +319,7 @@ module _ (key : Key) where
   expiry_chain c m f =
       subst (λ x. IsChain c (expiry_done key c (expired_found c.queue key.at key.number x))) (sym f)
       (one_row c (with_queue c (taken_out c.queue key.number)) _ refl refl refl tt
-      (ends (record { one = m; number = key.number; tells = tells _ false false false false true refl refl refl refl refl; names = record { there = f; message = refl; sure = refl }; kind = refl; after = refl })))
+      (ends (record { one = m; number = key.number; tells = tells _ false false false false true refl refl refl refl refl; names = record { there = f; message = refl; sure = refl }; kind = refl; rested = λ e. cc; after = refl })))
 
   pub release_chain : (c : Core) (m : Message) → IsStocked c.queue → numbered key.number c.queue.records ≡ Some m → IsChain c (release_done key c (released c.queue key.number))
   release_chain c m s f =
@@ -355,7 +356,7 @@ module _ (key : Key) where
                 at_key = refl;
                 at_site = refl;
                 asked = tt;
-                does = ends (record { one = m; number = q.arrivals; tells = tells _ false false false false true refl refl refl refl refl; names = record { there = pushed_found q.arrivals q.records m n s.given_out; message = refl; sure = refl }; kind = refl; after = gone });
+                does = ends (record { one = m; number = q.arrivals; tells = tells _ false false false false true refl refl refl refl refl; names = record { there = pushed_found q.arrivals q.records m n s.given_out; message = refl; sure = refl }; kind = refl; rested = λ e. cc; after = gone });
               }),
         );
         actors = refl;
@@ -396,10 +397,10 @@ module _ (key : Key) where
   moved_stand q m ms d s = λ i e l. let x : Message = get_or ms i e in other_without m.number x.number q.records (d i e l) ∙ s i e l
 
   moved_chain :
-      (to : Option ℕ) (ms : List Message) (q : Queue) (d : Core) (t : Task) → d.queue.site ≡ q.site → Apart ms → Stand q ms
+      (to : Option ℕ) (ms : List Message) (q : Queue) (d : Core) (t : Task) → d.queue.site ≡ q.site → Apart ms → Stand q ms → All (λ m. is_visible m ≡ true) ms
       → Chain key q (moves key d t (take_each q to ms).loads).rows (take_each q to ms).queue
-  moved_chain to [] q d t e a s = refl
-  moved_chain to (m ∷ ms) q d t e a s =
+  moved_chain to [] q d t e a s v = refl
+  moved_chain to (m ∷ ms) q d t e a s v =
       elim (destination to m) as
       (λ o. Chain key q (moves key d t (elim o as (λ _. Taken) [ None ↦ record { queue = q; loads = []; stuck = true } | Some n ↦ taken_one q m n (take_each (taken_out q m.number) to ms) ]).loads).rows
           (elim o as (λ _. Taken) [ None ↦ record { queue = q; loads = []; stuck = true } | Some n ↦ taken_one q m n (take_each (taken_out q m.number) to ms) ]).queue) [
@@ -419,10 +420,11 @@ module _ (key : Key) where
                       tells = tells _ false false false false true refl refl refl refl refl;
                       names = record { there = All-head (λ y. numbered y.number q.records ≡ Some y) m ms s; message = refl; sure = refl };
                       kind = refl;
+                      rested = λ _. All-head (λ y. is_visible y ≡ true) m ms v;
                       after = refl;
                     });
               },
-              moved_chain to ms x d (one_sent t (drawn_latency t.move.settings.latency t.draws).1) e a.1 (moved_stand q m ms a.0 (All-tail (λ y. numbered y.number q.records ≡ Some y) m ms s)),
+              moved_chain to ms x d (one_sent t (drawn_latency t.move.settings.latency t.draws).1) e a.1 (moved_stand q m ms a.0 (All-tail (λ y. numbered y.number q.records ≡ Some y) m ms s)) (All-tail (λ y. is_visible y ≡ true) m ms v),
             )
       ]
 
@@ -451,5 +453,5 @@ module _ (key : Key) where
       let m : Moved = moves key d t y.0.0 in
       let u : Task = record m.task { move = task_stepped m.task.move key.at (length y.0.0) y.0.1 } in
       let site : y.1.site ≡ c.queue.site = taken_site to ms c.queue in
-      let first : Chain key c.queue m.rows y.1 = moved_chain to ms c.queue d t site (first_apart c.queue set most s.ordered) (first_stand c.queue set most s.ordered) in
+      let first : Chain key c.queue m.rows y.1 = moved_chain to ms c.queue d t site (first_apart c.queue set most s.ordered) (first_stand c.queue set most s.ordered) (All-take (λ m. is_visible m ≡ true) most (all_available c.queue) (visible_available c.queue.settings.kind set c.queue.records)) in
       record { chain = chain_append key m.rows (end_row key d u y.0.1) c.queue y.1 y.1 first (end_chain d y.1 u y.0.1 refl); actors = refl }

@@ -6,6 +6,7 @@ use Rattle.sqs_model.specs.Scenario.{Scenario}
 use Rattle.sqs_model.specs.Valid.{IsQueueSettings}
 use Rattle.sqs_laws.specs.Laws.{KeepsTheRules}
 use Rattle.sqs_laws.proofs.End.{ends_are_ends}
+use Rattle.sqs_laws.proofs.InFlight.{flights_are_told}
 use Rattle.sqs_laws.proofs.Letters.{letters_are_dead}
 use Rattle.sqs_laws.proofs.Order.{rows_in_time}
 use Rattle.sqs_laws.proofs.Receipts.{receipts_are_known}
@@ -13,6 +14,7 @@ use Rattle.sqs_laws.proofs.Receipts.{receipts_are_known}
 pub keeps_the_rules : (s : Scenario) → IsSoundScenario s → All IsQueueSettings s.queues → (r : Run) → IsRunOf s r → KeepsTheRules s r.rows
 keeps_the_rules s sound valid r is =
     record {
+      in_flight = flights_are_told s valid r is;
       the_end = ends_are_ends s r is;
       dead_letters = letters_are_dead s valid r is;
       receipts = receipts_are_known s valid r is;

@@ -1,5 +1,5 @@
 -- The rules of SQS as laws of the log: of its rows, in order, and of the settings of its scenario, and of nothing else.
-use Rattle.std.specs.Prelude.{All, Bool, IsTrue, List, None, Some, false, if◌then◌else◌, nat_lt, not, slice_get, true, ℕ, ◌&&◌, ◌+◌, ◌<◌, ◌==◌, ◌≡◌, ◌≤◌, ◌⊎◌, ◌||◌}
+use Rattle.std.specs.Prelude.{All, Bool, IsTrue, List, None, Some, false, true, if◌then◌else◌, nat_lt, not, slice_get, ℕ, ◌&&◌, ◌+◌, ◌<◌, ◌==◌, ◌≡◌, ◌≤◌, ◌⊎◌, ◌||◌}
 use Rattle.sim_clock.specs.declared.refusal.Refusal.TheVariants as refusals
 use Rattle.sqs_message.specs.declared.ids.MessageId.{MessageId}
 use Rattle.sqs_message.specs.declared.row.Detail.TheVariants as details
@@ -16,7 +16,7 @@ use Rattle.sqs_model.specs.Progress.{IsSoundScenario}
 use Rattle.sqs_model.specs.Run.{IsRunOf, Run}
 use Rattle.sqs_model.specs.Scenario.{Scenario}
 use Rattle.sqs_model.specs.Valid.{IsQueueSettings}
-use Rattle.sqs_laws.specs.Words.{EachNaming, EachRow, comes, comings, flying, has_left, is_delete, is_gone, is_redrive, is_release, may_follow, received, times}
+use Rattle.sqs_laws.specs.Words.{EachNaming, EachRow, changed, comes, comings, flying, has_left, is_change, is_delete, is_gone, is_move, is_redrive, is_release, may_follow, received, times}
 
 -- The end is the end. The messages that come to a queue are numbered from 0 on, and no row names one before it comes. Once it
 -- was deleted, has expired, or left for another queue, only answers gone and repeat and a consumer's fail and forward name it
@@ -66,16 +66,31 @@ delete_answer fifo before m count =
     else (if deletes fifo before m count then answers.Deleted
     else (if fifo then answers.Refused refusals.ReceiptHandleIsInvalid else answers.Kept)))
 
+-- the answer to a change by such a receipt, unless it asks for more than 12 hours
+abbrev pub change_answer : List Row → MessageId → ℕ → RowAnswer
+change_answer before m count =
+    if not (has_left m before) && nat_lt (times m before) count then answers.Refused refusals.ReceiptHandleIsInvalid
+    else (if flying m before && count == times m before then answers.Ok else answers.Refused refusals.MessageNotInflight)
+
 -- Receipts. The c-th receive of message n at queue S gives the receipt r-S-n-c. A delete by it is gone if the message has left,
 -- deleted if it is the newest (at a FIFO queue: of a message in flight), kept if it is an older one at a standard queue, and
--- else ReceiptHandleIsInvalid, as for a receipt never given.
+-- else ReceiptHandleIsInvalid, as for a receipt never given. A change is ok if it is the newest of a message in flight, and else
+-- MessageNotInflight, or ReceiptHandleIsInvalid if never given; or it is BadTimeout.
 pub record Receipts (s : Scenario) (rows : List Row) : Type 0 where
   pub made : EachNaming rows (λ before r m. IsTrue (received r)
       → r.receipt ≡ receipts.Made (record { site = r.queue; number = m.number; count = times m before + 1 }))
   pub deletes : EachRow rows (λ before r. IsTrue (is_delete r.kind) → (m : MessageId) (count : ℕ) → Known before r m count
       → r.answer ≡ delete_answer (fifo_at s r) before m count)
-  pub others : EachRow rows (λ before r. IsTrue (is_delete r.kind)
-      → ((m : MessageId) × (count : ℕ) × Known before r m count) ⊎ (r.answer ≡ answers.Refused refusals.ReceiptHandleIsInvalid))
+  pub changes : EachRow rows (λ before r. IsTrue (is_change r.kind) → (m : MessageId) (count : ℕ) → Known before r m count
+      → (r.answer ≡ change_answer before m count) ⊎ (r.answer ≡ answers.Refused refusals.BadTimeout))
+  pub others : EachRow rows (λ before r. IsTrue (is_delete r.kind || is_change r.kind) → ((m : MessageId) × (count : ℕ) × Known before r m count)
+      ⊎ ((r.answer ≡ answers.Refused refusals.ReceiptHandleIsInvalid) ⊎ (IsTrue (is_change r.kind) × (r.answer ≡ answers.Refused refusals.BadTimeout))))
+
+-- In flight. A message that was received is not received or moved until it is released, and has not left. Only such a message
+-- has its timeout changed, or leaves for the dead-letter queue.
+pub record InFlight (rows : List Row) : Type 0 where
+  pub once : EachNaming rows (λ before r m. IsTrue (received r || is_move r.kind) → flying m before ≡ false)
+  pub flies : EachNaming rows (λ before r m. IsTrue (changed r || is_redrive r.kind) → flying m before ≡ true)
 
 -- Time. Rows are in the order of time, none after the horizon.
 pub record InTime (s : Scenario) (rows : List Row) : Type 0 where
@@ -84,6 +99,7 @@ pub record InTime (s : Scenario) (rows : List Row) : Type 0 where
 
 -- a log that keeps the rules
 pub record KeepsTheRules (s : Scenario) (rows : List Row) : Type 0 where
+  pub in_flight : InFlight rows
   pub the_end : TheEnd rows
   pub dead_letters : DeadLetters s rows
   pub receipts : Receipts s rows

@@ -1,0 +1,106 @@
+-- In flight: no message is received or moved that is in flight, and only such a message is changed or leaves for the dead-letter
+-- queue.
+use Rattle.std.specs.Prelude.{All, Bool, List, None, Option, Some, [], false, nat_le, true, ℕ, ◌<◌, ◌∷◌, ◌≡◌, ◌≤◌, ◌⊎◌, ◌||◌}
+use Rattle.std.proofs.Common.{ap, arith, inl, inr, refl, subst, sym, true≢false, ◌∙◌}
+use Rattle.std.proofs.lemmas.Bool.{leb-true, or_parts}
+use Rattle.sim_clock.specs.declared.key.Key.{Key}
+use Rattle.sqs_message.specs.declared.ids.MessageId.{MessageId}
+use Rattle.sqs_message.specs.declared.message.Message.{Message}
+use Rattle.sqs_message.specs.declared.message.Place.{Place}
+use Rattle.sqs_message.specs.declared.message.Place.TheVariants as places
+use Rattle.sqs_message.specs.declared.row.Row.{Row}
+use Rattle.sqs_message.specs.declared.row.RowKind.{RowKind}
+use Rattle.sqs_message.specs.declared.row.RowKind.TheVariants as kinds
+use Rattle.sqs_redrive.specs.declared.settings.QueueSettings.{QueueSettings}
+use Rattle.sqs_model.specs.Accounts.{is_deleted, is_expired}
+use Rattle.sqs_model.specs.Queue.{Queue, id_of, is_in_flight, is_visible, numbered}
+use Rattle.sqs_model.specs.Run.{IsRunOf, Run}
+use Rattle.sqs_model.specs.Scenario.{Scenario}
+use Rattle.sqs_model.specs.Valid.{IsQueueSettings}
+use Rattle.sqs_laws.specs.Laws.{InFlight}
+use Rattle.sqs_laws.specs.Words.{EachRow, changed, flying, is_move, is_redrive}
+use Rattle.sqs_laws.specs.Words as words
+use Rattle.sqs_laws.proofs.Flights as fly
+use Rattle.sqs_laws.proofs.Letters as letter
+use Rattle.sqs_laws.proofs.Moves.{Does, IsStocked, Move, Names, changes, comes, ends, receives, redrives, releases, stays}
+use Rattle.sqs_laws.proofs.Worlds.{RowLaw, both, every_row_by}
+
+-- what is visible is not in flight
+rests_by : (p : Place) → elim p as (λ _. Bool) [ places.Delayed ↦ false | places.Visible ↦ true | places.InFlight ↦ false ] ≡ true → elim p as (λ _. Bool) [ places.Delayed ↦ false | places.Visible ↦ false | places.InFlight ↦ true ] ≡ false
+rests_by places.Delayed e = cc
+rests_by places.Visible e = refl
+rests_by places.InFlight e = cc
+
+no_move : (k : RowKind) → is_redrive k ≡ true → is_move k ≡ false
+no_move kinds.Move e = cc
+no_move k e = refl
+
+or_either : (a b : Bool) → (a || b) ≡ true → (a ≡ true) ⊎ (b ≡ true)
+or_either true b e = inl refl
+or_either false b e = inr e
+
+-- a row that tells of none that leaves is no redrive and no move
+none_leaves : (r : Row) → words.leaves r ≡ false → (is_redrive r.kind ≡ false) × (is_move r.kind ≡ false)
+none_leaves r l =
+    let a = or_parts (is_deleted r.answer || is_expired r.answer || is_redrive r.kind) (is_move r.kind) l in
+    ((or_parts (is_deleted r.answer || is_expired r.answer) (is_redrive r.kind) a.0).1, a.1)
+
+module _ (s : Scenario) (v : All IsQueueSettings s.queues) where
+  abbrev told : RowLaw s
+  told = both s (letter.letters s v) (fly.flights s)
+
+  module _ (rows : List Row) (key : Key) (q : Queue) (r : Row) (p : Queue) (d : Move key q r p) (k : IsStocked q) (h : told.Holds rows q) where
+    names_flight : (one : Message) (n : ℕ) (m : MessageId) (b : Bool) → Names key q r p one n → r.message ≡ Some m → is_in_flight one ≡ b → flying m rows ≡ b
+    names_flight one n m b x e f =
+        let i : id_of q n ≡ m = cc in
+        subst (λ y. flying y rows ≡ b) i (h.1.flies n one x.there ∙ f)
+
+    neither : words.received r ≡ false → is_move r.kind ≡ false → (words.received r || is_move r.kind) ≡ true → ⊥
+    neither a b t = true≢false (sym t ∙ (rw (a, b) refl))
+
+    none_changed : changed r ≡ false → is_redrive r.kind ≡ false → (changed r || is_redrive r.kind) ≡ true → ⊥
+    none_changed a b t = true≢false (sym t ∙ (rw (a, b) refl))
+
+    once_by : Does key q r p → (m : MessageId) → r.message ≡ Some m → (words.received r || is_move r.kind) ≡ true → flying m rows ≡ false
+    once_by (receives x) m e t = names_flight x.one x.number m false x.names e (rests_by x.one.place x.rested)
+    once_by (ends x) m e t =
+        elim (or_either (words.received r) (is_move r.kind) t) as (λ _. flying m rows ≡ false) [
+          | inl y ↦ absurd (true≢false (sym y ∙ x.tells.received_so))
+          | inr y ↦ names_flight x.one x.number m false x.names e (rests_by x.one.place (x.rested y))
+        ]
+    once_by (redrives x) m e t = absurd (neither x.tells.received_so (no_move r.kind x.kind) t)
+    once_by (stays x) m e t = absurd (neither x.tells.received_so (none_leaves r x.tells.leaves_so).1 t)
+    once_by (comes x) m e t = absurd (neither x.tells.received_so (none_leaves r x.tells.leaves_so).1 t)
+    once_by (changes x) m e t = absurd (neither x.tells.received_so (none_leaves r x.tells.leaves_so).1 t)
+    once_by (releases x) m e t = absurd (neither x.tells.received_so (none_leaves r x.tells.leaves_so).1 t)
+
+    -- a message that was received too often is in flight
+    worn_flies : (b : Bool) (one : Message) (most : ℕ) → letter.IsWithin most one → most ≤ one.receives → is_in_flight one ≡ b → b ≡ true
+    worn_flies true one most w l e = refl
+    worn_flies false one most w l e = absurd (let f : one.receives < most = w.rested e in omega (arith, f, l))
+
+    flies_by : Does key q r p → (m : MessageId) → r.message ≡ Some m → (changed r || is_redrive r.kind) ≡ true → flying m rows ≡ true
+    flies_by (changes x) m e t = names_flight x.one x.number m true x.names e x.flies
+    flies_by (redrives x) m e t =
+        let least : x.policy.max_receives ≤ x.one.receives = leb-true x.policy.max_receives x.one.receives x.worn in
+        names_flight x.one x.number m true x.names e (worn_flies (is_in_flight x.one) x.one x.policy.max_receives (h.0.within x.policy x.by x.number x.one x.names.there) least refl)
+    flies_by (ends x) m e t = absurd (none_changed x.tells.changed_so x.kind t)
+    flies_by (stays x) m e t = absurd (none_changed x.tells.changed_so (none_leaves r x.tells.leaves_so).0 t)
+    flies_by (comes x) m e t = absurd (none_changed x.tells.changed_so (none_leaves r x.tells.leaves_so).0 t)
+    flies_by (receives x) m e t = absurd (none_changed x.tells.changed_so (none_leaves r x.tells.leaves_so).0 t)
+    flies_by (releases x) m e t = absurd (none_changed x.tells.changed_so (none_leaves r x.tells.leaves_so).0 t)
+
+  -- what the law says of a row
+  record IsAsTold (before : List Row) (r : Row) : Type 0 where
+    pub once : (m : MessageId) → r.message ≡ Some m → (words.received r || is_move r.kind) ≡ true → flying m before ≡ false
+    pub flies : (m : MessageId) → r.message ≡ Some m → (changed r || is_redrive r.kind) ≡ true → flying m before ≡ true
+
+  -- the law
+  pub flights_are_told : (x : Run) → IsRunOf s x → InFlight x.rows
+  flights_are_told x is =
+      let each : EachRow x.rows IsAsTold =
+      every_row_by s told IsAsTold (λ rows key q r p d k h. record { once = once_by rows key q r p d k h d.does; flies = flies_by rows key q r p d k h d.does }) x is in
+      record {
+        once = λ before r after e m i t. (each before r after e).once m i t;
+        flies = λ before r after e m i t. (each before r after e).flies m i t;
+      }
