@@ -1,4 +1,5 @@
--- The rules of SQS as laws of the log: of its rows, in order, and of the settings of its scenario, and of nothing else.
+-- The rules of SQS as laws of the log: of its rows, in order, and of the settings of its scenario, and of nothing
+-- else.
 use Rattle.std.specs.Prelude.{All, Bool, IsTrue, List, None, Some, false, true, if◌then◌else◌, nat_lt, not, slice_get, ℕ, ◌&&◌, ◌+◌, ◌<◌, ◌==◌, ◌≡◌, ◌≤◌, ◌⊎◌, ◌||◌}
 use Rattle.sim_clock.specs.declared.refusal.Refusal.TheVariants as refusals
 use Rattle.sqs_message.specs.declared.ids.MessageId.{MessageId}
@@ -18,12 +19,14 @@ use Rattle.sqs_model.specs.Scenario.{Scenario}
 use Rattle.sqs_model.specs.Valid.{IsQueueSettings}
 use Rattle.sqs_laws.specs.Words.{EachNaming, EachRow, changed, comes, comings, flying, has_left, is_change, is_delete, is_gone, is_move, is_redrive, is_release, may_follow, received, times}
 
--- The end is the end. The messages that come to a queue are numbered from 0 on, and no row names one before it comes. Once it
--- was deleted, has expired, or left for another queue, only answers gone and repeat and a consumer's fail and forward name it
--- again; and gone is answered only then.
+-- The end is the end. The messages that come to a queue are numbered from 0 on, and no row names one before it comes.
+-- Once it was deleted, has expired, or left for another queue, only answers gone and repeat and a consumer's fail and
+-- forward name it again; and gone is answered only then.
 pub record TheEnd (rows : List Row) : Type 0 where
-  pub numbered : EachNaming rows (λ before r m. IsTrue (comes r) → m ≡ record { site = r.queue; number = comings r.queue before })
-  pub came : EachNaming rows (λ before r m. comes r ≡ false → (m.site ≡ r.queue) × (m.number < comings r.queue before))
+  pub numbered : EachNaming rows (λ before r m. IsTrue (comes r)
+      → m ≡ record { site = r.queue; number = comings r.queue before })
+  pub came : EachNaming rows (λ before r m. comes r ≡ false
+      → (m.site ≡ r.queue) × (m.number < comings r.queue before))
   pub after : EachNaming rows (λ before r m. IsTrue (has_left m before) → IsTrue (may_follow r))
   pub gone : EachNaming rows (λ before r m. IsTrue (is_gone r.answer) → IsTrue (has_left m before))
 
@@ -31,12 +34,15 @@ pub record TheEnd (rows : List Row) : Type 0 where
 abbrev pub HasPolicy : Scenario → Row → Policy → Type 0
 HasPolicy s r p = (q : QueueSettings) × (slice_get s.queues r.queue ≡ Some q) × (q.policy ≡ Some p)
 
--- Dead letters. A message that comes back leaves for its queue's dead_letter if it was received exactly max_receives times since
--- it came, and is released if fewer times. It is never received more often. Without dead_letter none leaves.
+-- Dead letters. A message that comes back leaves for its queue's dead_letter if it was received exactly max_receives
+-- times since it came, and is released if fewer times. It is never received more often. Without dead_letter none
+-- leaves.
 pub record DeadLetters (s : Scenario) (rows : List Row) : Type 0 where
   pub leaves : EachNaming rows (λ before r m. IsTrue (is_redrive r.kind)
-      → (p : Policy) × HasPolicy s r p × (times m before ≡ p.max_receives) × (r.detail ≡ details.Queue p.dead_letter))
-  pub stays : EachNaming rows (λ before r m. IsTrue (is_release r.kind || received r) → (p : Policy) → HasPolicy s r p → times m before < p.max_receives)
+      → (p : Policy) × HasPolicy s r p
+      × (times m before ≡ p.max_receives) × (r.detail ≡ details.Queue p.dead_letter))
+  pub stays : EachNaming rows (λ before r m. IsTrue (is_release r.kind || received r)
+      → (p : Policy) → HasPolicy s r p → times m before < p.max_receives)
 
 -- a receipt of the queue of a row and of a message that came there, with the count of a receive
 pub record Known (before : List Row) (r : Row) (m : MessageId) (count : ℕ) : Type 0 where
@@ -69,25 +75,31 @@ delete_answer fifo before m count =
 -- the answer to a change by such a receipt, unless it asks for more than 12 hours
 abbrev pub change_answer : List Row → MessageId → ℕ → RowAnswer
 change_answer before m count =
-    if not (has_left m before) && nat_lt (times m before) count then answers.Refused refusals.ReceiptHandleIsInvalid
-    else (if flying m before && count == times m before then answers.Ok else answers.Refused refusals.MessageNotInflight)
+    if not (has_left m before) && nat_lt (times m before) count
+    then answers.Refused refusals.ReceiptHandleIsInvalid
+    else (if flying m before && count == times m before then answers.Ok
+    else answers.Refused refusals.MessageNotInflight)
 
--- Receipts. The c-th receive of message n at queue S gives the receipt r-S-n-c. A delete by it is gone if the message has left,
--- deleted if it is the newest (at a FIFO queue: of a message in flight), kept if it is an older one at a standard queue, and
--- else ReceiptHandleIsInvalid, as for a receipt never given. A change is ok if it is the newest of a message in flight, and else
--- MessageNotInflight, or ReceiptHandleIsInvalid if never given; or it is BadTimeout.
+-- Receipts. The c-th receive of message n at queue S gives the receipt r-S-n-c. A delete by it is gone if the message
+-- has left, deleted if it is the newest (at a FIFO queue: of a message in flight), kept if it is an older one at a
+-- standard queue, and else ReceiptHandleIsInvalid, as for a receipt never given. A change is ok if it is the newest
+-- of a message in flight, and else MessageNotInflight, or ReceiptHandleIsInvalid if never given; or it is BadTimeout.
 pub record Receipts (s : Scenario) (rows : List Row) : Type 0 where
   pub made : EachNaming rows (λ before r m. IsTrue (received r)
       → r.receipt ≡ receipts.Made (record { site = r.queue; number = m.number; count = times m before + 1 }))
-  pub deletes : EachRow rows (λ before r. IsTrue (is_delete r.kind) → (m : MessageId) (count : ℕ) → Known before r m count
+  pub deletes : EachRow rows (λ before r. IsTrue (is_delete r.kind)
+      → (m : MessageId) (count : ℕ) → Known before r m count
       → r.answer ≡ delete_answer (fifo_at s r) before m count)
-  pub changes : EachRow rows (λ before r. IsTrue (is_change r.kind) → (m : MessageId) (count : ℕ) → Known before r m count
+  pub changes : EachRow rows (λ before r. IsTrue (is_change r.kind)
+      → (m : MessageId) (count : ℕ) → Known before r m count
       → (r.answer ≡ change_answer before m count) ⊎ (r.answer ≡ answers.Refused refusals.BadTimeout))
-  pub others : EachRow rows (λ before r. IsTrue (is_delete r.kind || is_change r.kind) → ((m : MessageId) × (count : ℕ) × Known before r m count)
-      ⊎ ((r.answer ≡ answers.Refused refusals.ReceiptHandleIsInvalid) ⊎ (IsTrue (is_change r.kind) × (r.answer ≡ answers.Refused refusals.BadTimeout))))
+  pub others : EachRow rows (λ before r. IsTrue (is_delete r.kind || is_change r.kind)
+      → ((m : MessageId) × (count : ℕ) × Known before r m count)
+      ⊎ ((r.answer ≡ answers.Refused refusals.ReceiptHandleIsInvalid)
+      ⊎ (IsTrue (is_change r.kind) × (r.answer ≡ answers.Refused refusals.BadTimeout))))
 
--- In flight. A message that was received is not received or moved until it is released, and has not left. Only such a message
--- has its timeout changed, or leaves for the dead-letter queue.
+-- In flight. A message that was received is not received or moved until it is released, and has not left. Only such a
+-- message has its timeout changed, or leaves for the dead-letter queue.
 pub record InFlight (rows : List Row) : Type 0 where
   pub once : EachNaming rows (λ before r m. IsTrue (received r || is_move r.kind) → flying m before ≡ false)
   pub flies : EachNaming rows (λ before r m. IsTrue (changed r || is_redrive r.kind) → flying m before ≡ true)
@@ -107,4 +119,6 @@ pub record KeepsTheRules (s : Scenario) (rows : List Row) : Type 0 where
 
 -- the log of every sound scenario whose queues are in their ranges keeps the rules
 abbrev pub LogKeepsTheRules : Type 0
-LogKeepsTheRules = (s : Scenario) → IsSoundScenario s → All IsQueueSettings s.queues → (r : Run) → IsRunOf s r → KeepsTheRules s r.rows
+LogKeepsTheRules =
+    (s : Scenario) → IsSoundScenario s → All IsQueueSettings s.queues
+    → (r : Run) → IsRunOf s r → KeepsTheRules s r.rows

@@ -99,7 +99,9 @@ has_left m rows = list_any (λ r. leaves r && names m r) rows
 -- the receive or change by which a message is in flight, if it is
 abbrev pub flight : MessageId → List Row → Option Row
 flight m rows =
-    fold (λ f r. if not (names m r) then f else (if received r || changed r then Some r else (if is_release r.kind || leaves r then None else f))) None rows
+    fold (λ f r. if not (names m r) then f
+    else (if received r || changed r then Some r
+    else (if is_release r.kind || leaves r then None else f))) None rows
 
 -- whether it is in flight
 abbrev pub flying : MessageId → List Row → Bool

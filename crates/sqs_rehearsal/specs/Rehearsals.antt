@@ -34,8 +34,8 @@ request_upto newest text scripts options = record { newest = newest; text = text
 abbrev pub request : List ℕ → List (List ℕ × List ℕ) → Options → Request
 request = request_upto released
 
--- a request's scenario, split as asked, and its one-list run: each accepted message is in one place, no other in any, and the rows
--- keep the rules of SQS
+-- a request's scenario, split as asked, and its one-list run: each accepted message is in one place, no other in any,
+-- and the rows keep the rules of SQS
 pub record Rehearsed (q : Request) : Type 0 where
   pub scenario : Scenario
   pub run : Run
