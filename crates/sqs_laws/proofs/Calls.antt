@@ -1,9 +1,10 @@
 -- The rows of each call of a queue are a chain of single moves.
-use Rattle.std.specs.Prelude.{All, Bool, Err, List, None, Ok, Option, Result, Some, [], false, filter, find, get_or, if◌then◌else◌, map, nat_lt, true, zip, ℕ, ◌&&◌, ◌*◌, ◌+◌, ◌++◌, ◌<◌, ◌==◌, ◌∷◌, ◌≡◌, ◌≢◌}
+use Rattle.std.specs.Prelude.{All, Bool, Err, List, None, Ok, Option, Result, Some, [], count_by, false, filter, find, get_or, if◌then◌else◌, length, map, nat_lt, true, zip, ℕ, ◌&&◌, ◌*◌, ◌+◌, ◌-◌, ◌++◌, ◌<◌, ◌==◌, ◌∷◌, ◌≡◌, ◌≢◌, ◌≤◌}
 use Rattle.std.proofs.Common.{ap, arith, refl, subst, sym, ◌∙◌}
 use Rattle.std.proofs.lemmas.Bool.{eqb-true}
 use Rattle.std.proofs.lemmas.Bool.Decides.{nat_tests}
 use Rattle.std.proofs.lemmas.List.{append-nil}
+use Rattle.std.proofs.lemmas.List.Sums.{sum_by-cons}
 use Rattle.std.proofs.lemmas.List.Elements.{All-cons, All-filter, All-head, All-nil, All-push, All-tail, All-weaker}
 use Rattle.sim_clock.specs.declared.key.Key.{Key}
 use Rattle.sim_clock.specs.declared.refusal.Refusal.{Refusal}
@@ -11,6 +12,8 @@ use Rattle.sim_clock.specs.Firsts.{changed, without}
 use Rattle.sqs_message.specs.declared.ids.MessageId.{MessageId}
 use Rattle.sqs_message.specs.declared.ids.Receipt.{Receipt}
 use Rattle.sqs_message.specs.declared.message.Message.{Message}
+use Rattle.sqs_message.specs.declared.message.Place.{Place}
+use Rattle.sqs_message.specs.declared.message.Place.TheVariants as places
 use Rattle.sqs_message.specs.declared.row.Detail.TheVariants as details
 use Rattle.sqs_message.specs.declared.row.Row.{Row}
 use Rattle.sqs_message.specs.declared.row.RowReceipt.TheVariants as receipts
@@ -22,12 +25,13 @@ use Rattle.sqs_redrive.specs.MoveTasks.{is_worn}
 use Rattle.sqs_model.specs.Acts.{all_came_back, came_back, got_row, redrive_by}
 use Rattle.sqs_model.specs.Actor.{Actor}
 use Rattle.sqs_model.specs.Giving.{all_got, all_left, all_received, all_released}
-use Rattle.sqs_model.specs.Queue.{Queue, has_number, id_of, is_in_flight, is_visible, numbered, taken_out, with_change}
+use Rattle.sqs_model.specs.Queue.{Queue, has_number, id_of, in_flight, is_in_flight, is_visible, numbered, taken_out, with_change}
 use Rattle.sqs_model.specs.Receive.{got_of, received}
 use Rattle.sqs_model.specs.Return.{leaves, released, released_found, released_when, redrive_of, visible_again}
 use Rattle.sqs_model.specs.Site.{Core, Effect, and_then, number_of}
 use Rattle.sqs_model.proofs.Chosen.{Stand}
-use Rattle.sqs_model.proofs.Counts.{find_all, find_changed, find_picked}
+use Rattle.sqs_model.proofs.Counts.{find_all, find_changed, find_picked, total, total_changed}
+use Rattle.sqs_model.proofs.Ledger.{bit}
 use Rattle.sqs_model.proofs.Giving.{find_apart}
 use Rattle.sqs_model.proofs.Numbered.{Apart, one_number, other_without}
 use Rattle.sqs_model.proofs.SiteAccounts.{IsFound}
@@ -86,6 +90,23 @@ pub told_kept : (q : Queue) (ms : List Message) → AreToldOf q.site ms (map (λ
 told_kept q [] = tt
 told_kept q (m ∷ ms) = (record { id = refl; receipt = refl; origin = refl }, told_kept q ms)
 
+-- what is visible is not in flight
+pub visible_rests : (p : Place) → elim p as (λ _. Bool) [ places.Delayed ↦ false | places.Visible ↦ true | places.InFlight ↦ false ] ≡ true → elim p as (λ _. Bool) [ places.Delayed ↦ false | places.Visible ↦ false | places.InFlight ↦ true ] ≡ false
+visible_rests places.Delayed e = cc
+visible_rests places.Visible e = refl
+visible_rests places.InFlight e = cc
+
+-- how many messages of a queue are in flight
+pub flights_are : (ms : List Message) → count_by is_in_flight ms ≡ total (λ m. bit (is_in_flight m)) ms
+flights_are [] = refl
+flights_are (m ∷ ms) = omega (arith, sum_by-cons (λ (x : Message). bit (is_in_flight x)) m ms, flights_are ms)
+
+flights_changed : (q : Queue) (n : ℕ) (f : Message → Message) (m : Message) → numbered n q.records ≡ Some m → is_in_flight m ≡ false → is_in_flight (f m) ≡ true → in_flight (with_change q n f) ≡ in_flight q + 1
+flights_changed q n f m s a b =
+    let before : bit (is_in_flight m) ≡ 0 = ap bit a in
+    let now : bit (is_in_flight (f m)) ≡ 1 = ap bit b in
+    omega (arith, flights_are q.records, flights_are (changed (has_number n) f q.records), total_changed (has_number n) (λ (x : Message). bit (is_in_flight x)) f q.records m s, before, now)
+
 module _ (key : Key) where
   -- messages that are received
   received_stand : (timeout : ℕ) (q : Queue) (m : Message) (ms : List Message) → All (λ x. x.number ≢ m.number) ms → Stand q ms → Stand (with_change q m.number (received key.at timeout)) ms
@@ -94,8 +115,8 @@ module _ (key : Key) where
       let x : Message = get_or ms i e in
       other_changed x.number m.number (received key.at timeout) (λ y. refl) (d i e l) q.records ∙ s i e l
 
-  one_received : (c : Core) (agent timeout : ℕ) (q : Queue) (m : Message) (g : Got) → c.queue.site ≡ q.site → IsToldOf q.site m g → numbered m.number q.records ≡ Some m → is_visible m ≡ true → Move key q (got_row key c agent g) (with_change q m.number (received key.at timeout))
-  one_received c agent timeout q m g e t s v =
+  one_received : (c : Core) (agent timeout : ℕ) (q : Queue) (m : Message) (g : Got) → c.queue.site ≡ q.site → IsToldOf q.site m g → numbered m.number q.records ≡ Some m → is_visible m ≡ true → in_flight q < q.settings.in_flight_limit → Move key q (got_row key c agent g) (with_change q m.number (received key.at timeout))
+  one_received c agent timeout q m g e t s v l =
       record {
         at_key = refl;
         at_site = e;
@@ -109,22 +130,27 @@ module _ (key : Key) where
               tells = tells _ false true false false false refl refl refl refl refl;
               names = record { there = s; message = ap (λ i. Some i) t.id; sure = refl };
               rested = v;
+              room = l;
               receipt = ap (λ r. receipts.Made r) t.receipt;
               origin = ap (λ o. details.From o) t.origin;
               after = refl;
             });
       }
 
+  -- one more is in flight then
+  received_more : (timeout : ℕ) (q : Queue) (m : Message) → numbered m.number q.records ≡ Some m → is_visible m ≡ true → in_flight (with_change q m.number (received key.at timeout)) ≡ in_flight q + 1
+  received_more timeout q m s v = flights_changed q m.number (received key.at timeout) m s (visible_rests m.place v) refl
+
   pub received_chain :
       (c : Core) (agent timeout : ℕ) (ms : List Message) (gots : List Got) (q : Queue) → c.queue.site ≡ q.site → AreToldOf q.site ms gots → Apart ms → Stand q ms
-      → All (λ m. is_visible m ≡ true) ms → Chain key q (map (got_row key c agent) gots) (all_received key.at timeout ms q)
-  received_chain c agent timeout [] [] q e t d s v = refl
-  received_chain c agent timeout (m ∷ ms) (g ∷ gs) q e t d s v =
+      → All (λ m. is_visible m ≡ true) ms → length ms ≤ q.settings.in_flight_limit - in_flight q → Chain key q (map (got_row key c agent) gots) (all_received key.at timeout ms q)
+  received_chain c agent timeout [] [] q e t d s v l = refl
+  received_chain c agent timeout (m ∷ ms) (g ∷ gs) q e t d s v l =
       let x : Queue = with_change q m.number (received key.at timeout) in
-      (x, one_received c agent timeout q m g e t.0 (All-head (λ y. numbered y.number q.records ≡ Some y) m ms s) (All-head (λ y. is_visible y ≡ true) m ms v),
-        received_chain c agent timeout ms gs x e t.1 d.1 (received_stand timeout q m ms d.0 (All-tail (λ y. numbered y.number q.records ≡ Some y) m ms s)) (All-tail (λ y. is_visible y ≡ true) m ms v))
-  received_chain c agent timeout [] (g ∷ gs) q e t d s v = absurd t
-  received_chain c agent timeout (m ∷ ms) [] q e t d s v = absurd t
+      (x, one_received c agent timeout q m g e t.0 (All-head (λ y. numbered y.number q.records ≡ Some y) m ms s) (All-head (λ y. is_visible y ≡ true) m ms v) (omega (arith, l)),
+        received_chain c agent timeout ms gs x e t.1 d.1 (received_stand timeout q m ms d.0 (All-tail (λ y. numbered y.number q.records ≡ Some y) m ms s)) (All-tail (λ y. is_visible y ≡ true) m ms v) (omega (arith, l, received_more timeout q m (All-head (λ y. numbered y.number q.records ≡ Some y) m ms s) (All-head (λ y. is_visible y ≡ true) m ms v))))
+  received_chain c agent timeout [] (g ∷ gs) q e t d s v l = absurd t
+  received_chain c agent timeout (m ∷ ms) [] q e t d s v l = absurd t
 
   -- a message that comes back
   back_when :

@@ -41,14 +41,14 @@ flight_as m rows r a b c e f g =
 pub other_flies : (m : MessageId) (rows : List Row) (r : Row) → names m r ≡ false → flying m (rows ++ r ∷ []) ≡ flying m rows
 other_flies m rows r e = flight_as m rows r false (words.received r || changed r) (is_release r.kind || leaves r) e refl refl
 
-still_flies_by : (b : Bool) (m : MessageId) (rows : List Row) (r : Row) → names m r ≡ b → (words.received r || changed r) ≡ false → (is_release r.kind || leaves r) ≡ false → flying m (rows ++ r ∷ []) ≡ flying m rows
+pub still_flies_by : (b : Bool) (m : MessageId) (rows : List Row) (r : Row) → names m r ≡ b → (words.received r || changed r) ≡ false → (is_release r.kind || leaves r) ≡ false → flying m (rows ++ r ∷ []) ≡ flying m rows
 still_flies_by true m rows r e f g = flight_as m rows r true false false e f g
 still_flies_by false m rows r e f g = other_flies m rows r e
 
-begins_flying : (m : MessageId) (rows : List Row) (r : Row) → r.message ≡ Some m → (words.received r || changed r) ≡ true → flying m (rows ++ r ∷ []) ≡ true
+pub begins_flying : (m : MessageId) (rows : List Row) (r : Row) → r.message ≡ Some m → (words.received r || changed r) ≡ true → flying m (rows ++ r ∷ []) ≡ true
 begins_flying m rows r e f = flight_as m rows r true true (is_release r.kind || leaves r) (names_same m r e) f refl
 
-ends_flying : (m : MessageId) (rows : List Row) (r : Row) → r.message ≡ Some m → (words.received r || changed r) ≡ false → (is_release r.kind || leaves r) ≡ true → flying m (rows ++ r ∷ []) ≡ false
+pub ends_flying : (m : MessageId) (rows : List Row) (r : Row) → r.message ≡ Some m → (words.received r || changed r) ≡ false → (is_release r.kind || leaves r) ≡ true → flying m (rows ++ r ∷ []) ≡ false
 ends_flying m rows r e f g = flight_as m rows r true false true (names_same m r e) f g
 
 -- what the rows so far say of a queue: those of its messages that fly are in flight, and none flies that is not there
@@ -66,7 +66,7 @@ module _ (key : Key) (rows : List Row) (q : Queue) (r : Row) (p : Queue) (k : Is
       }
 
   -- another message than the one that a row names
-  others : (n i : ℕ) → r.message ≡ Some (id_of q n) → i ≢ n → flying (id_of q i) (rows ++ r ∷ []) ≡ flying (id_of q i) rows
+  pub others : (n i : ℕ) → r.message ≡ Some (id_of q n) → i ≢ n → flying (id_of q i) (rows ++ r ∷ []) ≡ flying (id_of q i) rows
   others n i e d = other_flies (id_of q i) rows r (names_other (id_of q i) (id_of q n) r e d)
 
   absent_by : (b : Bool) (n i : ℕ) (f : Message → Message) (one : Message) → ((m : Message) → (f m).number ≡ m.number) → numbered n q.records ≡ Some one → (i == n) ≡ b → numbered i (with_change q n f).records ≡ None → (i ≢ n) × (numbered i q.records ≡ None)

@@ -1,8 +1,9 @@
 -- The rows of a receive are a chain of single moves: all messages are received, and with a timeout of 0 all then come back.
 use Rattle.std.specs.List.{list_any}
-use Rattle.std.specs.Prelude.{All, Bool, List, None, Option, Some, [], cond, false, filter, get_or, if◌then◌else◌, map, min, nat_lt, not, take, true, ℕ, ◌&&◌, ◌%◌, ◌++◌, ◌<◌, ◌==◌, ◌∷◌, ◌≡◌}
+use Rattle.std.specs.Prelude.{All, Bool, List, None, Option, Some, [], cond, false, filter, get_or, if◌then◌else◌, length, map, min, nat_lt, not, take, true, ℕ, ◌&&◌, ◌%◌, ◌++◌, ◌<◌, ◌==◌, ◌∷◌, ◌≡◌, ◌≤◌}
 use Rattle.std.proofs.Common.{ap, arith, refl, subst, sym, ◌∙◌}
 use Rattle.std.proofs.lemmas.Bool.{and_parts, eqb-false, eqb-true}
+use Rattle.std.proofs.lemmas.List.{length-take}
 use Rattle.std.proofs.lemmas.List.Elements.{All-cons, All-head, All-nil, All-tail, All-take}
 use Rattle.sim_clock.specs.declared.key.Key.{Key}
 use Rattle.sqs_message.specs.declared.message.Message.{Message}
@@ -95,7 +96,7 @@ module _ (key : Key) (c : Core) (agent : ℕ) (timeout : Option ℕ) where
     pub actors : (given key c agent timeout x).core.actors ≡ c.actors
     pub known : AreKnown c.queue.site c.queue.arrivals x.1
 
-  module _ (ms : List Message) (apart : Apart ms) (stand : Stand c.queue ms) (visible : All (λ m. is_visible m ≡ true) ms) (stocked : IsStocked c.queue) where
+  module _ (ms : List Message) (apart : Apart ms) (stand : Stand c.queue ms) (visible : All (λ m. is_visible m ≡ true) ms) (few : length ms ≤ room c.queue) (stocked : IsStocked c.queue) where
     known_of : (gots : List Got) → AreToldOf c.queue.site ms gots → AreKnown c.queue.site c.queue.arrivals gots
     known_of gots t =
         known_told c.queue.site c.queue.arrivals ms gots t
@@ -106,7 +107,7 @@ module _ (key : Key) (c : Core) (agent : ℕ) (timeout : Option ℕ) where
     given_kept b gots told t e =
         let q : Queue = all_received key.at t ms c.queue in
         let f : Effect = record { core = with_queue c q; rows = map (got_row key c agent) gots; sent = [] } in
-        let chain : Chain key c.queue f.rows q = received_chain key c agent t ms gots c.queue refl told apart stand visible in
+        let chain : Chain key c.queue f.rows q = received_chain key c agent t ms gots c.queue refl told apart stand visible few in
         let same : f ≡ given key c agent timeout (q, gots) = sym (ap (λ z. if z then and_then f (all_came_back key gots) else f) e) in
         record {
           chain = subst (λ g. Chain key c.queue g.rows g.core.queue) same chain;
@@ -123,7 +124,7 @@ module _ (key : Key) (c : Core) (agent : ℕ) (timeout : Option ℕ) where
         let d : Core = with_queue c q in
         let f : Effect = record { core = d; rows = map (got_row key c agent) gots; sent = [] } in
         let told : AreToldOf c.queue.site ms gots = told_got c.queue taken ms in
-        let first : Chain key c.queue f.rows taken = received_chain key c agent 0 ms gots c.queue refl told apart stand visible in
+        let first : Chain key c.queue f.rows taken = received_chain key c agent 0 ms gots c.queue refl told apart stand visible few in
         let kept : Keeps c.queue taken = chain_keeps key f.rows c.queue taken first stocked in
         let there : AreThere key taken ms = λ i l h. let m : Message = get_or ms i l in there_received key.at 0 m.number ms c.queue (subst IsFound (sym (stand i l h)) tt) in
         let back : (e : Core) → e.queue.site ≡ taken.site → e.queue.settings ≡ taken.settings → Chain key taken (all_came_back key gots e).rows q = λ e s t. back_chain key ms gots taken e s t (back_got key c.queue taken ms) apart there in
@@ -149,7 +150,7 @@ module _ (key : Key) (c : Core) (agent : ℕ) (timeout : Option ℕ) where
         let gots : List Got = map (λ m. got_of c.queue m None) ms in
         let told : AreToldOf c.queue.site ms gots = told_kept c.queue ms in
         let more : 0 < t = grind (arith, eqb-false t 0 e) in
-        let chain : Chain key c.queue (map (got_row key c agent) gots) (all_received key.at t ms c.queue) = received_chain key c agent t ms gots c.queue refl told apart stand visible in
+        let chain : Chain key c.queue (map (got_row key c agent) gots) (all_received key.at t ms c.queue) = received_chain key c agent t ms gots c.queue refl told apart stand visible few in
         let kept : Keeps c.queue (all_received key.at t ms c.queue) = chain_keeps key _ c.queue _ chain stocked in
         subst IsGiven (sym ((gives key.at c.queue).later t ms more))
         (given_kept false gots told t (ap (λ n. n == 0) (same_timeout c.queue (all_received key.at t ms c.queue) timeout (sym kept.settings)) ∙ e))
@@ -158,5 +159,5 @@ module _ (key : Key) (c : Core) (agent : ℕ) (timeout : Option ℕ) where
   most_given max set s =
       let most : ℕ = min max (room c.queue) in
       give_by (to_give c.queue max set) (first_apart c.queue set most s.ordered) (first_stand c.queue set most s.ordered)
-      (All-take (λ m. is_visible m ≡ true) most (available c.queue set) (visible_available c.queue.settings.kind set c.queue.records)) s
+      (All-take (λ m. is_visible m ≡ true) most (available c.queue set) (visible_available c.queue.settings.kind set c.queue.records)) (omega (arith, length-take most (available c.queue set))) s
       (timeout_of c.queue timeout == 0) refl

@@ -1,6 +1,6 @@
 -- In flight: no message is received or moved that is in flight, and only such a message is changed or leaves for the dead-letter
 -- queue.
-use Rattle.std.specs.Prelude.{All, Bool, List, None, Option, Some, [], false, nat_le, true, ℕ, ◌<◌, ◌∷◌, ◌≡◌, ◌≤◌, ◌⊎◌, ◌||◌}
+use Rattle.std.specs.Prelude.{All, Bool, List, None, Option, Some, [], false, nat_le, slice_get, true, ℕ, ◌++◌, ◌<◌, ◌∷◌, ◌≡◌, ◌≤◌, ◌⊎◌, ◌||◌}
 use Rattle.std.proofs.Common.{ap, arith, inl, inr, refl, subst, sym, true≢false, ◌∙◌}
 use Rattle.std.proofs.lemmas.Bool.{leb-true, or_parts}
 use Rattle.sim_clock.specs.declared.key.Key.{Key}
@@ -18,19 +18,16 @@ use Rattle.sqs_model.specs.Run.{IsRunOf, Run}
 use Rattle.sqs_model.specs.Scenario.{Scenario}
 use Rattle.sqs_model.specs.Valid.{IsQueueSettings}
 use Rattle.sqs_laws.specs.Laws.{InFlight}
-use Rattle.sqs_laws.specs.Words.{EachRow, changed, flying, is_move, is_redrive}
+use Rattle.sqs_laws.specs.Words.{EachRow, changed, comings, flying, in_flight_at, is_move, is_redrive}
 use Rattle.sqs_laws.specs.Words as words
-use Rattle.sqs_laws.proofs.Flights as fly
+use Rattle.sqs_laws.proofs.Calls.{visible_rests}
+use Rattle.sqs_laws.proofs.End as end
 use Rattle.sqs_laws.proofs.Letters as letter
-use Rattle.sqs_laws.proofs.Moves.{Does, IsStocked, Move, Names, changes, comes, ends, receives, redrives, releases, stays}
+use Rattle.sqs_laws.proofs.Limit.{counts_sum, limits, sums}
+use Rattle.sqs_laws.proofs.Moves.{does_keep, Keeps, Does, IsStocked, Move, Names, changes, comes, ends, receives, redrives, releases, stays}
 use Rattle.sqs_laws.proofs.Worlds.{RowLaw, both, every_row_by}
 
--- what is visible is not in flight
-rests_by : (p : Place) → elim p as (λ _. Bool) [ places.Delayed ↦ false | places.Visible ↦ true | places.InFlight ↦ false ] ≡ true → elim p as (λ _. Bool) [ places.Delayed ↦ false | places.Visible ↦ false | places.InFlight ↦ true ] ≡ false
-rests_by places.Delayed e = cc
-rests_by places.Visible e = refl
-rests_by places.InFlight e = cc
-
+-- a redrive is no move
 no_move : (k : RowKind) → is_redrive k ≡ true → is_move k ≡ false
 no_move kinds.Move e = cc
 no_move k e = refl
@@ -47,13 +44,13 @@ none_leaves r l =
 
 module _ (s : Scenario) (v : All IsQueueSettings s.queues) where
   abbrev told : RowLaw s
-  told = both s (letter.letters s v) (fly.flights s)
+  told = both s (letter.letters s v) (both s (end.the_end s) (limits s))
 
   module _ (rows : List Row) (key : Key) (q : Queue) (r : Row) (p : Queue) (d : Move key q r p) (k : IsStocked q) (h : told.Holds rows q) where
     names_flight : (one : Message) (n : ℕ) (m : MessageId) (b : Bool) → Names key q r p one n → r.message ≡ Some m → is_in_flight one ≡ b → flying m rows ≡ b
     names_flight one n m b x e f =
         let i : id_of q n ≡ m = cc in
-        subst (λ y. flying y rows ≡ b) i (h.1.flies n one x.there ∙ f)
+        subst (λ y. flying y rows ≡ b) i (h.1.1.0.flies n one x.there ∙ f)
 
     neither : words.received r ≡ false → is_move r.kind ≡ false → (words.received r || is_move r.kind) ≡ true → ⊥
     neither a b t = true≢false (sym t ∙ (rw (a, b) refl))
@@ -62,11 +59,11 @@ module _ (s : Scenario) (v : All IsQueueSettings s.queues) where
     none_changed a b t = true≢false (sym t ∙ (rw (a, b) refl))
 
     once_by : Does key q r p → (m : MessageId) → r.message ≡ Some m → (words.received r || is_move r.kind) ≡ true → flying m rows ≡ false
-    once_by (receives x) m e t = names_flight x.one x.number m false x.names e (rests_by x.one.place x.rested)
+    once_by (receives x) m e t = names_flight x.one x.number m false x.names e (visible_rests x.one.place x.rested)
     once_by (ends x) m e t =
         elim (or_either (words.received r) (is_move r.kind) t) as (λ _. flying m rows ≡ false) [
           | inl y ↦ absurd (true≢false (sym y ∙ x.tells.received_so))
-          | inr y ↦ names_flight x.one x.number m false x.names e (rests_by x.one.place (x.rested y))
+          | inr y ↦ names_flight x.one x.number m false x.names e (visible_rests x.one.place (x.rested y))
         ]
     once_by (redrives x) m e t = absurd (neither x.tells.received_so (no_move r.kind x.kind) t)
     once_by (stays x) m e t = absurd (neither x.tells.received_so (none_leaves r x.tells.leaves_so).1 t)
@@ -90,17 +87,34 @@ module _ (s : Scenario) (v : All IsQueueSettings s.queues) where
     flies_by (receives x) m e t = absurd (none_changed x.tells.changed_so (none_leaves r x.tells.leaves_so).0 t)
     flies_by (releases x) m e t = absurd (none_changed x.tells.changed_so (none_leaves r x.tells.leaves_so).0 t)
 
+    -- how many are in flight after it
+    limit_by : told.Holds (rows ++ r ∷ []) p → (settings : QueueSettings) → slice_get s.queues r.queue ≡ Some settings → in_flight_at r.queue (rows ++ r ∷ []) ≤ settings.in_flight_limit
+    limit_by j settings e =
+        let all : List Row = rows ++ r ∷ [] in
+        let keeps : Keeps q p = does_keep key q r p d.does k in
+        let site : r.queue ≡ p.site = d.at_site ∙ keeps.site in
+        let same : slice_get s.queues r.queue ≡ Some p.settings = ap (λ n. slice_get s.queues n) site ∙ j.0.settings in
+        let is : settings ≡ p.settings = cc in
+        let came : comings r.queue all ≡ p.arrivals = ap (λ n. comings n all) site ∙ j.1.0.came in
+        let counted : in_flight_at r.queue all ≡ sums (comings r.queue all) (λ i. flying (record { site = r.queue; number = i }) all) = counts_sum r.queue (comings r.queue all) (λ m. flying m all) in
+        let moved : sums (comings r.queue all) (λ i. flying (record { site = r.queue; number = i }) all) ≡ sums p.arrivals (λ i. flying (id_of p i) all) =
+        ap (λ n. sums n (λ i. flying (record { site = r.queue; number = i }) all)) came ∙ ap (λ n. sums p.arrivals (λ i. flying (record { site = n; number = i }) all)) site in
+        let most : p.settings.in_flight_limit ≡ settings.in_flight_limit = ap (λ (x : QueueSettings). x.in_flight_limit) (sym is) in
+        omega (arith, counted, moved, j.1.1.1.count, j.1.1.1.most, most)
+
   -- what the law says of a row
   record IsAsTold (before : List Row) (r : Row) : Type 0 where
     pub once : (m : MessageId) → r.message ≡ Some m → (words.received r || is_move r.kind) ≡ true → flying m before ≡ false
     pub flies : (m : MessageId) → r.message ≡ Some m → (changed r || is_redrive r.kind) ≡ true → flying m before ≡ true
+    pub limit : (settings : QueueSettings) → slice_get s.queues r.queue ≡ Some settings → in_flight_at r.queue (before ++ r ∷ []) ≤ settings.in_flight_limit
 
   -- the law
-  pub flights_are_told : (x : Run) → IsRunOf s x → InFlight x.rows
+  pub flights_are_told : (x : Run) → IsRunOf s x → InFlight s x.rows
   flights_are_told x is =
       let each : EachRow x.rows IsAsTold =
-      every_row_by s told IsAsTold (λ rows key q r p d k h. record { once = once_by rows key q r p d k h d.does; flies = flies_by rows key q r p d k h d.does }) x is in
+      every_row_by s told IsAsTold (λ rows key q r p d k h j. record { once = once_by rows key q r p d k h d.does; flies = flies_by rows key q r p d k h d.does; limit = limit_by rows key q r p d k h j }) x is in
       record {
         once = λ before r after e m i t. (each before r after e).once m i t;
         flies = λ before r after e m i t. (each before r after e).flies m i t;
+        limit = λ before r after e settings f. (each before r after e).limit settings f;
       }

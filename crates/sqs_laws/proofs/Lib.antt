@@ -13,4 +13,5 @@ pub mod Order
 pub mod Rules
 pub mod Flights
 pub mod Receipts
+pub mod Limit
 pub mod InFlight

@@ -22,7 +22,7 @@ use Rattle.sqs_redrive.specs.declared.answers.Deleted.TheVariants.{Gone, Kept, R
 use Rattle.sqs_redrive.specs.declared.settings.Policy.{Policy}
 use Rattle.sqs_redrive.specs.declared.transfers.Load.{Load}
 use Rattle.sqs_redrive.specs.MoveTasks.{is_worn}
-use Rattle.sqs_model.specs.Queue.{Entry, Queue, has_number, id_of, is_in_flight, is_visible, numbered, taken_out, with_change, with_records}
+use Rattle.sqs_model.specs.Queue.{Entry, Queue, has_number, id_of, in_flight, is_in_flight, is_visible, numbered, taken_out, with_change, with_records}
 use Rattle.sqs_model.specs.Calls.{change, delete, in_flight_until, with_message}
 use Rattle.sqs_model.specs.Receive.{received}
 use Rattle.sqs_model.specs.Return.{leaves, visible_again}
@@ -111,6 +111,7 @@ module _ (key : Key) (q : Queue) (r : Row) (p : Queue) where
     pub tells : Tells r false true false false false
     pub names : Names one number
     pub rested : is_visible one ≡ true
+    pub room : in_flight q < q.settings.in_flight_limit
     pub receipt : r.receipt ≡ receipts.Made (record { site = q.site; number = number; count = one.receives + 1 })
     pub origin : r.detail ≡ details.From one.origin
     pub after : with_change q number (received key.at timeout) ≡ p

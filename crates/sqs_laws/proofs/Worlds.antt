@@ -234,14 +234,14 @@ module _ (scenario : Scenario) (law : RowLaw scenario) where
 -- what a law says of each row, by its move
 pub every_row_by :
     (s : Scenario) (law : RowLaw s) (P : List Row → Row → Type 0)
-    → ((rows : List Row) (key : Key) (q : Queue) (r : Row) (p : Queue) → Move key q r p → IsStocked q → law.Holds rows q → P rows r)
+    → ((rows : List Row) (key : Key) (q : Queue) (r : Row) (p : Queue) → Move key q r p → IsStocked q → law.Holds rows q → law.Holds (rows ++ r ∷ []) p → P rows r)
     → (r : Run) → IsRunOf s r → EachRow r.rows P
 every_row_by s law P meets r is =
     every_row s
     (record {
       Holds = law.Holds;
       Meets = P;
-      moves = λ rows key q x p by m k h. (meets rows key q x p m k h, (law.moves rows key q x p by m k h).1);
+      moves = λ rows key q x p by m k h. let after = (law.moves rows key q x p by m k h).1 in (meets rows key q x p m k h after, after);
       apart = law.apart;
       opens = law.opens;
     }) r is

@@ -1,6 +1,6 @@
 -- The rules of SQS as laws of the log: of its rows, in order, and of the settings of its scenario, and of nothing
 -- else.
-use Rattle.std.specs.Prelude.{All, Bool, IsTrue, List, None, Some, false, true, if◌then◌else◌, nat_lt, not, slice_get, ℕ, ◌&&◌, ◌+◌, ◌<◌, ◌==◌, ◌≡◌, ◌≤◌, ◌⊎◌, ◌||◌}
+use Rattle.std.specs.Prelude.{All, Bool, IsTrue, List, None, Some, false, true, if◌then◌else◌, nat_lt, not, slice_get, ℕ, ◌&&◌, [], ◌+◌, ◌++◌, ◌<◌, ◌==◌, ◌∷◌, ◌≡◌, ◌≤◌, ◌⊎◌, ◌||◌}
 use Rattle.sim_clock.specs.declared.refusal.Refusal.TheVariants as refusals
 use Rattle.sqs_message.specs.declared.ids.MessageId.{MessageId}
 use Rattle.sqs_message.specs.declared.row.Detail.TheVariants as details
@@ -17,7 +17,7 @@ use Rattle.sqs_model.specs.Progress.{IsSoundScenario}
 use Rattle.sqs_model.specs.Run.{IsRunOf, Run}
 use Rattle.sqs_model.specs.Scenario.{Scenario}
 use Rattle.sqs_model.specs.Valid.{IsQueueSettings}
-use Rattle.sqs_laws.specs.Words.{EachNaming, EachRow, changed, comes, comings, flying, has_left, is_change, is_delete, is_gone, is_move, is_redrive, is_release, may_follow, received, times}
+use Rattle.sqs_laws.specs.Words.{EachNaming, EachRow, changed, comes, comings, flying, has_left, in_flight_at, is_change, is_delete, is_gone, is_move, is_redrive, is_release, may_follow, received, times}
 
 -- The end is the end. The messages that come to a queue are numbered from 0 on, and no row names one before it comes.
 -- Once it was deleted, has expired, or left for another queue, only answers gone and repeat and a consumer's fail and
@@ -98,11 +98,14 @@ pub record Receipts (s : Scenario) (rows : List Row) : Type 0 where
       ⊎ ((r.answer ≡ answers.Refused refusals.ReceiptHandleIsInvalid)
       ⊎ (IsTrue (is_change r.kind) × (r.answer ≡ answers.Refused refusals.BadTimeout))))
 
--- In flight. A message that was received is not received or moved until it is released, and has not left. Only such a
+-- In flight. A message that was received is not received or moved until it is released, and has not left. No more of a
+-- queue's messages than its in_flight are in flight at once. Only such a
 -- message has its timeout changed, or leaves for the dead-letter queue.
-pub record InFlight (rows : List Row) : Type 0 where
+pub record InFlight (s : Scenario) (rows : List Row) : Type 0 where
   pub once : EachNaming rows (λ before r m. IsTrue (received r || is_move r.kind) → flying m before ≡ false)
   pub flies : EachNaming rows (λ before r m. IsTrue (changed r || is_redrive r.kind) → flying m before ≡ true)
+  pub limit : EachRow rows (λ before r. (q : QueueSettings) → slice_get s.queues r.queue ≡ Some q
+      → in_flight_at r.queue (before ++ r ∷ []) ≤ q.in_flight_limit)
 
 -- Time. Rows are in the order of time, none after the horizon.
 pub record InTime (s : Scenario) (rows : List Row) : Type 0 where
@@ -111,7 +114,7 @@ pub record InTime (s : Scenario) (rows : List Row) : Type 0 where
 
 -- a log that keeps the rules
 pub record KeepsTheRules (s : Scenario) (rows : List Row) : Type 0 where
-  pub in_flight : InFlight rows
+  pub in_flight : InFlight s rows
   pub the_end : TheEnd rows
   pub dead_letters : DeadLetters s rows
   pub receipts : Receipts s rows

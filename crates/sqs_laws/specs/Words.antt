@@ -1,6 +1,6 @@
 -- What rows say: their kinds and answers, and what the rows before one row say of its message.
-use Rattle.std.specs.List.{list_any}
-use Rattle.std.specs.Prelude.{Bool, List, None, Option, Some, count_by, false, fold, if◌then◌else◌, is_some, not, true, ℕ, ◌&&◌, ◌++◌, ◌==◌, ◌∷◌, ◌≡◌, ◌||◌}
+use Rattle.std.specs.List.{list_any, range_with_len}
+use Rattle.std.specs.Prelude.{Bool, List, None, Option, Some, count_by, false, fold, if◌then◌else◌, is_some, map, not, true, ℕ, ◌&&◌, ◌++◌, ◌==◌, ◌∷◌, ◌≡◌, ◌||◌}
 use Rattle.sqs_message.specs.declared.ids.MessageId.{MessageId}
 use Rattle.sqs_message.specs.declared.row.Row.{Row}
 use Rattle.sqs_message.specs.declared.row.RowAnswer.{RowAnswer}
@@ -106,6 +106,11 @@ flight m rows =
 -- whether it is in flight
 abbrev pub flying : MessageId → List Row → Bool
 flying m rows = is_some (flight m rows)
+
+-- how many of the messages that came to a queue are in flight
+abbrev pub in_flight_at : ℕ → List Row → ℕ
+in_flight_at n rows =
+    count_by (λ m. flying m rows) (map (λ i. record { site = n; number = i }) (range_with_len 0 (comings n rows)))
 
 -- the rows that may still name a message that has left
 abbrev pub may_follow : Row → Bool
