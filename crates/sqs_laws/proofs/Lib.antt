@@ -15,3 +15,4 @@ pub mod Flights
 pub mod Receipts
 pub mod Limit
 pub mod InFlight
+pub mod Origins

@@ -22,6 +22,7 @@ use Rattle.sqs_redrive.specs.declared.answers.Deleted.TheVariants.{Gone, Kept, R
 use Rattle.sqs_redrive.specs.declared.settings.Policy.{Policy}
 use Rattle.sqs_redrive.specs.declared.transfers.Load.{Load}
 use Rattle.sqs_redrive.specs.MoveTasks.{is_worn}
+use Rattle.sqs_model.specs.Accounts.{origin_in}
 use Rattle.sqs_model.specs.Queue.{Entry, Queue, has_number, id_of, in_flight, is_in_flight, is_visible, numbered, taken_out, with_change, with_records}
 use Rattle.sqs_model.specs.Calls.{change, delete, in_flight_until, with_message}
 use Rattle.sqs_model.specs.Receive.{received}
@@ -94,6 +95,7 @@ module _ (key : Key) (q : Queue) (r : Row) (p : Queue) where
     pub number : one.number ≡ q.arrivals
     pub fresh : one.receives ≡ 0
     pub rests : is_in_flight one ≡ false
+    pub told : origin_in r (Some (id_of q q.arrivals)) ≡ Some one.origin
     pub old : All (λ e. e.number < q.arrivals + 1) entries
     pub after : with_message (record q { entries = entries }) one ≡ p
 

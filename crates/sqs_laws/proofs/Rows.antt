@@ -34,7 +34,7 @@ use Rattle.sqs_redrive.specs.declared.settings.Scope.{Scope}
 use Rattle.sqs_redrive.specs.declared.transfers.Load.{Load}
 use Rattle.sqs_redrive.specs.declared.transfers.Load.TheVariants.{Forward, Move as Moves, Redrive}
 use Rattle.sqs_redrive.specs.declared.transfers.Outbound.{Outbound}
-use Rattle.sqs_model.specs.Accounts.{is_deleted, is_expired}
+use Rattle.sqs_model.specs.Accounts.{is_deleted, is_expired, origin_in}
 use Rattle.sqs_model.specs.Acts.{change_answered, change_made, change_row, came_back, delete_done, delete_made, send_made, sends, serve_made}
 use Rattle.sqs_model.specs.Actor.{Actor}
 use Rattle.sqs_model.specs.Calls.{change, deduplication_id, delay_of, delete, delete_as, in_flight_until, is_bad_delay, living, living_entries, new_message, returned, scope_of, send_standard, send_unless, send_with, with_entry, with_message}
@@ -42,7 +42,7 @@ use Rattle.sqs_model.specs.Queue.{Entry, Queue, has_number, id_of, is_in_flight,
 use Rattle.sqs_model.specs.Return.{leaves, redrive_of, released, released_found, released_when, visible_again}
 use Rattle.sqs_model.specs.Site.{Core, Effect, and_then, no_effect, number_of, says, with_queue}
 use Rattle.sqs_model.specs.Arrive.{arrived, brought, enqueued_at, expired_found, forwarded, forwarded_group, is_too_old, sent_of, settled_when}
-use Rattle.sqs_model.specs.Step.{Moved, arrival_done, end_row, handle_step, moves, one_sent, expiry_done, handle_expiry, release_done}
+use Rattle.sqs_model.specs.Step.{Moved, arrival_done, end_row, load_origin, handle_step, moves, one_sent, expiry_done, handle_expiry, release_done}
 use Rattle.sqs_model.specs.Available.{all_available, all_hosts}
 use Rattle.sqs_model.specs.Draw.{drawn_latency}
 use Rattle.sqs_model.specs.Task.{Taken, Task, destination, take_each, take_movable, taken_one}
@@ -148,10 +148,10 @@ module _ (key : Key) where
   refused_sent : (a : Actor) (c : Core) (body : List ℕ) (e : Refusal) → IsSent a c body (Err e, c.queue)
   refused_sent a c body e = one_row c c _ refl refl refl tt (stays (nameless_stays key c.queue _ refl (tells _ false false false false false refl refl refl refl refl)))
 
-  new_sent : (a : Actor) (c : Core) (body : List ℕ) (m : Message) (entries : List Entry) → m.number ≡ c.queue.arrivals → m.receives ≡ 0 → is_in_flight m ≡ false → All (λ e. e.number < c.queue.arrivals + 1) entries → IsSent a c body (Ok (New (id_of c.queue c.queue.arrivals)), with_message (record c.queue { entries = entries }) m)
-  new_sent a c body m entries n f r o =
+  new_sent : (a : Actor) (c : Core) (body : List ℕ) (m : Message) (entries : List Entry) → m.number ≡ c.queue.arrivals → m.receives ≡ 0 → is_in_flight m ≡ false → record { site = c.queue.site; number = c.queue.arrivals } ≡ m.origin → All (λ e. e.number < c.queue.arrivals + 1) entries → IsSent a c body (Ok (New (id_of c.queue c.queue.arrivals)), with_message (record c.queue { entries = entries }) m)
+  new_sent a c body m entries n f r g o =
       one_row c (with_queue c (with_message (record c.queue { entries = entries }) m)) _ refl refl refl tt
-      (comes (record { one = m; entries = entries; tells = tells _ true false false false false refl refl refl refl refl; message = refl; number = n; fresh = f; rests = r; old = o; after = refl }))
+      (comes (record { one = m; entries = entries; tells = tells _ true false false false false refl refl refl refl refl; message = refl; number = n; fresh = f; rests = r; told = ap (λ x. Some x) g; old = o; after = refl }))
 
   repeat_sent : (a : Actor) (c : Core) (body : List ℕ) (n : ℕ) → n < c.queue.arrivals → IsSent a c body (Ok (Repeat (id_of c.queue n)), c.queue)
   repeat_sent a c body n l = one_row c c _ refl refl refl tt (stays (named_stays c.queue _ n refl (tells _ false false false false false refl refl refl refl refl) l (λ h. cc) (λ h. cc)))
@@ -170,7 +170,7 @@ module _ (key : Key) where
 
   unless_sent : (a : Actor) (c : Core) (body given group : List ℕ) (scope : Option (List ℕ)) (id : List ℕ) (o : Option Entry) → living c.queue key.at scope id ≡ o → IsStocked c.queue → IsSent a c given (send_unless c.queue key.at body group scope id o)
   unless_sent a c body given group scope id None f s =
-      new_sent a c given (new_message c.queue key.at body (Some group) c.queue.settings.delay) (with_entry c.queue key.at scope id).entries refl refl (rests_at c.queue body (Some group) c.queue.settings.delay) (more_entries c.queue scope id s)
+      new_sent a c given (new_message c.queue key.at body (Some group) c.queue.settings.delay) (with_entry c.queue key.at scope id).entries refl refl (rests_at c.queue body (Some group) c.queue.settings.delay) refl (more_entries c.queue scope id s)
   unless_sent a c body given group scope id (Some e) f s =
       repeat_sent a c given e.number (find_all (λ (x : Entry). nat_lt key.at x.end && same_text x.scope scope && bytes_eq x.id id) (λ x. x.number < c.queue.arrivals) c.queue.entries e s.entries f)
 
@@ -182,7 +182,7 @@ module _ (key : Key) where
   pub sends_chain : (k : Kind) (a : Actor) (c : Core) (body : List ℕ) (delay : Option ℕ) (group id : Option (List ℕ)) → IsStocked c.queue → IsSent a c body (sends k c.queue key.at body delay group id)
   sends_chain (Standard hosts sampled) a c body delay group id s =
       either (IsSent a c body) (is_bad_delay 900 delay) _ _ (refused_sent a c body refusals.BadDelay)
-      (new_sent a c body (new_message c.queue key.at body None (delay_of c.queue delay)) c.queue.entries refl refl (rests_at c.queue body None (delay_of c.queue delay)) (old_entries c.queue s))
+      (new_sent a c body (new_message c.queue key.at body None (delay_of c.queue delay)) c.queue.entries refl refl (rests_at c.queue body None (delay_of c.queue delay)) refl (old_entries c.queue s))
   sends_chain (Fifo content scope) a c body delay group id s =
       either (IsSent a c body) (is_bad_delay 0 delay) _ _ (refused_sent a c body refusals.BadDelay) (with_sent a c scope body group (deduplication_id content body id) s)
 
@@ -338,19 +338,19 @@ module _ (key : Key) where
   abbrev IsArrived : Core → Load → (Sent × Bool) × Queue → Type 0
   IsArrived c load x = IsChain c (arrival_done key load c x)
 
-  come_move : (c : Core) (r : Row) (m : Message) (entries : List Entry) → r.key ≡ key → r.queue ≡ c.queue.site → r.message ≡ Some (id_of c.queue c.queue.arrivals) → Asks key c.queue r r.kind → Tells r true false false false false → m.number ≡ c.queue.arrivals → m.receives ≡ 0 → is_in_flight m ≡ false → All (λ e. e.number < c.queue.arrivals + 1) entries → Move key c.queue r (with_message (record c.queue { entries = entries }) m)
-  come_move c r m entries k s i y t n f l o = record { at_key = k; at_site = s; asked = y; does = comes (record { one = m; entries = entries; tells = t; message = i; number = n; fresh = f; rests = l; old = o; after = refl }) }
+  come_move : (c : Core) (r : Row) (m : Message) (entries : List Entry) → r.key ≡ key → r.queue ≡ c.queue.site → r.message ≡ Some (id_of c.queue c.queue.arrivals) → Asks key c.queue r r.kind → Tells r true false false false false → m.number ≡ c.queue.arrivals → m.receives ≡ 0 → is_in_flight m ≡ false → origin_in r (Some (id_of c.queue c.queue.arrivals)) ≡ Some m.origin → All (λ e. e.number < c.queue.arrivals + 1) entries → Move key c.queue r (with_message (record c.queue { entries = entries }) m)
+  come_move c r m entries k s i y t n f l g o = record { at_key = k; at_site = s; asked = y; does = comes (record { one = m; entries = entries; tells = t; message = i; number = n; fresh = f; rests = l; told = g; old = o; after = refl }) }
 
-  settled_chain : (b : Bool) (c : Core) (load : Load) (m : Message) → m.number ≡ c.queue.arrivals → m.receives ≡ 0 → is_in_flight m ≡ false → IsStocked c.queue → IsArrived c load (settled_when b c.queue m)
-  settled_chain false c load m n f l s =
-      record { chain = one_move key c.queue _ _ (come_move c _ m c.queue.entries refl refl refl tt (tells _ true false false false false refl refl refl refl refl) n f l (old_entries c.queue s)); actors = refl }
-  settled_chain true c load m n f l s =
+  settled_chain : (b : Bool) (c : Core) (load : Load) (m : Message) → m.number ≡ c.queue.arrivals → m.receives ≡ 0 → is_in_flight m ≡ false → load_origin load (id_of c.queue c.queue.arrivals) ≡ m.origin → IsStocked c.queue → IsArrived c load (settled_when b c.queue m)
+  settled_chain false c load m n f l g s =
+      record { chain = one_move key c.queue _ _ (come_move c _ m c.queue.entries refl refl refl tt (tells _ true false false false false refl refl refl refl refl) n f l (ap (λ x. Some x) g) (old_entries c.queue s)); actors = refl }
+  settled_chain true c load m n f l g s =
       let q : Queue = c.queue in
       let x : Queue = with_message q m in
       let gone : taken_out x q.arrivals ≡ record q { arrivals = q.arrivals + 1 } = ap (λ records. record q { records = records; arrivals = q.arrivals + 1 }) (pushed_out q.arrivals q.records m n s.given_out) in
       record {
         chain = (
-          x, come_move c _ m q.entries refl refl refl tt (tells _ true false false false false refl refl refl refl refl) n f l (old_entries q s),
+          x, come_move c _ m q.entries refl refl refl tt (tells _ true false false false false refl refl refl refl refl) n f l (ap (λ x. Some x) g) (old_entries q s),
           one_move key x _ (record q { arrivals = q.arrivals + 1 })
               (record {
                 at_key = refl;
@@ -362,13 +362,13 @@ module _ (key : Key) where
         actors = refl;
       }
 
-  new_come : (c : Core) (id : MessageId) (group : Option (List ℕ)) (body : List ℕ) (m : Message) (entries : List Entry) → m.number ≡ c.queue.arrivals → m.receives ≡ 0 → is_in_flight m ≡ false → All (λ e. e.number < c.queue.arrivals + 1) entries → IsArrived c (Forward id group body) ((New (id_of c.queue c.queue.arrivals), false), with_message (record c.queue { entries = entries }) m)
-  new_come c id group body m entries n f l o =
-      record { chain = one_move key c.queue _ _ (come_move c _ m entries refl refl refl tt (tells _ true false false false false refl refl refl refl refl) n f l o); actors = refl }
+  new_come : (c : Core) (id : MessageId) (group : Option (List ℕ)) (body : List ℕ) (m : Message) (entries : List Entry) → m.number ≡ c.queue.arrivals → m.receives ≡ 0 → is_in_flight m ≡ false → record { site = c.queue.site; number = c.queue.arrivals } ≡ m.origin → All (λ e. e.number < c.queue.arrivals + 1) entries → IsArrived c (Forward id group body) ((New (id_of c.queue c.queue.arrivals), false), with_message (record c.queue { entries = entries }) m)
+  new_come c id group body m entries n f l g o =
+      record { chain = one_move key c.queue _ _ (come_move c _ m entries refl refl refl tt (tells _ true false false false false refl refl refl refl refl) n f l (ap (λ x. Some x) g) o); actors = refl }
 
   unless_come : (c : Core) (id : MessageId) (g : Option (List ℕ)) (b body group : List ℕ) (scope : Option (List ℕ)) (text : List ℕ) (o : Option Entry) → living c.queue key.at scope text ≡ o → IsStocked c.queue → IsArrived c (Forward id g b) (sent_of c.queue (send_unless c.queue key.at body group scope text o))
   unless_come c id g b body group scope text None f s =
-      new_come c id g b (new_message c.queue key.at body (Some group) c.queue.settings.delay) (with_entry c.queue key.at scope text).entries refl refl (rests_at c.queue body (Some group) c.queue.settings.delay) (more_entries c.queue scope text s)
+      new_come c id g b (new_message c.queue key.at body (Some group) c.queue.settings.delay) (with_entry c.queue key.at scope text).entries refl refl (rests_at c.queue body (Some group) c.queue.settings.delay) refl (more_entries c.queue scope text s)
   unless_come c id g b body group scope text (Some e) f s =
       let old : e.number < c.queue.arrivals = find_all (λ (x : Entry). nat_lt key.at x.end && same_text x.scope scope && bytes_eq x.id text) (λ x. x.number < c.queue.arrivals) c.queue.entries e s.entries f in
       record {
@@ -378,7 +378,7 @@ module _ (key : Key) where
 
   forwarded_chain : (k : Kind) (c : Core) (id : MessageId) (body : List ℕ) (group : Option (List ℕ)) → IsStocked c.queue → IsArrived c (Forward id group body) (forwarded k c.queue key.at id body group)
   forwarded_chain (Standard hosts sampled) c id body group s =
-      new_come c id group body (new_message c.queue key.at body None c.queue.settings.delay) c.queue.entries refl refl (rests_at c.queue body None c.queue.settings.delay) (old_entries c.queue s)
+      new_come c id group body (new_message c.queue key.at body None c.queue.settings.delay) c.queue.entries refl refl (rests_at c.queue body None c.queue.settings.delay) refl (old_entries c.queue s)
   forwarded_chain (Fifo content scope) c id body group s =
       let g : List ℕ = forwarded_group group in
       unless_come c id group body body g (scope_of scope g) (id_text id) (living c.queue key.at (scope_of scope g) (id_text id)) refl s
@@ -386,10 +386,10 @@ module _ (key : Key) where
   pub arrived_chain : (c : Core) (load : Load) → IsStocked c.queue → IsArrived c load (arrived c.queue key.at load)
   arrived_chain c (Redrive id group origin body enqueued) s =
       let m : Message = brought c.queue key.at origin body group (enqueued_at c.queue.settings.kind key.at enqueued) (Some id.site) in
-      settled_chain (is_too_old c.queue key.at m) c (Redrive id group origin body enqueued) m refl refl refl s
+      settled_chain (is_too_old c.queue key.at m) c (Redrive id group origin body enqueued) m refl refl refl refl s
   arrived_chain c (Moves id group origin body) s =
       let m : Message = brought c.queue key.at origin body group key.at None in
-      settled_chain (is_too_old c.queue key.at m) c (Moves id group origin body) m refl refl refl s
+      settled_chain (is_too_old c.queue key.at m) c (Moves id group origin body) m refl refl refl refl s
   arrived_chain c (Forward id group body) s = forwarded_chain c.queue.settings.kind c id body group s
 
   -- steps of tasks

@@ -9,6 +9,7 @@ use Rattle.sqs_laws.proofs.End.{ends_are_ends}
 use Rattle.sqs_laws.proofs.InFlight.{flights_are_told}
 use Rattle.sqs_laws.proofs.Letters.{letters_are_dead}
 use Rattle.sqs_laws.proofs.Order.{rows_in_time}
+use Rattle.sqs_laws.proofs.Origins.{origins_are_told}
 use Rattle.sqs_laws.proofs.Receipts.{receipts_are_known}
 
 pub keeps_the_rules : (s : Scenario) → IsSoundScenario s → All IsQueueSettings s.queues → (r : Run) → IsRunOf s r → KeepsTheRules s r.rows
@@ -18,5 +19,6 @@ keeps_the_rules s sound valid r is =
       the_end = ends_are_ends s r is;
       dead_letters = letters_are_dead s valid r is;
       receipts = receipts_are_known s valid r is;
+      origins = origins_are_told s r is;
       in_time = rows_in_time s sound r is;
     }

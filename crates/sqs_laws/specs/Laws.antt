@@ -3,6 +3,7 @@
 use Rattle.std.specs.Prelude.{All, Bool, IsTrue, List, None, Some, false, true, if◌then◌else◌, nat_lt, not, slice_get, ℕ, ◌&&◌, [], ◌+◌, ◌++◌, ◌<◌, ◌==◌, ◌∷◌, ◌≡◌, ◌≤◌, ◌⊎◌, ◌||◌}
 use Rattle.sim_clock.specs.declared.refusal.Refusal.TheVariants as refusals
 use Rattle.sqs_message.specs.declared.ids.MessageId.{MessageId}
+use Rattle.sqs_message.specs.declared.ids.Origin.{Origin}
 use Rattle.sqs_message.specs.declared.row.Detail.TheVariants as details
 use Rattle.sqs_message.specs.declared.row.Row.{Row}
 use Rattle.sqs_message.specs.declared.row.RowAnswer.{RowAnswer}
@@ -17,7 +18,7 @@ use Rattle.sqs_model.specs.Progress.{IsSoundScenario}
 use Rattle.sqs_model.specs.Run.{IsRunOf, Run}
 use Rattle.sqs_model.specs.Scenario.{Scenario}
 use Rattle.sqs_model.specs.Valid.{IsQueueSettings}
-use Rattle.sqs_laws.specs.Words.{EachNaming, EachRow, changed, comes, comings, flying, has_left, in_flight_at, is_change, is_delete, is_gone, is_move, is_redrive, is_release, may_follow, received, times}
+use Rattle.sqs_laws.specs.Words.{EachNaming, EachRow, changed, comes, comings, flying, has_left, in_flight_at, is_change, is_delete, is_gone, is_move, is_redrive, is_release, may_follow, origin_of, received, times}
 
 -- The end is the end. The messages that come to a queue are numbered from 0 on, and no row names one before it comes.
 -- Once it was deleted, has expired, or left for another queue, only answers gone and repeat and a consumer's fail and
@@ -107,6 +108,11 @@ pub record InFlight (s : Scenario) (rows : List Row) : Type 0 where
   pub limit : EachRow rows (λ before r. (q : QueueSettings) → slice_get s.queues r.queue ≡ Some q
       → in_flight_at r.queue (before ++ r ∷ []) ≤ q.in_flight_limit)
 
+-- Origins. A receive tells the origin that the row told by which the message came to its queue.
+pub record Origins (rows : List Row) : Type 0 where
+  pub told : EachNaming rows (λ before r m. IsTrue (received r)
+      → (o : Origin) × (origin_of m before ≡ Some o) × (r.detail ≡ details.From o))
+
 -- Time. Rows are in the order of time, none after the horizon.
 pub record InTime (s : Scenario) (rows : List Row) : Type 0 where
   pub order : EachRow rows (λ before r. All (λ x. x.key.at ≤ r.key.at) before)
@@ -118,6 +124,7 @@ pub record KeepsTheRules (s : Scenario) (rows : List Row) : Type 0 where
   pub the_end : TheEnd rows
   pub dead_letters : DeadLetters s rows
   pub receipts : Receipts s rows
+  pub origins : Origins rows
   pub in_time : InTime s rows
 
 -- the log of every sound scenario whose queues are in their ranges keeps the rules

@@ -2,12 +2,13 @@
 use Rattle.std.specs.List.{list_any, range_with_len}
 use Rattle.std.specs.Prelude.{Bool, List, None, Option, Some, count_by, false, fold, if◌then◌else◌, is_some, map, not, true, ℕ, ◌&&◌, ◌++◌, ◌==◌, ◌∷◌, ◌≡◌, ◌||◌}
 use Rattle.sqs_message.specs.declared.ids.MessageId.{MessageId}
+use Rattle.sqs_message.specs.declared.ids.Origin.{Origin}
 use Rattle.sqs_message.specs.declared.row.Row.{Row}
 use Rattle.sqs_message.specs.declared.row.RowAnswer.{RowAnswer}
 use Rattle.sqs_message.specs.declared.row.RowAnswer.TheVariants as answers
 use Rattle.sqs_message.specs.declared.row.RowKind.{RowKind}
 use Rattle.sqs_message.specs.declared.row.RowKind.TheVariants as kinds
-use Rattle.sqs_model.specs.Accounts.{is_deleted, is_expired, same_id}
+use Rattle.sqs_model.specs.Accounts.{is_deleted, is_expired, origin_in, same_id}
 
 -- kinds of rows
 abbrev pub is_receive : RowKind → Bool
@@ -95,6 +96,10 @@ times m rows = count_by (λ r. received r && names m r) rows
 -- whether a message has left its queue
 abbrev pub has_left : MessageId → List Row → Bool
 has_left m rows = list_any (λ r. leaves r && names m r) rows
+
+-- the origin that the row tells by which a message came
+abbrev pub origin_of : MessageId → List Row → Option Origin
+origin_of m rows = fold (λ o r. if comes r && names m r then origin_in r (Some m) else o) None rows
 
 -- the receive or change by which a message is in flight, if it is
 abbrev pub flight : MessageId → List Row → Option Row
