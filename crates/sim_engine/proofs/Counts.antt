@@ -1,5 +1,5 @@
 -- Sums over lists, and what stays true of a list without one of it, with a change of one, or with one more.
-use Rattle.std.specs.Prelude.{Bool, List, None, Option, Some, [], cond, false, filter, length, nat_le, true, ℕ, ◌+◌, ◌<◌, ◌∷◌, ◌≡◌, ◌≤◌}
+use Rattle.std.specs.Prelude.{Bool, List, [], cond, false, filter, length, nat_le, true, ℕ, ◌+◌, ◌<◌, ◌∷◌, ◌≡◌, ◌≤◌}
 use Rattle.std.proofs.Common.{arith, refl}
 use Rattle.std.proofs.lemmas.Bool.{le-leb, leb-true, lt-leb}
 use Rattle.sim_clock.specs.declared.key.Key.{Key}
@@ -8,11 +8,6 @@ use Rattle.sim_engine.specs.Members.{count_due}
 -- 1 for a moment that is not past another, else 0
 unfoldable pub tick : ℕ → ℕ → ℕ
 tick e at = cond (nat_le at e) 1 0
-
--- the same of a moment that may be absent
-abbrev pub tick_if : ℕ → Option ℕ → ℕ
-tick_if e None = 0
-tick_if e (Some at) = tick e at
 
 pub tick_past : (e at : ℕ) → e < at → tick e at ≡ 0
 unfolding tick

@@ -11,7 +11,7 @@ use Rattle.sqs_model.specs.Actor.{Actor, next}
 use Rattle.sqs_model.specs.Acts.{act_made}
 use Rattle.sqs_model.specs.Polls.{acts_found, acts_most, acts_next}
 use Rattle.sqs_model.specs.Site.{Core, Effect, actor_numbered, and_then}
-use Rattle.sim_site.specs.Effects.{Did, Does, Effects, GoesOn}
+use Rattle.sim_site.specs.Effects.{Did, Does, GoesOn}
 use Rattle.sim_site.specs.Turns.{DidTurn, Turn, turn_next, turn_of}
 use Rattle.sqs_model.proofs.Growth.{Grows, most_up, same}
 use Rattle.sim_site.specs.declared.handling.Handling.{Handling}
@@ -34,34 +34,34 @@ unfolding followed_by
 found_follows more key answer c None = refl
 found_follows more key answer c (Some a) = next_follows more key c (next a key.at answer).0 (next a key.at answer).1
 
-module _ (key : Key) (n most : ℕ) (answer : Answer) (c : Core) (a b : Effects) (d : Core) where
-  -- the turn of an actor that is told nothing of it is its last
-  pub turn_ends : DidTurn a b d None (turn_of key answer c (actor_numbered n c)) → Did a b d (acts_most (suc most) key n answer c)
-  unfolding followed_by
-  turn_ends t =
-      let e : acts_most (suc most) key n answer c ≡ followed_by (acts_most most key n) (turn_of key answer c (actor_numbered n c)).effect None =
-      found_follows (acts_most most key n) key answer c (actor_numbered n c) ∙ ap (followed_by (acts_most most key n) (turn_of key answer c (actor_numbered n c)).effect) (sym t.answer) in
-      rw e t.effect
+-- a turn that a handling went on by, and what its actor is told of it
+abbrev Took : Handling → Handling → Answer → Core → Core → Option Answer → Type 0
+Took a b answer c d told = GoesOn a b × DidTurn a.effects.now b.effects.now d told (turn_of a.key answer c (actor_numbered a.agent c))
 
--- after any other turn its actor gets an answer
-pub turn_goes :
-    {A : Type 0} (r : Result A Refusal) (a b end : Handling) (most : ℕ) (answer told : Answer) (c d f : Core)
-    → GoesOn a b × DidTurn a.effects.now b.effects.now d (Some told) (turn_of a.key answer c (actor_numbered a.agent c))
-    → Does r b end f (acts_most most b.key b.agent told d) → Does r a end f (acts_most (suc most) a.key a.agent answer c)
-unfolding followed_by
-turn_goes r a b end most answer told c d f (on, t) more =
-    let turn : Turn = turn_of a.key answer c (actor_numbered a.agent c) in
-    let e : acts_most (suc most) a.key a.agent answer c ≡ followed_by (acts_most most a.key a.agent) turn.effect (Some told) =
-    found_follows (acts_most most a.key a.agent) a.key answer c (actor_numbered a.agent c) ∙ ap (followed_by (acts_most most a.key a.agent) turn.effect) (sym t.answer) in
-    rw e (does_then r a b end d f turn.effect (λ k n x. acts_most most k n told x) (on, t.effect) more)
+module _ (a b : Handling) (most : ℕ) (answer : Answer) (c d : Core) (told : Option Answer) (took : Took a b answer c d told) where
+  took_follows : (x : Option Answer) → told ≡ x → acts_most (suc most) a.key a.agent answer c ≡ followed_by (acts_most most a.key a.agent) (turn_of a.key answer c (actor_numbered a.agent c)).effect x
+  took_follows x is =
+      let turn : Turn = turn_of a.key answer c (actor_numbered a.agent c) in
+      found_follows (acts_most most a.key a.agent) a.key answer c (actor_numbered a.agent c) ∙ ap (followed_by (acts_most most a.key a.agent) turn.effect) (sym took.1.answer ∙ is)
+
+  -- the turn of an actor that is told nothing of it is its last
+  pub turn_ends : told ≡ None → GoesOn a b × Did a.effects.now b.effects.now d (acts_most (suc most) a.key a.agent answer c)
+  unfolding followed_by
+  turn_ends is = (took.0, rw (took_follows None is) took.1.effect)
+
+  -- after any other turn its actor gets an answer
+  pub turn_goes :
+      {A : Type 0} (r : Result A Refusal) (end : Handling) (w : Answer) (f : Core) → told ≡ Some w → Does r b end f (acts_most most b.key b.agent w d) → Does r a end f (acts_most (suc most) a.key a.agent answer c)
+  unfolding followed_by
+  turn_goes r end w f is more =
+      rw (took_follows (Some w) is) (does_then r a b end d f (turn_of a.key answer c (actor_numbered a.agent c)).effect (λ k n x. acts_most most k n w x) (took.0, took.1.effect) more)
 
 -- the last of the turns that are taken at most
 pub turn_last :
-    (a b : Handling) (answer : Answer) (c d : Core) (told : Option Answer)
-    → GoesOn a b × DidTurn a.effects.now b.effects.now d told (turn_of a.key answer c (actor_numbered a.agent c))
+    (a b : Handling) (answer : Answer) (c d : Core) (told : Option Answer) → Took a b answer c d told
     → GoesOn a b × Did a.effects.now b.effects.now d (acts_most 1 a.key a.agent answer c)
-turn_last a b answer c d None (on, t) = (on, turn_ends a.key a.agent 0 answer c a.effects.now b.effects.now d t)
-turn_last a b answer c d (Some told) p = turn_goes (Ok (tt {0})) a b b 0 answer told c d d p (stays b, did_nothing b.effects.now d)
+turn_last a b answer c d None p = turn_ends a b 0 answer c d None p refl
+turn_last a b answer c d (Some told) p = turn_goes a b 0 answer c d (Some told) p (Ok (tt {0})) b told d refl (stays b, did_nothing b.effects.now d)
 
 -- an effect, and what comes of it
 followed_limited : (more : Answer → Core → Effect) → ((w : Answer) (d : Core) → Grows d (more w d).core) → (e : Effect) (o : Option Answer) → PassesCount e → PassesCount (followed_by more e o)

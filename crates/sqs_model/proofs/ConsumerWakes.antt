@@ -37,17 +37,11 @@ MayForwardBy now b f None = Unit {0}
 MayForwardBy now b None (Some o) = ⊥
 MayForwardBy now b (Some f) (Some o) = IsForwardBy now b f o
 
--- what a consumer with a wait and a forward may do when it wakes
+-- how a consumer with a wait and a forward may ask for messages and end a service when it wakes
 abbrev pub IsServiceAct : ℕ → Actor → ℕ → Option Forwarding → Act → Type 0
-IsServiceAct now b wait f (acts.Send body delay group id) = ⊥
 IsServiceAct now b wait f (acts.Receive most waits timeout) = waits ≡ wait
-IsServiceAct now b wait f (acts.Delete text) = Unit {0}
-IsServiceAct now b wait f (acts.Change text timeout) = Unit {0}
-IsServiceAct now b wait f (acts.Prolong text timeout) = Unit {0}
-IsServiceAct now b wait f (acts.Start task) = ⊥
-IsServiceAct now b wait f (acts.Cancel task) = ⊥
 IsServiceAct now b wait f (acts.Serve id receipt failed forward) = MayForwardBy now b f forward
-IsServiceAct now b wait f acts.Nothing = Unit {0}
+IsServiceAct now b wait f act = Unit {0}
 
 -- what holds of no transfer and of each forward holds of what such an act sends
 module _ (now : ℕ) (b : Actor) (wait : ℕ) (P : Option Outbound → Type 0) (none : P None) where

@@ -41,11 +41,18 @@ pub record CoreTurnLaw (key : Key) : Type 1 where
   pub turns : (n : ℕ) (c : Core) (a : Actor) (w : Answer) → actor_numbered n c ≡ Some a → At c → At (with_actor c (next a key.at w).1) × Stands (with_actor c (next a key.at w).1).actors (next a key.at w).1
   pub polls : (a : Actor) (c : Core) (max wait : ℕ) (timeout : Option ℕ) → (wait == 0) ≡ false → Stands c.actors a → At c → At (with_poll key a c max wait timeout)
 
+-- whatever leaves the queue
 module _ (P : Core → Type 0) (c : Core) where
-  -- whatever leaves the queue
-  pub leaves_same : (b : Bool) (ls : List (Option Load)) → P c → Leaves (λ _ d. P d) c b ls
-  leaves_same true ls h = h
-  leaves_same false ls h = h
+  leaves_same : (d : Core) (b : Bool) (ls : List (Option Load)) → P d → Leaves (λ _ x. P x) d b ls
+  leaves_same d true ls h = h
+  leaves_same d false ls h = h
+
+  pub changed_same : (timeout : ℕ) (x : Result (Option Load) Refusal × Queue) → P (with_queue c x.1) → Changes (λ _ d. P d) c timeout x
+  changed_same timeout (Err e, q) h = tt
+  changed_same timeout (Ok left, q) h = leaves_same (with_queue c q) (timeout == 0) (left ∷ []) h
+
+  pub given_same : (timeout : Option ℕ) (x : Queue × List Got) → P (with_queue c x.0) → Gives (λ _ d. P d) c timeout x
+  given_same timeout (q, gots) h = leaves_same (with_queue c q) (timeout_of q timeout == 0) (lefts gots) h
 
 module _ (key : Key) (core : CoreTurnLaw key) where
   abbrev At : List (Option Load) → Core → Type 0
@@ -55,12 +62,8 @@ module _ (key : Key) (core : CoreTurnLaw key) where
   redriven_at c n load None h = h
   redriven_at c n load (Some p) h = core.redrives c p.latency h
 
-  pub changed_at : (c : Core) (timeout : ℕ) (x : Result (Option Load) Refusal × Queue) → core.At (with_queue c x.1) → Changes At c timeout x
-  changed_at c timeout (Err e, q) h = tt
-  changed_at c timeout (Ok left, q) h = leaves_same core.At (with_queue c q) (timeout == 0) (left ∷ []) h
-
   pub given_at : (c : Core) (timeout : Option ℕ) (x : Queue × List Got) → core.At (with_queue c x.0) → Gives At c timeout x
-  given_at c timeout (q, gots) h = leaves_same core.At (with_queue c q) (timeout_of q timeout == 0) (lefts gots) h
+  given_at c timeout x h = given_same core.At c timeout x h
 
   abbrev pub turns : TurnLaw key
   turns =
@@ -75,7 +78,7 @@ module _ (key : Key) (core : CoreTurnLaw key) where
         stays = λ _ ls c h. h;
         leaves = λ _ ls c n load h. redriven_at c n load c.queue.settings.policy h;
         gives = λ _ c max timeout set h. given_at c timeout (give_most c.queue key.at max timeout set) (core.gives c max timeout set h);
-        changes = λ _ c r timeout h. changed_at c timeout (change c.queue key.at r timeout) (core.changes c r timeout h);
+        changes = λ _ c r timeout h. changed_same core.At c timeout (change c.queue key.at r timeout) (core.changes c r timeout h);
         deletes = λ _ a c text r h. core.deletes c r h;
         sends = λ _ a c body delay group id h. core.sends c body delay group id h;
         draws = λ _ c hosts h. core.draws c hosts h;

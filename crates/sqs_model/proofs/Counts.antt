@@ -4,7 +4,7 @@ use Rattle.std.proofs.Common.{ap, arith, refl}
 use Rattle.std.proofs.lemmas.List.Elements.{All-cons, All-head, All-tail}
 use Rattle.sim_clock.specs.Firsts.{changed, without}
 use Rattle.sqs_model.specs.Progress.{Ascends}
-pub use Rattle.sim_engine.proofs.Counts.{tick, tick_if, tick_past, tick_now, tick_less, total, count_is}
+pub use Rattle.sim_engine.proofs.Counts.{tick, tick_past, tick_now, tick_less, total, count_is}
 
 pub total_append : {A : Type 0} (f : A → ℕ) (xs ys : List A) → total f (xs ++ ys) ≡ total f xs + total f ys
 total_append f [] ys = omega arith

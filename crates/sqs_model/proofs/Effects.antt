@@ -21,8 +21,8 @@ use Rattle.sqs_model.specs.Progress.{IsSound, IsSoundActor, IsSoundDistribution,
 use Rattle.sqs_model.specs.Queue.{Queue}
 use Rattle.sqs_model.specs.Site.{Core, Effect, Poll, actor_numbered, and_then, is_actor, is_task, no_effect, says, task_numbered, with_actor, with_queue, with_task}
 use Rattle.sqs_model.specs.Task.{Task}
-use Rattle.sqs_model.proofs.Counts.{all_changed, ascends_changed, tick_if, total, total_changed}
-use Rattle.sqs_model.proofs.Early.{actor_early, early, poll_early, task_early}
+use Rattle.sqs_model.proofs.Counts.{all_changed, ascends_changed, total, total_changed}
+use Rattle.sqs_model.proofs.Weights.{Weight, actor_weight, poll_weight, task_weight, weight}
 use Rattle.sqs_model.proofs.Branches.{either}
 use Rattle.sqs_model.proofs.QueueMoves.{Keeps}
 
@@ -68,23 +68,23 @@ sound_with c sent draws s = record { queue = s.queue; actors = s.actors; actors_
 pub sound_drawn : (c : Core) (draws : Draws) → IsSound c → IsSound (record c { draws = draws })
 sound_drawn c draws s = sound_with c c.sent draws s
 
--- a site that came of another is sound, and so many dues by a moment are gone
-pub record KeepsCore (e gone : ℕ) (c d : Core) : Type 0 where
+-- a site that came of another is sound, and so much of what is due is gone
+pub record KeepsCore {now : ℕ} (w : Weight now) (gone : ℕ) (c d : Core) : Type 0 where
   pub sound : IsSound d
-  pub fewer : early e d + gone ≤ early e c
+  pub fewer : weight w d + gone ≤ weight w c
 
 -- and what was sent arrives later
-pub record KeepsEffect (key : Key) (e gone : ℕ) (c : Core) (f : Effect) : Type 0 where
+pub record KeepsEffect (key : Key) (w : Weight key.at) (gone : ℕ) (c : Core) (f : Effect) : Type 0 where
   pub sound : IsSound f.core
-  pub fewer : early e f.core + gone ≤ early e c
+  pub fewer : weight w f.core + gone ≤ weight w c
   pub later : All (λ o. key.at < o.at) f.sent
 
-module _ (e : ℕ) where
-  pub same_core : (c : Core) → IsSound c → KeepsCore e 0 c c
+module _ {now : ℕ} (w : Weight now) where
+  pub same_core : (c : Core) → IsSound c → KeepsCore w 0 c c
   same_core c s = record { sound = s; fewer = omega arith }
 
   -- a site with another queue, actor, task or other polls
-  pub queue_keeps : (gone : ℕ) (c : Core) (q : Queue) → IsSound c → Keeps e gone c.queue q → KeepsCore e gone c (with_queue c q)
+  pub queue_keeps : (gone : ℕ) (c : Core) (q : Queue) → IsSound c → Keeps w gone c.queue q → KeepsCore w gone c (with_queue c q)
   queue_keeps gone c q s k =
       record {
         sound = record { queue = k.sound; actors = s.actors; actors_ordered = s.actors_ordered; tasks = s.tasks; tasks_ordered = s.tasks_ordered };
@@ -93,7 +93,7 @@ module _ (e : ℕ) where
 
   pub actor_keeps :
       (gone : ℕ) (c : Core) (a b : Actor) → IsSound c → actor_numbered a.number c ≡ Some b → IsSoundActor a
-      → tick_if e a.wake + gone ≤ tick_if e b.wake → KeepsCore e gone c (with_actor c a)
+      → actor_weight w a + gone ≤ actor_weight w b → KeepsCore w gone c (with_actor c a)
   actor_keeps gone c a b s h k m =
       record {
         sound = record {
@@ -103,12 +103,12 @@ module _ (e : ℕ) where
           tasks = s.tasks;
           tasks_ordered = s.tasks_ordered;
         };
-        fewer = omega (arith, total_changed (is_actor a.number) (actor_early e) (λ _. a) c.actors b h);
+        fewer = omega (arith, total_changed (is_actor a.number) (actor_weight w) (λ _. a) c.actors b h);
       }
 
   pub task_keeps :
       (gone : ℕ) (c : Core) (t u : Task) → IsSound c → task_numbered t.number c ≡ Some u → TakesTime t.move.settings.latency
-      → task_early e t + gone ≤ task_early e u → KeepsCore e gone c (with_task c t)
+      → task_weight w t + gone ≤ task_weight w u → KeepsCore w gone c (with_task c t)
   task_keeps gone c t u s h k m =
       record {
         sound = record {
@@ -118,31 +118,31 @@ module _ (e : ℕ) where
           tasks = all_changed (is_task t.number) (λ x. TakesTime x.move.settings.latency) (λ _. t) (λ _ _. k) c.tasks s.tasks;
           tasks_ordered = ascends_changed (λ x. x.number) (is_task t.number) (λ _. t) (λ x p. sym (eqb-true x.number t.number p)) 0 c.tasks s.tasks_ordered;
         };
-        fewer = omega (arith, total_changed (is_task t.number) (task_early e) (λ _. t) c.tasks u h);
+        fewer = omega (arith, total_changed (is_task t.number) (task_weight w) (λ _. t) c.tasks u h);
       }
 
-  pub polls_keep : (gone : ℕ) (c : Core) (ps : List Poll) → IsSound c → total (poll_early e) ps + gone ≤ total (poll_early e) c.polls → KeepsCore e gone c (record c { polls = ps })
+  pub polls_keep : (gone : ℕ) (c : Core) (ps : List Poll) → IsSound c → total (poll_weight w) ps + gone ≤ total (poll_weight w) c.polls → KeepsCore w gone c (record c { polls = ps })
   polls_keep gone c ps s m =
       record {
         sound = record { queue = s.queue; actors = s.actors; actors_ordered = s.actors_ordered; tasks = s.tasks; tasks_ordered = s.tasks_ordered };
         fewer = omega arith;
       }
 
-module _ (key : Key) (e : ℕ) where
-  pub with_rows : (gone : ℕ) (c d : Core) (rows : List Row) → KeepsCore e gone c d → KeepsEffect key e gone c (record { core = d; rows = rows; sent = [] })
+module _ (key : Key) (w : Weight key.at) where
+  pub with_rows : (gone : ℕ) (c d : Core) (rows : List Row) → KeepsCore w gone c d → KeepsEffect key w gone c (record { core = d; rows = rows; sent = [] })
   with_rows gone c d rows k = record { sound = k.sound; fewer = k.fewer; later = All-nil (λ (o : Outbound). key.at < o.at) }
 
-  pub no_effect_keeps : (c : Core) → IsSound c → KeepsEffect key e 0 c (no_effect c)
-  no_effect_keeps c s = with_rows 0 c c [] (same_core e c s)
+  pub no_effect_keeps : (c : Core) → IsSound c → KeepsEffect key w 0 c (no_effect c)
+  no_effect_keeps c s = with_rows 0 c c [] (same_core w c s)
 
-  pub says_keeps : (c : Core) (r : Row) → IsSound c → KeepsEffect key e 0 c (says c r)
-  says_keeps c r s = with_rows 0 c c (r ∷ []) (same_core e c s)
+  pub says_keeps : (c : Core) (r : Row) → IsSound c → KeepsEffect key w 0 c (says c r)
+  says_keeps c r s = with_rows 0 c c (r ∷ []) (same_core w c s)
 
   pub and_then_keeps :
-      (gone : ℕ) (c : Core) (f : Effect) (g : Core → Effect) → KeepsEffect key e gone c f → ((d : Core) → IsSound d → KeepsEffect key e 0 d (g d))
-      → KeepsEffect key e gone c (and_then f g)
+      (gone : ℕ) (c : Core) (f : Effect) (g : Core → Effect) → KeepsEffect key w gone c f → ((d : Core) → IsSound d → KeepsEffect key w 0 d (g d))
+      → KeepsEffect key w gone c (and_then f g)
   and_then_keeps gone c f g h k =
-      let next : KeepsEffect key e 0 f.core (g f.core) = k f.core h.sound in
+      let next : KeepsEffect key w 0 f.core (g f.core) = k f.core h.sound in
       record {
         sound = next.sound;
         fewer = omega arith;
@@ -150,13 +150,13 @@ module _ (key : Key) (e : ℕ) where
       }
 
   -- an effect of a site that came of another
-  pub after_core : (gone : ℕ) (c d : Core) (f : Effect) → KeepsCore e gone c d → KeepsEffect key e 0 d f → KeepsEffect key e gone c f
+  pub after_core : (gone : ℕ) (c d : Core) (f : Effect) → KeepsCore w gone c d → KeepsEffect key w 0 d f → KeepsEffect key w gone c f
   after_core gone c d f h k = record { sound = k.sound; fewer = omega arith; later = k.later }
 
-module _ (key : Key) (e : ℕ) (l : e ≤ key.at) where
+module _ (key : Key) (w : Weight key.at) where
   -- messages that come back, or leave for the dead-letter queue
-  redrive_keeps : (c : Core) (p : Option Policy) (n : ℕ) (x : Load) → IsSound c → IsSoundPolicy p → KeepsEffect key e 0 c (redrive_by p key c n x)
-  redrive_keeps c None n x s k = no_effect_keeps key e c s
+  redrive_keeps : (c : Core) (p : Option Policy) (n : ℕ) (x : Load) → IsSound c → IsSoundPolicy p → KeepsEffect key w 0 c (redrive_by p key c n x)
+  redrive_keeps c None n x s k = no_effect_keeps key w c s
   redrive_keeps c (Some p) n x s k =
       let t : p.latency.least ≤ (drawn_latency p.latency c.draws).0 = latency_least p.latency c.draws in
       let one : 1 ≤ p.latency.least = k in
@@ -166,6 +166,6 @@ module _ (key : Key) (e : ℕ) (l : e ≤ key.at) where
         later = All-cons (λ o. key.at < o.at) _ [] (omega arith) (All-nil (λ (o : Outbound). key.at < o.at));
       }
 
-  pub came_back_keeps : (c : Core) (n : ℕ) (o : Option Load) → IsSound c → KeepsEffect key e 0 c (came_back key c n o)
-  came_back_keeps c n None s = says_keeps key e c _ s
+  pub came_back_keeps : (c : Core) (n : ℕ) (o : Option Load) → IsSound c → KeepsEffect key w 0 c (came_back key c n o)
+  came_back_keeps c n None s = says_keeps key w c _ s
   came_back_keeps c n (Some x) s = redrive_keeps c c.queue.settings.policy n x s s.queue.settings.policy

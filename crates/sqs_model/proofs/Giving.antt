@@ -16,7 +16,7 @@ use Rattle.sqs_model.proofs.Chosen.{first_apart}
 
 -- a change of the first that p picks, and what another test r picks
 module _ {A : Type 0} (p r : A → Bool) (g : A → A) (apart : (x : A) → p x ≡ true → r x ≡ false) (same : (x : A) → r (g x) ≡ r x) where
-  find_apart : (xs : List A) → find r (changed p g xs) ≡ find r xs
+  pub find_apart : (xs : List A) → find r (changed p g xs) ≡ find r xs
   find_apart [] = refl
   find_apart (x ∷ xs) =
       elim (p x) as (λ b. p x ≡ b → find r (cond b (g x ∷ xs) (x ∷ changed p g xs)) ≡ cond (r x) (Some x) (find r xs)) [

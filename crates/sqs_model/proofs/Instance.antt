@@ -14,14 +14,14 @@ use Rattle.sqs_redrive.specs.Transfers.{transfer_key}
 use Rattle.sqs_model.specs.Dues.{core_dues, dues}
 use Rattle.sqs_model.specs.Progress.{KeepsTime, WasEnqueuedBy, count_due}
 use Rattle.sqs_model.specs.Queue.{Entry}
-use Rattle.sqs_model.specs.Site.{Site, accepted}
+use Rattle.sqs_model.specs.Site.{Site, accepted, number_of}
 use Rattle.sqs_model.specs.Step.{handled}
 use Rattle.sqs_model.proofs.Counts.{tick, tick_now, tick_past, total}
 use Rattle.sqs_model.proofs.Delivery.{accepted_sorted, accepted_swap, handled_accepted, handled_sorted, least_due_accepted}
 use Rattle.sqs_model.proofs.Kept.{handled_number, handled_recent}
 use Rattle.sqs_model.specs.Members.{In}
 use Rattle.sqs_model.proofs.Members.{From, In, in_append, in_left, in_map, in_right, into_map}
-use Rattle.sqs_model.proofs.SiteMoves.{Falls, site_from, site_is}
+use Rattle.sqs_model.proofs.SiteMoves.{Falls, count_as, site_from}
 use Rattle.sqs_model.proofs.Times.{handled_timely}
 use Rattle.sqs_model.specs.Conditions.{IsOfPast, sqs_conditions}
 use Rattle.sqs_model.specs.Sqs.{sqs}
@@ -65,7 +65,7 @@ accepted_count e o s l =
     let f : Outbound → ℕ = λ x. tick e (transfer_key x).at in
     let t : total f (inserted_by (on transfer_key key_cmp) o s.arriving) ≡ tick e o.at + total f s.arriving = total_inserted f (on transfer_key key_cmp) o s.arriving in
     let z : tick e o.at ≡ 0 = tick_past e o.at l in
-    omega (arith, site_is e s, site_is e (accepted o s))
+    omega (arith, count_as e e (omega arith) (number_of s.core) s refl, count_as e e (omega arith) (number_of s.core) (accepted o s) refl)
 
 later_site : (a b : ℕ) → a ≤ b → (s : Site) → IsOfPast a s → IsOfPast b s
 later_site a b l s p =

@@ -231,7 +231,7 @@ module _ (o : Origin) (top : ℕ) (base : List Row) (rows : List Row) where
 
   pub delete_balances : (k : Kind) (elsewhere : ℕ) (q : Queue) (now : ℕ) (r : Receipt) → At elsewhere q → Deletes elsewhere q.site r.number (delete_as k q now r)
   delete_balances k elsewhere q now r h =
-      delete_by (Deletes elsewhere q.site r.number) q now r (record { refused = h; gone = h; kept = h; taken = λ m e. ends_one r.number m elsewhere q e h }) k
+      delete_by (Deletes elsewhere q.site r.number) q now r (record { refused = h; gone = λ _ _. h; kept = λ _ _. h; taken = λ m e. ends_one r.number m elsewhere q e h }) k
 
   -- changes
   abbrev pub Changes : ℕ → ℕ → QueueSettings → Result (Option Load) Refusal × Queue → Type 0
@@ -248,8 +248,8 @@ module _ (o : Origin) (top : ℕ) (base : List Row) (rows : List Row) where
       change_by (Changes elsewhere timeout q.settings) q now r timeout
       (record {
         refused = λ e. tt;
-        back = λ e. (released_balances elsewhere q r.number h, λ f. cc);
-        kept = λ e. (stays elsewhere (with_change q r.number flight) k, λ f. refl);
+        back = λ _ _ _ e. (released_balances elsewhere q r.number h, λ f. cc);
+        kept = λ _ _ _ e. (stays elsewhere (with_change q r.number flight) k, λ f. refl);
       })
 
   -- arrivals

@@ -138,7 +138,7 @@ module _ (now : ℕ) (law : QueueLaw now) where
 
   -- deletes and changes
   pub delete_keeps : (k : Kind) (q : Queue) (at : ℕ) (r : Receipt) → At q → Leaves (delete_as k q at r)
-  delete_keeps k q at r h = delete_by (λ x. Leaves x) q at r (record { refused = h; gone = h; kept = h; taken = λ m e. law.less q r.number h }) k
+  delete_keeps k q at r h = delete_by (λ x. Leaves x) q at r (record { refused = h; gone = λ _ _. h; kept = λ _ _. h; taken = λ m e. law.less q r.number h }) k
 
   abbrev pub Changes : Result (Option Load) Refusal × Queue → Type 0
   Changes (Ok left, q) = At q × MayLeave left
@@ -149,8 +149,8 @@ module _ (now : ℕ) (law : QueueLaw now) where
       change_by Changes q at r timeout
       (record {
         refused = λ e. h;
-        back = λ e. released_keeps q r.number h;
-        kept = λ e. (law.alters q r.number (in_flight_until (at + 1000 * timeout)) (record { enqueued = λ m. refl; source = λ m. refl }) h, tt);
+        back = λ _ _ _ e. released_keeps q r.number h;
+        kept = λ _ _ _ e. (law.alters q r.number (in_flight_until (at + 1000 * timeout)) (record { enqueued = λ m. refl; source = λ m. refl }) h, tt);
       })
 
   pub changed_keeps : (x : Result (Option Load) Refusal × Queue) → Changes x → Leaves x

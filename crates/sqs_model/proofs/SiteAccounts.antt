@@ -54,15 +54,11 @@ abbrev pub IsFound : Option Message → Type 0
 IsFound None = ⊥
 IsFound (Some m) = Unit {0}
 
--- whether a key of an expiry is that of a message which is there
-abbrev pub MayExpire : Key → Class → Core → Type 0
-MayExpire key classes.Expiry c = IsFound (numbered key.number c.queue.records)
-MayExpire key classes.Release c = Unit {0}
-MayExpire key classes.Arrival c = Unit {0}
-MayExpire key classes.PollEnd c = Unit {0}
-MayExpire key classes.Wake c = Unit {0}
-MayExpire key classes.Sample c = Unit {0}
-MayExpire key classes.Step c = Unit {0}
+-- whether what is due by a key of an expiry or of a release is a message that is there
+abbrev pub IsDueThere : Key → Class → Core → Type 0
+IsDueThere key classes.Expiry c = IsFound (numbered key.number c.queue.records)
+IsDueThere key classes.Release c = IsFound (numbered key.number c.queue.records)
+IsDueThere key class c = Unit {0}
 
 -- messages that come back leave the queue as it is
 redrive_queue : (key : Key) (c : Core) (n : ℕ) (load : Load) (p : Option Policy) → (redrive_by p key c n load).core.queue ≡ c.queue
@@ -379,9 +375,9 @@ module _ (o : Origin) (top : ℕ) (base : List Row) where
         }
 
     -- what is due, and what arrives, with the answers to polls
-    pub due_goes : (k : Class) (rows : List Row) (elsewhere : ℕ) (c : Core) → MayExpire key k c → At rows elsewhere c → Goes rows elsewhere (with_polls key (handle_class k key c))
+    pub due_goes : (k : Class) (rows : List Row) (elsewhere : ℕ) (c : Core) → IsDueThere key k c → At rows elsewhere c → Goes rows elsewhere (with_polls key (handle_class k key c))
     due_goes k rows elsewhere c m h =
-        let found : k ≡ classes.Expiry → IsFound (numbered key.number c.queue.records) = λ e. subst (λ (x : Class). MayExpire key x c) e m in
+        let found : k ≡ classes.Expiry → IsFound (numbered key.number c.queue.records) = λ e. subst (λ (x : Class). IsDueThere key x c) e m in
         goes_plainly (rows, elsewhere) _ (polled key balances due.answers (rows, elsewhere) (handle_class k key c) (class_goes key balances due k (rows, elsewhere) c found (here (rows, elsewhere) c h)))
 
     comes_on : (rows : List Row) (elsewhere : ℕ) (x : Option Outbound) (c : Core) → Arrives (rows, elsewhere) x c → Goes rows elsewhere (with_polls key (handle_arrival key x c))

@@ -88,7 +88,7 @@ numbered_from s n [] = tt
 numbered_from s n (x ∷ xs) = (refl, numbered_from s (n + 1) xs)
 
 -- nothing there is from after the beginning
-past_from : (s : Scenario) (xs : List (ℕ × QueueSettings)) → All (IsOfPast 0) (map (opening_site s) xs)
+pub past_from : (s : Scenario) (xs : List (ℕ × QueueSettings)) → All (IsOfPast 0) (map (opening_site s) xs)
 past_from s [] = All-nil (IsOfPast 0)
 past_from s (x ∷ xs) =
     All-cons (IsOfPast 0) (opening_site s x) (map (opening_site s) xs)

@@ -5,8 +5,6 @@ use Rattle.std.proofs.lemmas.Bool.{eq-eqb, eqb-true}
 use Rattle.sim_clock.specs.declared.key.Key.{Key}
 use Rattle.sim_clock.specs.declared.refusal.Refusal.{Refusal}
 use Rattle.sim_clock.specs.Firsts.{changed}
-use Rattle.sqs_message.specs.declared.calls.Call.{Call}
-use Rattle.sqs_message.specs.declared.calls.Call.TheVariants as calls
 use Rattle.sqs_message.specs.declared.calls.ScriptCall.{ScriptCall}
 use Rattle.sqs_message.specs.declared.ids.MessageId.{MessageId}
 use Rattle.sqs_message.specs.declared.ids.Receipt.{Receipt}
@@ -296,15 +294,16 @@ answer_over k now c x (told_by.Got gots) e h = over_by (suc k) now x (told_by.Go
 answer_over k now c x told_by.Waiting e h = over_by (suc k) now x told_by.Waiting (Consumer c) e tt
 answer_over k now c x told_by.Other e h = over_by (suc k) now x told_by.Other (Consumer c) e (told_over k now c x x.last_act e)
 
--- whatever a consumer does when it wakes
-any_over : (now : ℕ) (c : ConsumerSettings) (act : Act) (a : Actor) → a.settings.role ≡ Consumer c → IsOverAfter (IsOver 2 now) (act, a)
-any_over now c acts.Nothing a e = tt
-any_over now c act a e = λ x w h l. answer_over 0 now c x w (role_left a x l ∙ e) h
+-- whatever an actor does, if all is over after each answer
+acts_over : (more : Actor → Answer → Type 0) (act : Act) (a : Actor) → ((x : Actor) (w : Answer) → IsAnswer w → IsLeft a x → more x w) → IsOverAfter more (act, a)
+acts_over more acts.Nothing a f = tt
+acts_over more act a f = f
 
+-- whatever a consumer does when it wakes
 wake_over : (now : ℕ) (c : ConsumerSettings) (a : Actor) (gs : List Got) → a.settings.role ≡ Consumer c → IsOverAfter (IsOver 2 now) (consumer_wake a c now gs)
 wake_over now c a gs e =
     let x : Act × Actor = consumer_wake a c now gs in
-    any_over now c x.0 x.1 (ap (λ (s : ActorSettings). s.role) (consumer_woke now a c gs).stays.settings ∙ e)
+    acts_over (IsOver 2 now) x.0 x.1 (λ y w h l. answer_over 0 now c y w (role_left x.1 y l ∙ ap (λ (s : ActorSettings). s.role) (consumer_woke now a c gs).stays.settings ∙ e) h)
 
 -- a producer that sends or stops
 sends_over : (now : ℕ) (p : ProducerSettings) (a : Actor) → a.settings.role ≡ Producer p → IsOverAfter (IsOver 2 now) (producer_wake a p now)
@@ -312,18 +311,10 @@ sends_over now p a e =
     either (IsOverAfter (IsOver 2 now)) (has_come p.stop now) _ _ tt
     (λ x w h l. over_by 1 now x w (Producer p) (role_left _ x l ∙ e) (producer_over (IsOver 1 now) p now x w h))
 
--- a call of a script
-call_over : (now : ℕ) (s : List ScriptCall) (a : Actor) (call : Call) → a.settings.role ≡ Script s → IsOverAfter (IsOver 2 now) (act_of call, a)
-call_over now s a (calls.Send body delay group id) e = λ x w h l. over_by 1 now x w (Script s) (role_left a x l ∙ e) (script_over (IsOver 1 now) s now x w h)
-call_over now s a (calls.Receive max wait timeout) e = λ x w h l. over_by 1 now x w (Script s) (role_left a x l ∙ e) (script_over (IsOver 1 now) s now x w h)
-call_over now s a (calls.Delete receipt) e = λ x w h l. over_by 1 now x w (Script s) (role_left a x l ∙ e) (script_over (IsOver 1 now) s now x w h)
-call_over now s a (calls.Change receipt timeout) e = λ x w h l. over_by 1 now x w (Script s) (role_left a x l ∙ e) (script_over (IsOver 1 now) s now x w h)
-call_over now s a (calls.Start task) e = λ x w h l. over_by 1 now x w (Script s) (role_left a x l ∙ e) (script_over (IsOver 1 now) s now x w h)
-call_over now s a (calls.Cancel task) e = λ x w h l. over_by 1 now x w (Script s) (role_left a x l ∙ e) (script_over (IsOver 1 now) s now x w h)
-
+-- the calls of a script
 calls_over : (now : ℕ) (s : List ScriptCall) (a : Actor) (cs : List ScriptCall) → a.settings.role ≡ Script s → IsOverAfter (IsOver 2 now) (script_wake a cs)
 calls_over now s a [] e = tt
-calls_over now s a (c ∷ cs) e = call_over now s _ c.call e
+calls_over now s a (c ∷ cs) e = acts_over (IsOver 2 now) (act_of c.call) _ (λ x w h l. over_by 1 now x w (Script s) (role_left _ x l ∙ e) (script_over (IsOver 1 now) s now x w h))
 
 -- any actor that is told anything
 three_as : (now : ℕ) (a : Actor) (w : Answer) (r : Role) → a.settings.role ≡ r → IsOver 3 now a w

@@ -1,5 +1,5 @@
--- Laws of a handling, and the one walk over the definitions of a handling. A new act, call or class of events has its case here,
--- and a law that is an instance of the records below needs none of its own.
+-- Laws of a handling told by single changes of a site: what a call gives is told by its rows, one after another. Each is a law by
+-- calls, so one walk serves them all.
 use Rattle.std.specs.List.{list_any}
 use Rattle.std.specs.Prelude.{Bool, Err, List, None, Ok, Option, Result, Some, [], false, find, if◌then◌else◌, map, suc, true, unwrap_or, zero, ℕ, ◌-◌, ◌/◌, ◌+◌, ◌==◌, ◌∷◌, ◌≡◌}
 use Rattle.std.proofs.Common.{refl}
@@ -39,12 +39,16 @@ use Rattle.sqs_model.specs.Queue.{Queue, id_of}
 use Rattle.sqs_model.specs.Receive.{give_most, timeout_of}
 use Rattle.sqs_model.specs.Return.{released}
 use Rattle.sqs_model.specs.Site.{Core, Effect, Poll, Site, actor_numbered, and_then, has_key, no_effect, number_of, says, task_numbered, with_actor, with_queue, with_task}
-use Rattle.sqs_model.specs.Step.{Handled, arrival_done, ends_at, handle_arrival, handle_class, handle_expiry, handle_step, handled, handled_when, is_arrival, with_polls}
+use Rattle.sqs_model.specs.Step.{Handled, release_done, arrival_done, ends_at, handle_arrival, handle_class, handle_expiry, handle_step, handled, handled_when, is_arrival, with_polls}
 use Rattle.sqs_model.specs.Task.{Task}
 use Rattle.sqs_model.proofs.Answered.{receive_by}
 use Rattle.sqs_model.proofs.Branches.{either, either_by}
 use Rattle.sqs_model.proofs.Ledger.{marks}
 use Rattle.sqs_model.proofs.Sending.{Sends}
+
+use Rattle.sqs_model.proofs.CallWalk as walk
+use Rattle.sqs_model.proofs.CallWalk.{CallLaw, DueLaw, IsTold}
+pub use Rattle.sqs_model.proofs.CallWalk.{effect_of}
 
 -- a row of this handling at this site that tells of no message that came or went
 pub record IsPlain (key : Key) (c : Core) (r : Row) : Type 0 where
@@ -123,14 +127,11 @@ module _ (key : Key) (law : TurnLaw key) where
   open law use {Past, At, Goes, after, done, joins, quiet, Stands, Sent}
 
   -- nothing happens; there is one plain row
-  nothing : (p : Past) (ls : List (Option Load)) (c : Core) → At p ls c → Goes p ls (no_effect c)
+  pub nothing : (p : Past) (ls : List (Option Load)) (c : Core) → At p ls c → Goes p ls (no_effect c)
   nothing p ls c h = quiet p ls ls c c [] h tt h
 
-  says_so : (p : Past) (c d : Core) (r : Row) → IsPlain key c r → At p [] c → At p [] d → Goes p [] (says d r)
-  says_so p c d r i h k = quiet p [] [] c d (r ∷ []) h (i, tt) k
-
   says_only : (p : Past) (c : Core) (r : Row) → IsPlain key c r → At p [] c → Goes p [] (says c r)
-  says_only p c r i h = says_so p c c r i h h
+  says_only p c r i h = quiet p [] [] c c (r ∷ []) h (i, tt) h
 
   -- an effect, and what follows it
   follows : (p : Past) (ls : List (Option Load)) (e : Effect) (f : Core → Effect) → ((q : Past) (d : Core) → At q ls d → Goes q [] (f d)) → Goes p ls e → Goes p [] (and_then e f)
@@ -158,40 +159,12 @@ module _ (key : Key) (law : TurnLaw key) where
         | false ↦ λ k. quiet p [] [] c (with_queue c q) e.rows h (got_plain c agent gots) k
       ] k
 
-  -- acts
-  abbrev Makes : Past → Made → Type 0
-  Makes p m = Goes p [] m.effect
+  -- calls
+  pub deletes_by : (p : Past) (a : Actor) (c : Core) (text : List ℕ) (o : Option Receipt) → At p [] c → Goes p [] (delete_made key a c text o).effect
+  deletes_by p a c text None h = says_only p c _ (record { at_key = refl; at_site = refl; silent = λ o. refl }) h
+  deletes_by p a c text (Some r) h = law.deletes p a c text r h
 
-  none_goes : (p : Past) (a : Actor) (c : Core) (max wait : ℕ) (timeout : Option ℕ) → Stands c.actors a → At p [] c → Makes p (receive_none key a c max wait timeout)
-  none_goes p a c max wait timeout s h =
-      either_by (Makes p) (wait == 0) (made (says c (receive_row key c a.number answers.Empty)) (told_by.Got []))
-      (made (says (with_poll key a c max wait timeout) (receive_row key c a.number answers.Wait)) told_by.Waiting)
-      (λ e. says_only p c _ (record { at_key = refl; at_site = refl; silent = λ o. refl }) h)
-      (λ e. says_so p c (with_poll key a c max wait timeout) _ (record { at_key = refl; at_site = refl; silent = λ o. refl }) h (law.polls p a c max wait timeout e s h))
-
-  pub some_goes : (p : Past) (a : Actor) (c : Core) (max wait : ℕ) (timeout : Option ℕ) (x : Queue × List Got) → Stands c.actors a → At p [] c → Gives (At p) c timeout x → Makes p (receive_some key a c max wait timeout x.0 x.1)
-  some_goes p a c max wait timeout (q, []) s h k = none_goes p a c max wait timeout s h
-  some_goes p a c max wait timeout (q, g ∷ gs) s h k = given_goes p c a.number timeout (q, g ∷ gs) h k
-
-  receive_goes : (p : Past) (a : Actor) (c d : Core) (max wait : ℕ) (timeout : Option ℕ) (set : ℕ) (short : Bool) → d.queue ≡ c.queue → Stands d.actors a → At p [] c → At p [] d → Makes p (receive_made key a c d max wait timeout (Rattle.sqs_model.specs.Receive.receive d.queue key.at max timeout set short))
-  receive_goes p a c d max wait timeout set short e s h k =
-      receive_by (λ x. Makes p (receive_made key a c d max wait timeout x)) d.queue key.at max timeout set short
-      (λ r. says_only p c _ (record { at_key = refl; at_site = refl; silent = λ o. refl }) h)
-      (some_goes p a d max wait timeout (give_most d.queue key.at max timeout set) s k (law.gives p d max timeout set k))
-
-  as_goes : (k : Kind) (p : Past) (a : Actor) (c : Core) (max wait : ℕ) (timeout : Option ℕ) → Stands c.actors a → At p [] c → Makes p (receive_as k key a c max wait timeout)
-  as_goes (Fifo content scope) p a c max wait timeout s h = receive_goes p a c c max wait timeout (all_hosts c.queue.settings.kind) false refl s h h
-  as_goes (Standard hosts sampled) p a c max wait timeout s h =
-      let drawn : ℕ × Draws = drawn_uniform 0 (hosts - 1) c.draws in
-      either (Makes p) (wait == 0) (short_poll key a c max timeout hosts sampled drawn) (long_poll key a c max wait timeout)
-      (receive_goes p a c (record c { draws = drawn.1 }) max 0 timeout _ true refl s h (law.draws p c (hosts - 1) h))
-      (receive_goes p a c c max wait timeout (all_hosts c.queue.settings.kind) false refl s h h)
-
-  delete_goes : (p : Past) (a : Actor) (c : Core) (text : List ℕ) (o : Option Receipt) → At p [] c → Makes p (delete_made key a c text o)
-  delete_goes p a c text None h = says_only p c _ (record { at_key = refl; at_site = refl; silent = λ o. refl }) h
-  delete_goes p a c text (Some r) h = law.deletes p a c text r h
-
-  answered_goes : (p : Past) (a : Actor) (c : Core) (text : List ℕ) (timeout : ℕ) (r : Receipt) (x : Result (Option Load) Refusal × Queue) → At p [] c → Changes (At p) c timeout x → Makes p (change_answered key a c text timeout r x)
+  answered_goes : (p : Past) (a : Actor) (c : Core) (text : List ℕ) (timeout : ℕ) (r : Receipt) (x : Result (Option Load) Refusal × Queue) → At p [] c → Changes (At p) c timeout x → Goes p [] (change_answered key a c text timeout r x).effect
   answered_goes p a c text timeout r (Err e, q) h k = says_only p c _ (record { at_key = refl; at_site = refl; silent = λ o. refl }) h
   answered_goes p a c text timeout r (Ok left, q) h k =
       let row : Row = change_row key a c text answers.Ok (Some (id_of c.queue r.number)) (details.Timeout timeout) in
@@ -202,70 +175,65 @@ module _ (key : Key) (law : TurnLaw key) where
         | false ↦ λ k. quiet p [] [] c (with_queue c q) e.rows h plain k
       ] k
 
-  change_goes : (p : Past) (a : Actor) (c : Core) (text : List ℕ) (timeout : ℕ) (o : Option Receipt) → At p [] c → Makes p (change_made key a c text timeout o)
-  change_goes p a c text timeout None h = says_only p c _ (record { at_key = refl; at_site = refl; silent = λ o. refl }) h
-  change_goes p a c text timeout (Some r) h = answered_goes p a c text timeout r _ h (law.changes p c r timeout h)
+  pub changes_by : (p : Past) (a : Actor) (c : Core) (text : List ℕ) (timeout : ℕ) (o : Option Receipt) → At p [] c → Goes p [] (change_made key a c text timeout o).effect
+  changes_by p a c text timeout None h = says_only p c _ (record { at_key = refl; at_site = refl; silent = λ o. refl }) h
+  changes_by p a c text timeout (Some r) h = answered_goes p a c text timeout r _ h (law.changes p c r timeout h)
 
-  start_goes : (p : Past) (a : Actor) (c : Core) (task : ℕ) (o : Option Task) → task_numbered task c ≡ o → At p [] c → Makes p (start_made key a c task o)
-  start_goes p a c task None e h = nothing p [] c h
-  start_goes p a c task (Some t) e h =
-      let begun : Core = with_task c (record t { move = task_started t.move key.at }) in
-      either (Makes p) (list_any runs c.tasks) (made (says c (task_row key a c task kinds.Start (answers.Refused refusals.TaskRunning))) told_by.Other)
-      (made (says begun (task_row key a c task kinds.Start answers.Ok)) told_by.Other)
-      (says_only p c _ (record { at_key = refl; at_site = refl; silent = λ o. refl }) h)
-      (says_so p c begun _ (record { at_key = refl; at_site = refl; silent = λ o. refl }) h (law.starts p c task t e h))
+  pub serves_by : (p : Past) (a : Actor) (c : Core) (id : MessageId) (r : Receipt) (b : Bool) (o : Option Outbound) → Sent o → At p [] c → Goes p [] (serve_made key a c id r b o).effect
+  serves_by p a c id r true o s h = says_only p c _ (record { at_key = refl; at_site = refl; silent = λ o. refl }) h
+  serves_by p a c id r false None s h = nothing p [] c h
+  serves_by p a c id r false (Some o) s h = law.forwards p a c id o s h
 
-  cancel_goes : (p : Past) (a : Actor) (c : Core) (task : ℕ) (o : Option Task) → task_numbered task c ≡ o → At p [] c → Makes p (cancel_made key a c task o)
-  cancel_goes p a c task None e h = nothing p [] c h
-  cancel_goes p a c task (Some t) e h =
-      let stopped : MoveTask = record t.move { status = Cancelled } in
-      either (λ (x : Result (Unit {0}) Refusal × MoveTask). Makes p (cancel_done key a c task t x)) (is_running t.move.status) (Ok tt, stopped) (Err refusals.NoTask, t.move)
-      (says_so p c (with_task c (record t { move = stopped })) _ (record { at_key = refl; at_site = refl; silent = λ o. refl }) h (law.cancels p c task t e h))
-      (says_only p c _ (record { at_key = refl; at_site = refl; silent = λ o. refl }) h)
+  -- the law by calls; what an answer tells is nothing to it
+  abbrev pub by_calls : CallLaw key
+  by_calls =
+      record {
+        Past = Past;
+        At = λ p c. At p [] c;
+        Goes = λ p e. Goes p [] e;
+        after = after;
+        done = λ p e g. done p [] e g;
+        joins = λ p e f g h. joins p [] [] e f g h;
+        nothing = λ p c h. nothing p [] c h;
+        quiet = λ p c d r i h k. quiet p [] [] c d (r ∷ []) h (record { at_key = i.at_key; at_site = i.at_site; silent = i.silent }, tt) k;
+        Hears = λ c gots. Unit {0};
+        hears_none = λ c. tt;
+        gives = λ p c agent max timeout set h. (given_goes p c agent timeout (give_most c.queue key.at max timeout set) h (law.gives p c max timeout set h), tt);
+        changes = λ p a c text timeout h. changes_by p a c text timeout (read_receipt text) h;
+        deletes = λ p a c text h. deletes_by p a c text (read_receipt text) h;
+        sends = law.sends;
+        draws = law.draws;
+        starts = law.starts;
+        cancels = law.cancels;
+        Stands = λ q actors a. Stands actors a;
+        May = λ c x. Sends Sent x;
+        turns = λ p n c a w e t h. law.turns p n c a w e h;
+        polls = law.polls;
+        serves = λ p a c id r b o m h. serves_by p a c id r b o m h;
+      }
 
-  serve_goes : (p : Past) (a : Actor) (c : Core) (id : MessageId) (r : Receipt) (b : Bool) (o : Option Outbound) → Sent o → At p [] c → Makes p (serve_made key a c id r b o)
-  serve_goes p a c id r true o s h = says_only p c _ (record { at_key = refl; at_site = refl; silent = λ o. refl }) h
-  serve_goes p a c id r false None s h = nothing p [] c h
-  serve_goes p a c id r false (Some o) s h = law.forwards p a c id o s h
+  told_any : (c : Core) (w : Answer) → IsTold (λ _ _. Unit {0}) c w
+  told_any c (told_by.Got gots) = tt
+  told_any c w = tt
 
-  pub act_goes : (p : Past) (a : Actor) (c : Core) (x : Act) → Stands c.actors a → Sends Sent x → At p [] c → Makes p (act_made key a c x)
-  unfolding act_made
-  act_goes p a c (acts.Send body delay group id) s o h = law.sends p a c body delay group id h
-  act_goes p a c (acts.Receive max wait timeout) s o h = as_goes c.queue.settings.kind p a c max wait timeout s h
-  act_goes p a c (acts.Delete text) s o h = delete_goes p a c text (read_receipt text) h
-  act_goes p a c (acts.Change text timeout) s o h = change_goes p a c text timeout (read_receipt text) h
-  act_goes p a c (acts.Prolong text timeout) s o h = change_goes p a c text (unwrap_or timeout (c.queue.settings.visibility / 1000)) (read_receipt text) h
-  act_goes p a c (acts.Start task) s o h = start_goes p a c task (task_numbered task c) refl h
-  act_goes p a c (acts.Cancel task) s o h = cancel_goes p a c task (task_numbered task c) refl h
-  act_goes p a c (acts.Serve id r failed forward) s o h = serve_goes p a c id r failed forward o h
-  act_goes p a c acts.Nothing s o h = nothing p [] c h
-
-  -- turns
-  abbrev Follows : (Core → Effect) → Type 0
+  -- what calls.. the walk by calls says
+  abbrev pub Follows : (Core → Effect) → Type 0
   Follows f = (p : Past) (c : Core) → At p [] c → Goes p [] (f c)
 
-  on : (more : Answer → Core → Effect) (p : Past) (a : Actor) (c : Core) (x : Act) → ((w : Answer) → Follows (more w)) → Stands c.actors a → Sends Sent x → At p [] c → Goes p [] (and_then (act_made key a c x).effect (more (act_made key a c x).answer))
-  on more p a c x f s o h = follows p [] (act_made key a c x).effect (more (act_made key a c x).answer) (f (act_made key a c x).answer) (act_goes p a c x s o h)
+  pub some_goes : (p : Past) (a : Actor) (c : Core) (max wait : ℕ) (timeout : Option ℕ) (x : Queue × List Got) → Stands c.actors a → At p [] c → Gives (At p) c timeout x → Goes p [] (receive_some key a c max wait timeout x.0 x.1).effect
+  some_goes p a c max wait timeout x s h k = (walk.some_goes key by_calls p a c max wait timeout x s h (given_goes p c a.number timeout x h k, tt)).goes
+
+  pub act_goes : (p : Past) (a : Actor) (c : Core) (x : Act) → Stands c.actors a → Sends Sent x → At p [] c → Goes p [] (act_made key a c x).effect
+  act_goes p a c x s o h = (walk.act_goes key by_calls p a c x s o h).goes
 
   pub next_goes : (more : Answer → Core → Effect) (p : Past) (c : Core) (x : Act) (a : Actor) → ((w : Answer) → Follows (more w)) → Stands (with_actor c a).actors a → Sends Sent x → At p [] (with_actor c a) → Goes p [] (acts_next more key c (x, a))
-  next_goes more p c acts.Nothing a f s o h = nothing p [] (with_actor c a) h
-  next_goes more p c x a f s o h = on more p a (with_actor c a) x f s o h
-
-  found_goes : (more : Answer → Core → Effect) (p : Past) (n : ℕ) (w : Answer) (c : Core) (o : Option Actor) → actor_numbered n c ≡ o → ((v : Answer) → Follows (more v)) → At p [] c → Goes p [] (acts_found more key w c o)
-  found_goes more p n w c None e f h = nothing p [] c h
-  found_goes more p n w c (Some a) e f h =
-      let t = law.turns p n c a w e h in
-      next_goes more p c (next a key.at w).0 (next a key.at w).1 f t.1 t.2 t.0
+  next_goes more p c x a f s o h = walk.next_goes key by_calls more p c x a (λ w q d t k. f w q d k) s o h
 
   pub most_goes : (most n : ℕ) (w : Answer) → Follows (acts_most most key n w)
-  most_goes zero n w p c h = nothing p [] c h
-  most_goes (suc most) n w p c h = found_goes (acts_most most key n) p n w c (actor_numbered n c) refl (most_goes most n) h
+  most_goes most n w p c h = walk.most_goes key by_calls most n w p c (told_any c w) h
 
-  -- a poll that is answered has left those that wait
   pub poll_goes : (p : Past) (poll : Poll) (c : Core) (x : Queue × List Got) → At p [] (without_poll c) → Gives (At p) (without_poll c) poll.timeout x → Goes p [] (poll_answered key poll c x)
-  poll_goes p poll c (q, gots) h k =
-      follows p [] (given key (without_poll c) poll.actor poll.timeout (q, gots)) (told key poll.actor (told_by.Got gots)) (most_goes 3 poll.actor (told_by.Got gots))
-      (given_goes p (without_poll c) poll.actor poll.timeout (q, gots) h k)
+  poll_goes p poll c x h k = walk.poll_goes key by_calls p poll c x (given_goes p (without_poll c) poll.actor poll.timeout x h k, tt)
 
 -- A law of handlings: a law of turns that all else keeps which may be due at a site.
 pub record HandlingLaw (key : Key) (law : TurnLaw key) : Type 1 where
@@ -283,63 +251,55 @@ pub record HandlingLaw (key : Key) (law : TurnLaw key) : Type 1 where
   pub samples : (p : law.Past) (c : Core) → law.At p [] c → law.At p [] (record c { samples = c.samples + 1 })
   pub steps : (p : law.Past) (c : Core) (t : Task) → task_numbered key.agent c ≡ Some t → law.At p [] c → law.Goes p [] (handle_step key c (Some t))
 
--- the answers to waiting polls, where a poll that leaves keeps the law
+-- what may be said of a site at which something of a class is due
+abbrev pub IsDue : (key : Key) (law : TurnLaw key) → HandlingLaw key law → Class → Core → Type 0
+IsDue key law due classes.Expiry c = due.MayExpire c
+IsDue key law due class c = Unit {0}
+
 module _ (key : Key) (law : TurnLaw key) (answers : (p : law.Past) (c : Core) → law.At p [] c → law.At p [] (without_poll c)) where
-  open law use {Past, At, Goes}
-
-  when_goes : (b : Bool) (poll : Poll) (others : Core → Effect) → Follows key law others → Follows key law (answer_when b key poll others)
-  when_goes true poll others f p c h =
-      let left : At p [] (without_poll c) = answers p c h in
-      follows key law p [] (poll_answered key poll c (poll_given key poll c.queue)) others f
-      (poll_goes key law p poll c (poll_given key poll c.queue) left (law.gives p (without_poll c) poll.max poll.timeout (all_hosts c.queue.settings.kind) left))
-  when_goes false poll others f p c h = nothing key law p [] c h
-
   pub polls_go : (polls : List Poll) → Follows key law (answer_polls key polls)
-  polls_go [] p c h = nothing key law p [] c h
-  polls_go (poll ∷ polls) p c h = when_goes (can_give c.queue) poll (answer_polls key polls) (polls_go polls) p c h
+  polls_go polls p c h = walk.polls_go key (by_calls key law) answers polls p c h
 
-  pub polled : (p : Past) (e : Effect) → Goes p [] e → Goes p [] (with_polls key e)
-  polled p e h = follows key law p [] e (λ c. answer_polls key c.polls c) (λ q c i. polls_go c.polls q c i) h
+  pub polled : (p : law.Past) (e : Effect) → law.Goes p [] e → law.Goes p [] (with_polls key e)
+  polled p e h = walk.polled key (by_calls key law) answers p e h
 
--- what is due, by its class
 module _ (key : Key) (law : TurnLaw key) (due : HandlingLaw key law) where
   open law use {Past, At, Goes}
 
-  pub arrival_goes : (p : Past) (o : Option Outbound) (c : Core) → due.Comes p o c → Goes p [] (handle_arrival key o c)
-  arrival_goes p None c h = nothing key law p [] c (due.absent p c h)
-  arrival_goes p (Some o) c h = due.arrives p o c h
-
-  step_goes : (p : Past) (c : Core) (o : Option Task) → task_numbered key.agent c ≡ o → At p [] c → Goes p [] (handle_step key c o)
-  step_goes p c None e h = nothing key law p [] c h
-  step_goes p c (Some t) e h = due.steps p c t e h
-
-  pub class_goes : (k : Class) (p : Past) (c : Core) → (k ≡ classes.Expiry → due.MayExpire c) → At p [] c → Goes p [] (handle_class k key c)
-  unfolding handle_class
-  class_goes classes.Expiry p c m h = due.expires p c (m refl) h
-  class_goes classes.Release p c m h =
+  pub releases_by : (p : Past) (c : Core) → At p [] c → Goes p [] (release_done key c (released c.queue key.number))
+  releases_by p c h =
       let r : Queue × Option Load = released c.queue key.number in
       back_goes key law p [] (with_queue c r.0) key.number r.1 (due.releases p c h)
-  class_goes classes.Arrival p c m h = nothing key law p [] c h
-  class_goes classes.PollEnd p c m h =
-      let left : Core = record c { polls = without (ends_at key) c.polls } in
-      follows key law p [] (says left (receive_row key c key.agent answers.Empty)) (told key key.agent (told_by.Got [])) (most_goes key law 3 key.agent (told_by.Got []))
-      (says_so key law p c left _ (record { at_key = refl; at_site = refl; silent = λ o. refl }) h (due.ends p c h))
-  class_goes classes.Wake p c m h = most_goes key law 3 key.agent told_by.Wake p c h
-  class_goes classes.Sample p c m h = says_so key law p c (record c { samples = c.samples + 1 }) _ (record { at_key = refl; at_site = refl; silent = λ o. refl }) h (due.samples p c h)
-  class_goes classes.Step p c m h = step_goes p c (task_numbered key.agent c) refl h
 
--- what a handling did, without what is on its way
-abbrev pub effect_of : Handled → Effect
-effect_of h = record { core = h.site.core; rows = h.rows; sent = h.sent }
+  abbrev due_by_calls : DueLaw key (by_calls key law)
+  due_by_calls =
+      record {
+        IsDue = IsDue key law due;
+        answers = due.answers;
+        ends = due.ends;
+        expires = due.expires;
+        releases = λ p c d h. releases_by p c h;
+        Comes = due.Comes;
+        absent = due.absent;
+        arrives = due.arrives;
+        samples = due.samples;
+        steps = due.steps;
+      }
 
-module _ (key : Key) (law : TurnLaw key) (due : HandlingLaw key law) (p : law.Past) (s : Site) where
-  when_handled : (b : Bool) → (b ≡ false → (key.class ≡ classes.Expiry → due.MayExpire s.core) × law.At p [] s.core) → (b ≡ true → due.Comes p (find (has_key key) s.arriving) s.core) → law.Goes p [] (effect_of (handled_when b key s))
-  when_handled true m a = polled key law due.answers p (handle_arrival key (find (has_key key) s.arriving) s.core) (arrival_goes key law due p (find (has_key key) s.arriving) s.core (a refl))
-  when_handled false m a = polled key law due.answers p (handle_class key.class key s.core) (class_goes key law due key.class p s.core (m refl).0 (m refl).1)
+  is_due : (k : Class) (c : Core) → (k ≡ classes.Expiry → due.MayExpire c) → IsDue key law due k c
+  is_due classes.Expiry c m = m refl
+  is_due k c m = tt
 
-  -- the law holds of each handling
-  pub handled_goes :
-      (is_arrival key.class ≡ false → (key.class ≡ classes.Expiry → due.MayExpire s.core) × law.At p [] s.core)
-      → (is_arrival key.class ≡ true → due.Comes p (find (has_key key) s.arriving) s.core) → law.Goes p [] (effect_of (handled key s))
-  unfolding handled
-  handled_goes m a = when_handled (is_arrival key.class) m a
+  pub arrival_goes : (p : Past) (o : Option Outbound) (c : Core) → due.Comes p o c → Goes p [] (handle_arrival key o c)
+  arrival_goes p o c h = walk.arrival_goes key (by_calls key law) due_by_calls p o c h
+
+  pub class_goes : (k : Class) (p : Past) (c : Core) → (k ≡ classes.Expiry → due.MayExpire c) → At p [] c → Goes p [] (handle_class k key c)
+  class_goes k p c m h = walk.class_goes key (by_calls key law) due_by_calls k p c (is_due k c m) h
+
+-- the law holds of each handling
+pub handled_goes :
+    (key : Key) (law : TurnLaw key) (due : HandlingLaw key law) (p : law.Past) (s : Site)
+    → (is_arrival key.class ≡ false → (key.class ≡ classes.Expiry → due.MayExpire s.core) × law.At p [] s.core)
+    → (is_arrival key.class ≡ true → due.Comes p (find (has_key key) s.arriving) s.core) → law.Goes p [] (effect_of (handled key s))
+handled_goes key law due p s m a =
+    walk.handled_goes key (by_calls key law) (due_by_calls key law due) p s (λ e. (is_due key law due key.class s.core (m e).0, (m e).1)) a

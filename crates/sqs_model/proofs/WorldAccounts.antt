@@ -1,14 +1,12 @@
 -- Every message accepted stands in exactly one place, at every step of a run.
 use Rattle.std.specs.List.{count_by, enumerate_from, sum_by}
 use Rattle.std.specs.Ordering.{on}
-use Rattle.std.specs.Prelude.{All, Bool, List, None, Option, Some, [], cond, false, filter, find, flat_map, get_or, if◌then◌else◌, length, map, suc, true, zero, ℕ, ◌&&◌, ◌+◌, ◌++◌, ◌<◌, ◌==◌, ◌∷◌, ◌≡◌, ◌≢◌, ◌≤◌}
-use Rattle.std.proofs.Common.{ap, arith, inl, inr, refl, subst, sym, ◌∙◌}
+use Rattle.std.specs.Prelude.{All, Bool, List, None, Option, Some, [], false, filter, find, get_or, if◌then◌else◌, length, map, suc, true, zero, ℕ, ◌&&◌, ◌+◌, ◌++◌, ◌<◌, ◌==◌, ◌∷◌, ◌≡◌, ◌≢◌, ◌≤◌}
+use Rattle.std.proofs.Common.{ap, arith, refl, subst, sym, ◌∙◌}
 use Rattle.std.proofs.lemmas.Bool.{eq-eqb, eqb-false, eqb-true, ne_eqb}
 use Rattle.std.proofs.lemmas.List.{append-nil}
 use Rattle.std.proofs.lemmas.List.Elements.{All-cons, All-filter, All-head, All-map, All-nil, All-tail, All-weaker}
 use Rattle.std.proofs.lemmas.List.Sums.{sum_by-cons}
-use Rattle.sim_clock.specs.declared.key.Class.{Class}
-use Rattle.sim_clock.specs.declared.key.Class.TheVariants as classes
 use Rattle.sim_clock.specs.declared.key.Key.{Key}
 use Rattle.sim_clock.specs.Firsts.{without}
 use Rattle.sim_clock.specs.Order.{key_cmp}
@@ -19,11 +17,9 @@ use Rattle.sqs_message.specs.declared.row.Row.{Row}
 use Rattle.sqs_redrive.specs.declared.settings.QueueSettings.{QueueSettings}
 use Rattle.sqs_redrive.specs.declared.settings.TaskSettings.{TaskSettings}
 use Rattle.sqs_redrive.specs.declared.transfers.Outbound.{Outbound}
-use Rattle.sqs_redrive.specs.MoveTasks.{is_running}
 use Rattle.sqs_redrive.specs.Transfers.{transfer_key}
 use Rattle.sqs_model.specs.Accounts.{EachKeepsOnePlace, NoOtherComesIn, carries, ended_by, is_deleted, is_expired, is_told, places, queued, same_origin, under_way}
-use Rattle.sqs_model.specs.Actor.{Actor}
-use Rattle.sqs_model.specs.Dues.{actor_dues, core_dues, dues, least_due, message_dues, poll_key, queue_dues, release_due, sample_dues, task_dues, wake_due}
+use Rattle.sqs_model.specs.Dues.{dues, least_due}
 use Rattle.sqs_model.specs.Progress.{Ascends}
 use Rattle.sqs_model.specs.Queue.{has_number, numbered}
 use Rattle.sqs_model.specs.Run.{Run, after}
@@ -34,12 +30,13 @@ use Rattle.sqs_model.specs.Step.{Handled, handle_arrival, handled, handled_when,
 use Rattle.sqs_model.proofs.Balance.{AreApart, Holds, IsFine}
 use Rattle.sqs_model.proofs.Branches.{either}
 use Rattle.sqs_model.proofs.Counts.{all_without, find_all, total, total_same, total_without}
+use Rattle.sqs_model.proofs.EachDue.{of_site}
 use Rattle.sqs_model.proofs.Kept.{handled_number}
 use Rattle.sqs_model.proofs.Ledger.{IsPast, bit, ended, first_in, given_by, id_at}
-use Rattle.sqs_model.proofs.Members.{From, In, in_append, in_flat, in_found, in_map}
+use Rattle.sqs_model.proofs.Members.{From, In, in_found}
 use Rattle.sqs_model.proofs.Opening.{all_enumerated}
 use Rattle.sqs_model.proofs.QueueAccounts.{carried}
-use Rattle.sqs_model.proofs.SiteAccounts.{At, Goes, IsBound, IsFound, Leads, MayExpire, come_goes, due_goes, none_come, sent_bits}
+use Rattle.sqs_model.proofs.SiteAccounts.{At, Goes, IsBound, IsFound, Leads, IsDueThere, come_goes, due_goes, none_come, sent_bits}
 use Rattle.sqs_model.proofs.WorldMoves.{is_due_least, least_in}
 use Rattle.sqs_model.proofs.Instance.{total_inserted}
 
@@ -55,90 +52,20 @@ sum_is f (x ∷ xs) = omega (arith, sum_by-cons f x xs, sum_is f xs)
 count_total : {A : Type 0} (p : A → Bool) (xs : List A) → count_by p xs ≡ total (λ x. bit (p x)) xs
 count_total p xs = sum_is (λ x. bit (p x)) xs
 
--- what is due to expire is there
+-- a message that is due is there
 module _ (s : Site) where
-  abbrev Expires : Key → Class → Type 0
-  Expires key k = MayExpire key k s.core
+  abbrev pub Fits : Key → Type 0
+  Fits key = IsDueThere key key.class s.core
 
-  abbrev Fits : Key → Type 0
-  Fits key = Expires key key.class
-
-  found_is : (f : Option Message) (m : Message) → f ≡ Some m → IsFound f
-  found_is f m e = subst IsFound (sym e) tt
-
-  expiry_there : (m : Message) → In s.core.queue.records m → IsFound (numbered m.number s.core.queue.records)
-  expiry_there m i =
+  message_there : (m : Message) → In s.core.queue.records m → IsFound (numbered m.number s.core.queue.records)
+  message_there m i =
       let f : From s.core.queue.records (λ x. find (has_number m.number) s.core.queue.records ≡ Some x) = in_found (has_number m.number) s.core.queue.records m i (eq-eqb m.number m.number refl) in
-      found_is (numbered m.number s.core.queue.records) f.one f.gives
+      subst IsFound (sym f.gives) tt
 
-  release_fits : (key : Key) (m : Message) (o : Option ℕ) → In (release_due s.core.queue.site m o) key → Fits key
-  release_fits key m None i = elim i [ ]
-  release_fits key m (Some at) (inl e) = subst Fits e tt
-  release_fits key m (Some at) (inr i) = elim i [ ]
-
-  message_fits : (key : Key) (m : Message) → In s.core.queue.records m → In (message_dues s.core.queue.site s.core.queue.settings.retention m) key → Fits key
-  message_fits key m i (inl e) = subst Fits e (expiry_there m i)
-  message_fits key m i (inr k) = release_fits key m m.release k
-
-  queue_fits : (key : Key) → In (queue_dues s.core.queue) key → Fits key
-  queue_fits key i =
-      let f : From s.core.queue.records (λ m. In (message_dues s.core.queue.site s.core.queue.settings.retention m) key) = in_flat (message_dues s.core.queue.site s.core.queue.settings.retention) s.core.queue.records key i in
-      message_fits key f.one f.within f.gives
-
-  poll_fits : (key : Key) → In (map poll_key s.core.polls) key → Fits key
-  poll_fits key i = let f = in_map poll_key s.core.polls key i in subst Fits f.gives tt
-
-  wake_fits : (key : Key) (a : Actor) (o : Option ℕ) → In (wake_due a o) key → Fits key
-  wake_fits key a None i = elim i [ ]
-  wake_fits key a (Some at) (inl e) = subst Fits e tt
-  wake_fits key a (Some at) (inr i) = elim i [ ]
-
-  actor_fits : (key : Key) → In (flat_map actor_dues s.core.actors) key → Fits key
-  actor_fits key i = let f = in_flat actor_dues s.core.actors key i in wake_fits key f.one f.one.wake f.gives
-
-  sample_fits : (key k : Key) (b : Bool) → k.class ≡ classes.Sample → In (cond b [] (k ∷ [])) key → Fits key
-  sample_fits key k true c i = elim i [ ]
-  sample_fits key k false c (inl e) = subst Fits e (subst (Expires k) (sym c) tt)
-  sample_fits key k false c (inr i) = elim i [ ]
-
-  step_fits : (key k : Key) (b : Bool) → k.class ≡ classes.Step → In (cond b (k ∷ []) []) key → Fits key
-  step_fits key k false c i = elim i [ ]
-  step_fits key k true c (inl e) = subst Fits e (subst (Expires k) (sym c) tt)
-  step_fits key k true c (inr i) = elim i [ ]
-
-  task_fits : (key : Key) → In (flat_map task_dues s.core.tasks) key → Fits key
-  task_fits key i = let f = in_flat task_dues s.core.tasks key i in step_fits key _ (is_running f.one.move.status) refl f.gives
-
-  arrival_fits : (key : Key) → In (map transfer_key s.arriving) key → Fits key
-  arrival_fits key i = let f = in_map transfer_key s.arriving key i in subst Fits f.gives tt
-
-  core_fits : (key : Key) → In (core_dues s.core) key → Fits key
-  unfolding core_dues
-  core_fits key i =
-      elim (in_append (queue_dues s.core.queue ++ map poll_key s.core.polls ++ flat_map actor_dues s.core.actors ++ sample_dues s.core) (flat_map task_dues s.core.tasks) key i) as (λ _. Fits key) [
-        | inr k ↦ task_fits key k
-        | inl i4 ↦
-            elim (in_append (queue_dues s.core.queue ++ map poll_key s.core.polls ++ flat_map actor_dues s.core.actors) (sample_dues s.core) key i4) as (λ _. Fits key) [
-              | inr k ↦ sample_fits key _ (s.core.sample == 0) refl k
-              | inl i3 ↦
-                  elim (in_append (queue_dues s.core.queue ++ map poll_key s.core.polls) (flat_map actor_dues s.core.actors) key i3) as (λ _. Fits key) [
-                    | inr k ↦ actor_fits key k
-                    | inl i2 ↦
-                        elim (in_append (queue_dues s.core.queue) (map poll_key s.core.polls) key i2) as (λ _. Fits key) [
-                          | inr k ↦ poll_fits key k
-                          | inl k ↦ queue_fits key k
-                        ]
-                  ]
-            ]
-      ]
-
-  due_fits : (key : Key) → In (dues s) key → Fits key
-  unfolding dues
-  due_fits key i =
-      elim (in_append (map transfer_key s.arriving) (core_dues s.core) key i) as (λ _. Fits key) [
-        | inl k ↦ arrival_fits key k
-        | inr k ↦ core_fits key k
-      ]
+  pub due_fits : (key : Key) → In (dues s) key → Fits key
+  due_fits key =
+      of_site Fits key s (λ o i. tt)
+      (record { expiry = λ m i. message_there m i; release = λ m at i e. message_there m i; poll = λ p i. tt; wake = λ a at i e. tt; sample = λ e. tt; step = λ t i e. tt })
 
 module _ (o : Origin) (top : ℕ) where
   -- how many of the origin stand at a site or are on their way to it
@@ -243,7 +170,7 @@ module _ (o : Origin) (top : ℕ) where
       left_stays rows elsewhere left _ (all_without (has_key key) (IsBound o top) s.arriving k.arriving)
       (come_goes o top rows key rows (sent_bits o top left + elsewhere) x s.core bound (at_site rows (carried o x.load + (sent_bits o top left + elsewhere)) s k (omega (arith, h, less))))
 
-  when_stays : (b : Bool) (key : Key) (rows : List Row) (elsewhere : ℕ) (s : Site) → MayExpire key key.class s.core → IsKept rows s → stock s + ended o rows + elsewhere ≡ first_in o rows → Stays rows elsewhere (handled_when b key s)
+  when_stays : (b : Bool) (key : Key) (rows : List Row) (elsewhere : ℕ) (s : Site) → IsDueThere key key.class s.core → IsKept rows s → stock s + ended o rows + elsewhere ≡ first_in o rows → Stays rows elsewhere (handled_when b key s)
   when_stays true key rows elsewhere s m k h = came_stays key rows elsewhere s (find (has_key key) s.arriving) refl k h
   when_stays false key rows elsewhere s m k h =
       left_stays rows elsewhere s.arriving _ k.arriving (due_goes o top rows key key.class rows (sent_bits o top s.arriving + elsewhere) s.core m (at_site rows (sent_bits o top s.arriving + elsewhere) s k (omega (arith, h))))

@@ -4,6 +4,7 @@ use Rattle.sim_clock.specs.declared.refusal.Refusal.{Refusal}
 use Rattle.sqs_formats.specs.Output.{log_of}
 use Rattle.sqs_formats.specs.Rows.{line, log_header}
 use Rattle.sqs_formats.specs.Scenario.{released, scenario_upto}
+use Rattle.sqs_laws.specs.Laws.{KeepsTheRules}
 use Rattle.sqs_model.specs.Accounts.{EachHasOnePlace, NoOtherHasPlace}
 use Rattle.sqs_model.specs.Limits.{IsOver}
 use Rattle.sqs_model.specs.Run.{IsRunOf, Run}
@@ -33,7 +34,8 @@ request_upto newest text scripts options = record { newest = newest; text = text
 abbrev pub request : List ℕ → List (List ℕ × List ℕ) → Options → Request
 request = request_upto released
 
--- a request's scenario, split as asked, and its one-list run: each accepted message is in one place, no other in any
+-- a request's scenario, split as asked, and its one-list run: each accepted message is in one place, no other in any, and the rows
+-- keep the rules of SQS
 pub record Rehearsed (q : Request) : Type 0 where
   pub scenario : Scenario
   pub run : Run
@@ -42,6 +44,7 @@ pub record Rehearsed (q : Request) : Type 0 where
   pub is_run : IsRunOf scenario run
   pub one_place : EachHasOnePlace run.sites run.rows
   pub no_other : NoOtherHasPlace run.sites run.rows
+  pub rules : KeepsTheRules scenario run.rows
 
 -- a whole rehearsal: the one-list run takes no count past the limit; the writers got the log, and finals and report, and
 -- were flushed after that

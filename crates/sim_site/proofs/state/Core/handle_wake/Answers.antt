@@ -1,13 +1,10 @@
-use Rattle.std.proofs.Common.{Option, subst}
+use Rattle.std.proofs.Common.{subst, ap}
 use Rattle.std.specs.Prelude.{option_map}
 use Rattle.sim_actor.specs.Lives.{answer_of}
-use Rattle.sim_actor.specs.declared.replies.Reply.{Reply}
 use Rattle.sqs_model.specs.Limits.{PassesCount}
 use Rattle.sqs_model.specs.Polls.{acts_most}
-use Rattle.sqs_model.specs.Site.{actor_numbered}
 use Rattle.sqs_model.specs.declared.acts.Answer.TheVariants.{Wake}
 use Rattle.sim_site.specs.Effects.{Did, Does, GoesOn}
-use Rattle.sim_site.specs.Turns.{DidTurn, turn_of}
 use Rattle.sim_site.proofs.Passing.{stops_up}
 use Rattle.sim_site.proofs.Recent.{taken_recent}
 use Rattle.sim_site.proofs.Turns.{turn_ends, turn_goes, turn_limited}
@@ -16,19 +13,16 @@ use Rattle.sim_site.proofs.state.Core.handle_wake.Goals as goal
 pub returns-in_default : goal.returns-in_default
 returns-in_default c =
     let handling = c.args.handling.now in
-    let one = subst (λ (o : Option Reply). DidTurn handling.effects.now c.first_turn.new.handling.effects.now c.first_turn.new.self (option_map answer_of o) (turn_of handling.key Wake c.args.self.now (actor_numbered handling.agent c.args.self.now))) c.in_default.is c.in_ok-reply.ensures.1 in (
-      c.in_ok-reply.ensures.0,
-      subst (λ n. Did handling.effects.now c.first_turn.new.handling.effects.now c.first_turn.new.self (acts_most 3 handling.key n Wake c.args.self.now)) c.requires.agent
-          (turn_ends handling.key handling.agent 2 Wake c.args.self.now handling.effects.now c.first_turn.new.handling.effects.now c.first_turn.new.self one),
-    )
+    let mid = c.first_turn.new.handling in
+    subst (λ n. GoesOn handling mid × Did handling.effects.now mid.effects.now c.first_turn.new.self (acts_most 3 handling.key n Wake c.args.self.now)) c.requires.agent
+    (turn_ends handling mid 2 Wake c.args.self.now c.first_turn.new.self _ c.in_ok-reply.ensures (ap (option_map answer_of) c.in_default.is))
 
 pub returns : goal.returns
 returns c =
     let handling = c.args.handling.now in
-    let mid = c.first_turn.new.handling in
-    let one = subst (λ (o : Option Reply). GoesOn handling mid × DidTurn handling.effects.now mid.effects.now c.first_turn.new.self (option_map answer_of o) (turn_of handling.key Wake c.args.self.now (actor_numbered handling.agent c.args.self.now))) c.in-Some.is c.in_ok-reply.ensures in
     subst (λ n. Does c.last_turns.result handling c.last_turns.new.handling c.last_turns.new.self (acts_most 3 handling.key n Wake c.args.self.now)) c.requires.agent
-    (turn_goes c.last_turns.result handling mid c.last_turns.new.handling 2 Wake (answer_of c.in-Some.reply) c.args.self.now c.first_turn.new.self c.last_turns.new.self one c.last_turns.ensures)
+    (turn_goes handling c.first_turn.new.handling 2 Wake c.args.self.now c.first_turn.new.self _ c.in_ok-reply.ensures
+    c.last_turns.result c.last_turns.new.handling (answer_of c.in-Some.reply) c.last_turns.new.self (ap (option_map answer_of) c.in-Some.is) c.last_turns.ensures)
 
 pub last_turns-requires : goal.last_turns-requires
 last_turns-requires c =

@@ -1,11 +1,9 @@
-use Rattle.std.proofs.Common.{Bool, Ok, subst}
+use Rattle.std.proofs.Common.{Ok, ap}
 use Rattle.sim_actor.specs.Lives.{answer_of}
 use Rattle.sqs_model.specs.Limits.{PassesCount}
 use Rattle.sqs_model.specs.Polls.{acts_most}
-use Rattle.sqs_model.specs.Site.{actor_numbered}
 use Rattle.sqs_model.specs.declared.acts.Answer.TheVariants.{Other}
-use Rattle.sim_site.specs.Effects.{GoesOn}
-use Rattle.sim_site.specs.Turns.{DidTurn, answer_if, turn_of}
+use Rattle.sim_site.specs.Turns.{answer_if}
 use Rattle.sim_site.proofs.Passing.{stops_up}
 use Rattle.sim_site.proofs.Recent.{taken_recent}
 use Rattle.sim_site.proofs.Turns.{turn_ends, turn_goes, turn_last, turn_limited}
@@ -13,18 +11,13 @@ use Rattle.sim_site.proofs.state.Core.last_turns.Goals as goal
 
 pub returns-then-not-acted : goal.returns-then-not-acted
 returns-then-not-acted c =
-    let handling = c.args.handling.now in
-    let answer = answer_of c.args.reply in
-    let one = subst (λ (acted : Bool). DidTurn handling.effects.now c.next_turn.new.handling.effects.now c.next_turn.new.self (answer_if acted) (turn_of handling.key answer c.args.self.now (actor_numbered handling.agent c.args.self.now))) c.if-not-acted.true c.in_ok-acted.ensures.1 in
-    (c.in_ok-acted.ensures.0, turn_ends handling.key handling.agent 1 answer c.args.self.now handling.effects.now c.next_turn.new.handling.effects.now c.next_turn.new.self one)
+    turn_ends c.args.handling.now c.next_turn.new.handling 1 (answer_of c.args.reply) c.args.self.now c.next_turn.new.self _ c.in_ok-acted.ensures (ap answer_if c.if-not-acted.true)
 
 pub returns : goal.returns
 returns c =
-    let handling = c.args.handling.now in
     let mid = c.next_turn.new.handling in
-    let answer = answer_of c.args.reply in
-    let one = subst (λ (acted : Bool). GoesOn handling mid × DidTurn handling.effects.now mid.effects.now c.next_turn.new.self (answer_if acted) (turn_of handling.key answer c.args.self.now (actor_numbered handling.agent c.args.self.now))) c.if-not-acted.false c.in_ok-acted.ensures in
-    turn_goes (Ok (tt {0})) handling mid c.next_turn-2.new.handling 1 answer Other c.args.self.now c.next_turn.new.self c.next_turn-2.new.self one
+    turn_goes c.args.handling.now mid 1 (answer_of c.args.reply) c.args.self.now c.next_turn.new.self _ c.in_ok-acted.ensures
+    (Ok (tt {0})) c.next_turn-2.new.handling Other c.next_turn-2.new.self (ap answer_if c.if-not-acted.false)
     (turn_last mid c.next_turn-2.new.handling Other c.next_turn.new.self c.next_turn-2.new.self (answer_if c.in_ok-next_turn.field-0) c.in_ok-next_turn.ensures)
 
 pub next_turn-requires-2 : goal.next_turn-requires-2
@@ -43,7 +36,7 @@ returns-in_err-next_turn c =
     let handling = c.args.handling.now in
     let mid = c.next_turn.new.handling in
     let answer = answer_of c.args.reply in
-    let one = subst (λ (acted : Bool). GoesOn handling mid × DidTurn handling.effects.now mid.effects.now c.next_turn.new.self (answer_if acted) (turn_of handling.key answer c.args.self.now (actor_numbered handling.agent c.args.self.now))) c.if-not-acted.false c.in_ok-acted.ensures in
-    turn_goes c.from_residual-in_err-next_turn.result handling mid c.next_turn-2.new.handling 1 answer Other c.args.self.now c.next_turn.new.self c.next_turn-2.new.self one
+    turn_goes handling mid 1 answer c.args.self.now c.next_turn.new.self _ c.in_ok-acted.ensures
+    c.from_residual-in_err-next_turn.result c.next_turn-2.new.handling Other c.next_turn-2.new.self (ap answer_if c.if-not-acted.false)
     (stops_up _ _ (PassesCount (acts_most 1 mid.key mid.agent Other c.next_turn.new.self)) c.from_residual-in_err-next_turn.result c.in_err-next_turn.field-0.0 c.from_residual-in_err-next_turn.ensures.1
     (turn_limited mid.key mid.agent 0 Other c.next_turn.new.self) c.in_err-next_turn.ensures)

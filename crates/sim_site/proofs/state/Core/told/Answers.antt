@@ -1,11 +1,9 @@
-use Rattle.std.proofs.Common.{Bool, subst}
+use Rattle.std.proofs.Common.{ap}
 use Rattle.sim_actor.specs.Lives.{answer_of}
 use Rattle.sqs_model.specs.Limits.{PassesCount}
 use Rattle.sqs_model.specs.Polls.{acts_most}
-use Rattle.sqs_model.specs.Site.{actor_numbered}
 use Rattle.sqs_model.specs.declared.acts.Answer.TheVariants.{Other}
-use Rattle.sim_site.specs.Effects.{GoesOn}
-use Rattle.sim_site.specs.Turns.{DidTurn, answer_if, turn_of}
+use Rattle.sim_site.specs.Turns.{answer_if}
 use Rattle.sim_site.proofs.Passing.{stops_up}
 use Rattle.sim_site.proofs.Recent.{taken_recent}
 use Rattle.sim_site.proofs.Turns.{turn_ends, turn_goes, turn_limited}
@@ -13,18 +11,12 @@ use Rattle.sim_site.proofs.state.Core.told.Goals as goal
 
 pub returns-then-not-acted : goal.returns-then-not-acted
 returns-then-not-acted c =
-    let handling = c.args.handling.now in
-    let answer = answer_of c.args.reply in
-    let one = subst (λ (acted : Bool). DidTurn handling.effects.now c.next_turn.new.handling.effects.now c.next_turn.new.self (answer_if acted) (turn_of handling.key answer c.args.self.now (actor_numbered handling.agent c.args.self.now))) c.if-not-acted.true c.in_ok-acted.ensures.1 in
-    (c.in_ok-acted.ensures.0, turn_ends handling.key handling.agent 2 answer c.args.self.now handling.effects.now c.next_turn.new.handling.effects.now c.next_turn.new.self one)
+    turn_ends c.args.handling.now c.next_turn.new.handling 2 (answer_of c.args.reply) c.args.self.now c.next_turn.new.self _ c.in_ok-acted.ensures (ap answer_if c.if-not-acted.true)
 
 pub returns : goal.returns
 returns c =
-    let handling = c.args.handling.now in
-    let mid = c.next_turn.new.handling in
-    let answer = answer_of c.args.reply in
-    let one = subst (λ (acted : Bool). GoesOn handling mid × DidTurn handling.effects.now mid.effects.now c.next_turn.new.self (answer_if acted) (turn_of handling.key answer c.args.self.now (actor_numbered handling.agent c.args.self.now))) c.if-not-acted.false c.in_ok-acted.ensures in
-    turn_goes c.last_turns.result handling mid c.last_turns.new.handling 2 answer Other c.args.self.now c.next_turn.new.self c.last_turns.new.self one c.last_turns.ensures
+    turn_goes c.args.handling.now c.next_turn.new.handling 2 (answer_of c.args.reply) c.args.self.now c.next_turn.new.self _ c.in_ok-acted.ensures
+    c.last_turns.result c.last_turns.new.handling Other c.last_turns.new.self (ap answer_if c.if-not-acted.false) c.last_turns.ensures
 
 pub last_turns-requires : goal.last_turns-requires
 last_turns-requires c =

@@ -1,45 +1,30 @@
 use Rattle.std.specs.List.{enumerate_from}
-use Rattle.std.specs.Prelude.{All, IfOk, List, [], map, ℕ, ◌+◌, ◌∷◌, ◌≡◌, ◌≤◌}
+use Rattle.std.specs.Prelude.{All, IfOk, List, ◌≡◌}
 use Rattle.std.proofs.Common.{arith, subst, sym}
-use Rattle.std.proofs.lemmas.List.Elements.{All-cons, All-nil, All-weaker}
+use Rattle.std.proofs.lemmas.List.Elements.{All-weaker}
 use Rattle.sim_partition.specs.Sites.{IsPart}
 use Rattle.sim_partition.proofs.Moments.{all_later}
 use Rattle.sim_windows.proofs.Whole.{world_part}
-use Rattle.sqs_message.specs.declared.message.Message.{Message}
-use Rattle.sqs_redrive.specs.declared.settings.QueueSettings.{QueueSettings}
 use Rattle.sqs_redrive.specs.declared.transfers.Outbound.{Outbound}
 use Rattle.sqs_model.specs.Conditions.{IsOfPast, sqs_conditions}
 use Rattle.sqs_model.specs.Progress.{WasEnqueuedBy}
-use Rattle.sqs_model.specs.Longest.{deduplication_interval}
-use Rattle.sqs_model.specs.Queue.{Entry}
-use Rattle.sqs_model.specs.Scenario.{Scenario, opening, opening_site}
+use Rattle.sqs_model.specs.Scenario.{Scenario, opening}
 use Rattle.sqs_model.specs.Site.{Site}
 use Rattle.sqs_model.specs.Sqs.{sqs}
 use Rattle.sqs_model.proofs.Instance.{sqs_laws}
+use Rattle.sqs_model.proofs.Sites.{past_from}
 use Rattle.test_rehearsals.proofs.tests.handlings.in_one.Goals as goal
 
 pub new-requires : goal.new-requires
 new-requires c = subst (IsPart sqs sqs_conditions) (sym (λ k. (c.world.view_is k).opening)) (world_part sqs_laws c.in_ok-world.world c.in_ok-world.ensures.simulated)
 
--- nothing is there at first that is from after the beginning
-past_at_first : (s : Scenario) (xs : List (ℕ × QueueSettings)) → All (IsOfPast 0) (map (opening_site s) xs)
-past_at_first s [] = All-nil (IsOfPast 0)
-past_at_first s (x ∷ xs) =
-    All-cons (IsOfPast 0) (opening_site s x) (map (opening_site s) xs)
-    (record {
-      recent = All-nil (λ (e : Entry). e.end ≤ 0 + deduplication_interval);
-      filled = All-nil (λ (m : Message). m.enqueued ≤ 0);
-      arriving = All-nil (λ (o : Outbound). WasEnqueuedBy o.at o.load);
-    })
-    (past_at_first s xs)
-
--- so what is there is from no later than any arrival
+-- what is there at first is of the beginning, so it is from no later than any arrival
 pub deliver-requires-clause-past : goal.deliver-requires-clause-past
 deliver-requires-clause-past c =
     let s : Scenario = c.args.scenario in
     let sites : List Site = c.in_ok-world.world.opening in
     let same : sites ≡ opening s = λ k. (c.in_ok-world.ensures.setting k).opening in
-    let first : All (IsOfPast 0) sites = subst (All (IsOfPast 0)) (sym same) (past_at_first s (enumerate_from 0 s.queues)) in
+    let first : All (IsOfPast 0) sites = subst (All (IsOfPast 0)) (sym same) (past_from s (enumerate_from 0 s.queues)) in
     let transfers = c.args.transfers.items in
     let later : All (λ (o : Outbound). All (IsOfPast o.at) sites) transfers =
     All-weaker (λ (o : Outbound). WasEnqueuedBy o.at o.load) (λ (o : Outbound). All (IsOfPast o.at) sites) (λ o t. all_later sqs_laws 0 o.at sites (omega arith) first) transfers c.requires in

@@ -1,0 +1,261 @@
+-- The rows of each call of a queue are a chain of single moves.
+use Rattle.std.specs.Prelude.{All, Bool, Err, List, None, Ok, Option, Result, Some, [], false, filter, find, get_or, if◌then◌else◌, map, nat_lt, true, zip, ℕ, ◌&&◌, ◌*◌, ◌+◌, ◌++◌, ◌<◌, ◌==◌, ◌∷◌, ◌≡◌, ◌≢◌}
+use Rattle.std.proofs.Common.{ap, arith, refl, subst, sym, ◌∙◌}
+use Rattle.std.proofs.lemmas.Bool.{eqb-true}
+use Rattle.std.proofs.lemmas.Bool.Decides.{nat_tests}
+use Rattle.std.proofs.lemmas.List.{append-nil}
+use Rattle.std.proofs.lemmas.List.Elements.{All-cons, All-filter, All-head, All-nil, All-push, All-tail, All-weaker}
+use Rattle.sim_clock.specs.declared.key.Key.{Key}
+use Rattle.sim_clock.specs.declared.refusal.Refusal.{Refusal}
+use Rattle.sim_clock.specs.Firsts.{changed, without}
+use Rattle.sqs_message.specs.declared.ids.MessageId.{MessageId}
+use Rattle.sqs_message.specs.declared.ids.Receipt.{Receipt}
+use Rattle.sqs_message.specs.declared.message.Message.{Message}
+use Rattle.sqs_message.specs.declared.row.Detail.TheVariants as details
+use Rattle.sqs_message.specs.declared.row.Row.{Row}
+use Rattle.sqs_message.specs.declared.row.RowReceipt.TheVariants as receipts
+use Rattle.sqs_redrive.specs.declared.answers.Got.{Got}
+use Rattle.sqs_redrive.specs.declared.settings.Policy.{Policy}
+use Rattle.sqs_redrive.specs.declared.settings.QueueSettings.{QueueSettings}
+use Rattle.sqs_redrive.specs.declared.transfers.Load.{Load}
+use Rattle.sqs_redrive.specs.MoveTasks.{is_worn}
+use Rattle.sqs_model.specs.Acts.{all_came_back, came_back, got_row, redrive_by}
+use Rattle.sqs_model.specs.Actor.{Actor}
+use Rattle.sqs_model.specs.Giving.{all_got, all_left, all_received, all_released}
+use Rattle.sqs_model.specs.Queue.{Queue, has_number, id_of, is_in_flight, is_visible, numbered, taken_out, with_change}
+use Rattle.sqs_model.specs.Receive.{got_of, received}
+use Rattle.sqs_model.specs.Return.{leaves, released, released_found, released_when, redrive_of, visible_again}
+use Rattle.sqs_model.specs.Site.{Core, Effect, and_then, number_of}
+use Rattle.sqs_model.proofs.Chosen.{Stand}
+use Rattle.sqs_model.proofs.Counts.{find_all, find_changed, find_picked}
+use Rattle.sqs_model.proofs.Giving.{find_apart}
+use Rattle.sqs_model.proofs.Numbered.{Apart, one_number, other_without}
+use Rattle.sqs_model.proofs.SiteAccounts.{IsFound}
+use Rattle.sqs_laws.specs.Words as words
+use Rattle.sqs_laws.proofs.Moves.{Chain, Changes, Comes, Does, Ends, IsStocked, Keeps, Move, Names, Receives, Redrives, Releases, Stays, Tells, changes, chain_append, chain_keeps, comes, ends, one_move, receives, redrives, releases, stays}
+
+-- what a row tells, each as it computes
+pub tells : (r : Row) (a b c d e : Bool) → words.comes r ≡ a → words.received r ≡ b → words.changed r ≡ c → words.is_release r.kind ≡ d → words.leaves r ≡ e → Tells r a b c d e
+tells r a b c d e ca cb cc cd ce = record { comes_so = ca; received_so = cb; changed_so = cc; released_so = cd; leaves_so = ce }
+
+-- the other messages of a queue, after a change of one
+pub other_changed : (n k : ℕ) (f : Message → Message) → ((m : Message) → (f m).number ≡ m.number) → n ≢ k → (ms : List Message) → numbered n (changed (has_number k) f ms) ≡ numbered n ms
+other_changed n k f same d ms =
+    find_apart (has_number k) (has_number n) f (λ x e. one_number k n x d e) (λ x. ap (λ i. i == n) (same x)) ms
+
+pub own_changed : (n : ℕ) (f : Message → Message) → ((m : Message) → (f m).number ≡ m.number) → (ms : List Message) (m : Message) → numbered n ms ≡ Some m → numbered n (changed (has_number n) f ms) ≡ Some (f m)
+own_changed n f same ms m e =
+    find_changed (has_number n) f ms m e (ap (λ i. i == n) (same m) ∙ find_picked (has_number n) ms m e)
+
+-- the number of a message that is there, or has gone, was given out
+pub found_old : (q : Queue) (n : ℕ) (m : Message) → IsStocked q → numbered n q.records ≡ Some m → n < q.arrivals
+found_old q n m s f =
+    let is : m.number ≡ n = eqb-true m.number n (find_picked (has_number n) q.records m f) in
+    let l : m.number < q.arrivals = find_all (has_number n) (λ x. x.number < q.arrivals) q.records m s.given_out f in
+    omega (arith, is, l)
+
+-- a message that comes too old leaves at once
+pub pushed_out : (n : ℕ) (ms : List Message) (m : Message) → m.number ≡ n → All (λ x. x.number < n) ms → without (has_number n) (ms ++ m ∷ []) ≡ ms
+pushed_out n [] m e h = let is : has_number n m ≡ true = grind (arith, nat_tests, e) in rw is refl
+pushed_out n (x ∷ xs) m e h =
+    let other : has_number n x ≡ false = let l : x.number < n = All-head (λ y. y.number < n) x xs h in grind (arith, nat_tests) in
+    rw other (ap (λ t. x ∷ t) (pushed_out n xs m e (All-tail (λ y. y.number < n) x xs h)))
+
+pub pushed_found : (n : ℕ) (ms : List Message) (m : Message) → m.number ≡ n → All (λ x. x.number < n) ms → numbered n (ms ++ m ∷ []) ≡ Some m
+pushed_found n [] m e h = let is : has_number n m ≡ true = grind (arith, nat_tests, e) in rw is refl
+pushed_found n (x ∷ xs) m e h =
+    let other : has_number n x ≡ false = let l : x.number < n = All-head (λ y. y.number < n) x xs h in grind (arith, nat_tests) in
+    rw other (pushed_found n xs m e (All-tail (λ y. y.number < n) x xs h))
+
+-- what is told of messages that are received, one for each
+pub record IsToldOf (site : ℕ) (m : Message) (g : Got) : Type 0 where
+  pub id : g.id ≡ record { site = site; number = m.number }
+  pub receipt : g.receipt ≡ record { site = site; number = m.number; count = m.receives + 1 }
+  pub origin : g.origin ≡ m.origin
+
+abbrev pub AreToldOf : ℕ → List Message → List Got → Type 0
+AreToldOf site [] [] = Unit {0}
+AreToldOf site (m ∷ ms) (g ∷ gs) = IsToldOf site m g × AreToldOf site ms gs
+AreToldOf site ms gs = ⊥
+
+pub told_got : (q t : Queue) (ms : List Message) → AreToldOf q.site ms (all_got q ms (all_left ms t))
+told_got q t [] = tt
+told_got q t (m ∷ ms) = (record { id = refl; receipt = refl; origin = refl }, told_got q (released t m.number).0 ms)
+
+pub told_kept : (q : Queue) (ms : List Message) → AreToldOf q.site ms (map (λ m. got_of q m None) ms)
+told_kept q [] = tt
+told_kept q (m ∷ ms) = (record { id = refl; receipt = refl; origin = refl }, told_kept q ms)
+
+module _ (key : Key) where
+  -- messages that are received
+  received_stand : (timeout : ℕ) (q : Queue) (m : Message) (ms : List Message) → All (λ x. x.number ≢ m.number) ms → Stand q ms → Stand (with_change q m.number (received key.at timeout)) ms
+  received_stand timeout q m ms d s =
+      λ i e l.
+      let x : Message = get_or ms i e in
+      other_changed x.number m.number (received key.at timeout) (λ y. refl) (d i e l) q.records ∙ s i e l
+
+  one_received : (c : Core) (agent timeout : ℕ) (q : Queue) (m : Message) (g : Got) → c.queue.site ≡ q.site → IsToldOf q.site m g → numbered m.number q.records ≡ Some m → is_visible m ≡ true → Move key q (got_row key c agent g) (with_change q m.number (received key.at timeout))
+  one_received c agent timeout q m g e t s v =
+      record {
+        at_key = refl;
+        at_site = e;
+        asked = tt;
+        does =
+            receives
+            (record {
+              one = m;
+              number = m.number;
+              timeout = timeout;
+              tells = tells _ false true false false false refl refl refl refl refl;
+              names = record { there = s; message = ap (λ i. Some i) t.id; sure = refl };
+              rested = v;
+              receipt = ap (λ r. receipts.Made r) t.receipt;
+              origin = ap (λ o. details.From o) t.origin;
+              after = refl;
+            });
+      }
+
+  pub received_chain :
+      (c : Core) (agent timeout : ℕ) (ms : List Message) (gots : List Got) (q : Queue) → c.queue.site ≡ q.site → AreToldOf q.site ms gots → Apart ms → Stand q ms
+      → All (λ m. is_visible m ≡ true) ms → Chain key q (map (got_row key c agent) gots) (all_received key.at timeout ms q)
+  received_chain c agent timeout [] [] q e t d s v = refl
+  received_chain c agent timeout (m ∷ ms) (g ∷ gs) q e t d s v =
+      let x : Queue = with_change q m.number (received key.at timeout) in
+      (x, one_received c agent timeout q m g e t.0 (All-head (λ y. numbered y.number q.records ≡ Some y) m ms s) (All-head (λ y. is_visible y ≡ true) m ms v),
+        received_chain c agent timeout ms gs x e t.1 d.1 (received_stand timeout q m ms d.0 (All-tail (λ y. numbered y.number q.records ≡ Some y) m ms s)) (All-tail (λ y. is_visible y ≡ true) m ms v))
+  received_chain c agent timeout [] (g ∷ gs) q e t d s v = absurd t
+  received_chain c agent timeout (m ∷ ms) [] q e t d s v = absurd t
+
+  -- a message that comes back
+  back_when :
+      (b : Bool) (o : Option Policy) (q : Queue) (d : Core) (n : ℕ) (m : Message) → d.queue.site ≡ q.site → q.settings.policy ≡ o → d.queue.settings.policy ≡ o → leaves o m ≡ b → numbered n q.records ≡ Some m
+      → Chain key q (came_back key d n (released_when b q n m).1).rows (released_when b q n m).0
+  back_when false o q d n m e p k l f =
+      one_move key q _ _
+      (record {
+        at_key = refl;
+        at_site = e;
+        asked = tt;
+        does =
+            releases
+            (record {
+              one = m;
+              number = n;
+              tells = tells _ false false false true false refl refl refl refl refl;
+              names = record { there = f; message = ap (λ s. Some (record { site = s; number = n })) e; sure = refl };
+              lasts = ap (λ x. leaves x m) p ∙ l;
+              after = refl;
+            });
+      })
+  back_when true None q d n m e p k l f = cc
+  back_when true (Some policy) q d n m e p k l f =
+      let rows : List Row = (redrive_by (Some policy) key d n (redrive_of q m)).rows in
+      subst (λ x. Chain key q (redrive_by x key d n (redrive_of q m)).rows (taken_out q n)) (sym k)
+      (one_move key q _ _
+      (record {
+        at_key = refl;
+        at_site = e;
+        asked = tt;
+        does =
+            redrives
+            (record {
+              one = m;
+              number = n;
+              policy = policy;
+              tells = tells _ false false false false true refl refl refl refl refl;
+              names = record { there = f; message = ap (λ s. Some (record { site = s; number = n })) e; sure = refl };
+              by = p;
+              worn = l;
+              kind = refl;
+              to = refl;
+              after = refl;
+            });
+      }))
+
+  -- what is told of it leaves the site's queue and actors as they are
+  pub record Told (d e : Core) : Type 0 where
+    pub queue : e.queue ≡ d.queue
+    pub actors : e.actors ≡ d.actors
+
+  redriven_told : (d : Core) (n : ℕ) (load : Load) (o : Option Policy) → Told d (redrive_by o key d n load).core
+  redriven_told d n load None = record { queue = refl; actors = refl }
+  redriven_told d n load (Some p) = record { queue = refl; actors = refl }
+
+  pub back_told : (d : Core) (n : ℕ) (o : Option Load) → Told d (came_back key d n o).core
+  back_told d n None = record { queue = refl; actors = refl }
+  back_told d n (Some load) = redriven_told d n load d.queue.settings.policy
+
+  pub one_back :
+      (q : Queue) (d : Core) (n : ℕ) (m : Message) → d.queue.site ≡ q.site → d.queue.settings ≡ q.settings → numbered n q.records ≡ Some m
+      → Chain key q (came_back key d n (released q n).1).rows (released q n).0
+  one_back q d n m e s f =
+      let same : d.queue.settings.policy ≡ q.settings.policy = ap (λ (x : QueueSettings). x.policy) s in
+      let back : Queue × Option Load = released_when (leaves q.settings.policy m) q n m in
+      subst (λ x. Chain key q (came_back key d n (released_found q n x).1).rows (released_found q n x).0) (sym f)
+      (back_when (leaves q.settings.policy m) q.settings.policy q d n m e refl same refl f)
+
+  -- messages that come back one after another, each told with what left
+  abbrev pub AreBack : Queue → List Message → List Got → Type 0
+  AreBack q [] [] = Unit {0}
+  AreBack q (m ∷ ms) (g ∷ gs) = (g.id.number ≡ m.number) × (g.left ≡ (released q m.number).1) × AreBack (released q m.number).0 ms gs
+  AreBack q ms gs = ⊥
+
+  pub back_got : (q t : Queue) (ms : List Message) → AreBack t ms (all_got q ms (all_left ms t))
+  back_got q t [] = tt
+  back_got q t (m ∷ ms) = (refl, refl, back_got q (released t m.number).0 ms)
+
+  -- each of them stands in the queue, whatever has changed of it
+  abbrev pub AreThere : Queue → List Message → Type 0
+  AreThere q ms = All (λ m. IsFound (numbered m.number q.records)) ms
+
+  other_back_when : (b : Bool) (q : Queue) (n k : ℕ) (m : Message) → n ≢ k → numbered n (released_when b q k m).0.records ≡ numbered n q.records
+  other_back_when true q n k m d = other_without k n q.records d
+  other_back_when false q n k m d = other_changed n k visible_again (λ x. refl) d q.records
+
+  other_back_found : (o : Option Message) (q : Queue) (n k : ℕ) → n ≢ k → numbered n (released_found q k o).0.records ≡ numbered n q.records
+  other_back_found None q n k d = refl
+  other_back_found (Some m) q n k d = other_back_when (leaves q.settings.policy m) q n k m d
+
+  frame_when : (b : Bool) (q : Queue) (k : ℕ) (m : Message) → ((released_when b q k m).0.site ≡ q.site) × ((released_when b q k m).0.settings ≡ q.settings)
+  frame_when true q k m = (refl, refl)
+  frame_when false q k m = (refl, refl)
+
+  frame_found : (o : Option Message) (q : Queue) (k : ℕ) → ((released_found q k o).0.site ≡ q.site) × ((released_found q k o).0.settings ≡ q.settings)
+  frame_found None q k = (refl, refl)
+  frame_found (Some m) q k = frame_when (leaves q.settings.policy m) q k m
+
+  back_there : (q : Queue) (m : Message) (ms : List Message) → All (λ x. x.number ≢ m.number) ms → AreThere q ms → AreThere (released q m.number).0 ms
+  back_there q m ms d s =
+      λ i e l.
+      let x : Message = get_or ms i e in
+      subst IsFound (sym (other_back_found (numbered m.number q.records) q x.number m.number (d i e l))) (s i e l)
+
+  found_by : (q : Queue) (d : Core) (n : ℕ) (o : Option Message) → numbered n q.records ≡ o → IsFound o → d.queue.site ≡ q.site → d.queue.settings ≡ q.settings → Chain key q (came_back key d n (released q n).1).rows (released q n).0
+  found_by q d n None f t e s = absurd t
+  found_by q d n (Some m) f t e s = one_back q d n m e s f
+
+  pub back_chain :
+      (ms : List Message) (gots : List Got) (q : Queue) (d : Core) → d.queue.site ≡ q.site → d.queue.settings ≡ q.settings → AreBack q ms gots → Apart ms → AreThere q ms
+      → Chain key q (all_came_back key gots d).rows (all_released ms q)
+  back_chain [] [] q d e s b a t = refl
+  back_chain (m ∷ ms) (g ∷ gs) q d e s b a t =
+      let x : Queue = (released q m.number).0 in
+      let f : Effect = came_back key d g.id.number g.left in
+      let same : Told d f.core = back_told d g.id.number g.left in
+      let frame = frame_found (numbered m.number q.records) q m.number in
+      let one : Chain key q (came_back key d m.number (released q m.number).1).rows x = found_by q d m.number (numbered m.number q.records) refl (All-head (λ y. IsFound (numbered y.number q.records)) m ms t) e s in
+      let here : Chain key q f.rows x = subst (λ n. Chain key q (came_back key d n g.left).rows x) (sym b.0) (subst (λ l. Chain key q (came_back key d m.number l).rows x) (sym b.1) one) in
+      let site : f.core.queue.site ≡ x.site = ap (λ (y : Queue). y.site) same.queue ∙ e ∙ sym frame.0 in
+      let settings : f.core.queue.settings ≡ x.settings = ap (λ (y : Queue). y.settings) same.queue ∙ s ∙ sym frame.1 in
+      chain_append key f.rows (all_came_back key gs f.core).rows q x (all_released ms x) here
+      (back_chain ms gs x f.core site settings b.2 a.1 (back_there q m ms a.0 (All-tail (λ y. IsFound (numbered y.number q.records)) m ms t)))
+  back_chain [] (g ∷ gs) q d e s b a t = absurd b
+  back_chain (m ∷ ms) [] q d e s b a t = absurd b
+
+  pub all_told : (gots : List Got) (d : Core) → Told d (all_came_back key gots d).core
+  all_told [] d = record { queue = refl; actors = refl }
+  all_told (g ∷ gs) d =
+      let f : Effect = came_back key d g.id.number g.left in
+      let one : Told d f.core = back_told d g.id.number g.left in
+      let rest : Told f.core (all_came_back key gs f.core).core = all_told gs f.core in
+      record { queue = rest.queue ∙ one.queue; actors = rest.actors ∙ one.actors }

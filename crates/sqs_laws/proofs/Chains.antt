@@ -1,0 +1,183 @@
+-- The rows of a handling are a chain of single moves.
+use Rattle.std.specs.Prelude.{All, Bool, List, None, Option, Some, [], drop, false, find, get_or, map, ℕ, ◌+◌, ◌++◌, ◌<◌, ◌==◌, ◌∷◌, ◌≡◌, ◌≤◌}
+use Rattle.std.proofs.Common.{ap, arith, refl, subst, sym, ◌∙◌}
+use Rattle.std.proofs.lemmas.List.{append-nil, append_assoc}
+use Rattle.std.proofs.lemmas.List.Elements.{All-weaker}
+use Rattle.sim_clock.specs.declared.key.Class.{Class}
+use Rattle.sim_clock.specs.declared.key.Class.TheVariants as classes
+use Rattle.sim_clock.specs.declared.key.Key.{Key}
+use Rattle.sim_clock.specs.Firsts.{changed, without}
+use Rattle.sqs_message.specs.declared.ids.MessageId.{MessageId}
+use Rattle.sqs_message.specs.declared.ids.Receipt.{Receipt}
+use Rattle.sqs_message.specs.declared.message.Message.{Message}
+use Rattle.sqs_message.specs.declared.row.Row.{Row}
+use Rattle.sqs_message.specs.Ids.{read_receipt}
+use Rattle.sqs_redrive.specs.declared.answers.Got.{Got}
+use Rattle.sqs_redrive.specs.declared.settings.TaskStatus.TheVariants.{Cancelled}
+use Rattle.sqs_redrive.specs.declared.transfers.Outbound.{Outbound}
+use Rattle.sqs_redrive.specs.MoveTasks.{task_started}
+use Rattle.sqs_model.specs.declared.acts.Act.{Act}
+use Rattle.sqs_model.specs.declared.acts.Act.TheVariants as acts
+use Rattle.sqs_model.specs.declared.acts.Answer.{Answer}
+use Rattle.sqs_model.specs.declared.acts.Answer.TheVariants as told_by
+use Rattle.sqs_model.specs.Actor.{Actor, next}
+use Rattle.sqs_model.specs.Acts.{change_made, delete_made, given, send_made, sends, serve_made, with_poll}
+use Rattle.sqs_model.specs.Arrive.{arrived}
+use Rattle.sqs_model.specs.Draw.{drawn_uniform}
+use Rattle.sqs_model.specs.Polls.{without_poll}
+use Rattle.sqs_model.specs.Queue.{Queue, numbered}
+use Rattle.sqs_model.specs.Receive.{give_most}
+use Rattle.sqs_model.specs.Return.{released}
+use Rattle.sqs_model.specs.Site.{Core, Effect, Site, actor_numbered, and_then, has_key, is_actor, no_effect, says, task_numbered, with_actor, with_task}
+use Rattle.sqs_model.specs.Step.{arrival_done, ends_at, handle_expiry, handle_step, handled, is_arrival, release_done}
+use Rattle.sqs_model.specs.Task.{Task}
+use Rattle.sqs_model.proofs.CallWalk.{CallLaw, DueLaw, IsNameless, IsTold, effect_of, handled_goes}
+use Rattle.sqs_model.proofs.Counts.{all_changed, find_all}
+use Rattle.sqs_model.proofs.SiteAccounts.{IsDueThere, IsFound}
+use Rattle.sqs_laws.proofs.Calls.{Told}
+use Rattle.sqs_laws.proofs.Giving.{AreKnown, IsGiven, most_given}
+use Rattle.sqs_laws.proofs.Holding.{HearsOfKnown, IsInformed, ServesKnown, informed_later, known_later, next_acts}
+use Rattle.sqs_laws.proofs.Moves.{Chain, IsStocked, Keeps, Move, chain_append, chain_keeps, one_move}
+use Rattle.sqs_laws.proofs.Rows.{IsChain, arrived_chain, change_chain, delete_chain, expiry_chain, quiet_move, release_chain, sends_chain, serve_chain, step_chain}
+
+-- a site whose queue's messages are in order, and whose actors hold only messages of it
+pub record IsInOrder (c : Core) : Type 0 where
+  pub stocked : IsStocked c.queue
+  pub actors : All (IsInformed c.queue.site c.queue.arrivals) c.actors
+
+module _ (key : Key) (start : Queue) (fine : IsStocked start) where
+  -- after some rows
+  pub record At (rows : List Row) (c : Core) : Type 0 where
+    pub chain : Chain key start rows c.queue
+    pub actors : All (IsInformed c.queue.site c.queue.arrivals) c.actors
+
+  abbrev pub After : List Row → Effect → Type 0
+  After rows e = At (rows ++ e.rows) e.core
+
+  kept : (rows : List Row) (c : Core) → At rows c → Keeps start c.queue
+  kept rows c h = chain_keeps key rows start c.queue h.chain fine
+
+  stocked : (rows : List Row) (c : Core) → At rows c → IsStocked c.queue
+  stocked rows c h = (kept rows c h).stocked
+
+  -- what actors hold, of a queue that follows another
+  informed : (c : Core) (q : Queue) (actors : List Actor) → Keeps c.queue q → actors ≡ c.actors → All (IsInformed c.queue.site c.queue.arrivals) c.actors → All (IsInformed q.site q.arrivals) actors
+  informed c q actors k e h =
+      let later : All (IsInformed c.queue.site q.arrivals) c.actors = All-weaker (IsInformed c.queue.site c.queue.arrivals) (IsInformed c.queue.site q.arrivals) (informed_later c.queue.site c.queue.arrivals q.arrivals k.arrivals) c.actors h in
+      subst (λ others. All (IsInformed q.site q.arrivals) others) (sym e) (subst (λ s. All (IsInformed s q.arrivals) c.actors) k.site later)
+
+  extends : (rows : List Row) (c : Core) (e : Effect) → At rows c → IsChain key c e → After rows e
+  extends rows c e h i =
+      record {
+        chain = chain_append key rows e.rows start c.queue e.core.queue h.chain i.chain;
+        actors = informed c e.core.queue e.core.actors (chain_keeps key e.rows c.queue e.core.queue i.chain (stocked rows c h)) i.actors h.actors;
+      }
+
+  at_rows : (rows more : List Row) (c : Core) → rows ≡ more → At rows c → At more c
+  at_rows rows more c e h = subst (λ r. At r c) e h
+
+  quietly : (rows : List Row) (c d : Core) (r : Row) → IsNameless key c r → At rows c → At rows d → After rows (says d r)
+  quietly rows c d r i h k =
+      record {
+        chain = chain_append key rows (r ∷ []) start d.queue d.queue k.chain (one_move key d.queue r d.queue (quiet_move key c d.queue r (sym (kept rows c h).site ∙ (kept rows d k).site) i));
+        actors = k.actors;
+      }
+
+  abbrev pub Hears : Core → List Got → Type 0
+  Hears c gots = AreKnown c.queue.site c.queue.arrivals gots
+
+  later_heard : (c : Core) (q : Queue) (gots : List Got) → Keeps c.queue q → AreKnown c.queue.site c.queue.arrivals gots → AreKnown q.site q.arrivals gots
+  later_heard c q gots k h = subst (λ s. AreKnown s q.arrivals gots) k.site (known_later c.queue.site c.queue.arrivals q.arrivals k.arrivals gots h)
+
+  givingly : (rows : List Row) (c : Core) (agent max : ℕ) (timeout : Option ℕ) (set : ℕ) → At rows c
+      → After rows (given key c agent timeout (give_most c.queue key.at max timeout set)) × Hears (given key c agent timeout (give_most c.queue key.at max timeout set)).core (give_most c.queue key.at max timeout set).1
+  givingly rows c agent max timeout set h =
+      let x : Queue × List Got = give_most c.queue key.at max timeout set in
+      let e : Effect = given key c agent timeout x in
+      let g : IsGiven key c agent timeout x = most_given key c agent timeout max set (stocked rows c h) in (
+        extends rows c e h (record { chain = g.chain; actors = g.actors }),
+        later_heard c e.core.queue x.1 (chain_keeps key e.rows c.queue e.core.queue g.chain (stocked rows c h)) g.known,
+      )
+
+  told_known : (c : Core) (w : Answer) → IsTold Hears c w → HearsOfKnown c.queue.site c.queue.arrivals w
+  told_known c (told_by.Got gots) h = h
+  told_known c w h = tt
+
+  turning : (rows : List Row) (n : ℕ) (c : Core) (a : Actor) (w : Answer) → actor_numbered n c ≡ Some a → IsTold Hears c w → At rows c
+      → At rows (with_actor c (next a key.at w).1) × IsInformed c.queue.site c.queue.arrivals (next a key.at w).1 × ServesKnown c.queue.site c.queue.arrivals (next a key.at w).0
+  turning rows n c a w e t h =
+      let one = find_all (is_actor n) (IsInformed c.queue.site c.queue.arrivals) c.actors a h.actors e in
+      let x = next_acts c.queue.site c.queue.arrivals key.at a w one (told_known c w t) in
+      let b : Actor = (next a key.at w).1 in (
+        record { chain = h.chain; actors = all_changed (is_actor b.number) (IsInformed c.queue.site c.queue.arrivals) (λ _. b) (λ _ _. x.informed) c.actors h.actors },
+        x.informed,
+        x.serves,
+      )
+
+  polling : (rows : List Row) (a : Actor) (c : Core) (max wait : ℕ) (timeout : Option ℕ) → IsInformed c.queue.site c.queue.arrivals a → At rows c → At rows (with_poll key a c max wait timeout)
+  polling rows a c max wait timeout i h =
+      let b : Actor = record a { polls = a.polls + 1 } in
+      let j : IsInformed c.queue.site c.queue.arrivals b = record { held = i.held; done = i.done; failed = i.failed } in
+      record { chain = h.chain; actors = all_changed (is_actor b.number) (IsInformed c.queue.site c.queue.arrivals) (λ _. b) (λ _ _. j) c.actors h.actors }
+
+  -- the law by calls
+  abbrev chains : CallLaw key
+  chains =
+      record {
+        Past = List Row;
+        At = At;
+        Goes = After;
+        after = λ rows e. rows ++ e.rows;
+        done = λ rows e g. g;
+        joins = λ rows e f g h. at_rows ((rows ++ e.rows) ++ (f e.core).rows) (rows ++ (e.rows ++ (f e.core).rows)) (f e.core).core (append_assoc rows e.rows (f e.core).rows) h;
+        nothing = λ rows c h. at_rows rows (rows ++ []) c (sym (append-nil rows)) h;
+        quiet = quietly;
+        Hears = Hears;
+        hears_none = λ c. tt;
+        gives = givingly;
+        changes = λ rows a c text timeout h. extends rows c _ h (change_chain key a c text timeout (read_receipt text) (stocked rows c h));
+        deletes = λ rows a c text h. extends rows c _ h (delete_chain key a c text (stocked rows c h));
+        sends = λ rows a c body delay group id h. extends rows c _ h (sends_chain key c.queue.settings.kind a c body delay group id (stocked rows c h));
+        draws = λ rows c hosts h. record { chain = h.chain; actors = h.actors };
+        starts = λ rows c n t e h. record { chain = h.chain; actors = h.actors };
+        cancels = λ rows c n t e h. record { chain = h.chain; actors = h.actors };
+        Stands = λ q actors a. IsInformed q.site q.arrivals a;
+        May = λ c x. ServesKnown c.queue.site c.queue.arrivals x;
+        turns = turning;
+        polls = λ rows a c max wait timeout e s h. polling rows a c max wait timeout s h;
+        serves = λ rows a c id r failed o m h. extends rows c _ h (serve_chain key a c id r failed o m.0 m.1);
+      }
+
+  expires_by : (rows : List Row) (c : Core) (o : Option Message) → numbered key.number c.queue.records ≡ o → IsFound o → At rows c → After rows (handle_expiry key c)
+  expires_by rows c None f t h = absurd t
+  expires_by rows c (Some m) f t h = extends rows c (handle_expiry key c) h (expiry_chain key c m f)
+
+  releases_by : (rows : List Row) (c : Core) (o : Option Message) → numbered key.number c.queue.records ≡ o → IsFound o → At rows c → After rows (release_done key c (released c.queue key.number))
+  releases_by rows c None f t h = absurd t
+  releases_by rows c (Some m) f t h = extends rows c (release_done key c (released c.queue key.number)) h (release_chain key c m (stocked rows c h) f)
+
+  abbrev due : DueLaw key chains
+  due =
+      record {
+        IsDue = IsDueThere key;
+        answers = λ rows c h. record { chain = h.chain; actors = h.actors };
+        ends = λ rows c h. record { chain = h.chain; actors = h.actors };
+        expires = λ rows c d h. expires_by rows c (numbered key.number c.queue.records) refl d h;
+        releases = λ rows c d h. releases_by rows c (numbered key.number c.queue.records) refl d h;
+        Comes = λ rows o c. At rows c;
+        absent = λ rows c h. h;
+        arrives = λ rows o c h. extends rows c (arrival_done key o.load c (arrived c.queue key.at o.load)) h (arrived_chain key c o.load (stocked rows c h));
+        samples = λ rows c h. record { chain = h.chain; actors = h.actors };
+        steps = λ rows c t e h. extends rows c (handle_step key c (Some t)) h (step_chain key c t (stocked rows c h));
+      }
+
+-- the rows of a handling at a site in order are a chain, which leaves it in order
+pub record IsMoved (key : Key) (c : Core) (rows : List Row) (d : Core) : Type 0 where
+  pub chain : Chain key c.queue rows d.queue
+  pub order : IsInOrder d
+
+pub handled_moves : (key : Key) (s : Site) → IsInOrder s.core → (is_arrival key.class ≡ false → IsDueThere key key.class s.core) → IsMoved key s.core (handled key s).rows (handled key s).site.core
+handled_moves key s i d =
+    let start : At key s.core.queue i.stocked [] s.core = record { chain = refl; actors = i.actors } in
+    let h : At key s.core.queue i.stocked (handled key s).rows (handled key s).site.core = handled_goes key (chains key s.core.queue i.stocked) (due key s.core.queue i.stocked) [] s (λ e. (d e, start)) (λ _. start) in
+    record { chain = h.chain; order = record { stocked = stocked key s.core.queue i.stocked (handled key s).rows (handled key s).site.core h; actors = h.actors } }

@@ -1,0 +1,162 @@
+-- The rows of a receive are a chain of single moves: all messages are received, and with a timeout of 0 all then come back.
+use Rattle.std.specs.List.{list_any}
+use Rattle.std.specs.Prelude.{All, Bool, List, None, Option, Some, [], cond, false, filter, get_or, if◌then◌else◌, map, min, nat_lt, not, take, true, ℕ, ◌&&◌, ◌%◌, ◌++◌, ◌<◌, ◌==◌, ◌∷◌, ◌≡◌}
+use Rattle.std.proofs.Common.{ap, arith, refl, subst, sym, ◌∙◌}
+use Rattle.std.proofs.lemmas.Bool.{and_parts, eqb-false, eqb-true}
+use Rattle.std.proofs.lemmas.List.Elements.{All-cons, All-head, All-nil, All-tail, All-take}
+use Rattle.sim_clock.specs.declared.key.Key.{Key}
+use Rattle.sqs_message.specs.declared.message.Message.{Message}
+use Rattle.sqs_message.specs.declared.row.Row.{Row}
+use Rattle.sqs_redrive.specs.declared.answers.Got.{Got}
+use Rattle.sqs_redrive.specs.declared.settings.Kind.{Kind}
+use Rattle.sqs_redrive.specs.declared.settings.Kind.TheVariants.{Fifo, Standard}
+use Rattle.sqs_redrive.specs.declared.settings.QueueSettings.{QueueSettings}
+use Rattle.sqs_model.specs.Acts.{all_came_back, given, got_row}
+use Rattle.sqs_model.specs.Available.{available, available_at, firsts, has_host, is_open, open_from}
+use Rattle.sqs_model.specs.Actor.{Actor}
+use Rattle.sqs_model.specs.Giving.{GivesThenReturns, all_got, all_left, all_received, all_released, given_and_kept, given_then_returned}
+use Rattle.sim_clock.specs.Firsts.{kept_when}
+use Rattle.sqs_model.specs.Queue.{Queue, has_number, is_delayed, is_in_flight, is_visible, numbered, room, same_group, with_change}
+use Rattle.sqs_model.specs.Receive.{give, give_most, got_of, received, timeout_of, to_give}
+use Rattle.sqs_model.specs.Site.{Core, Effect, and_then, with_queue}
+use Rattle.sqs_model.proofs.Branches.{either_by}
+use Rattle.sqs_model.proofs.Chosen.{Stand, first_apart, first_stand}
+use Rattle.sqs_model.proofs.Counts.{find_all}
+use Rattle.sqs_model.proofs.Giving.{gives}
+use Rattle.sqs_model.proofs.Grouped.{all_groups}
+use Rattle.sqs_model.proofs.Numbered.{Apart}
+use Rattle.sqs_model.proofs.QueueAccounts.{same_timeout}
+use Rattle.sqs_model.proofs.SiteAccounts.{IsFound}
+use Rattle.sqs_laws.proofs.Calls.{AreThere, AreToldOf, Told, all_told, back_chain, back_got, other_changed, own_changed, received_chain, told_got, told_kept}
+use Rattle.sqs_laws.proofs.Moves.{Chain, IsStocked, Keeps, chain_append, chain_keeps}
+
+-- what a receive tells of messages of a queue: each came there before
+pub record IsKnown (site arrivals : ℕ) (g : Got) : Type 0 where
+  pub here : g.id.site ≡ site
+  pub old : g.id.number < arrivals
+
+abbrev pub AreKnown : ℕ → ℕ → List Got → Type 0
+AreKnown site arrivals [] = Unit {0}
+AreKnown site arrivals (g ∷ gs) = IsKnown site arrivals g × AreKnown site arrivals gs
+
+known_told : (site arrivals : ℕ) (ms : List Message) (gots : List Got) → AreToldOf site ms gots → All (λ m. m.number < arrivals) ms → AreKnown site arrivals gots
+known_told site arrivals [] [] t h = tt
+known_told site arrivals (m ∷ ms) (g ∷ gs) t h = (
+  record { here = ap (λ i. i.site) t.0.id; old = let n : g.id.number ≡ m.number = ap (λ i. i.number) t.0.id in omega (arith, n, All-head (λ x. x.number < arrivals) m ms h) },
+  known_told site arrivals ms gs t.1 (All-tail (λ x. x.number < arrivals) m ms h),
+)
+known_told site arrivals [] (g ∷ gs) t h = absurd t
+known_told site arrivals (m ∷ ms) [] t h = absurd t
+
+-- what may be given is visible
+visible_kept : (b : Bool) (m : Message) (ms : List Message) → (b ≡ true → is_visible m ≡ true) → All (λ x. is_visible x ≡ true) ms → All (λ x. is_visible x ≡ true) (kept_when b m ms)
+visible_kept true m ms v h = All-cons (λ x. is_visible x ≡ true) m ms (v refl) h
+visible_kept false m ms v h = h
+
+visible_open : (all earlier ms : List Message) → All (λ x. is_visible x ≡ true) (open_from all earlier ms)
+visible_open all earlier [] = All-nil (λ x. is_visible x ≡ true)
+visible_open all earlier (m ∷ ms) =
+    let x : Bool = is_visible m in
+    let y : Bool = not (list_any (λ z. same_group m z && is_in_flight z) all) in
+    let z : Bool = not (list_any (λ z. same_group m z && is_delayed z) earlier) in
+    visible_kept (is_open all earlier m) m (open_from all (m ∷ earlier) ms) (λ e. (and_parts x y (and_parts (x && y) z e).0).0) (visible_open all (m ∷ earlier) ms)
+
+visible_filter : (p : Message → Bool) (ms : List Message) → All (λ x. is_visible x ≡ true) (filter (λ m. is_visible m && p m) ms)
+visible_filter p [] = All-nil (λ x. is_visible x ≡ true)
+visible_filter p (m ∷ ms) =
+    elim (is_visible m && p m) as (λ b. (is_visible m && p m) ≡ b → All (λ x. is_visible x ≡ true) (cond b (m ∷ filter (λ m. is_visible m && p m) ms) (filter (λ m. is_visible m && p m) ms))) [
+      | true ↦ λ e. All-cons (λ x. is_visible x ≡ true) m _ (and_parts (is_visible m) (p m) e).0 (visible_filter p ms)
+      | false ↦ λ e. visible_filter p ms
+    ] refl
+
+pub visible_available : (k : Kind) (set : ℕ) (ms : List Message) → All (λ x. is_visible x ≡ true) (available_at k set ms)
+visible_available (Standard hosts sampled) set ms = visible_filter (λ m. has_host set (m.number % hosts)) ms
+visible_available (Fifo content scope) set ms = let opened : List Message = open_from ms [] ms in all_groups (λ x. is_visible x ≡ true) opened (firsts [] opened) (visible_open ms [] ms)
+
+-- what stands in a queue still does after a change of one message
+there_changed_by : (b : Bool) (q : Queue) (n k : ℕ) (f : Message → Message) → ((m : Message) → (f m).number ≡ m.number) → (n == k) ≡ b → (o : Option Message) → numbered n q.records ≡ o → IsFound o → IsFound (numbered n (with_change q k f).records)
+there_changed_by b q n k f same e None s h = absurd h
+there_changed_by true q n k f same e (Some m) s h =
+    let is : k ≡ n = sym (eqb-true n k e) in
+    subst (λ j. IsFound (numbered n (with_change q j f).records)) (sym is) (subst IsFound (sym (own_changed n f same q.records m s)) tt)
+there_changed_by false q n k f same e (Some m) s h = subst IsFound (sym (other_changed n k f same (eqb-false n k e) q.records ∙ s)) tt
+
+there_changed : (q : Queue) (n k : ℕ) (f : Message → Message) → ((m : Message) → (f m).number ≡ m.number) → IsFound (numbered n q.records) → IsFound (numbered n (with_change q k f).records)
+there_changed q n k f same h = there_changed_by (n == k) q n k f same refl (numbered n q.records) refl h
+
+there_received : (now timeout n : ℕ) (ms : List Message) (q : Queue) → IsFound (numbered n q.records) → IsFound (numbered n (all_received now timeout ms q).records)
+there_received now timeout n [] q h = h
+there_received now timeout n (m ∷ ms) q h = there_received now timeout n ms (with_change q m.number (received now timeout)) (there_changed q n m.number (received now timeout) (λ x. refl) h)
+
+module _ (key : Key) (c : Core) (agent : ℕ) (timeout : Option ℕ) where
+  -- the rows of a receive
+  pub record IsGiven (x : Queue × List Got) : Type 0 where
+    pub chain : Chain key c.queue (given key c agent timeout x).rows (given key c agent timeout x).core.queue
+    pub actors : (given key c agent timeout x).core.actors ≡ c.actors
+    pub known : AreKnown c.queue.site c.queue.arrivals x.1
+
+  module _ (ms : List Message) (apart : Apart ms) (stand : Stand c.queue ms) (visible : All (λ m. is_visible m ≡ true) ms) (stocked : IsStocked c.queue) where
+    known_of : (gots : List Got) → AreToldOf c.queue.site ms gots → AreKnown c.queue.site c.queue.arrivals gots
+    known_of gots t =
+        known_told c.queue.site c.queue.arrivals ms gots t
+        (λ i e l. let m : Message = get_or ms i e in find_all (has_number m.number) (λ x. x.number < c.queue.arrivals) c.queue.records m stocked.given_out (stand i e l))
+
+    -- with a timeout none comes back
+    given_kept : (b : Bool) → (gots : List Got) → AreToldOf c.queue.site ms gots → (t : ℕ) → (timeout_of (all_received key.at t ms c.queue) timeout == 0) ≡ false → IsGiven (all_received key.at t ms c.queue, gots)
+    given_kept b gots told t e =
+        let q : Queue = all_received key.at t ms c.queue in
+        let f : Effect = record { core = with_queue c q; rows = map (got_row key c agent) gots; sent = [] } in
+        let chain : Chain key c.queue f.rows q = received_chain key c agent t ms gots c.queue refl told apart stand visible in
+        let same : f ≡ given key c agent timeout (q, gots) = sym (ap (λ z. if z then and_then f (all_came_back key gots) else f) e) in
+        record {
+          chain = subst (λ g. Chain key c.queue g.rows g.core.queue) same chain;
+          actors = subst (λ (g : Effect). g.core.actors ≡ c.actors) same refl;
+          known = known_of gots told;
+        }
+
+    -- with a timeout of 0 all do
+    given_back : (timeout_of c.queue timeout == 0) ≡ true → IsGiven (given_then_returned key.at ms c.queue)
+    given_back e =
+        let taken : Queue = all_received key.at 0 ms c.queue in
+        let q : Queue = all_released ms taken in
+        let gots : List Got = all_got c.queue ms (all_left ms taken) in
+        let d : Core = with_queue c q in
+        let f : Effect = record { core = d; rows = map (got_row key c agent) gots; sent = [] } in
+        let told : AreToldOf c.queue.site ms gots = told_got c.queue taken ms in
+        let first : Chain key c.queue f.rows taken = received_chain key c agent 0 ms gots c.queue refl told apart stand visible in
+        let kept : Keeps c.queue taken = chain_keeps key f.rows c.queue taken first stocked in
+        let there : AreThere key taken ms = λ i l h. let m : Message = get_or ms i l in there_received key.at 0 m.number ms c.queue (subst IsFound (sym (stand i l h)) tt) in
+        let back : (e : Core) → e.queue.site ≡ taken.site → e.queue.settings ≡ taken.settings → Chain key taken (all_came_back key gots e).rows q = λ e s t. back_chain key ms gots taken e s t (back_got key c.queue taken ms) apart there in
+        let from_old : Keeps taken q = chain_keeps key (all_came_back key gots c).rows taken q (back c kept.site kept.settings) kept.stocked in
+        let second : Chain key taken (all_came_back key gots d).rows q = back d (sym from_old.site) (sym from_old.settings) in
+        let after : Told key d (all_came_back key gots d).core = all_told key gots d in
+        let whole : Effect = and_then f (all_came_back key gots) in
+        let zero : (timeout_of q timeout == 0) ≡ true = ap (λ n. n == 0) (same_timeout c.queue q timeout (sym (kept.settings ∙ from_old.settings))) ∙ e in
+        let same : whole ≡ given key c agent timeout (q, gots) = sym (ap (λ z. if z then whole else f) zero) in
+        let chain : Chain key c.queue whole.rows whole.core.queue = subst (Chain key c.queue whole.rows) (sym after.queue) (chain_append key f.rows (all_came_back key gots d).rows c.queue taken q first second) in
+        record {
+          chain = subst (λ g. Chain key c.queue g.rows g.core.queue) same chain;
+          actors = subst (λ (g : Effect). g.core.actors ≡ c.actors) same after.actors;
+          known = known_of gots told;
+        }
+
+    give_by : (b : Bool) → (timeout_of c.queue timeout == 0) ≡ b → IsGiven (give key.at (timeout_of c.queue timeout) ms c.queue)
+    give_by true e =
+        let zero : timeout_of c.queue timeout ≡ 0 = eqb-true (timeout_of c.queue timeout) 0 e in
+        subst IsGiven (sym (ap (λ t. give key.at t ms c.queue) zero ∙ (gives key.at c.queue).at_once ms apart)) (given_back e)
+    give_by false e =
+        let t : ℕ = timeout_of c.queue timeout in
+        let gots : List Got = map (λ m. got_of c.queue m None) ms in
+        let told : AreToldOf c.queue.site ms gots = told_kept c.queue ms in
+        let more : 0 < t = grind (arith, eqb-false t 0 e) in
+        let chain : Chain key c.queue (map (got_row key c agent) gots) (all_received key.at t ms c.queue) = received_chain key c agent t ms gots c.queue refl told apart stand visible in
+        let kept : Keeps c.queue (all_received key.at t ms c.queue) = chain_keeps key _ c.queue _ chain stocked in
+        subst IsGiven (sym ((gives key.at c.queue).later t ms more))
+        (given_kept false gots told t (ap (λ n. n == 0) (same_timeout c.queue (all_received key.at t ms c.queue) timeout (sym kept.settings)) ∙ e))
+
+  pub most_given : (max set : ℕ) → IsStocked c.queue → IsGiven (give_most c.queue key.at max timeout set)
+  most_given max set s =
+      let most : ℕ = min max (room c.queue) in
+      give_by (to_give c.queue max set) (first_apart c.queue set most s.ordered) (first_stand c.queue set most s.ordered)
+      (All-take (λ m. is_visible m ≡ true) most (available c.queue set) (visible_available c.queue.settings.kind set c.queue.records)) s
+      (timeout_of c.queue timeout == 0) refl

@@ -1,0 +1,152 @@
+-- An actor holds only messages that it was told of, and serves no other.
+use Rattle.std.specs.Prelude.{Bool, List, None, Option, Some, [], drop, false, min, nat_le, nat_lt, true, ℕ, ◌+◌, ◌++◌, ◌<◌, ◌∷◌, ◌≡◌, ◌≤◌}
+use Rattle.std.proofs.Common.{arith, refl}
+use Rattle.sqs_message.specs.declared.calls.Call.{Call}
+use Rattle.sqs_message.specs.declared.calls.Call.TheVariants as calls
+use Rattle.sqs_message.specs.declared.calls.ScriptCall.{ScriptCall}
+use Rattle.sqs_redrive.specs.declared.answers.Got.{Got}
+use Rattle.sqs_model.specs.declared.acts.Act.{Act}
+use Rattle.sqs_model.specs.declared.acts.Act.TheVariants as acts
+use Rattle.sqs_model.specs.declared.acts.Answer.{Answer}
+use Rattle.sqs_model.specs.declared.acts.Answer.TheVariants as told_by
+use Rattle.sqs_model.specs.declared.agents.ConsumerSettings.{ConsumerSettings}
+use Rattle.sqs_model.specs.declared.agents.Forwarding.{Forwarding}
+use Rattle.sqs_model.specs.declared.agents.ProducerSettings.{ProducerSettings}
+use Rattle.sqs_model.specs.declared.agents.Role.{Role}
+use Rattle.sqs_model.specs.declared.agents.Role.TheVariants.{Consumer, Producer, Script}
+use Rattle.sqs_model.specs.Actor.{Actor, Asked, Beat, Ended, Failed, LastAct, Served, act_of, after_failure, consumer_got, consumer_told, consumer_wake, ends_drawn, ends_service, ends_well, fails, goes_on, woken, has_come, has_failed, next, next_as, producer_sent, producer_wake, rests, script_wake, served_all, serves, serving, settles}
+use Rattle.sqs_model.specs.Draw.{Draws, drawn_chance}
+use Rattle.sqs_model.proofs.Branches.{either}
+use Rattle.sqs_laws.proofs.Giving.{AreKnown, IsKnown}
+
+module _ (site arrivals : ℕ) where
+  -- messages of which an actor was told
+  pub record IsInformed (a : Actor) : Type 0 where
+    pub held : AreKnown site arrivals a.held
+    pub done : AreKnown site arrivals a.done
+    pub failed : AreKnown site arrivals a.failed
+
+  -- an act that serves no other message
+  abbrev pub ServesKnown : Act → Type 0
+  ServesKnown (acts.Serve id receipt failed forward) = (id.site ≡ site) × (id.number < arrivals)
+  ServesKnown act = Unit {0}
+
+  abbrev pub HearsOfKnown : Answer → Type 0
+  HearsOfKnown (told_by.Got gots) = AreKnown site arrivals gots
+  HearsOfKnown answer = Unit {0}
+
+  pub record Acts (x : Act × Actor) : Type 0 where
+    pub informed : IsInformed x.1
+    pub serves : ServesKnown x.0
+
+  known_append : (gs hs : List Got) → AreKnown site arrivals gs → AreKnown site arrivals hs → AreKnown site arrivals (gs ++ hs)
+  known_append [] hs k l = l
+  known_append (g ∷ gs) hs k l = (k.0, known_append gs hs k.1 l)
+
+  module _ (now : ℕ) where
+    idles : (a : Actor) → IsInformed a → Acts (acts.Nothing, a)
+    idles a h = record { informed = h; serves = tt }
+
+    with_lists : (a : Actor) → AreKnown site arrivals a.held → AreKnown site arrivals a.done → AreKnown site arrivals a.failed → IsInformed a
+    with_lists a h d f = record { held = h; done = d; failed = f }
+
+    call_serves : (c : Call) → ServesKnown (act_of c)
+    call_serves (calls.Send body delay group id) = tt
+    call_serves (calls.Receive max wait timeout) = tt
+    call_serves (calls.Delete receipt) = tt
+    call_serves (calls.Change receipt timeout) = tt
+    call_serves (calls.Start task) = tt
+    call_serves (calls.Cancel task) = tt
+
+    script_acts : (a : Actor) (cs : List ScriptCall) → IsInformed a → Acts (script_wake a cs)
+    script_acts a [] h = record { informed = with_lists _ h.held h.done h.failed; serves = tt }
+    script_acts a (c ∷ cs) h = record { informed = with_lists _ h.held h.done h.failed; serves = call_serves c.call }
+
+    producer_acts : (a : Actor) (p : ProducerSettings) → IsInformed a → Acts (producer_wake a p now)
+    producer_acts a p h =
+        either Acts (has_come p.stop now) _ _ (record { informed = with_lists _ h.held h.done h.failed; serves = tt }) (record { informed = with_lists _ h.held h.done h.failed; serves = tt })
+
+    sent_acts : (a : Actor) (p : ProducerSettings) → IsInformed a → Acts (producer_sent a p now)
+    sent_acts a p h = either Acts (nat_lt a.wakes p.count) _ _ (record { informed = with_lists _ h.held h.done h.failed; serves = tt }) (idles a h)
+
+    serves_acts : (a : Actor) (g : Got) (f : Option Forwarding) → IsInformed a → IsKnown site arrivals g → Acts (serves a now g f)
+    serves_acts a g None h k = record { informed = h; serves = (k.here, k.old) }
+    serves_acts a g (Some f) h k = record { informed = with_lists _ h.held h.done h.failed; serves = (k.here, k.old) }
+
+    settles_acts : (a : Actor) (c : ConsumerSettings) (g : Got) (gs : List Got) → IsInformed a → IsKnown site arrivals g → AreKnown site arrivals gs → Acts (settles a c now g gs)
+    settles_acts a c g gs h k l = serves_acts (record a { done = gs; last_act = Served g.receipt }) g c.forward (with_lists _ h.held l h.failed) k
+
+    all_acts : (a : Actor) (c : ConsumerSettings) (gs : List Got) → IsInformed a → AreKnown site arrivals gs → Acts (served_all a c now gs)
+    all_acts a c [] h k = idles a h
+    all_acts a c (g ∷ gs) h k = settles_acts a c g gs h k.0 k.1
+
+    well_acts : (whole : Bool) (a : Actor) (c : ConsumerSettings) (g : Got) (gs : List Got) → IsInformed a → IsKnown site arrivals g → Acts (ends_well whole a c now g gs)
+    well_acts false a c g gs h k = serves_acts (record a { last_act = Served g.receipt }) g c.forward (with_lists _ h.held h.done h.failed) k
+    well_acts true a c g [] h k = all_acts a c (a.done ++ g ∷ []) h (known_append a.done (g ∷ []) h.done (k, tt))
+    well_acts true a c g (x ∷ xs) h k = record { informed = with_lists _ h.held (known_append a.done (g ∷ []) h.done (k, tt)) h.failed; serves = (k.here, k.old) }
+
+    failure_informed : (timeouts : List ℕ) (whole : Bool) (c : ConsumerSettings) (a : Actor) (g : Got) → c.whole ≡ whole → IsInformed a → IsKnown site arrivals g → IsInformed (record (after_failure timeouts c a g) { last_act = Failed })
+    failure_informed [] false c a g e h k = rw e (with_lists _ h.held h.done h.failed)
+    failure_informed [] true c a g e h k = rw e (with_lists _ tt tt h.failed)
+    failure_informed (t ∷ ts) false c a g e h k = rw e (with_lists _ h.held tt (known_append a.failed (a.done ++ g ∷ []) h.failed (known_append a.done (g ∷ []) h.done (k, tt))))
+    failure_informed (t ∷ ts) true c a g e h k = rw e (with_lists _ tt tt (known_append a.failed (a.done ++ g ∷ a.held) h.failed (known_append a.done (g ∷ a.held) h.done (k, h.held))))
+
+    ends_acts : (a : Actor) (c : ConsumerSettings) (g : Got) (failed : Bool) → IsInformed a → IsKnown site arrivals g → Acts (ends_service a c now g failed)
+    ends_acts a c g true h k = record { informed = failure_informed c.backoff c.whole c a g refl h k; serves = (k.here, k.old) }
+    ends_acts a c g false h k = well_acts c.whole a c g a.held h k
+
+    drawn_acts : (a : Actor) (c : ConsumerSettings) (g : Got) (x : Bool × Draws) → IsInformed a → IsKnown site arrivals g → Acts (ends_drawn a c now g x)
+    drawn_acts a c g (by_chance, draws) h k = ends_acts (record a { draws = draws }) c g (fails c now g by_chance) (with_lists _ h.held h.done h.failed) k
+
+    rests_acts : (a : Actor) (c : ConsumerSettings) (failed done : List Got) → IsInformed a → AreKnown site arrivals failed → AreKnown site arrivals done → Acts (rests a c now failed done)
+    rests_acts a c (g ∷ gs) done h f d = record { informed = with_lists _ h.held h.done f.1; serves = tt }
+    rests_acts a c [] (g ∷ gs) h f d = settles_acts a c g gs h d.0 d.1
+    rests_acts a c [] [] h f d = either Acts (has_come c.stop now) _ _ (idles a h) (record { informed = with_lists _ h.held h.done h.failed; serves = tt })
+
+    wake_acts : (a : Actor) (c : ConsumerSettings) (gs : List Got) → IsInformed a → AreKnown site arrivals gs → Acts (consumer_wake a c now gs)
+    wake_acts a c [] h k = rests_acts a c a.failed a.done h h.failed h.done
+    wake_acts a c (g ∷ gs) h k =
+        either Acts (goes_on c.heartbeat a.ends now) _ _ (record { informed = with_lists _ h.held h.done h.failed; serves = tt })
+        (drawn_acts (record a { held = gs }) c g (drawn_chance c.fail_permille a.draws) (with_lists _ k.1 h.done h.failed) k.0)
+
+    serving_acts : (a : Actor) (c : ConsumerSettings) (gs : List Got) → IsInformed a → AreKnown site arrivals gs → Acts (acts.Nothing, serving a c now gs)
+    serving_acts a c [] h k = record { informed = with_lists _ tt h.done h.failed; serves = tt }
+    serving_acts a c (g ∷ gs) h k = record { informed = with_lists _ k h.done h.failed; serves = tt }
+
+    got_acts : (a : Actor) (c : ConsumerSettings) (gs : List Got) → IsInformed a → AreKnown site arrivals gs → Acts (consumer_got a c now gs)
+    got_acts a c [] h k = record { informed = with_lists _ h.held h.done h.failed; serves = tt }
+    got_acts a c (g ∷ gs) h k = serving_acts (record a { done = []; failed = [] }) c (g ∷ gs) (with_lists _ h.held tt tt) k
+
+    failed_acts : (a : Actor) (c : ConsumerSettings) (gs : List Got) → IsInformed a → AreKnown site arrivals gs → Acts (has_failed a c now gs)
+    failed_acts a c [] h k = serving_acts a c a.held h h.held
+    failed_acts a c (g ∷ gs) h k = record { informed = with_lists _ h.held h.done k.1; serves = tt }
+
+    told_acts : (a : Actor) (c : ConsumerSettings) (last : LastAct) → IsInformed a → Acts (consumer_told a c now last)
+    told_acts a c Asked h = record { informed = with_lists _ h.held h.done h.failed; serves = tt }
+    told_acts a c (Served receipt) h = record { informed = with_lists _ h.held h.done h.failed; serves = tt }
+    told_acts a c Ended h = serving_acts a c a.held h h.held
+    told_acts a c Failed h = failed_acts a c a.failed h h.failed
+    told_acts a c Beat h = record { informed = with_lists _ h.held h.done h.failed; serves = tt }
+
+    as_acts : (r : Role) (a : Actor) (w : Answer) → IsInformed a → HearsOfKnown w → Acts (next_as r a now w)
+    as_acts (Script script) a told_by.Wake h k = script_acts a (drop a.wakes script) h
+    as_acts (Script script) a w h k = idles a h
+    as_acts (Producer p) a told_by.Wake h k = producer_acts a p h
+    as_acts (Producer p) a told_by.Other h k = sent_acts a p h
+    as_acts (Producer p) a w h k = idles a h
+    as_acts (Consumer c) a told_by.Wake h k = wake_acts (woken a) c a.held (with_lists _ h.held h.done h.failed) h.held
+    as_acts (Consumer c) a (told_by.Got gots) h k = got_acts a c gots h k
+    as_acts (Consumer c) a told_by.Waiting h k = idles a h
+    as_acts (Consumer c) a told_by.Other h k = told_acts a c a.last_act h
+
+    pub next_acts : (a : Actor) (w : Answer) → IsInformed a → HearsOfKnown w → Acts (next a now w)
+    unfolding next
+    next_acts a w h k = as_acts a.settings.role a w h k
+
+-- what was known stays known, as messages come
+pub known_later : (site m n : ℕ) → m ≤ n → (gs : List Got) → AreKnown site m gs → AreKnown site n gs
+known_later site m n l [] k = tt
+known_later site m n l (g ∷ gs) k = (record { here = k.0.here; old = let o : g.id.number < m = k.0.old in omega arith }, known_later site m n l gs k.1)
+
+pub informed_later : (site m n : ℕ) → m ≤ n → (a : Actor) → IsInformed site m a → IsInformed site n a
+informed_later site m n l a h = record { held = known_later site m n l a.held h.held; done = known_later site m n l a.done h.done; failed = known_later site m n l a.failed h.failed }

@@ -1,0 +1,13 @@
+pub mod Moves
+pub mod Calls
+pub mod Giving
+pub mod Rows
+pub mod Holding
+pub mod Chains
+pub mod Worlds
+pub mod Said
+pub mod End
+pub mod Each
+pub mod Letters
+pub mod Order
+pub mod Rules

@@ -1,0 +1,254 @@
+-- What a row of a handling did to its queue.
+use Rattle.std.specs.Prelude.{All, Bool, Err, List, None, Ok, Option, Result, Some, [], false, suc, true, ℕ, ◌+◌, ◌++◌, ◌<◌, ◌∷◌, ◌≡◌, ◌≤◌}
+use Rattle.std.proofs.Common.{ap, arith, refl, subst, sym, ◌∙◌}
+use Rattle.std.proofs.lemmas.List.Elements.{All-push, All-weaker}
+use Rattle.sim_clock.specs.declared.key.Key.{Key}
+use Rattle.sim_clock.specs.declared.refusal.Refusal.{Refusal}
+use Rattle.sim_clock.specs.declared.refusal.Refusal.TheVariants as refusals
+use Rattle.sim_clock.specs.Firsts.{changed, without}
+use Rattle.sqs_message.specs.declared.ids.MessageId.{MessageId}
+use Rattle.sqs_message.specs.declared.ids.Receipt.{Receipt}
+use Rattle.sqs_message.specs.declared.message.Message.{Message}
+use Rattle.sqs_message.specs.declared.row.Detail.TheVariants as details
+use Rattle.sqs_message.specs.declared.row.Row.{Row}
+use Rattle.sqs_message.specs.declared.row.RowAnswer.{RowAnswer}
+use Rattle.sqs_message.specs.declared.row.RowAnswer.TheVariants as answers
+use Rattle.sqs_message.specs.declared.row.RowKind.{RowKind}
+use Rattle.sqs_message.specs.declared.row.RowKind.TheVariants as kinds
+use Rattle.sqs_message.specs.declared.row.RowReceipt.TheVariants as receipts
+use Rattle.sqs_message.specs.Ids.{read_receipt}
+use Rattle.sqs_redrive.specs.declared.answers.Deleted.{Deleted}
+use Rattle.sqs_redrive.specs.declared.answers.Deleted.TheVariants.{Gone, Kept, Removed}
+use Rattle.sqs_redrive.specs.declared.settings.Policy.{Policy}
+use Rattle.sqs_redrive.specs.MoveTasks.{is_worn}
+use Rattle.sqs_model.specs.Queue.{Entry, Queue, has_number, id_of, is_in_flight, is_visible, numbered, taken_out, with_change, with_records}
+use Rattle.sqs_model.specs.Calls.{delete, in_flight_until, with_message}
+use Rattle.sqs_model.specs.Receive.{received}
+use Rattle.sqs_model.specs.Return.{leaves, visible_again}
+use Rattle.sqs_model.proofs.Counts.{all_changed, all_without, ascends_changed, ascends_push, ascends_without}
+use Rattle.sqs_model.proofs.Numbered.{Climbs}
+use Rattle.sqs_model.proofs.SiteAccounts.{IsFound}
+use Rattle.sqs_laws.specs.Words as words
+
+-- what a row tells of a message: whether it comes, is received, is changed, is released or leaves
+pub record Tells (r : Row) (comes received changed released leaves : Bool) : Type 0 where
+  pub comes_so : words.comes r ≡ comes
+  pub received_so : words.received r ≡ received
+  pub changed_so : words.changed r ≡ changed
+  pub released_so : words.is_release r.kind ≡ released
+  pub leaves_so : words.leaves r ≡ leaves
+
+-- the answer that the row of a delete tells
+abbrev pub deleted_answer : Result Deleted Refusal → RowAnswer
+deleted_answer (Ok (Removed age)) = answers.Deleted
+deleted_answer (Ok Kept) = answers.Kept
+deleted_answer (Ok Gone) = answers.Gone
+deleted_answer (Err e) = answers.Refused e
+
+-- a delete by a text, which may be no receipt
+pub record AsksDelete (key : Key) (q : Queue) (r : Row) : Type 0 where
+  pub text : List ℕ
+  pub given : r.receipt ≡ receipts.Given text
+  pub by : (x : Receipt) → read_receipt text ≡ Some x → r.answer ≡ deleted_answer (delete q key.at x).0
+  pub none : read_receipt text ≡ None → r.answer ≡ answers.Refused refusals.ReceiptHandleIsInvalid
+
+-- what a row of a kind asks of its queue
+abbrev pub Asks : Key → Queue → Row → RowKind → Type 0
+Asks key q r kinds.Delete = AsksDelete key q r
+Asks key q r kind = Unit {0}
+
+module _ (key : Key) (q : Queue) (r : Row) (p : Queue) where
+  -- a row that tells of no message that came, changed or left; it may name one that came before
+  pub record Stays : Type 0 where
+    pub same : q ≡ p
+    pub tells : Tells r false false false false false
+    pub old : (m : MessageId) → r.message ≡ Some m → (m.site ≡ q.site) × (m.number < q.arrivals)
+    pub follows : (m : MessageId) → r.message ≡ Some m → words.may_follow r ≡ false → IsFound (numbered m.number q.records)
+    pub gone : words.is_gone r.answer ≡ true → (m : MessageId) → r.message ≡ Some m → numbered m.number q.records ≡ None
+
+  -- a message that comes, with the next number; deduplication entries may come and go with it
+  pub record Comes : Type 0 where
+    pub one : Message
+    pub entries : List Entry
+    pub tells : Tells r true false false false false
+    pub message : r.message ≡ Some (id_of q q.arrivals)
+    pub number : one.number ≡ q.arrivals
+    pub fresh : one.receives ≡ 0
+    pub rests : is_in_flight one ≡ false
+    pub old : All (λ e. e.number < q.arrivals + 1) entries
+    pub after : with_message (record q { entries = entries }) one ≡ p
+
+  -- a message of the queue that a row names
+  pub record Names (one : Message) (number : ℕ) : Type 0 where
+    pub there : numbered number q.records ≡ Some one
+    pub message : r.message ≡ Some (id_of q number)
+    pub sure : words.is_gone r.answer ≡ false
+
+  -- it is received
+  pub record Receives : Type 0 where
+    pub one : Message
+    pub number : ℕ
+    pub timeout : ℕ
+    pub tells : Tells r false true false false false
+    pub names : Names one number
+    pub rested : is_visible one ≡ true
+    pub receipt : r.receipt ≡ receipts.Made (record { site = q.site; number = number; count = one.receives + 1 })
+    pub origin : r.detail ≡ details.From one.origin
+    pub after : with_change q number (received key.at timeout) ≡ p
+
+  -- its timeout is changed
+  pub record Changes : Type 0 where
+    pub one : Message
+    pub number : ℕ
+    pub end : ℕ
+    pub tells : Tells r false false true false false
+    pub names : Names one number
+    pub flies : is_in_flight one ≡ true
+    pub after : with_change q number (in_flight_until end) ≡ p
+
+  -- it may be received again
+  pub record Releases : Type 0 where
+    pub one : Message
+    pub number : ℕ
+    pub tells : Tells r false false false true false
+    pub names : Names one number
+    pub lasts : leaves q.settings.policy one ≡ false
+    pub after : with_change q number visible_again ≡ p
+
+  -- it leaves for the dead-letter queue of its queue
+  pub record Redrives : Type 0 where
+    pub one : Message
+    pub number : ℕ
+    pub policy : Policy
+    pub tells : Tells r false false false false true
+    pub names : Names one number
+    pub by : q.settings.policy ≡ Some policy
+    pub worn : is_worn policy one ≡ true
+    pub kind : words.is_redrive r.kind ≡ true
+    pub to : r.detail ≡ details.Queue policy.dead_letter
+    pub after : taken_out q number ≡ p
+
+  -- it is deleted, expires or is moved
+  pub record Ends : Type 0 where
+    pub one : Message
+    pub number : ℕ
+    pub tells : Tells r false false false false true
+    pub names : Names one number
+    pub kind : words.is_redrive r.kind ≡ false
+    pub after : taken_out q number ≡ p
+
+  pub data Does : Type 0 where
+    stays : Stays → Does
+    comes : Comes → Does
+    receives : Receives → Does
+    changes : Changes → Does
+    releases : Releases → Does
+    redrives : Redrives → Does
+    ends : Ends → Does
+
+  -- a row of this handling at this queue
+  pub record Move : Type 0 where
+    pub at_key : r.key ≡ key
+    pub at_site : r.queue ≡ q.site
+    pub asked : Asks key q r r.kind
+    pub does : Does
+
+-- rows one after another
+abbrev pub Chain : Key → Queue → List Row → Queue → Type 0
+Chain key q [] p = q ≡ p
+Chain key q (r ∷ rs) p = (x : Queue) × Move key q r x × Chain key x rs p
+
+-- the messages of a queue are in the order of their numbers, and these and those of its entries were all given out
+pub record IsStocked (q : Queue) : Type 0 where
+  pub ordered : Climbs 0 q.records
+  pub given_out : All (λ m. m.number < q.arrivals) q.records
+  pub entries : All (λ e. e.number < q.arrivals) q.entries
+
+-- what a row leaves of its queue as it was
+pub record Keeps (q p : Queue) : Type 0 where
+  pub site : q.site ≡ p.site
+  pub settings : q.settings ≡ p.settings
+  pub arrivals : q.arrivals ≤ p.arrivals
+  pub stocked : IsStocked p
+
+keeps_same : (q p : Queue) → q ≡ p → IsStocked q → Keeps q p
+keeps_same q p e s = subst (Keeps q) e (record { site = refl; settings = refl; arrivals = omega arith; stocked = s })
+
+-- a change of a message that leaves its number
+changed_keeps : (q : Queue) (n : ℕ) (f : Message → Message) → ((m : Message) → (f m).number ≡ m.number) → IsStocked q → Keeps q (with_change q n f)
+changed_keeps q n f same s =
+    record {
+      site = refl;
+      settings = refl;
+      arrivals = omega arith;
+      stocked = record {
+        ordered = ascends_changed (λ x. x.number) (has_number n) f (λ m _. same m) 0 q.records s.ordered;
+        given_out = all_changed (has_number n) (λ m. m.number < q.arrivals) f (λ m l. rw (same m) l) q.records s.given_out;
+        entries = s.entries;
+      };
+    }
+
+taken_keeps : (q : Queue) (n : ℕ) → IsStocked q → Keeps q (taken_out q n)
+taken_keeps q n s =
+    record {
+      site = refl;
+      settings = refl;
+      arrivals = omega arith;
+      stocked = record {
+        ordered = ascends_without (λ x. x.number) (has_number n) 0 q.records s.ordered;
+        given_out = all_without (has_number n) (λ m. m.number < q.arrivals) q.records s.given_out;
+        entries = s.entries;
+      };
+    }
+
+pushed_keeps : (q : Queue) (m : Message) (entries : List Entry) → m.number ≡ q.arrivals → All (λ e. e.number < q.arrivals + 1) entries → IsStocked q → Keeps q (with_message (record q { entries = entries }) m)
+pushed_keeps q m entries e o s =
+    record {
+      site = refl;
+      settings = refl;
+      arrivals = omega arith;
+      stocked = record {
+        ordered = ascends_push (λ x. x.number) 0 q.records m s.ordered (omega arith) (All-weaker (λ x. x.number < q.arrivals) (λ x. x.number < m.number) (λ x l. omega (arith, l, e)) q.records s.given_out);
+        given_out = All-push (λ x. x.number < q.arrivals + 1) q.records m (All-weaker (λ x. x.number < q.arrivals) (λ x. x.number < q.arrivals + 1) (λ x l. omega (arith, l)) q.records s.given_out) (omega (arith, e));
+        entries = o;
+      };
+    }
+
+pub does_keep : (key : Key) (q : Queue) (r : Row) (p : Queue) → Does key q r p → IsStocked q → Keeps q p
+does_keep key q r p (stays d) s = keeps_same q p d.same s
+does_keep key q r p (comes d) s = subst (Keeps q) d.after (pushed_keeps q d.one d.entries d.number d.old s)
+does_keep key q r p (receives d) s = subst (Keeps q) d.after (changed_keeps q d.number (received key.at d.timeout) (λ m. refl) s)
+does_keep key q r p (changes d) s = subst (Keeps q) d.after (changed_keeps q d.number (in_flight_until d.end) (λ m. refl) s)
+does_keep key q r p (releases d) s = subst (Keeps q) d.after (changed_keeps q d.number visible_again (λ m. refl) s)
+does_keep key q r p (redrives d) s = subst (Keeps q) d.after (taken_keeps q d.number s)
+does_keep key q r p (ends d) s = subst (Keeps q) d.after (taken_keeps q d.number s)
+
+pub chain_keeps : (key : Key) (rs : List Row) (q p : Queue) → Chain key q rs p → IsStocked q → Keeps q p
+chain_keeps key [] q p c s = keeps_same q p c s
+chain_keeps key (r ∷ rs) q p (x, m, c) s =
+    let one : Keeps q x = does_keep key q r x m.does s in
+    let rest : Keeps x p = chain_keeps key rs x p c one.stocked in
+    record { site = one.site ∙ rest.site; settings = one.settings ∙ rest.settings; arrivals = omega (arith, one.arrivals, rest.arrivals); stocked = rest.stocked }
+
+pub chain_append : (key : Key) (rs ss : List Row) (q x p : Queue) → Chain key q rs x → Chain key x ss p → Chain key q (rs ++ ss) p
+chain_append key [] ss q x p c d = subst (λ y. Chain key y ss p) (sym c) d
+chain_append key (r ∷ rs) ss q x p (y, m, c) d = (y, m, chain_append key rs ss y x p c d)
+
+pub one_move : (key : Key) (q : Queue) (r : Row) (p : Queue) → Move key q r p → Chain key q (r ∷ []) p
+one_move key q r p m = (p, m, refl)
+
+-- a row names a message of its own queue alone
+own_named : (q : Queue) (r : Row) (n : ℕ) (m : MessageId) → r.message ≡ Some (id_of q n) → r.message ≡ Some m → m.site ≡ q.site
+own_named q r n m e f = let s : id_of q n ≡ m = cc in subst (λ (x : MessageId). x.site ≡ q.site) s refl
+
+does_own : (key : Key) (q : Queue) (r : Row) (p : Queue) → Does key q r p → (m : MessageId) → r.message ≡ Some m → m.site ≡ q.site
+does_own key q r p (stays d) m e = (d.old m e).0
+does_own key q r p (comes d) m e = own_named q r q.arrivals m d.message e
+does_own key q r p (receives d) m e = own_named q r d.number m d.names.message e
+does_own key q r p (changes d) m e = own_named q r d.number m d.names.message e
+does_own key q r p (releases d) m e = own_named q r d.number m d.names.message e
+does_own key q r p (redrives d) m e = own_named q r d.number m d.names.message e
+does_own key q r p (ends d) m e = own_named q r d.number m d.names.message e
+
+pub moves_own : (key : Key) (q : Queue) (r : Row) (p : Queue) → Move key q r p → (m : MessageId) → r.message ≡ Some m → m.site ≡ r.queue
+moves_own key q r p h m e = does_own key q r p h.does m e ∙ sym h.at_site

@@ -1,0 +1,431 @@
+-- The rows of each other call, and of what is due, are a chain of single moves.
+use Rattle.std.specs.Str.{bytes_eq}
+use Rattle.std.specs.Prelude.{All, Bool, Err, List, None, Ok, Option, Result, Some, [], false, find, get_or, if◌then◌else◌, length, map, nat_lt, take, true, ℕ, ◌&&◌, ◌*◌, ◌+◌, ◌++◌, ◌<◌, ◌==◌, ◌∷◌, ◌≡◌, ◌≢◌, ◌||◌}
+use Rattle.std.proofs.Common.{ap, arith, refl, subst, sym, ◌∙◌}
+use Rattle.std.proofs.lemmas.Bool.{eqb-true}
+use Rattle.std.proofs.lemmas.Bool.Decides.{nat_tests}
+use Rattle.std.proofs.lemmas.List.{append-nil}
+use Rattle.std.proofs.lemmas.List.Elements.{All-cons, All-filter, All-head, All-nil, All-push, All-tail, All-weaker}
+use Rattle.sim_clock.specs.declared.key.Key.{Key}
+use Rattle.sim_clock.specs.declared.refusal.Refusal.{Refusal}
+use Rattle.sim_clock.specs.declared.refusal.Refusal.TheVariants as refusals
+use Rattle.sim_clock.specs.Firsts.{changed, without}
+use Rattle.sqs_message.specs.declared.ids.MessageId.{MessageId}
+use Rattle.sqs_message.specs.declared.ids.Receipt.{Receipt}
+use Rattle.sqs_message.specs.declared.message.Message.{Message}
+use Rattle.sqs_message.specs.declared.message.Place.{Place}
+use Rattle.sqs_message.specs.declared.message.Place.TheVariants as places
+use Rattle.sqs_message.specs.declared.row.Detail.TheVariants as details
+use Rattle.sqs_message.specs.declared.row.Row.{Row}
+use Rattle.sqs_message.specs.declared.row.RowAnswer.{RowAnswer}
+use Rattle.sqs_message.specs.declared.row.RowAnswer.TheVariants as answers
+use Rattle.sqs_message.specs.declared.row.RowKind.{RowKind}
+use Rattle.sqs_message.specs.declared.row.RowKind.TheVariants as kinds
+use Rattle.sqs_message.specs.declared.row.RowReceipt.TheVariants as receipts
+use Rattle.sqs_message.specs.Ids.{id_text, read_receipt}
+use Rattle.sqs_redrive.specs.declared.answers.Deleted.{Deleted}
+use Rattle.sqs_redrive.specs.declared.answers.Deleted.TheVariants.{Gone, Kept, Removed}
+use Rattle.sqs_redrive.specs.declared.answers.Sent.{Sent}
+use Rattle.sqs_redrive.specs.declared.answers.Sent.TheVariants.{New, Repeat}
+use Rattle.sqs_redrive.specs.declared.settings.Kind.{Kind}
+use Rattle.sqs_redrive.specs.declared.settings.Kind.TheVariants.{Fifo, Standard}
+use Rattle.sqs_redrive.specs.declared.settings.Policy.{Policy}
+use Rattle.sqs_redrive.specs.declared.settings.Scope.{Scope}
+use Rattle.sqs_redrive.specs.declared.transfers.Load.{Load}
+use Rattle.sqs_redrive.specs.declared.transfers.Load.TheVariants.{Forward, Move as Moves, Redrive}
+use Rattle.sqs_redrive.specs.declared.transfers.Outbound.{Outbound}
+use Rattle.sqs_model.specs.Accounts.{is_deleted, is_expired}
+use Rattle.sqs_model.specs.Acts.{change_answered, change_made, change_row, came_back, delete_done, delete_made, send_made, sends, serve_made}
+use Rattle.sqs_model.specs.Actor.{Actor}
+use Rattle.sqs_model.specs.Calls.{change, deduplication_id, delay_of, delete, delete_as, in_flight_until, is_bad_delay, living, living_entries, new_message, returned, scope_of, send_standard, send_unless, send_with, with_entry, with_message}
+use Rattle.sqs_model.specs.Queue.{Entry, Queue, has_number, id_of, is_in_flight, numbered, same_text, taken_out, with_change, with_records}
+use Rattle.sqs_model.specs.Return.{leaves, redrive_of, released, released_found, released_when, visible_again}
+use Rattle.sqs_model.specs.Site.{Core, Effect, and_then, no_effect, number_of, says, with_queue}
+use Rattle.sqs_model.specs.Arrive.{arrived, brought, enqueued_at, expired_found, forwarded, forwarded_group, is_too_old, sent_of, settled_when}
+use Rattle.sqs_model.specs.Step.{Moved, arrival_done, end_row, handle_step, moves, one_sent, expiry_done, handle_expiry, release_done}
+use Rattle.sqs_model.specs.Available.{all_available, all_hosts}
+use Rattle.sqs_model.specs.Draw.{drawn_latency}
+use Rattle.sqs_model.specs.Task.{Taken, Task, destination, take_each, take_movable, taken_one}
+use Rattle.sqs_redrive.specs.MoveTasks.{task_stepped}
+use Rattle.sqs_redrive.specs.declared.answers.Rest.{Rest}
+use Rattle.sqs_redrive.specs.declared.answers.Rest.TheVariants.{Empty, More, NoSource}
+use Rattle.sqs_model.proofs.Chosen.{Stand, first_apart, first_stand}
+use Rattle.sqs_model.proofs.Numbered.{Apart, other_without}
+use Rattle.sqs_model.proofs.Answered.{IsOfChanges, IsOfDeletes, change_by, delete_by}
+use Rattle.sqs_model.proofs.Branches.{either, either_by}
+use Rattle.sqs_model.proofs.CallWalk.{IsNameless, TellsOfNone}
+use Rattle.sqs_model.proofs.Counts.{changed_twice, find_all, find_picked, without_changed}
+use Rattle.sqs_model.proofs.SiteAccounts.{IsFound}
+use Rattle.sqs_laws.specs.Words as words
+use Rattle.sqs_laws.proofs.Calls.{Told, back_told, found_old, one_back, own_changed, pushed_found, pushed_out, tells}
+use Rattle.sqs_laws.proofs.Moves.{Asks, AsksDelete, Chain, deleted_answer, chain_keeps, Comes, Does, Ends, IsStocked, Keeps, Move, Names, Stays, Tells, Changes, changes, chain_append, comes, ends, one_move, stays}
+
+-- what a row of none tells
+abbrev SaysNothing : RowKind → RowAnswer → Type 0
+SaysNothing k a =
+    (words.is_new a ≡ false) × ((words.is_receive k && words.is_ok a) ≡ false) × ((words.is_change k && words.is_ok a) ≡ false) × (words.is_release k ≡ false)
+    × ((is_deleted a || is_expired a || words.is_redrive k || words.is_move k) ≡ false)
+
+says_nothing : (k : RowKind) (a : RowAnswer) → TellsOfNone k a → SaysNothing k a
+says_nothing kinds.Receive answers.Empty t = (refl, refl, refl, refl, refl)
+says_nothing kinds.Receive answers.Wait t = (refl, refl, refl, refl, refl)
+says_nothing kinds.Receive (answers.Refused x) t = (refl, refl, refl, refl, refl)
+says_nothing kinds.Start answers.Ok t = (refl, refl, refl, refl, refl)
+says_nothing kinds.Start (answers.Refused x) t = (refl, refl, refl, refl, refl)
+says_nothing kinds.Cancel answers.Ok t = (refl, refl, refl, refl, refl)
+says_nothing kinds.Cancel (answers.Refused x) t = (refl, refl, refl, refl, refl)
+says_nothing kinds.Sample answers.Ok t = (refl, refl, refl, refl, refl)
+says_nothing k a t = absurd t
+
+-- it asks nothing of a message
+asks_none : (key : Key) (q : Queue) (r : Row) (k : RowKind) (a : RowAnswer) → TellsOfNone k a → Asks key q r k
+asks_none key q r kinds.Delete a t = absurd t
+asks_none key q r k a t = tt
+
+-- a row that names no message changes nothing
+nameless_stays : (key : Key) (q : Queue) (r : Row) → r.message ≡ None → Tells r false false false false false → Stays key q r q
+nameless_stays key q r n t =
+    record {
+      same = refl;
+      tells = t;
+      old = λ m e. cc;
+      follows = λ m e. cc;
+      gone = λ g m e. cc;
+    }
+
+pub quiet_move : (key : Key) (c : Core) (q : Queue) (r : Row) → number_of c ≡ q.site → IsNameless key c r → Move key q r q
+quiet_move key c q r e i =
+    record {
+      at_key = i.at_key;
+      at_site = i.at_site ∙ e;
+      asked = asks_none key q r r.kind r.answer i.kind;
+      does = stays (nameless_stays key q r i.nameless (let n : SaysNothing r.kind r.answer = says_nothing r.kind r.answer i.kind in tells r false false false false false n.0 n.1 n.2 n.3 n.4));
+    }
+
+module _ (key : Key) where
+  -- an effect whose rows are a chain from a site's queue, and which leaves its actors
+  pub record IsChain (c : Core) (e : Effect) : Type 0 where
+    pub chain : Chain key c.queue e.rows e.core.queue
+    pub actors : e.core.actors ≡ c.actors
+
+  -- a row that names a message which came before, and changes nothing
+  named_stays : (q : Queue) (r : Row) (n : ℕ) → r.message ≡ Some (id_of q n) → Tells r false false false false false → n < q.arrivals → (words.may_follow r ≡ false → IsFound (numbered n q.records)) → (words.is_gone r.answer ≡ true → numbered n q.records ≡ None) → Stays key q r q
+  named_stays q r n m t l f g =
+      record {
+        same = refl;
+        tells = t;
+        old = λ i e. let s : id_of q n ≡ i = cc in subst (λ (x : MessageId). (x.site ≡ q.site) × (x.number < q.arrivals)) s (refl, l);
+        follows = λ i e h. let s : id_of q n ≡ i = cc in subst (λ (x : MessageId). IsFound (numbered x.number q.records)) s (f h);
+        gone = λ h i e. let s : id_of q n ≡ i = cc in subst (λ (x : MessageId). numbered x.number q.records ≡ None) s (g h);
+      }
+
+  one_row : (c d : Core) (r : Row) → r.key ≡ key → r.queue ≡ c.queue.site → d.actors ≡ c.actors → Asks key c.queue r r.kind → Does key c.queue r d.queue → IsChain c (says d r)
+  one_row c d r k s a y h = record { chain = one_move key c.queue r d.queue (record { at_key = k; at_site = s; asked = y; does = h }); actors = a }
+
+  -- services
+  pub serve_chain : (a : Actor) (c : Core) (id : MessageId) (r : Receipt) (failed : Bool) (o : Option Outbound) → id.site ≡ c.queue.site → id.number < c.queue.arrivals → IsChain c (serve_made key a c id r failed o).effect
+  serve_chain a c id r true o e l =
+      one_row c c _ refl refl refl tt (stays (named_stays c.queue _ id.number (ap (λ s. Some (record { site = s; number = id.number })) e) (tells _ false false false false false refl refl refl refl refl) l (λ h. cc) (λ h. cc)))
+  serve_chain a c id r false None e l = record { chain = refl; actors = refl }
+  serve_chain a c id r false (Some o) e l =
+      record {
+        chain = one_move key c.queue _ c.queue
+            (record {
+              at_key = refl;
+              at_site = refl;
+              asked = tt;
+              does = stays (named_stays c.queue _ id.number (ap (λ s. Some (record { site = s; number = id.number })) e) (tells _ false false false false false refl refl refl refl refl) l (λ h. cc) (λ h. cc));
+            });
+        actors = refl;
+      }
+
+  -- sends
+  abbrev IsSent : Actor → Core → List ℕ → Result Sent Refusal × Queue → Type 0
+  IsSent a c body x = IsChain c (send_made key a c body x).effect
+
+  refused_sent : (a : Actor) (c : Core) (body : List ℕ) (e : Refusal) → IsSent a c body (Err e, c.queue)
+  refused_sent a c body e = one_row c c _ refl refl refl tt (stays (nameless_stays key c.queue _ refl (tells _ false false false false false refl refl refl refl refl)))
+
+  new_sent : (a : Actor) (c : Core) (body : List ℕ) (m : Message) (entries : List Entry) → m.number ≡ c.queue.arrivals → m.receives ≡ 0 → is_in_flight m ≡ false → All (λ e. e.number < c.queue.arrivals + 1) entries → IsSent a c body (Ok (New (id_of c.queue c.queue.arrivals)), with_message (record c.queue { entries = entries }) m)
+  new_sent a c body m entries n f r o =
+      one_row c (with_queue c (with_message (record c.queue { entries = entries }) m)) _ refl refl refl tt
+      (comes (record { one = m; entries = entries; tells = tells _ true false false false false refl refl refl refl refl; message = refl; number = n; fresh = f; rests = r; old = o; after = refl }))
+
+  repeat_sent : (a : Actor) (c : Core) (body : List ℕ) (n : ℕ) → n < c.queue.arrivals → IsSent a c body (Ok (Repeat (id_of c.queue n)), c.queue)
+  repeat_sent a c body n l = one_row c c _ refl refl refl tt (stays (named_stays c.queue _ n refl (tells _ false false false false false refl refl refl refl refl) l (λ h. cc) (λ h. cc)))
+
+  -- a message that is not in flight as it comes
+  rests_at : (q : Queue) (body : List ℕ) (group : Option (List ℕ)) (delay : ℕ) → is_in_flight (new_message q key.at body group delay) ≡ false
+  rests_at q body group delay = either (λ (p : Place). elim p as (λ _. Bool) [ places.Delayed ↦ false | places.Visible ↦ false | places.InFlight ↦ true ] ≡ false) (delay == 0) places.Visible places.Delayed refl refl
+
+  old_entries : (q : Queue) → IsStocked q → All (λ e. e.number < q.arrivals + 1) q.entries
+  old_entries q s = All-weaker (λ e. e.number < q.arrivals) (λ e. e.number < q.arrivals + 1) (λ e l. omega (arith, l)) q.entries s.entries
+
+  more_entries : (q : Queue) (scope : Option (List ℕ)) (id : List ℕ) → IsStocked q → All (λ e. e.number < q.arrivals + 1) (with_entry q key.at scope id).entries
+  more_entries q scope id s =
+      All-push (λ e. e.number < q.arrivals + 1) (living_entries key.at q.entries) _
+      (All-filter (λ e. nat_lt key.at e.end) (λ (e : Entry). e.number < q.arrivals + 1) q.entries (old_entries q s)) (omega arith)
+
+  unless_sent : (a : Actor) (c : Core) (body given group : List ℕ) (scope : Option (List ℕ)) (id : List ℕ) (o : Option Entry) → living c.queue key.at scope id ≡ o → IsStocked c.queue → IsSent a c given (send_unless c.queue key.at body group scope id o)
+  unless_sent a c body given group scope id None f s =
+      new_sent a c given (new_message c.queue key.at body (Some group) c.queue.settings.delay) (with_entry c.queue key.at scope id).entries refl refl (rests_at c.queue body (Some group) c.queue.settings.delay) (more_entries c.queue scope id s)
+  unless_sent a c body given group scope id (Some e) f s =
+      repeat_sent a c given e.number (find_all (λ (x : Entry). nat_lt key.at x.end && same_text x.scope scope && bytes_eq x.id id) (λ x. x.number < c.queue.arrivals) c.queue.entries e s.entries f)
+
+  with_sent : (a : Actor) (c : Core) (scope : Scope) (body : List ℕ) (group id : Option (List ℕ)) → IsStocked c.queue → IsSent a c body (send_with c.queue scope key.at body group id)
+  with_sent a c scope body None id s = refused_sent a c body refusals.MissingGroup
+  with_sent a c scope body (Some g) None s = refused_sent a c body refusals.MissingDeduplication
+  with_sent a c scope body (Some g) (Some i) s = unless_sent a c body body g (scope_of scope g) i (living c.queue key.at (scope_of scope g) i) refl s
+
+  pub sends_chain : (k : Kind) (a : Actor) (c : Core) (body : List ℕ) (delay : Option ℕ) (group id : Option (List ℕ)) → IsStocked c.queue → IsSent a c body (sends k c.queue key.at body delay group id)
+  sends_chain (Standard hosts sampled) a c body delay group id s =
+      either (IsSent a c body) (is_bad_delay 900 delay) _ _ (refused_sent a c body refusals.BadDelay)
+      (new_sent a c body (new_message c.queue key.at body None (delay_of c.queue delay)) c.queue.entries refl refl (rests_at c.queue body None (delay_of c.queue delay)) (old_entries c.queue s))
+  sends_chain (Fifo content scope) a c body delay group id s =
+      either (IsSent a c body) (is_bad_delay 0 delay) _ _ (refused_sent a c body refusals.BadDelay) (with_sent a c scope body group (deduplication_id content body id) s)
+
+  -- deletes
+  refused_row : (c : Core) (r : Row) → r.key ≡ key → r.queue ≡ c.queue.site → r.message ≡ None → Asks key c.queue r r.kind → Tells r false false false false false → IsChain c (says c r)
+  refused_row c r k s n y t = one_row c c r k s refl y (stays (nameless_stays key c.queue r n t))
+
+  module _ (a : Actor) (c : Core) (text : List ℕ) (r : Receipt) (read : read_receipt text ≡ Some r) (s : IsStocked c.queue) where
+    -- of the answer that the delete has
+    abbrev IsDeleted : Result Deleted Refusal × Queue → Type 0
+    IsDeleted x = delete c.queue key.at r ≡ x → IsChain c (delete_done key a c text r x).effect
+
+    asks_delete : (x : Result Deleted Refusal × Queue) (row : Row) → row.receipt ≡ receipts.Given text → row.answer ≡ deleted_answer x.0 → delete c.queue key.at r ≡ x → AsksDelete key c.queue row
+    asks_delete x row g w e =
+        record {
+          text = text;
+          given = g;
+          by = λ y f. let is : r ≡ y = cc in w ∙ ap (λ (z : Result Deleted Refusal × Queue). deleted_answer z.0) (sym e) ∙ ap (λ z. deleted_answer (delete c.queue key.at z).0) is;
+          none = λ f. cc;
+        }
+
+    deleted_chain : IsDeleted (delete c.queue key.at r)
+    deleted_chain =
+        delete_by IsDeleted c.queue key.at r
+        (record {
+          refused = λ e. refused_row c _ refl refl refl (asks_delete _ _ refl refl e) (tells _ false false false false false refl refl refl refl refl);
+          gone = λ f l e.
+              one_row c c _ refl refl refl (asks_delete _ _ refl refl e)
+              (stays (named_stays c.queue _ r.number refl (tells _ false false false false false refl refl refl refl refl) (grind (arith, nat_tests, l)) (λ h. cc) (λ h. f)));
+          kept = λ m f e.
+              one_row c c _ refl refl refl (asks_delete _ _ refl refl e)
+              (stays (named_stays c.queue _ r.number refl (tells _ false false false false false refl refl refl refl refl) (found_old c.queue r.number m s f) (λ h. subst IsFound (sym f) tt) (λ h. cc)));
+          taken = λ m f e.
+              one_row c (with_queue c (taken_out c.queue r.number)) _ refl refl refl (asks_delete _ _ refl refl e)
+              (ends (record { one = m; number = r.number; tells = tells _ false false false false true refl refl refl refl refl; names = record { there = f; message = refl; sure = refl }; kind = refl; after = refl }));
+        }) c.queue.settings.kind
+
+  delete_chain_of : (a : Actor) (c : Core) (text : List ℕ) (o : Option Receipt) → read_receipt text ≡ o → IsStocked c.queue → IsChain c (delete_made key a c text o).effect
+  delete_chain_of a c text None e s =
+      refused_row c _ refl refl refl (record { text = text; given = refl; by = λ y f. cc; none = λ f. refl }) (tells _ false false false false false refl refl refl refl refl)
+  delete_chain_of a c text (Some r) e s = deleted_chain a c text r e s refl
+
+  pub delete_chain : (a : Actor) (c : Core) (text : List ℕ) → IsStocked c.queue → IsChain c (delete_made key a c text (read_receipt text)).effect
+  delete_chain a c text s = delete_chain_of a c text (read_receipt text) refl s
+
+  -- changes of visibility
+  changed_back : (b : Bool) (q : Queue) (n end : ℕ) (m : Message) → released_when b (with_change q n (in_flight_until end)) n (in_flight_until end m) ≡ released_when b q n m
+  changed_back true q n end m = ap (λ records. (with_records q records, Some (redrive_of q m))) (without_changed (has_number n) (in_flight_until end) (λ x. refl) q.records)
+  changed_back false q n end m = ap (λ records. (with_records q records, None)) (changed_twice (has_number n) (in_flight_until end) visible_again (λ x. refl) q.records)
+
+  leaves_alike : (o : Option Policy) (end : ℕ) (m : Message) → leaves o (in_flight_until end m) ≡ leaves o m
+  leaves_alike None end m = refl
+  leaves_alike (Some p) end m = refl
+
+  released_changed : (q : Queue) (n end : ℕ) (m : Message) → numbered n q.records ≡ Some m → released (with_change q n (in_flight_until end)) n ≡ released q n
+  released_changed q n end m f =
+      ap (released_found (with_change q n (in_flight_until end)) n) (own_changed n (in_flight_until end) (λ x. refl) q.records m f)
+      ∙ ap (λ b. released_when b (with_change q n (in_flight_until end)) n (in_flight_until end m)) (leaves_alike q.settings.policy end m)
+      ∙ changed_back (leaves q.settings.policy m) q n end m ∙ sym (ap (released_found q n) f)
+
+  abbrev IsChanged : Actor → Core → List ℕ → ℕ → Receipt → Result (Option Load) Refusal × Queue → Type 0
+  IsChanged a c text timeout r x = IsChain c (change_answered key a c text timeout r x).effect
+
+  change_move : (a : Actor) (c : Core) (text : List ℕ) (timeout : ℕ) (r : Receipt) (m : Message) (end : ℕ) → numbered r.number c.queue.records ≡ Some m → is_in_flight m ≡ true → Move key c.queue (change_row key a c text answers.Ok (Some (id_of c.queue r.number)) (details.Timeout timeout)) (with_change c.queue r.number (in_flight_until end))
+  change_move a c text timeout r m end f l =
+      record {
+        at_key = refl;
+        at_site = refl;
+        asked = tt;
+        does = changes (record { one = m; number = r.number; end = end; tells = tells _ false false true false false refl refl refl refl refl; names = record { there = f; message = refl; sure = refl }; flies = l; after = refl });
+      }
+
+  kept_change : (a : Actor) (c : Core) (text : List ℕ) (timeout : ℕ) (r : Receipt) (m : Message) → numbered r.number c.queue.records ≡ Some m → is_in_flight m ≡ true → (timeout == 0) ≡ false → IsChanged a c text timeout r (Ok None, with_change c.queue r.number (in_flight_until (key.at + 1000 * timeout)))
+  kept_change a c text timeout r m f l e =
+      let q : Queue = with_change c.queue r.number (in_flight_until (key.at + 1000 * timeout)) in
+      let row : Row = change_row key a c text answers.Ok (Some (id_of c.queue r.number)) (details.Timeout timeout) in
+      let one : Effect = says (with_queue c q) row in
+      let both : Effect = and_then one (λ d. came_back key d r.number None) in
+      subst (IsChain c) (sym (ap (λ b. if b then both else one) e)) (record { chain = one_move key c.queue row q (change_move a c text timeout r m (key.at + 1000 * timeout) f l); actors = refl })
+
+  back_change : (a : Actor) (c : Core) (text : List ℕ) (timeout : ℕ) (r : Receipt) (m : Message) → IsStocked c.queue → numbered r.number c.queue.records ≡ Some m → is_in_flight m ≡ true → (timeout == 0) ≡ true → IsChanged a c text timeout r (returned (released c.queue r.number))
+  back_change a c text timeout r m s f l e =
+      let n : ℕ = r.number in
+      let x : Queue × Option Load = released c.queue n in
+      let taken : Queue = with_change c.queue n (in_flight_until key.at) in
+      let row : Row = change_row key a c text answers.Ok (Some (id_of c.queue n)) (details.Timeout timeout) in
+      let d : Core = with_queue c x.0 in
+      let one : Effect = says d row in
+      let both : Effect = and_then one (λ d. came_back key d n x.1) in
+      let same : released taken n ≡ x = released_changed c.queue n key.at m f in
+      let back : (e : Core) → e.queue.site ≡ c.queue.site → e.queue.settings ≡ c.queue.settings → Chain key taken (came_back key e n x.1).rows x.0 =
+      λ e i j. subst (λ (y : Queue × Option Load). Chain key taken (came_back key e n y.1).rows y.0) same (one_back key taken e n (in_flight_until key.at m) i j (own_changed n (in_flight_until key.at) (λ x. refl) c.queue.records m f)) in
+      let first : Chain key c.queue (row ∷ []) taken = one_move key c.queue row taken (change_move a c text timeout r m key.at f l) in
+      let kept : Keeps c.queue x.0 = chain_keeps key (row ∷ [] ++ (came_back key c n x.1).rows) c.queue x.0 (chain_append key (row ∷ []) (came_back key c n x.1).rows c.queue taken x.0 first (back c refl refl)) s in
+      let after : Told key d (came_back key d n x.1).core = back_told key d n x.1 in
+      let chain : Chain key c.queue both.rows x.0 = chain_append key (row ∷ []) (came_back key d n x.1).rows c.queue taken x.0 first (back d (sym kept.site) (sym kept.settings)) in
+      subst (IsChain c) (sym (ap (λ b. if b then both else one) e)) (record { chain = subst (Chain key c.queue both.rows) (sym after.queue) chain; actors = after.actors })
+
+  pub change_chain : (a : Actor) (c : Core) (text : List ℕ) (timeout : ℕ) (o : Option Receipt) → IsStocked c.queue → IsChain c (change_made key a c text timeout o).effect
+  change_chain a c text timeout None s = refused_row c _ refl refl refl tt (tells _ false false false false false refl refl refl refl refl)
+  change_chain a c text timeout (Some r) s =
+      change_by (IsChanged a c text timeout r) c.queue key.at r timeout
+      (record {
+        refused = λ e. refused_row c _ refl refl refl tt (tells _ false false false false false refl refl refl refl refl);
+        back = λ m f l e. back_change a c text timeout r m s f l e;
+        kept = λ m f l e. kept_change a c text timeout r m f l e;
+      })
+
+  -- what is due of messages
+  pub expiry_chain : (c : Core) (m : Message) → numbered key.number c.queue.records ≡ Some m → IsChain c (handle_expiry key c)
+  expiry_chain c m f =
+      subst (λ x. IsChain c (expiry_done key c (expired_found c.queue key.at key.number x))) (sym f)
+      (one_row c (with_queue c (taken_out c.queue key.number)) _ refl refl refl tt
+      (ends (record { one = m; number = key.number; tells = tells _ false false false false true refl refl refl refl refl; names = record { there = f; message = refl; sure = refl }; kind = refl; after = refl })))
+
+  pub release_chain : (c : Core) (m : Message) → IsStocked c.queue → numbered key.number c.queue.records ≡ Some m → IsChain c (release_done key c (released c.queue key.number))
+  release_chain c m s f =
+      let n : ℕ = key.number in
+      let x : Queue × Option Load = released c.queue n in
+      let d : Core = with_queue c x.0 in
+      let old : Chain key c.queue (came_back key c n x.1).rows x.0 = one_back key c.queue c n m refl refl f in
+      let kept : Keeps c.queue x.0 = chain_keeps key (came_back key c n x.1).rows c.queue x.0 old s in
+      let after : Told key d (came_back key d n x.1).core = back_told key d n x.1 in
+      record {
+        chain = subst (Chain key c.queue (came_back key d n x.1).rows) (sym after.queue) (one_back key c.queue d n m (sym kept.site) (sym kept.settings) f);
+        actors = after.actors;
+      }
+
+  -- arrivals
+  abbrev IsArrived : Core → Load → (Sent × Bool) × Queue → Type 0
+  IsArrived c load x = IsChain c (arrival_done key load c x)
+
+  come_move : (c : Core) (r : Row) (m : Message) (entries : List Entry) → r.key ≡ key → r.queue ≡ c.queue.site → r.message ≡ Some (id_of c.queue c.queue.arrivals) → Asks key c.queue r r.kind → Tells r true false false false false → m.number ≡ c.queue.arrivals → m.receives ≡ 0 → is_in_flight m ≡ false → All (λ e. e.number < c.queue.arrivals + 1) entries → Move key c.queue r (with_message (record c.queue { entries = entries }) m)
+  come_move c r m entries k s i y t n f l o = record { at_key = k; at_site = s; asked = y; does = comes (record { one = m; entries = entries; tells = t; message = i; number = n; fresh = f; rests = l; old = o; after = refl }) }
+
+  settled_chain : (b : Bool) (c : Core) (load : Load) (m : Message) → m.number ≡ c.queue.arrivals → m.receives ≡ 0 → is_in_flight m ≡ false → IsStocked c.queue → IsArrived c load (settled_when b c.queue m)
+  settled_chain false c load m n f l s =
+      record { chain = one_move key c.queue _ _ (come_move c _ m c.queue.entries refl refl refl tt (tells _ true false false false false refl refl refl refl refl) n f l (old_entries c.queue s)); actors = refl }
+  settled_chain true c load m n f l s =
+      let q : Queue = c.queue in
+      let x : Queue = with_message q m in
+      let gone : taken_out x q.arrivals ≡ record q { arrivals = q.arrivals + 1 } = ap (λ records. record q { records = records; arrivals = q.arrivals + 1 }) (pushed_out q.arrivals q.records m n s.given_out) in
+      record {
+        chain = (
+          x, come_move c _ m q.entries refl refl refl tt (tells _ true false false false false refl refl refl refl refl) n f l (old_entries q s),
+          one_move key x _ (record q { arrivals = q.arrivals + 1 })
+              (record {
+                at_key = refl;
+                at_site = refl;
+                asked = tt;
+                does = ends (record { one = m; number = q.arrivals; tells = tells _ false false false false true refl refl refl refl refl; names = record { there = pushed_found q.arrivals q.records m n s.given_out; message = refl; sure = refl }; kind = refl; after = gone });
+              }),
+        );
+        actors = refl;
+      }
+
+  new_come : (c : Core) (id : MessageId) (group : Option (List ℕ)) (body : List ℕ) (m : Message) (entries : List Entry) → m.number ≡ c.queue.arrivals → m.receives ≡ 0 → is_in_flight m ≡ false → All (λ e. e.number < c.queue.arrivals + 1) entries → IsArrived c (Forward id group body) ((New (id_of c.queue c.queue.arrivals), false), with_message (record c.queue { entries = entries }) m)
+  new_come c id group body m entries n f l o =
+      record { chain = one_move key c.queue _ _ (come_move c _ m entries refl refl refl tt (tells _ true false false false false refl refl refl refl refl) n f l o); actors = refl }
+
+  unless_come : (c : Core) (id : MessageId) (g : Option (List ℕ)) (b body group : List ℕ) (scope : Option (List ℕ)) (text : List ℕ) (o : Option Entry) → living c.queue key.at scope text ≡ o → IsStocked c.queue → IsArrived c (Forward id g b) (sent_of c.queue (send_unless c.queue key.at body group scope text o))
+  unless_come c id g b body group scope text None f s =
+      new_come c id g b (new_message c.queue key.at body (Some group) c.queue.settings.delay) (with_entry c.queue key.at scope text).entries refl refl (rests_at c.queue body (Some group) c.queue.settings.delay) (more_entries c.queue scope text s)
+  unless_come c id g b body group scope text (Some e) f s =
+      let old : e.number < c.queue.arrivals = find_all (λ (x : Entry). nat_lt key.at x.end && same_text x.scope scope && bytes_eq x.id text) (λ x. x.number < c.queue.arrivals) c.queue.entries e s.entries f in
+      record {
+        chain = one_move key c.queue _ _ (record { at_key = refl; at_site = refl; asked = tt; does = stays (named_stays c.queue _ e.number refl (tells _ false false false false false refl refl refl refl refl) old (λ h. cc) (λ h. cc)) });
+        actors = refl;
+      }
+
+  forwarded_chain : (k : Kind) (c : Core) (id : MessageId) (body : List ℕ) (group : Option (List ℕ)) → IsStocked c.queue → IsArrived c (Forward id group body) (forwarded k c.queue key.at id body group)
+  forwarded_chain (Standard hosts sampled) c id body group s =
+      new_come c id group body (new_message c.queue key.at body None c.queue.settings.delay) c.queue.entries refl refl (rests_at c.queue body None c.queue.settings.delay) (old_entries c.queue s)
+  forwarded_chain (Fifo content scope) c id body group s =
+      let g : List ℕ = forwarded_group group in
+      unless_come c id group body body g (scope_of scope g) (id_text id) (living c.queue key.at (scope_of scope g) (id_text id)) refl s
+
+  pub arrived_chain : (c : Core) (load : Load) → IsStocked c.queue → IsArrived c load (arrived c.queue key.at load)
+  arrived_chain c (Redrive id group origin body enqueued) s =
+      let m : Message = brought c.queue key.at origin body group (enqueued_at c.queue.settings.kind key.at enqueued) (Some id.site) in
+      settled_chain (is_too_old c.queue key.at m) c (Redrive id group origin body enqueued) m refl refl refl s
+  arrived_chain c (Moves id group origin body) s =
+      let m : Message = brought c.queue key.at origin body group key.at None in
+      settled_chain (is_too_old c.queue key.at m) c (Moves id group origin body) m refl refl refl s
+  arrived_chain c (Forward id group body) s = forwarded_chain c.queue.settings.kind c id body group s
+
+  -- steps of tasks
+  moved_stand : (q : Queue) (m : Message) (ms : List Message) → All (λ x. x.number ≢ m.number) ms → Stand q ms → Stand (taken_out q m.number) ms
+  moved_stand q m ms d s = λ i e l. let x : Message = get_or ms i e in other_without m.number x.number q.records (d i e l) ∙ s i e l
+
+  moved_chain :
+      (to : Option ℕ) (ms : List Message) (q : Queue) (d : Core) (t : Task) → d.queue.site ≡ q.site → Apart ms → Stand q ms
+      → Chain key q (moves key d t (take_each q to ms).loads).rows (take_each q to ms).queue
+  moved_chain to [] q d t e a s = refl
+  moved_chain to (m ∷ ms) q d t e a s =
+      elim (destination to m) as
+      (λ o. Chain key q (moves key d t (elim o as (λ _. Taken) [ None ↦ record { queue = q; loads = []; stuck = true } | Some n ↦ taken_one q m n (take_each (taken_out q m.number) to ms) ]).loads).rows
+          (elim o as (λ _. Taken) [ None ↦ record { queue = q; loads = []; stuck = true } | Some n ↦ taken_one q m n (take_each (taken_out q m.number) to ms) ]).queue) [
+        | None ↦ refl
+        | Some n ↦
+            let x : Queue = taken_out q m.number in (
+              x,
+              record {
+                at_key = refl;
+                at_site = e;
+                asked = tt;
+                does =
+                    ends
+                    (record {
+                      one = m;
+                      number = m.number;
+                      tells = tells _ false false false false true refl refl refl refl refl;
+                      names = record { there = All-head (λ y. numbered y.number q.records ≡ Some y) m ms s; message = refl; sure = refl };
+                      kind = refl;
+                      after = refl;
+                    });
+              },
+              moved_chain to ms x d (one_sent t (drawn_latency t.move.settings.latency t.draws).1) e a.1 (moved_stand q m ms a.0 (All-tail (λ y. numbered y.number q.records ≡ Some y) m ms s)),
+            )
+      ]
+
+  end_chain : (c : Core) (q : Queue) (t : Task) (rest : Rest) → c.queue.site ≡ q.site → Chain key q (end_row key c t rest) q
+  end_chain c q t Empty e = one_move key q _ q (record { at_key = refl; at_site = e; asked = tt; does = stays (nameless_stays key q _ refl (tells _ false false false false false refl refl refl refl refl)) })
+  end_chain c q t More e = refl
+  end_chain c q t NoSource e = one_move key q _ q (record { at_key = refl; at_site = e; asked = tt; does = stays (nameless_stays key q _ refl (tells _ false false false false false refl refl refl refl refl)) })
+
+  taken_site : (to : Option ℕ) (ms : List Message) (q : Queue) → (take_each q to ms).queue.site ≡ q.site
+  taken_site to [] q = refl
+  taken_site to (m ∷ ms) q =
+      elim (destination to m) as
+      (λ o. (elim o as (λ _. Taken) [ None ↦ record { queue = q; loads = []; stuck = true } | Some n ↦ taken_one q m n (take_each (taken_out q m.number) to ms) ]).queue.site ≡ q.site) [
+        | None ↦ refl
+        | Some n ↦ taken_site to ms (taken_out q m.number)
+      ]
+
+  pub step_chain : (c : Core) (t : Task) → IsStocked c.queue → IsChain c (handle_step key c (Some t))
+  step_chain c t s =
+      let set : ℕ = all_hosts c.queue.settings.kind in
+      let most : ℕ = t.move.settings.per_second in
+      let to : Option ℕ = t.move.settings.to in
+      let ms : List Message = take most (all_available c.queue) in
+      let y : (List (ℕ × Load) × Rest) × Queue = take_movable c.queue most to in
+      let d : Core = with_queue c y.1 in
+      let m : Moved = moves key d t y.0.0 in
+      let u : Task = record m.task { move = task_stepped m.task.move key.at (length y.0.0) y.0.1 } in
+      let site : y.1.site ≡ c.queue.site = taken_site to ms c.queue in
+      let first : Chain key c.queue m.rows y.1 = moved_chain to ms c.queue d t site (first_apart c.queue set most s.ordered) (first_stand c.queue set most s.ordered) in
+      record { chain = chain_append key m.rows (end_row key d u y.0.1) c.queue y.1 y.1 first (end_chain d y.1 u y.0.1 refl); actors = refl }

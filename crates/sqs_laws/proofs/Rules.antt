@@ -1,0 +1,18 @@
+-- The log of every sound scenario keeps the rules.
+use Rattle.std.specs.Prelude.{All}
+use Rattle.sqs_model.specs.Progress.{IsSoundScenario}
+use Rattle.sqs_model.specs.Run.{IsRunOf, Run}
+use Rattle.sqs_model.specs.Scenario.{Scenario}
+use Rattle.sqs_model.specs.Valid.{IsQueueSettings}
+use Rattle.sqs_laws.specs.Laws.{KeepsTheRules}
+use Rattle.sqs_laws.proofs.End.{ends_are_ends}
+use Rattle.sqs_laws.proofs.Letters.{letters_are_dead}
+use Rattle.sqs_laws.proofs.Order.{rows_in_time}
+
+pub keeps_the_rules : (s : Scenario) → IsSoundScenario s → All IsQueueSettings s.queues → (r : Run) → IsRunOf s r → KeepsTheRules s r.rows
+keeps_the_rules s sound valid r is =
+    record {
+      the_end = ends_are_ends s r is;
+      dead_letters = letters_are_dead s valid r is;
+      in_time = rows_in_time s sound r is;
+    }

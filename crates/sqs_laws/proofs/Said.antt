@@ -1,0 +1,112 @@
+-- What the rows so far say of a message, with one more row.
+use Rattle.std.specs.List.{list_any, sum_by}
+use Rattle.std.specs.Prelude.{All, Bool, List, None, Option, Some, [], cond, count_by, false, is_none, true, ℕ, ◌&&◌, ◌+◌, ◌++◌, ◌<◌, ◌==◌, ◌∷◌, ◌≡◌, ◌≢◌, ◌≤◌, ◌||◌}
+use Rattle.std.proofs.Common.{ap, arith, refl, subst, sym, ◌∙◌}
+use Rattle.std.proofs.Math.Bool.{and-true, or-false}
+use Rattle.std.proofs.lemmas.Bool.{eq-eqb, eqb-true, ne_eqb}
+use Rattle.std.proofs.lemmas.Bool.Decides.{nat_tests}
+use Rattle.std.proofs.lemmas.List.Folds.{list_any-append}
+use Rattle.std.proofs.lemmas.List.Elements.{All-head, All-tail}
+use Rattle.std.proofs.lemmas.List.Sums.{sum_by-append, sum_by-cons}
+use Rattle.sim_clock.specs.Firsts.{changed, without}
+use Rattle.sqs_message.specs.declared.ids.MessageId.{MessageId}
+use Rattle.sqs_message.specs.declared.message.Message.{Message}
+use Rattle.sqs_message.specs.declared.row.Row.{Row}
+use Rattle.sqs_message.specs.declared.row.RowAnswer.{RowAnswer}
+use Rattle.sqs_message.specs.declared.row.RowAnswer.TheVariants as answers
+use Rattle.sqs_model.specs.Accounts.{same_id}
+use Rattle.sqs_model.specs.Queue.{Queue, has_number, id_of, numbered}
+use Rattle.sqs_model.proofs.Ledger.{bit}
+use Rattle.sqs_model.proofs.Numbered.{Climbs, all_above, climbs_from}
+use Rattle.sqs_laws.specs.Words.{comes, comings, has_left, is_gone, is_new, leaves, names, received, times}
+use Rattle.sqs_laws.proofs.Worlds.{NamesOwn}
+
+-- counts with one more
+pub count_push : {A : Type 0} (p : A → Bool) (xs : List A) (x : A) → count_by p (xs ++ x ∷ []) ≡ count_by p xs + bit (p x)
+count_push {A} p xs x =
+    let f : A → ℕ = λ y. bit (p y) in
+    omega (arith, sum_by-append f xs (x ∷ []), sum_by-cons f x [])
+
+pub any_push : {A : Type 0} (p : A → Bool) (xs : List A) (x : A) → list_any p (xs ++ x ∷ []) ≡ (list_any p xs || p x)
+any_push p xs x = list_any-append p xs (x ∷ []) ∙ ap (λ b. list_any p xs || b) (or-false (p x))
+
+-- a row that names one message names no other
+pub names_id : (m i : MessageId) (r : Row) → r.message ≡ Some i → names m r ≡ (m.site == i.site && m.number == i.number)
+names_id m i r e = ap (same_id (Some m)) e
+
+pub names_same : (m : MessageId) (r : Row) → r.message ≡ Some m → names m r ≡ true
+names_same m r e = names_id m m r e ∙ (rw (eq-eqb m.site m.site refl, eq-eqb m.number m.number refl) refl)
+
+pub and_false : (b : Bool) → (b && false) ≡ false
+and_false true = refl
+and_false false = refl
+
+pub names_other : (m i : MessageId) (r : Row) → r.message ≡ Some i → m.number ≢ i.number → names m r ≡ false
+names_other m i r e d = names_id m i r e ∙ ap (λ b. (m.site == i.site) && b) (ne_eqb m.number i.number d) ∙ and_false (m.site == i.site)
+
+-- a row of another queue names no message of this one
+names_apart_by : (m : MessageId) (r : Row) (o : Option MessageId) → r.message ≡ o → NamesOwn r → r.queue ≢ m.site → names m r ≡ false
+names_apart_by m r None e own d = ap (same_id (Some m)) e
+names_apart_by m r (Some i) e own d =
+    let far : m.site ≢ i.site = λ s. d (sym (own i e) ∙ sym s) in
+    names_id m i r e ∙ ap (λ b. b && (m.number == i.number)) (ne_eqb m.site i.site far)
+
+pub names_apart : (m : MessageId) (r : Row) → NamesOwn r → r.queue ≢ m.site → names m r ≡ false
+names_apart m r own d = names_apart_by m r r.message refl own d
+
+-- what is new has not gone
+pub new_stays : (a : RowAnswer) → is_new a ≡ true → is_gone a ≡ false
+new_stays answers.New h = refl
+new_stays answers.Repeat h = cc
+new_stays answers.Ok h = cc
+new_stays answers.Wait h = cc
+new_stays answers.Empty h = cc
+new_stays answers.Deleted h = cc
+new_stays answers.Kept h = cc
+new_stays answers.Gone h = cc
+new_stays answers.Out h = cc
+new_stays answers.Visible h = cc
+new_stays answers.Expired h = cc
+new_stays answers.Completed h = cc
+new_stays answers.Failed h = cc
+new_stays (answers.Refused e) h = cc
+
+-- one more row of whether a message has left, how often it was received, and how many came
+pub left_as : (m : MessageId) (rows : List Row) (r : Row) (b : Bool) → (leaves r && names m r) ≡ b → has_left m (rows ++ r ∷ []) ≡ (has_left m rows || b)
+left_as m rows r b e = any_push (λ x. leaves x && names m x) rows r ∙ ap (λ y. has_left m rows || y) e
+
+pub left_still : (m : MessageId) (rows : List Row) (r : Row) → (leaves r && names m r) ≡ false → has_left m (rows ++ r ∷ []) ≡ has_left m rows
+left_still m rows r e = left_as m rows r false e ∙ or-false (has_left m rows)
+
+or_true : (b : Bool) → (b || true) ≡ true
+or_true true = refl
+or_true false = refl
+
+pub left_now : (m : MessageId) (rows : List Row) (r : Row) → leaves r ≡ true → r.message ≡ Some m → has_left m (rows ++ r ∷ []) ≡ true
+left_now m rows r l e = left_as m rows r true (rw (l, names_same m r e) refl) ∙ or_true (has_left m rows)
+
+pub times_as : (m : MessageId) (rows : List Row) (r : Row) (b : Bool) → (received r && names m r) ≡ b → times m (rows ++ r ∷ []) ≡ times m rows + bit b
+times_as m rows r b e = count_push (λ x. received x && names m x) rows r ∙ ap (λ y. times m rows + bit y) e
+
+pub comings_as : (n : ℕ) (rows : List Row) (r : Row) (b : Bool) → (comes r && r.queue == n) ≡ b → comings n (rows ++ r ∷ []) ≡ comings n rows + bit b
+comings_as n rows r b e = count_push (λ x. comes x && x.queue == n) rows r ∙ ap (λ y. comings n rows + bit y) e
+
+-- messages by their numbers: one more, with the next number; one that is taken out
+pub pushed_other : (n : ℕ) (ms : List Message) (m : Message) → n ≢ m.number → numbered n (ms ++ m ∷ []) ≡ numbered n ms
+pushed_other n [] m d = let other : has_number n m ≡ false = grind (arith, nat_tests, d) in rw other refl
+pushed_other n (x ∷ xs) m d = ap (λ o. cond (has_number n x) (Some x) o) (pushed_other n xs m d)
+
+absent_above : (n a : ℕ) (ms : List Message) → n < a → Climbs a ms → numbered n ms ≡ None
+absent_above n a [] l c = refl
+absent_above n a (x ∷ xs) l c =
+    let k : a ≤ x.number = c.0 in
+    let other : has_number n x ≡ false = grind (arith, nat_tests, k, l) in
+    rw other (absent_above n (x.number + 1) xs (omega arith) c.1)
+
+pub taken_absent : (n a : ℕ) (ms : List Message) → Climbs a ms → numbered n (without (has_number n) ms) ≡ None
+taken_absent n a [] c = refl
+taken_absent n a (x ∷ xs) c =
+    elim (has_number n x) as (λ b. has_number n x ≡ b → numbered n (cond b xs (x ∷ without (has_number n) xs)) ≡ None) [
+      | true ↦ λ e. let is : x.number ≡ n = eqb-true x.number n e in absent_above n (x.number + 1) xs (omega arith) c.1
+      | false ↦ λ e. rw e (taken_absent n (x.number + 1) xs c.1)
+    ] refl

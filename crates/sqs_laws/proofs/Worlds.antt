@@ -1,0 +1,232 @@
+-- A law that each single move keeps holds of all rows of a run.
+use Rattle.std.specs.List.{enumerate_from}
+use Rattle.std.specs.Prelude.{All, Bool, List, None, Option, Some, [], false, filter, get_or, if◌then◌else◌, map, nat_le, slice_get, suc, true, zero, ℕ, ◌+◌, ◌++◌, ◌<◌, ◌==◌, ◌∷◌, ◌≡◌, ◌≢◌, ◌≤◌}
+use Rattle.std.proofs.Common.{ap, arith, refl, subst, sym, ◌∙◌}
+use Rattle.std.proofs.lemmas.Bool.{leb-true}
+use Rattle.std.proofs.lemmas.List.{append-nil, append_assoc}
+use Rattle.std.proofs.lemmas.List.Elements.{All-cons, All-filter, All-head, All-map, All-nil, All-tail, All-weaker}
+use Rattle.sim_clock.specs.declared.key.Key.{Key}
+use Rattle.sqs_message.specs.declared.ids.MessageId.{MessageId}
+use Rattle.sqs_message.specs.declared.message.Message.{Message}
+use Rattle.sqs_message.specs.declared.row.Row.{Row}
+use Rattle.sqs_redrive.specs.declared.settings.QueueSettings.{QueueSettings}
+use Rattle.sqs_redrive.specs.declared.transfers.Outbound.{Outbound}
+use Rattle.sqs_model.specs.declared.agents.ActorSettings.{ActorSettings}
+use Rattle.sqs_model.specs.Actor.{Actor}
+use Rattle.sqs_model.specs.Dues.{dues, least_due}
+use Rattle.sqs_model.specs.Queue.{Entry, Queue}
+use Rattle.sqs_model.specs.Run.{IsRunOf, Run, after}
+use Rattle.sqs_model.specs.Scenario.{Scenario, numbered_actors, opening, opening_actor, opening_site}
+use Rattle.sqs_model.specs.Site.{Core, Site, accepted, number_of}
+use Rattle.sqs_model.specs.Step.{Handled, handled, is_arrival}
+use Rattle.sqs_model.specs.World.{Stepped, due_by, world_due, delivered, delivered_one, handled_among, handled_here, handled_there, is_due, next_due, run_on, stepped_at}
+use Rattle.sqs_model.proofs.Branches.{either}
+use Rattle.sqs_model.proofs.WorldAccounts.{due_fits}
+use Rattle.sqs_model.proofs.WorldMoves.{is_due_least, least_in}
+use Rattle.sqs_laws.specs.Words.{EachRow}
+use Rattle.sqs_laws.proofs.Chains.{IsInOrder, IsMoved, handled_moves}
+use Rattle.sqs_laws.proofs.Holding.{IsInformed}
+use Rattle.sqs_laws.proofs.Moves.{Chain, IsStocked, Keeps, Move, chain_keeps, does_keep, moves_own}
+
+-- a row names no message of another queue
+abbrev pub NamesOwn : Row → Type 0
+NamesOwn r = (m : MessageId) → r.message ≡ Some m → m.site ≡ r.queue
+
+-- A law of rows. `Holds rows queue` is what holds of a queue after all rows of a run so far. A move at the queue keeps it and its
+-- row meets the law; rows of other queues leave it.
+pub record RowLaw (s : Scenario) : Type 1 where
+  pub Holds : List Row → Queue → Type 0
+  pub Meets : List Row → Row → Type 0
+  pub moves : (rows : List Row) (key : Key) (q : Queue) (r : Row) (p : Queue) → key.at ≤ s.horizon → Move key q r p → IsStocked q → Holds rows q → Meets rows r × Holds (rows ++ r ∷ []) p
+  pub apart : (rows : List Row) (r : Row) (q : Queue) → r.queue ≢ q.site → NamesOwn r → Holds rows q → Holds (rows ++ r ∷ []) q
+  pub opens : (n : ℕ) (settings : QueueSettings) → slice_get s.queues n ≡ Some settings → Holds [] (record { site = n; settings = settings; records = []; entries = []; arrivals = 0 })
+
+-- what holds of each of some rows, with all rows before it
+abbrev EachAfter : (List Row → Row → Type 0) → List Row → List Row → Type 0
+EachAfter P before [] = Unit {0}
+EachAfter P before (r ∷ rs) = P before r × EachAfter P (before ++ r ∷ []) rs
+
+each_append : (P : List Row → Row → Type 0) (before xs ys : List Row) → EachAfter P before xs → EachAfter P (before ++ xs) ys → EachAfter P before (xs ++ ys)
+each_append P before [] ys h k = subst (λ b. EachAfter P b ys) (append-nil before) k
+each_append P before (x ∷ xs) ys h k = (h.0, each_append P (before ++ x ∷ []) xs ys h.1 (subst (λ b. EachAfter P b ys) (sym (append_assoc before (x ∷ []) xs)) k))
+
+each_row_from : (P : List Row → Row → Type 0) (done rs before : List Row) (r : Row) (after : List Row) → EachAfter P done rs → rs ≡ before ++ (r ∷ after) → P (done ++ before) r
+each_row_from P done [] [] r after h e = cc
+each_row_from P done [] (b ∷ bs) r after h e = cc
+each_row_from P done (x ∷ xs) [] r after h e =
+    let is : x ≡ r = cc in subst (λ d. P d r) (sym (append-nil done)) (subst (P done) is h.0)
+each_row_from P done (x ∷ xs) (b ∷ bs) r after h e =
+    let is : x ≡ b = cc in
+    let rest : xs ≡ bs ++ (r ∷ after) = cc in
+    let one : P ((done ++ x ∷ []) ++ bs) r = each_row_from P (done ++ x ∷ []) xs bs r after h.1 rest in
+    subst (λ d. P d r) (append_assoc done (x ∷ []) bs ∙ ap (λ y. done ++ (y ∷ bs)) is) one
+
+each_row : (P : List Row → Row → Type 0) (rows : List Row) → EachAfter P [] rows → EachRow rows P
+each_row P rows h before r after e = each_row_from P [] rows before r after h e
+
+module _ (scenario : Scenario) (law : RowLaw scenario) where
+  open law use {Holds, Meets}
+
+  -- the rows of a handling
+  record Passes (rows rs : List Row) (q p : Queue) : Type 0 where
+    pub each : EachAfter Meets rows rs
+    pub here : Holds (rows ++ rs) p
+    pub apart : (t : Queue) → t.site ≢ q.site → Holds rows t → Holds (rows ++ rs) t
+
+  chain_passes : (key : Key) → key.at ≤ scenario.horizon → (rs rows : List Row) (q p : Queue) → Chain key q rs p → IsStocked q → Holds rows q → Passes rows rs q p
+  chain_passes key by [] rows q p c s h =
+      record {
+        each = tt;
+        here = subst (λ r. Holds r p) (sym (append-nil rows)) (subst (Holds rows) c h);
+        apart = λ t d k. subst (λ r. Holds r t) (sym (append-nil rows)) k;
+      }
+  chain_passes key by (r ∷ rs) rows q p (x, m, c) s h =
+      let one : Meets rows r × Holds (rows ++ r ∷ []) x = law.moves rows key q r x by m s h in
+      let keeps : Keeps q x = does_keep key q r x m.does s in
+      let rest : Passes (rows ++ r ∷ []) rs x p = chain_passes key by rs (rows ++ r ∷ []) x p c keeps.stocked one.1 in
+      let own : NamesOwn r = moves_own key q r x m in
+      let same : (rows ++ r ∷ []) ++ rs ≡ rows ++ (r ∷ rs) = append_assoc rows (r ∷ []) rs in
+      record {
+        each = (one.0, rest.each);
+        here = subst (λ y. Holds y p) same rest.here;
+        apart = λ t d k.
+            subst (λ y. Holds y t) same (rest.apart t (λ e. d (e ∙ sym keeps.site)) (law.apart rows r t (λ e. d (sym e ∙ m.at_site)) own k));
+      }
+
+  -- a site of a run
+  record IsGood (rows : List Row) (s : Site) : Type 0 where
+    pub order : IsInOrder s.core
+    pub holds : Holds rows s.core.queue
+
+  -- sites of a world are numbered
+  abbrev AreNumbered : ℕ → List Site → Type 0
+  AreNumbered n [] = Unit {0}
+  AreNumbered n (s ∷ ss) = (number_of s.core ≡ n) × AreNumbered (n + 1) ss
+
+  above : (n : ℕ) (sites : List Site) → AreNumbered n sites → All (λ s. n ≤ number_of s.core) sites
+  above n [] h = All-nil (λ (s : Site). n ≤ number_of s.core)
+  above n (s ∷ ss) h =
+      All-cons (λ x. n ≤ number_of x.core) s ss (omega (arith, h.0))
+      (All-weaker (λ x. n + 1 ≤ number_of x.core) (λ x. n ≤ number_of x.core) (λ x l. omega (arith, l)) ss (above (n + 1) ss h.1))
+
+  record Steps (rows : List Row) (n : ℕ) (t : Stepped) : Type 0 where
+    pub each : EachAfter Meets rows t.rows
+    pub good : All (IsGood (rows ++ t.rows)) t.sites
+    pub numbers : AreNumbered n t.sites
+    pub before : (q : Queue) → q.site < n → Holds rows q → Holds (rows ++ t.rows) q
+
+  here_steps : (key : Key) → key.at ≤ scenario.horizon → (rows : List Row) (n : ℕ) (s : Site) (ss : List Site) → All (IsGood rows) (s ∷ ss) → AreNumbered n (s ∷ ss) → least_due s ≡ Some key → Steps rows n (handled_here (handled key s) ss)
+  here_steps key by rows n s ss g a d =
+      let one : IsGood rows s = All-head (IsGood rows) s ss g in
+      let h : Handled = handled key s in
+      let moved : IsMoved key s.core h.rows h.site.core = handled_moves key s one.order (λ _. due_fits s key (least_in (dues s) key d)) in
+      let p : Passes rows h.rows s.core.queue h.site.core.queue = chain_passes key by h.rows rows s.core.queue h.site.core.queue moved.chain one.order.stocked one.holds in
+      let site : number_of s.core ≡ number_of h.site.core = (chain_keeps key h.rows s.core.queue h.site.core.queue moved.chain one.order.stocked).site in
+      let others : All (λ x. n + 1 ≤ number_of x.core) ss = above (n + 1) ss a.1 in
+      let rest : All (IsGood rows) ss = All-tail (IsGood rows) s ss g in
+      record {
+        each = p.each;
+        good =
+            All-cons (IsGood (rows ++ h.rows)) h.site ss (record { order = moved.order; holds = p.here })
+            (λ i e l.
+            let x : Site = get_or ss i e in
+            let far : n + 1 ≤ number_of x.core = others i e l in
+            record { order = (rest i e l).order; holds = p.apart x.core.queue (λ y. absurd (omega (arith, far, y, a.0))) (rest i e l).holds });
+        numbers = (sym site ∙ a.0, a.1);
+        before = λ q l k. p.apart q (λ y. absurd (omega (arith, l, y, a.0))) k;
+      }
+
+  there_steps : (rows : List Row) (n : ℕ) (s : Site) (ss : List Site) (t : Stepped) → All (IsGood rows) (s ∷ ss) → AreNumbered n (s ∷ ss) → Steps rows (n + 1) t → Steps rows n (handled_there s t)
+  there_steps rows n s ss t g a h =
+      let one : IsGood rows s = All-head (IsGood rows) s ss g in
+      record {
+        each = h.each;
+        good = All-cons (IsGood (rows ++ t.rows)) s t.sites (record { order = one.order; holds = h.before s.core.queue (omega (arith, a.0)) one.holds }) h.good;
+        numbers = (a.0, h.numbers);
+        before = λ q l k. h.before q (omega (arith, l)) k;
+      }
+
+  among_steps : (key : Key) → key.at ≤ scenario.horizon → (sites : List Site) (rows : List Row) (n : ℕ) → All (IsGood rows) sites → AreNumbered n sites → Steps rows n (handled_among key sites)
+  among_steps key by [] rows n g a =
+      record {
+        each = tt;
+        good = All-nil (IsGood (rows ++ []));
+        numbers = tt;
+        before = λ q l k. subst (λ r. Holds r q) (sym (append-nil rows)) k;
+      }
+  among_steps key by (s ∷ ss) rows n g a =
+      elim (is_due key (least_due s)) as
+      (λ b. is_due key (least_due s) ≡ b → Steps rows n (if b then handled_here (handled key s) ss else handled_there s (handled_among key ss))) [
+        | true ↦ λ i. here_steps key by rows n s ss g a (is_due_least key (least_due s) i)
+        | false ↦ λ i. there_steps rows n s ss (handled_among key ss) g a (among_steps key by ss rows (n + 1) (All-tail (IsGood rows) s ss g) a.1)
+      ] refl
+
+  -- delivery
+  one_good : (rows : List Row) (o : Outbound) (s : Site) → IsGood rows s → IsGood rows (delivered_one o s)
+  one_good rows o s g = either (IsGood rows) (o.to == number_of s.core) (accepted o s) s (record { order = g.order; holds = g.holds }) g
+
+  one_number : (o : Outbound) (s : Site) → number_of (delivered_one o s).core ≡ number_of s.core
+  one_number o s = either (λ (y : Site). number_of y.core ≡ number_of s.core) (o.to == number_of s.core) (accepted o s) s refl refl
+
+  map_numbers : (o : Outbound) (n : ℕ) (sites : List Site) → AreNumbered n sites → AreNumbered n (map (delivered_one o) sites)
+  map_numbers o n [] a = tt
+  map_numbers o n (s ∷ ss) a = (one_number o s ∙ a.0, map_numbers o (n + 1) ss a.1)
+
+  delivers : (rows : List Row) (os : List Outbound) (sites : List Site) → All (IsGood rows) sites → AreNumbered 0 sites → All (IsGood rows) (delivered os sites) × AreNumbered 0 (delivered os sites)
+  delivers rows [] sites g a = (g, a)
+  delivers rows (o ∷ os) sites g a =
+      delivers rows os (map (delivered_one o) sites)
+      (All-map (IsGood rows) (delivered_one o) sites (All-weaker (IsGood rows) (λ s. IsGood rows (delivered_one o s)) (λ s. one_good rows o s) sites g)) (map_numbers o 0 sites a)
+
+  -- a run
+  record IsLawful (r : Run) : Type 0 where
+    pub each : EachAfter Meets [] r.rows
+    pub good : All (IsGood r.rows) r.sites
+    pub numbers : AreNumbered 0 r.sites
+
+  -- what is due next is due by the horizon
+  due_within : (o : Option Key) (key : Key) → due_by scenario.horizon o ≡ Some key → key.at ≤ scenario.horizon
+  due_within None key e = cc
+  due_within (Some k) key e =
+      elim (nat_le k.at scenario.horizon) as (λ b. nat_le k.at scenario.horizon ≡ b → (if b then Some k else None) ≡ Some key → key.at ≤ scenario.horizon) [
+        | true ↦ λ t f. let is : k ≡ key = cc in subst (λ (x : Key). x.at ≤ scenario.horizon) is (leb-true k.at scenario.horizon t)
+        | false ↦ λ t f. cc
+      ] refl e
+
+  stepped_lawful : (r : Run) (due : Option Key) → ((key : Key) → due ≡ Some key → key.at ≤ scenario.horizon) → IsLawful r → IsLawful (stepped_at r due)
+  stepped_lawful r None w h = h
+  stepped_lawful r (Some key) w h =
+      let t : Stepped = handled_among key r.sites in
+      let s : Steps r.rows 0 t = among_steps key (w key refl) r.sites r.rows 0 h.good h.numbers in
+      let d = delivers (r.rows ++ t.rows) t.sent t.sites s.good s.numbers in
+      record { each = each_append Meets [] r.rows t.rows h.each s.each; good = d.0; numbers = d.1 }
+
+  after_lawful : (n : ℕ) (start : List Site) → IsLawful (record { sites = start; rows = [] }) → IsLawful (after scenario.horizon n start)
+  after_lawful zero start h = h
+  after_lawful (suc n) start h =
+      let r : Run = after scenario.horizon n start in stepped_lawful r (next_due scenario.horizon r.sites) (due_within (world_due r.sites)) (after_lawful n start h)
+
+  -- the opening
+  opening_order : (x : ℕ × QueueSettings) → IsInOrder (opening_site scenario x).core
+  opening_order (n, settings) =
+      record {
+        stocked = record { ordered = tt; given_out = All-nil (λ (m : Message). m.number < 0); entries = All-nil (λ (e : Entry). e.number < 0) };
+        actors =
+            All-map (IsInformed n 0) (opening_actor scenario.seed) (filter (λ x. x.1.home == n) (numbered_actors scenario))
+            (λ i e l. record { held = tt; done = tt; failed = tt });
+      }
+
+  opens : (n : ℕ) (queues : List QueueSettings) → ((i : ℕ) (q : QueueSettings) → slice_get queues i ≡ Some q → slice_get scenario.queues (n + i) ≡ Some q) → All (IsGood []) (map (opening_site scenario) (enumerate_from n queues)) × AreNumbered n (map (opening_site scenario) (enumerate_from n queues))
+  opens n [] f = (All-nil (IsGood []), tt)
+  opens n (q ∷ qs) f =
+      let rest = opens (n + 1) qs (λ i x e. let same : n + 1 + i ≡ n + suc i = omega arith in subst (λ k. slice_get scenario.queues k ≡ Some x) (sym same) (f (suc i) x e)) in
+      let own : slice_get scenario.queues n ≡ Some q = let same : n + 0 ≡ n = omega arith in subst (λ k. slice_get scenario.queues k ≡ Some q) same (f 0 q refl) in
+      (All-cons (IsGood []) _ _ (record { order = opening_order (n, q); holds = law.opens n q own }) rest.0, (refl, rest.1))
+
+  every_row_after : (n : ℕ) → EachRow (after scenario.horizon n (opening scenario)).rows Meets
+  every_row_after n =
+      let o = opens 0 scenario.queues (λ i q e. let same : i ≡ 0 + i = omega arith in subst (λ k. slice_get scenario.queues k ≡ Some q) same e) in
+      each_row Meets (after scenario.horizon n (opening scenario)).rows (after_lawful n (opening scenario) (record { each = tt; good = o.0; numbers = o.1 })).each
+
+  pub every_row : (r : Run) → IsRunOf scenario r → EachRow r.rows Meets
+  every_row r is = subst (λ (x : Run). EachRow x.rows Meets) is.reached (every_row_after is.steps)

@@ -1,0 +1,97 @@
+-- What rows say: their kinds and answers, and what the rows before one row say of its message.
+use Rattle.std.specs.List.{list_any}
+use Rattle.std.specs.Prelude.{Bool, List, Option, Some, count_by, false, true, ℕ, ◌&&◌, ◌++◌, ◌==◌, ◌∷◌, ◌≡◌, ◌||◌}
+use Rattle.sqs_message.specs.declared.ids.MessageId.{MessageId}
+use Rattle.sqs_message.specs.declared.row.Row.{Row}
+use Rattle.sqs_message.specs.declared.row.RowAnswer.{RowAnswer}
+use Rattle.sqs_message.specs.declared.row.RowAnswer.TheVariants as answers
+use Rattle.sqs_message.specs.declared.row.RowKind.{RowKind}
+use Rattle.sqs_message.specs.declared.row.RowKind.TheVariants as kinds
+use Rattle.sqs_model.specs.Accounts.{is_deleted, is_expired, same_id}
+
+-- kinds of rows
+abbrev pub is_receive : RowKind → Bool
+is_receive kinds.Receive = true
+is_receive _ = false
+
+abbrev pub is_change : RowKind → Bool
+is_change kinds.Change = true
+is_change _ = false
+
+abbrev pub is_fail : RowKind → Bool
+is_fail kinds.Fail = true
+is_fail _ = false
+
+abbrev pub is_forward : RowKind → Bool
+is_forward kinds.Forward = true
+is_forward _ = false
+
+abbrev pub is_release : RowKind → Bool
+is_release kinds.Release = true
+is_release _ = false
+
+abbrev pub is_redrive : RowKind → Bool
+is_redrive kinds.Redrive = true
+is_redrive _ = false
+
+abbrev pub is_move : RowKind → Bool
+is_move kinds.Move = true
+is_move _ = false
+
+-- answers of rows
+abbrev pub is_new : RowAnswer → Bool
+is_new answers.New = true
+is_new _ = false
+
+abbrev pub is_repeat : RowAnswer → Bool
+is_repeat answers.Repeat = true
+is_repeat _ = false
+
+abbrev pub is_ok : RowAnswer → Bool
+is_ok answers.Ok = true
+is_ok _ = false
+
+abbrev pub is_gone : RowAnswer → Bool
+is_gone answers.Gone = true
+is_gone _ = false
+
+-- a message comes to its queue; it is received; its timeout is changed; it leaves its queue for good
+abbrev pub comes : Row → Bool
+comes r = is_new r.answer
+
+abbrev pub received : Row → Bool
+received r = is_receive r.kind && is_ok r.answer
+
+abbrev pub changed : Row → Bool
+changed r = is_change r.kind && is_ok r.answer
+
+abbrev pub leaves : Row → Bool
+leaves r = is_deleted r.answer || is_expired r.answer || is_redrive r.kind || is_move r.kind
+
+-- a row names a message
+abbrev pub names : MessageId → Row → Bool
+names m r = same_id (Some m) r.message
+
+-- what holds of each row, with the rows before it
+abbrev pub EachRow : List Row → (List Row → Row → Type 0) → Type 0
+EachRow rows P = (before : List Row) (r : Row) (after : List Row) → rows ≡ before ++ (r ∷ after) → P before r
+
+-- what holds of each row that names a message
+abbrev pub EachNaming : List Row → (List Row → Row → MessageId → Type 0) → Type 0
+EachNaming rows P = EachRow rows (λ before r. (m : MessageId) → r.message ≡ Some m → P before r m)
+
+-- how many messages came to a queue
+abbrev pub comings : ℕ → List Row → ℕ
+comings n rows = count_by (λ r. comes r && r.queue == n) rows
+
+-- how often a message was received since it came
+abbrev pub times : MessageId → List Row → ℕ
+times m rows = count_by (λ r. received r && names m r) rows
+
+-- whether a message has left its queue
+abbrev pub has_left : MessageId → List Row → Bool
+has_left m rows = list_any (λ r. leaves r && names m r) rows
+
+-- the rows that may still name a message that has left
+abbrev pub may_follow : Row → Bool
+may_follow r = is_gone r.answer || is_repeat r.answer || is_fail r.kind || is_forward r.kind

@@ -1,0 +1,7 @@
+//! Laws of the log: what holds of the rows of every run, in their own words. Rows come in the order
+//! in which the log has them.
+#![tactic(auto)]
+
+mod laws;
+
+pub use laws::log_keeps_the_rules;
