@@ -1,10 +1,9 @@
 -- The running figures at the end are the figures.
-use Rattle.std.proofs.Common.{◌≡◌, ℕ, ◌+◌, Bool, true, false, cond, nat_lt, Option, Some, None, List, [], ◌∷◌, ◌++◌, length, map, fold, refl, sym, ap, ◌∙◌, arith}
+use Rattle.std.proofs.Common.{◌≡◌, ℕ, ◌+◌, Bool, true, false, cond, nat_lt, List, [], ◌∷◌, ◌++◌, length, map, fold, refl, sym, ap, ◌∙◌, arith}
 use Rattle.std.specs.Prelude.{codes, flat_map}
 use Rattle.std.specs.List.{enumerate_from}
 use Rattle.std.proofs.lemmas.List.{append-nil, append_assoc, map-append}
 use Rattle.std.proofs.lemmas.List.Sums.{fold_push}
-use Rattle.std.proofs.lemmas.Bool.Decides.{nat_tests}
 use Rattle.std.proofs.lemmas.List.Concat.{flat_map-append}
 use Rattle.sqs_message.specs.declared.row.Row.{Row}
 use Rattle.sqs_formats.specs.Report.{ages, ascending, depth, rows_of}
@@ -12,37 +11,12 @@ use Rattle.sqs_formats.specs.Rows.{line, lines}
 use Rattle.sim_report.specs.declared.held.Held.{Held}
 use Rattle.sim_report.specs.declared.stretch.Stretch.{Stretch}
 use Rattle.sim_report.specs.Facts.{fact_of}
-use Rattle.sim_report.specs.Figures.{Figure, actor_figures, count_of_row, counts_of, figure_fields, figures_header, figures_of_actor, figures_of_queue, figures_text, held_after, held_with, higher, hold_of, in_flight, is_serving, is_within, levels_from, named_ages, named_counts, named_peak, named_tries, overlap, peak_of, queue_figures, rows_before, rows_by, rows_of_moved, rows_of_new, rows_within, time_from, time_while, tries}
-use Rattle.sim_report.specs.Figured.{ActorState, QueueState, actor_numbers, actor_records, actor_state, actor_with, ages_named, busy_until_end, figured, fresh_actor, fresh_queue, higher_of, peak_in, peak_state, queue_ages, queue_numbers, queue_records, queue_sizes, queue_state, raised}
+use Rattle.sim_report.specs.Figures.{Figure, actor_figures, count_of_row, counts_of, figure_fields, figures_header, figures_of_actor, figures_of_queue, figures_records, figures_text, held_after, held_with, hold_of, in_flight, is_serving, is_within, named_ages, named_counts, named_peak, named_tries, overlap, peak_of, queue_figures, rows_by, rows_of_moved, rows_of_new, rows_until, rows_within, time_from, time_while, tries, tries_of}
+use Rattle.sim_report.specs.Figured.{ActorState, QueueState, actor_numbers, actor_records, actor_state, actor_with, ages_named, busy_until_end, figured, figured_before, fresh_actor, fresh_queue, queue_ages, queue_numbers, queue_records, queue_sizes, queue_state}
 use Rattle.sim_report.specs.Tally.{counted}
 use Rattle.sim_report.proofs.Ascending.{sum_by-ascending}
 use Rattle.sim_report.proofs.Groups.{filter-push, rank-ascending}
 use Rattle.sim_report.proofs.Figuring.{counts-push}
-
--- of three numbers the highest, in whatever order
-higher-of : (a b c : ℕ × ℕ) (p q r : Bool) → nat_lt a.1 b.1 ≡ p → nat_lt b.1 c.1 ≡ q → nat_lt a.1 c.1 ≡ r → higher a (cond q c b) ≡ higher (cond p b a) c
-higher-of a b c true true r e f g =
-    let over : nat_lt a.1 c.1 ≡ true = grind (arith, nat_tests) in
-    rw (over, f) refl
-higher-of a b c true false r e f g = rw (e, f) refl
-higher-of a b c false true r e f g = refl
-higher-of a b c false false r e f g =
-    let under : nat_lt a.1 c.1 ≡ false = grind (arith, nat_tests) in
-    rw (e, under) refl
-
-higher-again : (a b c : ℕ × ℕ) → higher a (higher b c) ≡ higher (higher a b) c
-higher-again a b c = higher-of a b c (nat_lt a.1 b.1) (nat_lt b.1 c.1) (nat_lt a.1 c.1) refl refl refl
-
-peak-from : (start : ℕ × ℕ) (first : Option (ℕ × ℕ)) (ns : List (ℕ × ℕ))
-    → higher_of start (fold (λ f s. Some (raised f s)) first ns) ≡ fold higher (higher_of start first) ns
-peak-from start first [] = refl
-peak-from start None (n ∷ ns) = peak-from start (Some n) ns
-peak-from start (Some m) (n ∷ ns) =
-    peak-from start (Some (higher m n)) ns ∙ ap (λ (h : ℕ × ℕ). fold higher h ns) (higher-again start m n)
-
--- the peak of a number of rows
-peak-is : (level : List Row → ℕ) (s : Stretch) (rows : List Row) → peak_in s (peak_state level s rows) ≡ peak_of level s rows
-peak-is level s rows = peak-from (s.from, level (rows_before s rows)) None (levels_from level s [] rows)
 
 -- ages by their names
 ages-named : (name ns : List ℕ) → ages_named name (ascending ns) ≡ named_ages name ns
@@ -85,15 +59,12 @@ unfolding queue_ages
 ages-lines f text q = ages-lines_of f text (ages_named (codes "age") q.ages) (ages_named (codes "new_age") q.new_ages) (ages_named (codes "moved_age") q.moved_ages)
 
 -- the figures of a queue
-pub queue-is : (n : ℕ) (s : Stretch) (name : List ℕ) (rows : List Row) → queue_numbers s (queue_state n s name rows) ≡ queue_figures n s rows
+pub queue-is : (n : ℕ) (s : Stretch) (name : List ℕ) (rows : List Row) → queue_numbers (queue_state n s name rows) ≡ queue_figures n s rows
 unfolding queue_sizes
 queue-is n s name rows =
-    let sizes : ℕ × ℕ → ℕ × ℕ → List Figure = λ depths flights.
-    named_peak (codes "depth") depths ++ (named_peak (codes "in_flight") flights ++ named_tries (tries (rows_within s rows))) in
-    let all : ℕ × ℕ → ℕ × ℕ → List Figure → List Figure = λ depths flights rest. named_counts (counts_of n (rows_within s rows)) ++ (sizes depths flights ++ rest) in
-    ap (λ (fs : List Figure). all (peak_in s (peak_state depth s rows)) (peak_in s (peak_state in_flight s rows)) fs) (ages-are n s name rows)
-    ∙ ap (λ (p : ℕ × ℕ). all p (peak_in s (peak_state in_flight s rows)) (age_figures_of n s rows)) (peak-is depth s rows)
-    ∙ ap (λ (p : ℕ × ℕ). all (peak_of depth s rows) p (age_figures_of n s rows)) (peak-is in_flight s rows)
+    let sizes : List Figure =
+    named_peak (codes "depth") (peak_of depth s rows) ++ (named_peak (codes "in_flight") (peak_of in_flight s rows) ++ named_tries (tries_of (tries (rows_within s rows)))) in
+    ap (λ (fs : List Figure). named_counts (counts_of n (rows_within s rows)) ++ (sizes ++ fs)) (ages-are n s name rows)
 
 -- the counts of an actor after one more row
 counts-step : (n : ℕ) (s : Stretch) (before : List Row) (row : Row) (b : Bool) → is_within s row ≡ b
@@ -107,23 +78,23 @@ counts-step n s before row false e =
 
 -- the counts of an actor after more rows
 actor-counts : (n : ℕ) (s : Stretch) (a : ActorState) (before rows : List Row) → a.counts ≡ counts_of n (rows_within s before)
-    → (fold (λ a row. actor_with n s (fact_of row) a) a rows).counts ≡ counts_of n (rows_within s (before ++ rows))
+    → (fold (λ a row. actor_with (count_of_row n row) s (fact_of row) a) a rows).counts ≡ counts_of n (rows_within s (before ++ rows))
 actor-counts n s a before [] e = e ∙ ap (λ rs. counts_of n (rows_within s rs)) (sym (append-nil before))
 actor-counts n s a before (row ∷ rows) e =
     let step = λ (ns : List ℕ). cond (is_within s row) (counted (count_of_row n row) ns) ns in
     let here = ap step e ∙ counts-step n s before row (is_within s row) refl in
-    actor-counts n s (actor_with n s (fact_of row) a) (before ++ row ∷ []) rows here
+    actor-counts n s (actor_with (count_of_row n row) s (fact_of row) a) (before ++ row ∷ []) rows here
     ∙ ap (λ rs. counts_of n (rows_within s rs)) (append_assoc before (row ∷ []) rows)
 
 -- how long it served, after more rows
 actor-busy : (n : ℕ) (s : Stretch) (a : ActorState) (before rows : List Row) → a.held ≡ held_after before
-    → busy_until_end s (fold (λ a row. actor_with n s (fact_of row) a) a rows) ≡ a.busy + time_from is_serving s before a.at rows
+    → busy_until_end s (fold (λ a row. actor_with (count_of_row n row) s (fact_of row) a) a rows) ≡ a.busy + time_from is_serving s before a.at rows
 actor-busy n s a before [] e = ap (λ (h : Held). a.busy + cond (nat_lt 0 h.number) (overlap s a.at s.until) 0) e
 actor-busy n s a before (row ∷ rows) e =
     let held : held_with (hold_of row.kind row.answer) a.held ≡ held_after (before ++ row ∷ []) =
     ap (held_with (hold_of row.kind row.answer)) e
     ∙ sym (fold_push (λ h (r : Row). held_with (hold_of r.kind r.answer) h) (record { number = 0; receiving = false }) before row) in
-    let rest = actor-busy n s (actor_with n s (fact_of row) a) (before ++ row ∷ []) rows held in
+    let rest = actor-busy n s (actor_with (count_of_row n row) s (fact_of row) a) (before ++ row ∷ []) rows held in
     let here : cond (nat_lt 0 a.held.number) (overlap s a.at row.key.at) 0 ≡ cond (is_serving before) (overlap s a.at row.key.at) 0 =
     ap (λ (h : Held). cond (nat_lt 0 h.number) (overlap s a.at row.key.at) 0) e in
     rest ∙ grind (arith, here)
@@ -137,18 +108,18 @@ actor-is n s name rows =
     rw (counts, busy) refl
 
 -- an actor keeps its name
-actor-name : (n : ℕ) (s : Stretch) (a : ActorState) (rows : List Row) → (fold (λ a row. actor_with n s (fact_of row) a) a rows).name ≡ a.name
+actor-name : (n : ℕ) (s : Stretch) (a : ActorState) (rows : List Row) → (fold (λ a row. actor_with (count_of_row n row) s (fact_of row) a) a rows).name ≡ a.name
 actor-name n s a [] = refl
-actor-name n s a (row ∷ rows) = actor-name n s (actor_with n s (fact_of row) a) rows
+actor-name n s a (row ∷ rows) = actor-name n s (actor_with (count_of_row n row) s (fact_of row) a) rows
 
 queues-from : (m n : ℕ) (s : Stretch) (queues : List (List ℕ)) (rows : List Row)
-    → flat_map (queue_records s) (map (λ q. queue_state n s q.1 (rows_of q.0 rows)) (enumerate_from m queues))
+    → flat_map queue_records (map (λ q. queue_state n s q.1 (rows_of q.0 rows)) (enumerate_from m queues))
     ≡ flat_map (figures_of_queue n s rows) (enumerate_from m queues)
 queues-from m n s [] rows = refl
 queues-from m n s (name ∷ names) rows =
     let here = ap (map (figure_fields name)) (queue-is n s name (rows_of m rows)) in
     let rest = queues-from (m + 1) n s names rows in
-    ap (λ (rs : List (List (List ℕ))). rs ++ flat_map (queue_records s) (map (λ q. queue_state n s q.1 (rows_of q.0 rows)) (enumerate_from (m + 1) names))) here
+    ap (λ (rs : List (List (List ℕ))). rs ++ flat_map queue_records (map (λ q. queue_state n s q.1 (rows_of q.0 rows)) (enumerate_from (m + 1) names))) here
     ∙ ap (λ (rs : List (List (List ℕ))). map (figure_fields name) (queue_figures n s (rows_of m rows)) ++ rs) rest
 
 actors-from : (m n : ℕ) (s : Stretch) (actors : List (List ℕ)) (rows : List Row)
@@ -164,23 +135,29 @@ actors-from m n s (name ∷ names) rows =
     ∙ ap (λ (rs : List (List (List ℕ))). map (figure_fields name) (actor_figures n s (rows_by m rows)) ++ rs) rest
 
 -- the text of the running figures is that of the figures
-pub text-is : (queues actors : List (List ℕ)) (s : Stretch) (rows : List Row)
-    → line figures_header ++ (lines (flat_map (queue_records s) (figured queues actors s rows).of_queues) ++ lines (flat_map (actor_records s) (figured queues actors s rows).of_actors))
-    ≡ figures_text queues actors s rows
-unfolding figured
-text-is queues actors s rows =
+text-before : (queues actors : List (List ℕ)) (s : Stretch) (rows : List Row)
+    → line figures_header ++ (lines (flat_map queue_records (figured_before queues actors s rows).of_queues) ++ lines (flat_map (actor_records s) (figured_before queues actors s rows).of_actors))
+    ≡ lines (figures_records queues actors s rows)
+unfolding figured_before
+text-before queues actors s rows =
     let of_queues = queues-from 0 (length queues) s queues rows in
     let of_actors = actors-from (length queues) (length queues) s actors rows in
     let first = flat_map (figures_of_queue (length queues) s rows) (enumerate_from 0 queues) in
     let second = flat_map (figures_of_actor (length queues) s rows) (enumerate_from (length queues) actors) in
     ap (λ (text : List ℕ). line figures_header ++ text)
-    (ap (λ (rs : List (List (List ℕ))). lines rs ++ lines (flat_map (actor_records s) (figured queues actors s rows).of_actors)) of_queues
+    (ap (λ (rs : List (List (List ℕ))). lines rs ++ lines (flat_map (actor_records s) (figured_before queues actors s rows).of_actors)) of_queues
     ∙ ap (λ (rs : List (List (List ℕ))). lines first ++ lines rs) of_actors
     ∙ sym (flat_map-append line first second))
 
-queues-none : (m n : ℕ) (s : Stretch) (names : List (List ℕ)) → map fresh_queue names ≡ map (λ q. queue_state n s q.1 []) (enumerate_from m names)
+pub text-is : (queues actors : List (List ℕ)) (s : Stretch) (rows : List Row)
+    → line figures_header ++ (lines (flat_map queue_records (figured queues actors s rows).of_queues) ++ lines (flat_map (actor_records s) (figured queues actors s rows).of_actors))
+    ≡ figures_text queues actors s rows
+unfolding figured
+text-is queues actors s rows = text-before queues actors s (rows_until s rows)
+
+queues-none : (m n : ℕ) (s : Stretch) (names : List (List ℕ)) → map (fresh_queue s) names ≡ map (λ q. queue_state n s q.1 []) (enumerate_from m names)
 queues-none m n s [] = refl
-queues-none m n s (name ∷ names) = ap (λ (qs : List QueueState). fresh_queue name ∷ qs) (queues-none (m + 1) n s names)
+queues-none m n s (name ∷ names) = ap (λ (qs : List QueueState). fresh_queue s name ∷ qs) (queues-none (m + 1) n s names)
 
 actors-none : (m n : ℕ) (s : Stretch) (names : List (List ℕ)) → map fresh_actor names ≡ map (λ a. actor_state n s a.1 []) (enumerate_from m names)
 actors-none m n s [] = refl
@@ -188,11 +165,6 @@ actors-none m n s (name ∷ names) = ap (λ (rest : List ActorState). fresh_acto
 
 -- the figures of no rows
 pub figured-none : (queues actors : List (List ℕ)) (s : Stretch)
-    → record { stretch = s; of_queues = map fresh_queue queues; of_actors = map fresh_actor actors } ≡ figured queues actors s []
-unfolding figured
+    → record { stretch = s; of_queues = map (fresh_queue s) queues; of_actors = map fresh_actor actors } ≡ figured queues actors s []
+unfolding figured figured_before
 figured-none queues actors s = rw (queues-none 0 (length queues) s queues, actors-none (length queues) (length queues) s actors) refl
-
--- the figures are of their stretch
-pub stretch-is : (queues actors : List (List ℕ)) (s : Stretch) (rows : List Row) → (figured queues actors s rows).stretch ≡ s
-unfolding figured
-stretch-is queues actors s rows = refl

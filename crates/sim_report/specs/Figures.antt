@@ -1,5 +1,5 @@
 -- Figures: what a stretch of a run says of a queue or an actor, over the rows of its log.
-use Rattle.std.specs.Prelude.{ℕ, ◌+◌, ◌-◌, ◌==◌, ◌||◌, nat_le, nat_lt, not, Bool, true, false, codes, cond, max, min, List, [], ◌∷◌, ◌++◌, filter, filter_map, flat_map, fold, length, map, option_map, sum, zip, Option, Some, None}
+use Rattle.std.specs.Prelude.{ℕ, ◌+◌, ◌-◌, ◌==◌, nat_le, nat_lt, not, Bool, true, false, codes, cond, max, List, [], ◌∷◌, ◌++◌, filter, filter_map, flat_map, fold, length, map, option_map, sum, zip, Option, Some, None}
 use Rattle.std.specs.BTreeMap.{is_at}
 use Rattle.std.specs.BTreeSet.{insert_key}
 use Rattle.std.specs.Set.{remove_key}
@@ -22,14 +22,20 @@ use Rattle.sqs_formats.specs.Report.{ages, counts_in, depth, greatest, is_column
 use Rattle.sqs_formats.specs.Rows.{lines, text_if}
 use Rattle.sim_report.specs.declared.stretch.Stretch.{Stretch}
 use Rattle.sim_report.specs.declared.held.Held.{Held}
+use Rattle.sim_report.specs.declared.peak.Peak.{Peak}
+use Rattle.sim_report.specs.declared.tries.Tries.{Tries}
 use Rattle.sim_report.specs.declared.fact.Flight.{Flight}
-use Rattle.sim_report.specs.declared.fact.Flight.TheVariants.{Begins, Ends, Stays}
+use Rattle.sim_report.specs.declared.fact.Flight.TheVariants.{Begins, Leaves, Returns, Stays}
 use Rattle.sim_report.specs.declared.fact.Hold.{Hold}
 use Rattle.sim_report.specs.declared.fact.Hold.TheVariants.{Asks, Keeps, Settles, Takes}
 
--- whether a row lies in a stretch
+-- the rows before the end of a stretch; all that follows is over these
+abbrev pub rows_until : Stretch → List Row → List Row
+rows_until s rows = filter (λ row. nat_lt row.key.at s.until) rows
+
+-- whether a row of these lies in the stretch
 abbrev pub is_within : Stretch → Row → Bool
-is_within s row = cond (nat_le s.from row.key.at) (nat_lt row.key.at s.until) false
+is_within s row = nat_le s.from row.key.at
 
 -- its rows, and the first rows, which are before it
 abbrev pub rows_within : Stretch → List Row → List Row
@@ -37,15 +43,15 @@ rows_within s rows = filter (is_within s) rows
 
 abbrev pub rows_before : Stretch → List Row → List Row
 rows_before s [] = []
-rows_before s (row ∷ rows) = cond (nat_lt row.key.at s.from) (row ∷ rows_before s rows) []
+rows_before s (row ∷ rows) = cond (is_within s row) [] (row ∷ rows_before s rows)
 
 -- the rows of an actor
 abbrev pub rows_by : ℕ → List Row → List Row
 rows_by n rows = filter (λ row. row.agent == n) rows
 
--- how much of the time from one moment to another lies in a stretch
+-- how much of the time from one moment to another, which is not past its end, lies in a stretch
 abbrev pub overlap : Stretch → ℕ → ℕ → ℕ
-overlap s first last = min last s.until - max first s.from
+overlap s first last = last - max first s.from
 
 -- the names of what is counted, by place, where the lines begin with 0, 5, 10, 14 and 19; a row counts once at most
 unfoldable pub count_names : List (List ℕ)
@@ -103,29 +109,29 @@ abbrev pub counts_of : ℕ → List Row → List ℕ
 counts_of queues rows = map (counted_in queues rows) (numbers 0 count_names)
 
 -- of two numbers with their moments the greater, and the earlier one if they are equal
-abbrev pub higher : ℕ × ℕ → ℕ × ℕ → ℕ × ℕ
-higher first second = cond (nat_lt first.1 second.1) second first
+abbrev pub higher : Peak → Peak → Peak
+higher first second = cond (nat_lt first.number second.number) second first
 
 -- what a number of rows so far is after those of these rows that lie in a stretch, with their moments; `before` come
 -- before
-abbrev pub levels_from : (List Row → ℕ) → Stretch → List Row → List Row → List (ℕ × ℕ)
+abbrev pub levels_from : (List Row → ℕ) → Stretch → List Row → List Row → List Peak
 levels_from level s before [] = []
 levels_from level s before (row ∷ rows) =
     let so_far = before ++ row ∷ [] in
-    cond (is_within s row) ((row.key.at, level so_far) ∷ []) [] ++ levels_from level s so_far rows
+    cond (is_within s row) (record { at = row.key.at; number = level so_far } ∷ []) [] ++ levels_from level s so_far rows
 
 -- the greatest of such a number, at the beginning of a stretch or after one of its rows, with the first such moment
-abbrev pub peak_of : (List Row → ℕ) → Stretch → List Row → ℕ × ℕ
-peak_of level s rows = fold higher (s.from, level (rows_before s rows)) (levels_from level s [] rows)
+abbrev pub peak_of : (List Row → ℕ) → Stretch → List Row → Peak
+peak_of level s rows = fold higher (record { at = s.from; number = level (rows_before s rows) }) (levels_from level s [] rows)
 
--- what a row does to the flight of its message
+-- what a row does to its message: receives it, brings it back or takes it out of the queue
 abbrev pub flight_of : RowKind → RowAnswer → Flight
 flight_of kinds.Receive answers.Ok = Begins
-flight_of kinds.Release answers.Visible = Ends
-flight_of kinds.Delete answers.Deleted = Ends
-flight_of kinds.Redrive answers.Out = Ends
-flight_of kinds.Move answers.Out = Ends
-flight_of kinds.Expire answers.Expired = Ends
+flight_of kinds.Release answers.Visible = Returns
+flight_of kinds.Delete answers.Deleted = Leaves
+flight_of kinds.Redrive answers.Out = Leaves
+flight_of kinds.Move answers.Out = Leaves
+flight_of kinds.Expire answers.Expired = Leaves
 flight_of kind answer = Stays
 
 -- the number of a row's message in its queue
@@ -136,7 +142,8 @@ number_of None = 0
 -- the messages in flight, by their numbers in ascending order, with one more row
 abbrev pub flying_with : Flight → ℕ → List ℕ → List ℕ
 flying_with Begins n ns = insert_key nat_cmp ns n
-flying_with Ends n ns = remove_key (is_at (nat_cmp n)) ns
+flying_with Returns n ns = remove_key (is_at (nat_cmp n)) ns
+flying_with Leaves n ns = remove_key (is_at (nat_cmp n)) ns
 flying_with Stays n ns = ns
 
 -- the messages in flight after these rows of a queue
@@ -157,21 +164,35 @@ tries_when deletes receipt = None
 abbrev pub tries : List Row → List ℕ
 tries rows = filter_map (λ row. tries_when (counts_in 4 row) row.receipt) rows
 
+-- what tries come to: how many messages were received once, and how many more often
+abbrev pub tries_of : List ℕ → Tries
+tries_of ns =
+    record {
+      once = length (filter (λ n. n == 1) ns);
+      again = length (filter (λ n. nat_lt 1 n) ns);
+      sum = sum ns;
+      greatest = greatest ns;
+    }
+
 -- the rows of which something holds, given the rows before them; `before` come before all
 abbrev pub rows_where : (List Row → Row → Bool) → List Row → List Row → List Row
 rows_where holds before [] = []
 rows_where holds before (row ∷ rows) =
     cond (holds before row) (row ∷ []) [] ++ rows_where holds (before ++ row ∷ []) rows
 
--- whether a message leaves its queue by a row
-abbrev pub takes_out : Row → Bool
-takes_out row = counts_in 4 row || counts_in 5 row || counts_in 6 row || counts_in 7 row
+-- the messages of a queue that stay there by a row that does this to its message, by their numbers
+abbrev pub staying : Flight → ℕ → List ℕ → List ℕ
+staying Leaves n ns = remove_key (is_at (nat_cmp n)) ns
+staying flight n ns = ns
 
--- the messages that are in a queue and came by a move, by their numbers in ascending order, with one more row
+-- the messages that are in a queue and came by a move, by their numbers in ascending order, with a row that counts as
+-- this and does this to its message
+abbrev pub moved_by : Option ℕ → Flight → ℕ → List ℕ → List ℕ
+moved_by place flight n ns = cond (is_column 4 place) (insert_key nat_cmp ns n) (staying flight n ns)
+
+-- with one more row
 abbrev pub moved_with : ℕ → List ℕ → Row → List ℕ
-moved_with queues ns row =
-    cond (is_column 4 (count_of_row queues row)) (insert_key nat_cmp ns (number_of row.message))
-    (cond (takes_out row) (remove_key (is_at (nat_cmp (number_of row.message))) ns) ns)
+moved_with queues ns row = moved_by (count_of_row queues row) (flight_of row.kind row.answer) (number_of row.message) ns
 
 -- these messages after these rows of a queue
 abbrev pub moved_here : ℕ → List Row → List ℕ
@@ -234,29 +255,33 @@ abbrev pub named_counts : List ℕ → List Figure
 named_counts ns = map (λ p. (p.0, Some p.1)) (zip count_names ns)
 
 -- a peak by its names
-abbrev pub named_peak : List ℕ → ℕ × ℕ → List Figure
-named_peak name peak = (name ++ codes "_greatest", Some peak.1) ∷ (name ++ codes "_greatest_at_ms", Some peak.0) ∷ []
+abbrev pub named_peak : List ℕ → Peak → List Figure
+named_peak name peak =
+    (name ++ codes "_greatest", Some peak.number) ∷ (name ++ codes "_greatest_at_ms", Some peak.at) ∷ []
 
--- tries by their names: how many messages were received once, and how many more often
-abbrev pub named_tries : List ℕ → List Figure
-named_tries ns =
-    (codes "received_once", Some (length (filter (λ n. n == 1) ns)))
-    ∷ (codes "received_again", Some (length (filter (λ n. nat_lt 1 n) ns)))
-    ∷ (codes "tries_sum", Some (sum ns)) ∷ (codes "tries_greatest", Some (greatest ns)) ∷ []
+-- tries by their names
+abbrev pub named_tries : Tries → List Figure
+named_tries t =
+    (codes "received_once", Some t.once) ∷ (codes "received_again", Some t.again) ∷ (codes "tries_sum", Some t.sum)
+    ∷ (codes "tries_greatest", Some t.greatest) ∷ []
 
--- ages by their names
+-- the names of the figures of ages
+abbrev pub age_names : List ℕ → List (List ℕ)
+age_names name =
+    map (λ what. name ++ what)
+    (codes "_sum_ms" ∷ codes "_p50_ms" ∷ codes "_p95_ms" ∷ codes "_p99_ms" ∷ codes "_greatest_ms" ∷ [])
+
+-- ages by these names
 abbrev pub named_ages : List ℕ → List ℕ → List Figure
 named_ages name ages =
-    (name ++ codes "_sum_ms", Some (sum ages)) ∷ (name ++ codes "_p50_ms", rank 50 ages)
-    ∷ (name ++ codes "_p95_ms", rank 95 ages) ∷ (name ++ codes "_p99_ms", rank 99 ages)
-    ∷ (name ++ codes "_greatest_ms", rank 100 ages) ∷ []
+    zip (age_names name) (Some (sum ages) ∷ rank 50 ages ∷ rank 95 ages ∷ rank 99 ages ∷ rank 100 ages ∷ [])
 
 -- the figures of a queue over its rows, where so many queues are the first agents
 abbrev pub queue_figures : ℕ → Stretch → List Row → List Figure
 queue_figures queues s rows =
     named_counts (counts_of queues (rows_within s rows)) ++ (named_peak (codes "depth") (peak_of depth s rows)
     ++ (named_peak (codes "in_flight") (peak_of in_flight s rows)
-    ++ (named_tries (tries (rows_within s rows))
+    ++ (named_tries (tries_of (tries (rows_within s rows)))
     ++ (named_ages (codes "age") (ages (rows_within s rows))
     ++ (named_ages (codes "new_age") (ages (rows_within s (rows_of_new queues rows)))
     ++ named_ages (codes "moved_age") (ages (rows_within s (rows_of_moved queues rows))))))))
@@ -281,7 +306,8 @@ figures_of_queue queues s rows q = map (figure_fields q.1) (queue_figures queues
 abbrev pub figures_of_actor : ℕ → Stretch → List Row → ℕ × List ℕ → List (List (List ℕ))
 figures_of_actor queues s rows a = map (figure_fields a.1) (actor_figures queues s (rows_by a.0 rows))
 
--- the records of the figures of queues and actors with these names; the queues are the first agents
+-- the records of the figures of queues and actors with these names over rows before the end of a stretch; the queues are
+-- the first agents
 abbrev pub figures_records : List (List ℕ) → List (List ℕ) → Stretch → List Row → List (List (List ℕ))
 figures_records queues actors s rows =
     figures_header
@@ -290,4 +316,4 @@ figures_records queues actors s rows =
 
 -- the figures of a run
 abbrev pub figures_text : List (List ℕ) → List (List ℕ) → Stretch → List Row → List ℕ
-figures_text queues actors s rows = lines (figures_records queues actors s rows)
+figures_text queues actors s rows = lines (figures_records queues actors s (rows_until s rows))

@@ -49,18 +49,18 @@ impl ActorFigures {
         }
     }
 
-    /// Takes in what a row of the actor says, where so many queues are the first agents.
+    /// Takes in what a row of the actor says, which counts in this place.
     ///
     /// # Errors
     ///
     /// `AllocError` if a count is at its greatest value.
     pub(crate) fn take(
         &mut self,
-        queues: usize,
+        place: Option<u16>,
         stretch: Stretch,
         fact: &Fact,
     ) -> Result<(), AllocError>
-        ensures { OnOk result (self.new ≡ actor_with queues stretch fact.now self.old) }
+        ensures { OnOk result (self.new ≡ actor_with place stretch fact.now self.old) }
     {
         if self.held.number > 0 {
             let served = stretch.overlap(self.at, fact.at);
@@ -68,8 +68,8 @@ impl ActorFigures {
         }
         self.at = fact.at;
         self.held = self.held.after(fact.hold)?;
-        if stretch.holds(fact.at) {
-            count_in(&mut self.counts, fact.place_in(queues))?;
+        if stretch.from <= fact.at {
+            count_in(&mut self.counts, place)?;
         }
         Ok(())
     }

@@ -5,8 +5,19 @@ ghost use Rattle.sqs_formats.specs.Report.{age_when, column, is_column};
 
 use sqs_message::{Detail, Row, RowAnswer, RowKind};
 
-// The index of the column that counts deletions.
+// The indexes of the columns that count messages which came into a queue.
+pub(crate) const SENDS: u16 = 0;
+
+pub(crate) const ARRIVALS: u16 = 8;
+
+// The indexes of those that count messages which left it.
 pub(crate) const DELETES: u16 = 4;
+
+pub(crate) const EXPIRIES: u16 = 5;
+
+pub(crate) const REDRIVES: u16 = 6;
+
+pub(crate) const MOVES: u16 = 7;
 
 // The index of the column that counts a row. The columns of the errors follow the first nine.
 pub(crate) fn column_of(kind: RowKind, answer: RowAnswer) -> Option<u16>
@@ -14,15 +25,15 @@ pub(crate) fn column_of(kind: RowKind, answer: RowAnswer) -> Option<u16>
 {
     match (kind, answer) {
         (_, RowAnswer::Refused(refusal)) => Some(u16::from(refusal.code()) + 8),
-        (RowKind::Send, RowAnswer::New) => Some(0),
+        (RowKind::Send, RowAnswer::New) => Some(SENDS),
         (RowKind::Send | RowKind::Arrive, RowAnswer::Repeat) => Some(1),
         (RowKind::Receive, RowAnswer::Ok) => Some(2),
         (RowKind::Receive, RowAnswer::Empty) => Some(3),
         (RowKind::Delete, RowAnswer::Deleted) => Some(DELETES),
-        (RowKind::Expire, RowAnswer::Expired) => Some(5),
-        (RowKind::Redrive, RowAnswer::Out) => Some(6),
-        (RowKind::Move, RowAnswer::Out) => Some(7),
-        (RowKind::Arrive, RowAnswer::New) => Some(8),
+        (RowKind::Expire, RowAnswer::Expired) => Some(EXPIRIES),
+        (RowKind::Redrive, RowAnswer::Out) => Some(REDRIVES),
+        (RowKind::Move, RowAnswer::Out) => Some(MOVES),
+        (RowKind::Arrive, RowAnswer::New) => Some(ARRIVALS),
         _ => None,
     }
 }

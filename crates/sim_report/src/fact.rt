@@ -35,8 +35,10 @@ pub enum Hold {
 pub enum Flight {
     /// The message was received.
     Begins,
-    /// It came back, or left the queue.
-    Ends,
+    /// It came back.
+    Returns,
+    /// It left the queue.
+    Leaves,
     /// Nothing.
     Stays,
 }
@@ -124,10 +126,10 @@ fn flight_of(kind: RowKind, answer: RowAnswer) -> Flight
 {
     match (kind, answer) {
         (RowKind::Receive, RowAnswer::Ok) => Flight::Begins,
-        (RowKind::Release, RowAnswer::Visible)
-        | (RowKind::Delete, RowAnswer::Deleted)
+        (RowKind::Release, RowAnswer::Visible) => Flight::Returns,
+        (RowKind::Delete, RowAnswer::Deleted)
         | (RowKind::Redrive | RowKind::Move, RowAnswer::Out)
-        | (RowKind::Expire, RowAnswer::Expired) => Flight::Ends,
+        | (RowKind::Expire, RowAnswer::Expired) => Flight::Leaves,
         _ => Flight::Stays,
     }
 }

@@ -33,50 +33,56 @@ impl Model for Figures {
     ghost view = { λ f. record { stretch = f.stretch; of_queues = f.of_queues.items; of_actors = f.of_actors.items } };
 }
 
-// Takes in what a row says, at its queue, if that is one of these.
+// Takes in what a row says, which counts in this place, at its queue, if that is one of these.
 fn take_at_queue(
     queues: &mut [QueueFigures],
+    place: Option<u16>,
     stretch: Stretch,
     fact: &Fact,
 ) -> Result<(), AllocError>
     ensures { OnOk result (queues.new
-        ≡ changed (queue_with (length queues.old) stretch fact.now) fact.now.count.queue queues.old) }
+        ≡ changed (queue_with place stretch fact.now) fact.now.count.queue queues.old) }
 {
-    let place = fact.count.queue as usize;
-    let many = queues.len();
-    if place < many {
-        queues[place].take(many, stretch, fact)?;
+    let queue = fact.count.queue as usize;
+    if queue < queues.len() {
+        queues[queue].take(place, stretch, fact)?;
     }
     Ok(())
 }
 
-// Takes in what a row says, at its actor, if that is one of these; so many queues come before them.
+// Takes in what a row says, which counts in this place, at its actor, if that is one of these; so
+// many queues come before them.
 fn take_at_actor(
     actors: &mut [ActorFigures],
     queues: usize,
+    place: Option<u16>,
     stretch: Stretch,
     fact: &Fact,
 ) -> Result<(), AllocError>
-    ensures { OnOk result (actors.new ≡ actors_with queues stretch fact.now actors.old) }
+    ensures { OnOk result (actors.new ≡ actors_with queues place stretch fact.now actors.old) }
 {
     let agent = fact.agent as usize;
     if agent < queues {
         return Ok(());
     }
-    let place = agent - queues;
-    if place < actors.len() {
-        actors[place].take(queues, stretch, fact)?;
+    let actor = agent - queues;
+    if actor < actors.len() {
+        actors[actor].take(place, stretch, fact)?;
     }
     Ok(())
 }
 
-// The figures of no rows, of queues with these names.
-fn fresh_queues(alloc: Global, names: Vec<Text>) -> Result<Vec<QueueFigures>, AllocError>
-    ensures { IfOk result (λ v. v.items ≡ map fresh_queue names.items) }
+// The figures of no rows over a stretch, of queues with these names.
+fn fresh_queues(
+    alloc: Global,
+    stretch: Stretch,
+    names: Vec<Text>,
+) -> Result<Vec<QueueFigures>, AllocError>
+    ensures { IfOk result (λ v. v.items ≡ map (fresh_queue stretch) names.items) }
 {
     let mut queues = Vec::with_capacity(alloc, names.len())?;
     for name in names {
-        queues.push(QueueFigures::new(alloc, name))?;
+        queues.push(QueueFigures::new(alloc, stretch, name))?;
     }
     Ok(queues)
 }
@@ -93,17 +99,12 @@ fn fresh_actors(alloc: Global, names: Vec<Text>) -> Result<Vec<ActorFigures>, Al
 }
 
 // Adds the lines of the figures of queues.
-fn add_queues(
-    alloc: Global,
-    text: &mut Lines,
-    stretch: Stretch,
-    queues: &[QueueFigures],
-) -> Result<(), AllocError>
+fn add_queues(alloc: Global, text: &mut Lines, queues: &[QueueFigures]) -> Result<(), AllocError>
     ensures { OnOk result (text.new
-        ≡ text.old ++ lines (flat_map (queue_records stretch) queues.now)) }
+        ≡ text.old ++ lines (flat_map queue_records queues.now)) }
 {
     for queue in queues {
-        queue.write(alloc, stretch, text)?;
+        queue.write(alloc, text)?;
     }
     Ok(())
 }
@@ -141,7 +142,7 @@ impl Figures {
     {
         Ok(Figures {
             stretch,
-            of_queues: fresh_queues(alloc, queues)?,
+            of_queues: fresh_queues(alloc, stretch, queues)?,
             of_actors: fresh_actors(alloc, actors)?,
         })
     }
@@ -155,9 +156,14 @@ impl Figures {
     pub fn take(&mut self, fact: &Fact) -> Result<(), AllocError>
         ensures { OnOk result (self.new ≡ figures_with fact.now self.old) }
     {
+        if self.stretch.until <= fact.at {
+            return Ok(());
+        }
         let queues = self.of_queues.len();
-        take_at_queue(self.of_queues.as_mut_slice(), self.stretch, fact)?;
-        take_at_actor(self.of_actors.as_mut_slice(), queues, self.stretch, fact)
+        let place = fact.place_in(queues);
+        let stretch = self.stretch;
+        take_at_queue(self.of_queues.as_mut_slice(), place, stretch, fact)?;
+        take_at_actor(self.of_actors.as_mut_slice(), queues, place, stretch, fact)
     }
 
     /// Takes in what rows say, one after another.
@@ -186,7 +192,7 @@ impl Figures {
     {
         let mut text = Lines::new(alloc);
         text.add(&[b"figure", b"of", b"name", b"value"])?;
-        add_queues(alloc, &mut text, self.stretch, self.of_queues.as_slice())?;
+        add_queues(alloc, &mut text, self.of_queues.as_slice())?;
         add_actors(alloc, &mut text, self.stretch, self.of_actors.as_slice())?;
         text.into_bytes()
     }

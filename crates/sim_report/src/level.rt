@@ -2,6 +2,7 @@
 ghost use Rattle.std.specs.Prelude.{◌≡◌, ◌+◌, IfOk};
 ghost use Rattle.sim_report.specs.Figured.{depth_at, level_with};
 
+use crate::column::{ARRIVALS, DELETES, EXPIRIES, MOVES, REDRIVES, SENDS};
 use std::alloc::AllocError;
 
 /// How many messages came into a queue, and how many went out.
@@ -32,11 +33,11 @@ impl Level {
     {
         let Level { came, went } = self;
         match column {
-            Some(0 | 8) => Ok(Level {
+            Some(SENDS | ARRIVALS) => Ok(Level {
                 came: one_more(came)?,
                 went,
             }),
-            Some(4..=7) => Ok(Level {
+            Some(DELETES | EXPIRIES | REDRIVES | MOVES) => Ok(Level {
                 came,
                 went: one_more(went)?,
             }),

@@ -1,70 +1,82 @@
 //! Numbers of messages that are in some state.
-ghost use Rattle.std.specs.Prelude.{◌≡◌, ◌==◌, ◌+◌, ◌++◌, ◌<◌, ◌≤◌, false, length, replicate, IfOk, OnErr, OnOk};
+ghost use Rattle.std.specs.Prelude.{◌≡◌, ◌==◌, ◌+◌, ◌++◌, ◌<◌, ◌^◌, All, length, ℕ, OnErr, OnOk};
 ghost use Rattle.std.specs.BTreeMap.{is_at};
 ghost use Rattle.std.specs.BTreeSet.{insert_key};
 ghost use Rattle.std.specs.List.{list_any};
 ghost use Rattle.std.specs.Ordering.{nat_cmp};
 ghost use Rattle.std.specs.Set.{remove_key};
-ghost use Rattle.sim_report.specs.Figures.{flying_with};
-ghost use Rattle.sim_report.specs.Figured.{moved_by};
+ghost use Rattle.sim_report.specs.Figures.{flying_with, moved_by};
 ghost use Rattle.sim_report.specs.Numbered.{marked};
 
 use crate::fact::{BY_MOVE, Flight};
+use crate::level::one_more;
 use std::alloc::{AllocError, Global};
+use std::collections::BTreeSet;
 use std::marker::Model;
 
+// So many flags there may be for each number.
+const FLAGS_EACH: u64 = 64;
+
+// So many numbers there are at least for this.
+const FEW: u64 = 4;
+
+// So many flags are made at once.
+const MORE: usize = 64;
+
 /// Numbers of messages of a queue, such as of those in flight. There is a flag for each number from
-/// the least to the greatest that came since there were none. Contracts see the numbers in
-/// ascending order.
+/// a first one on. Lower numbers, of which there are few, are in a set. So the memory goes by how
+/// many numbers there are, and mostly a number is found without a search. Contracts see the numbers
+/// in ascending order.
 #[derive(Drop)]
 pub(crate) struct Numbers {
+    // Those below the first flag.
+    low: BTreeSet<u64>,
     // The number of the first flag.
     first: u64,
     flags: Vec<bool>,
-    // How many flags are set.
+    // How many there are.
     count: u64,
 }
 
 impl Model for Numbers {
-    ghost use Rattle.std.specs.Prelude.{List, ℕ, ◌≡◌, length};
-    ghost use Rattle.sim_report.specs.Numbered.{marked};
+    ghost use Rattle.std.specs.Prelude.{List, ℕ};
+    ghost use Rattle.sim_report.specs.Numbered.{AreNumbered, numbered};
 
     ghost Value = { List ℕ };
 
-    ghost view = { λ n. marked n.first n.flags.items };
+    ghost view = { λ n. numbered n.low.keys n.first n.flags.items };
 
-    ghost invariant = { λ n. n.count ≡ length (marked n.first n.flags.items) };
+    ghost invariant = { λ n. AreNumbered n.low.keys n.first n.flags.items n.count };
 }
 
-// Puts so many flags that are not set before the others.
-#[cold]
-fn lead(flags: &mut Vec<bool>, more: usize) -> Result<(), AllocError>
-    ensures led { OnOk result (flags.new.items ≡ replicate more false ++ flags.old.items) }
+// Makes so many flags that there is one in this place, none of them set.
+fn reach(flags: &mut Vec<bool>, place: usize) -> Result<(), AllocError>
+    ensures same { OnOk result
+        ((n : ℕ) → marked n flags.new.items ≡ marked n flags.old.items) }
+    ensures to { OnOk result (place < length flags.new.items) }
     ensures unchanged { OnErr result (flags.new.items ≡ flags.old.items) }
 {
-    let many = flags.len().checked_add(more).ok_or(AllocError)?;
-    flags.resize(many, false)?;
-    flags.rotate_right(more);
+    if flags.len() <= place {
+        let many = place.checked_add(MORE).ok_or(AllocError)?;
+        flags.resize(many, false)?;
+    }
     Ok(())
 }
 
-// Makes flags up to that of a number, none of them set. Returns the number of the first flag.
-fn reach(first: u64, flags: &mut Vec<bool>, number: u64) -> Result<u64, AllocError>
-    ensures same { IfOk result (λ least. marked least flags.new.items ≡ marked first flags.old.items) }
-    ensures from { IfOk result (λ least. least ≤ number) }
-    ensures to { IfOk result (λ least. number < least + length flags.new.items) }
-    ensures unchanged { OnErr result (flags.new.items ≡ flags.old.items) }
+// Puts the numbers whose flags are set into a set of lower ones.
+fn retire(low: &mut BTreeSet<u64>, first: u64, flags: &[bool]) -> Result<(), AllocError>
+    requires below { All (λ n. n < first) low.old.keys }
+    requires fits { first + length flags.now < 2 ^ 64 }
+    ensures { OnOk result (low.new.keys ≡ low.old.keys ++ marked first flags.now) }
 {
-    if number < first {
-        lead(flags, (first - number) as usize)?;
-        return Ok(number);
+    let mut number = first;
+    for flag in flags {
+        if *flag {
+            low.insert(number)?;
+        }
+        number += 1;
     }
-    let place = (number - first) as usize;
-    if flags.len() <= place {
-        let many = place.checked_add(1).ok_or(AllocError)?;
-        flags.resize(many, false)?;
-    }
-    Ok(first)
+    Ok(())
 }
 
 impl Numbers {
@@ -75,6 +87,7 @@ impl Numbers {
         ensures { result ≡ [] }
     {
         Numbers {
+            low: BTreeSet::new(alloc),
             first: 0,
             flags: Vec::new(alloc),
             count: 0,
@@ -92,11 +105,67 @@ impl Numbers {
     pub(crate) fn has(&self, number: u64) -> bool
         ensures { result ≡ list_any (λ n. n == number) self.now }
     {
-        if number < self.first {
+        if self.count == 0 {
             return false;
+        }
+        if number < self.first {
+            return self.low.contains(&number);
         }
         let place = (number - self.first) as usize;
         place < self.flags.len() && self.flags[place]
+    }
+
+    // Lets the flags begin with that of a number, if there are no numbers.
+    fn begin(&mut self, number: u64)
+        ensures { self.new ≡ self.old }
+    {
+        if self.count == 0 {
+            self.flags.truncate(MORE);
+            self.first = number;
+        }
+    }
+
+    // Lets the flags begin with that of a number for which there would be too many flags. If a
+    // growth is refused, all numbers are forgotten.
+    fn lift(&mut self, number: u64) -> Result<(), AllocError>
+        ensures { OnOk result (self.new ≡ self.old) }
+    {
+        if number < self.first {
+            return Ok(());
+        }
+        let place = number - self.first;
+        if place < self.flags.len() as u64 || place / FLAGS_EACH <= self.count.max(FEW) {
+            return Ok(());
+        }
+        if retire(&mut self.low, self.first, self.flags.as_slice()).is_err() {
+            self.low.clear();
+            self.flags.clear();
+            self.count = 0;
+            return Err(AllocError);
+        }
+        self.flags.clear();
+        self.first = number;
+        Ok(())
+    }
+
+    // Adds a number, if it is not there.
+    fn put(&mut self, number: u64) -> Result<(), AllocError>
+        ensures { OnOk result (self.new ≡ insert_key nat_cmp self.old number) }
+    {
+        let more = one_more(self.count)?;
+        if number < self.first {
+            if self.low.insert(number)? {
+                self.count = more;
+            }
+            return Ok(());
+        }
+        let place = (number - self.first) as usize;
+        reach(&mut self.flags, place)?;
+        if !self.flags[place] {
+            self.flags[place] = true;
+            self.count = more;
+        }
+        Ok(())
     }
 
     /// Adds a number, if it is not there.
@@ -107,24 +176,22 @@ impl Numbers {
     pub(crate) fn add(&mut self, number: u64) -> Result<(), AllocError>
         ensures { OnOk result (self.new ≡ insert_key nat_cmp self.old number) }
     {
-        if self.count == 0 {
-            self.flags.clear();
-            self.first = number;
-        }
-        self.first = reach(self.first, &mut self.flags, number)?;
-        let place = (number - self.first) as usize;
-        if !self.flags[place] {
-            self.count = self.count.checked_add(1).ok_or(AllocError)?;
-            self.flags[place] = true;
-        }
-        Ok(())
+        self.begin(number);
+        self.lift(number)?;
+        self.put(number)
     }
 
     /// Removes a number, if it is there.
     pub(crate) fn remove(&mut self, number: u64)
         ensures { self.new ≡ remove_key (is_at (nat_cmp number)) self.old }
     {
+        if self.count == 0 {
+            return;
+        }
         if number < self.first {
+            if self.low.remove(&number) {
+                self.count -= 1;
+            }
             return;
         }
         let place = (number - self.first) as usize;
@@ -134,8 +201,8 @@ impl Numbers {
         }
     }
 
-    /// Takes in what a row does to the flight of the message with this number, where these are the
-    /// messages in flight.
+    /// Takes in what a row does to the message with this number, where these are the messages in
+    /// flight.
     ///
     /// # Errors
     ///
@@ -145,13 +212,13 @@ impl Numbers {
     {
         match flight {
             Flight::Begins => self.add(number)?,
-            Flight::Ends => self.remove(number),
+            Flight::Returns | Flight::Leaves => self.remove(number),
             Flight::Stays => {}
         }
         Ok(())
     }
 
-    /// Takes in a row in this column of the report that counts as this, where these are the
+    /// Takes in a row that counts in this place and does this to its message, where these are the
     /// messages that came by a move.
     ///
     /// # Errors
@@ -160,14 +227,14 @@ impl Numbers {
     pub(crate) fn carry(
         &mut self,
         place: Option<u16>,
-        column: Option<u16>,
+        flight: Flight,
         number: u64,
     ) -> Result<(), AllocError>
-        ensures { OnOk result (self.new ≡ moved_by place column number self.old) }
+        ensures { OnOk result (self.new ≡ moved_by place flight number self.old) }
     {
         if place == Some(BY_MOVE) {
             self.add(number)?;
-        } else if let Some(4..=7) = column {
+        } else if flight == Flight::Leaves {
             self.remove(number);
         }
         Ok(())

@@ -1,64 +1,39 @@
-//! The peak of a number over a stretch of a run.
+//! The greatest number that there was in a stretch.
 ghost use Rattle.std.specs.Prelude.{◌≡◌};
-ghost use Rattle.sim_report.specs.Figured.{peak_in, peak_with, raised};
+ghost use Rattle.sim_report.specs.Figured.{no_peak, peak_with};
 
 use crate::stretch::Stretch;
 
-/// What the peak of a number, such as a queue's depth, needs of the rows so far.
+/// The greatest of some numbers, with the first moment at which it was there, in milliseconds.
 #[derive(Clone, Copy, Debug, PartialEq, Eq)]
 pub(crate) struct Peak {
-    // Whether the stretch has begun.
-    begun: bool,
-    // The number at the beginning of the stretch.
-    start: u64,
-    // The greatest number after a row of the stretch, behind the first such moment.
-    top: Option<(u64, u64)>,
-}
-
-/// The peak before all rows.
-pub(crate) const NO_PEAK: Peak = Peak {
-    begun: false,
-    start: 0,
-    top: None,
-};
-
-// Of two numbers with their moments the greater, and the first one if they are equal.
-fn raised(first: Option<(u64, u64)>, second: (u64, u64)) -> (u64, u64)
-    ensures { result ≡ raised first second }
-{
-    match first {
-        Some(first) if first.1 >= second.1 => first,
-        _ => second,
-    }
+    pub(crate) at: u64,
+    pub(crate) number: u64,
 }
 
 impl Peak {
-    /// Takes in one more row at this moment, after which the number is this.
-    pub(crate) fn take(&mut self, stretch: Stretch, at: u64, number: u64)
-        ensures { self.new ≡ peak_with stretch at number self.old }
+    /// The peak of no rows over a stretch.
+    pub(crate) fn none(stretch: Stretch) -> Peak
+        ensures { result ≡ no_peak stretch }
     {
-        if !self.begun && at < stretch.from {
-            self.start = number;
-            return;
-        }
-        self.begun = true;
-        if stretch.holds(at) {
-            match self.top {
-                Some((_, most)) if most >= number => {}
-                _ => self.top = Some((at, number)),
-            }
+        Peak {
+            at: stretch.from,
+            number: 0,
         }
     }
 
-    /// The greatest number, at the beginning of the stretch or after one of its rows, behind the
-    /// first such moment.
-    pub(crate) fn greatest(self, stretch: Stretch) -> (u64, u64)
-        ensures { result ≡ peak_in stretch self }
+    /// Takes in one more row at this moment, after which the number is this. Until the stretch has
+    /// begun, this is the number at its beginning.
+    pub(crate) fn take(&mut self, stretch: Stretch, begun: bool, at: u64, number: u64)
+        ensures { self.new ≡ peak_with stretch begun at number self.old }
     {
-        let start = (stretch.from, self.start);
-        match self.top {
-            Some(top) => raised(Some(start), top),
-            None => start,
+        if !begun {
+            *self = Peak {
+                at: stretch.from,
+                number,
+            };
+        } else if self.number < number && stretch.from <= at {
+            *self = Peak { at, number };
         }
     }
 }

@@ -1,7 +1,7 @@
 //! The running figures of a queue.
-ghost use Rattle.std.specs.Prelude.{◌≡◌, ◌++◌, codes, map, OnOk};
-ghost use Rattle.sim_report.specs.Figured.{ages_named, fresh_queue, queue_ages, queue_counting, queue_levelled, queue_numbers, queue_sizes, queue_with};
-ghost use Rattle.sim_report.specs.Figures.{figure_fields};
+ghost use Rattle.std.specs.Prelude.{◌≡◌, ◌++◌, zip, map, List, ℕ, OnOk};
+ghost use Rattle.sim_report.specs.Figured.{ages_named, age_numbers, fresh_queue, queue_ages, queue_changing, queue_counting, queue_numbers, queue_peaking, queue_sizes, queue_with};
+ghost use Rattle.sim_report.specs.Figures.{age_names, figure_fields};
 ghost use Rattle.sqs_formats.specs.Rows.{lines};
 
 use crate::age_counts::AgeCounts;
@@ -10,7 +10,7 @@ use crate::fact::Fact;
 use crate::figure::{COUNTS, Figure, add_figures, named_counts};
 use crate::level::{EMPTY, Level};
 use crate::numbers::Numbers;
-use crate::peak::{NO_PEAK, Peak};
+use crate::peak::Peak;
 use crate::stretch::Stretch;
 use crate::tally::count_in;
 use crate::tries::{NO_TRIES, Tries};
@@ -25,6 +25,32 @@ const SIZES: usize = 8;
 // The number of figures of ages.
 const AGES: usize = 5;
 
+// Their names for the ages of all messages, of those that came by no move, and of those that came
+// by one.
+const AGE_NAMES: [&[u8]; AGES] = [
+    b"age_sum_ms",
+    b"age_p50_ms",
+    b"age_p95_ms",
+    b"age_p99_ms",
+    b"age_greatest_ms",
+];
+
+const NEW_AGE_NAMES: [&[u8]; AGES] = [
+    b"new_age_sum_ms",
+    b"new_age_p50_ms",
+    b"new_age_p95_ms",
+    b"new_age_p99_ms",
+    b"new_age_greatest_ms",
+];
+
+const MOVED_AGE_NAMES: [&[u8]; AGES] = [
+    b"moved_age_sum_ms",
+    b"moved_age_p50_ms",
+    b"moved_age_p95_ms",
+    b"moved_age_p99_ms",
+    b"moved_age_greatest_ms",
+];
+
 /// The running figures of a queue: what they need of the rows so far, without the rows.
 #[derive(Drop)]
 pub(crate) struct QueueFigures {
@@ -35,12 +61,14 @@ pub(crate) struct QueueFigures {
     // The ages of messages that came by no move, and of those that came by one.
     new_ages: Ages,
     moved_ages: Ages,
+    // Whether the stretch has begun.
+    begun: bool,
     level: Level,
-    depth: Peak,
     flying: Numbers,
-    in_flight: Peak,
     // The messages that are there and came by a move.
     moved: Numbers,
+    depth: Peak,
+    in_flight: Peak,
 }
 
 impl Model for QueueFigures {
@@ -48,53 +76,28 @@ impl Model for QueueFigures {
 
     ghost Value = { QueueState };
 
-    ghost view = { λ q. record { name = q.name; counts = q.counts; tries = q.tries; ages = q.ages; new_ages = q.new_ages; moved_ages = q.moved_ages; level = q.level; depth = q.depth; flying = q.flying; in_flight = q.in_flight; moved = q.moved } };
+    ghost view = { λ q. record { name = q.name; counts = q.counts; tries = q.tries; ages = q.ages; new_ages = q.new_ages; moved_ages = q.moved_ages; begun = q.begun; level = q.level; flying = q.flying; moved = q.moved; depth = q.depth; in_flight = q.in_flight } };
 }
 
-// The figures of the ages of all messages.
-fn all_figures(ages: &AgeCounts) -> [Figure; AGES]
-    ensures { result ≡ ages_named (codes "age") ages.now }
+// The figures of ages, by their names.
+fn age_figures(names: [&'static [u8]; AGES], ages: &AgeCounts) -> [Figure; AGES]
+    ensures { result ≡ zip (map (λ n. n.now) names.entry) (age_numbers ages.now) }
 {
+    let [sum, half, most, nearly_all, greatest] = names;
     [
-        Figure::of(b"age_sum_ms", Some(ages.total())),
-        Figure::of(b"age_p50_ms", ages.nearest_rank(50)),
-        Figure::of(b"age_p95_ms", ages.nearest_rank(95)),
-        Figure::of(b"age_p99_ms", ages.nearest_rank(99)),
-        Figure::of(b"age_greatest_ms", ages.nearest_rank(100)),
-    ]
-}
-
-// The figures of the ages of those that came by no move.
-fn new_figures(ages: &AgeCounts) -> [Figure; AGES]
-    ensures { result ≡ ages_named (codes "new_age") ages.now }
-{
-    [
-        Figure::of(b"new_age_sum_ms", Some(ages.total())),
-        Figure::of(b"new_age_p50_ms", ages.nearest_rank(50)),
-        Figure::of(b"new_age_p95_ms", ages.nearest_rank(95)),
-        Figure::of(b"new_age_p99_ms", ages.nearest_rank(99)),
-        Figure::of(b"new_age_greatest_ms", ages.nearest_rank(100)),
-    ]
-}
-
-// The figures of the ages of those that came by one.
-fn moved_figures(ages: &AgeCounts) -> [Figure; AGES]
-    ensures { result ≡ ages_named (codes "moved_age") ages.now }
-{
-    [
-        Figure::of(b"moved_age_sum_ms", Some(ages.total())),
-        Figure::of(b"moved_age_p50_ms", ages.nearest_rank(50)),
-        Figure::of(b"moved_age_p95_ms", ages.nearest_rank(95)),
-        Figure::of(b"moved_age_p99_ms", ages.nearest_rank(99)),
-        Figure::of(b"moved_age_greatest_ms", ages.nearest_rank(100)),
+        Figure::of(sum, Some(ages.total())),
+        Figure::of(half, ages.nearest_rank(50)),
+        Figure::of(most, ages.nearest_rank(95)),
+        Figure::of(nearly_all, ages.nearest_rank(99)),
+        Figure::of(greatest, ages.nearest_rank(100)),
     ]
 }
 
 impl QueueFigures {
-    /// The figures of no rows.
+    /// The figures of no rows over a stretch.
     #[tactic(auto, unfolding(crate::specs::Figures::count_names))]
-    pub(crate) fn new(alloc: Global, name: Text) -> QueueFigures
-        ensures { result ≡ fresh_queue name }
+    pub(crate) fn new(alloc: Global, stretch: Stretch, name: Text) -> QueueFigures
+        ensures { result ≡ fresh_queue stretch name }
     {
         QueueFigures {
             name,
@@ -103,20 +106,23 @@ impl QueueFigures {
             ages: Ages::new(alloc),
             new_ages: Ages::new(alloc),
             moved_ages: Ages::new(alloc),
+            begun: false,
             level: EMPTY,
-            depth: NO_PEAK,
             flying: Numbers::new(alloc),
-            in_flight: NO_PEAK,
             moved: Numbers::new(alloc),
+            depth: Peak::none(stretch),
+            in_flight: Peak::none(stretch),
         }
     }
 
-    // Counts what lies in the stretch.
-    fn count(&mut self, queues: usize, fact: &Fact) -> Result<(), AllocError>
-        ensures { OnOk result (self.new ≡ queue_counting queues fact.now self.old) }
+    // Counts what lies in the stretch, in this place among the counts.
+    fn count(&mut self, place: Option<u16>, fact: &Fact) -> Result<(), AllocError>
+        ensures { OnOk result (self.new ≡ queue_counting place fact.now self.old) }
     {
-        count_in(&mut self.counts, fact.place_in(queues))?;
-        self.tries = self.tries.after(fact.tries)?;
+        count_in(&mut self.counts, place)?;
+        if let Some(tries) = fact.tries {
+            self.tries = self.tries.with(tries)?;
+        }
         if let Some(age) = fact.count.age {
             self.ages.add(age)?;
             if self.moved.has(fact.number) {
@@ -129,48 +135,61 @@ impl QueueFigures {
     }
 
     // Takes in what the row changes of the messages that are there.
-    fn level(&mut self, queues: usize, stretch: Stretch, fact: &Fact) -> Result<(), AllocError>
-        ensures { OnOk result (self.new ≡ queue_levelled queues stretch fact.now self.old) }
+    fn change(&mut self, place: Option<u16>, fact: &Fact) -> Result<(), AllocError>
+        ensures { OnOk result (self.new ≡ queue_changing place fact.now self.old) }
     {
         self.level = self.level.after(fact.count.column)?;
-        self.depth.take(stretch, fact.at, self.level.depth());
         self.flying.fly(fact.flight, fact.number)?;
-        self.in_flight.take(stretch, fact.at, self.flying.count());
-        self.moved
-            .carry(fact.place_in(queues), fact.count.column, fact.number)
+        self.moved.carry(place, fact.flight, fact.number)
     }
 
-    /// Takes in what a row of the queue says, where so many queues are the first agents.
+    // Takes in the numbers of messages at a moment.
+    fn peak(&mut self, stretch: Stretch, at: u64)
+        ensures { self.new ≡ queue_peaking stretch at self.old }
+    {
+        self.begun |= stretch.from <= at;
+        self.depth.take(stretch, self.begun, at, self.level.depth());
+        self.in_flight
+            .take(stretch, self.begun, at, self.flying.count());
+    }
+
+    /// Takes in what a row of the queue says, which counts in this place.
     ///
     /// # Errors
     ///
     /// `AllocError` if a count is at its greatest value, or an age could not be kept.
     pub(crate) fn take(
         &mut self,
-        queues: usize,
+        place: Option<u16>,
         stretch: Stretch,
         fact: &Fact,
     ) -> Result<(), AllocError>
-        ensures { OnOk result (self.new ≡ queue_with queues stretch fact.now self.old) }
+        ensures { OnOk result (self.new ≡ queue_with place stretch fact.now self.old) }
     {
-        if stretch.holds(fact.at) {
-            self.count(queues, fact)?;
+        if stretch.from <= fact.at {
+            self.count(place, fact)?;
         }
-        self.level(queues, stretch, fact)
+        self.change(place, fact)?;
+        self.peak(stretch, fact.at);
+        Ok(())
     }
 
     // Its figures that are neither counts nor ages.
     #[tactic(auto, unfolding(crate::specs::Figured::queue_sizes))]
-    fn sizes(&self, stretch: Stretch) -> [Figure; SIZES]
-        ensures { result ≡ queue_sizes stretch self.now }
+    fn sizes(&self) -> [Figure; SIZES]
+        ensures { result ≡ queue_sizes self.now }
     {
-        let (deepest_at, deepest) = self.depth.greatest(stretch);
-        let (most_at, most) = self.in_flight.greatest(stretch);
         [
-            Figure::of(b"depth_greatest", Some(u128::from(deepest))),
-            Figure::of(b"depth_greatest_at_ms", Some(u128::from(deepest_at))),
-            Figure::of(b"in_flight_greatest", Some(u128::from(most))),
-            Figure::of(b"in_flight_greatest_at_ms", Some(u128::from(most_at))),
+            Figure::of(b"depth_greatest", Some(u128::from(self.depth.number))),
+            Figure::of(b"depth_greatest_at_ms", Some(u128::from(self.depth.at))),
+            Figure::of(
+                b"in_flight_greatest",
+                Some(u128::from(self.in_flight.number)),
+            ),
+            Figure::of(
+                b"in_flight_greatest_at_ms",
+                Some(u128::from(self.in_flight.at)),
+            ),
             Figure::of(b"received_once", Some(u128::from(self.tries.once))),
             Figure::of(b"received_again", Some(u128::from(self.tries.again))),
             Figure::of(b"tries_sum", Some(u128::from(self.tries.sum))),
@@ -187,9 +206,9 @@ impl QueueFigures {
         let all = self.ages.counted(alloc)?;
         let new = self.new_ages.counted(alloc)?;
         let moved = self.moved_ages.counted(alloc)?;
-        add_figures(text, of, &all_figures(&all))?;
-        add_figures(text, of, &new_figures(&new))?;
-        add_figures(text, of, &moved_figures(&moved))
+        add_figures(text, of, &age_figures(AGE_NAMES, &all))?;
+        add_figures(text, of, &age_figures(NEW_AGE_NAMES, &new))?;
+        add_figures(text, of, &age_figures(MOVED_AGE_NAMES, &moved))
     }
 
     /// Adds the lines of its figures.
@@ -197,18 +216,13 @@ impl QueueFigures {
     /// # Errors
     ///
     /// `AllocError` if a growth is refused.
-    pub(crate) fn write(
-        &self,
-        alloc: Global,
-        stretch: Stretch,
-        text: &mut Lines,
-    ) -> Result<(), AllocError>
+    pub(crate) fn write(&self, alloc: Global, text: &mut Lines) -> Result<(), AllocError>
         ensures { OnOk result (text.new
-            ≡ text.old ++ lines (map (figure_fields self.now.name) (queue_numbers stretch self.now))) }
+            ≡ text.old ++ lines (map (figure_fields self.now.name) (queue_numbers self.now))) }
     {
         let counts = named_counts(alloc, &self.counts)?;
         add_figures(text, self.name.as_bytes(), counts.as_slice())?;
-        add_figures(text, self.name.as_bytes(), &self.sizes(stretch))?;
+        add_figures(text, self.name.as_bytes(), &self.sizes())?;
         self.write_ages(alloc, text)
     }
 }

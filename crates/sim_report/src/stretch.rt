@@ -1,6 +1,5 @@
 //! A stretch of a run.
 ghost use Rattle.std.specs.Prelude.{◌≡◌};
-ghost use Rattle.sim_report.specs.Figured.{holds_moment};
 ghost use Rattle.sim_report.specs.Figures.{overlap};
 
 /// From one moment to before another, in milliseconds.
@@ -11,17 +10,11 @@ pub struct Stretch {
 }
 
 impl Stretch {
-    /// Whether a moment lies in it.
-    pub(crate) fn holds(self, at: u64) -> bool
-        ensures { result ≡ holds_moment self at }
-    {
-        self.from <= at && at < self.until
-    }
-
-    /// How much of the time from one moment to another lies in it, in milliseconds.
+    /// How much of the time from one moment to another, which is not past its end, lies in it, in
+    /// milliseconds.
     pub(crate) fn overlap(self, first: u64, last: u64) -> u64
         ensures { result ≡ overlap self first last }
     {
-        last.min(self.until).saturating_sub(first.max(self.from))
+        last.saturating_sub(first.max(self.from))
     }
 }

@@ -1,6 +1,6 @@
 //! How often messages were received until they were deleted.
 ghost use Rattle.std.specs.Prelude.{◌≡◌, ◌+◌, IfOk};
-ghost use Rattle.sim_report.specs.Figured.{tries_if, tries_with};
+ghost use Rattle.sim_report.specs.Figured.{tries_with};
 
 use crate::level::one_more;
 use std::alloc::AllocError;
@@ -25,8 +25,12 @@ pub(crate) const NO_TRIES: Tries = Tries {
 };
 
 impl Tries {
-    // With those of one more message.
-    fn with(self, tries: u64) -> Result<Tries, AllocError>
+    /// With those of one more message.
+    ///
+    /// # Errors
+    ///
+    /// `AllocError` if a count is at its greatest value, or the sum would pass it.
+    pub(crate) fn with(self, tries: u64) -> Result<Tries, AllocError>
         ensures { IfOk result (λ all. all ≡ tries_with tries self) }
     {
         Ok(Tries {
@@ -43,19 +47,5 @@ impl Tries {
             sum: self.sum.checked_add(tries).ok_or(AllocError)?,
             greatest: self.greatest.max(tries),
         })
-    }
-
-    /// With those of one more message, if there is one.
-    ///
-    /// # Errors
-    ///
-    /// `AllocError` if a count is at its greatest value, or the sum would pass it.
-    pub(crate) fn after(self, tries: Option<u64>) -> Result<Tries, AllocError>
-        ensures { IfOk result (λ all. all ≡ tries_if tries self) }
-    {
-        match tries {
-            Some(tries) => self.with(tries),
-            None => Ok(self),
-        }
     }
 }

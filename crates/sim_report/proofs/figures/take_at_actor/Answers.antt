@@ -7,14 +7,14 @@ use Rattle.sim_report.proofs.figures.take_at_actor.Goals as goal
 pub returns-in_ok-take : goal.returns-in_ok-take
 returns-in_ok-take c =
     let actors = c.args.actors.now in
-    let step = actor_with c.args.queues c.args.stretch c.args.fact.now in
+    let step = actor_with c.args.place c.args.stretch c.args.fact.now in
     let there : nat_le c.args.queues c.args.fact.now.agent ≡ true = grind (arith, nat_tests, c.if-agent-queues.false) in
-    let change = changed-set step (c.args.fact.now.agent - c.args.queues) actors c.index-actors-place.result c.if-place-actors.true in
+    let change = changed-set step (c.args.fact.now.agent - c.args.queues) actors c.index-actors-actor.result c.if-actor-actors.true in
     let taken = c.in_ok-take.ensures in
-    rw (there, change, taken, c.index-actors-place.is) refl
+    rw (there, change, taken, c.index-actors-actor.is) refl
 
-pub returns-else-place-actors : goal.returns-else-place-actors
-returns-else-place-actors c =
-    let step = actor_with c.args.queues c.args.stretch c.args.fact.now in
+pub returns-else-actor-actors : goal.returns-else-actor-actors
+returns-else-actor-actors c =
+    let step = actor_with c.args.place c.args.stretch c.args.fact.now in
     let there : nat_le c.args.queues c.args.fact.now.agent ≡ true = grind (arith, nat_tests, c.if-agent-queues.false) in
-    rw there (sym (changed-past step (c.args.fact.now.agent - c.args.queues) c.args.actors.now c.if-place-actors.false))
+    rw there (sym (changed-past step (c.args.fact.now.agent - c.args.queues) c.args.actors.now c.if-actor-actors.false))

@@ -1,4 +1,4 @@
-use Rattle.std.proofs.Common.{sym, refl, length}
+use Rattle.std.proofs.Common.{sym, refl}
 use Rattle.sim_report.specs.Figured.{queue_with}
 use Rattle.sim_report.proofs.Groups.{changed-past, changed-set}
 use Rattle.sim_report.proofs.figures.take_at_queue.Goals as goal
@@ -7,9 +7,9 @@ pub returns-in_ok-take : goal.returns-in_ok-take
 returns-in_ok-take c =
     let queues = c.args.queues.now in
     let fact = c.args.fact.now in
-    let change = changed-set (queue_with (length c.args.queues.now) c.args.stretch fact) fact.count.queue queues c.index-queues-place.result c.if-place-many.true in
+    let change = changed-set (queue_with c.args.place c.args.stretch fact) fact.count.queue queues c.index-queues-queue.result c.if-queue-queues.true in
     let taken = c.in_ok-take.ensures in
-    rw (change, taken, c.index-queues-place.is) refl
+    rw (change, taken, c.index-queues-queue.is) refl
 
-pub returns-else-place-many : goal.returns-else-place-many
-returns-else-place-many c = sym (changed-past (queue_with (length c.args.queues.now) c.args.stretch c.args.fact.now) c.args.fact.now.count.queue c.args.queues.now c.if-place-many.false)
+pub returns-else-queue-queues : goal.returns-else-queue-queues
+returns-else-queue-queues c = sym (changed-past (queue_with c.args.place c.args.stretch c.args.fact.now) c.args.fact.now.count.queue c.args.queues.now c.if-queue-queues.false)
