@@ -15,7 +15,7 @@ let sliding = null, before = null, tiles = null;
 let isKept = false;
 
 const editor = new Editor(text => edited(text, 'typed'));
-const numbers = new NumberPanel(changeNumber);
+const numbers = new NumberPanel(changeNumber, () => {});
 const pictures = new Pictures(() => {});
 const log = new LogView();
 
@@ -58,19 +58,35 @@ function showNumbers(isFresh) {
   else numbers.clear();
 }
 
-// A slider has been moved. Of a pair of bounds the other one goes along, so that the first is not above the second.
-function changeNumber(place, node, value) {
-  if (sliding !== place) [sliding, before] = [place, tiles];
-  editor.replace(node.from, node.to, String(value));
-  const pair = /_min_ms$/.test(place) ? place.replace(/_min_ms$/, '_max_ms') : place.replace(/_max_ms$/, '_min_ms');
-  if (pair !== place) {
-    const other = nodeAt(new Scenario(editor.text), pair), isLow = place.endsWith('_min_ms');
-    if (other && (isLow ? Number(other.value) < value : Number(other.value) > value)) {
-      editor.replace(other.from, other.to, String(value));
-    }
+// A slider has been moved: the numbers at these places get a value. Of a pair of bounds the other one goes along, so that
+// the first is not above the second.
+function changeNumber(places, value) {
+  const slider = places.join();
+  if (sliding !== slider) [sliding, before] = [slider, tiles];
+  putNumbers(new Map(places.map(place => [place, value])));
+  const scenario = new Scenario(editor.text), others = new Map();
+  for (const place of places) {
+    const isLow = place.endsWith('_min_ms');
+    const pair = isLow ? place.replace(/_min_ms$/, '_max_ms') : place.replace(/_max_ms$/, '_min_ms');
+    const other = pair === place ? null : nodeAt(scenario, pair);
+    if (other && (isLow ? Number(other.value) < value : Number(other.value) > value)) others.set(pair, value);
   }
+  putNumbers(others);
   numbers.show(new Scenario(editor.text), false);
   edited(editor.text, 'slid');
+}
+
+// Writes numbers into the text at their places.
+function putNumbers(values) {
+  if (values.size) editor.put(withNumbers(editor.text, values));
+}
+
+// The text with numbers at their places.
+function withNumbers(text, values) {
+  const scenario = new Scenario(text);
+  const edits = [...values].map(([place, value]) => [nodeAt(scenario, place), value]).filter(([node]) => node)
+    .sort(([a], [b]) => b.from - a.from);
+  return edits.reduce((made, [{ from, to }, value]) => `${made.slice(0, from)}${value}${made.slice(to)}`, text);
 }
 
 function nodeAt(scenario, place) {
@@ -130,7 +146,7 @@ function changed(side) {
 
 // Greys what is shown, if it is not what comes out of the text.
 function setStale(isStale) {
-  for (const id of ['results', 'answer', 'tiles']) byId(id).classList.toggle('stale', isStale);
+  for (const id of ['results', 'more-outputs', 'answer', 'tiles']) byId(id).classList.toggle('stale', isStale);
 }
 
 function tickWhileRunning() {
@@ -159,7 +175,10 @@ function showFault() {
   if (place) {
     const [line] = fault.scenario.lineAndColumn(place[0]);
     parts.push(element('button', { type: 'button', textContent: `Go to line ${line}`,
-      onclick: () => editor.goTo(...place) }));
+      onclick: () => {
+        showText(true);
+        editor.goTo(...place);
+      } }));
   }
   box.replaceChildren(...parts);
 }
@@ -173,7 +192,7 @@ async function showAll() {
   const loss = lossOf(done);
   byId('loss').hidden = !loss;
   setText(byId('loss'), loss && loss[0].toUpperCase() + loss.slice(1));
-  byId('results').hidden = false;
+  byId('results').hidden = byId('more-outputs').hidden = false;
   clearTimeout(settling);
   tiles = showAnswer(done, before);
   showTables(done);
@@ -241,8 +260,9 @@ async function copyLink() {
 }
 
 // Opens texts, as variant A or as A and B, with script files for both, and runs them.
-function open(texts, files = []) {
+function open(texts, files = [], example = null) {
   releaseLink();
+  showAsked(example);
   put(texts, files);
   runAlone(...sides);
 }
@@ -356,40 +376,72 @@ function keep(name) {
   else runAlone(kept);
 }
 
-// The examples by the questions that they answer: as a list, and as cards with a button for each.
-function showExamples() {
-  const groups = new Map();
-  for (const [number, example] of EXAMPLES.entries()) {
-    if (!groups.has(example.question)) groups.set(example.question, []);
-    groups.get(example.question).push({ number, ...example });
-  }
+// The questions as cards, each of which opens the first of its examples.
+function showQuestions() {
   // on a narrow screen the cards would hide what comes out
-  const isNarrow = matchMedia('(max-width: 1199px)').matches;
-  byId('questions').open = !isNarrow;
-  const choose = number => {
-    byId('example').value = String(number);
-    byId('questions').open &&= !isNarrow;
-    byId('open').click();
-  };
-  for (const [question, examples] of groups) {
-    byId('example').append(element('optgroup', { label: question }, ...examples.map(({ number, answer }) =>
-      element('option', { value: number, textContent: answer }))));
-    byId('cards').append(element('div', { className: 'question' }, element('strong', { textContent: question }),
-      ...examples.map(({ number, name, answer }) => element('button', { type: 'button', textContent: titleOf(name),
-        title: answer, 'aria-label': `${question} ${answer}`, onclick: () => choose(number) }))));
+  byId('questions').open = !matchMedia('(max-width: 1199px)').matches;
+  byId('cards').replaceChildren(...[...new Set(EXAMPLES.map(({ question }) => question))].map(question => {
+    const number = EXAMPLES.findIndex(example => example.question === question), { version } = EXAMPLES[number];
+    return element('button', { type: 'button', className: 'question', onclick: () => openExample(number) },
+      question, version > 2 ? element('span', { className: 'mark', textContent: `version ${version}` }) : '');
+  }));
+}
+
+// Opens an example, and shows the question that it is about.
+function openExample(number) {
+  if (matchMedia('(max-width: 1199px)').matches) byId('questions').open = false;
+  open([EXAMPLES[number].text], [], number);
+}
+
+// Shows the question of an example with a button for each of its variants; null is no example.
+function showAsked(number) {
+  const asked = EXAMPLES[number] ?? null;
+  byId('asked').hidden = !asked;
+  numbers.ask(asked?.varies ?? []);
+  for (const card of byId('cards').children) {
+    card.setAttribute('aria-pressed', String(asked !== null && card.firstChild.data === asked.question));
   }
+  if (!asked) return;
+  setText(byId('asked-title'), asked.question);
+  const variants = [...EXAMPLES.entries()].filter(([, { question }]) => question === asked.question);
+  byId('asked-variants').replaceChildren(...variants.map(([i, { name, answer }]) => element('button', { type: 'button',
+    textContent: titleOf(name), title: answer, 'aria-pressed': String(i === number), onclick: () => openExample(i) })));
+  const keys = [...new Set(asked.varies.map(path => path.split('.').at(-1)))];
+  setText(byId('asked-note'), asked.answer + (keys.length ? ` Try: ${keys.join(', ')}.` : ''));
+}
+
+// Shows the text of the scenario, or folds it away.
+function showText(isShown) {
+  byId('drawer').hidden = !isShown;
+  byId('show-text').setAttribute('aria-expanded', String(isShown));
+  document.body.classList.toggle('with-text', isShown);
+  keepChoice('text', isShown ? 'shown' : 'hidden');
 }
 
 const titleOf = name => name.replace(/[.]toml$/, '').replaceAll('_', ' ');
 
-async function start() {
-  showExamples();
-  const first = EXAMPLES.findIndex(({ name }) => name === DATA.first);
-  byId('example').value = String(first);
-  if (!await openLink()) open([EXAMPLES[first].text]);
+// Keeps the tiles, and the inputs as far as they fit, in view as the page scrolls: the lower end of inputs that are longer
+// than the window comes into view with the page, so that there is one scroll bar alone.
+function keepInView() {
+  const tall = byId('tiles').offsetHeight, { style } = document.documentElement;
+  style.setProperty('--tiles', `${tall}px`);
+  style.setProperty('--inputs', `${Math.min(tall + 8, innerHeight - byId('inputs').offsetHeight)}px`);
 }
 
-byId('open').onclick = () => open([EXAMPLES[byId('example').value].text]);
+async function start() {
+  showQuestions();
+  showText(kept('text') === 'shown');
+  const first = EXAMPLES.findIndex(({ folder, name }) => `${folder}/${name}` === DATA.first);
+  if (!await openLink()) openExample(first);
+}
+
+const sizes = new ResizeObserver(keepInView);
+for (const id of ['tiles', 'inputs']) sizes.observe(byId(id));
+window.addEventListener('resize', keepInView);
+byId('show-text').onclick = () => {
+  showText(byId('drawer').hidden);
+  if (!byId('drawer').hidden) editor.open(editor.text);
+};
 byId('file').onchange = async ({ target }) => {
   if (target.files.length) await openFiles([...target.files]);
   target.value = '';

@@ -88,7 +88,7 @@ class Side {
     this.began = null;
     this.ran = text;
     this.error = answer.error ?? '';
-    this.result = answer.error ? null : answer;
+    this.result = answer.error ? null : { ...answer, forDeadLetters: forDeadLetters(new Scenario(text)) };
     this.changed(this);
   }
 

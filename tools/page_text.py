@@ -7,6 +7,7 @@ import hashlib
 import json
 import os
 import re
+from collections.abc import Iterable
 from typing import Any
 
 import release
@@ -18,11 +19,13 @@ from rehearse_tools.scenarios import parsed
 PARTS = os.path.join(TOP, "page")
 # The scripts of the worker and of the page, in the order in which they need one another.
 WORKER = ("units", "log", "queue", "run", "overtime", "worker")
-PAGE = ("units", "dom", "scenario", "faults", "side", "link", "editor", "numbers", "pictures", "tables",
-        "answer", "log_view", "app")
-FIRST = "dead_letters.toml"
+PAGE = ("units", "dom", "kept", "scenario", "faults", "side", "link", "editor", "numbers", "figure", "pictures",
+        "tables", "answer", "log_view", "app")
+FIRST = "retries/three_tries.toml"
 TO_BEGIN = "What is a scenario?"
 QUESTION = re.compile(r"\]\(examples/([a-z_]+)/README[.]md\)")
+# A number of a queue, an actor or a task that a command line of a README varies.
+VARIED = re.compile(r"--vary '?((?:queue|actor|task)[.][^ =']+[.][a-z_]+)=")
 MODULE = re.compile(rb'<script type="text/plain" id="module">([A-Za-z0-9+/=]*)</script>')
 MARK = re.compile("@([A-Z]+)@")
 # What the page may do: its own script and style, compiled code, and a worker of its own text. Nothing is loaded.
@@ -43,21 +46,37 @@ def module_in(path: str, page: bytes) -> bytes:
         raise Fault(f"{path} is a page whose module cannot be unpacked") from None
 
 
-def examples() -> list[dict[str, str]]:
+def examples() -> list[dict[str, Any]]:
     """The scenarios in examples/ whose version the module reads, each with its folder, the question that this folder's
-    README asks, what it answers by its own first line, and its text. Those of no folder come first, and the others in
-    the order of the questions in the README of the whole.
+    README asks, the numbers that it varies, what the scenario answers by its own first line, its version and its text.
+    Those of no folder come first, and the others in the order of the questions in the README of the whole.
     """
-    found = []
+    found: list[dict[str, Any]] = []
     for folder in ("", *QUESTION.findall(read_text(os.path.join(TOP, "README.md")))):
         place = os.path.join(TOP, "examples", folder)
-        question = first_line(read_text(os.path.join(place, "README.md"))) if folder else TO_BEGIN
-        for name in sorted(name for name in os.listdir(place) if name.endswith(".toml")):
-            text = read_text(os.path.join(place, name))
-            if parsed(text, name).get("version") != PREVIEW:
-                found.append({"folder": folder, "name": name, "question": question,
-                              "answer": first_line(text).removeprefix(f"{question} "), "text": text})
+        readme = read_text(os.path.join(place, "README.md")) if folder else TO_BEGIN
+        question = first_line(readme)
+        texts = {name: read_text(os.path.join(place, name)) for name in sorted(os.listdir(place))
+                 if name.endswith(".toml")}
+        tables = {name: parsed(text, name) for name, text in texts.items()}
+        varies = list(dict.fromkeys([*VARIED.findall(readme), *(differing(tables.values()) if folder else [])]))
+        found += [{"folder": folder, "name": name, "question": question, "varies": varies, "text": text,
+                   "answer": first_line(text).removeprefix(question).strip(), "version": tables[name]["version"]}
+                  for name, text in texts.items() if tables[name]["version"] != PREVIEW]
     return found
+
+
+def differing(scenarios: Iterable[dict[str, Any]]) -> list[str]:
+    """The numbers by which some scenarios differ, as `sweep` names them. Names that end in a number are taken as one."""
+    values: dict[str, set[int]] = {}
+    for scenario in scenarios:
+        for of in ("queue", "actor", "task"):
+            for table in scenario.get(of, []):
+                for key, value in table.items():
+                    if isinstance(value, int) and not isinstance(value, bool):
+                        name = re.sub(r"-\d+$", "-*", table["name"])
+                        values.setdefault(f"{of}.{name}.{key}", set()).add(value)
+    return [path for path, found in values.items() if len(found) > 1]
 
 
 def first_line(text: str) -> str:
