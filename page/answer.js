@@ -62,23 +62,37 @@ function sentenceOf(result) {
   return `In ${duration(last ?? 0)}, ${begin}${parts.length ? `: ${joined(parts)}` : ''}.${ages}`;
 }
 
-// The tile of a number, with what it was before or in the other variant. Less is better in each.
-function tileOf({ label, number, written, note }, before) {
+// What a tile says of other seeds, whose words are left out where there is no place for them.
+function spreadTold(range, text, count) {
+  if (!range) return [];
+  const [least, middle, greatest] = range.map(text);
+  const wide = words => element('span', { className: 'wide', textContent: words });
+  return least === greatest ? ['same', wide(` in ${count} seeds`)]
+    : [`${least} to ${greatest}`, wide(`, middle ${middle}, in ${count} seeds`)];
+}
+
+// The tile of a number, with what it was before or in the other variant, its range over seeds, and whether it is more
+// than what is required. Less is better in each.
+function tileOf({ label, number, written, note }, before, told, isBroken) {
   const text = value => value === null || value === undefined ? 'none' : written(value);
   const isOther = before && text(before.number) !== text(number);
   const sign = !isOther || before.number === null || number === null ? ''
     : number < before.number ? 'better' : 'worse';
-  return element('div', { className: `tile ${sign}` }, element('span', { className: 'label' }, label,
-    note ? element('span', { className: 'of', textContent: ` ${note}` }) : ''),
-  element('strong', { textContent: text(number) }), element('span', { className: 'was', textContent: !isOther ? ''
-    : `${{ better: '↓ ', worse: '↑ ' }[sign] ?? ''}from ${text(before.number)}` }));
+  return element('div', { className: `tile ${sign} ${isBroken ? 'broken' : ''}` },
+    element('span', { className: 'label' }, label, note ? element('span', { className: 'of', textContent: ` ${note}` }) : ''),
+    element('strong', { textContent: text(number) }), element('span', { className: 'was', textContent: !isOther ? ''
+      : `${{ better: '↓ ', worse: '↑ ' }[sign] ?? ''}from ${text(before.number)}` }),
+    element('span', { className: 'spread-of' }, ...told(text)));
 }
 
-// Shows the answer of one variant, with what its tiles were before a slider moved, or of two: from A to B.
-function showAnswer(sides, before) {
-  const shown = sides.at(-1).result, tiles = tilesOf(shown);
+// Shows the answer of one variant, with what its tiles were before a slider moved, or of two: from A to B. Gives its tiles.
+function showAnswer(sides, before, require) {
+  const side = sides.at(-1), tiles = tilesOf(side.result), { spread } = side;
   const from = sides.length > 1 ? tilesOf(sides[0].result) : before;
-  setText(byId('answer'), `${sides.length > 1 ? `${sides.at(-1).name}: ` : ''}${sentenceOf(shown)}`);
-  byId('tiles').replaceChildren(...tiles.map((tile, i) => tileOf(tile, from?.[i])));
+  setText(byId('answer'), `${sides.length > 1 ? `${side.name}: ` : ''}${sentenceOf(side.result)}`);
+  byId('tiles').replaceChildren(...tiles.map((tile, i) => tileOf(tile, from?.[i],
+    text => spread ? spreadTold(spread.rangeOf(i), text, spread.count) : [], require.isBroken(i, tile.number))));
+  require.name(tiles);
+  require.tell(tiles, spread);
   return tiles;
 }

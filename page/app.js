@@ -15,8 +15,14 @@ let sliding = null, before = null, tiles = null;
 let isKept = false;
 
 const editor = new Editor(text => edited(text, 'typed'));
-const numbers = new NumberPanel(changeNumber, () => {});
-const pictures = new Pictures(() => {});
+const numbers = new NumberPanel(changeNumber, slider => { if (active.isDone) curve.begin(slider, active); });
+const require = new Requirement(() => showAgain());
+const pictures = new Pictures(require);
+const curve = new Curve(require, (slider, value) => slider.choose(value));
+const seeds = new Seeds(() => {
+  showAgain();
+  count('spread');
+});
 const log = new LogView();
 
 // A change of the text of the variant that is edited: it runs at once if the last run was quick.
@@ -63,22 +69,21 @@ function showNumbers(isFresh) {
 function changeNumber(places, value) {
   const slider = places.join();
   if (sliding !== slider) [sliding, before] = [slider, tiles];
-  putNumbers(new Map(places.map(place => [place, value])));
-  const scenario = new Scenario(editor.text), others = new Map();
-  for (const place of places) {
-    const isLow = place.endsWith('_min_ms');
-    const pair = isLow ? place.replace(/_min_ms$/, '_max_ms') : place.replace(/_max_ms$/, '_min_ms');
-    const other = pair === place ? null : nodeAt(scenario, pair);
-    if (other && (isLow ? Number(other.value) < value : Number(other.value) > value)) others.set(pair, value);
-  }
-  putNumbers(others);
+  editor.put(withValue(editor.text, places, value));
   numbers.show(new Scenario(editor.text), false);
   edited(editor.text, 'slid');
 }
 
-// Writes numbers into the text at their places.
-function putNumbers(values) {
-  if (values.size) editor.put(withNumbers(editor.text, values));
+// The text with a value at these places, and where it has to be at the other one of a pair of bounds.
+function withValue(text, places, value) {
+  const scenario = new Scenario(text), values = new Map(places.map(place => [place, value]));
+  for (const place of places) {
+    const isLow = place.endsWith('_min_ms');
+    const pair = isLow ? place.replace(/_min_ms$/, '_max_ms') : place.replace(/_max_ms$/, '_min_ms');
+    const other = pair === place ? null : nodeAt(scenario, pair);
+    if (other && (isLow ? Number(other.value) < value : Number(other.value) > value)) values.set(pair, value);
+  }
+  return withNumbers(text, values);
 }
 
 // The text with numbers at their places.
@@ -100,7 +105,9 @@ function placesIn(text) {
   const scenario = new Scenario(text), found = new Map();
   const take = (table, title) => {
     for (const [key, node] of table.value) {
-      if (!['table', 'list'].includes(node.type)) found.set(`${key}${title}`, String(node.value));
+      if (['table', 'list'].includes(node.type)) continue;
+      found.set(`${key}${title}`, node.type === 'integer' && node.value < 2n ** 53n ? written(key, Number(node.value))
+        : String(node.value));
     }
   };
   take(scenario.top, '');
@@ -133,6 +140,7 @@ function tellDifference() {
 // What is shown as a run begins or ends.
 function changed(side) {
   byId('stop').disabled = !sides.some(it => it.isRunning);
+  seeds.stop();
   if (side.isRunning) {
     setText(byId('waits'), '');
     setStale(true);
@@ -194,7 +202,8 @@ async function showAll() {
   setText(byId('loss'), loss && loss[0].toUpperCase() + loss.slice(1));
   byId('results').hidden = byId('more-outputs').hidden = false;
   clearTimeout(settling);
-  tiles = showAnswer(done, before);
+  tiles = showAnswer(done, before, require);
+  curve.draw();
   showTables(done);
   byId('differences').hidden = done.length < 2;
   await pictures.show(done);
@@ -206,7 +215,21 @@ async function settle() {
   if (!sides.every(side => side.isDone && !side.isRunning)) return;
   showLog();
   await showLink();
-  document.body.dataset.shown = String(Number(document.body.dataset.shown ?? 0) + 1);
+  seeds.begin([...sides], pictures.spreadQuestion);
+  count('shown');
+}
+
+// Shows what came out once more, as with other seeds or by another requirement.
+function showAgain() {
+  curve.draw();
+  if (!sides.every(side => side.isDone && !side.isRunning)) return;
+  showAnswer(sides, before, require);
+  pictures.show(sides);
+}
+
+// Counts what has been shown, for those who wait for it.
+function count(what) {
+  document.body.dataset[what] = String(Number(document.body.dataset[what] ?? 0) + 1);
 }
 
 function statusOf(refused) {
@@ -272,6 +295,7 @@ function put(texts, files) {
   for (const side of sides) side.stop('');
   clearTimeout(timer);
   sides = texts.map((text, i) => Object.assign(new Side('AB'[i], changed), { text, files }));
+  curve.close();
   edit(sides.at(-1));
   pictures.zoom = null;
   [sliding, before] = [null, null];
@@ -413,6 +437,8 @@ function showAsked(number) {
 // Shows the text of the scenario, or folds it away.
 function showText(isShown) {
   byId('drawer').hidden = !isShown;
+  // what is wrong is told beside the text, or on top
+  (isShown ? byId('drawer') : byId('first-inputs')).prepend(byId('fault'));
   byId('show-text').setAttribute('aria-expanded', String(isShown));
   document.body.classList.toggle('with-text', isShown);
   keepChoice('text', isShown ? 'shown' : 'hidden');

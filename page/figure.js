@@ -80,6 +80,7 @@ class Figure {
     const counts = most(({ redrives, expiries }) => greatestOf([...redrives, ...expiries]));
     const panels = [{ kind: 'places', caption: 'messages', most: Math.max(1, places) }];
     if (ages > 0) panels.push({ kind: 'ages', caption: 'age', most: ages, isTime: true, isLog: this.isLog });
+    for (const panel of panels) panel.most = Math.max(panel.most, this.required(panel.kind)?.most ?? 0);
     if (counts) panels.push({ kind: 'counts', caption: 'redriven and expired', most: counts });
     return panels;
   }
@@ -141,9 +142,23 @@ class Figure {
     return value => LEFT + (this.room.width - LEFT - RIGHT) * (value - start) / span;
   }
 
+  // The line of the requirement in a panel, of the variant that is shown last; null if there is none.
+  required(kind) {
+    const { result } = this.shares.at(-1).side;
+    return this.room.require.lineIn(kind, result.values.find(({ queue }) => queue === this.name));
+  }
+
+  lineOf({ most, isBroken, text }, y) {
+    const { width } = this.room, className = isBroken ? 'broken' : '';
+    return [drawn('line', { class: `required ${className}`, x1: LEFT, x2: width - RIGHT, y1: y(most), y2: y(most) }),
+      drawn('text', { class: className, x: LEFT + 4, y: y(most) - 3 }, text)];
+  }
+
   panel(panel, { data, spread }, top) {
     const { width } = this.room, height = HEIGHTS[panel.kind], y = this.heights(panel, top, height);
     const parts = [drawn('text', { class: 'caption', x: LEFT, y: top - 4 }, panel.caption)];
+    const required = this.required(panel.kind);
+    if (required) parts.push(...this.lineOf(required, y));
     const ticks = panel.isLog ? LOG_TICKS.filter(([at]) => at <= panel.most).map(([at, text]) => ({ at, text }))
       : ticksOf(0, panel.most, 3, panel.isTime);
     const list = (ticks.ticks ?? ticks).map(({ at, text }) => ({ at,

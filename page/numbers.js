@@ -184,6 +184,14 @@ class Slider {
     this.changed(value);
   }
 
+  // Takes a value as if it had been slid to.
+  choose(value) {
+    this.value = value;
+    this.place();
+    this.show();
+    this.changed(value);
+  }
+
   // Takes the number of the text.
   take(value) {
     if (value === undefined || value === this.value) return;

@@ -8,11 +8,11 @@ const IDLE_LEAST = 0.2;
 const SPREAD_COLUMNS = 400, SPREAD_BINS = 80;
 
 class Pictures {
-  // `atMoment` is called as another moment is pointed at.
-  constructor(atMoment) {
+  // `require` is the requirement, which is a line in the pictures.
+  constructor(require) {
+    this.require = require;
     this.box = byId('pictures');
     this.slider = byId('moment');
-    this.atMoment = atMoment;
     this.zoom = null;
     this.figures = [];
     this.moment = 0;
@@ -98,7 +98,7 @@ class Pictures {
     const columns = width - LEFT - RIGHT, question = { names, from, to, columns, bins: Math.ceil(columns / 8) };
     const drawn = await Promise.all(this.sides.map(side => side.over(question)));
     if (asked !== this.asked) return;
-    const room = { from, to, width, end: this.toldOfEnd, point: time => this.point(time),
+    const room = { from, to, width, require: this.require, end: this.toldOfEnd, point: time => this.point(time),
       zoomTo: zoom => this.zoomTo(zoom), zoomWhole: () => this.zoomWhole() };
     const sharesOf = name => this.sides.map((side, i) => ({ side, spread: side.spread?.queues.get(name),
       data: drawn[i].find(it => it.name === name) ?? MISSING }));
@@ -115,7 +115,6 @@ class Pictures {
       figure.wordsAt(share)).join('; ')}`);
     setText(byId('moment-value'), clock(this.moment));
     for (const figure of this.figures) figure.point(share);
-    this.atMoment(this.moment);
   }
 }
 

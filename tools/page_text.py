@@ -19,8 +19,8 @@ from rehearse_tools.scenarios import parsed
 PARTS = os.path.join(TOP, "page")
 # The scripts of the worker and of the page, in the order in which they need one another.
 WORKER = ("units", "log", "queue", "run", "overtime", "worker")
-PAGE = ("units", "dom", "kept", "scenario", "faults", "side", "link", "editor", "numbers", "figure", "pictures",
-        "tables", "answer", "log_view", "app")
+PAGE = ("units", "dom", "kept", "scenario", "faults", "asker", "side", "link", "editor", "numbers", "figure", "pictures",
+        "tables", "answer", "seeds", "require", "curve", "log_view", "app")
 FIRST = "retries/three_tries.toml"
 TO_BEGIN = "What is a scenario?"
 QUESTION = re.compile(r"\]\(examples/([a-z_]+)/README[.]md\)")

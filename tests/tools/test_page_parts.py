@@ -13,7 +13,8 @@ from tool import LIMIT, ToolCase
 from rehearse_tools.console import read_text
 from rehearse_tools.programs import TOP
 
-PAGE = ("units", "dom", "scenario", "faults", "side", "link", "editor")
+PAGE = ("units", "dom", "scenario", "faults", "asker", "side", "link", "editor")
+SEEDS = ("units", "dom", "scenario", "asker", "figure", "seeds")
 WORKER = ("units", "log", "queue", "run", "overtime", "worker")
 NUMBERS = ("units", "dom", "scenario", "faults", "numbers")
 ANSWER = ("units", "dom", "scenario", "tables", "answer")
@@ -301,6 +302,17 @@ to = "moved"
                  ["queue.orders.visibility_s", "queue", "orders", "delay_s", False]]
         told = self.asked(NUMBERS, "return values[0].map(it => isNamed(...it));", [it[:-1] for it in asked])
         self.assertEqual(told, [it[-1] for it in asked])
+
+    def test_other_seeds(self) -> None:
+        """A seed so many behind that of the text, which may have none; the least, the middle and the greatest of numbers."""
+        told = self.asked(SEEDS, """
+            return [[...values[0].map(it => withSeedBehind(...it))], values[1].map(rangeOf)];""",
+                          [["seed = 7\nhorizon = 1\n", 3], ["horizon = 1\n", 2], ["\ufeffhorizon = 1\n", 1], ["seed = 5\n", 0],
+                           ["version = 1\nseed=9223372036854775807 # last\n", 1]],
+                          [[3, 1, 2], [4, 1, 2, 3], [None, 5], [None], [7]])
+        self.assertEqual(told, [["seed = 10\nhorizon = 1\n", "seed = 2\nhorizon = 1\n", "\ufeffseed = 1\nhorizon = 1\n",
+                                 "seed = 5\n", "version = 1\nseed=0 # last\n"],
+                                [[1, 2, 3], [1, 2, 4], [5, 5, 5], None, [7, 7, 7]]])
 
     def test_out_of_memory(self) -> None:
         """What browsers say when memory is out is shown as that; other errors are not."""
